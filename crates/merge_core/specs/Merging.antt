@@ -1,5 +1,5 @@
 -- What a merge passed on to its sink.
-use Rattle.std.specs.Prelude.{◌≡◌, ◌⊎◌, ◌++◌, ℕ, List, [], Bool, false, Option, Some}
+use Rattle.std.specs.Prelude.{◌≡◌, ◌⊎◌, ◌++◌, ℕ, List, [], Bool, true, false, Option, Some}
 use Rattle.std.specs.List.{AllByRecursion}
 use Rattle.cdxj_places.specs.Pairs.{Pair}
 use Rattle.cdxj_core.specs.declared.limit.TheConstants.{LINE_LIMIT}
@@ -58,10 +58,13 @@ module _ {K S : Type 0} (Wrote : K → K → List Member → Option (List ℕ) �
     pub more : (Enough sink → ⊥) → Enough state → ⊥
     pub came : CameTo Wrote sink old state middle earlier
 
-  -- all lines were passed on, or enough
+  -- all lines were passed on and none waits, or the sink has enough, which it got with the last lines
   pub record Passed (news : List S) (streams : Streams) (state : K) (now : Option (List ℕ)) (all : Bool) : Type 0 where
     pub so_far : SoFar news streams state now
     pub last : all ≡ false → LastGroup so_far.bound so_far.taken
+    pub ended : all ≡ true → streams.waiting ≡ []
+    pub enough : all ≡ false → Enough state
+    pub further : all ≡ true → (Enough sink → ⊥) → Enough state → ⊥
 
   -- these lines were taken before a fault, or while the sink failed
   pub record BrokenMerge (Broke : K → List Member → Option (List ℕ) → Option (List ℕ) → Type 0)

@@ -1,5 +1,5 @@
 //! The merging of several sources.
-ghost use Rattle.std.specs.Prelude.{◌≡◌, ◌+◌, ◌≤◌, ℕ, [], length, map, false, true, IfOk, IfErr, OnOk, OnErr};
+ghost use Rattle.std.specs.Prelude.{◌≡◌, ◌+◌, ◌≤◌, ℕ, [], length, map, IfOk, IfErr, OnErr};
 ghost use Rattle.cdxj_core.specs.declared.limit.TheConstants.{LINE_LIMIT};
 ghost use Rattle.merge_core.specs.Collections.{OverIndexes, all_lines};
 ghost use Rattle.merge_core.specs.Counts.{ShareAtMost};
@@ -37,15 +37,10 @@ pub fn merge<S: Source, R: Range, K: Sink, O: Output>(
     ensures failures { CountsMerge result (map S.failures sources.old) (map S.failures sources.new)
         (O.failures out.old) (O.failures out.new) }
     ensures fault { IfErr result (IsMergeFaultOf LINE_LIMIT (map S.text sources.old)) }
-    ensures settled { OnOk result (AreSettled streams.new.feeds.items) }
     ensures held { OverIndexes LINE_LIMIT (map S.text sources.old) (λ texts indexes.
         (most : ℕ) → ShareAtMost most (all_lines indexes)
         → streams.old.held ≤ length sources.old + most → streams.new.held
         ≤ length sources.old + most) }
-    ensures ended { IfOk result (λ all. all ≡ true → streams.new.waiting ≡ []) }
-    ensures enough { IfOk result (λ all. all ≡ false → K.Enough sink.new) }
-    ensures further { IfOk result (λ all.
-        all ≡ true → (K.Enough sink.old → ⊥) → K.Enough sink.new → ⊥) }
     ensures passed { IfOk result (Passed K.Wrote K.Enough (R.past range.now) S.text S.extent S.gave
         sources.old streams.old sink.old (O.written out.old)
         sources.new streams.new sink.new (O.written out.new)) }

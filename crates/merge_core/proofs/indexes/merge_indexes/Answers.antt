@@ -149,7 +149,7 @@ returns-clause-merged g c = λ texts known.
     → c.merge.new.streams.waiting ≡ []) [
       | true ↦ (λ f h. f refl)
       | false ↦ (λ f h. absurd (h refl))
-    ]) ok.ended ok.enough in
+    ]) ok.passed.ended ok.passed.enough in
     let moved = c.merge.ensures.moved in
     let known1 = subst (λ l. Known l texts) (sym opened.text) known in
     let kept2 = texts_kept text extent gave ss1 ss2 fs1 fs2 opened.ready.same (omega arith) moved in
@@ -165,7 +165,7 @@ returns-clause-merged g c = λ texts known.
     record {
       indexes = its_lines LINE_LIMIT never (λ key. refl) text extent ss2 fs2;
       are = are_read LINE_LIMIT never (λ key. refl) text extent 0 ss2 fs2 texts reached.ready.same known2 starts
-          ok.settled fed;
+          reached.settled fed;
       text = subst (λ (l : List Member). Appends out new (lines_text l)) all w.0;
       count = w.1 ∙ ap (λ (l : List Member). min (length l) (2 ^ 64 - 1)) all;
     }

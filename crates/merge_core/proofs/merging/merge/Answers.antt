@@ -190,6 +190,9 @@ returns-then-not-more-clause-passed g c =
         more = c.loop-rest.invariant.further;
         came = came.came;
       };
+      ended = λ e. cc;
+      enough = λ e. grind arith;
+      further = λ e f k. absurd (cc);
     }
 
 pub loop-rest-preserved : goal.loop-rest-preserved

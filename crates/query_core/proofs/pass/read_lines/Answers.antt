@@ -200,7 +200,7 @@ returns-clause-took g c =
     let whole = λ (e : c.in_ok-all.all ≡ true) (texts : List (List ℕ)) (indexes : List (List Member))
     (known : Known (map text c.args.sources.now) texts) (are : AllZip (IsIndex LINE_LIMIT) texts indexes).
     wanted_whole text extent gave q from ss1 fs1 ss2 fs2 ws b taken same reached cut texts indexes (known1 texts known)
-    are (ok.ended e) in
+    are (ok.passed.ended e) in
     let of_parts = λ (texts : List (List ℕ)) (known : Known (map text c.args.sources.now) texts).
     let told = told_known text ss1 texts (known1 texts known) in
     let found = parts_first text extent gave LINE_LIMIT (is_past q.target) (past_upward q.target) ss1 fs1 ss2 fs2 ws b
@@ -208,7 +208,7 @@ returns-clause-took g c =
     let p : IsOfParts q texts taken c.in_ok-all.all c.lines.result = record {
       parts = read;
       each = λ whole is. parts_are LINE_LIMIT (is_past q.target) text extent ws 0 ss2 fs2 texts whole reached.ready.same
-          (known2 texts known) reached.ready.fed reached.settled (λ e. ok.ended (is e));
+          (known2 texts known) reached.ready.fed reached.settled (λ e. ok.passed.ended (is e));
       count = c.lines.ensures
           ∙ ap (λ n. min n (2 ^ 64 - 1))
           (parts_count LINE_LIMIT (is_past q.target) text extent ws 0 ss2 fs2 reached.ready.same
@@ -220,7 +220,7 @@ returns-clause-took g c =
       );
       ended = λ e. ap (kept_after q from from)
           (parts_whole text extent gave LINE_LIMIT (is_past q.target) (past_upward q.target) ss1 fs1 ss2 fs2 ws b taken
-          reached told (is_wanted q from) (wanted_within q from) (ok.ended e));
+          reached told (is_wanted q from) (wanted_within q from) (ok.passed.ended e));
     } in
     p in
     by_truth c.in_ok-all.all _ (λ e. record {
@@ -235,11 +235,11 @@ returns-clause-took g c =
       before = record {
         state = c.merge.new.sink;
         middle = g.O.Output.written c.merge.new.out;
-        more = ok.further e;
+        more = ok.passed.further e;
         came = so_far.came;
         within = λ texts indexes known are limit most.
             let all = cut_all text extent gave q from ss1 fs1 ss2 fs2 ws b taken same reached cut texts indexes
-            (known1 texts known) are (ok.ended e) in
+            (known1 texts known) are (ok.passed.ended e) in
             gave_within text extent gave q from ss1 fs1 ss2 fs2 ws b taken same reached cut texts indexes
             (known1 texts known) are b taken all limit most
             c.args.sources.now ss2 fs2 known c.in_ok-opened.ensures.came c.merge.ensures.moved (omega arith)
@@ -248,7 +248,7 @@ returns-clause-took g c =
       };
       few = λ texts indexes known are limit most.
           let all = cut_all text extent gave q from ss1 fs1 ss2 fs2 ws b taken same reached cut texts indexes
-          (known1 texts known) are (ok.ended e) in
+          (known1 texts known) are (ok.passed.ended e) in
           let h = lines_within text extent gave q from ss1 fs1 ss2 fs2 ws b taken same reached cut texts indexes
           (known1 texts known) are (known2 texts known) taken all limit most in
           omega (
