@@ -16,8 +16,7 @@ split n xs ys = ap (λ z. z ++ ys) (sym (take-append-drop n xs)) ∙ append_asso
 -- the first bytes that are held are skipped
 pub skips-held : (left : Option (List ℕ)) (held : List ℕ) (n : ℕ)
     → Consumes (prepend_known held left) (prepend_known (drop n held) left) (take n held)
-skips-held None held n = tt
-skips-held (Some later) held n = split n held later
+skips-held left held n = grind (arith, split)
 
 -- the input skipped nothing and was read, and the first bytes that are held now are skipped
 pub skips-read : (before mid after : Option (List ℕ)) (none held now : List ℕ) (n : ℕ) → Consumes before mid none

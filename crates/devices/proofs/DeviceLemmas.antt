@@ -1,20 +1,16 @@
 -- Growing twice is growing by both, and what wasn't written is a rest.
-use Rattle.std.proofs.Common.{arith, ℕ, List, [], ◌++◌, Option, None, Some, take, drop, sym, ap, ◌∙◌, append_assoc}
+use Rattle.std.proofs.Common.{arith, ℕ, List, [], ◌++◌, Option, take, drop, append_assoc}
 use Rattle.std.proofs.Common.{append-nil}
 use Rattle.std.proofs.lemmas.List.{take-append-drop}
 use Rattle.std.specs.Io.KnownBytes.{Appends}
 use Rattle.devices.specs.Device.{Grows, WroteUpTo, AppendsPrefix}
 
 pub Appends-none : (old : Option (List ℕ)) → Appends old old []
-Appends-none None = tt
-Appends-none (Some xs) = sym (append-nil xs)
+Appends-none old = grind (arith, append-nil)
 
 pub Appends-join : (old mid new : Option (List ℕ)) (a b : List ℕ) → Appends old mid a → Appends mid new b
     → Appends old new (a ++ b)
-Appends-join None mid new a b h k = tt
-Appends-join (Some xs) None new a b h k = absurd h
-Appends-join (Some xs) (Some ys) None a b h k = absurd k
-Appends-join (Some xs) (Some ys) (Some zs) a b h k = k ∙ (ap (λ w. w ++ b) h ∙ append_assoc xs a b)
+Appends-join old mid new a b h k = grind (arith, append_assoc)
 
 pub WroteUpTo-more : (old mid new : Option (List ℕ)) (bs rest : List ℕ) (n : ℕ) → WroteUpTo old mid bs rest
     → Appends mid new (take n rest) → WroteUpTo old new bs (drop n rest)

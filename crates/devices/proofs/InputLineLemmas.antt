@@ -1,5 +1,5 @@
 -- The line that is being read.
-use Rattle.std.proofs.Common.{◌≡◌, ℕ, zero, suc, ◌<◌, List, [], ◌∷◌, ◌++◌, length, take, refl, ap, ◌∙◌, arith, Bool}
+use Rattle.std.proofs.Common.{◌≡◌, ℕ, zero, suc, ◌<◌, List, [], ◌∷◌, ◌++◌, length, take, refl, ap, arith, Bool}
 use Rattle.std.proofs.Common.{true, false, not, Option, Some, None, append_assoc, append-nil}
 use Rattle.devices.specs.LineCuts.{HasNoLineFeed, cut_lines}
 use Rattle.devices.specs.LineReading.{TakesPart, TakesLine, LineSoFar}
@@ -27,32 +27,12 @@ take-more (suc most) [] ys = refl
 take-more (suc most) (x ∷ xs) ys = ap (λ l. x ∷ l) (take-more most xs ys)
 
 take-none : (most : ℕ) (xs : List ℕ) → 0 < most → length (take most xs) ≡ 0 → xs ≡ []
-take-none zero xs some none = absurd (omega arith)
-take-none (suc most) [] some none = refl
-take-none (suc most) (x ∷ xs) some none = absurd (omega arith)
+take-none most xs some none = grind arith
 
 take-some : (most : ℕ) (xs : List ℕ) → 0 < length (take most xs) → 0 < length xs
-take-some zero xs some = absurd (omega arith)
-take-some (suc most) [] some = some
-take-some (suc most) (x ∷ xs) some = omega arith
+take-some most xs some = grind arith
 
 module _ (most : ℕ) where
-  pub so_far-more : (before now after : Option (List ℕ)) (line new : List ℕ) → LineSoFar most before now line
-      → TakesPart most Within now after line new → LineSoFar most before after new
-  so_far-more None now after line new s p = tt
-  so_far-more (Some text) None after line new s p = absurd s
-  so_far-more (Some text) (Some now) None line new s p = absurd p
-  so_far-more (Some text) (Some now) (Some rest) line new (seen, whole, free, held) (piece, part, free_part, kept) =
-      grind (arith, append_assoc, no_line_feed-append, take-more)
-
-  pub so_far-ended : (before now after : Option (List ℕ)) (line new : List ℕ) → LineSoFar most before now line
-      → TakesPart most Ended now after line new → TakesLine most true before after new
-  so_far-ended None now after line new s p = tt
-  so_far-ended (Some text) None after line new s p = absurd s
-  so_far-ended (Some text) (Some now) None line new s p = absurd p
-  so_far-ended (Some text) (Some now) (Some rest) line new (seen, whole, free, held) (piece, part, free_part, kept) =
-      grind (arith, append_assoc, cut-front, no_line_feed-append, take-more)
-
   last : (seen : List ℕ) → HasNoLineFeed seen → 0 < length seen → cut_lines seen ≡ seen ∷ []
   last [] free some = absurd (omega arith)
   last (b ∷ seen) free some = cut-last b seen free
@@ -65,30 +45,16 @@ module _ (most : ℕ) where
   so_far-last (Some text) (Some now) (Some rest) line new (seen, whole, free, held) (none, end, kept) some =
       grind (arith, append-nil, last, take-some)
 
-  pub so_far-none : (before now after : Option (List ℕ)) (line new : List ℕ) → 0 < most → LineSoFar most before now line
-      → TakesPart most AtEnd now after line new → length new ≡ 0 → TakesLine most false before after new
-  so_far-none None now after line new room s p none = tt
-  so_far-none (Some text) None after line new room s p none = absurd s
-  so_far-none (Some text) (Some now) None line new room s p none = absurd p
-  so_far-none (Some text) (Some now) (Some rest) line new room (seen, whole, free, held) (none_left, end, kept) none =
-      grind (arith, take-none)
-
-  pub so_far-end : (before now after : Option (List ℕ)) (line new : List ℕ) (empty : Bool) → 0 < most
-      → (empty ≡ true → length new ≡ 0) → (empty ≡ false → 0 < length new) → LineSoFar most before now line
-      → TakesPart most AtEnd now after line new → TakesLine most (not empty) before after new
-  so_far-end before now after line new true room none some s p = grind (arith, so_far-none)
-  so_far-end before now after line new false room none some s p = grind (arith, so_far-last)
-
   -- the same, where the piece is named by an answer, and what is held by the reader
   module _ (part : Part) (now after : Option (List ℕ)) (line new : List ℕ) (its : ℕ) (same : its ≡ most)
       (takes : TakesPart its part now after line new) (before : Option (List ℕ)) where
     pub after_within : part ≡ Within → LineSoFar most before now line → LineSoFar most before after new
-    after_within e s = grind (arith, so_far-more)
+    after_within e s = grind (arith, append_assoc, no_line_feed-append, take-more)
 
     pub after_ended : part ≡ Ended → LineSoFar most before now line → TakesLine most true before after new
-    after_ended e s = grind (arith, so_far-ended)
+    after_ended e s = grind (arith, append_assoc, cut-front, no_line_feed-append, take-more)
 
     pub after_end : (empty : Bool) → part ≡ AtEnd → 0 < most → (empty ≡ true → length new ≡ 0)
         → (empty ≡ false → 0 < length new) → LineSoFar most before now line
         → TakesLine most (not empty) before after new
-    after_end empty e room none some s = grind (arith, so_far-end)
+    after_end empty e room none some s = grind (arith, take-none, so_far-last)

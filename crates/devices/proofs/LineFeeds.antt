@@ -1,6 +1,6 @@
 -- Where the first line feed of a piece stands.
 use Rattle.std.proofs.Common.{◌≡◌, ℕ, zero, suc, ◌+◌, ◌-◌, ◌<◌, ◌≤◌, List, [], ◌∷◌, ◌++◌, length, take, drop, get_or}
-use Rattle.std.proofs.Common.{ap, ◌∙◌, subst, arith, eqb, eqb-true, false, Option, Some, None, min}
+use Rattle.std.proofs.Common.{ap, subst, arith, eqb, eqb-true, false, Option, Some, None, min}
 use Rattle.std.proofs.lemmas.List.{take_all, take_min}
 use Rattle.std.specs.Prelude.{MatchOption}
 use Rattle.memchr.specs.Find.{is_byte, IsFirstByte}

@@ -1,5 +1,5 @@
 -- Texts written one after another.
-use Rattle.std.proofs.Common.{arith, ℕ, List, [], ◌++◌, Option, Result, Ok, Err, refl, ◌∙◌, append_assoc}
+use Rattle.std.proofs.Common.{arith, ℕ, List, [], ◌++◌, Option, Result, refl, append_assoc}
 use Rattle.std.specs.Io.KnownBytes.{Appends}
 use Rattle.std.specs.Prelude.{IsErrAnd}
 use Rattle.devices.specs.Device.{AppendsPrefix}
@@ -30,8 +30,7 @@ prefix_whole old new text more a = grind arith
 -- a refusal, after which the output has a front of the text
 pub writes_prefix : {A E : Type 0} (Q : E → Type 0) (r : Result A E) (old new : Option (List ℕ)) (text : List ℕ)
     → IsErrAnd r Q → AppendsPrefix old new text → WritesText r old new text
-writes_prefix Q (Ok x) old new text h p = absurd h
-writes_prefix Q (Err e) old new text h p = p
+writes_prefix Q r old new text h p = grind arith
 
 -- a refusal before anything was written
 pub writes_nothing : {A E : Type 0} (Q : E → Type 0) (r : Result A E) (old : Option (List ℕ)) (text : List ℕ)

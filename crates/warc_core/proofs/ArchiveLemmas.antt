@@ -1,5 +1,5 @@
 -- An archive and the texts of its records.
-use Rattle.std.proofs.Common.{◌≡◌, ◌∙◌, ℕ, ◌+◌, List, [], ◌∷◌, ◌++◌, Some, Ok, sym, refl, append_assoc, length}
+use Rattle.std.proofs.Common.{◌≡◌, ℕ, ◌+◌, List, [], ◌∷◌, ◌++◌, Some, Ok, sym, append_assoc, length}
 use Rattle.std.proofs.Common.{length-append, arith}
 use Rattle.std.specs.List.{concat}
 use Rattle.warc_core.specs.HeadView.{HeadView, record_length}
@@ -27,8 +27,7 @@ end_of start (h ∷ heads) = end_of (start + record_length h) heads
 -- what is spelled is walked
 pub spelled-walk : (limit start : ℕ) (heads : List HeadView) (texts : List (List ℕ)) (rest : List ℕ)
     → AreTexts limit start heads texts → Walks limit start (concat texts ++ rest) heads (end_of start heads) rest
-spelled-walk limit start [] [] rest a = (refl, refl)
-spelled-walk limit start [] (text ∷ texts) rest a = absurd a
+spelled-walk limit start [] texts rest a = grind arith
 spelled-walk limit start (h ∷ heads) [] rest a = absurd a
 spelled-walk limit start (h ∷ heads) (text ∷ texts) rest a =
     grind (arith, append_assoc, spelled-read, spelled-walk limit (start + record_length h) heads texts rest a.2)

@@ -1,6 +1,6 @@
 -- The first CR LF CR LF.
-use Rattle.std.proofs.Common.{◌≡◌, ◌∙◌, ℕ, ◌+◌, ◌-◌, ◌<◌, ◌≤◌, true, false, List, [], ◌∷◌, length, take, drop, get_or}
-use Rattle.std.proofs.Common.{refl, sym, ap, arith, length-drop, inl, inr, lit<, ◌++◌, length-append, subst}
+use Rattle.std.proofs.Common.{◌≡◌, ℕ, ◌+◌, ◌-◌, ◌<◌, ◌≤◌, true, false, List, [], ◌∷◌, length, take, drop, get_or}
+use Rattle.std.proofs.Common.{refl, ap, arith, length-drop, inl, inr, lit<, ◌++◌, length-append}
 use Rattle.std.proofs.lemmas.List.{get_or-drop, get_or-take, length-take-le, take-append-drop}
 use Rattle.std.proofs.lemmas.Bool.{cases_eq, cases_lt}
 use Rattle.memchr.specs.Find.{OccursAt}
@@ -99,7 +99,7 @@ none-behind xs before at end l early late k from below h =
       | inl e ↦ early k from e h
       | inr e ↦ (let same : at + (k - at)
           ≡ k = omega (arith, e) in late (k - at) (omega (arith, e, below))
-          (occurs-behind xs at (k - at) l (subst (λ n. OccursAt xs closing n) (sym same) h)))
+          (occurs-behind xs at (k - at) l (grind arith)))
     ]
 
 -- no CR LF CR LF begins at the places that a step passes over
@@ -110,9 +110,8 @@ none-in-run xs before at run early late k from below h =
     elim (cases_lt k at) [
       | inl e ↦ early k from e h
       | inr e ↦ (
-          let same : (j : ℕ) → at + (k - at) + j ≡ k + j = λ j. omega (arith, e) in
           let byte : (j : ℕ) → j < 4 → get_or xs (at + (k - at) + j) 0
-          ≡ get_or closing j 0 = λ j l. ap (λ n. get_or xs n 0) (same j) ∙ h.reads j l in
+          ≡ get_or closing j 0 = grind arith in
           late (k - at) (omega (arith, e, below)) (byte 1 (lit< tt)) (byte 3 (lit< tt)))
     ]
 

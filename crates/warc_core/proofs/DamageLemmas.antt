@@ -1,14 +1,9 @@
 -- The head in front of a damaged record.
-use Rattle.std.proofs.Common.{arith, ◌≡◌, ◌∙◌, ℕ, ◌+◌, ◌-◌, ◌^◌, ◌≤◌, Bool, true, false, nat_lt, List, [], ◌∷◌, Option}
-use Rattle.std.proofs.Common.{None, Some, Result, Ok, Err, refl, if◌then◌else◌}
-use Rattle.warc_head.specs.declared.fault.HeadFault.{HeadFault}
-use Rattle.warc_head.specs.declared.fault.HeadFault.TheVariants as faults
-use Rattle.warc_head.specs.Parts.{HeadParts}
-use Rattle.warc_head.specs.Parts as heads
+use Rattle.std.proofs.Common.{arith, ◌≡◌, ℕ, nat_lt, List, Option}
+use Rattle.std.proofs.Common.{None, Some, Result, Ok, Err, refl}
 use Rattle.warc_core.specs.declared.fault.Cause.{Cause}
-use Rattle.warc_core.specs.declared.fault.Cause.TheVariants as causes
 use Rattle.warc_core.specs.Cause.{StopsHead}
-use Rattle.warc_core.specs.Head.{parts_or_cause, by_cause, cause_of}
+use Rattle.warc_core.specs.Head.{parts_or_cause}
 use Rattle.warc_core.specs.HeadText.{head_text}
 use Rattle.warc_core.specs.HeadView.{HeadView}
 use Rattle.warc_core.specs.Laws.{HeadIsSpelled, HeadAtDamage}
@@ -39,36 +34,17 @@ text-stops : (limit : ℕ) (bytes : List ℕ) (c : Cause) → head_text limit by
 unfolding head_text
 text-stops limit bytes c e = grind arith
 
-fault-stops : (f : HeadFault) → StopsHead (cause_of f)
-fault-stops faults.Memory = tt
-fault-stops faults.FieldLine = tt
-fault-stops faults.Missing = tt
-fault-stops faults.Repeated = tt
-fault-stops faults.BadLength = tt
-fault-stops faults.BadDate = tt
-
-by_cause-stops : (r : Result HeadParts HeadFault) (c : Cause) → by_cause r ≡ Err c → StopsHead c
-by_cause-stops (Ok p) c e = absurd (no_err p c e)
-by_cause-stops (Err f) c e = stops (cause_of f) c (fault-stops f) e
-
 parts-stops : (raw : List ℕ) (c : Cause) → parts_or_cause raw ≡ Err c → StopsHead c
 unfolding parts_or_cause
-parts-stops raw c e = by_cause-stops (heads.parts_of raw) c e
-
-limit-stops : (test : Bool) (h : HeadView) (rest : List ℕ) (c : Cause)
-    → ◌≡◌ {A = Result (HeadView × List ℕ) Cause} (if test then Err causes.TooFar else Ok (h, rest)) (Err c)
-    → StopsHead c
-limit-stops true h rest c e = stops causes.TooFar c tt e
-limit-stops false h rest c e = absurd (no_err (h, rest) c e)
+parts-stops raw c e = grind (arith, no_err, stops)
 
 head-stops : (limit start : ℕ) (bytes : List ℕ) (c : Cause) → head_at limit start bytes ≡ Err c → StopsHead c
 unfolding head_at
-head-stops limit start bytes c e = grind (arith, text-stops, parts-stops, limit-stops, nat_lt)
+head-stops limit start bytes c e = grind (arith, text-stops, parts-stops, stops, no_err, nat_lt)
 
 next-stops : (limit start : ℕ) (bytes : List ℕ) (c : Cause) → next_at limit start bytes ≡ Err c → StopsHead c
 unfolding next_at
-next-stops limit start [] c e = absurd (no_err (None, []) c e)
-next-stops limit start (b ∷ bytes) c e = grind (arith, head-stops, no_err)
+next-stops limit start bytes c e = grind (arith, no_err, head-stops)
 
 -- a record that is refused behind its head has a head
 head-of : (limit start : ℕ) (bytes : List ℕ) (c : Cause) → (StopsHead c → ⊥)

@@ -1,6 +1,6 @@
 -- A block's first bytes, piece by piece.
-use Rattle.std.proofs.Common.{◌≡◌, ℕ, ◌+◌, ◌-◌, ◌≤◌, List, [], ◌++◌, Option, None, Some, Ok, Err, length, take, drop}
-use Rattle.std.proofs.Common.{refl, ◌∙◌, subst, arith, append_assoc, length-drop}
+use Rattle.std.proofs.Common.{◌≡◌, ℕ, ◌+◌, ◌-◌, ◌≤◌, List, [], ◌++◌, Option, None, Some, Ok, Err, length, take}
+use Rattle.std.proofs.Common.{arith, append_assoc, length-drop}
 use Rattle.std.proofs.lemmas.List.{length-take-le, drop_all, take-take}
 use Rattle.std.proofs.lemmas.Slice.{take-put_mid}
 use Rattle.std.proofs.Math.Seq.{take-append-add}
@@ -10,22 +10,17 @@ use Rattle.warc_core.specs.declared.fault.Cause.{Cause}
 use Rattle.warc_core.specs.declared.phase.Phase.TheVariants.{Open}
 use Rattle.warc_core.specs.declared.fault.Fault.{Fault}
 use Rattle.warc_core.specs.Reading.{IsFoundAt}
-use Rattle.warc_core.specs.Answers.{CountsRead}
 use Rattle.warc_core.specs.Record.{after_block}
-use Rattle.warc_core.specs.ReaderView.{ReaderView, StandsAt, FailedBy, state_of}
+use Rattle.warc_core.specs.ReaderView.{ReaderView, StandsAt, state_of}
 use Rattle.warc_core.specs.Calls.{GivesBlock, Fills}
 use Rattle.warc_core.proofs.RecordLemmas.{after_block-part}
 
 pub Consumes-none : (known : Option (List ℕ)) → Consumes known known []
-Consumes-none None = tt
-Consumes-none (Some z) = refl
+Consumes-none known = grind arith
 
 pub Consumes-join : (before mid after : Option (List ℕ)) (a b : List ℕ) → Consumes before mid a → Consumes mid after b
     → Consumes before after (a ++ b)
-Consumes-join None mid after a b h k = tt
-Consumes-join (Some z) None after a b h k = absurd h
-Consumes-join (Some z) (Some w) None a b h k = absurd k
-Consumes-join (Some z) (Some w) (Some v) a b h k = grind (arith, append_assoc)
+Consumes-join before mid after a b h k = grind (arith, append_assoc)
 
 -- what is found behind the first bytes of a block is found of the block
 pub found-behind : (c : Cause) (left n : ℕ) (piece : List ℕ) (before mid : Option (List ℕ)) → length piece ≡ n
@@ -70,16 +65,10 @@ Filling-more left len old now next before mid after size filled n piece part cou
     record {
       opened = f.opened;
       fits = f.fits;
-      long = same_len_mid filled (length piece - filled) piece part
-          (omega (
-            arith,
-            length-take-le (length piece - filled) (drop filled piece) (omega (arith, length-drop filled piece)),
-            length-drop filled piece,
-          )) ∙ long;
+      long = grind (arith, same_len_mid, length-take-le, length-drop, long);
       within = omega arith;
       stands = grind arith;
-      given = rw (take-written filled (length piece - filled) n piece part (omega arith) g.bound.1)
-          (Consumes-join _ _ _ (take filled piece) (take n part) f.given g.bytes);
+      given = grind (arith, take-written, Consumes-join);
     }
 
 pub Filling-fault : (left len : ℕ) (old now next : ReaderView) (before mid after : Option (List ℕ)) (size filled : ℕ)
@@ -90,7 +79,7 @@ Filling-fault left len old now next before mid after size filled fault piece par
     record {
       given = found-behind fault.cause left filled (take filled piece) _ _ (length-take-le filled piece (omega arith))
           (omega arith) f.given g.bytes;
-      state = subst (λ o. FailedBy next o fault) f.stands.offset_is g.state;
+      state = grind arith;
       cause = g.cause;
-      failures = subst (λ c. CountsRead {A = Unit {0}} (Err fault.cause) c k') e g.failures;
+      failures = grind arith;
     }

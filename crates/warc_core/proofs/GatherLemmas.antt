@@ -1,7 +1,7 @@
 -- What a piece of a head does to the reading of it.
-use Rattle.std.proofs.Common.{◌≡◌, ◌∙◌, ℕ, ◌+◌, ◌-◌, ◌<◌, ◌≤◌, List, [], ◌++◌, Option, None, Some, Result, Ok, Err}
+use Rattle.std.proofs.Common.{◌≡◌, ◌∙◌, ℕ, ◌+◌, ◌-◌, ◌<◌, ◌≤◌, List, ◌++◌, Option, Result, Ok, Err}
 use Rattle.std.proofs.Common.{true, false, length, take, drop, arith, sym, ap, append_assoc, length-append}
-use Rattle.std.specs.Io.KnownBytes.{IsAtEnd, prepend_known}
+use Rattle.std.specs.Io.KnownBytes.{prepend_known}
 use Rattle.std.proofs.lemmas.Grind.{common_steps}
 use Rattle.std.proofs.lemmas.List.{take-append-drop, length-take-le, take-append-le}
 use Rattle.warc_core.specs.declared.fault.Cause.{Cause}
@@ -9,16 +9,15 @@ use Rattle.warc_core.specs.declared.fault.Cause.TheVariants as causes
 use Rattle.warc_core.specs.Reading.{Reads, IsFoundIn}
 use Rattle.warc_core.proofs.ReadingLemmas.{GoesOn, GoesOn-done, GoesOn-held}
 use Rattle.warc_core.specs.HeadText.{has_version, is_closed, head_text, IsFoundHead, IsOpenAfter, ClosesFirst}
-use Rattle.warc_core.proofs.HeadLemmas.{going, going-end, going-full, going-found, going-wrong, going-gathered}
-use Rattle.warc_core.proofs.HeadLemmas.{take-behind, has_version-longer}
+use Rattle.warc_core.proofs.HeadLemmas.{going, going-found, going-wrong, going-gathered}
+use Rattle.warc_core.proofs.HeadLemmas.{take-behind}
+use Rattle.warc_core.proofs.HeadLemmas.{agrees-longer}
 
 -- a fault that the held bytes show
 fault_held : {A : Type 0} (f g : List ℕ → Result (A × List ℕ) Cause) (c : Cause) (before left after : Option (List ℕ))
     (b : List ℕ) → GoesOn f g before (prepend_known b left) → ((z : List ℕ) → IsFoundIn c (g (b ++ z)))
     → Reads f (Err c) before after
-fault_held f g c None left after b h e = tt
-fault_held f g c (Some z) None after b h e = absurd h
-fault_held f g c (Some z) (Some w) after b h e = grind arith
+fault_held f g c before left after b h e = grind arith
 
 split_at : (count : ℕ) (b z : List ℕ) → b ++ z ≡ take count b ++ (drop count b ++ z)
 split_at count b z = ap (λ x. x ++ z) (sym (take-append-drop count b)) ∙ append_assoc (take count b) (drop count b) z
@@ -28,23 +27,13 @@ take-take-le m n xs h = grind (arith, common_steps)
 
 -- a front of what agrees
 pub has_version-front : (xs more : List ℕ) → has_version (xs ++ more) ≡ true → has_version xs ≡ true
-has_version-front xs more h = grind (arith, has_version-longer)
+has_version-front xs more h = grind (arith, agrees-longer)
 
 pub has_version-take : (n : ℕ) (xs : List ℕ) → has_version xs ≡ true → has_version (take n xs) ≡ true
 has_version-take n xs h = has_version-front (take n xs) (drop n xs) (ap has_version (take-append-drop n xs) ∙ h)
 
 module _ (limit : ℕ) (seen b : List ℕ) (before left : Option (List ℕ)) (unclosed : is_closed seen ≡ false)
     (same : GoesOn (head_text limit) (going limit seen) before (prepend_known b left)) where
-  -- the input ends
-  pub head-short : (after : Option (List ℕ)) → has_version seen ≡ true → length seen < limit → b ≡ [] → IsAtEnd left
-      → Reads (head_text limit) (Err causes.ShortHead) before after
-  head-short after agree room e h = grind (arith, going-end)
-
-  -- no room is left
-  pub head-long : (after : Option (List ℕ)) → has_version seen ≡ true → length seen ≡ limit → 10 ≤ limit
-      → Reads (head_text limit) (Err causes.HeadTooLong) before after
-  head-long after agree full ten = grind (arith, going-full)
-
   -- a piece more shows another version
   pub head-wrong : (after : Option (List ℕ)) (count : ℕ) (new : List ℕ) → new ≡ seen ++ take count b → has_version new
       ≡ false → Reads (head_text limit) (Err causes.Version) before after
@@ -62,9 +51,7 @@ module _ (limit : ℕ) (seen b : List ℕ) (before left : Option (List ℕ)) (un
       let m : length (take count b) ≡ count = length-take-le count b c in
       GoesOn-held (head_text limit) (going limit seen) (going limit new) before left b (drop count b)
       (λ z. ap (going limit seen) (split_at count b z)
-      ∙ (going-gathered limit seen (take count b) (drop count b ++ z) unclosed
-      (λ k p q. ap (λ t. is_closed (take k t)) (sym n) ∙ u k p (omega (arith, m, q))) (omega (arith, m, l))
-      ∙ ap (λ s. going limit s (drop count b ++ z)) (sym n)))
+      ∙ (grind (arith, going-gathered)))
       same
 
   -- the piece has the end
@@ -78,15 +65,12 @@ module _ (limit : ℕ) (seen b : List ℕ) (before left : Option (List ℕ)) (un
       let within : end ≤ length new = h.within in
       let len : length new ≡ length seen + length (take count b) = ap length n ∙ length-append seen (take count b) in
       let e : end ≡ length seen + k = omega (arith, longer) in
-      let small : k ≤ count = omega (arith, len, m, within) in
       let front : take end new ≡ seen ++ take k b = ap (take end) n
       ∙ (ap (λ j. take j (seen ++ take count b)) e
-      ∙ (take-behind seen (take count b) k ∙ ap (λ t. seen ++ t) (take-take-le k count b small))) in
+      ∙ (grind (arith, take-behind, take-take-le))) in
       GoesOn-done (head_text limit) (going limit (take end new)) (take end new) before (prepend_known (drop k b) left)
-      (head-piece k (take end new) (omega (arith, small, c)) front
-      (λ j p q. ap is_closed (take-take-le j end new (omega (arith, q, longer)))
-      ∙ h.first j p (omega (arith, q, longer))) (omega (arith, small, l)))
-      (λ w. going-found limit (take end new) w h.closed (has_version-take end new agree))
+      (grind (arith, head-piece, take-take-le))
+      (λ w. grind (arith, going-found, has_version-take))
 
 -- a front of what was seen, or a longer one
 open-or-more : (seen piece new : List ℕ) (end : ℕ) → new ≡ seen ++ piece

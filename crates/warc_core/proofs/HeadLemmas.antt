@@ -10,16 +10,13 @@ use Rattle.warc_core.specs.HeadText.{has_version, agrees, version_1_1, version_1
 use Rattle.warc_core.specs.HeadText.{head_text}
 
 and_keeps_true : (t a b : Bool) → (a ≡ true → b ≡ true) → (t && a) ≡ true → (t && b) ≡ true
-and_keeps_true true a b f h = f h
-and_keeps_true false a b f h = h
+and_keeps_true t a b f h = grind arith
 
 pub and_both : (t a : Bool) → (t && a) ≡ true → (t ≡ true) × (a ≡ true)
-and_both true a h = (refl, h)
-and_both false a h = grind arith
+and_both t a h = grind arith
 
 pub which : (b : Bool) → (b ≡ true) ⊎ (b ≡ false)
-which true = inl refl
-which false = inr refl
+which b = grind arith
 
 -- a text that disagrees does so however it goes on
 pub agrees-longer : (xs more ys : List ℕ) → agrees xs ys ≡ false → agrees (xs ++ more) ys ≡ false
@@ -116,19 +113,7 @@ closed-long_1_0 seen h a =
     ]
 
 pub or_true : (a b : Bool) → (a || b) ≡ true → (a ≡ true) ⊎ (b ≡ true)
-or_true true b h = inl refl
-or_true false b h = inr h
-
-or_right : (a b : Bool) → b ≡ true → (a || b) ≡ true
-or_right true b h = refl
-or_right false b h = h
-
--- the same of both versions
-pub has_version-longer : (xs more : List ℕ) → has_version xs ≡ false → has_version (xs ++ more) ≡ false
-has_version-longer xs more h = grind (arith, agrees-longer)
-
-pub has_version-whole : (xs more : List ℕ) → has_version xs ≡ true → 10 ≤ length xs → has_version (xs ++ more) ≡ true
-has_version-whole xs more h l = grind (arith, agrees-whole, or_right)
+or_true a b h = grind arith
 
 -- what ends a head and agrees has the whole version line, and more
 pub closed-long : (seen : List ℕ) → is_closed seen ≡ true → has_version seen ≡ true → 12 ≤ length seen
@@ -152,10 +137,6 @@ shortest-more test seen bytes b h = rw h refl
 abbrev pub judged : ℕ → List ℕ → Option (List ℕ) → Result (List ℕ × List ℕ) Cause
 judged limit text found = if has_version text then found_head limit text found else Err causes.Version
 
-judged-short : (limit : ℕ) (text : List ℕ) → has_version text ≡ true → length text < limit → judged limit text None
-    ≡ Err causes.ShortHead
-judged-short limit text a l = grind arith
-
 -- the head's text, of which some bytes were seen
 unfoldable pub going : ℕ → List ℕ → List ℕ → Result (List ℕ × List ℕ) Cause
 going limit seen bytes = judged limit (seen ++ bytes) (shortest is_closed seen (take (limit - length seen) bytes))
@@ -172,17 +153,17 @@ going-more limit seen bytes b h l = grind (arith, length-append, shortest-more, 
 pub going-end : (limit : ℕ) (seen : List ℕ) → is_closed seen ≡ false → has_version seen ≡ true → length seen < limit
     → going limit seen [] ≡ Err causes.ShortHead
 unfolding going
-going-end limit seen h a l = grind (arith, shortest-none, append-nil, judged-short)
+going-end limit seen h a l = grind (arith, shortest-none, append-nil)
 
 pub going-full : (limit : ℕ) (seen bytes : List ℕ) → is_closed seen ≡ false → has_version seen ≡ true → length seen
     ≡ limit → 10 ≤ limit → going limit seen bytes ≡ Err causes.HeadTooLong
 unfolding going
-going-full limit seen bytes h a l m = grind (arith, shortest-none, has_version-whole, length-append)
+going-full limit seen bytes h a l m = grind (arith, shortest-none, agrees-whole, length-append)
 
 pub going-found : (limit : ℕ) (seen bytes : List ℕ) → is_closed seen ≡ true → has_version seen ≡ true
     → going limit seen bytes ≡ Ok (seen, bytes)
 unfolding going
-going-found limit seen bytes h a = grind (arith, shortest-now, has_version-whole, closed-long, drop-append_seam)
+going-found limit seen bytes h a = grind (arith, shortest-now, agrees-whole, closed-long, drop-append_seam)
 
 pub take-behind : (seen w : List ℕ) (j : ℕ) → take (length seen + j) (seen ++ w) ≡ seen ++ take j w
 take-behind [] w j = grind arith
@@ -206,7 +187,7 @@ going-piece limit seen (b ∷ w) bytes u l =
 pub going-wrong : (limit : ℕ) (seen w bytes : List ℕ) → has_version (seen ++ w) ≡ false → going limit seen (w ++ bytes)
     ≡ Err causes.Version
 unfolding going
-going-wrong limit seen w bytes h = grind (arith, append_assoc, has_version-longer)
+going-wrong limit seen w bytes h = grind (arith, append_assoc, agrees-longer)
 
 -- where no front of the text that was gathered from `seen` and a piece ends a head before the last
 pub going-gathered : (limit : ℕ) (seen w bytes : List ℕ) → is_closed seen ≡ false
@@ -216,6 +197,5 @@ going-gathered limit seen w bytes h u l =
     going-piece limit seen w bytes (λ j k. elim (which (nat_lt 0 j)) [
       | inl t ↦ (let p : 0 < j = grind (arith, nat_tests) in ap is_closed (sym (take-behind seen w j))
           ∙ u (length seen + j) (omega arith) (omega arith))
-      | inr f ↦ (let p : j ≡ 0 = grind (arith, nat_tests) in ap (λ n. is_closed (seen ++ take n w)) p
-          ∙ (ap is_closed (append-nil seen) ∙ h))
+      | inr f ↦ (grind (arith, nat_tests, append-nil))
     ]) l

@@ -1,7 +1,7 @@
 -- A head that is found is a head text, and a head text is found.
 use Rattle.std.proofs.Common.{◌≡◌, ◌∙◌, ℕ, ◌+◌, ◌-◌, ◌≤◌, true, List, ◌++◌, Result, Ok, Err, length, drop, sym, ap}
 use Rattle.std.proofs.Common.{refl, arith, inl, inr}
-use Rattle.std.proofs.lemmas.List.{take-append-drop, drop-drop, drop_at}
+use Rattle.std.proofs.lemmas.List.{take-append-drop, drop-drop}
 use Rattle.warc_head.specs.declared.fault.HeadFault.{HeadFault}
 use Rattle.warc_head.specs.Answers.{◌>>=◌}
 use Rattle.warc_head.specs.Fields.{Field, fields_of}
@@ -14,7 +14,8 @@ use Rattle.warc_core.specs.Head.{parts_or_cause}
 use Rattle.warc_core.specs.HeadText.{version_1_1, version_1_0, agrees, has_version, is_closed, IsFoundHead}
 use Rattle.warc_core.specs.RecordText.{IsVersionLine, IsRecordHead}
 use Rattle.warc_core.proofs.ClosingLemmas.{closed-last}
-use Rattle.warc_core.proofs.HeadLemmas.{or_true, agrees-begins, closed-long, has_version-whole}
+use Rattle.warc_core.proofs.HeadLemmas.{or_true, agrees-begins, closed-long}
+use Rattle.warc_core.proofs.HeadLemmas.{agrees-whole}
 
 -- a text that was found as a head, and read as these parts
 pub record IsFoundOf (limit : ℕ) (parts : HeadParts) (text : List ℕ) : Type 0 where
@@ -59,7 +60,7 @@ last-empty text h l =
     let end : drop n (drop 10 text) ≡ line_end = drop-drop n 10 text
     ∙ (ap (λ m. drop m text) (sym at)
     ∙ (sym (drop-drop 2 (length text - 4) text) ∙ ap (drop 2) (closed-last text h))) in
-    sym (take-append-drop n (drop 10 text)) ∙ ap (λ t. field_lines_in text ++ t) end
+    grind (arith, take-append-drop)
 
 pub found-spelled : (limit : ℕ) (raw : List ℕ) (p : HeadParts) → IsFoundHead limit raw → parts_or_cause raw ≡ Ok p
     → IsRecordHead limit p raw
@@ -67,32 +68,20 @@ found-spelled limit raw p f h =
     let r = read-in raw p h in
     let long = closed-long raw f.closed f.version in
     let v = version-begins raw f.version (omega (arith, long)) in
-    let more : drop 10 raw ≡ v.1 = ap (drop 10) v.4 ∙ drop_at v.0 v.1 10 v.3 in
     record {
-      is_head = record {
-        version = v.0;
-        body = field_lines_in raw;
-        spelled = v.4 ∙ ap (λ t. v.0 ++ t) (sym more ∙ last-empty raw f.closed long);
-        is_version = v.2;
-        is_body = (fields_spelled (field_lines_in raw) p.fields).0 r.0;
-        closed = f.closed;
-        first = f.first;
-        small = f.small;
-      };
+      is_head = grind (arith, body, last-empty, fields_spelled);
       says = r.1;
     }
 
 -- a version line has ten bytes, and is one however it goes on
 version-found : (version more : List ℕ) → IsVersionLine version → (length version ≡ 10)
     × (has_version (version ++ more) ≡ true)
-version-found version more (inl e) = grind (arith, has_version-whole)
-version-found version more (inr e) = grind (arith, has_version-whole)
+version-found version more x2 = grind (arith, agrees-whole)
 
 pub spelled-found : (limit : ℕ) (raw : List ℕ) (p : HeadParts) → IsRecordHead limit p raw → IsFoundOf limit p raw
 spelled-found limit raw p h =
     let t = h.is_head in
-    let v = version-found t.version (t.body ++ line_end) t.is_version in
-    let whole : field_lines_in raw ≡ t.body = ap field_lines_in t.spelled ∙ body t.version t.body v.0 in
+    let whole : field_lines_in raw ≡ t.body = grind (arith, body) in
     record {
       found = grind arith;
       says = read-back raw p (ap fields_of whole ∙ (fields_spelled t.body p.fields).1 t.is_body) h.says;

@@ -1,5 +1,5 @@
 -- Records under a higher limit of heads.
-use Rattle.std.proofs.Common.{◌≡◌, ◌≤◌, ◌∙◌, ℕ, ◌+◌, List, [], ◌∷◌, None, Some, Ok, arith}
+use Rattle.std.proofs.Common.{◌≡◌, ◌≤◌, ℕ, ◌+◌, List, [], ◌∷◌, None, Some, Ok, arith}
 use Rattle.warc_core.specs.HeadView.{HeadView, record_length}
 use Rattle.warc_core.specs.Next.{next_at}
 use Rattle.warc_core.specs.Walk.{record_at, Walks}

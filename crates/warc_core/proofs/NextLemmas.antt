@@ -1,5 +1,5 @@
 -- The head that comes next, step by step.
-use Rattle.std.proofs.Common.{◌≡◌, ℕ, ◌+◌, ◌-◌, ◌^◌, ◌<◌, ◌≤◌, List, [], ◌∷◌, ◌++◌, Option, None, Some, Result, Ok, Err}
+use Rattle.std.proofs.Common.{◌≡◌, ℕ, ◌+◌, ◌-◌, ◌^◌, ◌<◌, ◌≤◌, List, [], Option, None, Some, Result, Ok, Err}
 use Rattle.std.proofs.Common.{length, arith, refl, length-append}
 use Rattle.std.specs.Io.KnownBytes.{prepend_known, IsAtEnd}
 use Rattle.warc_core.specs.declared.fault.Cause.{Cause}
@@ -41,8 +41,7 @@ module _ (limit start : ℕ) (raw : List ℕ) (before now : Option (List ℕ))
 -- where some bytes are held, some are known
 longer : (held : List ℕ) (left : Option (List ℕ)) (w : List ℕ) → 0 < length held → prepend_known held left ≡ Some w
     → 0 < length w
-longer held None w some k = grind arith
-longer held (Some v) w some k = grind (arith, length-append)
+longer held left w some k = grind (arith, length-append)
 
 -- a head as what comes next
 abbrev pub as_next : HeadView × List ℕ → Result (Option HeadView × List ℕ) Cause
@@ -51,8 +50,7 @@ as_next head = Ok (Some head.0, head.1)
 next-nonempty : (limit start : ℕ) (z : List ℕ) → 0 < length z → next_at limit start z
     ≡ (head_at limit start z >>= as_next)
 unfolding next_at
-next-nonempty limit start [] h = absurd (omega arith)
-next-nonempty limit start (b ∷ z) h = refl
+next-nonempty limit start z h = grind arith
 
 next-empty : (limit start : ℕ) (z : List ℕ) → z ≡ [] → next_at limit start z ≡ Ok (None, z)
 unfolding next_at

@@ -1,12 +1,11 @@
 -- Calls in an open record.
-use Rattle.std.proofs.Common.{◌≡◌, ℕ, ◌-◌, ◌<◌, ◌≤◌, List, ◌++◌, Option, None, Some, Err, length, refl, ◌∙◌, arith}
-use Rattle.std.proofs.Common.{zero, suc}
+use Rattle.std.proofs.Common.{◌≡◌, ℕ, ◌-◌, ◌<◌, ◌≤◌, List, ◌++◌, Option, Err, length, arith}
 use Rattle.std.proofs.lemmas.List.{drop_all}
 use Rattle.std.specs.Io.KnownBytes.{Consumes}
 use Rattle.warc_core.specs.declared.fault.Cause.{Cause}
 use Rattle.warc_core.specs.declared.phase.Phase.{Phase}
 use Rattle.warc_core.specs.declared.phase.Phase.TheVariants.{Open}
-use Rattle.warc_core.specs.Reading.{◌>>=◌, Reads, IsFoundAt}
+use Rattle.warc_core.specs.Reading.{Reads, IsFoundAt}
 use Rattle.warc_core.specs.Record.{after_block, after_record}
 use Rattle.warc_core.proofs.ReadingLemmas.{GoesOn}
 use Rattle.warc_core.proofs.RecordLemmas.{after_block-part}
@@ -24,15 +23,13 @@ pub of_open : (P : ℕ → ℕ → Type 0) (phase : Phase) (a b c d : ℕ) → p
 of_open P phase a b c d h k p = grind arith
 
 pub zero_of : (n : ℕ) → (0 < n → ⊥) → n ≡ 0
-zero_of zero h = refl
-zero_of (suc n) h = absurd (h (omega arith))
+zero_of n h = grind arith
 
 -- what is met in a block ends its record
 pub found-of-record : (c : Cause) (left : ℕ) (before after : Option (List ℕ)) → IsFoundAt (after_block left) c before
     → Reads (after_record left) (Err c) before after
 unfolding after_record
-found-of-record c left None after f = tt
-found-of-record c left (Some z) after f = grind arith
+found-of-record c left before after f = grind arith
 
 pub block-part : (n : ℕ) (front w : List ℕ) → length front ≤ n → after_block n (front ++ w)
     ≡ after_block (n - length front) w

@@ -1,12 +1,12 @@
 -- Laws of what follows a block and its closing.
 use Rattle.std.proofs.Common.{◌≡◌, ◌≢◌, ℕ, ◌+◌, ◌-◌, ◌<◌, ◌≤◌, List, [], ◌∷◌, ◌++◌, Option, None, Some, Ok, Err, length}
-use Rattle.std.proofs.Common.{drop, refl, ◌∙◌, arith, length-append, length-drop, get_or, suc}
+use Rattle.std.proofs.Common.{drop, refl, arith, length-append, length-drop, get_or, suc}
 use Rattle.std.proofs.lemmas.Bool.Decides.{nat_tests}
 use Rattle.std.proofs.lemmas.List.{drop-append-le, drop-drop}
 use Rattle.warc_core.specs.declared.fault.Cause.TheVariants as causes
-use Rattle.warc_core.specs.Reading.{Reads, IsFoundAt, first_of}
-use Rattle.warc_core.proofs.ReadingLemmas.{GoesOn, first-none}
-use Rattle.std.specs.Io.KnownBytes.{Consumes, IsAtEnd, prepend_known}
+use Rattle.warc_core.specs.Reading.{Reads, first_of}
+use Rattle.warc_core.proofs.ReadingLemmas.{GoesOn}
+use Rattle.std.specs.Io.KnownBytes.{prepend_known}
 use Rattle.warc_core.specs.Record.{after_block, after_text, closing}
 
 pub after_block-zero : (w : List ℕ) → after_block 0 w ≡ Ok (tt, w)
@@ -40,8 +40,7 @@ after_text-here c text w = grind (arith, nat_tests)
 pub closing-held : (held left : List ℕ) (known : Option (List ℕ)) → held ≡ closing ++ drop 4 held → left ≡ drop 4 held
     → Reads (after_text closing) (Ok tt) (prepend_known held known) (prepend_known left known)
 unfolding after_text
-closing-held held left None h l = tt
-closing-held held left (Some w) h l = grind arith
+closing-held held left known h l = grind arith
 
 pub after_text-done : (w : List ℕ) → after_text [] w ≡ Ok (tt, w)
 unfolding after_text
@@ -57,18 +56,6 @@ module _ (before now after : Option (List ℕ)) (i : ℕ) (within : i < length c
       → GoesOn (after_text closing) (after_text (drop (i + 1) closing)) before after
   closing-more o b r e q = grind (arith, after_text-here, here)
 
-  -- another byte, or none
-  pub closing-other : (o : Option ℕ) (b : ℕ) → Reads first_of (Ok o) now after → o ≡ Some b → b ≢ get_or closing i 0
-      → Reads (after_text closing) (Err causes.Closing) before after
-  closing-other o b r e q = grind (arith, after_text-other)
-
   pub closing-end : (o : Option ℕ) → Reads first_of (Ok o) now after → o ≡ None
       → Reads (after_text closing) (Err causes.Closing) before after
-  closing-end o r e = grind (arith, here, after_text-end, first-none)
-
--- at the end of what is known a block is short
-pub short_at : (n : ℕ) (before after : Option (List ℕ)) (none : List ℕ) → 0 < n → none ≡ [] → Consumes before after none
-    → IsAtEnd after → IsFoundAt (after_block n) causes.ShortBlock before
-short_at n None after none h e k l = tt
-short_at n (Some z) None none h e k l = absurd k
-short_at n (Some z) (Some w) none h e k l = grind (arith, after_block-short)
+  closing-end o r e = grind (arith, here, after_text-end)

@@ -1,12 +1,11 @@
 -- What is read as a record is spelled as one.
 use Rattle.std.proofs.Common.{◌≡◌, ◌∙◌, ℕ, ◌+◌, ◌<◌, ◌≤◌, Bool, true, false, nat_lt, List, [], ◌∷◌, ◌++◌, Option, None}
 use Rattle.std.proofs.Common.{Some, Result, Ok, Err, sym, ap, refl, length, take, drop, inl, inr, ◌⊎◌, ◌-◌, ◌^◌, zero}
-use Rattle.std.proofs.Common.{suc, length-append, length-take, append_assoc, append-nil, arith, if◌then◌else◌}
+use Rattle.std.proofs.Common.{suc, length-append, length-take, append_assoc, append-nil, arith}
 use Rattle.std.specs.Prelude.{◌==◌}
 use Rattle.std.proofs.lemmas.List.{take-append-drop, length-take-le}
 use Rattle.std.proofs.Math.Seq.{drop-append_seam, take-append_seam}
 use Rattle.warc_core.specs.declared.fault.Cause.{Cause}
-use Rattle.warc_core.specs.declared.fault.Cause.TheVariants as causes
 use Rattle.warc_core.specs.Record.{after_text, after_block, after_record, closing}
 use Rattle.warc_core.specs.HeadText.{shortest, found_head, head_text, has_version, is_closed, IsFoundHead}
 use Rattle.warc_core.specs.Reading.{◌>>=◌}
@@ -77,8 +76,7 @@ unfolding shortest
 shortest-first test seen [] head e n l m = grind arith
 shortest-first test seen (b ∷ bytes) head e n l m =
     elim (which (test seen)) [
-      | inl t ↦ absurd (let q : head
-          ≡ seen = cc in let k : length head ≡ length seen = ap length q in omega (arith, k, l, m))
+      | inl t ↦ absurd (grind arith)
       | inr f ↦ elim (which (nat_lt (length seen) n)) [
         | inl t ↦ (let p : length seen < n = grind arith in
             shortest-first test (seen ++ b ∷ []) bytes head (rw f at e) n
@@ -94,8 +92,7 @@ head-back limit raw x h = grind (arith, going-start, going-piece, going-found)
 
 found_some : (limit : ℕ) (bytes raw rest : List ℕ) (o : Option (List ℕ)) → found_head limit bytes o ≡ Ok (raw, rest)
     → (o ≡ Some raw) × (drop (length raw) bytes ≡ rest)
-found_some limit bytes raw rest (Some head) e = grind arith
-found_some limit bytes raw rest None e = grind arith
+found_some limit bytes raw rest o e = grind arith
 
 -- what is read as a head is a head text, and the rest follows it
 pub head-there : (limit : ℕ) (bytes raw rest : List ℕ) → head_text limit bytes ≡ Ok (raw, rest) → IsFoundHead limit raw
@@ -107,14 +104,11 @@ head-there limit bytes raw rest e =
           let f : found_head limit bytes (shortest is_closed [] (take limit bytes)) ≡ Ok (raw, rest) = rw t at e in
           let p = found_some limit bytes raw rest (shortest is_closed [] (take limit bytes)) f in
           let q = shortest-front is_closed [] (take limit bytes) raw p.0 in
-          let all : bytes ≡ raw ++ (q.0 ++ drop limit bytes) = sym (take-append-drop limit bytes)
-          ∙ (ap (λ x. x ++ drop limit bytes) q.1 ∙ append_assoc raw q.0 (drop limit bytes)) in
-          let behind : rest ≡ q.0 ++ drop limit bytes = sym p.1
-          ∙ (ap (drop (length raw)) all ∙ drop-append_seam raw (q.0 ++ drop limit bytes)) in
+          let all : bytes ≡ raw ++ (q.0 ++ drop limit bytes) = grind (arith, take-append-drop, append_assoc) in
+          let behind : rest ≡ q.0 ++ drop limit bytes = grind (arith, drop-append_seam) in
           let len : length (take limit bytes) ≡ length raw + length q.0 = ap length q.1
           ∙ length-append raw q.0 in grind (arith, has_version-front, shortest-passes, shortest-first, length-take))
-      | inr g ↦ absurd (let f : ◌≡◌ {A = Result (List ℕ × List ℕ) Cause} (Err causes.Version) (Ok (raw, rest)) = rw g
-          at e in cc)
+      | inr g ↦ absurd (cc)
     ]
 
 -- what follows a block and its closing
@@ -152,13 +146,11 @@ head-read-there limit start bytes rest h e = grind arith
 pub next-there : (limit start : ℕ) (bytes rest : List ℕ) (h : HeadView) → next_at limit start bytes ≡ Ok (Some h, rest)
     → head_at limit start bytes ≡ Ok (h, rest)
 unfolding next_at
-next-there limit start [] rest h e = grind arith
-next-there limit start (b ∷ bytes) rest h e = grind arith
+next-there limit start bytes rest h e = grind arith
 
 closed-there : (o : Option HeadView × List ℕ) (h : HeadView) (rest : List ℕ) → closed_at o ≡ Ok (Some h, rest)
     → (o ≡ (Some h, o.1)) × (after_record h.parts.length o.1 ≡ Ok (tt, rest))
-closed-there (None, z) h rest e = grind arith
-closed-there (Some k, z) h rest e = grind arith
+closed-there o h rest e = grind arith
 
 pub read-spelled : ReadIsSpelled
 unfolding record_at
@@ -171,8 +163,7 @@ read-spelled limit start bytes rest h e =
     let b = block-there h.parts.length p.0.1 rest c.1 in
     let block = b.0 in
     let spelling : bytes ≡ (h.raw ++ (block ++ closing)) ++ rest =
-    w.1 ∙ (ap (λ x. h.raw ++ x) b.2
-    ∙ sym (append_assoc h.raw (block ++ closing) rest ∙ ap (λ x. h.raw ++ x) (append_assoc block closing rest))) in (
+    grind (arith, append_assoc) in (
       block,
       h.raw ++ (block ++ closing),
       record {
@@ -198,49 +189,30 @@ head-read-back limit start h x t p s f = grind (arith, head-back)
 next-back : (limit start : ℕ) (bytes rest : List ℕ) (h : HeadView) → 0 < length bytes → head_at limit start bytes
     ≡ Ok (h, rest) → next_at limit start bytes ≡ Ok (Some h, rest)
 unfolding next_at
-next-back limit start [] rest h l e = absurd (omega arith)
-next-back limit start (b ∷ bytes) rest h l e = rw e refl
+next-back limit start bytes rest h l e = grind arith
 
 pub spelled-read : SpelledIsRead
 unfolding record_at
 spelled-read limit start h block text rest r =
     let t = r.is_text in
     let x = block ++ (closing ++ rest) in
-    let whole : text ++ rest ≡ h.raw ++ x = ap (λ y. y ++ rest) t.spelled
-    ∙ (append_assoc h.raw (block ++ closing) rest ∙ ap (λ y. h.raw ++ y) (append_assoc block closing rest)) in
+    let whole : text ++ rest ≡ h.raw ++ x = grind (arith, append_assoc) in
     let f = spelled-found limit h.raw h.parts t.is_head in
     let head = head-read-back limit start h x f.found f.says r.start_is r.fits in
-    let some : 0 < length (h.raw ++ x) = omega
-    (arith, length-append h.raw x, length-append block (closing ++ rest), length-append closing rest) in
-    let next = next-back limit start (h.raw ++ x) x h some head in
-    let b : after_record h.parts.length x ≡ Ok (tt, rest) = ap (λ n. after_record n x) (sym t.block_length)
-    ∙ block-back block rest in
-    ap (λ z. next_at limit start z >>= closed_at) whole
-    ∙ (ap (λ y. y >>= closed_at) next ∙ ap (λ y. y >>= λ closed. Ok (Some h, closed.1)) b)
+    grind (arith, length-append, next-back, block-back)
 
 pub no-prefix : NoPrefix
 no-prefix limit head head' parts parts' block block' text more t u =
-    let a : text ++ more ≡ head ++ ((block ++ closing) ++ more) = ap (λ y. y ++ more) t.spelled
-    ∙ append_assoc head (block ++ closing) more in
-    let b : text ++ more ≡ head' ++ (block' ++ closing) = u.spelled in
+    let a : text ++ more ≡ head ++ ((block ++ closing) ++ more) = grind (arith, append_assoc) in
     let f = spelled-found limit head parts t.is_head in
     let g = spelled-found limit head' parts' u.is_head in
     let p = head-back limit head ((block ++ closing) ++ more) f.found in
     let q = head-back limit head' (block' ++ closing) g.found in
     let same : ◌≡◌ {A = Result (List ℕ × List ℕ) Cause} (Ok (head, (block ++ closing) ++ more))
-    (Ok (head', block' ++ closing)) = sym p ∙ (ap (head_text limit) (sym a ∙ b) ∙ q) in
+    (Ok (head', block' ++ closing)) = grind arith in
     let r = answered head head' ((block ++ closing) ++ more) (block' ++ closing) same in
-    let is : parts ≡ parts' = cc in
-    let size : length block ≡ length block' = t.block_length ∙ (ap (λ k. k.length) is ∙ sym u.block_length) in
     let sizes : length ((block ++ closing) ++ more) ≡ length (block' ++ closing) = ap length r.1 in
-    nil_of more (omega (
-      arith,
-      sizes,
-      size,
-      length-append (block ++ closing) more,
-      length-append block closing,
-      length-append block' closing,
-    ))
+    grind (arith, nil_of, length-append)
 
 abbrev pub Outcome : ℕ → ℕ → List ℕ → Type 0
 Outcome limit start bytes = (heads : List HeadView) × (end : ℕ) × (rest : List ℕ)

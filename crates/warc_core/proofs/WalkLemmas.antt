@@ -1,6 +1,6 @@
 -- Two walks over one text.
 use Rattle.std.proofs.Common.{arith, ◌≡◌, ◌∙◌, ℕ, ◌+◌, List, [], ◌∷◌, ◌++◌, Option, None, Some, Result, Ok, Err, sym}
-use Rattle.std.proofs.Common.{refl, ◌⊎◌, inl, inr}
+use Rattle.std.proofs.Common.{refl, ◌⊎◌}
 use Rattle.warc_core.specs.declared.fault.Cause.{Cause}
 use Rattle.warc_core.specs.Reading.{Reads, ◌>>=◌}
 use Rattle.warc_core.specs.Record.{after_record}
@@ -50,8 +50,7 @@ pub walk-extends : (limit start : ℕ) (bytes : List ℕ) (hs gs : List HeadView
     → Walks limit start bytes hs o r → Walks limit start bytes gs p t → (t ≡ [])
     ⊎ ((c : Cause) × (record_at limit p t ≡ Err c)) → (more : List HeadView) × (gs ≡ hs ++ more)
 walk-extends limit start bytes [] gs o p r t v w e = (gs, refl)
-walk-extends limit start bytes (h ∷ hs) [] o p r t v w (inl e) = grind (arith, at_the_end)
-walk-extends limit start bytes (h ∷ hs) [] o p r t v w (inr e) = grind arith
+walk-extends limit start bytes (h ∷ hs) [] o p r t v w x11 = grind (arith, at_the_end)
 walk-extends limit start bytes (h ∷ hs) (g ∷ gs) o p r t v w e =
     let f = one_step limit start bytes h g v.0 w.0 v.1 w.1 in
     let x : Walks limit (start + record_length h) v.0 gs p t = rw (f.0, f.1) w.2 in
@@ -100,11 +99,9 @@ module _ (limit start : ℕ) (before mid after : Option (List ℕ)) where
 
 some_read : (x : Result (HeadView × List ℕ) Cause) (r : List ℕ)
     → ◌≡◌ {A = Result (Option HeadView × List ℕ) Cause} ((x >>= as_next) >>= closed_at) (Ok (None, r)) → ⊥
-some_read (Err c) r e = cc
-some_read (Ok (h, w)) r e = grind arith
+some_read x r e = grind arith
 
 -- no record is read only at the end
 pub none_at_end : (limit start : ℕ) (z r : List ℕ) → record_at limit start z ≡ Ok (None, r) → z ≡ []
 unfolding record_at next_at
-none_at_end limit start [] r e = refl
-none_at_end limit start (b ∷ z) r e = grind arith
+none_at_end limit start z r e = grind arith

@@ -1,7 +1,7 @@
 -- The forms of a date.
 use Rattle.std.proofs.Common.{◌≡◌, ℕ, ◌<◌, ◌≤◌, Bool, true, false, ◌&&◌, List, [], ◌∷◌, length, take, drop, refl, sym}
-use Rattle.std.proofs.Common.{arith, ◌⊎◌, inl, inr, Option, Some, if◌then◌else◌, codes, zero, suc, ◌+◌, ◌++◌, get_or}
-use Rattle.std.proofs.Common.{lit≤, append-nil, ◌∙◌}
+use Rattle.std.proofs.Common.{arith, ◌⊎◌, Option, Some, if◌then◌else◌, codes, zero, suc, ◌+◌, ◌++◌, get_or}
+use Rattle.std.proofs.Common.{lit≤, append-nil}
 use Rattle.std.specs.List.{list_all, zip}
 use Rattle.std.specs.Prelude.{◌==◌}
 use Rattle.std.proofs.lemmas.Bool.Decides.{nat_tests}
@@ -9,17 +9,14 @@ use Rattle.warc_head.specs.Length.{is_digit, all_digits}
 use Rattle.warc_head.specs.Date.{fits, fits_byte, two, digits_of, full_date, date_length, has_fraction, to_the_second}
 
 which : (b : Bool) → (b ≡ true) ⊎ (b ≡ false)
-which true = inl refl
-which false = inr refl
+which b = grind arith
 
 pub and_both : (t a : Bool) → (t && a) ≡ true → (t ≡ true) × (a ≡ true)
-and_both true a h = (refl, h)
-and_both false a h = grind arith
+and_both t a h = grind arith
 
 pub fits_long : (p t : List ℕ) → fits p t ≡ true → length p ≡ length t
 unfolding fits
-fits_long [] [] h = refl
-fits_long [] (b ∷ bs) h = grind arith
+fits_long [] t h = grind arith
 fits_long (p ∷ ps) [] h = grind arith
 fits_long (p ∷ ps) (b ∷ bs) h =
     (let e = fits_long ps bs (and_both (fits_byte p b) (fits ps bs) h).1 in omega (arith, e))
@@ -30,8 +27,7 @@ long_fraction t h = grind arith
 -- a text has a form if it has its length and agrees with it byte by byte
 pub fits_by_zip : (p t : List ℕ) → ((length p == length t) && list_all (λ q. fits_byte q.0 q.1) (zip p t)) ≡ fits p t
 unfolding fits
-fits_by_zip [] [] = refl
-fits_by_zip [] (b ∷ bs) = grind (arith, nat_tests)
+fits_by_zip [] t = grind (arith, nat_tests)
 fits_by_zip (p ∷ ps) [] = grind (arith, nat_tests)
 fits_by_zip (p ∷ ps) (b ∷ bs) = grind (arith, fits_by_zip ps bs)
 
@@ -70,8 +66,7 @@ fits_filled (f ∷ fs) (g ∷ gs) (c ∷ cs) (b ∷ bs) (suc n) h k e l =
 
 if_some : (b : Bool) (m : ℕ) (rest : Option ℕ) (P : ℕ → Type 0) → (b ≡ true → P m) → ((n : ℕ) → rest ≡ Some n → P n)
     → (n : ℕ) → (if b then Some m else rest) ≡ Some n → P n
-if_some true m rest P f g n h = grind arith
-if_some false m rest P f g n h = g n h
+if_some b m rest P f g n h = grind arith
 
 zeros_fit : fits to_the_second (codes "0000-01-01T00:00:00") ≡ true
 unfolding fits

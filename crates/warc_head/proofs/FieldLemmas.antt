@@ -1,8 +1,8 @@
 -- The fields of lines, of which some were read.
-use Rattle.std.proofs.Common.{◌≡◌, ◌∙◌, ◌<◌, ℕ, List, [], ◌∷◌, ◌++◌, length, Option, None, Some, Result, Ok, Err, refl}
-use Rattle.std.proofs.Common.{sym, ap, true, false, Bool, append_assoc, arith, ◌⊎◌, length-take, if◌then◌else◌}
+use Rattle.std.proofs.Common.{◌≡◌, ◌∙◌, ◌<◌, ℕ, List, [], ◌∷◌, ◌++◌, length, None, Result, Ok, Err, refl}
+use Rattle.std.proofs.Common.{sym, true, false, Bool, append_assoc, arith, length-take, if◌then◌else◌}
 use Rattle.std.specs.List.{ends_with, list_all}
-use Rattle.std.specs.Prelude.{nat_eq, ◌&&◌, take, drop, ◌-◌, ◌+◌}
+use Rattle.std.specs.Prelude.{nat_eq, ◌&&◌, take, drop, ◌-◌}
 use Rattle.std.proofs.lemmas.List.{drop-take}
 use Rattle.warc_head.specs.Parts.{field_lines_in}
 use Rattle.warc_head.specs.declared.fault.HeadFault.{HeadFault}
@@ -10,7 +10,7 @@ use Rattle.warc_head.specs.declared.fault.HeadFault.TheVariants as faults
 use Rattle.warc_head.specs.Answers.{◌>>=◌}
 use Rattle.warc_head.specs.Lines.{lines_of, line_content, BeginsWithLine, continues, trim, is_content, line_end}
 use Rattle.warc_head.specs.Fields.{Field, Given, given_by, fields_of, joined, longer, added, unless_continued, field_in}
-use Rattle.warc_head.specs.Fields.{with_folded, with_field, named, at_colon}
+use Rattle.warc_head.specs.Fields.{with_folded, with_field, at_colon}
 use Rattle.warc_head.proofs.LineLemmas.{line_first, line_text, concat, concat-lines, IsLine, line_if}
 
 -- fields that were read, and what the lines after them give
@@ -25,15 +25,8 @@ going_lines seen lines = given_by lines >>= onto seen
 unfoldable pub going : List Field → List ℕ → Result (List Field) HeadFault
 going seen rest = going_lines seen (lines_of rest)
 
-joined-assoc : (a b c : List ℕ) → joined (joined a b) c ≡ joined a (joined b c)
-joined-assoc [] b c = refl
-joined-assoc (x ∷ a) [] c = refl
-joined-assoc (x ∷ a) (y ∷ b) [] = refl
-joined-assoc (x ∷ a) (y ∷ b) (z ∷ c) = append_assoc (x ∷ a) (32 ∷ y ∷ b) (32 ∷ z ∷ c)
-
 pub joined-nil : (a : List ℕ) → joined a [] ≡ a
-joined-nil [] = refl
-joined-nil (x ∷ a) = refl
+joined-nil a = grind arith
 
 -- fields before the last one are left as they are
 onto-more : (seen : List Field) (f : Field) (read : Given) → onto (seen ++ f ∷ []) read
@@ -41,12 +34,6 @@ onto-more : (seen : List Field) (f : Field) (read : Given) → onto (seen ++ f �
 onto-more [] f read = refl
 onto-more (g ∷ []) f read = refl
 onto-more (g ∷ h ∷ seen) f read = grind (arith, onto-more (h ∷ seen) f read)
-
--- a line that goes on, where a field stands before it
-onto-continued : (seen : List Field) (f : Field) (t : List ℕ) (read : Given)
-    → onto (seen ++ f ∷ []) (with_folded t read)
-    ≡ onto (seen ++ longer f t ∷ []) read
-onto-continued seen f t read = grind (arith, onto-more, joined-assoc)
 
 -- a line that begins a field
 onto-began : (seen : List Field) (f : Field) (read : Given) → onto seen (with_field f read) ≡ onto (seen ++ f ∷ []) read
@@ -56,8 +43,7 @@ onto-began (g ∷ h ∷ seen) f read = grind (arith, onto-began (h ∷ seen) f r
 
 then_ok : {A B C : Type 0} (r : Result A HeadFault) (f : A → B) (g : B → Result C HeadFault)
     → ((r >>= λ x. Ok (f x)) >>= g) ≡ (r >>= λ x. g (f x))
-then_ok (Ok x) f g = refl
-then_ok (Err e) f g = refl
+then_ok r f g = grind arith
 
 -- what one line does
 line-fault : (seen : List Field) (line : List ℕ) (lines : List (List ℕ)) (e : HeadFault) → line_content line ≡ Err e
@@ -69,7 +55,7 @@ line-continued : (seen : List Field) (f : Field) (line text : List ℕ) (lines :
     ≡ Ok text → continues text ≡ true → going_lines (seen ++ f ∷ []) (line ∷ lines)
     ≡ going_lines (seen ++ longer f (trim text) ∷ []) lines
 unfolding given_by
-line-continued seen f line text lines h c = grind (arith, onto-continued)
+line-continued seen f line text lines h c = grind (arith, onto-more, append_assoc)
 
 line-unnamed : (seen : List Field) (line text : List ℕ) (lines : List (List ℕ)) (e : HeadFault) → line_content line
     ≡ Ok text → continues text ≡ false → field_in text ≡ Err e → going_lines seen (line ∷ lines) ≡ Err e
@@ -90,21 +76,14 @@ Plain (Err e) = ⊥
 
 Plain-then : {A B : Type 0} (r : Result A HeadFault) (f : A → Result B HeadFault) → Plain r → ((x : A) → Plain (f x))
     → Plain (r >>= f)
-Plain-then (Ok x) f p h = h x
-Plain-then (Err faults.FieldLine) f p h = tt
-Plain-then (Err e) f p h = absurd p
+Plain-then r f p h = grind arith
 
 Plain-if : {A : Type 0} (t : Bool) (a b : Result A HeadFault) → Plain a → Plain b → Plain (if t then a else b)
-Plain-if true a b p q = p
-Plain-if false a b p q = q
-
-Plain-field : (p : Option (List ℕ × List ℕ)) → Plain (named p)
-Plain-field None = tt
-Plain-field (Some p) = grind arith
+Plain-if t a b p q = grind arith
 
 Plain-name : (text : List ℕ) → Plain (field_in text)
 unfolding field_in
-Plain-name text = Plain-field (at_colon text)
+Plain-name text = grind (arith, at_colon)
 
 Plain-lines : (lines : List (List ℕ)) → Plain (given_by lines)
 unfolding given_by
@@ -117,9 +96,7 @@ Plain-lines (line ∷ lines) =
 
 all_refused : {A B : Type 0} (r : Result A HeadFault) → Plain r
     → ◌≡◌ {A = Result B HeadFault} (r >>= λ x. Err faults.FieldLine) (Err faults.FieldLine)
-all_refused (Ok x) p = refl
-all_refused (Err faults.FieldLine) p = refl
-all_refused (Err e) p = absurd p
+all_refused r p = grind arith
 
 line-first : (line text : List ℕ) (lines : List (List ℕ)) → line_content line ≡ Ok text → continues text ≡ true
     → going_lines [] (line ∷ lines) ≡ Err faults.FieldLine
@@ -145,8 +122,7 @@ going-start body = refl
 content_fault : (line : List ℕ) (t : Bool)
     → (ends_with nat_eq line line_end && list_all is_content (take (length line - 2) line)) ≡ t
     → ((text : List ℕ) → IsLine line text → ⊥) → line_content line ≡ Err faults.FieldLine
-content_fault line true e f = grind (arith, line_if)
-content_fault line false e f = rw e refl
+content_fault line t e f = grind (arith, line_if)
 
 unended_lines : (seen : List Field) (text : List ℕ) (lines : List (List ℕ)) → lines_of text ≡ lines → 0 < length text
     → ((line rest : List ℕ) → BeginsWithLine text line rest → ⊥) → going_lines seen lines ≡ Err faults.FieldLine
@@ -157,7 +133,7 @@ unended_lines seen text (line ∷ lines) e h f =
     (λ t l. f t (concat lines)
     (record {
       spelled = sym (concat-lines text)
-          ∙ (ap concat e ∙ (ap (λ d. d ++ concat lines) l.spelled ∙ append_assoc t line_end (concat lines)));
+          ∙ (grind (arith, append_assoc));
       plain =
           l.plain;
     })))

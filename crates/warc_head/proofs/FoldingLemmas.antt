@@ -1,5 +1,5 @@
 -- The fields that are read and the texts that spell them.
-use Rattle.std.proofs.Common.{◌≡◌, ◌∙◌, ℕ, suc, Bool, true, false, List, [], ◌∷◌, ◌++◌, refl, ap, arith, append_assoc}
+use Rattle.std.proofs.Common.{◌≡◌, ℕ, suc, Bool, true, List, [], ◌∷◌, ◌++◌, refl, ap, arith, append_assoc}
 use Rattle.std.proofs.Common.{Option, Some, None, Result, Ok, Err, subst, if◌then◌else◌, map}
 use Rattle.std.specs.Prelude.{◌==◌, All}
 use Rattle.std.specs.List.{list_all, flat_map}
@@ -10,12 +10,12 @@ use Rattle.warc_head.specs.declared.fault.HeadFault.{HeadFault}
 use Rattle.warc_head.specs.Answers.{◌>>=◌}
 use Rattle.warc_head.specs.Lines.{lines_of, line_content, continues, is_content, trim}
 use Rattle.warc_head.specs.Names.{is_name}
-use Rattle.warc_head.specs.Fields.{Field, Given, at_colon, field_in, named, given_by, unless_continued, fields_of}
+use Rattle.warc_head.specs.Fields.{Field, Given, at_colon, field_in, given_by, unless_continued, fields_of}
 use Rattle.warc_head.specs.Fields.{with_field, with_folded, added, joined}
 use Rattle.warc_head.specs.Folding.{Folded, IsContinuation, IsFolded, ended, folded_text, joined_all, unfolded}
 use Rattle.warc_head.specs.Folding.{IsSpelling, FieldsAreSpelled}
 use Rattle.warc_head.proofs.LineLemmas.{line_first, line_text, concat, concat-lines, IsLine, line_if}
-use Rattle.warc_head.proofs.SpellingLemmas.{begins, colon_after, name_bytes, names-plain}
+use Rattle.warc_head.proofs.SpellingLemmas.{begins, colon_after, names-plain}
 
 -- lines that go on with the field before what the later lines give
 abbrev with_pieces : List (List ℕ) → Given → Given
@@ -56,7 +56,7 @@ more_read (text ∷ more) rest later h r =
     )
 
 first_plain : (f : Folded) → IsFolded f → list_all is_content (f.name ++ (58 ∷ f.rest)) ≡ true
-first_plain f h = grind (arith, list_all-append, names-plain, name_bytes)
+first_plain f h = grind (arith, list_all-append, names-plain)
 
 first_field : (f : Folded) → IsFolded f → field_in (f.name ++ (58 ∷ f.rest))
     ≡ Ok (record { name = f.name; value = trim f.rest })
@@ -90,18 +90,11 @@ line_of_text line text h = line_if line _ text refl h
 abbrev option_cons : ℕ → Option (List ℕ × List ℕ) → Option (List ℕ × List ℕ)
 option_cons b o = option_map (λ p. (b ∷ p.0, p.1)) o
 
-colon_some : (b : ℕ) (bs name rest : List ℕ) (o : Option (List ℕ × List ℕ)) → at_colon bs ≡ o
-    → ((p : List ℕ × List ℕ) → at_colon bs ≡ Some p → bs ≡ p.0 ++ (58 ∷ p.1))
-    → option_cons b o ≡ Some (name, rest) → b ∷ bs ≡ name ++ (58 ∷ rest)
-colon_some b bs name rest None e ih h = grind arith
-colon_some b bs name rest (Some p) e ih h = grind arith
-
 colon_if : (b : ℕ) (bs name rest : List ℕ) (t : Bool) → (b == 58) ≡ t
     → ((p : List ℕ × List ℕ) → at_colon bs ≡ Some p → bs ≡ p.0 ++ (58 ∷ p.1))
     → if◌then◌else◌ {A = Option (List ℕ × List ℕ)} t (Some ([], bs)) (option_cons b (at_colon bs)) ≡ Some (name, rest)
     → b ∷ bs ≡ name ++ (58 ∷ rest)
-colon_if b bs name rest true e ih h = grind arith
-colon_if b bs name rest false e ih h = colon_some b bs name rest (at_colon bs) refl ih h
+colon_if b bs name rest t e ih h = grind (arith, name)
 
 -- a text is cut at its first colon
 colon_cuts : (text : List ℕ) (p : List ℕ × List ℕ) → at_colon text ≡ Some p → text ≡ p.0 ++ (58 ∷ p.1)
@@ -115,14 +108,9 @@ record IsFirst (text : List ℕ) (field : Field) : Type 0 where
   name : is_name field.name ≡ true
   value : field.value ≡ trim rest
 
-named_some : (text : List ℕ) (field : Field) (o : Option (List ℕ × List ℕ)) → at_colon text ≡ o → named o ≡ Ok field
-    → IsFirst text field
-named_some text field None e h = grind arith
-named_some text field (Some p) e h = grind (arith, colon_cuts)
-
 first_of_field : (text : List ℕ) (field : Field) → field_in text ≡ Ok field → IsFirst text field
 unfolding field_in
-first_of_field text field h = named_some text field (at_colon text) refl h
+first_of_field text field h = grind (arith, colon_cuts, at_colon)
 
 -- what lines that go on add
 abbrev said_more : List (List ℕ) → Option (List ℕ)
@@ -130,8 +118,7 @@ said_more [] = None
 said_more (text ∷ more) = Some (joined_all (map trim (text ∷ more)))
 
 added-said : (more : List (List ℕ)) → added (said_more more) ≡ joined_all (map trim more)
-added-said [] = refl
-added-said (text ∷ more) = refl
+added-said more = grind arith
 
 -- a text spells what was given: lines that go on, and then fields
 record Spells (body : List ℕ) (given : Given) : Type 0 where
@@ -176,7 +163,7 @@ module _ (line : List ℕ) (lines : List (List ℕ)) (given : Given) (ih : (late
       let same : with_field field later ≡ given = cc in
       let one : Folded = record { name = field.name; rest = f.rest; more = s.more } in
       let plain : list_all is_content (field.name ++ (58 ∷ f.rest))
-      ≡ true = subst (λ t. list_all is_content t ≡ true) f.spelled l.plain in
+      ≡ true = grind arith in
       let rest_plain : list_all is_content f.rest ≡ true = grind (arith, list_all-append) in
       let value : joined field.value (added later.more) ≡ joined (trim f.rest) (joined_all (map trim s.more)) =
       grind arith in
@@ -197,19 +184,11 @@ module _ (line : List ℕ) (lines : List (List ℕ)) (given : Given) (ih : (late
   from_field text l (Err e) f h = grind arith
   from_field text l (Ok field) f h = begins_field text field l (first_of_field text field f) (given_by lines) refl h
 
-  from_text : (text : List ℕ) → IsLine line text → (t : Bool) → continues text ≡ t
-      → (if t then (given_by lines >>= λ later. Ok (with_folded (trim text) later)) else
-      (field_in text >>= λ field. given_by lines >>= λ later. Ok (with_field field later))) ≡ Ok given
-      → Spells (line ++ concat lines) given
-  from_text text l true c h = goes_on text l c (given_by lines) refl h
-  from_text text l false c h = from_field text l (field_in text) refl h
-
   from_line : (r : Result (List ℕ) HeadFault) → line_content line ≡ r
       → (r >>= λ text. if continues text then (given_by lines >>= λ later. Ok (with_folded (trim text) later)) else
       (field_in text >>= λ field. given_by lines >>= λ later. Ok (with_field field later))) ≡ Ok given
       → Spells (line ++ concat lines) given
-  from_line (Err e) l h = grind arith
-  from_line (Ok text) l h = grind (arith, from_text, line_of_text)
+  from_line r l h = grind (arith, goes_on, from_field, line_of_text)
 
 spells : (lines : List (List ℕ)) (given : Given) → given_by lines ≡ Ok given → Spells (concat lines) given
 unfolding given_by
@@ -228,8 +207,7 @@ spells [] given h =
 spells (line ∷ lines) given h = grind (arith, from_line, spells lines)
 
 no_more : (more : List (List ℕ)) → ◌≡◌ {A = Option (List ℕ)} None (said_more more) → more ≡ []
-no_more [] h = refl
-no_more (text ∷ more) h = grind arith
+no_more more h = grind arith
 
 from_given : (body : List ℕ) (fields : List Field) (r : Result Given HeadFault) → given_by (lines_of body) ≡ r
     → (r >>= λ given. unless_continued given.more given.fields) ≡ Ok fields → IsSpelling body fields

@@ -18,10 +18,7 @@ abbrev pub lanes_of : ℕ → ℕ → List ℕ → List ℕ
 lanes_of n y v = zip2 has_byte v (replicate n y)
 
 both_top : (s t : Bool) → top 7 (bit_and (cond s 255 0) (cond t 255 0)) ≡ (s && t)
-both_top true true = refl
-both_top true false = refl
-both_top false true = refl
-both_top false false = refl
+both_top s t = grind arith
 
 both_tops : (y : ℕ) (v w : List ℕ) → map (top 7) (zip2 bit_and (map (λ x. has_byte x y) v) (map (λ x. has_byte x y) w))
     ≡ zip2 (λ a b. eqb a y && eqb b y) v w
@@ -69,9 +66,8 @@ module _ (text : List ℕ) (i j y r : ℕ) (first : i + 32 ≤ length text) (sec
   both_none found k below p q =
       let inside : k < 32 = omega (arith, both_bound found) in
       let none : get_or both k false ≡ false = grind (arith, not-true, prefix_len_passes, counted) in
-      let at : get_or both k false ≡ (eqb (get_or v k 0) y && eqb (get_or w k 0) y) = get_or-zip2 _ v w k 0 0 false
-      (omega (arith, long_v)) (omega (arith, long_w)) in
+      let at : get_or both k false ≡ (eqb (get_or v k 0) y && eqb (get_or w k 0) y) =
+      grind (arith, get_or-zip2, long_v, long_w) in
       let s : eqb (get_or v k 0) y ≡ true = eq-eqb _ _ (get_or-chunk i 32 text k 0 inside ∙ p) in
       let t : eqb (get_or w k 0) y ≡ true = eq-eqb _ _ (get_or-chunk j 32 text k 0 inside ∙ q) in
-      let e : true ≡ false = (λ m. sym s m && sym t m) ∙ (sym at ∙ none) in
-      cc
+      grind arith

@@ -19,8 +19,7 @@ use Rattle.warc_head.specs.Folding.{ended}
 use Rattle.warc_head.proofs.DateLemmas.{and_both}
 
 pub false_of : (t : Bool) → (t ≡ true → ⊥) → t ≡ false
-false_of true h = absurd (h refl)
-false_of false h = refl
+false_of t h = grind arith
 
 -- a text whose first colon stands at a place
 pub colon_at : (text : List ℕ) (at : ℕ) → at < length text → (get_or text at 0 == 58) ≡ true
@@ -71,10 +70,7 @@ concat-lines (b ∷ bs) = grind (arith, concat-lines bs)
 
 -- a text that matches CR LF byte by byte
 line_end_is : (d : List ℕ) → pointwise nat_eq line_end d ≡ true → d ≡ line_end
-line_end_is [] h = grind arith
-line_end_is (a ∷ []) h = grind arith
-line_end_is (a ∷ b ∷ []) h = grind arith
-line_end_is (a ∷ b ∷ c ∷ d) h = grind arith
+line_end_is d h = grind arith
 
 pub record IsLine (line text : List ℕ) : Type 0 where
   pub spelled : line ≡ ended text

@@ -10,18 +10,15 @@ module _ (raw text : List ℕ) (held : Continues raw text) (end at : ℕ) (insid
   pub size : length (take end raw) ≡ end
   size = length-take-le end raw inside
 
-  pub lines_held : take end text ≡ take end raw
-  lines_held = grind (arith, take-append-le)
-
   pub filled : at < end → 0 < length (drop at (take end raw))
   filled below = grind (arith, size, length-drop)
 
   module _ (stop : ℕ) (ends : EndsLine (take end text) at stop) where
     pub ended : EndsLine (take end raw) at stop
-    ended = grind (arith, lines_held)
+    ended = grind (arith, take-append-le)
 
     pub line_is : between at stop text ≡ between at stop (take end raw)
-    line_is = grind (arith, take-append-drop, lines_held, between_more (take end raw) (drop end text))
+    line_is = grind (arith, take-append-drop, take-append-le, between_more (take end raw) (drop end text))
 
     pub line_held : text ≡ take at text ++ (between at stop text ++ drop stop text)
     line_held = grind (arith, take-append-drop, take-append-drop (stop - at) (drop at text), drop-drop)

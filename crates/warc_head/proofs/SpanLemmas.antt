@@ -1,6 +1,6 @@
 -- Fields that are stored at spans in one text.
 use Rattle.std.proofs.lemmas.Grind.{common_steps}
-use Rattle.std.proofs.Common.{◌≡◌, ◌∙◌, ℕ, suc, ◌+◌, ◌-◌, ◌≤◌, List, [], ◌∷◌, ◌++◌, length, drop, refl, sym, ap, subst}
+use Rattle.std.proofs.Common.{◌≡◌, ◌∙◌, ℕ, suc, ◌+◌, ◌≤◌, List, [], ◌∷◌, ◌++◌, length, drop, refl, ap, subst}
 use Rattle.std.proofs.Common.{arith, append-nil, append_assoc, length-append, false}
 use Rattle.std.specs.Prelude.{All}
 use Rattle.std.proofs.lemmas.List.{take-append-le, drop-append-le, map-append, length-drop, take_all}
@@ -9,11 +9,6 @@ use Rattle.warc_head.specs.declared.spans.FieldSpan.{FieldSpan}
 use Rattle.warc_head.specs.Names.{same_name}
 use Rattle.warc_head.specs.Fields.{joined, longer, value_of}
 use Rattle.warc_head.specs.Spans.{IsWithin, between, field_at, fields_at, moved, Continues, joint}
-
-joined_is : (a b : List ℕ) → joined a b ≡ a ++ joint a b
-joined_is [] b = refl
-joined_is (x ∷ a) [] = sym (append-nil (x ∷ a))
-joined_is (x ∷ a) (y ∷ b) = refl
 
 -- bytes that are appended change nothing before them
 pub between_more : (text more : List ℕ) (i j : ℕ) → i ≤ j → j ≤ length text → between i j (text ++ more)
@@ -64,14 +59,6 @@ drop_moved (b ∷ front) text i =
     let e : length (b ∷ front) + i ≡ suc (length front + i) = omega arith in
     grind (arith, drop_moved front text i)
 
-between_moved : (front text : List ℕ) (i j : ℕ) → between (length front + i) (length front + j) (front ++ text)
-    ≡ between i j text
-between_moved front text i j = grind (arith, drop_moved)
-
-field_moved : (front text : List ℕ) (p : FieldSpan)
-    → field_at (front ++ text) (moved (length front) p) ≡ field_at text p
-field_moved front text p = grind (arith, between_moved)
-
 -- a field of a line that stands in a text
 module _ (text front line back : List ℕ) (spans : List FieldSpan) (p : FieldSpan)
     (held : text ≡ front ++ (line ++ back))
@@ -79,12 +66,9 @@ module _ (text front line back : List ℕ) (spans : List FieldSpan) (p : FieldSp
   size : length text ≡ length front + length line + length back
   size = grind (arith, length-append)
 
-  new_field : field_at text (moved (length front) p) ≡ field_at line p
-  new_field = grind (arith, field_moved, field_more)
-
   pub field_added : fields_at text (spans ++ moved (length front) p ∷ []) ≡ fields_at text spans
       ++ field_at line p ∷ []
-  field_added = grind (arith, map-append, new_field)
+  field_added = grind (arith, map-append, drop_moved, field_more)
 
   pub span_added : All (IsWithin (length text)) spans
       → All (IsWithin (length text)) (spans ++ moved (length front) p ∷ [])
@@ -106,9 +90,6 @@ module _ (text there text' piece more : List ℕ) (before : List FieldSpan) (las
     whole : text' ≡ text ++ (more ++ joint (drop p.value_start there) piece)
     whole = grind (arith, append_assoc)
 
-    pub continues : Continues text text'
-    continues = grind (arith, whole)
-
     copied_size : length there ≡ length text + length more
     copied_size = ap length copied ∙ length-append text more
 
@@ -122,7 +103,7 @@ module _ (text there text' piece more : List ℕ) (before : List FieldSpan) (las
         (omega (arith, last_within.order, last_within.end))
 
     value_new : between p.value_start p.value_end text' ≡ joined (field_at text last).value piece
-    value_new = grind (arith, take_all, length-drop, drop-append-le, joined_is)
+    value_new = grind (arith, take_all, length-drop, drop-append-le, append-nil)
 
     pub piece_added : fields_at text' (before ++ p ∷ [])
         ≡ fields_at text before ++ longer (field_at text last) piece ∷ []
@@ -130,12 +111,8 @@ module _ (text there text' piece more : List ℕ) (before : List FieldSpan) (las
 
     pub place_longer : All (IsWithin (length text')) (before ++ p ∷ [])
     place_longer = All-append (IsWithin (length text')) before (p ∷ [])
-        (grind (arith, longer_size, copied_size, before_within)) (one (IsWithin (length text')) p (record {
-          name = omega (arith, name, name_end, last_within.name);
-          order = omega (arith, name_end, end, last_within.order, last_within.end, longer_size, copied_size);
-          value = omega (arith, start, end, longer_size);
-          end = omega (arith, end);
-        }))
+        (grind (arith, longer_size, copied_size, before_within))
+        (grind (arith, one, last_within, longer_size, copied_size))
 
 pub old_fields : (text : List ℕ) (before : List FieldSpan) (last : FieldSpan) → fields_at text (before ++ last ∷ [])
     ≡ fields_at text before ++ field_at text last ∷ []

@@ -1,7 +1,7 @@
 -- Reading what was spelled.
-use Rattle.std.proofs.Common.{◌≡◌, ◌∙◌, ℕ, suc, ◌-◌, true, false, ◌&&◌, List, [], ◌∷◌, ◌++◌, length, drop, refl, arith}
+use Rattle.std.proofs.Common.{◌≡◌, ℕ, suc, ◌-◌, true, false, List, [], ◌∷◌, ◌++◌, length, drop, refl, arith}
 use Rattle.std.proofs.Common.{append_assoc, length-append, Some, None, Ok}
-use Rattle.std.specs.Prelude.{◌==◌, All}
+use Rattle.std.specs.Prelude.{All}
 use Rattle.std.specs.List.{list_all}
 use Rattle.std.proofs.lemmas.List.Folds.{list_all-append}
 use Rattle.std.proofs.lemmas.List.{drop_at}
@@ -29,9 +29,6 @@ colon_after (b ∷ bs) rest h =
     let p = and_both (is_name_byte b) (list_all is_name_byte bs) h in
     grind (arith, colon_after bs rest p.1)
 
-pub name_bytes : (name : List ℕ) → is_name name ≡ true → list_all is_name_byte name ≡ true
-name_bytes name h = grind arith
-
 pub begins : (name rest : List ℕ) → is_name name ≡ true → continues (name ++ rest) ≡ false
 begins [] rest h = grind arith
 begins (b ∷ bs) rest h = grind (arith, and_both)
@@ -41,7 +38,7 @@ unfolding field_in
 field_back f h = grind (arith, colon_after)
 
 text_plain : (f : Field) → IsOneLine f → list_all is_content (field_text f) ≡ true
-text_plain f h = grind (arith, list_all-append, names-plain, name_bytes)
+text_plain f h = grind (arith, list_all-append, names-plain)
 
 given_back : (fields : List Field) → All IsOneLine fields → given_by (lines_of (spelled fields))
     ≡ Ok (record { more = None; fields = fields })

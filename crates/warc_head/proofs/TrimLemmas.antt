@@ -1,5 +1,5 @@
 -- White space at the ends of a text, and where the text between it stands.
-use Rattle.std.proofs.Common.{◌≡◌, ◌∙◌, ℕ, ◌+◌, ◌-◌, ◌≤◌, Bool, true, false, List, [], ◌∷◌, ◌++◌, length, take, drop}
+use Rattle.std.proofs.Common.{◌≡◌, ◌∙◌, ℕ, ◌+◌, ◌-◌, ◌≤◌, Bool, true, false, List, [], ◌∷◌, ◌++◌, length, drop}
 use Rattle.std.proofs.Common.{reverse, refl, sym, ap, arith, length-append, append_assoc, if◌then◌else◌}
 use Rattle.std.proofs.lemmas.List.{reverse-append, reverse-reverse, length-drop, take-append-drop, drop-drop}
 use Rattle.std.proofs.lemmas.List.{length-take-le}
@@ -29,11 +29,11 @@ between_part text from to before middle after e =
     let rest = drop (to - from) (drop from text) in
     let size : from + length before + length middle - (from + length before) ≡ length middle = omega arith in
     let whole : drop from text ≡ before ++ (middle ++ (after ++ rest)) =
-    sym (take-append-drop (to - from) (drop from text)) ∙ (ap (λ t. t ++ rest) e ∙ simp append_assoc) in
+    grind (arith, take-append-drop, append_assoc) in
     let behind : drop (from + length before) text ≡ middle ++ (after ++ rest) =
     sym (drop-drop (length before) from text)
-    ∙ (ap (drop (length before)) whole ∙ drop-append_seam before (middle ++ (after ++ rest))) in
-    (λ i. take (size i) (behind i)) ∙ take-append_seam middle (after ++ rest)
+    ∙ (grind (arith, drop-append_seam)) in
+    grind (arith, size, take-append_seam)
 
 -- where the bytes between two offsets stand without the white space at both ends
 module _ (text : List ℕ) (from to : ℕ) (order : from ≤ to) (within : to ≤ length text)

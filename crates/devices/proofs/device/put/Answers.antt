@@ -1,4 +1,4 @@
-use Rattle.std.proofs.Common.{arith, ◌∙◌}
+use Rattle.std.proofs.Common.{arith}
 use Rattle.devices.proofs.DeviceLemmas.{WroteUpTo-more}
 use Rattle.std.proofs.lemmas.List.{take_rest}
 use Rattle.devices.proofs.device.put.Goals as goal

@@ -1,4 +1,4 @@
-use Rattle.std.proofs.Common.{◌≡◌, ◌≤◌, ◌∙◌, arith, length-append, length-drop}
+use Rattle.std.proofs.Common.{arith, length-append, length-drop}
 use Rattle.warc_core.proofs.ReadingLemmas.{gave, at_end, nil_of, front_of}
 use Rattle.warc_core.proofs.block.give.Goals as goal
 

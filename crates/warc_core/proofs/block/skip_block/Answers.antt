@@ -1,4 +1,4 @@
-use Rattle.std.proofs.Common.{◌≡◌, ◌-◌, ◌∙◌, arith}
+use Rattle.std.proofs.Common.{◌≡◌, arith}
 use Rattle.warc_core.proofs.OpenLemmas.{block-part}
 use Rattle.warc_core.proofs.RecordLemmas.{after_block-short, after_block-zero}
 use Rattle.warc_core.proofs.block.skip_block.Goals as goal

@@ -1,11 +1,10 @@
-use Rattle.std.proofs.Common.{◌≡◌, ◌++◌, ◌∙◌, arith}
-use Rattle.warc_core.proofs.RecordLemmas.{closing-held, closing-more, closing-other, closing-end, after_text-done}
+use Rattle.std.proofs.Common.{arith}
+use Rattle.warc_core.proofs.RecordLemmas.{closing-held, closing-more, closing-end, after_text-done}
 use Rattle.warc_core.proofs.closing.expect_closing.Goals as goal
+use Rattle.warc_core.proofs.RecordLemmas.{after_text-other}
 
 pub returns-in_default-clause-bytes : goal.returns-in_default-clause-bytes
-returns-in_default-clause-bytes g c =
-    closing-other _ _ _ c.loop-expected.expected-index c.loop-expected-test.true c.loop-expected.invariant.same _
-    c.in-Some.byte c.in_ok-byte.ensures.bytes c.in-Some.is c.if-byte-expected.false
+returns-in_default-clause-bytes g c = grind (arith, after_text-other)
 
 pub returns-in_default-2-clause-bytes : goal.returns-in_default-2-clause-bytes
 returns-in_default-2-clause-bytes g c = grind (arith, closing-end)

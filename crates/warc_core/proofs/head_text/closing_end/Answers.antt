@@ -1,4 +1,4 @@
-use Rattle.std.proofs.Common.{◌≡◌, ◌∙◌, ℕ, ◌+◌, ◌-◌, ◌<◌, ◌≤◌, List, true, false, length, drop, sym, arith, length-drop}
+use Rattle.std.proofs.Common.{ℕ, ◌+◌, ◌-◌, ◌<◌, ◌≤◌, List, length, drop, arith, length-drop}
 use Rattle.std.proofs.lemmas.List.{take_rest}
 use Rattle.memchr.specs.Find.{OccursAt}
 use Rattle.warc_core.specs.Record.{closing}
@@ -31,14 +31,12 @@ pub blocks-2-preserved-then-run-lt-LANES : goal.blocks-2-preserved-then-run-lt-L
 blocks-2-preserved-then-run-lt-LANES c =
     let text = c.args.text.now in
     let at = c.blocks-2.at + c.run_to_closing-run.result in
-    let other = rw take_rest at c.begins_with_closing.ensures.other in
     record {
       behind = omega (arith, c.blocks-2.invariant.behind);
       within = omega (arith, c.blocks-2.invariant.within, c.blocks-2-test.true, c.run_to_closing-run.ensures.bound);
       none = none-at text c.args.before
           at (none (goal.at.blocks-2-preserved-then-run-lt-LANES c).After-run_to_closing-run) (λ h.
-          let e : true ≡ false = sym (other (drop 4 (drop at text)) (occurs-begins text at h))
-          ∙ c.if-begins_with_closing.false in cc);
+          grind (arith, occurs-begins));
     }
 
 pub blocks-2-preserved : goal.blocks-2-preserved

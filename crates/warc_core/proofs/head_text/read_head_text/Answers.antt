@@ -1,37 +1,36 @@
-use Rattle.std.proofs.Common.{◌≡◌, ◌∙◌, ◌+◌, ◌<◌, ◌≤◌, ◌++◌, length, take, arith, sym, ap}
+use Rattle.std.proofs.Common.{◌≡◌, ◌+◌, ◌≤◌, ◌++◌, length, take, arith, ap}
 use Rattle.std.proofs.lemmas.List.{take_all, length-take-le}
-use Rattle.warc_core.specs.HeadText.{has_version, ClosesFirst}
-use Rattle.warc_core.proofs.ReadingLemmas.{no_bytes}
+use Rattle.warc_core.specs.HeadText.{ClosesFirst}
 use Rattle.warc_core.proofs.HeadLemmas.{going-start}
-use Rattle.warc_core.proofs.GatherLemmas.{head-short, head-long, head-wrong, head-piece, head-found, head-is-found}
+use Rattle.warc_core.proofs.GatherLemmas.{head-wrong, head-piece, head-found, head-is-found}
 use Rattle.warc_core.proofs.GatherLemmas.{open-more}
 use Rattle.warc_core.proofs.head_text.read_head_text.Goals as goal
+use Rattle.warc_core.proofs.HeadLemmas.{going-end}
+use Rattle.warc_core.proofs.HeadLemmas.{going-full}
+use Rattle.warc_core.proofs.ReadingLemmas.{nil_of}
 
 pub loop-buffer-init : goal.loop-buffer-init
 loop-buffer-init g c = grind (arith, going-start)
 
 pub returns-then-is_empty-clause-bytes : goal.returns-then-is_empty-clause-bytes
-returns-then-is_empty-clause-bytes g c = grind (arith, no_bytes, head-short)
+returns-then-is_empty-clause-bytes g c = grind (arith, going-end, nil_of)
 
 pub returns-then-not-has_version-clause-bytes : goal.returns-then-not-has_version-clause-bytes
 returns-then-not-has_version-clause-bytes g c = grind (arith, head-wrong)
 
 pub returns-in-Some-clause-found : goal.returns-in-Some-clause-found
 returns-in-Some-clause-found g c =
-    let from : c.len-before.result ≡ length c.loop-buffer.head.items = omega (arith, c.len-before.ensures) in
     let closes : ClosesFirst c.extend_from_slice.new.self.items (length c.loop-buffer.head.items) c.in-Some.end =
-    rw (c.as_slice-in-loop-buffer.ensures.value, from) at c.in-Some.ensures in
+    grind arith in
     let held : length c.as_slice-held.result.now ≡ length c.fill.new.self = ap length c.as_slice-held.ensures in
     let new : c.extend_from_slice.new.self.items ≡ c.loop-buffer.head.items ++ take c.min-count.result c.fill.new.self =
-    c.in_ok-extend_from_slice.ensures.items
-    ∙ ap (λ h. c.loop-buffer.head.items ++ take c.min-count.result h) c.as_slice-held.ensures in
+    grind arith in
     let few : c.min-count.result ≤ length c.fill.new.self = omega (arith, c.min-count.ensures, c.min.ensures, held) in
-    let room : length c.loop-buffer.head.items + c.min-count.result ≤ c.args.limit = omega
-    (arith, c.min-count.ensures, c.min.ensures, c.loop-buffer.invariant.short) in
+    let room : length c.loop-buffer.head.items + c.min-count.result ≤ c.args.limit = grind arith in
     rw c.truncate.ensures.items
     (head-is-found c.args.limit c.loop-buffer.head.items c.fill.new.self c.extend_from_slice.new.self.items
     c.min-count.result c.in-Some.end few new c.loop-buffer.invariant.open_so_far closes room
-    (ap has_version (sym c.as_slice.ensures.value) ∙ sym c.if-not-has_version.ensures))
+    (grind arith))
 
 pub returns-in-Some-clause-bytes : goal.returns-in-Some-clause-bytes
 returns-in-Some-clause-bytes g c = grind (arith, head-found)
@@ -48,4 +47,4 @@ loop-buffer-preserved g c =
     )
 
 pub returns-clause-bytes : goal.returns-clause-bytes
-returns-clause-bytes g c = grind (arith, head-long)
+returns-clause-bytes g c = grind (arith, going-full)

@@ -1,4 +1,4 @@
-use Rattle.std.proofs.Common.{arith, ◌∙◌, subst, append-nil, []}
+use Rattle.std.proofs.Common.{arith, subst, append-nil, []}
 use Rattle.warc_core.specs.Walk.{Walks}
 use Rattle.std.specs.List.{concat}
 use Rattle.warc_core.proofs.ArchiveLemmas.{walk-spelled, spelled-walk, end_of}

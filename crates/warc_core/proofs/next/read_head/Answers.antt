@@ -1,4 +1,4 @@
-use Rattle.std.proofs.Common.{◌∙◌, arith}
+use Rattle.std.proofs.Common.{arith}
 use Rattle.warc_core.specs.Next.{head_at}
 use Rattle.warc_core.specs.declared.next.TheConstants.{HEAD_LIMIT}
 use Rattle.warc_core.proofs.PartsLemmas.{purely-found, read-ok}
@@ -13,9 +13,6 @@ returns-in_err-raw-clause-bytes g c = grind arith
 pub returns-in_err-parts-clause-bytes : goal.returns-in_err-parts-clause-bytes
 returns-in_err-parts-clause-bytes g c = grind (arith, head-unread, purely-found)
 
-pub returns-in_err-parts-clause-failures : goal.returns-in_err-parts-clause-failures
-returns-in_err-parts-clause-failures g c = grind arith
-
 pub returns-then-end-gt-GREATEST_OFFSET-clause-bytes : goal.returns-then-end-gt-GREATEST_OFFSET-clause-bytes
 returns-then-end-gt-GREATEST_OFFSET-clause-bytes g c = grind (arith, head-far, read-ok)
 
@@ -28,5 +25,5 @@ from_parts-requires g c =
     grind (
       arith,
       found-spelled HEAD_LIMIT c.in_ok-raw.raw.items c.in_ok-parts.parts.parts c.in_ok-raw.ensures.found
-          (read-ok c.in_ok-raw.raw.items c.in_ok-parts.parts.parts c.in_ok-parts.ensures.answer),
+          (grind (arith, read-ok)),
     )

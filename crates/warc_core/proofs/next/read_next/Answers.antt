@@ -1,21 +1,20 @@
-use Rattle.std.proofs.Common.{arith, ◌≡◌}
+use Rattle.std.proofs.Common.{arith}
 use Rattle.std.proofs.lemmas.Result.{err_from_is_err_and}
-use Rattle.warc_core.specs.Next.{next_at}
 use Rattle.warc_core.specs.declared.next.TheConstants.{HEAD_LIMIT}
-use Rattle.warc_core.proofs.ReadingLemmas.{GoesOn-start, GoesOn-keeps, no_bytes, some_bytes}
+use Rattle.warc_core.proofs.ReadingLemmas.{GoesOn-start, GoesOn-keeps, some_bytes}
 use Rattle.warc_core.proofs.NextLemmas.{next-end, next-stopped, next-head}
 use Rattle.warc_core.proofs.next.read_next.Goals as goal
+use Rattle.warc_core.proofs.ReadingLemmas.{nil_of}
 
 pub returns-then-is_empty-clause-bytes : goal.returns-then-is_empty-clause-bytes
-returns-then-is_empty-clause-bytes g c = grind (arith, no_bytes, next-end)
+returns-then-is_empty-clause-bytes g c = grind (arith, nil_of, next-end)
 
 pub returns-in_err-read_head-clause-bytes : goal.returns-in_err-read_head-clause-bytes
 returns-in_err-read_head-clause-bytes g c =
     let p = err_from_is_err_and c.from_residual-in_err-read_head.result c.from_residual-in_err-read_head.ensures.1 in
     rw (p.1, p.2) (next-stopped HEAD_LIMIT c.args.start _ _ c.fill.new.self
-    (GoesOn-keeps _ (next_at HEAD_LIMIT c.args.start) _ _ _ (GoesOn-start (next_at HEAD_LIMIT c.args.start) _)
-    c.fill.ensures.bytes) c.in_err-read_head.field-0.0 _
-    (some_bytes c.as_slice.result.now _ c.as_slice.ensures c.if-is_empty.ensures) c.in_err-read_head.ensures.bytes)
+    (grind (arith, GoesOn-keeps, GoesOn-start)) c.in_err-read_head.field-0.0 _
+    (grind (arith, some_bytes)) c.in_err-read_head.ensures.bytes)
 
 pub returns-clause-bytes : goal.returns-clause-bytes
 returns-clause-bytes g c =

@@ -1,4 +1,4 @@
-use Rattle.std.proofs.Common.{◌≤◌, arith}
+use Rattle.std.proofs.Common.{arith}
 use Rattle.warc_head.proofs.DateLemmas.{two_small}
 use Rattle.warc_head.proofs.date.is_moment.Goals as goal
 

@@ -1,5 +1,5 @@
 use Rattle.std.proofs.lemmas.Grind.{common_steps}
-use Rattle.std.proofs.Common.{◌≡◌, ◌∙◌, ◌++◌, ◌∷◌, ◌+◌, ◌-◌, ℕ, List, [], length, take, drop, Ok, Err, true, false}
+use Rattle.std.proofs.Common.{◌≡◌, ◌∙◌, ◌++◌, ◌∷◌, ◌+◌, ℕ, List, [], length, take, drop, Ok, Err, true, false}
 use Rattle.std.proofs.Common.{subst, sym, ap, arith, append-nil, length-take-le}
 use Rattle.std.specs.Prelude.{All}
 use Rattle.warc_head.specs.declared.fault.HeadFault.TheVariants as faults
@@ -87,23 +87,14 @@ lines-preserved c =
       | else-continues+in-Some-field_in+in_ok-push w ↦ (
           let begins : continues this ≡ false = first ∙ sym w.if-continues.ensures in
           let span = w.in-Some-field_in.span in
-          let spelled : between (at d) (stop d) w.deref-else-continues.result.now
-          ≡ between (at d) (stop d) (text d) = ap (between (at d) (stop d)) w.deref-else-continues.ensures.value in
-          let inside : IsWithin (length (between (at d) (stop d) (text d))) span = subst
-          (λ t. IsWithin (length t) span) spelled w.in-Some-field_in.ensures.0 in
+          let inside : IsWithin (length (between (at d) (stop d) (text d))) span = grind arith in
           let found : field_in (between (at d) (stop d) (text d))
           ≡ Ok (field_at (between (at d) (stop d) (text d)) span) =
-          subst (λ t. field_in t ≡ Ok (field_at t span)) spelled w.in-Some-field_in.ensures.1 in
+          grind arith in
           let front : length (take (at d) (text d))
-          ≡ at d = length-take-le (at d) (text d)
-          (omega (
-            arith,
-            (line d).order,
-            inside_text (raw d) (text d) kept.text (end d) (at d) kept.end (stop d) (ends d),
-          )) in
+          ≡ at d = grind (arith, length-take-le, line, inside_text, ends) in
           let held = line_held (raw d) (text d) kept.text (end d) (at d) kept.end (stop d) (ends d) in
-          let moved_is : w.moved.result ≡ moved (length (take (at d) (text d))) span = w.moved.ensures
-          ∙ ap (λ n. moved n span) (sym front) in
+          let moved_is : w.moved.result ≡ moved (length (take (at d) (text d))) span = grind arith in
           let pushed = w.in_ok-push.ensures.items ∙ ap (λ p. c.lines.spans.items ++ p ∷ []) moved_is in
           let added = ap (fields_at (text d)) pushed
           ∙ field_added (text d) (take (at d) (text d)) (between (at d) (stop d) (text d)) (drop (stop d) (text d))
@@ -115,8 +106,7 @@ lines-preserved c =
                 ∙ ap (λ fields. going fields later) (sym added));
             text = kept.text;
             within = subst (All (IsWithin (length (text d)))) (sym pushed)
-                (span_added (text d) (take (at d) (text d)) (between (at d) (stop d) (text d)) (drop (stop d) (text d))
-                c.lines.spans.items span held inside kept.within);
+                (grind (arith, span_added));
             end = kept.end;
           }))
     ]

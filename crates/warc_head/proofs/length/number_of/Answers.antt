@@ -1,4 +1,4 @@
-use Rattle.std.proofs.Common.{arith, ◌∙◌}
+use Rattle.std.proofs.Common.{arith}
 use Rattle.warc_head.proofs.NumberLemmas.{start-small, step-small}
 use Rattle.warc_head.proofs.length.number_of.Goals as goal
 

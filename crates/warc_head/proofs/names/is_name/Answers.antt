@@ -1,4 +1,4 @@
-use Rattle.std.proofs.Common.{◌∙◌, arith}
+use Rattle.std.proofs.Common.{arith}
 use Rattle.warc_head.proofs.NameLemmas.{token_is_name}
 use Rattle.warc_head.proofs.names.is_name.Goals as goal
 

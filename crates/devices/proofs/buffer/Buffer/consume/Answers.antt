@@ -1,4 +1,4 @@
-use Rattle.std.proofs.Common.{◌≤◌, ◌-◌, arith, length-take, ◌∙◌}
+use Rattle.std.proofs.Common.{arith, length-take}
 use Rattle.devices.proofs.BufferLemmas.{consumed}
 use Rattle.devices.proofs.buffer.Buffer.consume.Goals as goal
 

@@ -1,4 +1,4 @@
-use Rattle.std.proofs.Common.{◌≤◌, ◌∙◌, length, take, arith}
+use Rattle.std.proofs.Common.{◌≤◌, length, take, arith}
 use Rattle.std.proofs.lemmas.List.{length-take-le}
 use Rattle.devices.proofs.BufferLemmas.{skips-held, skips-read}
 use Rattle.devices.proofs.buffer.Buffer.skip.Goals as goal
@@ -17,11 +17,9 @@ pub returns-in_ok-fill-in-0-clause-bytes : goal.returns-in_ok-fill-in-0-clause-b
 returns-in_ok-fill-in-0-clause-bytes g c =
     let n = c.skip_held-in-0.result in
     let now = c.fill.new.self in
-    let none = c.in_ok-skipped.ensures.bytes in
     let fits : n ≤ length now = omega (arith, c.skip_held-in-0.ensures.count) in (
       take n now,
-      rw c.skip_held-in-0.ensures.held
-          (skips-read _ _ _ none.0 c.args.self.now now n none.1 (none.2 ∙ c.in-0.is) c.fill.ensures.bytes),
+      grind (arith, skips-read),
       length-take-le
           n now fits,
     )

@@ -1,4 +1,4 @@
-use Rattle.std.proofs.Common.{◌∙◌, ◌<◌, arith, vec_len}
+use Rattle.std.proofs.Common.{arith, vec_len}
 use Rattle.std.proofs.lemmas.Bool.{eqb-false}
 use Rattle.devices.proofs.InputLineLemmas.{after_within, after_ended, after_end}
 use Rattle.devices.proofs.input_lines.InputLines.next.Goals as goal

@@ -1,4 +1,4 @@
-use Rattle.std.proofs.Common.{◌≤◌, ◌∙◌, ◌++◌, length, ◌-◌, take, arith, length-drop}
+use Rattle.std.proofs.Common.{◌≤◌, length, take, arith, length-drop}
 use Rattle.std.proofs.lemmas.List.{length-take-le, take-append-drop, take_all}
 use Rattle.devices.proofs.memory.SliceInput.skip.Goals as goal
 

@@ -1,19 +1,11 @@
-use Rattle.std.proofs.lemmas.Grind.{common_steps}
-use Rattle.std.proofs.Common.{◌≡◌, ◌<◌, ◌-◌, ◌∙◌, Err, arith, length}
-use Rattle.std.proofs.lemmas.Result.{err_from_is_err_and}
+use Rattle.std.proofs.Common.{◌-◌, ◌∙◌, arith, length}
 use borrow.Rule.Slice.PartMut.{put_mid}
-use Rattle.warc_core.specs.Calls.{Fills}
-use Rattle.warc_core.specs.ReaderView.{state_of}
 use Rattle.warc_core.proofs.OpenLemmas.{of_open}
 use Rattle.warc_core.proofs.FillLemmas.{Filling-more, Filling-fault}
 use Rattle.warc_core.proofs.reader.Reader.block_exact.Goals as goal
 
-pub loop-filled-init : goal.loop-filled-init
-loop-filled-init g c = grind arith
-
 pub returns-in_err-filled : goal.returns-in_err-filled
 returns-in_err-filled g c left len e =
-    let p = err_from_is_err_and c.from_residual.result c.from_residual.ensures.1 in
     let i = c.loop-filled.invariant in
     let b = c.in_err-filled.ensures in
     let phase = i.2.stands.phase_is in
@@ -21,11 +13,7 @@ returns-in_err-filled g c left len e =
     c.block.new.piece in
     let r = Filling-fault i.0 i.1 _ _ _ _ _ _ _ c.loop-filled.filled c.in_err-filled.field-0.0 c.loop-filled.piece
     c.block.new.piece whole _ _ _ i.2 (b.open _ _ phase) i.3 in
-    rw (p.1, p.2) (of_open
-    (λ a b. Fills a b (state_of c.args.self.now (g.I.Input.remaining c.args.input.now)
-    (g.I.Input.failures c.args.input.now))
-    (state_of c.block.new.self (g.I.Input.remaining c.block.new.input) (g.I.Input.failures c.block.new.input))
-    (Err c.in_err-filled.field-0.0) whole) _ i.0 i.1 left len i.2.opened e r)
+    grind (arith, of_open)
 
 pub overflow_add-filled : goal.overflow_add-filled
 overflow_add-filled g c =
@@ -50,6 +38,3 @@ loop-filled-preserved g c =
           c.block.new.piece _ _ i.2 b (omega arith),
       b.failures ∙ i.3,
     )
-
-pub returns : goal.returns
-returns g c left len e = grind (arith, common_steps)

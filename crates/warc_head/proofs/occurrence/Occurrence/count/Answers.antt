@@ -1,4 +1,4 @@
-use Rattle.std.proofs.Common.{arith, ◌≡◌, ◌∙◌, true}
+use Rattle.std.proofs.Common.{arith, ◌≡◌, true}
 use Rattle.warc_head.specs.Names.{same_name}
 use Rattle.warc_head.specs.Spans.{field_at}
 use Rattle.warc_head.proofs.occurrence.Occurrence.count.Goals as goal

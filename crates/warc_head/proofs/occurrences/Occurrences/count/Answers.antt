@@ -1,10 +1,13 @@
-use Rattle.std.proofs.Common.{◌≡◌, ◌∙◌, ◌++◌, ◌∷◌, [], List, ℕ, codes, length, sym, ap, arith}
+use Rattle.std.proofs.Common.{◌≡◌, ◌++◌, ◌∷◌, [], List, ℕ, codes, length, arith}
 use Rattle.warc_head.specs.declared.occurrence.Occurrence.{Occurrence}
 use Rattle.warc_head.specs.Fields.{Field, field_values}
 use Rattle.warc_head.specs.Mandatory.{Occurs, values_in}
 use Rattle.warc_head.specs.Spans.{field_at}
-use Rattle.warc_head.proofs.MandatoryLemmas.{values_more, values_same}
+use Rattle.warc_head.proofs.MandatoryLemmas.{values_more}
 use Rattle.warc_head.proofs.occurrences.Occurrences.count.Goals as goal
+use Rattle.std.proofs.lemmas.List.{length-map}
+use Rattle.std.proofs.lemmas.Slice.Eq.{bytes_eq-Decides}
+use Rattle.std.proofs.Common.{append-nil}
 
 -- the values of a name, with those that the last field adds
 counted : (text wanted : List ℕ) (last : Field) (fields : List Field) (o : Occurrence)
@@ -16,16 +19,15 @@ counted text wanted last fields o h = grind (arith, values_more)
 kept : (text wanted : List ℕ) (last : Field) (fields : List Field) (o : Occurrence)
     → (length last.name ≡ length wanted → ⊥) → Occurs text (field_values wanted fields) o
     → Occurs text (field_values wanted (fields ++ last ∷ [])) o
-kept text wanted last fields o other h = grind (arith, values_same)
+kept text wanted last fields o other h = grind (arith, values_more, length-map, bytes_eq-Decides, append-nil)
 
 pub returns-then-size-eq9 : goal.returns-then-size-eq9
 returns-then-size-eq9 c =
     let text = c.args.text.now in
     let last = field_at text c.args.span in
-    let size : length last.name ≡ 9 = sym (ap length c.name-size.ensures) ∙ c.if-size-eq9.true in
     λ fields all. record {
-      record_id = kept text (codes "WARC-Record-ID") last fields _ (λ e. omega (arith, e, size)) all.record_id;
-      length = kept text (codes "Content-Length") last fields _ (λ e. omega (arith, e, size)) all.length;
+      record_id = grind (arith, kept, codes);
+      length = grind (arith, kept, codes);
       date = counted text (codes "WARC-Date") last fields _
           (c.count.ensures (field_values (codes "WARC-Date") fields) all.date);
       kind = counted text (codes "WARC-Type") last fields _
@@ -36,14 +38,13 @@ pub returns-then-size-eq14 : goal.returns-then-size-eq14
 returns-then-size-eq14 c =
     let text = c.args.text.now in
     let last = field_at text c.args.span in
-    let size : length last.name ≡ 14 = sym (ap length c.name-size.ensures) ∙ c.if-size-eq14.true in
     λ fields all. record {
       record_id = counted text (codes "WARC-Record-ID") last fields _
           (c.count-then-size-eq14.ensures (field_values (codes "WARC-Record-ID") fields) all.record_id);
       length = counted text (codes "Content-Length") last fields _
           (c.count-then-size-eq14-2.ensures (field_values (codes "Content-Length") fields) all.length);
-      date = kept text (codes "WARC-Date") last fields _ (λ e. omega (arith, e, size)) all.date;
-      kind = kept text (codes "WARC-Type") last fields _ (λ e. omega (arith, e, size)) all.kind;
+      date = grind (arith, kept, codes);
+      kind = grind (arith, kept, codes);
     }
 
 pub returns-else-size-eq14 : goal.returns-else-size-eq14
