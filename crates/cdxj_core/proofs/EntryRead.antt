@@ -1,6 +1,6 @@
 -- The line of a good entry is read as that entry.
 use Rattle.std.proofs.lemmas.Grind.{common_steps}
-use Rattle.std.proofs.Common.{◌≡◌, ℕ, ◌-◌, ◌<◌, ◌≤◌, ◌^◌, ◌==◌, Bool, true, not, List, [], ◌∷◌, ◌++◌, length, Some}
+use Rattle.std.proofs.Common.{◌≡◌, ℕ, ◌<◌, ◌≤◌, ◌==◌, Bool, true, not, List, [], ◌∷◌, ◌++◌, length, Some}
 use Rattle.std.proofs.Common.{option_and_then, refl, ap, ◌∙◌, arith, flat_map, ⊎_elim}
 use Rattle.std.specs.List.{before_first, after_first}
 use Rattle.std.specs.Char.{is_ascii_digit}
@@ -22,7 +22,6 @@ use Rattle.cdxj_objects.proofs.SpellingLemmas.{text_stands}
 use Rattle.cdxj_objects.proofs.TextsLaw.{first_of, later_of, data_of, read_texts}
 use Rattle.cdxj_core.specs.Entries.{EntryValue, IsGood, entry_texts, members_of, body_text, line_text}
 use Rattle.cdxj_core.specs.Lines.{has_no_feed, body_of, line_parts, line_from, line_in, entry_values}
-use Rattle.cdxj_core.proofs.ObjectLines.{texts_line}
 
 -- ---- no line feed
 
@@ -59,15 +58,12 @@ escaped (x ∷ xs) = joined (escape_byte x) (escape xs) (escapes x) (escaped xs)
 quoted_feed : (s : List ℕ) → has_no_feed (quoted s) ≡ true
 quoted_feed s = joined (escape s) (34 ∷ []) (escaped s) refl
 
-member_feed : (m : Pair) → has_no_feed (member_text m) ≡ true
-member_feed (n, v) = grind (arith, joined, quoted_feed)
-
 later_feed : (ms : List Pair) → has_no_feed (flat_map (λ m. (44 ∷ 32 ∷ []) ++ member_text m) ms) ≡ true
 later_feed [] = refl
-later_feed (m ∷ ms) = grind (arith, joined, member_feed, later_feed ms)
+later_feed (m ∷ ms) = grind (arith, joined, quoted_feed, later_feed ms)
 
 object_feed : (m : Pair) (ms : List Pair) → has_no_feed (object_text (m ∷ ms)) ≡ true
-object_feed m ms = grind (arith, joined, member_feed m, later_feed ms)
+object_feed m ms = grind (arith, joined, quoted_feed, later_feed ms)
 
 pub body_feed : (e : EntryValue) → IsGood e → has_no_feed (body_text e) ≡ true
 body_feed e h =
@@ -90,7 +86,7 @@ body_of-feed xs = grind (arith, common_steps, cond-true, eq-eqb, get_or-append_s
 -- ---- the values
 
 values_read : (e : EntryValue) → IsGood e → line_from e.key e.stamp (data_of (entry_texts e)) ≡ Some (entry_values e)
-values_read e h = grind (arith, offset_text, digits_value-decimal, own, texts_line, text_stands, decimal_nonempty)
+values_read e h = grind (arith, offset_text, digits_value-decimal, own, text_stands, decimal_nonempty)
 
 pub line_in-body_text : (limit : ℕ) (e : EntryValue) → IsGood e → length (line_text e) ≤ limit
     → line_in limit (body_text e) ≡ Some (entry_values e)

@@ -1,5 +1,5 @@
 -- The line of an entry is UTF-8.
-use Rattle.std.proofs.Common.{◌≡◌, ℕ, ◌<◌, ◌≤◌, ◌^◌, true, List, [], ◌∷◌, ◌++◌, length, decimal, flat_map, Some, ◌∙◌}
+use Rattle.std.proofs.Common.{◌≡◌, ℕ, ◌<◌, ◌≤◌, ◌^◌, true, List, [], ◌∷◌, ◌++◌, length, decimal, flat_map, Some}
 use Rattle.std.proofs.Common.{arith, IsUtf8, refl, ltb}
 use Rattle.std.specs.List.{join_by, list_all}
 use Rattle.std.proofs.lemmas.Bool.{and_parts, ltb-true}
@@ -65,7 +65,7 @@ body_utf8 e h =
     let size = digits_utf8 (decimal e.length) (digits_decimal own e.length size_fits) in
     let offset = digits_utf8 (decimal e.offset) (digits_decimal own e.offset offset_fits) in
     let values : AreValues (members_of e) =
-    (h.utf8_url, (h.utf8_mime, (h.utf8_status, (h.utf8_digest, (size, (offset, (h.utf8_filename, tt))))))) in
+    grind arith in
     let object : IsUtf8 (object_text (members_of e)) = object_utf8 (first_of (entry_texts e)) (later_of (entry_texts e))
     (named (members_of e) refl values) in
     IsUtf8-append e.key (32 ∷ (e.stamp ++ 32 ∷ object_text (members_of e))) h.utf8_key

@@ -1,6 +1,6 @@
 -- The file name of a line is no longer than the line: it is a string of the line's object.
-use Rattle.std.proofs.Common.{◌≡◌, ℕ, zero, suc, ◌+◌, ◌≤◌, ◌&&◌, ◌==◌, nat_lt, List, [], ◌∷◌, length, Ordering, Less}
-use Rattle.std.proofs.Common.{Equal, Greater, Option, Some, None, option_map, ap, ◌∙◌, arith}
+use Rattle.std.proofs.Common.{◌≡◌, ℕ, zero, suc, ◌+◌, ◌≤◌, ◌&&◌, nat_lt, List, ◌∷◌, length, Ordering}
+use Rattle.std.proofs.Common.{Option, Some, option_map, ap, ◌∙◌, arith}
 use Rattle.std.specs.Prelude.{⊤}
 use Rattle.std.specs.List.{before_first, after_first}
 use Rattle.std.specs.Ordering.{match_ordering}
@@ -47,8 +47,7 @@ abbrev Any : {A : Type 0} → A → Type 0
 Any a = ⊤
 
 each_any : {A : Type 0} (o : Option A) → Each Any o
-each_any None = tt
-each_any (Some a) = tt
+each_any o = grind arith
 
 -- what was parsed, and the tokens after it
 abbrev Parsed : {A : Type 0} → ℕ → (A → Type 0) → A × List Token → Type 0
@@ -58,17 +57,7 @@ abbrev Parses : {A : Type 0} → ℕ → (A → Type 0) → Parse A → Type 0
 Parses n P parse = (ts : List Token) → AreShort n ts → Each (Parsed n P) (parse ts)
 
 after_end : (n : ℕ) (ts : List Token) → AreShort n ts → Each (AreShort n) (after_end_array ts)
-after_end n [] h = tt
-after_end n (Token.begin_object ∷ ts) h = tt
-after_end n (Token.end_object ∷ ts) h = tt
-after_end n (Token.begin_array ∷ ts) h = tt
-after_end n (Token.end_array ∷ ts) h = h.1
-after_end n (Token.key s ∷ ts) h = tt
-after_end n (Token.string s ∷ ts) h = tt
-after_end n (Token.number s ∷ ts) h = tt
-after_end n (Token.boolean b ∷ ts) h = tt
-after_end n (Token.null ∷ ts) h = tt
-after_end n (Token.bad ∷ ts) h = tt
+after_end n ts h = grind arith
 
 module _ (n : ℕ) (p : Parse Json) (parses : Parses n (ShortJson n) p) where
   parses_items : (k : ℕ) → Parses n Any (items p k)
@@ -83,17 +72,7 @@ module _ (n : ℕ) (p : Parse Json) (parses : Parses n (ShortJson n) p) where
 
 one_level : (n : ℕ) (a : Parse json.Items) (o : Parse json.Members) → Parses n Any a → Parses n (ShortStrings n) o
     → Parses n (ShortJson n) (value_with a o)
-one_level n a o p q [] h = tt
-one_level n a o p q (Token.begin_object ∷ ts) h = grind arith
-one_level n a o p q (Token.end_object ∷ ts) h = tt
-one_level n a o p q (Token.begin_array ∷ ts) h = grind arith
-one_level n a o p q (Token.end_array ∷ ts) h = tt
-one_level n a o p q (Token.key s ∷ ts) h = tt
-one_level n a o p q (Token.string s ∷ ts) h = h
-one_level n a o p q (Token.number s ∷ ts) h = (tt, h.1)
-one_level n a o p q (Token.boolean b ∷ ts) h = (tt, h.1)
-one_level n a o p q (Token.null ∷ ts) h = (tt, h.1)
-one_level n a o p q (Token.bad ∷ ts) h = tt
+one_level n a o p q x5 h = grind arith
 
 parses_value : (n depth : ℕ) → Parses n (ShortJson n) (value depth)
 unfolding value
@@ -106,9 +85,7 @@ parses_value n (suc depth) =
 -- ---- the data that the value is
 
 ordered : {A : Type 0} (P : A → Type 0) (o : Ordering) (x y z : A) → P x → P y → P z → P (match_ordering o x y z)
-ordered P Less x y z p q r = p
-ordered P Equal x y z p q r = q
-ordered P Greater x y z p q r = r
+ordered P o x y z p q r = grind arith
 
 abbrev ShortText : ℕ → Data → Type 0
 ShortText n Data.null = ⊤
@@ -135,12 +112,7 @@ short_put n k d Members.no_members h hs = (h, tt)
 short_put n k d (Members.member l e ms) h hs = grind (arith, short_put n k d ms h hs.1)
 
 short_text : (n : ℕ) (j : Json) → ShortString n j → Each (ShortText n) (of_json j)
-short_text n json.null h = tt
-short_text n (json.boolean b) h = tt
-short_text n (json.number s) h = grind arith
-short_text n (json.string s) h = h
-short_text n (json.array js) h = grind arith
-short_text n (json.object ms) h = grind arith
+short_text n j h = grind arith
 
 short_texts : (n : ℕ) (ms : json.Members) (found : Members) → ShortStrings n ms → ShortTexts n found
     → Each (ShortTexts n) (of_members ms found)
@@ -150,16 +122,10 @@ short_texts n (json.member k j ms) found h hs =
     h.1 (short_put n k d found x hs)) (of_json j) (short_text n j h.0)
 
 short_data : (n : ℕ) (j : Json) → ShortJson n j → Each (ShortData n) (of_json j)
-short_data n json.null h = tt
-short_data n (json.boolean b) h = tt
-short_data n (json.number s) h = grind arith
-short_data n (json.string s) h = tt
-short_data n (json.array js) h = grind arith
-short_data n (json.object ms) h = grind (arith, short_texts)
+short_data n j h = grind (arith, short_texts)
 
 short_last : (n : ℕ) (p : Json × List Token) → Parsed n (ShortJson n) p → Each (ShortJson n) (if_last p.0 p.1)
-short_last n (j, []) h = h.0
-short_last n (j, t ∷ ts) h = tt
+short_last n p h = grind arith
 
 short_read : (text : List ℕ) → Each (ShortData (length text)) (read text)
 short_read text =
@@ -174,18 +140,10 @@ short_member : (n : ℕ) (k : List ℕ) (ms : Members) → ShortTexts n ms → E
 short_member n k Members.no_members h = tt
 short_member n k (Members.member l e ms) h = grind (arith, short_member n k ms h.1)
 
-short_got : (n : ℕ) (k : List ℕ) (d : Data) → ShortData n d → Each (ShortText n) (get k d)
-short_got n k Data.null h = tt
-short_got n k (Data.boolean b) h = tt
-short_got n k (Data.number x) h = tt
-short_got n k (Data.string s) h = tt
-short_got n k (Data.array ds) h = tt
-short_got n k (Data.object ms) h = short_member n k ms h
-
 -- the file name of an object is no longer than the object's text
 filename_in : (text filename : List ℕ) (d : Data) → read text ≡ Some d → filename_value (get filename_name d) ≡
     Some filename → length filename ≤ length text
-filename_in text filename d is named = grind (arith, short_read, short_got)
+filename_in text filename d is named = grind (arith, short_read, short_member)
 
 filename_in_body : (limit : ℕ) (body : List ℕ) (v : LineValue) → line_in limit body ≡ Some v
     → length v.filename ≤ length body

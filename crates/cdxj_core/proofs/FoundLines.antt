@@ -1,9 +1,9 @@
 -- What is found in an object decides what its line says.
-use Rattle.std.proofs.Common.{arith, ◌≡◌, ℕ, List, decimal, Option, Some, None, option_map, option_and_then, refl, ◌∙◌}
-use Rattle.serde_json.specs.Data.{unsigned, negative, float, Data, null, boolean, number, string, array, object}
+use Rattle.std.proofs.Common.{arith, ◌≡◌, ℕ, List, decimal, Option, Some, None, option_map, option_and_then}
+use Rattle.serde_json.specs.Data.{Data, object}
 use Rattle.serde_json.specs.Data.{Members}
 use Rattle.serde_json.specs.Find.{get_member}
-use Rattle.cdxj_objects.specs.FoundMembers.{FoundValue, member_data, found_of, object_found, members_in}
+use Rattle.cdxj_objects.specs.FoundMembers.{FoundValue, member_data, found_of, members_in}
 use Rattle.cdxj_objects.specs.MemberValues.{value_text, filename_value, offset_value}
 use Rattle.cdxj_objects.specs.Names.{url_name, mime_name, status_name, digest_name, length_name, offset_name}
 use Rattle.cdxj_objects.specs.Names.{filename_name}
@@ -11,26 +11,7 @@ use Rattle.cdxj_objects.specs.Texts.{TextsValue}
 use Rattle.cdxj_core.specs.Lines.{LineValue, line_value, line_from, line_object}
 
 value_text-seen : (o : Option Data) → value_text o ≡ value_text (option_map member_data o)
-value_text-seen None = refl
-value_text-seen (Some null) = refl
-value_text-seen (Some (boolean b)) = refl
-value_text-seen (Some (number (unsigned n))) = refl
-value_text-seen (Some (number (negative z))) = refl
-value_text-seen (Some (number (float x))) = refl
-value_text-seen (Some (string s)) = refl
-value_text-seen (Some (array ds)) = refl
-value_text-seen (Some (object ms)) = refl
-
-filename_value-seen : (o : Option Data) → filename_value o ≡ filename_value (option_map member_data o)
-filename_value-seen None = refl
-filename_value-seen (Some null) = refl
-filename_value-seen (Some (boolean b)) = refl
-filename_value-seen (Some (number (unsigned n))) = refl
-filename_value-seen (Some (number (negative z))) = refl
-filename_value-seen (Some (number (float x))) = refl
-filename_value-seen (Some (string s)) = refl
-filename_value-seen (Some (array ds)) = refl
-filename_value-seen (Some (object ms)) = refl
+value_text-seen o = grind arith
 
 -- the line of these five texts, where the file name and the offset are good
 abbrev line_of : List ℕ → List ℕ → List ℕ → List ℕ → List ℕ → List ℕ → List ℕ → Option ℕ → Option (List ℕ)
@@ -57,7 +38,7 @@ seven : (key stamp : List ℕ) (url mime status digest length offset filename : 
     (value_text (option_map member_data status)) (value_text (option_map member_data digest))
     (value_text (option_map member_data length)) (offset_value (option_map member_data offset))
     (filename_value (option_map member_data filename))
-seven key stamp url mime status digest length offset filename = grind (arith, value_text-seen, filename_value-seen)
+seven key stamp url mime status digest length offset filename = grind (arith, value_text-seen)
 
 members_line : (key stamp : List ℕ) (ms : Members) → line_from key stamp (object ms) ≡ found_line key stamp
     (found_of ms)
@@ -66,18 +47,9 @@ members_line key stamp ms =
     (get_member digest_name ms) (get_member length_name ms) (get_member offset_name ms)
     (get_member filename_name ms)
 
-object_line : (key stamp : List ℕ) (d : Data) (found : FoundValue) → object_found d ≡ Some found → line_from key stamp d
-    ≡ found_line key stamp found
-object_line key stamp null found e = absurd (cc)
-object_line key stamp (boolean b) found e = absurd (cc)
-object_line key stamp (number n) found e = absurd (cc)
-object_line key stamp (string s) found e = absurd (cc)
-object_line key stamp (array ds) found e = absurd (cc)
-object_line key stamp (object ms) found e = grind (arith, members_line)
-
 pub line_found : (key stamp text : List ℕ) (found : FoundValue) → members_in text ≡ Some found → line_object key stamp
     text ≡ found_line key stamp found
-line_found key stamp text found h = grind (arith, object_line)
+line_found key stamp text found h = grind (arith, members_line)
 
 pub no_filename : (key stamp : List ℕ) (f : FoundValue) → filename_value f.filename ≡ None → found_line key stamp f ≡
     None

@@ -84,8 +84,7 @@ one_index limit text these those h k = grind (arith, one_list)
 
 entries_stay : (low high : ℕ) → low ≤ high → (these : List (List ℕ)) (members : List Member) → map (line_entry low)
     these ≡ map Some members → map (line_entry high) these ≡ map Some members
-entries_stay low high up [] [] e = refl
-entries_stay low high up [] (m ∷ members) e = cc
+entries_stay low high up [] members e = grind arith
 entries_stay low high up (line ∷ these) [] e = cc
 entries_stay low high up (line ∷ these) (m ∷ members) e =
     let rest : map (line_entry low) these ≡ map Some members = cc in

@@ -1,41 +1,36 @@
 -- A line that is kept in one text.
-use Rattle.std.proofs.Common.{◌≡◌, ℕ, ◌+◌, ◌<◌, ◌≤◌, ◌^◌, ◌==◌, true, List, [], ◌∷◌, ◌++◌, take, drop, length, get_or}
-use Rattle.std.proofs.Common.{decimal, Some, refl, sym, ap, ◌∙◌, subst, arith, append_assoc, append-nil, length-append}
+use Rattle.std.proofs.Common.{◌≡◌, ℕ, ◌+◌, ◌<◌, ◌≤◌, ◌^◌, true, List, [], ◌∷◌, ◌++◌, take, drop, length, get_or}
+use Rattle.std.proofs.Common.{decimal, Some, refl, sym, ap, ◌∙◌, arith, append_assoc, append-nil, length-append}
 use Rattle.std.proofs.Common.{drop-drop, IsUtf8}
 use Rattle.std.specs.List.{list_all, before_first, after_first}
 use Rattle.std.specs.Str.{IsCharBoundary}
 use Rattle.std.proofs.lemmas.Bool.{and_parts, cond-true, eqb-true}
 use Rattle.std.proofs.lemmas.Str.{IsCharBoundary-before_ascii, IsCharBoundary-end}
 use Rattle.std.proofs.Math.Seq.{take-append_seam, drop-append_seam, get_or-append_seam}
-use Rattle.json.specs.Run.{is_plain}
-use Rattle.serde_json.specs.Read.{read}
 use Rattle.cdxj_places.specs.Pair.{is_space, is_key, is_stamp}
 use Rattle.cdxj_places.specs.Places.{offset_of}
 use Rattle.cdxj_places.proofs.PairLemmas.{around, pair_front}
 use Rattle.cdxj_places.proofs.PlaceLaw.{both}
 use Rattle.cdxj_objects.specs.declared.member_ends.TheConstants.{OPEN}
-use Rattle.cdxj_objects.specs.FoundMembers.{FoundValue, object_found, members_in}
+use Rattle.cdxj_objects.specs.FoundMembers.{FoundValue, members_in}
 use Rattle.cdxj_objects.specs.MemberValues.{filename_value, offset_value}
 use Rattle.cdxj_objects.specs.Plain.{ArePlain, IsCutAtByte, plain_text, values_of_texts}
 use Rattle.cdxj_objects.specs.PlainPlaces.{AreEndsOf}
 use Rattle.cdxj_objects.specs.Spelling.{IsSpelled, raw_texts, found_texts}
 use Rattle.cdxj_objects.specs.Texts.{TextsValue}
-use Rattle.cdxj_objects.proofs.PlainBytes.{digits_plain, plain_decimal}
+use Rattle.cdxj_objects.proofs.PlainBytes.{plain_decimal}
 use Rattle.cdxj_objects.proofs.PlainPlaces.{GoesOn, byte_at, next, parts_there, texts_there}
-use Rattle.cdxj_core.specs.declared.field.Field.{Field}
-use Rattle.cdxj_core.specs.declared.field.Field.TheVariants.{Urlkey, Timestamp, Original, Mimetype, Statuscode, Digest}
-use Rattle.cdxj_core.specs.declared.field.Field.TheVariants.{Length, Offset, Filename}
 use Rattle.cdxj_core.specs.declared.spans.Spans.{Spans}
 use Rattle.cdxj_core.specs.declared.spans.TheConstants.{TO_STAMP, TO_STAMP_END, TO_URL}
 use Rattle.cdxj_core.specs.Clean.{is_clean}
 use Rattle.cdxj_core.specs.KeptLine.{IsKept, member_in, texts_in}
-use Rattle.cdxj_core.specs.Lines.{body_of, has_no_feed, field_value, line_object, line_value}
+use Rattle.cdxj_core.specs.Lines.{body_of, has_no_feed, line_object, line_value}
 use Rattle.cdxj_core.specs.Members.{Member, member_pair, line_entry}
 use Rattle.cdxj_core.proofs.FoundLines.{line_found, line_made}
 use Rattle.cdxj_core.proofs.LineCuts.{first_cut, first_stamp}
 use Rattle.cdxj_core.proofs.MemberLemmas.{body_entry, entry_pair_is, entry_of-body}
 use Rattle.cdxj_core.proofs.ObjectLines.{line_object-plain}
-use Rattle.cdxj_core.proofs.PairLaw.{and_then_some, some_read}
+use Rattle.cdxj_core.proofs.PairLaw.{some_read}
 use Rattle.cdxj_core.proofs.UnescapedAscii.{all_parts, clean_feed, clean_key}
 
 -- the entry of a line that was cut at its first two spaces, whose object is plain
@@ -72,35 +67,29 @@ pub kept_line : (limit : ℕ) (text body tail key stamp object : List ℕ) (t : 
     → GoesOn text at (plain_text t) → s.start ≡ at + OPEN → AreEndsOf s.start t s.ends
     → (s.size ≡ length text → ArePlain t)
     → IsKept limit text s (record { values = line_value key stamp (values_of_texts t) offset; line = body })
-kept_line limit text body tail key stamp object t offset at s utf8 entry seam cut good_key good_stamp named small digits
-    size line_ends key_size stamp_is offset_is here begins ends plain =
-    let line : take s.size text ≡ body = (λ i. take (size i) (seam i)) ∙ take-append_seam body tail in
+kept_line limit text body tail key stamp object t offset at s utf8 entry seam cut good_key good_stamp named small
+    digits size line_ends key_size stamp_is offset_is here begins ends plain = let line : take s.size text ≡ body =
+    (λ i. take (size i) (seam i)) ∙ take-append_seam body tail in
     let rest = stamp ++ 32 ∷ (object ++ tail) in
     let whole : text ≡ key ++ 32 ∷ rest =
     grind (arith, append_assoc) in
     let fourteen : length stamp ≡ 14 = eqb-true (length stamp) 14 (and_parts _ _ good_stamp).0 in
     let there = next text utf8 32 (omega arith) 0 key stamp (object ++ tail) (s.key + TO_STAMP) (s.key + TO_STAMP_END)
     (omega arith, whole) (omega (arith, key_size)) (omega (arith, fourteen)) in
-    let space : get_or text s.key 0 ≡ 32 = (λ i. get_or (whole i) (key_size i) 0) ∙ get_or-append_seam key 32 rest 0 in
+    let space : get_or text s.key 0 ≡ 32 = grind (arith, get_or-append_seam) in
     record {
       entry = ap (line_entry limit) line ∙ entry;
       line_is = line;
       line_ends = line_ends;
-      key_is = (λ i. take (key_size i) (whole i)) ∙ take-append_seam key (32 ∷ rest);
-      key_ends = IsCharBoundary-before_ascii text s.key (omega (
-        arith,
-        key_size,
-        ap length whole,
-        length-append key (32 ∷ rest),
-      )) (omega (arith, space));
+      key_is = grind (arith, take-append_seam);
+      key_ends = grind (arith, IsCharBoundary-before_ascii, length-append);
       stamp_ends = there.ends;
       stamp_text = there.is;
       stamp_is = stamp_is;
       offset_is = offset_is;
       placed = record {
         parts = parts_there text utf8 at t s.start s.ends here begins ends;
-        texts_are = ap values_of_texts (texts_there text utf8 at t s.start s.ends here begins ends)
-            ∙ values_in key stamp t offset digits;
+        texts_are = grind (arith, texts_there, values_in);
       };
       key_rule = good_key;
       stamp_rule = good_stamp;
@@ -118,8 +107,8 @@ pub plain_kept : (limit : ℕ) (text key rest stamp object : List ℕ) (t : Text
     → AreEndsOf s.start t s.ends
     → IsKept limit text s (record { values = line_value key stamp (values_of_texts t) offset; line = text })
 plain_kept limit text key rest stamp object t offset s utf8 all short first some second plain value small digits named
-    size key_size stamp_is offset_is begins ends =
-    let good_key = clean_key key (all_parts is_clean text key rest 32 first.0 all).0 first.1 some in
+    size key_size stamp_is offset_is begins ends = let good_key =
+    clean_key key (all_parts is_clean text key rest 32 first.0 all).0 first.1 some in
     let keys = first_cut text key rest first in
     let stamps = first_stamp rest stamp object second in
     let entry = plain_entry limit text key rest stamp object t offset utf8 all short (sym keys.0) (sym keys.1)
@@ -140,7 +129,7 @@ plain_kept limit text key rest stamp object t offset s utf8 all short first some
     ) in
     kept_line limit text text [] key stamp object t offset (length key + 16) s utf8 entry (sym (append-nil text)) cut
     good_key second.1 named small digits size
-    (subst (IsCharBoundary text) (sym size) (IsCharBoundary-end text)) key_size stamp_is offset_is (within, to_object)
+    (grind (arith, IsCharBoundary-end)) key_size stamp_is offset_is (within, to_object)
     (omega (arith, begins)) ends (λ e. plain.1)
 
 -- any other line is followed by a plain object with its texts
@@ -159,32 +148,28 @@ pub json_kept : (limit : ℕ) (text body key rest stamp object filename : List �
       line = body;
     })
 json_kept limit text body key rest stamp object filename f offset s utf8 body_utf8 short whole k r t o good_key
-    good_stamp found named placed_at some small spelled size key_size stamp_is offset_is begins =
-    let texts = raw_texts f offset filename in
+    good_stamp found named placed_at some small spelled size key_size stamp_is offset_is begins = let texts =
+    raw_texts f offset filename in
     let line = line_found key stamp object f found ∙ line_made key stamp f offset (found_texts f offset filename) named
     placed_at refl refl refl refl refl in
     let values = cond-true _ _ _ (both _ _ good_key good_stamp) ∙ line ∙ ap (λ v. Some (line_value key stamp v offset))
     (sym spelled.values) in
     let entry = body_entry limit body body key rest stamp object (line_value key stamp (values_of_texts texts) offset)
     refl body_utf8 short whole k r t o values in
-    let was_read = and_then_some object_found (read object) f found in
     let object_some : 0 < length (after_first is_space rest) =
-    subst (λ x. 0 < length x) o (some_read object was_read.0 was_read.1) in
+    grind (arith, some_read) in
     let rest_is : rest ≡ stamp ++ 32 ∷ object = around rest object_some ∙ (λ i. sym t i ++ 32 ∷ sym o i) in
     let rest_some : 0 < length (after_first is_space body) =
-    subst (λ x. 0 < length x) r (omega (arith, ap length rest_is, length-append stamp (32 ∷ object))) in
-    let cut : body ≡ key ++ 32 ∷ (stamp ++ 32 ∷ object) = around body rest_some
-    ∙ (λ i. sym k i ++ 32 ∷ (sym r ∙ rest_is) i) in
-    let to_object : drop (length body) text ≡ plain_text texts = ap (drop (length body)) spelled.text_is
-    ∙ drop-append_seam body (plain_text texts) in
+    grind (arith, length-append) in
+    let cut : body ≡ key ++ 32 ∷ (stamp ++ 32 ∷ object) = grind (arith, around) in
+    let to_object : drop (length body) text ≡ plain_text texts = grind (arith, drop-append_seam) in
     let long = ap length spelled.text_is ∙ length-append body (plain_text texts) in
     let brace = byte_at text (length body) 123 _ to_object in
-    let ends : IsCharBoundary text s.size = subst (IsCharBoundary text) (sym size)
-    (IsCharBoundary-before_ascii text (length body) (omega (arith, long)) (omega (arith, brace))) in
+    let ends : IsCharBoundary text s.size = grind (arith, IsCharBoundary-before_ascii) in
     kept_line limit text body (plain_text texts) key stamp object texts offset (length body) s utf8 entry
     spelled.text_is cut good_key good_stamp some small refl size ends
-    key_size stamp_is offset_is (omega (arith, long), to_object) begins (subst (λ n. AreEndsOf n texts s.ends)
-    (sym begins) spelled.ends) (λ e. absurd (omega (arith, e, size, long)))
+    key_size stamp_is offset_is (omega (arith, long), to_object) begins (grind arith) (λ e.
+    absurd (omega (arith, e, size, long)))
 
 pub kept_in : (limit : ℕ) (text : List ℕ) (s : Spans) (member : Member) → IsKept limit text s member
     → IsKept limit text s (member_in limit (take s.size text))
@@ -201,17 +186,3 @@ key_short limit line member h =
     let whole = entry_of-body limit line member h in
     let front = pair_front (body_of line) (member_pair member) (entry_pair_is limit (body_of line) member whole) in
     grind (arith, length-append)
-
--- the values of a plain line, whose key is plain too
-pub no_escapes : (limit : ℕ) (text : List ℕ) (s : Spans) (member : Member) → IsKept limit text s member
-    → s.size ≡ length text → list_all is_plain member.values.key ≡ true
-    → (field : Field) → list_all is_plain (field_value field member.values) ≡ true
-no_escapes limit text s member h whole key Urlkey = key
-no_escapes limit text s member h whole key Timestamp = grind (arith, digits_plain)
-no_escapes limit text s member h whole key Original = (h.plain whole).url
-no_escapes limit text s member h whole key Mimetype = (h.plain whole).mime
-no_escapes limit text s member h whole key Statuscode = (h.plain whole).status
-no_escapes limit text s member h whole key Digest = (h.plain whole).digest
-no_escapes limit text s member h whole key Length = (h.plain whole).length
-no_escapes limit text s member h whole key Offset = (h.plain whole).offset
-no_escapes limit text s member h whole key Filename = (h.plain whole).filename

@@ -1,5 +1,5 @@
 -- A line cut at its spaces.
-use Rattle.std.proofs.Common.{arith, ◌≡◌, ℕ, true, ◌≢◌, List, ◌∷◌, ◌++◌, ◌∙◌}
+use Rattle.std.proofs.Common.{arith, ◌≡◌, ℕ, true, List, ◌∷◌, ◌++◌}
 use Rattle.std.proofs.lemmas.Grind.{common_steps}
 use Rattle.std.specs.List.{before_first, after_first}
 use Rattle.std.proofs.lemmas.Bool.{not-true}

@@ -1,6 +1,6 @@
 -- The entry of a line.
 use Rattle.std.proofs.lemmas.Grind.{common_steps}
-use Rattle.std.proofs.Common.{◌≡◌, ℕ, ◌-◌, ◌<◌, ◌≤◌, ◌==◌, ◌&&◌, true, false, cond, List, [], ◌∷◌, length, take, get_or}
+use Rattle.std.proofs.Common.{◌≡◌, ℕ, ◌-◌, ◌<◌, ◌≤◌, ◌==◌, true, false, cond, List, [], ◌∷◌, length, take, get_or}
 use Rattle.std.proofs.Common.{Option, Some, None, option_map, refl, sym, ap, ◌∙◌, subst, arith}
 use Rattle.std.specs.Str.{IsUtf8, is_utf8}
 use Rattle.std.proofs.lemmas.Bool.{cond-false, le-ltb}
@@ -17,11 +17,6 @@ use Rattle.cdxj_core.proofs.PairLaw.{if_test, line_pair, line_in-higher, line_in
 abbrev with_line : List ℕ → LineValue → Member
 with_line body values = record { values = values; line = body }
 
-pub entry_there : (limit : ℕ) (line : List ℕ) (values : LineValue) → IsUtf8 (body_of line)
-    → line_in limit (body_of line) ≡ Some values
-    → line_entry limit line ≡ Some (record { values = values; line = body_of line })
-entry_there limit line values utf8 e = grind (arith, is_utf8-from_IsUtf8)
-
 abbrev NoEntry : Option Member → Type 0
 NoEntry entry = entry ≡ None
 
@@ -35,8 +30,7 @@ entry_none limit line none =
 
 map_is : {A B : Type 0} (g : A → B) (o : Option A) (v : B) → option_map g o ≡ Some v → (a : A) × (o ≡ Some a)
     × (g a ≡ v)
-map_is g None v h = absurd (cc)
-map_is g (Some a) v h = grind arith
+map_is g o v h = grind arith
 
 -- what a line with an entry is
 pub record Entered (limit : ℕ) (line : List ℕ) (member : Member) : Type 0 where
@@ -58,7 +52,7 @@ entered limit line member h =
 
 pub entry_from : (limit : ℕ) (line : List ℕ) (member : Member) → Entered limit line member → line_entry limit line ≡
     Some member
-entry_from limit line member h = grind (arith, entry_there)
+entry_from limit line member h = grind (arith, is_utf8-from_IsUtf8)
 
 -- a body without a line feed is its own
 pub body_of-body : (body : List ℕ) → has_no_feed body ≡ true → body_of body ≡ body
@@ -75,7 +69,7 @@ pub entry_of-body : (limit : ℕ) (line : List ℕ) (member : Member) → line_e
     → line_entry limit (body_of line) ≡ Some member
 entry_of-body limit line member h =
     let e = entered limit line member h in
-    let same = body_of-body (body_of line) (line_in-feed limit (body_of line) member.values e.values) in
+    let same = body_of-body (body_of line) (grind (arith, line_in-feed)) in
     entry_from limit (body_of line) member (record {
       utf8 = subst IsUtf8 (sym same) e.utf8;
       values = ap (line_in limit) same ∙ e.values;
@@ -122,12 +116,7 @@ pub body_entry : (limit : ℕ) (body text key rest stamp object : List ℕ) (v :
 body_entry limit body text key rest stamp object v same utf8 short whole k r s o read =
     let feed : has_no_feed text ≡ true = ap has_no_feed same ∙ sym whole in
     let its = body_of-body text feed in
-    let less : length text < limit = omega (arith, ap length same, short) in
-    entry_from limit text (record { values = v; line = text }) (record {
-      utf8 = subst IsUtf8 (sym (its ∙ same)) utf8;
-      values = ap (line_in limit) its ∙ body_values limit text key rest stamp object v less feed k r s o read;
-      body = sym its;
-    })
+    entry_from limit text (record { values = v; line = text }) (grind (arith, utf8, body_values, body))
 
 -- a body that was cut so, whose object has no values
 pub body_none : (limit : ℕ) (body key rest stamp object : List ℕ) → key ≡ before_first is_space body

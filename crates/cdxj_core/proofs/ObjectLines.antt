@@ -1,15 +1,10 @@
 -- What the line of an object of seven texts says.
-use Rattle.std.proofs.Common.{◌≡◌, ℕ, ◌<◌, List, length, Some, ◌∙◌, arith}
+use Rattle.std.proofs.Common.{◌≡◌, ℕ, ◌<◌, List, length, Some, arith}
 use Rattle.cdxj_places.specs.Places.{offset_of}
 use Rattle.cdxj_objects.specs.Plain.{ArePlain, plain_text, values_of_texts}
 use Rattle.cdxj_objects.specs.Texts.{TextsValue}
 use Rattle.cdxj_objects.proofs.PlainLaw.{read_plain}
-use Rattle.cdxj_objects.proofs.TextsLaw.{data_of}
-use Rattle.cdxj_core.specs.Lines.{line_value, line_object, line_from}
-
-pub texts_line : (key stamp : List ℕ) (t : TextsValue) (offset : ℕ) → offset_of t.offset ≡ Some offset
-    → 0 < length t.filename → line_from key stamp (data_of t) ≡ Some (line_value key stamp (values_of_texts t) offset)
-texts_line key stamp t offset offset_is some = grind arith
+use Rattle.cdxj_core.specs.Lines.{line_value, line_object}
 
 pub line_object-plain : (key stamp : List ℕ) (t : TextsValue) (offset : ℕ) → ArePlain t → offset_of t.offset ≡ Some
     offset → 0 < length t.filename

@@ -1,7 +1,7 @@
 -- A line that has values begins with their pair.
 use Rattle.std.proofs.Common.{◌≡◌, ℕ, ◌-◌, ◌<◌, ◌≤◌, ◌==◌, ◌&&◌, Bool, true, false, cond, List, [], ◌∷◌, ◌++◌, length}
 use Rattle.std.proofs.Common.{take, drop, Option, Some, None, option_map, option_and_then, get_or, append-nil, nat_lt}
-use Rattle.std.proofs.Common.{refl, sym, ap, ◌∙◌, arith, append_assoc, take-append-drop}
+use Rattle.std.proofs.Common.{refl, sym, ap, arith, append_assoc, take-append-drop}
 use Rattle.std.specs.List.{before_first, after_first}
 use Rattle.std.proofs.lemmas.Bool.{and_parts}
 use Rattle.std.proofs.lemmas.List.{length-append}
@@ -17,8 +17,7 @@ use Rattle.cdxj_objects.specs.Names.{offset_name, filename_name}
 use Rattle.cdxj_places.proofs.PairLemmas.{pair_of-parts, around}
 
 pub if_test : {A : Type 0} (b : Bool) (x : Option A) (v : A) → cond b x None ≡ Some v → (b ≡ true) × (x ≡ Some v)
-if_test true x v h = (refl, h)
-if_test false x v h = absurd (cc)
+if_test b x v h = grind arith
 
 read_nil : read [] ≡ None
 unfolding serde_json_on_literals
@@ -26,12 +25,10 @@ read_nil = refl
 
 pub and_then_some : {A B : Type 0} (f : A → Option B) (o : Option A) (v : B) → option_and_then f o ≡ Some v → (a : A)
     × (o ≡ Some a) × (f a ≡ Some v)
-and_then_some f None v h = absurd (cc)
-and_then_some f (Some a) v h = (a, refl, h)
+and_then_some f o v h = grind arith
 
 pub map_some : {A B : Type 0} (g : A → B) (o : Option A) (v : B) → option_map g o ≡ Some v → (a : A) × (g a ≡ v)
-map_some g None v h = absurd (cc)
-map_some g (Some a) v h = (a, let e : g a ≡ v = cc in e)
+map_some g o v h = grind arith
 
 pub some_read : (text : List ℕ) (d : Data) → read text ≡ Some d → 0 < length text
 some_read [] d h = grind (arith, read_nil)
@@ -64,12 +61,7 @@ line_pair line limit v h =
     let rest_some : 0 < length rest = omega (arith, ap length rest_is, length-append stamp (32 ∷ object)) in
     let body_is : body ≡ key ++ 32 ∷ rest = around body rest_some in
     let split = body_split (get_or line (length line - 1) 0 == 10) line in
-    let whole : line ≡ key ++ 32 ∷ (stamp ++ 32 ∷ (object ++ split.0)) =
-    split.1 ∙ ap (λ b. b ++ split.0) (body_is ∙ ap (λ r. key ++ 32 ∷ r) rest_is)
-    ∙ append_assoc key (32 ∷ (stamp ++ 32 ∷ object)) split.0 ∙ ap (λ r. key ++ 32 ∷ r)
-    (append_assoc stamp (32 ∷ object) split.0) in
-    ap pair_of whole ∙ pair_of-parts key stamp (object ++ split.0) tests.0 tests.1 ∙ ap (λ w. Some (w.key, w.stamp))
-    made.1
+    grind (arith, append_assoc, pair_of-parts)
 
 -- a line keeps its values under a higher limit
 pub line_in-higher : (low high : ℕ) → low ≤ high → (body : List ℕ) (v : LineValue) → line_in low body ≡ Some v

@@ -1,5 +1,5 @@
 -- Texts without controls, backslashes and deletes, of ASCII or not.
-use Rattle.std.proofs.Common.{◌≡◌, ℕ, ◌<◌, ◌==◌, ◌&&◌, Bool, true, not, nat_lt, List, [], ◌∷◌, ◌++◌, length, refl, ◌∙◌}
+use Rattle.std.proofs.Common.{◌≡◌, ℕ, ◌<◌, ◌==◌, ◌&&◌, Bool, true, not, nat_lt, List, [], ◌∷◌, ◌++◌, length, refl}
 use Rattle.std.proofs.Common.{arith, IsUtf8}
 use Rattle.std.specs.List.{list_all}
 use Rattle.std.proofs.lemmas.Bool.{and_parts, lt-ltb}
@@ -7,7 +7,7 @@ use Rattle.std.proofs.lemmas.List.Folds.{list_all-append}
 use Rattle.json.proofs.Printed.Utf8.{are_ascii, IsUtf8-are_ascii}
 use Rattle.cdxj_places.specs.Pair.{is_key_byte, is_key}
 use Rattle.cdxj_places.proofs.PlaceLaw.{both}
-use Rattle.cdxj_objects.specs.Plain.{is_other, is_unescaped}
+use Rattle.cdxj_objects.specs.Plain.{is_other}
 use Rattle.cdxj_objects.proofs.PlainBytes.{weaker}
 use Rattle.cdxj_core.specs.Clean.{is_clean, is_unescaped_ascii}
 use Rattle.cdxj_core.specs.Lines.{has_no_feed}
@@ -31,9 +31,6 @@ all_both p q (x ∷ xs) h k =
 
 byte_is_ascii : (b : ℕ) → is_unescaped_ascii b ≡ true → nat_lt b 128 ≡ true
 byte_is_ascii b h = grind arith
-
-pub unescaped_only : (xs : List ℕ) → list_all is_clean xs ≡ true → list_all is_unescaped xs ≡ true
-unescaped_only = grind (arith, weaker)
 
 pub ascii_clean : (xs : List ℕ) → list_all is_unescaped_ascii xs ≡ true → list_all is_clean xs ≡ true
 ascii_clean = weaker is_unescaped_ascii is_clean byte_is_clean

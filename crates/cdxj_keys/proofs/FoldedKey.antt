@@ -1,5 +1,5 @@
 -- A folded text that isn't empty is a key.
-use Rattle.std.proofs.Common.{◌≡◌, ◌∙◌, ℕ, suc, ◌<◌, true, ◌&&◌, nat_lt, List, [], ◌∷◌, ◌++◌, length, length-append}
+use Rattle.std.proofs.Common.{◌≡◌, ◌∙◌, ℕ, suc, ◌<◌, true, ◌&&◌, nat_lt, List, [], ◌∷◌, length, length-append}
 use Rattle.std.proofs.Common.{All, refl, arith}
 use Rattle.std.proofs.lemmas.List.Folds.{list_all-append}
 use Rattle.std.proofs.lemmas.Grind.{common_steps}
@@ -21,13 +21,9 @@ bytes_are_key (b ∷ bytes) h =
 byte_is_filled : (b : ℕ) → nat_lt 0 (length (key_byte b)) ≡ true
 byte_is_filled b = grind (arith, common_steps)
 
-filled_front : (xs ys : List ℕ) → nat_lt 0 (length xs) ≡ true → nat_lt 0 (length (xs ++ ys)) ≡ true
-filled_front [] ys h = absurd (cc)
-filled_front (x ∷ xs) ys h = grind (arith, common_steps)
-
 is_filled : (bytes : List ℕ) → 0 < length bytes → nat_lt 0 (length (folded bytes)) ≡ true
 is_filled [] h = absurd (omega arith)
-is_filled (b ∷ bytes) h = filled_front (key_byte b) (folded bytes) (byte_is_filled b)
+is_filled (b ∷ bytes) h = grind (arith, common_steps, key_byte, folded)
 
 pub folded_is_key : (bytes : List ℕ) → All (λ b. b < 256) bytes → 0 < length bytes → is_key (folded bytes) ≡ true
 folded_is_key bytes small h = λ i. is_filled bytes h i && bytes_are_key bytes small i

@@ -1,5 +1,5 @@
 -- Texts that need no escape.
-use Rattle.std.proofs.Common.{◌≡◌, ◌<◌, ℕ, get_or, IsUtf8, arith, Bool, true, false, ◌&&◌, List, [], ◌∷◌, map, refl}
+use Rattle.std.proofs.Common.{◌≡◌, ◌<◌, ℕ, get_or, IsUtf8, arith, Bool, true, ◌&&◌, List, [], ◌∷◌, map, refl}
 use Rattle.std.proofs.lemmas.List.Sums.{AllPass-from_list_all}
 use Rattle.std.proofs.lemmas.Str.{IsUtf8-from_ascii}
 use Rattle.std.proofs.lemmas.Str.Ascii.{IsAscii-from_all}
@@ -8,8 +8,7 @@ use Rattle.std.specs.Char.{to_ascii_lowercase}
 use Rattle.cdxj_keys.specs.Key.{is_graphic, folded}
 
 and_both : (t a : Bool) → (t && a) ≡ true → (t ≡ true) × (a ≡ true)
-and_both true a h = (refl, h)
-and_both false a h = grind arith
+and_both t a h = grind arith
 
 pub folded-graphic : (text : List ℕ) → list_all is_graphic text ≡ true → folded text ≡ map to_ascii_lowercase text
 folded-graphic [] h = refl

@@ -1,5 +1,5 @@
 -- The last label of a host.
-use Rattle.std.proofs.Common.{◌≡◌, ℕ, suc, ◌+◌, ◌<◌, ◌==◌, true, false, if◌then◌else◌, List, [], ◌∷◌, ◌++◌, Some, None}
+use Rattle.std.proofs.Common.{◌≡◌, ℕ, suc, ◌+◌, ◌<◌, ◌==◌, true, false, List, [], ◌∷◌, ◌++◌, Some, None}
 use Rattle.std.proofs.Common.{length, take, drop, get_or, refl, sym, ap, ◌∙◌, arith}
 use Rattle.std.proofs.lemmas.Bool.{eqb-true, false_from_ne_true, ne_eqb}
 use Rattle.std.proofs.lemmas.List.{get_or-drop, length-drop}
@@ -28,8 +28,7 @@ split_at [] last h = grind (arith, split_none)
 split_at (b ∷ front) last h = grind (arith, split_at front last h)
 
 behind : (front last : List ℕ) → has_no_dot last → 0 < length last → last_label (front ++ 46 ∷ last) ≡ last
-behind front [] h some = absurd (omega arith)
-behind front (b ∷ last) h some = grind (arith, split_at, ne_eqb)
+behind front last h some = grind (arith, split_at, ne_eqb)
 
 -- a host without a dot is its last label
 pub lone_label : (host : List ℕ) → IsLastByte (is_byte 46) host None → host ≡ last_label host

@@ -1,5 +1,5 @@
 -- The key of a URL that the parser leaves as it is.
-use Rattle.std.proofs.Common.{arith, ◌≡◌, ℕ, inl, inr, true, List, ◌∷◌, ◌++◌, codes, Option, Some, None, IfSome, Ok}
+use Rattle.std.proofs.Common.{arith, ◌≡◌, ℕ, inl, inr, true, List, ◌∷◌, ◌++◌, codes, Option, None, IfSome, Ok}
 use Rattle.std.proofs.Common.{refl, sym, ap, ◌∙◌, append-nil, append_assoc}
 use Rattle.std.proofs.lemmas.Bool.{cond-true}
 use Rattle.url.specs.Parser.{parse_url}
@@ -13,8 +13,7 @@ use Rattle.cdxj_keys.proofs.PlainLaws.{parses, http_scheme, https_scheme, http_k
 serialized : (scheme host path : List ℕ) (query : Option (List ℕ)) → IfSome query IsPlainQuery
     → serialize (plain_parts scheme host path query) ≡ scheme
     ++ (codes "://" ++ (host ++ (47 ∷ (path ++ query_text query))))
-serialized scheme host path None h = refl
-serialized scheme host path (Some text) h = grind (arith, append-nil)
+serialized scheme host path query h = grind (arith, append-nil)
 
 key_is : (scheme host path : List ℕ) (query : Option (List ℕ)) → web_text (plain_parts scheme host path query) ≡
     domain_text host ++ (codes ")" ++ (47 ∷ (path ++ query_text query)))
@@ -26,8 +25,7 @@ with_scheme : (scheme target host tail : List ℕ) → IsScheme scheme → schem
     → key_text (parse_url None target) target ≡ plain_key_text host tail
 with_scheme scheme target host tail is_scheme kind web cut plain_host t =
     let url = plain_parts scheme host t.path t.query in
-    let text : target ≡ serialize url = cut ∙ ap (λ l. scheme ++ (codes "://" ++ (host ++ l))) t.cut
-    ∙ sym (serialized scheme host t.path t.query t.plain_query) in
+    let text : target ≡ serialize url = grind (arith, codes, serialized) in
     let read : parse_url None target ≡ Ok url =
     grind (arith, parses) in
     ap (λ r. key_text r target) read ∙ cond-true _ (web_text url) target (web t.path t.query)

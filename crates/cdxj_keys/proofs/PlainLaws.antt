@@ -1,7 +1,7 @@
 -- The URL parser leaves a plain web URL as it is.
 use Rattle.std.proofs.lemmas.Grind.{common_steps}
-use Rattle.std.proofs.Common.{◌≡◌, ℕ, ◌<◌, ◌==◌, cond, ◌&&◌, ◌||◌, Bool, true, false, not, if◌then◌else◌, List, [], ◌∷◌}
-use Rattle.std.proofs.Common.{codes, zip, drop, length, All, Option, Some, None, IfSome, Ok, refl, sym, ap, ◌∙◌, subst}
+use Rattle.std.proofs.Common.{◌≡◌, ℕ, ◌<◌, ◌==◌, cond, ◌&&◌, ◌||◌, Bool, true, false, not, List, [], ◌∷◌}
+use Rattle.std.proofs.Common.{codes, zip, drop, length, All, Option, None, IfSome, Ok, refl, sym, ap, ◌∙◌, subst}
 use Rattle.std.proofs.Common.{arith}
 use Rattle.std.specs.List.{list_all, slice_split, onto_first}
 use Rattle.std.specs.Char.{is_ascii_digit, is_ascii_lowercase}
@@ -24,8 +24,7 @@ use Rattle.url.proofs.Theorems.{parse_url-serialize_special}
 use Rattle.url.specs.Input.{is_empty, lowercase, rsplit_once}
 use Rattle.url.specs.Ipv4.{ends_in_a_number, last_label, parse_number, is_number}
 use Rattle.url.specs.Path.{IsSegment, IsSegmentList, join_segments, dot_count}
-use Rattle.url.specs.Scheme.{IsScheme, default_port, is_slash, scheme_len, scheme_type}
-use Rattle.cdxj_keys.specs.Key.{is_graphic}
+use Rattle.url.specs.Scheme.{IsScheme, default_port, scheme_len, scheme_type}
 use Rattle.cdxj_keys.specs.PlainUrls.{is_domain_byte, is_plain_byte, is_path_byte, begins_plain, plain_parts}
 use Rattle.cdxj_keys.specs.PlainUrls.{IsPlainHost, IsPlainPath}
 
@@ -37,14 +36,11 @@ implied : (p q : ℕ → Bool) (b : ℕ) → agree_below (λ b. not (p b) || q b
 implied p q b all small h = sym (ap (λ t. not t || q b) h) ∙ agree_below_at (λ b. not (p b) || q b) (λ _. true) 256 b
     all small
 
-graphic_small : (b : ℕ) → is_graphic b ≡ true → b < 256
-graphic_small b h = grind arith
-
 domain_small : (b : ℕ) → is_domain_byte b ≡ true → b < 256
-domain_small b h = graphic_small b (and_parts _ _ h).0
+domain_small b h = grind (arith, and_parts)
 
 plain_small : (b : ℕ) → is_plain_byte b ≡ true → b < 256
-plain_small b h = graphic_small b (and_parts _ _ h).0
+plain_small b h = grind (arith, and_parts)
 
 all_of : (p : ℕ → Bool) (P : ℕ → Type 0) → ((b : ℕ) → p b ≡ true → P b) → (xs : List ℕ) → list_all p xs ≡ true
     → All P xs
@@ -65,8 +61,7 @@ all_lower (x ∷ xs) h = let parts = and_parts (is_domain_byte x) (list_all is_d
 no_number : (last : List ℕ) → is_ascii_lowercase (slice_index last 0) ≡ true
     → ((not (is_empty last) && list_all is_ascii_digit last) || is_number (parse_number last)) ≡ false
 unfolding parse_number
-no_number [] h = absurd (cc)
-no_number (c ∷ rest) h = grind (arith, common_steps, ne_eqb, not-true, implied, or_from, cond-false)
+no_number last h = grind (arith, common_steps, ne_eqb, not-true, implied, or_from, cond-false)
 
 pub domain_of_plain : (host : List ℕ) → IsPlainHost host → IsDomain host
 unfolding ends_in_a_number
@@ -86,9 +81,6 @@ unfolding should_percent_encode
 segment_kept b h = not-true _ (implied is_segment_byte (λ b. not (should_percent_encode PATH b)) b refl
     (segment_small b h) h)
 
-segment_whole : (b : ℕ) → is_segment_byte b ≡ true → is_slash SpecialNotFile b ≡ false
-segment_whole b h = grind arith
-
 -- a segment begins with neither `.` nor an escape
 abbrev Begins : List ℕ → Type 0
 Begins [] = Unit {0}
@@ -96,12 +88,11 @@ Begins (c ∷ segment) = begins_plain 47 c ≡ true
 
 resolved : (segment : List ℕ) → Begins segment → dot_count segment ≡ 0
 unfolding dot_count
-resolved [] h = refl
-resolved (c ∷ segment) h = grind arith
+resolved segment h = grind arith
 
 plain_segment : (segment : List ℕ) → list_all is_segment_byte segment ≡ true → Begins segment → IsSegment SpecialNotFile
     segment
-plain_segment segment bytes begins = grind (arith, common_steps, segment_kept, segment_whole, resolved)
+plain_segment segment bytes begins = grind (arith, common_steps, segment_kept, resolved)
 
 abbrev segments_of : List ℕ → List (List ℕ)
 segments_of path = slice_split (λ b. b == 47) path
@@ -127,8 +118,7 @@ abbrev pairs : List ℕ → Bool
 pairs path = list_all (λ p. begins_plain p.0 p.1) (zip path (drop 1 path))
 
 later_pairs : (b : ℕ) (path : List ℕ) → pairs (b ∷ path) ≡ true → pairs path ≡ true
-later_pairs b [] h = refl
-later_pairs b (c ∷ path) h = (and_parts _ _ h).1
+later_pairs b path h = grind (arith, and_parts)
 
 head_of : List (List ℕ) → List ℕ
 head_of [] = []
@@ -137,8 +127,7 @@ head_of (x ∷ segments) = x
 onto_begins : (c : ℕ) (segments : List (List ℕ)) → 0 < length segments → begins_plain 47 c ≡ true
     → Begins (head_of (onto_first c segments))
 unfolding head_of
-onto_begins c [] some h = absurd (omega arith)
-onto_begins c (x ∷ segments) some h = h
+onto_begins c segments some h = grind arith
 
 -- what follows a slash begins a segment
 begins_head : (path : List ℕ) → pairs (47 ∷ path) ≡ true → Begins (head_of (segments_of path))
@@ -178,15 +167,9 @@ unfolding should_percent_encode
 query_kept b h = not-true _ (implied is_plain_byte (λ b. not (should_percent_encode SPECIAL_QUERY b)) b refl
     (plain_small b h) h)
 
-all_query_kept : (query : Option (List ℕ)) → IfSome query (λ text. list_all is_plain_byte text ≡ true)
-    → IfSome query (All (IsKept SPECIAL_QUERY))
-all_query_kept None h = tt
-all_query_kept (Some text) h = all_of is_plain_byte (IsKept SPECIAL_QUERY) query_kept text h
-
 some_host : (host : List ℕ) → is_ascii_lowercase (slice_index (last_label host) 0) ≡ true → 0 < length host
 unfolding rsplit_once
-some_host [] h = absurd (cc)
-some_host (b ∷ host) h = omega arith
+some_host host h = grind (arith, common_steps)
 
 module _ (scheme : List ℕ) (is_scheme : IsScheme scheme) (kind : scheme_type scheme ≡ SpecialNotFile)
     (host path : List ℕ) (query : Option (List ℕ)) (plain_host : IsPlainHost host)
@@ -196,7 +179,7 @@ module _ (scheme : List ℕ) (is_scheme : IsScheme scheme) (kind : scheme_type s
   valid_host kind is = grind (arith, domain_of_plain, some_host)
 
   valid : IsValid (plain_parts scheme host path query)
-  valid = grind (arith, valid_host, segments_of_plain, all_query_kept)
+  valid = grind (arith, valid_host, segments_of_plain, common_steps, all_of, query_kept)
 
   pub parses : parse_url None (serialize (plain_parts scheme host path query)) ≡ Ok (plain_parts scheme host path query)
   parses = parse_url-serialize_special (plain_parts scheme host path query) None valid kind

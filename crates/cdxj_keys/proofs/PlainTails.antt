@@ -1,6 +1,6 @@
 -- Where a path ends and a query begins.
-use Rattle.std.proofs.Common.{◌≡◌, ℕ, zero, suc, ◌+◌, ◌<◌, List, [], ◌∷◌, ◌++◌, Some, length, take, drop, get_or, sym}
-use Rattle.std.proofs.Common.{ap, ◌∙◌, subst, append-nil, arith}
+use Rattle.std.proofs.Common.{◌≡◌, ℕ, zero, suc, ◌+◌, ◌<◌, List, ◌∷◌, ◌++◌, Some, length, take, drop, get_or, sym}
+use Rattle.std.proofs.Common.{◌∙◌, subst, append-nil, arith}
 use Rattle.std.specs.Prelude.{slice_index}
 use Rattle.std.proofs.lemmas.List.{get_or-take}
 use Rattle.cdxj_keys.specs.Key.{query_text}
@@ -8,8 +8,7 @@ use Rattle.cdxj_keys.specs.PlainUrls.{IsPlainPath, IsPlainQuery, IsPlainTail}
 use Rattle.cdxj_keys.proofs.Labels.{cut_at}
 
 slash_first : (text : List ℕ) → slice_index text 0 ≡ 47 → text ≡ 47 ∷ drop 1 text
-slash_first [] h = absurd (cc)
-slash_first (b ∷ text) h = ap (λ c. c ∷ text) h
+slash_first text h = grind arith
 
 pub path_alone : (tail : List ℕ) → slice_index tail 0 ≡ 47 → IsPlainPath tail → IsPlainTail tail
 path_alone tail slash plain = grind (arith, slash_first, append-nil)

@@ -1,6 +1,6 @@
 -- What is found in an object, as its members and its tokens are read.
-use Rattle.std.proofs.Common.{◌≡◌, ℕ, ◌-◌, List, [], ◌∷◌, Bool, true, false, cond, bytes_eq, length, Option, Some, None}
-use Rattle.std.proofs.Common.{option_map, option_and_then, refl, ap, ◌∙◌, arith}
+use Rattle.std.proofs.Common.{◌≡◌, ℕ, List, [], ◌∷◌, length, Option, Some, None}
+use Rattle.std.proofs.Common.{option_map, option_and_then, refl, arith}
 use Rattle.std.proofs.lemmas.Slice.Eq.{bytes_eq-Decides}
 use Rattle.json.specs.Token.{Token}
 use Rattle.json.specs.Json as json
@@ -12,20 +12,14 @@ use Rattle.json.proofs.Grammar.{value_is, value-begin_array, value-begin_object}
 use Rattle.serde_json.specs.Data.{Data, object, Members, no_members, put}
 use Rattle.serde_json.specs.Read.{of_json, of_members, converted}
 use Rattle.serde_json.proofs.Views.{get_member-put, get_member-put_other}
-use Rattle.cdxj_objects.specs.FoundMembers.{FoundValue, member_data, found_at, found_of, with_member, object_found}
+use Rattle.cdxj_objects.specs.FoundMembers.{FoundValue, member_data, found_of, with_member, object_found}
 use Rattle.cdxj_objects.specs.FoundMembers.{object_read, members_found}
-use Rattle.cdxj_objects.proofs.JsonReading.{value_or, rest_or}
 
 -- ---- a member that is put
 
-found_put_at : (b : Bool) (k q : List ℕ) (d : Data) (ms : Members) → bytes_eq k q ≡ b → found_at q (put k d ms) ≡ cond b
-    (Some (member_data d)) (found_at q ms)
-found_put_at true k q d ms is = grind (arith, bytes_eq-Decides, get_member-put)
-found_put_at false k q d ms is = grind (arith, get_member-put_other, bytes_eq-Decides)
-
 pub found_put : (k : List ℕ) (d : Data) (ms : Members) → found_of (put k d ms) ≡ with_member k (member_data d)
     (found_of ms)
-found_put k d ms = grind (arith, found_put_at)
+found_put k d ms = grind (arith, bytes_eq-Decides, get_member-put, get_member-put_other)
 
 -- ---- the tokens of the object
 
@@ -35,51 +29,27 @@ whole_found o = option_and_then object_found (option_and_then of_json (option_an
 
 none_of : {A : Type 0} (f : A → Data) → ((a : A) → object_found (f a) ≡ None) → (x : Option A)
     → option_and_then object_found (option_map f x) ≡ None
-none_of f h None = refl
-none_of f h (Some a) = h a
+none_of f h x = grind arith
 
 other : (token : ReadToken) (ts : List Token) → (token ≡ read.BeginObject → ⊥) → object_read (token_of token ∷ ts) ≡
     None
-other read.BeginObject ts h = absurd (h refl)
-other read.EndObject ts h = grind (arith, value_is)
-other read.BeginArray ts h = grind (arith, value-begin_array)
-other read.EndArray ts h = grind (arith, value_is)
-other (read.Key s) ts h = grind (arith, value_is)
-other (read.String s) ts h = grind (arith, value_is)
-other (read.Number s) ts h = grind (arith, value_is, none_of)
-other (read.Bool b) ts h = grind (arith, value_is)
-other read.Null ts h = grind (arith, value_is)
-other read.Bad ts h = grind (arith, value_is)
+other token ts h = grind (arith, value_is, value-begin_array, none_of)
 
 -- tokens that don't begin with a brace are no object
 pub no_brace : (first : Option ReadToken) (ts rest : List Token) → Yields ts first rest
     → (first ≡ Some read.BeginObject → ⊥) → object_read ts ≡ None
-no_brace None ts rest h never = grind (arith, value_is)
-no_brace (Some token) ts rest h never = grind (arith, other)
+no_brace first ts rest h never = grind (arith, value_is, other)
 
 abbrev read_all : json.Members → Option Members
 read_all ms = of_members ms no_members
 
-ended_at : (x : Option Members) (f : FoundValue) → parse_map {B = FoundValue} found_of (option_map (λ ms. (ms, [])) x) ≡
-    Some (f, []) → option_and_then object_found (option_map object x) ≡ Some f
-ended_at None f e = absurd (cc)
-ended_at (Some ms) f e = ap Some (ap (value_or f) e)
-
-not_ended : (x : Option Members) (f : FoundValue) (t : Token) (r : List Token)
-    → parse_map found_of (option_map (λ ms. (ms, t ∷ r)) x) ≡ Some (f, []) → ⊥
-not_ended None f t r e = cc
-not_ended (Some ms) f t r e = let bad : t ∷ r ≡ [] = ap rest_or e in cc
-
 ended : (o : Option (json.Members × List Token)) (f : FoundValue) → parse_map found_of (converted read_all o) ≡ Some
     (f, []) → whole_found (parse_map json.object o) ≡ Some f
-ended None f e = absurd (cc)
-ended (Some (ms, [])) f e = ended_at (read_all ms) f e
-ended (Some (ms, t ∷ r)) f e = absurd (not_ended (read_all ms) f t r e)
+ended o f e = grind arith
 
 no_more : (x : Option Members) (f : FoundValue) (t : Token) (r : List Token)
     → parse_map found_of (option_map (λ ms. (ms, [])) x) ≡ Some (f, t ∷ r) → ⊥
-no_more None f t r e = cc
-no_more (Some ms) f t r e = let bad : [] ≡ t ∷ r = ap rest_or e in cc
+no_more x f t r e = grind arith
 
 more : (o : Option (json.Members × List Token)) (f : FoundValue) (t : Token) (r : List Token)
     → parse_map found_of (converted read_all o) ≡ Some (f, t ∷ r) → whole_found (parse_map json.object o) ≡ None
@@ -89,14 +59,11 @@ more (Some (ms, u ∷ s)) f t r e = refl
 
 refused_at : (x : Option Members) → parse_map found_of (option_map (λ ms. (ms, [])) x) ≡ None
     → option_and_then object_found (option_map object x) ≡ None
-refused_at None e = refl
-refused_at (Some ms) e = absurd (cc)
+refused_at x e = grind arith
 
 refused : (o : Option (json.Members × List Token)) → parse_map found_of (converted read_all o) ≡ None
     → whole_found (parse_map json.object o) ≡ None
-refused None e = refl
-refused (Some (ms, [])) e = refused_at (read_all ms) e
-refused (Some (ms, t ∷ r)) e = refl
+refused o e = grind (arith, refused_at)
 
 opened : (ts : List Token) → object_read (Token.begin_object ∷ ts) ≡ whole_found
     (parse_map json.object (members (value 126) (length ts) ts))

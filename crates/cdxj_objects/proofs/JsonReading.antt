@@ -1,14 +1,14 @@
 -- Tokens that are read for a value, for items and for members, a turn at a time.
-use Rattle.std.proofs.Common.{◌≡◌, ℕ, zero, suc, ◌-◌, ◌<◌, ◌≤◌, List, [], ◌∷◌, length, Bool, Option, Some, None}
-use Rattle.std.proofs.Common.{option_map, refl, ap, ◌∙◌, arith}
+use Rattle.std.proofs.Common.{◌≡◌, ℕ, ◌-◌, ◌<◌, ◌≤◌, List, [], ◌∷◌, length, Option, Some, None}
+use Rattle.std.proofs.Common.{option_map, ap, ◌∙◌, arith}
 use Rattle.json.specs.Token.{Token}
 use Rattle.json.specs.Json as json
 use Rattle.json.specs.Json.{parse_map, after_end_array, read_key, items, members, value}
-use Rattle.json.proofs.Grammar.{left, value_is, value-begin_array, value-begin_object, items_end as no_more_items}
-use Rattle.json.proofs.Grammar.{items_more, members_end as no_more_members, members_no_key, members_more}
-use Rattle.serde_json.specs.Data.{Data, null, number, string, Items, item, Members, put}
+use Rattle.json.proofs.Grammar.{left, value_is, value-begin_object, items_end as no_more_items}
+use Rattle.json.proofs.Grammar.{items_more, members_end as no_more_members, members_more}
+use Rattle.serde_json.specs.Data.{Data, null, Members, put}
 use Rattle.serde_json.specs.Read.{number_of, of_json, of_items, of_members, converted}
-use Rattle.cdxj_objects.specs.FoundMembers.{number_data, member_data, value_read, items_passed, members_passed}
+use Rattle.cdxj_objects.specs.FoundMembers.{number_data, member_data, value_read, members_passed}
 
 -- what was read, or the value if nothing was
 abbrev pub value_or : {A : Type 0} → A → Option (A × List Token) → A
@@ -27,12 +27,6 @@ seen o = parse_map member_data (converted of_json o)
 pub read_nothing : (depth : ℕ) → value_read depth [] ≡ None
 read_nothing depth = ap seen (value_is depth [])
 
-pub read_string : (depth : ℕ) (s : List ℕ) (r : List Token) → value_read depth (Token.string s ∷ r) ≡ Some (string s, r)
-read_string depth s r = grind (arith, value_is)
-
-pub read_boolean : (depth : ℕ) (b : Bool) (r : List Token) → value_read depth (Token.boolean b ∷ r) ≡ Some (null, r)
-read_boolean depth b r = grind (arith, value_is)
-
 pub read_null : (depth : ℕ) (r : List Token) → value_read depth (Token.null ∷ r) ≡ Some (null, r)
 read_null depth r = ap seen (value_is depth (Token.null ∷ r))
 
@@ -40,30 +34,23 @@ pub read_number : (depth : ℕ) (s : List ℕ) (r : List Token) (found : Option 
     (number_of s) → value_read depth (Token.number s ∷ r) ≡ option_map (λ d. (d, r)) found
 read_number depth s r found e = grind (arith, value_is)
 
-pub read_array : (depth : ℕ) (ts : List Token) → 0 < depth → value_read depth (Token.begin_array ∷ ts) ≡ option_map
-    (λ r. (null, r)) (items_passed (depth - 1) ts)
-read_array depth ts h = grind (arith, value-begin_array)
-
 pub read_object : (depth : ℕ) (ts : List Token) → 0 < depth → value_read depth (Token.begin_object ∷ ts) ≡ option_map
     (λ r. (null, r)) (members_passed (depth - 1) ts)
 read_object depth ts h = grind (arith, value-begin_object)
 
 pub no_array : (depth : ℕ) (ts : List Token) → depth ≡ 0 → value_read depth (Token.begin_array ∷ ts) ≡ None
 unfolding value
-no_array zero ts e = refl
-no_array (suc d) ts e = grind arith
+no_array depth ts e = grind arith
 
 pub no_object : (depth : ℕ) (ts : List Token) → depth ≡ 0 → value_read depth (Token.begin_object ∷ ts) ≡ None
 unfolding value
-no_object zero ts e = refl
-no_object (suc d) ts e = grind arith
+no_object depth ts e = grind arith
 
 -- ---- what was read, and its data
 
 mapped_at : (r s : List Token) (x : Option Data) (v : Data) → parse_map member_data (option_map (λ d. (d, r)) x) ≡ Some
     (v, s) → (d : Data) × (x ≡ Some d) × (r ≡ s) × (member_data d ≡ v)
-mapped_at r s None v e = absurd (cc)
-mapped_at r s (Some d) v e = grind arith
+mapped_at r s x v e = grind arith
 
 -- a value that is seen was parsed, and has data
 pub record Parsed (o : Option (json.Json × List Token)) (v : Data) (r : List Token) : Type 0 where
@@ -86,8 +73,7 @@ items_left depth n ts = left (converted of_items (items (value depth) n ts))
 
 after_item : (j : json.Json) (d : Data) → of_json j ≡ Some d → (o : Option (json.Items × List Token))
     → left (converted of_items (parse_map (json.item j) o)) ≡ left (converted of_items o)
-after_item j d e None = refl
-after_item j d e (Some p) = grind arith
+after_item j d e o = grind arith
 
 pub item_passed : (depth n : ℕ) (ts r : List Token) (v : Data) → 0 < n → after_end_array ts ≡ None
     → value_read depth ts ≡ Some (v, r) → items_left depth n ts ≡ items_left depth (n - 1) r
@@ -99,8 +85,7 @@ item_passed depth n ts r v some going e =
 pub item_not_passed : (depth n : ℕ) (ts : List Token) → after_end_array ts ≡ None → value_read depth ts ≡ None
     → items_left depth n ts ≡ None
 unfolding items
-item_not_passed depth zero ts going e = refl
-item_not_passed depth (suc n) ts going e = grind arith
+item_not_passed depth n ts going e = grind arith
 
 pub items_end : (depth n : ℕ) (ts r : List Token) → length ts ≤ n → after_end_array ts ≡ Some r → items_left depth n ts
     ≡ Some r
@@ -116,8 +101,7 @@ after_member : (k : List ℕ) (j : json.Json) (d : Data) (found : Members) → o
     → (o : Option (json.Members × List Token))
     → converted (λ ms. of_members ms found) (parse_map (json.member k j) o) ≡ converted
     (λ ms. of_members ms (put k d found)) o
-after_member k j d found e None = refl
-after_member k j d found e (Some p) = rw e
+after_member k j d found e o = grind arith
 
 pub member_put : (depth n : ℕ) (found : Members) (k : List ℕ) (ts s r : List Token) (v : Data) → 0 < n
     → read_key ts ≡ Some (Some k, s) → value_read depth s ≡ Some (v, r)
@@ -133,12 +117,7 @@ member_put depth n found k ts s r v some key e =
 pub no_member : (depth n : ℕ) (found : Members) (k : List ℕ) (ts s : List Token) → read_key ts ≡ Some (Some k, s)
     → value_read depth s ≡ None → members_from depth n found ts ≡ None
 unfolding members
-no_member depth zero found k ts s key e = refl
-no_member depth (suc n) found k ts s key e = grind arith
-
-pub no_key : (depth n : ℕ) (found : Members) (ts : List Token) → read_key ts ≡ None → members_from depth n found ts ≡
-    None
-no_key depth n found ts e = grind (arith, members_no_key)
+no_member depth n found k ts s key e = grind arith
 
 pub members_end : (depth n : ℕ) (found : Members) (ts r : List Token) → length ts ≤ n → read_key ts ≡ Some (None, r)
     → members_from depth n found ts ≡ Some (found, r)

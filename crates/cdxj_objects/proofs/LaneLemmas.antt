@@ -1,6 +1,6 @@
 -- From vectors that were compared to the fronts of lists.
 use Rattle.std.proofs.Common.{◌≡◌, ℕ, zero, suc, ◌+◌, ◌≤◌, ◌%◌, ◌^◌, ◌||◌, Bool, true, false, not, cond, List, [], ◌∷◌}
-use Rattle.std.proofs.Common.{map, length, take, drop, bit_or, refl, ◌∙◌, eqb, ltb, arith}
+use Rattle.std.proofs.Common.{map, length, take, drop, bit_or, refl, eqb, ltb, arith}
 use Rattle.std.specs.Char.{is_ascii_digit}
 use Rattle.std.specs.List.{prefix_len}
 use Rattle.std.proofs.lemmas.List.{length-map}
@@ -47,8 +47,7 @@ abbrev pub digit_lane : ℕ → ℕ
 digit_lane x = bit_or (cond (ltb x 48) 255 0) (cond (ltb 57 x) 255 0)
 
 tops_all : (v : List ℕ) → map (λ x. top 7 (digit_lane x)) v ≡ map no_digit v
-tops_all [] = refl
-tops_all (x ∷ v) = grind arith
+tops_all v = grind arith
 
 pub digit_masks : (v z : List ℕ) → length v ≡ 16 → z ≡ map digit_lane v → mask_l (map (top 7) z) % 2 ^ 64 ≡ mask_l
     (map no_digit v)

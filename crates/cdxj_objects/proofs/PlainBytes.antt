@@ -1,7 +1,7 @@
 -- Plain bytes are those that are no quote, no backslash and no control.
 use Rattle.std.proofs.lemmas.Grind.{common_steps}
-use Rattle.std.proofs.Common.{◌≡◌, ℕ, ◌<◌, ◌^◌, decimal, Bool, true, false, not, ◌&&◌, ◌||◌, ◌==◌, nat_lt, nat_le, List}
-use Rattle.std.proofs.Common.{[], ◌∷◌, ◌++◌, refl, ◌∙◌, arith}
+use Rattle.std.proofs.Common.{◌≡◌, ℕ, ◌<◌, ◌^◌, decimal, Bool, true, not, ◌&&◌, nat_lt, nat_le, List}
+use Rattle.std.proofs.Common.{[], ◌∷◌, refl, ◌∙◌, arith}
 use Rattle.std.specs.List.{list_all}
 use Rattle.std.specs.Char.{is_ascii_digit}
 use Rattle.std.proofs.lemmas.Bool.{and_parts}
@@ -24,20 +24,13 @@ not_below : (b : ℕ) → not (nat_lt b 32) ≡ nat_le 32 b
 not_below b = grind (arith, nat_tests)
 
 moved : (a b c : Bool) → ((a && b) && c) ≡ (a && (c && b))
-moved true true true = refl
-moved true true false = refl
-moved true false true = refl
-moved true false false = refl
-moved false b c = refl
+moved a b c = grind arith
 
 plain_byte : (b : ℕ) → is_plain b ≡ (is_open b && is_unescaped b)
 plain_byte b = grind arith
 
 regroup : (a b c d : Bool) → ((a && b) && (c && d)) ≡ ((a && c) && (b && d))
-regroup true true c d = refl
-regroup true false true d = refl
-regroup true false false d = refl
-regroup false b c d = refl
+regroup a b c d = grind arith
 
 pub list_all_plain : (xs : List ℕ) → list_all is_plain xs ≡ (list_all is_open xs && list_all is_unescaped xs)
 list_all_plain [] = refl

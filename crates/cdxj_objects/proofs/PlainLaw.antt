@@ -1,5 +1,5 @@
 -- What a plain object is read as.
-use Rattle.std.proofs.Common.{◌≡◌, ℕ, ◌<◌, ◌^◌, ◌==◌, Bool, true, false, cond, List, [], ◌∷◌, ◌++◌, length, decimal}
+use Rattle.std.proofs.Common.{◌≡◌, ℕ, ◌<◌, ◌^◌, Bool, true, cond, List, [], ◌∷◌, ◌++◌, length, decimal}
 use Rattle.std.proofs.Common.{Some, None, get_or, append_assoc, flat_map, codes, refl, sym, ap, ◌∙◌, arith}
 use Rattle.std.specs.List.{list_all}
 use Rattle.std.specs.Str.Parse.{digits_value}
@@ -46,18 +46,15 @@ AllPlain (m ∷ ms) = Plain m × AllPlain ms
 regroup : (n v p : List ℕ) → ((34 ∷ (n ++ 34 ∷ [])) ++ (58 ∷ 32 ∷ []) ++ (34 ∷ (v ++ 34 ∷ []))) ++ p ≡ front n v p
 regroup n v p = simp append_assoc
 
-member_is : (m : Pair) (p : List ℕ) → Plain m → member_text m ++ p ≡ front m.0 m.1 p
-member_is (n, v) p h = grind (arith, escape_plain, regroup)
-
 abbrev later : List Pair → List ℕ
 later ms = flat_map (λ m. (44 ∷ 32 ∷ []) ++ member_text m) ms
 
 rest_is : (ms : List Pair) → AllPlain ms → later ms ++ 125 ∷ [] ≡ rest_text ms
 rest_is [] h = refl
-rest_is (m ∷ ms) h = grind (arith, append_assoc, member_is, rest_is ms h.1)
+rest_is (m ∷ ms) h = grind (arith, append_assoc, escape_plain, regroup, rest_is ms h.1)
 
 object_is : (m : Pair) (ms : List Pair) → AllPlain (m ∷ ms) → object_text (m ∷ ms) ≡ 123 ∷ front m.0 m.1 (rest_text ms)
-object_is m ms h = grind (arith, append_assoc, rest_is, member_is)
+object_is m ms h = grind (arith, append_assoc, rest_is, escape_plain, regroup)
 
 -- ---- the seven members
 
@@ -70,8 +67,7 @@ read_plain t h = ap read (plain_text_is t h) ∙ read_texts t
 -- ---- the offset
 
 if_some : (b : Bool) (v n : ℕ) → cond b (Some v) None ≡ Some n → (b ≡ true) × (v ≡ n)
-if_some true v n h = grind arith
-if_some false v n h = absurd (cc)
+if_some b v n h = grind arith
 
 pub canonical_decimal : (ds : List ℕ) (n : ℕ) → offset_of ds ≡ Some n → (get_or ds 0 0 ≡ 48 → length ds ≡ 1)
     → ds ≡ decimal n
@@ -85,11 +81,8 @@ canonical_decimal ds n h single =
 
 -- ---- writing
 
-steps_of : (old s : List ℕ) → ((old ++ 34 ∷ []) ++ s) ++ 34 ∷ [] ≡ old ++ 34 ∷ (s ++ 34 ∷ [])
-steps_of old s = simp append_assoc
-
 pub quoted_plain : (old s : List ℕ) → list_all is_plain s ≡ true → ((old ++ 34 ∷ []) ++ s) ++ 34 ∷ [] ≡ old ++ quoted s
-quoted_plain old s h = grind (arith, steps_of, escape_plain)
+quoted_plain old s h = grind (arith, append_assoc, escape_plain)
 
 -- what stands between two texts
 abbrev pub between : List ℕ → List ℕ

@@ -1,6 +1,6 @@
 -- A line followed by a plain object.
 use Rattle.std.proofs.lemmas.Grind.{common_steps}
-use Rattle.std.proofs.Common.{◌≡◌, ℕ, ◌<◌, ◌^◌, ◌==◌, List, ◌++◌, codes, decimal, length, ◌∙◌, length-append, arith}
+use Rattle.std.proofs.Common.{◌≡◌, ℕ, ◌<◌, ◌^◌, List, ◌++◌, codes, decimal, length, length-append, arith}
 use Rattle.std.proofs.lemmas.Fmt.{decimal_nonempty}
 use Rattle.cdxj_objects.specs.declared.member_ends.MemberEnds.{MemberEnds}
 use Rattle.cdxj_objects.specs.FoundMembers.{FoundValue, raw_text}

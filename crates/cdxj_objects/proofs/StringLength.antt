@@ -10,7 +10,7 @@ use Rattle.json.specs.Text.{after_backslash, after_u, after_high, prepend, conte
 use Rattle.json.specs.Token.{Token}
 use Rattle.json.specs.Word.{head, after_number, number_before, literal, word}
 use Rattle.json.specs.Lex.{Lexeme, token, comma, colon, Class, quote, backslash, operator, space, other, class}
-use Rattle.json.specs.Lex.{operator_lexeme, Mode, between, in_word, in_string, in_escape, lex_byte, lex, Place, fresh}
+use Rattle.json.specs.Lex.{Mode, between, in_word, in_string, in_escape, lex_byte, lex, Place, fresh}
 use Rattle.json.specs.Lex.{after_value, after_comma, after_key, begins_colon, place_token, punctuate, tokens}
 
 -- ---- what an option may have
@@ -21,17 +21,14 @@ Each P (Some a) = P a
 
 pub each_map : {A B : Type 0} (P : A → Type 0) (Q : B → Type 0) (f : A → B) → ((a : A) → P a → Q (f a)) → (o : Option A)
     → Each P o → Each Q (option_map f o)
-each_map P Q f h None x = tt
-each_map P Q f h (Some a) x = h a x
+each_map P Q f h o x = grind arith
 
 pub each_then : {A B : Type 0} (P : A → Type 0) (Q : B → Type 0) (f : A → Option B) → ((a : A) → P a → Each Q (f a))
     → (o : Option A) → Each P o → Each Q (option_and_then f o)
-each_then P Q f h None x = tt
-each_then P Q f h (Some a) x = h a x
+each_then P Q f h o x = grind arith
 
 pub either : {A : Type 0} (P : A → Type 0) (b : Bool) (x y : A) → P x → P y → P (cond b x y)
-either P true x y p q = p
-either P false x y p q = q
+either P b x y p q = grind arith
 
 -- ---- the content of a string
 
@@ -40,13 +37,11 @@ UpTo n s = length s ≤ n
 
 after_unit : (n : ℕ) (f : ℕ → Option (List ℕ)) (o : Option ℕ) → ((u : ℕ) → Each (UpTo n) (f u))
     → Each (UpTo n) (option_and_then f o)
-after_unit n f None h = tt
-after_unit n f (Some u) h = h u
+after_unit n f o h = grind arith
 
 prepended : (n m : ℕ) (a : List ℕ) (r : Option (List ℕ)) → length a + m ≤ n → Each (UpTo m) r
     → Each (UpTo n) (prepend a r)
-prepended n m a None le h = tt
-prepended n m a (Some s) le h = omega (arith, length-append a s)
+prepended n m a r le h = grind (arith, length-append)
 
 length-encode : (u : ℕ) → length (encode_utf8 u) ≤ 4
 unfolding encode_utf8
@@ -105,8 +100,7 @@ abbrev pub AreShort : ℕ → List Token → Type 0
 AreShort n = AllByRecursion (ShortToken n)
 
 short_number : (n : ℕ) (t : List ℕ) (o : Option (List ℕ)) → ShortToken n (number_before t o)
-short_number n t None = tt
-short_number n t (Some rest) = grind arith
+short_number n t o = grind arith
 
 short_literal : (n : ℕ) (name : List ℕ) (k : Token) (t : List ℕ) → ShortToken n k → ShortToken n (literal name k t)
 short_literal n name k t h = grind arith
@@ -119,19 +113,16 @@ short_word n t =
     (either (ShortToken n) (head t == 110) _ _ (short_literal n (codes "null") Token.null t tt)
     (short_number n t (after_number t))))
 
-short_operator : (n x : ℕ) → ShortLexeme n (operator_lexeme x)
-short_operator n x = grind arith
-
 short_byte : (n : ℕ) (m : Mode) (c : Class) (x : ℕ) (xs : List ℕ) (k : Mode → List Lexeme) → length xs ≤ n
     → ((next : Mode) → AllByRecursion (ShortLexeme n) (k next)) → AllByRecursion (ShortLexeme n) (lex_byte m c x xs k)
 short_byte n between quote x xs k le h = grind (arith, short_content)
 short_byte n between backslash x xs k le h = (tt, h in_word)
-short_byte n between operator x xs k le h = (short_operator n x, h between)
+short_byte n between operator x xs k le h = grind (arith, between)
 short_byte n between space x xs k le h = h between
 short_byte n between other x xs k le h = (short_word n (x ∷ xs), h in_word)
 short_byte n in_word quote x xs k le h = h in_word
 short_byte n in_word backslash x xs k le h = h in_word
-short_byte n in_word operator x xs k le h = (short_operator n x, h between)
+short_byte n in_word operator x xs k le h = grind (arith, between)
 short_byte n in_word space x xs k le h = h between
 short_byte n in_word other x xs k le h = h in_word
 short_byte n in_string quote x xs k le h = h between
@@ -149,17 +140,7 @@ short_lex n m (x ∷ xs) le = short_byte n m (class x) x xs (λ next. lex next x
 
 short_placed : (n : ℕ) (p : Place) (t : Token) (before_colon : Bool) (k : Place → List Token) → ShortToken n t
     → ((next : Place) → AreShort n (k next)) → AreShort n (place_token p t before_colon k)
-short_placed n p Token.begin_object b k h rest = grind arith
-short_placed n p Token.end_object b k h rest = grind arith
-short_placed n p Token.begin_array b k h rest = grind arith
-short_placed n p Token.end_array b k h rest = grind arith
-short_placed n p (Token.key s) b k h rest = (tt, tt)
-short_placed n p (Token.string s) true k h rest = grind arith
-short_placed n p (Token.string s) false k h rest = grind arith
-short_placed n p (Token.number s) b k h rest = grind arith
-short_placed n p (Token.boolean v) b k h rest = grind arith
-short_placed n p Token.null b k h rest = grind arith
-short_placed n p Token.bad b k h rest = (tt, tt)
+short_placed n p t b k h rest = grind arith
 
 short_punctuated : (n : ℕ) (p : Place) (ls : List Lexeme) → AllByRecursion (ShortLexeme n) ls
     → AreShort n (punctuate p ls)

@@ -1,6 +1,6 @@
 -- What `memchr` answers, by std's words.
-use Rattle.std.proofs.Common.{◌≡◌, ℕ, suc, ◌<◌, ◌≤◌, Bool, true, not, List, [], ◌∷◌, Option, Some, None, length, get_or}
-use Rattle.std.proofs.Common.{is_none, ap, ◌∙◌, arith, refl}
+use Rattle.std.proofs.Common.{◌≡◌, ℕ, suc, ◌<◌, Bool, true, not, List, [], ◌∷◌, Option, Some, None, length, get_or}
+use Rattle.std.proofs.Common.{is_none, ap, arith, refl}
 use Rattle.std.proofs.lemmas.Bool.{lt-ltb, cond-true, false_from_ne_true}
 use Rattle.std.proofs.lemmas.List.Sums.{position_or_len_is}
 use Rattle.std.specs.List.{position, position_or_len, list_all}
@@ -24,8 +24,7 @@ none_pass test (x ∷ xs) none = both _ _ (ap not (false_from_ne_true (test x) (
 
 pub IsFirstByte_absent : (test : ℕ → Bool) (hay : List ℕ) (r : Option ℕ) → IsFirstByte test hay r → is_none r ≡ list_all
     (λ b. not (test b)) hay
-IsFirstByte_absent test hay None none = grind (arith, none_pass)
-IsFirstByte_absent test hay (Some i) found = grind (arith, list_all_at)
+IsFirstByte_absent test hay r found = grind (arith, none_pass, list_all_at)
 
 -- where the first byte that passes stands
 pub first_byte_at : (test : ℕ → Bool) (hay : List ℕ) (i : ℕ) → IsFirstByte test hay (Some i) → position_or_len test hay

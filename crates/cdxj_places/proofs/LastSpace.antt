@@ -1,6 +1,6 @@
 -- Where a text is cut at its last space.
-use Rattle.std.proofs.Common.{◌≡◌, ◌≢◌, ℕ, ◌+◌, ◌-◌, ◌<◌, ◌==◌, not, List, [], length, take, drop, Option, Some, None}
-use Rattle.std.proofs.Common.{MatchOption, get_or, Bor, sym, ap, ◌∙◌, arith}
+use Rattle.std.proofs.Common.{◌≡◌, ◌≢◌, ℕ, ◌+◌, ◌-◌, ◌<◌, not, List, [], length, drop, Option, Some, None}
+use Rattle.std.proofs.Common.{MatchOption, get_or, Bor, ap, ◌∙◌, arith}
 use Rattle.std.proofs.lemmas.Bool.{ne_eqb, eq-eqb}
 use Rattle.std.proofs.lemmas.List.{get_or-drop}
 use Rattle.std.proofs.lemmas.List.Sums.{suffix_len_is}
@@ -39,6 +39,4 @@ cuts_at_last s (Some x) h =
     NoCharPasses-char 32 (drop j s) (q - j) h.2.0 (omega arith) (omega (arith, h.7, h.4, ap length h.4, next))
     (get_or-drop j s (q - j) 0 ∙ ap (λ n. get_or s n 0) shifted ∙ e) in
     let e = last_at s i within (h.2.1.byte (omega arith)) later in
-    let front : length s - suffix_len (λ x. not (is_space x)) s - 1 ≡ i = omega (arith, e, within) in
-    let back : length s - suffix_len (λ x. not (is_space x)) s ≡ j = omega (arith, e, within, next) in
-    (h.3 ∙ sym (ap (λ n. take n s) front), h.4 ∙ sym (ap (λ n. drop n s) back))
+    grind (arith, not)

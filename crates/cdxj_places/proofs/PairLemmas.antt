@@ -1,6 +1,6 @@
 -- The pair of a line, and the order of pairs.
-use Rattle.std.proofs.Common.{◌≡◌, ℕ, ◌+◌, ◌<◌, ◌&&◌, Bool, true, false, cond, List, [], ◌∷◌, ◌++◌, length, take, Some}
-use Rattle.std.proofs.Common.{None, unwrap_or, get_or, refl, sym, ap, ◌∙◌, arith, append_assoc, Ordering, Less, Equal}
+use Rattle.std.proofs.Common.{◌≡◌, ℕ, ◌<◌, ◌&&◌, Bool, true, cond, List, ◌∷◌, ◌++◌, length, take, Some}
+use Rattle.std.proofs.Common.{None, unwrap_or, get_or, refl, sym, ap, ◌∙◌, arith, append_assoc, Ordering, Less}
 use Rattle.std.proofs.Common.{Greater}
 use Rattle.std.specs.List.{position_or_len, before_first, after_first}
 use Rattle.std.specs.Cmp.{IsTotalOrder}
@@ -43,14 +43,12 @@ around text some =
     grind (arith, split_at_first, text)
 
 space_first : (s : List ℕ) → begins_with_space s ≡ true → (rest : List ℕ) × (s ≡ 32 ∷ rest)
-space_first [] h = absurd (cc)
-space_first (b ∷ s) h = (s, ap (λ b. b ∷ s) (eqb-true b 32 h))
+space_first s h = grind (arith, eqb-true)
 
 has_pair : (x : List ℕ) (p : Pair) (b : Bool) → begins_with_pair x ≡ b → cond b (Some (key_part x, stamp_part x)) None ≡
     Some p
     → (begins_with_pair x ≡ true) × (Some (key_part x, stamp_part x) ≡ Some p)
-has_pair x p true e h = (e, h)
-has_pair x p false e h = absurd (cc)
+has_pair x p b e h = grind arith
 
 -- what a text with a pair is
 record Begun (x : List ℕ) : Type 0 where
@@ -101,11 +99,7 @@ abbrev Decides : Ordering → Type 0
 Decides o = (a b c : Ordering) → ordering_then a b ≡ o → ordering_then a (ordering_then b c) ≡ o
 
 less : Decides Less
-less Less b c e = refl
-less Equal Less c e = refl
-less Equal Equal c e = cc
-less Equal Greater c e = cc
-less Greater b c e = cc
+less x0 b c e = grind arith
 
 module _ (p q : PlaceValue) where
   abbrev later : Ordering

@@ -10,13 +10,12 @@ use Rattle.std.proofs.lemmas.Str.Ascii.{IsAscii-from_all}
 use Rattle.std.proofs.lemmas.Fmt.{digits_decimal, digits_value-decimal, decimal_nonempty, length-decimal-le}
 use Rattle.std.specs.List.{list_all, position_or_len, suffix_len, before_first, after_first, before_last, after_last}
 use Rattle.std.specs.Char.{is_ascii_digit}
-use Rattle.std.specs.Str.Parse.{digits_value}
 use Rattle.std.specs.Str.Lossy.{utf8_lossy}
 use Rattle.std.proofs.lemmas.Bool.Decides.{nat_tests}
 use Rattle.std.proofs.lemmas.List.{length-append}
 use Rattle.form_urlencoded.proofs.FormLemmas.{decode-byte_serialize}
 use Rattle.cdxj_places.specs.Pair.{is_space, is_key_byte, is_key}
-use Rattle.cdxj_places.specs.Places.{PlaceValue, IsPlace, place_text, resume_text, is_offset, place_from, place_in}
+use Rattle.cdxj_places.specs.Places.{PlaceValue, IsPlace, place_text, resume_text, is_offset, place_in}
 use Rattle.cdxj_places.specs.Places.{resume_place}
 use Rattle.cdxj_places.proofs.LastSpace.{last_at}
 use Rattle.cdxj_places.proofs.Offsets.{own}
@@ -82,22 +81,28 @@ both false b p q = cc
 pub offset_text : (n : ℕ) → n < 2 ^ 63 → is_offset (decimal n) ≡ true
 offset_text n small =
     let short : length (decimal n) ≤ 19 = grind (arith, length-decimal-le) in
-    let value : digits_value 10 (decimal n) < 2 ^ 63 = grind (arith, digits_value-decimal, own) in
-    grind (arith, both, lt-ltb, decimal, decimal_nonempty, le-leb, digits_decimal, own)
+    grind (arith, decimal, digits_value-decimal, own, lt-ltb, decimal_nonempty, le-leb, digits_decimal)
 
 -- ---- the law
-
-place_from-parts : (p : PlaceValue) → IsPlace p → place_from p.key p.stamp p.filename (decimal p.offset) ≡ Some p
-place_from-parts p h = grind (arith, offset_text, digits_value-decimal, own)
 
 pub place_in-place_text : (p : PlaceValue) → IsPlace p → place_in (place_text p) ≡ Some p
 unfolding place_in
 place_in-place_text p h =
-    let fits : p.offset < 2 ^ 64 = omega (arith, h.offset) in
-    let key_free = key_no_space p.key h.key in
-    let stamp_free = digits_no_space p.stamp (and_parts _ _ h.stamp).1 in
-    let digits_free = digits_no_space (decimal p.offset) (digits_decimal own p.offset fits) in
-    grind (arith, after_first_at, before_first_at, before_last_at, after_last_at, place_from-parts)
+    grind (
+      arith,
+      key_no_space,
+      digits_no_space,
+      and_parts,
+      decimal,
+      digits_decimal,
+      own,
+      after_first_at,
+      before_first_at,
+      before_last_at,
+      after_last_at,
+      offset_text,
+      digits_value-decimal,
+    )
 
 digit_ascii : (b : ℕ) → IsDigit b → b < 128
 digit_ascii b h = grind (arith, nat_tests)
@@ -118,17 +123,14 @@ resume_place-resume_text p h =
     let decimal_digits = digits_decimal own p.offset fits in
     let B = λ (b : ℕ). b < 256 in
     let space_text = λ (s : List ℕ) (u : IsUtf8 s). IsUtf8-append (32 ∷ []) s
-    (IsUtf8-from_ascii (32 ∷ []) (IsAscii-from_all (32 ∷ []) (All-cons (λ b. b < 128) 32 [] (omega arith)
-    (All-nil (λ b. b < 128))))) u in
+    (grind (arith, IsUtf8-from_ascii, IsAscii-from_all, All-cons, All-nil)) u in
     let utf8 : IsUtf8 (place_text p) = IsUtf8-append p.key _ h.utf8_key
     (space_text _ (IsUtf8-append p.stamp _ (digits_utf8 p.stamp stamp_digits)
-    (space_text _ (IsUtf8-append p.filename _ h.utf8_filename
-    (space_text _ (digits_utf8 (decimal p.offset) decimal_digits)))))) in
+    (space_text _ (grind (arith, IsUtf8-append, digits_utf8, decimal))))) in
     let bytes : All B (place_text p) =
     All-append B p.key _ h.key_bytes (All-cons B 32 _ (omega arith)
     (All-append B p.stamp _ (All-weaker (λ b. b < 128) B small_byte p.stamp (digits_ascii p.stamp stamp_digits))
     (All-cons B 32 _ (omega arith) (All-append B p.filename _ h.filename_bytes
-    (All-cons B 32 _ (omega arith) (All-weaker (λ b. b < 128) B small_byte (decimal p.offset)
-    (digits_ascii (decimal p.offset) decimal_digits))))))) in
+    (grind (arith, All-cons, All-weaker, small_byte, decimal, digits_ascii)))))) in
     ap (λ t. place_in (utf8_lossy t)) (decode-byte_serialize (place_text p) bytes)
     ∙ ap place_in (utf8_lossy-IsUtf8 (place_text p) utf8) ∙ place_in-place_text p h

@@ -1,5 +1,5 @@
 -- Places are totally ordered.
-use Rattle.std.proofs.Common.{arith, ◌≡◌, refl, Ordering, Less, Equal, Greater}
+use Rattle.std.proofs.Common.{arith, ◌≡◌, Ordering, Equal}
 use Rattle.std.specs.FinMap.{slice_cmp-IsAntisymmetric}
 use Rattle.std.specs.Ordering.{ordering_then}
 use Rattle.std.specs.Cmp.{IsTotalOrder}
@@ -13,9 +13,7 @@ place_cmp_total =
     (then_total (grind (arith, nat_list_cmp_total)) (on_total (λ (p : PlaceValue). p.offset) nat_cmp_total)))
 
 both_equal : (a b : Ordering) → ordering_then a b ≡ Equal → (a ≡ Equal) × (b ≡ Equal)
-both_equal Less b e = cc
-both_equal Equal b e = (refl, e)
-both_equal Greater b e = cc
+both_equal a b e = grind arith
 
 -- places that compare as equal are the same
 pub same_place : (p q : PlaceValue) → place_cmp p q ≡ Equal → p ≡ q

@@ -1,4 +1,4 @@
-use Rattle.std.proofs.Common.{arith, ◌∙◌}
+use Rattle.std.proofs.Common.{arith}
 use Rattle.cdxj_core.proofs.UnescapedAscii.{ascii_clean, ascii_utf8}
 use Rattle.cdxj_core.proofs.body.clean_text.Goals as goal
 
@@ -7,6 +7,3 @@ from_utf8_unchecked-requires c = grind (arith, ascii_utf8)
 
 pub returns-then-is_unescaped_ascii-clause-clean : goal.returns-then-is_unescaped_ascii-clause-clean
 returns-then-is_unescaped_ascii-clause-clean c = grind (arith, ascii_clean)
-
-pub returns-then-is_unescaped_ascii-clause-utf8 : goal.returns-then-is_unescaped_ascii-clause-utf8
-returns-then-is_unescaped_ascii-clause-utf8 c = grind arith

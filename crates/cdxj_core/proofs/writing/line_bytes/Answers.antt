@@ -1,9 +1,6 @@
-use Rattle.std.proofs.Common.{arith, ◌++◌, ◌∷◌, ◌∙◌}
-use Rattle.cdxj_core.proofs.EntryWrite.{line_steps}
+use Rattle.std.proofs.Common.{arith}
 use Rattle.cdxj_core.proofs.writing.line_bytes.Goals as goal
-
-pub push_object-requires-clause-texts : goal.push_object-requires-clause-texts
-push_object-requires-clause-texts c = grind arith
+use Rattle.std.proofs.Common.{append_assoc}
 
 pub returns : goal.returns
-returns c = grind (arith, line_steps)
+returns c = grind (arith, append_assoc)

@@ -1,4 +1,4 @@
-use Rattle.std.proofs.Common.{arith, ◌≡◌, ◌∙◌, ◌++◌}
+use Rattle.std.proofs.Common.{arith}
 use Rattle.cdxj_keys.proofs.Labels.{domain_text_is}
 use Rattle.cdxj_keys.proofs.host.push_domain.Goals as goal
 

@@ -1,4 +1,4 @@
-use Rattle.std.proofs.Common.{◌≡◌, ◌∙◌, ◌+◌, ◌<◌, ◌++◌, ◌∷◌, arith}
+use Rattle.std.proofs.Common.{arith}
 use Rattle.std.proofs.lemmas.List.{take_rest, length-take-le}
 use Rattle.cdxj_keys.proofs.Labels.{more_text, lone_text}
 use Rattle.cdxj_keys.proofs.host.push_reversed.Goals as goal

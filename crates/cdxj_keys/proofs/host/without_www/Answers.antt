@@ -1,4 +1,4 @@
-use Rattle.std.proofs.Common.{arith, ◌+◌, ◌∙◌}
+use Rattle.std.proofs.Common.{arith}
 use Rattle.std.proofs.lemmas.List.{take_rest}
 use Rattle.cdxj_keys.proofs.Labels.{www_cut, other_kept, lone_kept}
 use Rattle.cdxj_keys.proofs.host.without_www.Goals as goal

@@ -1,4 +1,4 @@
-use Rattle.std.proofs.Common.{◌≡◌, ◌∙◌, ◌<◌, ℕ, arith}
+use Rattle.std.proofs.Common.{◌<◌, ℕ, arith}
 use Rattle.std.proofs.lemmas.List.Elements.{All-from_get_or}
 use Rattle.cdxj_keys.proofs.FoldedKey.{folded_is_key}
 use Rattle.cdxj_keys.proofs.key.key_from.Goals as goal

@@ -1,4 +1,4 @@
-use Rattle.std.proofs.Common.{arith, ◌≡◌}
+use Rattle.std.proofs.Common.{arith}
 use Rattle.cdxj_keys.proofs.GraphicLemmas.{folded-graphic}
 use Rattle.cdxj_keys.proofs.key.lowered.Goals as goal
 

@@ -1,4 +1,4 @@
-use Rattle.std.proofs.Common.{arith, ◌∙◌}
+use Rattle.std.proofs.Common.{arith}
 use Rattle.cdxj_keys.proofs.PlainKeys.{plain_key_of}
 use Rattle.cdxj_keys.proofs.key.url_key.Goals as goal
 

@@ -1,4 +1,4 @@
-use Rattle.std.proofs.Common.{arith, ◌+◌}
+use Rattle.std.proofs.Common.{arith}
 use Rattle.std.proofs.lemmas.List.{take_rest}
 use Rattle.cdxj_keys.proofs.PlainTails.{path_alone, path_and_query}
 use Rattle.cdxj_keys.proofs.plain_url.is_plain_tail.Goals as goal

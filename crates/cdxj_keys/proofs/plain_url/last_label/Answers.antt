@@ -1,4 +1,4 @@
-use Rattle.std.proofs.Common.{arith, ◌+◌, ◌<◌, ◌∙◌}
+use Rattle.std.proofs.Common.{arith}
 use Rattle.std.proofs.lemmas.List.{take_rest}
 use Rattle.cdxj_keys.proofs.PlainHosts.{lone_label, label_behind}
 use Rattle.cdxj_keys.proofs.plain_url.last_label.Goals as goal

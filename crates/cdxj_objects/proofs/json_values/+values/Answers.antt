@@ -1,18 +1,20 @@
-use Rattle.std.proofs.Common.{◌≡◌, ◌-◌, ◌<◌, ◌∷◌, length, Some, None, refl, ◌∙◌, arith}
-use Rattle.json.specs.Json.{after_end_array, read_key, value}
+use Rattle.std.proofs.Common.{◌≡◌, ◌-◌, ◌<◌, length, Some, None, refl, arith}
+use Rattle.json.specs.Json.{after_end_array, read_key}
 use Rattle.json.proofs.Grammar.{value_is, read_key-shorter}
-use Rattle.serde_json.specs.Data.{no_members, put}
+use Rattle.serde_json.specs.Data.{no_members}
 use Rattle.cdxj_objects.specs.FoundViews.{value_view}
-use Rattle.cdxj_objects.proofs.JsonReading.{read_nothing, read_string, read_number, read_boolean, read_null, read_array}
+use Rattle.cdxj_objects.proofs.JsonReading.{read_nothing, read_number, read_null}
 use Rattle.cdxj_objects.proofs.JsonReading.{read_object, no_array, no_object, item_passed, item_not_passed, items_end}
-use Rattle.cdxj_objects.proofs.JsonReading.{member_put, no_member, no_key, members_end}
+use Rattle.cdxj_objects.proofs.JsonReading.{member_put, no_member, members_end}
 use Rattle.cdxj_objects.proofs.json_values.+values.Goals as goal
+use Rattle.json.proofs.Grammar.{value-begin_array}
+use Rattle.json.proofs.Grammar.{members_no_key}
 
 pub read_value-returns-in_err-token-clause-value : goal.read_value-returns-in_err-token-clause-value
 read_value-returns-in_err-token-clause-value t c = grind (arith, read_nothing)
 
 pub read_value-returns-in-String-clause-value : goal.read_value-returns-in-String-clause-value
-read_value-returns-in-String-clause-value t c = grind (arith, read_string)
+read_value-returns-in-String-clause-value t c = grind (arith, value_is)
 
 pub read_value-returns-in-Some-clause-value : goal.read_value-returns-in-Some-clause-value
 read_value-returns-in-Some-clause-value t c = grind (arith, read_number)
@@ -21,7 +23,7 @@ pub read_value-returns-in-None-clause-value : goal.read_value-returns-in-None-cl
 read_value-returns-in-None-clause-value t c = grind (arith, read_number)
 
 pub read_value-returns-in-Bool-clause-value : goal.read_value-returns-in-Bool-clause-value
-read_value-returns-in-Bool-clause-value t c = grind (arith, read_boolean)
+read_value-returns-in-Bool-clause-value t c = grind (arith, value_is)
 
 pub read_value-returns-in-Null-clause-value : goal.read_value-returns-in-Null-clause-value
 read_value-returns-in-Null-clause-value t c = grind (arith, read_null)
@@ -37,11 +39,11 @@ read_value-returns-then-depth-eq0-2-clause-value t c = grind (arith, no_object)
 
 pub read_value-returns-in_err-pass_items-in-BeginArray-clause-value :
     goal.read_value-returns-in_err-pass_items-in-BeginArray-clause-value
-read_value-returns-in_err-pass_items-in-BeginArray-clause-value t c = grind (arith, read_array)
+read_value-returns-in_err-pass_items-in-BeginArray-clause-value t c = grind (arith, value-begin_array)
 
 pub read_value-returns-in_ok-pass_items-in-BeginArray-clause-value :
     goal.read_value-returns-in_ok-pass_items-in-BeginArray-clause-value
-read_value-returns-in_ok-pass_items-in-BeginArray-clause-value t c = grind (arith, read_array)
+read_value-returns-in_ok-pass_items-in-BeginArray-clause-value t c = grind (arith, value-begin_array)
 
 pub read_value-returns-in_err-pass_members-in-BeginObject-clause-value :
     goal.read_value-returns-in_err-pass_members-in-BeginObject-clause-value
@@ -50,9 +52,6 @@ read_value-returns-in_err-pass_members-in-BeginObject-clause-value t c = grind (
 pub read_value-returns-in_ok-pass_members-in-BeginObject-clause-value :
     goal.read_value-returns-in_ok-pass_members-in-BeginObject-clause-value
 read_value-returns-in_ok-pass_members-in-BeginObject-clause-value t c = grind (arith, read_object)
-
-pub pass_items-items-init : goal.pass_items-items-init
-pass_items-items-init t c = grind arith
 
 pub pass_items-returns-in_err-read_value-clause-value : goal.pass_items-returns-in_err-read_value-clause-value
 pass_items-returns-in_err-read_value-clause-value t c = grind (arith, item_not_passed)
@@ -67,22 +66,18 @@ pass_items-items-preserved t c =
     let less : length r < length l.reader = rw (← going.1) done.shorter in (
       n - 1,
       omega (arith, l.invariant.1),
-      l.invariant.2 ∙ item_passed c.args.depth n l.reader r (value_view c.in_ok-read_value.field-0)
-          (omega (arith, l.invariant.1)) going.0 (rw (← going.1) done.value),
+      grind (arith, item_passed),
       omega (arith, l.invariant.3),
     )
 
 pub pass_items-returns-clause-value : goal.pass_items-returns-clause-value
 pass_items-returns-clause-value t c = grind (arith, items_end)
 
-pub pass_items-returns-clause-shorter : goal.pass_items-returns-clause-shorter
-pass_items-returns-clause-shorter t c = grind arith
-
 pub pass_members-members-init : goal.pass_members-members-init
 pass_members-members-init t c = (length c.args.reader.now, no_members, omega arith, refl, omega arith)
 
 pub pass_members-returns-in_err-_name-clause-value : goal.pass_members-returns-in_err-_name-clause-value
-pass_members-returns-in_err-_name-clause-value t c = grind (arith, no_key)
+pass_members-returns-in_err-_name-clause-value t c = grind (arith, members_no_key)
 
 pub pass_members-returns-in_err-read_value-clause-value : goal.pass_members-returns-in_err-read_value-clause-value
 pass_members-returns-in_err-read_value-clause-value t c = grind (arith, no_member)
@@ -97,18 +92,8 @@ pass_members-members-preserved t c =
     let done = c.in_ok-read_value.ensures in
     let r = c.read_value.new.reader in
     let less = read_key-shorter l.reader (Some k) s named in
-    let lesser = done.shorter in
     let one = member_put c.args.depth n l.invariant.1 k l.reader s r (value_view c.in_ok-read_value.field-0)
-    (omega (arith, l.invariant.2)) named done.value in (
-      n - 1,
-      put k one.0 l.invariant.1,
-      omega (arith, l.invariant.2),
-      l.invariant.3 ∙ one.2,
-      omega (arith, l.invariant.4),
-    )
+    (omega (arith, l.invariant.2)) named done.value in grind arith
 
 pub pass_members-returns-clause-value : goal.pass_members-returns-clause-value
 pass_members-returns-clause-value t c = grind (arith, members_end)
-
-pub pass_members-returns-clause-shorter : goal.pass_members-returns-clause-shorter
-pass_members-returns-clause-shorter t c = grind arith

@@ -1,5 +1,5 @@
-use Rattle.std.proofs.Common.{◌≡◌, ◌++◌, ◌∷◌, take, get_or, sym, ap, ◌∙◌, arith}
-use Rattle.std.specs.List.{list_all, prefix_len}
+use Rattle.std.proofs.Common.{◌≡◌, ◌++◌, ◌∷◌, take, get_or, sym, ◌∙◌, arith}
+use Rattle.std.specs.List.{prefix_len}
 use Rattle.std.proofs.lemmas.List.Sums.{prefix_len_stops}
 use Rattle.std.proofs.lemmas.Str.{IsCharBoundary-after_ascii}
 use Rattle.cdxj_objects.specs.Plain.{is_other}
@@ -27,9 +27,8 @@ returns-then-end-text c =
     let here = (goal.at.returns-then-end-text c).Then-end-text in
     let text = c.args.text.now in
     let end = c.length_before-end.result in
-    let front : c.range.result.now ≡ take end text = c.range.ensures.value ∙ ap (λ n. take n text) (omega arith) in
+    let front : c.range.result.now ≡ take end text = grind arith in
     let back = c.range_from.ensures.value in (
       cut_at text end c.if-end-text.true ∙ (λ i. sym front i ++ byte_at here i ∷ sym back i),
-      ap (list_all (is_other c.args.byte)) (front ∙ ap (λ n. take n text) (length_is here))
-          ∙ front_passes (is_other c.args.byte) text,
+      grind (arith, length_is, front_passes),
     )

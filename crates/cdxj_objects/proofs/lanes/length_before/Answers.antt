@@ -26,7 +26,7 @@ by_lanes-preserved c =
     ) in
     let cut = ap (prefix_len other) (chunk-drop end 16 bytes) ∙ prefix_len-append other lanes (drop (end + 16) bytes)
     ∙ cond-true _ _ _ (eq-eqb _ _ whole) in
-    (room, omega (arith, cut, all, c.by_lanes.invariant.1))
+    grind arith
 
 pub returns-then-bytes-ge-LANES : goal.returns-then-bytes-ge-LANES
 returns-then-bytes-ge-LANES c =

@@ -1,4 +1,4 @@
-use Rattle.std.proofs.Common.{arith, ◌≡◌, ◌∙◌}
+use Rattle.std.proofs.Common.{arith}
 use Rattle.cdxj_objects.proofs.NumberTexts.{negative_number, unsigned_number}
 use Rattle.cdxj_objects.proofs.member_value.number_value.Goals as goal
 

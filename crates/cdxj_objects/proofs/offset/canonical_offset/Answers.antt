@@ -1,4 +1,4 @@
-use Rattle.std.proofs.Common.{◌∙◌, arith}
+use Rattle.std.proofs.Common.{arith}
 use Rattle.cdxj_objects.proofs.PlainLaw.{canonical_decimal}
 use Rattle.cdxj_objects.proofs.offset.canonical_offset.Goals as goal
 

@@ -1,4 +1,4 @@
-use Rattle.std.proofs.Common.{◌∙◌, arith}
+use Rattle.std.proofs.Common.{arith}
 use Rattle.cdxj_objects.proofs.SpellingLemmas.{number_stands}
 use Rattle.cdxj_objects.proofs.spelling.number_text.Goals as goal
 

@@ -1,4 +1,4 @@
-use Rattle.std.proofs.Common.{arith, ◌∙◌, ◌++◌}
+use Rattle.std.proofs.Common.{arith}
 use Rattle.cdxj_places.proofs.Abbreviations.{padded_copied}
 use Rattle.cdxj_places.proofs.abbreviation.abbreviated.Goals as goal
 

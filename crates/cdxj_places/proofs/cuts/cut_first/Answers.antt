@@ -1,4 +1,4 @@
-use Rattle.std.proofs.Common.{◌≡◌, ◌+◌, ◌<◌, length, get_or, ap, ◌∙◌, arith}
+use Rattle.std.proofs.Common.{arith}
 use Rattle.std.proofs.lemmas.Str.{IsCharBoundary-after_ascii}
 use Rattle.std.proofs.lemmas.List.{take_all, drop_all}
 use Rattle.cdxj_places.proofs.Found.{first_byte_at, first_byte_none}
@@ -7,13 +7,7 @@ use Rattle.cdxj_places.proofs.cuts.cut_first.Goals as goal
 pub range_from-requires : goal.range_from-requires
 range_from-requires c =
     let at = c.in-Some.at in
-    let within : at < length c.args.text.now = omega (
-      arith,
-      c.in-Some.ensures.0.high,
-      ap length c.as_bytes.ensures.value,
-    ) in
-    let space : get_or c.args.text.now at 0 ≡ 32 = grind arith in
-    λ some. IsCharBoundary-after_ascii c.args.text.now at c.utf8.text within (omega (arith, space))
+    grind (arith, IsCharBoundary-after_ascii)
 
 pub returns : goal.returns
 returns c = grind (arith, first_byte_at)

@@ -35,7 +35,7 @@ returns-in_default-filename c =
     let here = goal.at.returns-in_default-filename c in
     refused here.In_ok-found
     (line_found key stamp c.cut_first-2.result.1.now found (found_is here.In-Some) ∙ no_filename key stamp found
-    (sym c.in_default-filename.ensures.value))
+    (grind arith))
 
 pub returns-in_default-offset : goal.returns-in_default-offset
 returns-in_default-offset c =
@@ -45,7 +45,7 @@ returns-in_default-offset c =
     let here = goal.at.returns-in_default-offset c in
     refused here.In_ok-found
     (line_found key stamp c.cut_first-2.result.1.now found (found_is here.In-Some) ∙ no_offset key stamp found
-    (sym c.in_default-offset.ensures.value))
+    (grind arith))
 
 kept : (c : In_ok-text) → IsKept LINE_LIMIT (string_bytes c.in_ok-text.text) (record {
   size = length c.in-Ok.body.now;

@@ -1,4 +1,4 @@
-use Rattle.std.proofs.Common.{◌≡◌, ◌+◌, ◌<◌, length, refl, ◌∙◌, arith}
+use Rattle.std.proofs.Common.{◌≡◌, ◌+◌, ◌<◌, length, refl, arith}
 use Rattle.std.proofs.lemmas.Grind.{common_steps}
 use Rattle.cdxj_objects.specs.MemberViews.{borrowed_view}
 use Rattle.cdxj_objects.specs.Plain.{values_of_texts}
@@ -6,12 +6,12 @@ use Rattle.cdxj_core.specs.declared.limit.TheConstants.{LINE_LIMIT}
 use Rattle.cdxj_core.specs.KeptLine.{IsKept}
 use Rattle.cdxj_core.specs.Lines.{line_value}
 use Rattle.cdxj_core.proofs.KeptLemmas.{kept_in, plain_kept}
-use Rattle.cdxj_core.proofs.UnescapedAscii.{unescaped_only}
 use Rattle.cdxj_core.proofs.line_parts.LineParts.read.Goals.{After-of}
 use Rattle.cdxj_core.proofs.line_parts.LineParts.read.Goals as goal
+use Rattle.cdxj_objects.proofs.PlainBytes.{weaker}
 
 pub unescaped_texts-requires : goal.unescaped_texts-requires
-unescaped_texts-requires c = grind (arith, common_steps, unescaped_only)
+unescaped_texts-requires c = grind (arith, common_steps, weaker)
 
 kept : (c : After-of) → IsKept LINE_LIMIT c.in_ok-text.text.now (record {
   size = length c.in_ok-text.text.now;

@@ -1,4 +1,4 @@
-use Rattle.std.proofs.Common.{◌≡◌, ◌∷◌, ◌∙◌, arith}
+use Rattle.std.proofs.Common.{arith}
 use Rattle.cdxj_objects.proofs.FoundLaw.{no_brace, object_ended, object_and_more, object_refused}
 use Rattle.cdxj_objects.proofs.found_members.FoundMembers.of_tokens.Goals as goal
 use Rattle.cdxj_objects.proofs.found_members.FoundMembers.of_tokens.Goals.{in_default-via-in-Some+in_default}

@@ -2,17 +2,18 @@ use Rattle.std.proofs.Common.{◌≡◌, ◌-◌, length, Some, None, sym, ap, �
 use Rattle.json.specs.Json.{read_key, parse_map}
 use Rattle.json.proofs.Grammar.{read_key-shorter}
 use Rattle.serde_json.specs.Data.{no_members, put}
-use Rattle.cdxj_objects.specs.FoundMembers.{member_data, found_of, with_member}
-use Rattle.cdxj_objects.specs.FoundViews.{value_view, found_view}
-use Rattle.cdxj_objects.proofs.JsonReading.{member_put, no_member, no_key, members_end}
+use Rattle.cdxj_objects.specs.FoundMembers.{found_of}
+use Rattle.cdxj_objects.specs.FoundViews.{value_view}
+use Rattle.cdxj_objects.proofs.JsonReading.{member_put, no_member, members_end}
 use Rattle.cdxj_objects.proofs.FoundLaw.{found_put}
 use Rattle.cdxj_objects.proofs.found_members.FoundMembers.read.Goals as goal
+use Rattle.json.proofs.Grammar.{members_no_key}
 
 pub members-init : goal.members-init
 members-init c = (length c.args.reader.now, no_members, omega arith, refl, c.none-found.ensures)
 
 pub returns-in_err-name : goal.returns-in_err-name
-returns-in_err-name c = grind (arith, no_key)
+returns-in_err-name c = grind (arith, members_no_key)
 
 pub returns-in_err-value : goal.returns-in_err-value
 returns-in_err-value c = grind (arith, no_member)
@@ -27,15 +28,13 @@ members-preserved c =
     let done = c.in_ok-value.ensures in
     let r = c.read_value.new.reader in
     let less = read_key-shorter l.reader (Some k) s named in
-    let lesser = done.shorter in
     let one = member_put 126 n l.invariant.1 k l.reader s r (value_view c.in_ok-value.value)
     (omega (arith, l.invariant.2)) named done.value in (
       n - 1,
       put k one.0 l.invariant.1,
       omega (arith, l.invariant.2),
       l.invariant.3 ∙ one.2,
-      c.put.ensures ∙ ap (λ v. with_member k v (found_view l.found)) (sym one.1)
-          ∙ ap (with_member k (member_data one.0)) l.invariant.4 ∙ sym (found_put k one.0 l.invariant.1),
+      grind (arith, found_put),
     )
 
 pub returns : goal.returns
