@@ -1,11 +1,11 @@
 -- Hidden bytes, counted by vectors.
-use Rattle.std.proofs.Common.{◌≡◌, ◌∙◌, ℕ, ◌+◌, ◌-◌, ◌≤◌, ◌<◌, ◌%◌, ◌^◌, ◌||◌, Bool, false, cond, List, [], ◌∷◌, ◌++◌}
+use Rattle.std.proofs.Common.{◌≡◌, ◌∙◌, ℕ, ◌+◌, ◌-◌, ◌≤◌, ◌<◌, ◌%◌, ◌^◌, Bool, false, cond, List, [], ◌∷◌, ◌++◌}
 use Rattle.std.proofs.Common.{map, length, take, drop, eqb, leb, bit_or, count_ones, flat_map, refl, ap, length-append}
 use Rattle.std.proofs.Common.{arith}
 use Rattle.std.specs.List.{count_by, join_by}
 use Rattle.std.proofs.lemmas.List.{length-map, take_all}
 use Rattle.std.proofs.lemmas.List.Sums.{sum_by-append, sum_by-cons}
-use Rattle.std.proofs.Math.Seq.{take-append_seam, drop-append_seam}
+use Rattle.std.proofs.Math.Seq.{drop-append_seam}
 use Rattle.std.proofs.lemmas.Simd.{map-map, mask_l-mod, ones-mask_l}
 use lib.Lanes.{mask_l, top}
 use Rattle.page_core.specs.Rows.{is_hidden, escaped}
@@ -15,8 +15,7 @@ abbrev pub lane : ℕ → ℕ
 lane x = bit_or (cond (leb x 32) 255 0) (cond (eqb x 127) 255 0)
 
 tops_all : (v : List ℕ) → map (λ x. top 7 (lane x)) v ≡ map is_hidden v
-tops_all [] = refl
-tops_all (x ∷ v) = grind arith
+tops_all v = grind arith
 
 pub lanes_counted : (v z : List ℕ) → length v ≡ 16 → z ≡ map lane v → count_ones (mask_l (map (top 7) z) % 2 ^ 64) ≡
     count_by is_hidden v
@@ -26,10 +25,6 @@ lanes_counted v z long e =
     ∙ ones-mask_l is_hidden v
 
 -- ---- rows that are written as their values stand
-
--- what was appended after this many bytes is taken off again
-pub taken_off : (old row : List ℕ) (n : ℕ) → n ≡ length old → take n (old ++ row) ≡ old
-taken_off old row n e = grind (arith, take-append_seam)
 
 -- what was appended after this many bytes, as a part of the text
 pub appended : (old row text : List ℕ) (n : ℕ) → n ≡ length old → text ≡ old ++ row → take (length text - n)

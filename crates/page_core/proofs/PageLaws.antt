@@ -41,8 +41,7 @@ module _ {X P : Type 0} (place : X → P) (R : P → P → Ordering) (same : P �
 
   pub above_trans : (x : X) (m : X) (p : Option P) → is_above place R p m ≡ true → is_above place R (Some (place m)) x ≡
       true → is_above place R p x ≡ true
-  above_trans x m None h k = refl
-  above_trans x m (Some p) h k = grind arith
+  above_trans x m p h k = grind arith
 
   -- what is above the one is not below it
   pub above_not_below : (x m : X) → is_above place R (Some (place x)) m ≡ true → is_above place R (Some (place m)) x ≡
@@ -78,7 +77,7 @@ module _ {X P : Type 0} (place : X → P) (R : P → P → Ordering) (same : P �
       | inr
           j ↦ in_filter f m xs j
     ]
-    | inr e ↦ in_filter f m xs (subst (λ b. IsIn m (cond b (x ∷ filter f xs) (filter f xs))) e i)
+    | inr e ↦ in_filter f m xs (grind arith)
   ]
 
   -- The members above one that is kept, collapsed from it on, are those that were kept above it
@@ -100,8 +99,7 @@ module _ {X P : Type 0} (place : X → P) (R : P → P → Ordering) (same : P �
       filter (is_above place R (Some (place m))) (x ∷ kept place same (Some (place x)) xs) =
       λ e. subst (λ (m : X). kept place same (Some (place m)) (filter (is_above place R (Some (place m))) (x ∷ xs)) ≡
       filter (is_above place R (Some (place m))) (x ∷ kept place same (Some (place x)) xs)) e
-      (ap (kept place same (Some (place x))) (cond-false _ _ _ (above_itself x) ∙ filter_all _ xs h.0)
-      ∙ sym (cond-false _ _ _ (above_itself x) ∙ filter_all _ _ (each_kept _ (Some (place x)) xs h.0))) in
+      (grind (arith, cond-false, above_itself, filter_all, each_kept)) in
       grind arith
 
   -- The law of collapsing: it goes on from each of its members as it began
@@ -116,8 +114,7 @@ module _ {X P : Type 0} (place : X → P) (R : P → P → Ordering) (same : P �
   all_taken : (n : ℕ) (c : List X) → 0 < n → next_after place n c ≡ None → take n c ≡ c
   all_taken zero c z h = absurd (omega arith)
   all_taken (suc n) [] z h = refl
-  all_taken (suc zero) (x ∷ []) z h = refl
-  all_taken (suc zero) (x ∷ y ∷ ys) z h = cc
+  all_taken (suc zero) c z h = grind arith
   all_taken (suc (suc n)) (x ∷ xs) z h = ap (λ t. x ∷ t) (all_taken (suc n) xs (omega arith) h)
 
   -- where one follows, it is that of a member, the page is full, and the members above it are the rest
@@ -126,19 +123,14 @@ module _ {X P : Type 0} (place : X → P) (R : P → P → Ordering) (same : P �
       × (filter (is_above place R (Some (place m))) c ≡ drop n c)
   split_there zero c q r h = cc
   split_there (suc n) [] q r h = cc
-  split_there (suc zero) (x ∷ []) q r h = cc
-  split_there (suc zero) (x ∷ y ∷ ys) q r h = grind (arith, filter_all)
+  split_there (suc zero) c q r h = grind (arith, filter_all)
   split_there (suc (suc n)) (x ∷ xs) q r h = grind (arith, above_not_below, each_at, split_there (suc n) xs q r.1 h)
 
   first_positive : (sizes : List ℕ) → AllPositive sizes → 0 < first_size sizes
-  first_positive [] h = absurd h
-  first_positive (n ∷ []) h = h
-  first_positive (n ∷ m ∷ ms) h = h.0
+  first_positive sizes h = grind arith
 
   later_positive : (sizes : List ℕ) → AllPositive sizes → AllPositive (later_sizes sizes)
-  later_positive [] h = h
-  later_positive (n ∷ []) h = h
-  later_positive (n ∷ m ∷ ms) h = h.1
+  later_positive sizes h = grind arith
 
   pub chain_law : (l : List X) (p : Option P) (sizes : List ℕ) (pages : List (Page X P)) → Rises place R l
       → AllPositive sizes
@@ -147,7 +139,6 @@ module _ {X P : Type 0} (place : X → P) (R : P → P → Ordering) (same : P �
   chain_law l p sizes [] r z h = absurd h
   chain_law l p sizes (page ∷ []) r z h = grind (arith, append-nil, all_taken)
   chain_law l p sizes (page ∷ other ∷ more) r z h =
-      let mem : page.members ≡ take (first_size sizes) (collapsed place R same l p) = ap (λ g. g.members) h.0 in
       let nx : page.next ≡ next_after place (first_size sizes) (collapsed place R same l p) = ap (λ g. g.next) h.0 in
       (elim page.next as (λ v. page.next ≡ v → MatchOption v (other ∷ more ≡ []) (λ q. IsChain place R same l (Some q)
       (later_sizes sizes) (other ∷ more)) → (page.members ++ flat_map (λ (g : Page X P). g.members) (other ∷ more) ≡
@@ -158,11 +149,7 @@ module _ {X P : Type 0} (place : X → P) (R : P → P → Ordering) (same : P �
             let s = split_there (first_size sizes) (collapsed place R same l p) q (rises_collapsed l p r)
             (sym nx ∙ e) in
             let ih = chain_law l (Some q) (later_sizes sizes) (other ∷ more) r (later_positive sizes z) k in
-            let over : collapsed place R same l (Some q) ≡ drop (first_size sizes) (collapsed place R same l p) =
-            ap (λ (q : P). collapsed place R same l (Some q)) (sym s.2) ∙ collapse_resumes l p s.0 r s.1 ∙ s.4 in (
-              ap₂ (λ a b. a ++ b) mem (ih.0 ∙ over) ∙ take-append-drop (first_size sizes) (collapsed place R same l p),
-              (ap length mem ∙ s.3, ih.1),
-            ))
+            grind (arith, collapse_resumes, take-append-drop))
       ]) refl h.1
 
   -- there is a chain, and only one
@@ -196,7 +183,7 @@ module _ {X P : Type 0} (place : X → P) (R : P → P → Ordering) (same : P �
         | Some q ↦ (λ e.
             let s = split_there (first_size sizes) (collapsed place R same l p) q (rises_collapsed l p r) e in
             let over : collapsed place R same l (Some q) ≡ drop (first_size sizes) (collapsed place R same l p) =
-            ap (λ (q : P). collapsed place R same l (Some q)) (sym s.2) ∙ collapse_resumes l p s.0 r s.1 ∙ s.4 in
+            grind (arith, collapse_resumes) in
             let pos = first_positive sizes z in
             let len = ap length over ∙ length-drop (first_size sizes) (collapsed place R same l p) in
             let tk = sym s.3 ∙ length-take (first_size sizes) (collapsed place R same l p) in

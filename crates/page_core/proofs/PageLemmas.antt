@@ -1,5 +1,5 @@
 -- A page in the pieces in which it is written.
-use Rattle.std.proofs.Common.{arith, ◌≡◌, ℕ, List, [], ◌∷◌, ◌++◌, Option, map, refl, sym, ap, ◌∙◌, append_assoc}
+use Rattle.std.proofs.Common.{arith, ◌≡◌, ℕ, List, [], ◌∷◌, ◌++◌, Option, map, refl, sym, ap, append_assoc}
 use Rattle.std.proofs.Common.{append-nil, subst}
 use Rattle.std.proofs.lemmas.Grind.{common_steps}
 use Rattle.std.specs.Prelude.{flat_map}
@@ -7,7 +7,7 @@ use Rattle.std.proofs.lemmas.List.Concat.{flat_map-append}
 use Rattle.std.specs.Io.KnownBytes.{Appends}
 use Rattle.devices.specs.Device.{AppendsPrefix}
 use Rattle.cdxj_core.specs.Members.{Member}
-use Rattle.page_core.specs.Form.{FormValue, Text, Cdxj, Json}
+use Rattle.page_core.specs.Form.{FormValue, Text}
 use Rattle.page_core.specs.PageText.{page_text, page_start, row_text, page_end, begun, PageInPieces, BegunIsFront}
 use Rattle.devices.proofs.WritingLemmas.{prefix_longer, prefix_after}
 
@@ -18,8 +18,7 @@ flat_map-map f g (x ∷ xs) = ap (λ l. f (g x) ++ l) (flat_map-map f g xs)
 
 pub page_in_pieces : PageInPieces
 page_in_pieces (Text fields) members key = refl
-page_in_pieces Cdxj members key = refl
-page_in_pieces (Json fields) members key = grind (arith, flat_map-append, flat_map-map, append_assoc)
+page_in_pieces x0 members key = grind (arith, flat_map-append, flat_map-map, append_assoc)
 
 -- a capture more
 pub begun-more : (form : FormValue) (members : List Member) (m : Member) → begun form (members ++ m ∷ []) ≡ begun form

@@ -1,12 +1,12 @@
 -- A query text with a printed key is cut into its pieces again.
-use Rattle.std.proofs.Common.{◌≡◌, ℕ, ◌<◌, Bool, true, false, not, List, [], ◌∷◌, length, codes, refl, sym, ◌∙◌, arith}
-use Rattle.std.proofs.Common.{◌==◌, if◌then◌else◌}
+use Rattle.std.proofs.Common.{◌≡◌, ℕ, ◌<◌, Bool, true, false, not, List, [], ◌∷◌, length, codes, refl, arith}
+use Rattle.std.proofs.Common.{◌==◌}
 use Rattle.std.specs.List.{All, AllByRecursion, slice_split, onto_first, join_with_byte}
 use Rattle.std.proofs.lemmas.List.Elements.{All-weaker, All-append}
 use Rattle.std.proofs.lemmas.List.Sums.{AllPass-from_list_all}
 use Rattle.std.proofs.lemmas.List.Splits.{slice_split_none, slice_split_at}
 use Rattle.form_urlencoded.proofs.FormLemmas.{IsSerializedByte, All-byte_serialize}
-use Rattle.cdxj_places.specs.Places.{PlaceValue, place_text, resume_text}
+use Rattle.cdxj_places.specs.Places.{PlaceValue, resume_text}
 use Rattle.query_text.specs.Readings.{Text}
 use Rattle.query_text.specs.Resuming.{resume_piece, with_resume_key, IsCutWithKey}
 
@@ -35,14 +35,12 @@ named = All-weaker (λ b. not (b == 38) ≡ true) (λ b. (b == 38) ≡ false) (�
     (AllPass-from_list_all (λ b. not (b == 38)) (codes "resumeKey=") refl)
   where
     not_so : (b : Bool) → not b ≡ true → b ≡ false
-    not_so true h = sym h
-    not_so false h = refl
+    not_so b h = grind arith
 
 key_piece : (place : PlaceValue) → IsOnePiece (resume_piece (resume_text place))
 key_piece place =
     All-append (λ c. (c == 38) ≡ false) (codes "resumeKey=") (resume_text place) named
-    (All-weaker IsSerializedByte (λ c. (c == 38) ≡ false) serialized (resume_text place)
-    (All-byte_serialize (place_text place)))
+    (grind (arith, All-weaker, IsSerializedByte, serialized, All-byte_serialize))
 
 with_pieces : (key : Text) → IsOnePiece (resume_piece key) → (pieces : List Text) → AllByRecursion IsOnePiece pieces
     → AllByRecursion IsOnePiece (with_resume_key key pieces)

@@ -1,5 +1,5 @@
 -- The keys past a target's range are upward closed.
-use Rattle.std.proofs.Common.{◌≡◌, ℕ, ◌<◌, ◌⊎◌, ⊎_elim, true, false, ◌&&◌, List, [], ◌∷◌, nat_eq, bytes_eq, refl, sym}
+use Rattle.std.proofs.Common.{◌≡◌, ℕ, ◌<◌, ◌⊎◌, ⊎_elim, true, false, List, [], ◌∷◌, nat_eq, bytes_eq, refl, sym}
 use Rattle.std.proofs.Common.{◌∙◌, arith, rules, tests}
 use Rattle.std.specs.declared.cmp.Ordering.{Ordering}
 use Rattle.std.specs.Ordering.{nat_cmp, is_gt, ordering_then}
@@ -7,7 +7,7 @@ use Rattle.std.specs.Cmp.Lexicographic.{slice_cmp}
 use Rattle.std.proofs.lemmas.Slice.Eq.{bytes_eq-Decides}
 use Rattle.std.proofs.lemmas.Bool.{eq-eqb, eqb-true, and_parts, true≢false}
 use Rattle.query_text.specs.declared.target.MatchKind.{MatchKind}
-use Rattle.query_text.specs.declared.target.MatchKind.TheVariants.{Exact, Prefix, Host, Domain}
+use Rattle.query_text.specs.declared.target.MatchKind.TheVariants.{Exact}
 use Rattle.query_text.specs.Targets.{TargetValue}
 use Rattle.query_text.specs.Matching.{begins, kind_covers, covers, key_matches, is_past}
 
@@ -31,15 +31,13 @@ pub above_later : (front key later : List ℕ) → is_gt (slice_cmp nat_cmp key 
     → is_gt (slice_cmp nat_cmp key later) ≡ false
     → is_gt (slice_cmp nat_cmp later front) ≡ true
 above_later [] [] later above below = search (rules, tests)
-above_later [] (k ∷ key) [] above below = search (rules, tests)
-above_later [] (k ∷ key) (l ∷ later) above below = refl
+above_later [] (k ∷ key) later above below = grind (arith, tests)
 above_later (f ∷ front) [] later above below = search (rules, tests)
 above_later (f ∷ front) (k ∷ key) [] above below = search (rules, tests)
 above_later (f ∷ front) (k ∷ key) (l ∷ later) above below =
     let rest = slice_cmp nat_cmp later front in
     ⊎_elim
-    (λ p. ⊎_elim (λ q. above_now l f rest (omega (arith, p, q))) (λ q. above_now l f rest (omega (arith, p, q.0)))
-    (not_above_first k l _ below))
+    (λ p. grind (arith, ⊎_elim, above_now, not_above_first))
     (λ p. ⊎_elim (λ q. above_now l f rest (omega (arith, p.0, q)))
     (λ q. above_on l f rest (sym q.0 ∙ p.0) (above_later front key later p.1 q.1)) (not_above_first k l _ below))
     (above_first k f _ above)
@@ -69,15 +67,11 @@ not_above_itself (b ∷ bytes) = grind (arith, not_above_itself bytes)
 
 -- a front is not above what begins with it
 front_not_above : (front key : List ℕ) → begins front key ≡ true → is_gt (slice_cmp nat_cmp front key) ≡ false
-front_not_above [] [] starts = refl
-front_not_above [] (k ∷ key) starts = refl
+front_not_above [] key starts = grind arith
 front_not_above (f ∷ front) [] starts = search (rules, tests)
 front_not_above (f ∷ front) (k ∷ key) starts =
     let parts : (nat_eq f k ≡ true) × (begins front key ≡ true) = search (rules, tests) in
     grind (arith, front_not_above front key parts.1)
-
-itself_not_above : (text key : List ℕ) → bytes_eq key text ≡ true → is_gt (slice_cmp nat_cmp text key) ≡ false
-itself_not_above text key same = grind (arith, bytes_eq-Decides, not_above_itself)
 
 -- the range covers no key above the text that is the only one it covers
 never_above : (text later : List ℕ) → is_gt (slice_cmp nat_cmp later text) ≡ true → bytes_eq later text ≡ true → ⊥
@@ -88,9 +82,7 @@ covers_back : (kind : MatchKind) (text key later : List ℕ) → is_gt (slice_cm
     → kind_covers kind text later ≡ true → kind_covers kind text key ≡ true
 covers_back Exact text key later above below covered = absurd
     (never_above text later (above_later text key later above below) covered)
-covers_back Prefix text key later above below covered = grind (arith, begins_between)
-covers_back Host text key later above below covered = grind (arith, begins_between)
-covers_back Domain text key later above below covered = grind (arith, begins_between)
+covers_back kind text key later above below covered = grind (arith, begins_between)
 
 -- the keys of a range are not below its target
 pub covered_not_below : (t : TargetValue) (key : List ℕ) → covers t key ≡ true → is_gt (slice_cmp nat_cmp t.text key)
@@ -98,10 +90,7 @@ pub covered_not_below : (t : TargetValue) (key : List ℕ) → covers t key ≡ 
 covered_not_below t key = by_kind t.kind
   where
     by_kind : (kind : MatchKind) → kind_covers kind t.text key ≡ true → is_gt (slice_cmp nat_cmp t.text key) ≡ false
-    by_kind Exact = itself_not_above t.text key
-    by_kind Prefix = front_not_above t.text key
-    by_kind Host = front_not_above t.text key
-    by_kind Domain = front_not_above t.text key
+    by_kind kind = grind (arith, bytes_eq-Decides, not_above_itself, front_not_above)
 
 pub match_covered : (t : TargetValue) (key : List ℕ) → key_matches t key ≡ true → covers t key ≡ true
 match_covered t key h = (and_parts _ _ h).0

@@ -1,5 +1,5 @@
 -- A query text with another resume key.
-use Rattle.std.proofs.Common.{◌≡◌, ℕ, ◌<◌, Bool, true, false, List, [], ◌∷◌, ◌++◌, length, codes, Option, None, Some}
+use Rattle.std.proofs.Common.{◌≡◌, ℕ, Bool, true, false, List, [], ◌∷◌, ◌++◌, length, codes, Option, None, Some}
 use Rattle.std.proofs.Common.{is_some, Ok, Err, refl, sym, ap, ◌∙◌, arith, nat_lt, ◌==◌, if◌then◌else◌}
 use Rattle.std.specs.List.{before_first, after_first}
 use Rattle.std.specs.Str.{IsUtf8}
@@ -13,7 +13,7 @@ use Rattle.query_text.specs.declared.parameter.Parameter.TheVariants as paramete
 use Rattle.query_text.specs.Readings.{Text, Read, and_then}
 use Rattle.query_text.specs.Parts.{is_equals, decoded}
 use Rattle.query_text.specs.ParameterNames.{parameter_named}
-use Rattle.query_text.specs.Values.{or_refused, resume_of}
+use Rattle.query_text.specs.Values.{resume_of}
 use Rattle.query_text.specs.Collapses.{collapse_of}
 use Rattle.query_text.specs.Parameters.{ParameterValues, no_values, with_parameter, with_piece, with_pieces, pieces_of}
 use Rattle.query_text.specs.Queries.{QueryValue, query_with}
@@ -31,13 +31,11 @@ all_at r a = and_then a (λ v. Ok (at r v))
 
 ifs_at : (r : Option PlaceValue) (b : Bool) (e : QueryFault) (x y : Read ParameterValues) → y ≡ all_at r x
     → (if b then Err e else y) ≡ all_at r (if b then Err e else x)
-ifs_at r true e x y h = refl
-ifs_at r false e x y h = h
+ifs_at r b e x y h = grind arith
 
 then_at : {T : Type 0} (r : Option PlaceValue) (m : Read T) (f g : T → ParameterValues) → ((x : T) → g x ≡ at r (f x))
     → and_then m (λ x. Ok (g x)) ≡ all_at r (and_then m (λ x. Ok (f x)))
-then_at r (Ok x) f g h = ap Ok (h x)
-then_at r (Err e) f g h = refl
+then_at r m f g h = grind arith
 
 parameter_at : (r : Option PlaceValue) (p : Parameter) (v : ParameterValues) (text : Text) → is_resume_key (Some p)
     ≡ false → with_parameter (Some p) (at r v) text ≡ all_at r (with_parameter (Some p) v text)
@@ -58,8 +56,7 @@ parameter_at r parameter.Collapse v text h = ifs_at r (is_some v.collapse) fault
 
 named_at : (r : Option PlaceValue) (p : Option Parameter) (v : ParameterValues) (text : Text) → is_resume_key p ≡ false
     → with_parameter p (at r v) text ≡ all_at r (with_parameter p v text)
-named_at r None v text h = refl
-named_at r (Some p) v text h = parameter_at r p v text h
+named_at r p v text h = grind (arith, parameter_at)
 
 -- the parameter of a piece
 abbrev piece_name : Text → Option Parameter
@@ -74,8 +71,7 @@ piece_at r v piece h = unless_empty (length piece == 0)
   where
     unless_empty : (b : Bool) (x y : Read ParameterValues) → y ≡ all_at r x → (if b then Ok (at r v) else y)
         ≡ all_at r (if b then Ok v else x)
-    unless_empty true x y e = refl
-    unless_empty false x y e = e
+    unless_empty b x y e = grind arith
 
 -- ---- the pieces
 
@@ -115,8 +111,7 @@ not_again r v w (b ∷ piece) h e = again (piece_name (b ∷ piece)) h (sym (fil
   where
     again : (p : Option Parameter) → is_resume_key p ≡ true
         → with_parameter p (at (Some r) v) (after_first is_equals (b ∷ piece)) ≡ Ok w → ⊥
-    again (Some parameter.ResumeKey) h e = grind arith
-    again p h e = true≢false (sym h)
+    again p h e = grind (arith, true≢false)
 
 -- after a resume key, the others read as they do after another one
 pieces_after : (a b : PlaceValue) (v w : ParameterValues) (pieces : List Text) → with_pieces (at (Some a) v) pieces
@@ -133,7 +128,7 @@ pieces_after a b v w (piece ∷ pieces) h =
           ≡ Ok (at (Some b) k.next) = piece_at (Some b) (at (Some a) v) piece e ∙ ap (all_at (Some b)) k.is in
           let same : at (Some a) k.next ≡ k.next = ap (λ r. at r k.next) (sym kept) in
           ap (λ m. and_then m (λ next. with_pieces next pieces)) here
-          ∙ pieces_after a b k.next w pieces (ap (λ x. with_pieces x pieces) same ∙ k.later))
+          ∙ pieces_after a b k.next w pieces (grind arith))
     ]) refl
 
 -- the key's piece is read
@@ -159,8 +154,7 @@ key_given v next (b ∷ piece) none h e = given (piece_name (b ∷ piece)) h (sy
   where
     given : (p : Option Parameter) → is_resume_key p ≡ true → with_parameter p v (after_first is_equals (b ∷ piece))
         ≡ Ok next → (place : PlaceValue) × (next ≡ at (Some place) v)
-    given (Some parameter.ResumeKey) h e = grind arith
-    given p h e = absurd (true≢false (sym h))
+    given p h e = grind (arith, true≢false)
 
 -- a resume key among the pieces, or after them
 pieces_with : (key : Text) (place : PlaceValue) → resume_of key ≡ Ok place
@@ -174,8 +168,7 @@ pieces_with key place e v w (piece ∷ pieces) none h =
     → with_pieces v (if x then resume_piece key ∷ pieces else piece ∷ with_resume_key key pieces)
     ≡ Ok (at (Some place) w)) [
       | true ↦ (λ f. ap (λ m. and_then m (λ next. with_pieces next pieces)) (key_read key place v none e)
-          ∙ (let given = key_given v k.next piece none f k.is in pieces_after given.0 place v w pieces
-          (ap (λ x. with_pieces x pieces) (sym given.1) ∙ k.later)))
+          ∙ (let given = key_given v k.next piece none f k.is in grind (arith, pieces_after, given)))
       | false ↦ (λ f. ap (λ m. and_then m (λ next. with_pieces next (with_resume_key key pieces))) k.is
           ∙ pieces_with key place e k.next w pieces (keeps_resume v k.next piece f k.is ∙ none) k.later)
     ]) refl
@@ -186,14 +179,13 @@ query_at : (place : PlaceValue) (w : ParameterValues) (query : QueryValue) → q
 query_at place w query h = grind arith
 
 not_refused : {T : Type 0} (b : Bool) (e : QueryFault) (m : Read T) (x : T) → (if b then Err e else m) ≡ Ok x → m ≡ Ok x
-not_refused true e m x h = grind arith
-not_refused false e m x h = h
+not_refused b e m x h = grind arith
 
 pub goes_on : GoesOn
 goes_on limit text new key query place meaning named short pieces =
-    let read : resume_of key ≡ Ok place = ap (or_refused (Err fault.BadResume)) named in
+    let read : resume_of key ≡ Ok place = grind arith in
     let k = went (with_pieces no_values (pieces_of text)) query_with query
-    (not_refused (nat_lt limit (length text)) fault.QueryTooLong _ query meaning) in
+    (grind (arith, not_refused)) in
     cond-false (nat_lt limit (length new)) _ _ (le-ltb limit (length new) short)
     ∙ ap (λ ps. and_then (with_pieces no_values ps) query_with) pieces
     ∙ ap (λ m. and_then m query_with) (pieces_with key place read no_values k.next (pieces_of text) refl k.is)

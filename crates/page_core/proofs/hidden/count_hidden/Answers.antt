@@ -1,4 +1,4 @@
-use Rattle.std.proofs.Common.{◌∙◌, ◌+◌, ◌≤◌, length, drop, ap, arith}
+use Rattle.std.proofs.Common.{◌∙◌, ◌+◌, drop, ap, arith}
 use Rattle.std.specs.List.{count_by}
 use Rattle.std.proofs.lemmas.List.Sums.{count_by-le-length, sum_by-append}
 use Rattle.std.proofs.lemmas.Simd.{chunk-drop, length-chunk}
@@ -14,10 +14,6 @@ by_lanes-preserved c =
     let bytes = c.args.bytes.now in
     let end = c.by_lanes.end in
     let lanes = chunk end 16 bytes in
-    let room : end + 16 ≤ length bytes = omega (arith, c.by_lanes.invariant.0, c.by_lanes-test.true) in
     let few = count_by-le-length is_hidden lanes in
-    let cut = ap (count_by is_hidden) (chunk-drop end 16 bytes) ∙ sum_by-append _ lanes (drop (end + 16) bytes) in (
-      room,
-      omega (arith, few, length-chunk end 16 bytes room, c.count_lanes-count.ensures, c.by_lanes.invariant.1),
-      omega (arith, cut, c.count_lanes-count.ensures, c.by_lanes.invariant.2),
-    )
+    let cut = ap (count_by is_hidden) (chunk-drop end 16 bytes) ∙
+    sum_by-append _ lanes (drop (end + 16) bytes) in grind (arith, length-chunk)

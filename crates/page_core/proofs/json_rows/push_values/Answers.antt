@@ -1,4 +1,4 @@
-use Rattle.std.proofs.Common.{arith, ◌≡◌, ◌∙◌, ◌++◌, ◌∷◌, [], ℕ, List, append_assoc}
+use Rattle.std.proofs.Common.{arith, ◌≡◌, ◌++◌, ◌∷◌, [], ℕ, List, append_assoc}
 use Rattle.page_core.proofs.JsonLemmas.{values_plain}
 use Rattle.page_core.proofs.json_rows.push_values.Goals as goal
 
