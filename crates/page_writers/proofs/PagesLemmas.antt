@@ -2,7 +2,7 @@
 use Rattle.std.proofs.Common.{ltb, ◌≡◌, inl, inr, ℕ, zero, suc, ◌+◌, ◌-◌, ◌^◌, ◌<◌, ◌≤◌, List, [], ◌∷◌, ◌++◌, length}
 use Rattle.std.proofs.Common.{take, drop, min, true, false, Option, None, Some, IfSome, option_map, refl, sym, ap, ◌∙◌}
 use Rattle.std.proofs.Common.{subst, arith, append_assoc, append-nil, length-append, length-drop, length-take}
-use Rattle.std.proofs.Common.{take-append-drop}
+use Rattle.std.proofs.Common.{take-append-drop, filter}
 use Rattle.std.specs.Io.KnownBytes.{Appends}
 use Rattle.std.proofs.lemmas.Bool.{ltb-true, ltb-false}
 use Rattle.std.specs.List.{AllByRecursion}
@@ -21,10 +21,11 @@ use Rattle.page_core.specs.PageText.{begun, page_start, page_end, row_text}
 use Rattle.page_core.proofs.PageLemmas.{begun-more, begun_is_front, page_in_pieces}
 use Rattle.page_writers.specs.QueryPages.{chain_text, form_of, shown_key}
 use Rattle.page_writers.specs.declared.selection.Selection.{Selection}
-use Rattle.page_writers.specs.PageWriting.{captures_over}
+use Rattle.page_writers.specs.PageWriting.{captures_over, is_wanted, place_before}
 use Rattle.page_writers.specs.WriterView.{IsFront, IsSame, captures_of, from_view}
 use Rattle.page_writers.specs.WrittenPages.{IsReadBack, pages_text}
 use Rattle.page_writers.specs.PagesWriting.{AreCut, HasNext, HasReadKey, PagesStand, last_of}
+use Rattle.page_writers.proofs.CaptureLemmas.{captures_append, kept_after}
 use Rattle.page_writers.proofs.SizeLemmas.{first_positive, later_positive}
 use Rattle.page_writers.proofs.WriterLemmas.{take_front}
 
@@ -296,26 +297,14 @@ module _ (q : QueryValue) (sizes : List ℕ) (c : List Member) (start now : Opti
           (prefix_after start now new before (page_end form None) s.text p),
     )
 
--- the same of a writer that kept these
-pub pages_kept : (q q' : QueryValue) (sizes : List ℕ) (c c' : List Member) (start now : Option (List ℕ))
-    (left left' : List ℕ) (given given' : ℕ) (last last' : Option PlaceValue) (count count' : ℕ)
-    → q' ≡ q → c' ≡ c → left' ≡ left → given' ≡ given → last' ≡ last → count' ≡ count
-    → (s : PagesStand q sizes c start now left given last count) × HasNext s.whole s.rows
-    → (s : PagesStand q' sizes c' start now left' given' last' count') × HasNext s.whole s.rows
-pages_kept q q' sizes c c' start now left left' given given' last last' count count' a b d e f h s =
-    subst (λ x. (s : PagesStand x sizes c' start now left' given' last' count') × HasNext s.whole s.rows) (sym a)
-    (subst (λ x. (s : PagesStand q sizes x start now left' given' last' count') × HasNext s.whole s.rows) (sym b)
-    (subst (λ x. (s : PagesStand q sizes c start now x given' last' count') × HasNext s.whole s.rows) (sym d)
-    (subst (λ x. (s : PagesStand q sizes c start now left x last' count') × HasNext s.whole s.rows) (sym e)
-    (subst (λ x. (s : PagesStand q sizes c start now left given x count') × HasNext s.whole s.rows) (sym f)
-    (subst (λ x. (s : PagesStand q sizes c start now left given last x) × HasNext s.whole s.rows) (sym h) s)))))
-
--- a front of more captures
-pub front_more : (q : QueryValue) (sizes : List ℕ) (c rest : List Member) (start now : Option (List ℕ))
-    → IsFront q sizes c start now → IsFront q sizes (c ++ rest) start now
-front_more q sizes c rest start now front later =
-    let found = front (rest ++ later) in
-    grind (arith, append_assoc)
+-- a front of the captures of more lines
+pub front_more : (q : QueryValue) (from : Option PlaceValue) (sizes : List ℕ) (taken rest : List Member)
+    (start now : Option (List ℕ))
+    → IsFront q sizes (captures_over q from taken) start now
+    → IsFront q sizes (captures_over q from (taken ++ rest)) start now
+front_more q from sizes taken rest start now front later =
+    let found = front (kept_after q from (place_before q from taken) (filter (is_wanted q from) rest) ++ later) in
+    grind (arith, append_assoc, captures_append)
 
 -- the same of a selection that kept its query and place
 pub front_as : (s first : Selection) (sizes : List ℕ) (taken : List Member) (start now : Option (List ℕ))

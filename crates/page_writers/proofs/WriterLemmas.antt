@@ -1,5 +1,5 @@
 -- A page by the lines that were taken for it.
-use Rattle.std.proofs.Common.{Result, Ok, Err, OnErr, ◌≡◌, ℕ, zero, suc, ◌+◌, ◌-◌, ◌^◌, ◌<◌, ◌≤◌, List, [], ◌∷◌, ◌++◌}
+use Rattle.std.proofs.Common.{◌≡◌, ℕ, zero, suc, ◌+◌, ◌-◌, ◌^◌, ◌<◌, ◌≤◌, List, [], ◌∷◌, ◌++◌}
 use Rattle.std.proofs.Common.{refl, sym, ap, ◌∙◌, subst, arith, Option, Some, None, Bool, true, false, filter, length}
 use Rattle.std.proofs.Common.{take, min, append-nil, length-append, length-take, ◌⊎◌, inl}
 use Rattle.std.specs.Option.{is_some}
@@ -91,29 +91,29 @@ below k n h f = grind arith
 
 -- ---- one line more
 
-module _ (form : FormValue) (limit : Option ℕ) (c : List Member) (start now : Option (List ℕ)) (given : ℕ) (more : Bool)
-    (last : Option PlaceValue) where
-  abbrev Stands : List Member → Option (List ℕ) → ℕ → Bool → Option PlaceValue → Type 0
-  Stands d now given more last = PageStands form limit d start now given more last
-
-  -- other captures with the same page
-  same_page : (d : List Member) → page limit d ≡ page limit c → last_place limit d ≡ last_place limit c
-      → Stands c now given more last → Stands d now given more last
-  same_page d e f s = grind arith
-
 at_end : (n : ℕ) (c vs : List Member) → n < length c → page (Some n) (c ++ vs) ≡ page (Some n) c
 at_end n c vs h = grind (arith, take-append-le, next_same)
 
 -- captures after a page that has its next
-pub after_end : (form : FormValue) (limit : Option ℕ) (c later : List Member) (start now : Option (List ℕ)) (given : ℕ)
+after_end : (form : FormValue) (limit : Option ℕ) (c later : List Member) (start now : Option (List ℕ)) (given : ℕ)
     (more : Bool) (last : Option PlaceValue)
     → more ≡ true → PageStands form limit c start now given more last
     → PageStands form limit (c ++ later) start now given more last
 after_end form None c later start now given more last h s = absurd (true≢false (sym h ∙ s.more_is))
 after_end form (Some n) c later start now given more last h s =
     let beyond : n < length c = next_some n c (sym s.more_is ∙ h) in
-    same_page form (Some n) c start now given more last (c ++ later) (at_end n c later beyond)
-    (place_same n c later (omega (arith, beyond))) s
+    let page_is = at_end n c later beyond in
+    let place_is : place_at n (c ++ later) ≡ place_at n c = place_same n c later (omega arith) in
+    grind arith
+
+-- lines after it
+pub after_taken : (form : FormValue) (q : QueryValue) (from : Option PlaceValue) (limit : Option ℕ)
+    (taken later : List Member) (start now : Option (List ℕ)) (given : ℕ) (more : Bool) (last : Option PlaceValue)
+    → more ≡ true → PageStands form limit (captures_over q from taken) start now given more last
+    → PageStands form limit (captures_over q from (taken ++ later)) start now given more last
+after_taken form q from limit taken later start now given more last h s =
+    rw (captures_append q from taken later) (after_end form limit (captures_over q from taken) _ start now given more
+    last h s)
 
 -- where a page is full and has no next yet, its last is the n-th
 full_is : (n : ℕ) (c : List Member) (given : ℕ) → is_full (Some n) given ≡ true → given
@@ -162,13 +162,6 @@ pub nothing_taken : (form : FormValue) (limit : Option ℕ) (start now : Option 
 nothing_taken form None start now a = grind (arith, written-start)
 nothing_taken form (Some zero) start now a = grind (arith, written-start)
 nothing_taken form (Some (suc n)) start now a = grind (arith, written-start)
-
--- the same, of a writer that kept these
-pub as_kept : (form form' : FormValue) (limit limit' : Option ℕ) (c c' : List Member) (start now : Option (List ℕ))
-    (given given' : ℕ) (more more' : Bool) (last last' : Option PlaceValue)
-    → form' ≡ form → limit' ≡ limit → c' ≡ c → given' ≡ given → more' ≡ more → last' ≡ last
-    → PageStands form limit c start now given more last → PageStands form' limit' c' start now given' more' last'
-as_kept form form' limit limit' c c' start now given given' more more' last last' a b d e f h s = grind arith
 
 -- ---- after a fault
 
@@ -243,10 +236,6 @@ next_is (Some n) c true last h k = k ∙ sym (next_last n c (sym h))
 next_is (Some n) c false last h k = none_is (next n c) (sym h)
 
 -- ---- answers
-
-pub on_err : {A E : Type 0} (r : Result A E) (e : E) (P : Type 0) → r ≡ Err e → P → OnErr r P
-on_err (Ok x) e P h p = cc
-on_err (Err x) e P h p = p
 
 pub broke_as : (q q' : QueryValue) (from from' : Option PlaceValue) (limit limit' : Option ℕ) (taken : List Member)
     (start now : Option (List ℕ)) → q ≡ q' → from ≡ from' → limit ≡ limit'

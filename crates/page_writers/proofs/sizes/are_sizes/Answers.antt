@@ -1,4 +1,4 @@
-use Rattle.std.proofs.Common.{arith, ◌≡◌}
+use Rattle.std.proofs.Common.{arith}
 use Rattle.page_writers.proofs.SizeLemmas.{all_positive}
 use Rattle.page_writers.proofs.sizes.are_sizes.Goals as goal
 

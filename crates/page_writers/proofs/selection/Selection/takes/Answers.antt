@@ -1,4 +1,4 @@
-use Rattle.std.proofs.Common.{arith, ◌≡◌, ◌++◌, ◌∷◌, ◌∙◌}
+use Rattle.std.proofs.Common.{arith}
 use Rattle.page_writers.proofs.CaptureLemmas.{repeated_compares, repeated_is_none, capture_compares, capture_is_one}
 use Rattle.page_writers.proofs.selection.Selection.takes.Goals as goal
 
