@@ -32,7 +32,7 @@ same_part_after (Some by) (Some p) m h = grind (arith, bytes_eq-Decides)
 
 -- ---- the captures of more lines
 
-end_last : (p : Option PlaceValue) (us : List Member) (m : Member) → end_place member_place p (us ++ m ∷ [])
+pub end_last : (p : Option PlaceValue) (us : List Member) (m : Member) → end_place member_place p (us ++ m ∷ [])
     ≡ Some (member_place m)
 end_last p [] m = refl
 end_last p (u ∷ us) m = end_last (Some (member_place u)) us m

@@ -1,6 +1,6 @@
 -- The pages of a query, by how its captures are cut.
-use Rattle.std.proofs.Common.{◌≡◌, ℕ, zero, suc, ◌<◌, ◌≤◌, List, [], ◌∷◌, ◌++◌, length, take, drop, Bool, Option, None}
-use Rattle.std.proofs.Common.{Some, MatchOption, refl, sym, ap, ◌∙◌, subst, arith}
+use Rattle.std.proofs.Common.{◌≡◌, ℕ, List, [], ◌∷◌, ◌++◌, take, drop, Bool, Option, None}
+use Rattle.std.proofs.Common.{Some, sym, ap, ◌∙◌, subst, arith}
 use Rattle.cdxj_places.specs.Places.{PlaceValue, place_cmp}
 use Rattle.cdxj_places.specs.Rising.{Rises}
 use Rattle.cdxj_places.proofs.PlaceOrder.{place_cmp_total}
@@ -16,27 +16,11 @@ use Rattle.page_writers.specs.PagesWriting.{AreCut}
 use Rattle.page_writers.specs.WrittenPages.{WrotePages, WrotePagesInPart}
 use Rattle.page_writers.specs.WriterView.{IsFront}
 use Rattle.page_writers.proofs.PageKeys.{keys_but_last, one_empty}
-use Rattle.page_writers.proofs.CaptureLemmas.{filter_and}
+use Rattle.page_writers.proofs.CaptureLemmas.{end_last, filter_and}
 use Rattle.page_writers.proofs.PagesLemmas.{Ended, EndedInPart, Pages, cut_there}
+use Rattle.page_writers.proofs.WriterLemmas.{ends_at, next_place, next_short}
+use Rattle.std.proofs.lemmas.List.{take_all}
 use Rattle.page_writers.proofs.SizeLemmas.{first_positive, later_positive}
-
--- where captures follow the first n, the page's next is the place of the last of them
-next_is : (p : Option PlaceValue) (n : ℕ) (c : List Member) → 0 < n → n < length c → (q : PlaceValue)
-    × (next_after member_place n c ≡ Some q) × (end_place member_place p (take n c) ≡ Some q)
-next_is p zero c z h = absurd (omega arith)
-next_is p (suc n) [] z h = absurd (omega arith)
-next_is p (suc zero) (x ∷ []) z h = absurd (omega arith)
-next_is p (suc zero) (x ∷ y ∷ ys) z h = (member_place x, refl, refl)
-next_is p (suc (suc n)) (x ∷ xs) z h = next_is (Some (member_place x)) (suc n) xs (omega arith) (omega arith)
-
--- where none follow, they are all
-all_are : (n : ℕ) (c : List Member) → length c ≤ n → (take n c ≡ c) × (next_after member_place n c ≡ None)
-all_are zero [] h = (refl, refl)
-all_are zero (x ∷ xs) h = absurd (omega arith)
-all_are (suc n) [] h = (refl, refl)
-all_are (suc zero) (x ∷ []) h = (refl, refl)
-all_are (suc zero) (x ∷ y ∷ ys) h = absurd (omega arith)
-all_are (suc (suc n)) (x ∷ xs) h = grind (arith, all_are (suc n) xs (omega arith))
 
 module _ (same : PlaceValue → PlaceValue → Bool) (l : List Member) (rises : Rises member_place place_cmp l) where
   abbrev shown : Option PlaceValue → List Member
@@ -46,22 +30,20 @@ module _ (same : PlaceValue → PlaceValue → Bool) (l : List Member) (rises : 
   pub cut_chain : (p : Option PlaceValue) (sizes : List ℕ) (pages : Pages) → AllPositive sizes
       → AreCut sizes pages (shown p) → IsChain member_place place_cmp same l p sizes pages
   cut_chain p sizes [] z h = absurd h
-  cut_chain p sizes (page ∷ []) z h = grind (arith, all_are)
+  cut_chain p sizes (page ∷ []) z h = grind (arith, take_all, next_short)
   cut_chain p sizes (page ∷ other ∷ rest) z h =
       let n = first_size sizes in
-      let r = next_is None n (shown p) (first_positive sizes z) h.1 in
-      let s = split_there member_place place_cmp same place_cmp_total n (shown p) r.0
-      (rises_collapsed member_place place_cmp same place_cmp_total l p rises) r.1 in
-      let over : shown (Some r.0) ≡ drop n (shown p) =
+      let r = ends_at n (shown p) (first_positive sizes z) (omega (arith, h.1)) in
+      let place = member_place r.last in
+      let next : next_after member_place n (shown p) ≡ Some place = next_place n (shown p) h.1 ∙ r.place in
+      let last : end_place member_place None (take n (shown p)) ≡ Some place = grind (arith, r.taken, end_last) in
+      let s = split_there member_place place_cmp same place_cmp_total n (shown p) place
+      (rises_collapsed member_place place_cmp same place_cmp_total l p rises) next in
+      let over : shown (Some place) ≡ drop n (shown p) =
       ap (λ (q : PlaceValue). shown (Some q)) (sym s.2)
-      ∙ collapse_resumes member_place place_cmp same place_cmp_total l p s.0 rises s.1 ∙ s.4 in (
-        h.0 ∙ (λ i. record { members = take n (shown p); next = (r.2 ∙ sym r.1) i }),
-        subst (λ (o : Option PlaceValue). MatchOption o (other ∷ rest ≡ [])
-            (λ q. IsChain member_place place_cmp same l (Some q) (later_sizes sizes) (other ∷ rest)))
-            (sym (ap (λ (g : Page Member PlaceValue). g.next) h.0 ∙ r.2))
-            (cut_chain (Some r.0) (later_sizes sizes) (other ∷ rest) (later_positive sizes z)
-            (subst (AreCut (later_sizes sizes) (other ∷ rest)) (sym over) h.2)),
-      )
+      ∙ collapse_resumes member_place place_cmp same place_cmp_total l p s.0 rises s.1 ∙ s.4 in
+      let chain = cut_chain (Some place) (later_sizes sizes) (other ∷ rest) (later_positive sizes z) (rw over h.2) in
+      (grind arith, rw (ap (λ (g : Page Member PlaceValue). g.next) h.0, last) chain)
 
 module _ (q : QueryValue) (sizes : List ℕ) (positive : AllPositive sizes) (lines : List Member)
     (rise : Rises member_place place_cmp lines) where

@@ -1,43 +1,34 @@
 -- The resume keys of pages.
-use Rattle.std.proofs.Common.{arith, ◌≡◌, ℕ, zero, suc, List, [], ◌∷◌, ◌++◌, take, Bool, Option, None, Some}
-use Rattle.std.proofs.Common.{MatchOption, refl, sym, ap, ◌∙◌}
+use Rattle.std.proofs.Common.{arith, ◌≡◌, ℕ, zero, suc, List, [], ◌∷◌, Bool, Option, None, Some}
+use Rattle.std.proofs.Common.{MatchOption, refl, ap, ◌∙◌}
 use Rattle.std.specs.List.{AllByRecursion}
+use Rattle.std.specs.Option.{is_some}
+use Rattle.std.proofs.lemmas.List.{take_all}
+use Rattle.page_core.specs.Pages.{at_most}
+use Rattle.page_writers.proofs.WriterLemmas.{ends_at, next_place, next_short, next_some}
 use Rattle.cdxj_places.specs.Places.{PlaceValue, place_cmp}
 use Rattle.cdxj_core.specs.Members.{Member, member_place}
 use Rattle.page_core.specs.Pages.{Page, first_size, later_sizes, collapsed, next_after, IsChain}
 use Rattle.page_writers.specs.PagesWriting.{HasReadKey}
 use Rattle.page_writers.specs.WrittenPages.{EndsWithKey, KeysButLast, empty_page}
 
--- where a page has a next, that is the place of its last
-record EndsAt (n : ℕ) (c : List Member) (q : PlaceValue) : Type 0 where
-  before : List Member
-  last : Member
-  taken : take n c ≡ before ++ last ∷ []
-  is : q ≡ member_place last
-
-ends_at : (n : ℕ) (c : List Member) (q : PlaceValue) → next_after member_place n c ≡ Some q → EndsAt n c q
-ends_at zero c q e = absurd (cc)
-ends_at (suc n) [] q e = absurd (cc)
-ends_at (suc zero) (x ∷ []) q e = absurd (cc)
-ends_at (suc zero) (x ∷ y ∷ ys) q e = record { before = []; last = x; taken = refl; is = (cc) }
-ends_at (suc (suc n)) (x ∷ xs) q e =
-    let r = ends_at (suc n) xs q e in
-    record { before = x ∷ r.before; last = r.last; taken = ap (λ us. x ∷ us) r.taken; is = r.is }
-
 module _ (same : PlaceValue → PlaceValue → Bool) (l : List Member) where
   abbrev shown : Option PlaceValue → List Member
   shown p = collapsed member_place place_cmp same l p
 
-  page_key : (p : Option PlaceValue) (n : ℕ) (page : Page Member PlaceValue) (q : PlaceValue) → page.members
-      ≡ take n (shown p)
-      → page.next ≡ next_after member_place n (shown p) → page.next ≡ Some q → HasReadKey page → EndsWithKey page
-  page_key p n page q mem nx e keyed =
-      let r = ends_at n (shown p) q (sym nx ∙ e) in
+  page_key : (p : Option PlaceValue) (n : ℕ) (page : Page Member PlaceValue) (q : PlaceValue)
+      → page ≡ at_most member_place (Some n) (shown p) → page.next ≡ Some q → HasReadKey page → EndsWithKey page
+  page_key p zero page q is e keyed = absurd (grind arith)
+  page_key p (suc n) page q is e keyed =
+      let next : next_after member_place (suc n) (shown p) ≡ Some q = grind arith in
+      let more = next_some (suc n) (shown p) (ap is_some next) in
+      let r = ends_at (suc n) (shown p) (omega arith) (omega (arith, more)) in
+      let place : q ≡ member_place r.last = grind (arith, next_place (suc n) (shown p) more, r.place) in
       record {
         before = r.before;
         last = r.last;
-        members = mem ∙ r.taken;
-        next = e ∙ ap Some r.is;
+        members = ap (λ g. g.members) is ∙ r.taken;
+        next = e ∙ ap Some place;
         read = grind arith;
       }
 
@@ -48,15 +39,13 @@ module _ (same : PlaceValue → PlaceValue → Bool) (l : List Member) where
   keys_but_last p sizes [] keyed h = tt
   keys_but_last p sizes (page ∷ []) keyed h = tt
   keys_but_last p sizes (page ∷ other ∷ more) keyed h =
-      let mem : page.members ≡ take (first_size sizes) (shown p) = ap (λ g. g.members) h.0 in
-      let nx : page.next ≡ next_after member_place (first_size sizes) (shown p) = ap (λ g. g.next) h.0 in
       (elim page.next as (λ v. page.next ≡ v
       → MatchOption v (other ∷ more ≡ [])
       (λ q. IsChain member_place place_cmp same l (Some q) (later_sizes sizes) (other ∷ more)) → EndsWithKey page
       × KeysButLast (other ∷ more)) [
         | None ↦ (λ e k. cc)
         | Some q ↦ (λ e k. (
-          page_key p (first_size sizes) page q mem nx e keyed.0,
+          page_key p (first_size sizes) page q h.0 e keyed.0,
           keys_but_last (Some q)
               (later_sizes sizes) (other ∷ more) keyed.1 k,
         ))
@@ -64,18 +53,9 @@ module _ (same : PlaceValue → PlaceValue → Bool) (l : List Member) where
 
 -- ---- where nothing is left
 
-none_taken : (n : ℕ) → take {A = Member} n [] ≡ []
-none_taken zero = refl
-none_taken (suc n) = refl
-
-none_next : (n : ℕ) → next_after member_place n [] ≡ None
-none_next zero = refl
-none_next (suc zero) = refl
-none_next (suc (suc n)) = refl
-
 -- the chain is one empty page
 pub one_empty : (same : PlaceValue → PlaceValue → Bool) (l : List Member) (p : Option PlaceValue) (sizes : List ℕ)
     (pages : List (Page Member PlaceValue)) → collapsed member_place place_cmp same l p ≡ []
     → IsChain member_place place_cmp same l p sizes pages → pages ≡ empty_page ∷ []
 one_empty same l p sizes [] e h = absurd h
-one_empty same l p sizes (page ∷ rest) e h = grind (arith, none_taken, none_next)
+one_empty same l p sizes (page ∷ rest) e h = grind (arith, take_all, next_short)

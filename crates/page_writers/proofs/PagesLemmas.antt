@@ -1,10 +1,10 @@
 -- Captures that are cut into pages, as they come.
-use Rattle.std.proofs.Common.{ltb, ◌≡◌, inl, inr, ℕ, zero, suc, ◌+◌, ◌-◌, ◌^◌, ◌<◌, ◌≤◌, List, [], ◌∷◌, ◌++◌, length}
-use Rattle.std.proofs.Common.{take, drop, min, true, false, Option, None, Some, IfSome, option_map, refl, sym, ap, ◌∙◌}
-use Rattle.std.proofs.Common.{subst, arith, append_assoc, append-nil, length-append, length-drop, length-take}
-use Rattle.std.proofs.Common.{take-append-drop, filter}
+use Rattle.std.proofs.Common.{◌≡◌, inl, inr, ℕ, zero, suc, ◌+◌, ◌-◌, ◌^◌, ◌<◌, ◌≤◌, List, [], ◌∷◌, ◌++◌, length}
+use Rattle.std.proofs.Common.{take, drop, min, true, Option, None, Some, IfSome, option_map, refl, sym, ap, ◌∙◌}
+use Rattle.std.proofs.Common.{subst, arith, append_assoc, append-nil, length-append, length-drop}
+use Rattle.std.proofs.Common.{filter}
 use Rattle.std.specs.Io.KnownBytes.{Appends}
-use Rattle.std.proofs.lemmas.Bool.{ltb-true, ltb-false}
+use Rattle.std.proofs.lemmas.Bool.{cases_lt}
 use Rattle.std.specs.List.{AllByRecursion}
 use Rattle.std.proofs.lemmas.List.{take_all, take_at, drop_at}
 use Rattle.std.proofs.lemmas.List.Concat.{flat_map-append}
@@ -13,9 +13,9 @@ use Rattle.cdxj_places.proofs.RisingLaws.{each_join}
 use Rattle.cdxj_core.specs.Members.{Member, member_place}
 use Rattle.devices.specs.Device.{AppendsPrefix}
 use Rattle.devices.proofs.DeviceLemmas.{Appends-join}
-use Rattle.devices.proofs.WritingLemmas.{prefix_after, prefix_longer, prefix_whole}
+use Rattle.devices.proofs.WritingLemmas.{prefix_after, prefix_longer}
 use Rattle.query_text.specs.Queries.{QueryValue}
-use Rattle.page_core.specs.Pages.{Page, AllPositive, first_size, later_sizes, end_place}
+use Rattle.page_core.specs.Pages.{Page, AllPositive, first_size, later_sizes}
 use Rattle.page_core.specs.Form.{FormValue}
 use Rattle.page_core.specs.PageText.{begun, page_start, page_end, row_text}
 use Rattle.page_core.proofs.PageLemmas.{begun-more, begun_is_front, page_in_pieces}
@@ -25,9 +25,9 @@ use Rattle.page_writers.specs.PageWriting.{captures_over, is_wanted, place_befor
 use Rattle.page_writers.specs.WriterView.{IsFront, IsSame, captures_of, from_view}
 use Rattle.page_writers.specs.WrittenPages.{IsReadBack, pages_text}
 use Rattle.page_writers.specs.PagesWriting.{AreCut, HasNext, HasReadKey, PagesStand, last_of}
-use Rattle.page_writers.proofs.CaptureLemmas.{captures_append, kept_after}
+use Rattle.page_writers.proofs.CaptureLemmas.{end_last, captures_append, kept_after}
 use Rattle.page_writers.proofs.SizeLemmas.{first_positive, later_positive}
-use Rattle.page_writers.proofs.WriterLemmas.{take_front}
+use Rattle.page_writers.proofs.WriterLemmas.{take_front, whole_prefix}
 
 abbrev pub Pages : Type 0
 Pages = List (Page Member PlaceValue)
@@ -47,42 +47,39 @@ EndedInPart q sizes captures old new = (pages : Pages) × AreCut sizes pages cap
 -- ---- a list that is cut
 
 -- a page more
-pub cut_more : (sizes : List ℕ) (rows later : List Member) (rest : Pages) → length rows ≡ first_size sizes
+cut_on : (sizes : List ℕ) (captures : List Member) (rest : Pages) → first_size sizes < length captures
+    → AreCut (later_sizes sizes) rest (drop (first_size sizes) captures)
+    → AreCut sizes (record {
+      members = take (first_size sizes) captures;
+      next = last_of
+          (take (first_size sizes) captures);
+    } ∷ rest) captures
+cut_on sizes captures [] less h = absurd h
+cut_on sizes captures (other ∷ rest) less h = (refl, less, h)
+
+cut_more : (sizes : List ℕ) (rows later : List Member) (rest : Pages) → length rows ≡ first_size sizes
     → 0 < length later → AreCut (later_sizes sizes) rest later
     → AreCut sizes (record { members = rows; next = last_of rows } ∷ rest) (rows ++ later)
 cut_more sizes rows later [] full some h = absurd h
 cut_more sizes rows later (other ∷ rest) full some h = grind (arith, take_at, length-append, drop_at)
 
 -- there is such a cut
-cut_on : (sizes : List ℕ) (captures : List Member) → first_size sizes < length captures
-    → ((pages : Pages) × AreCut (later_sizes sizes) pages (drop (first_size sizes) captures)) → (pages : Pages)
-    × AreCut sizes pages captures
-cut_on sizes captures less rest =
-    let n = first_size sizes in
-    let rows = take n captures in
-    let full : length rows ≡ n = omega (arith, length-take n captures, less) in
-    let some : 0 < length (drop n captures) = omega (arith, length-drop n captures, less) in (
-      record { members = rows; next = last_of rows } ∷ rest.0,
-      subst (AreCut sizes (record { members = rows; next = last_of rows } ∷ rest.0)) (take-append-drop n captures)
-          (cut_more sizes rows (drop n captures) rest.0 full some rest.1),
-    )
-
 cut_at : (fuel : ℕ) (sizes : List ℕ) (captures : List Member) → AllPositive sizes → length captures < fuel
     → (pages : Pages) × AreCut sizes pages captures
 cut_at zero sizes captures z f = absurd (omega arith)
 cut_at (suc fuel) sizes captures z f =
-    (elim (ltb (first_size sizes) (length captures)) as (λ b. ltb (first_size sizes) (length captures) ≡ b
-    → (pages : Pages) × AreCut sizes pages captures) [
-      | false ↦ (λ e. (
-        record { members = captures; next = None } ∷ [],
-        (refl, ltb-false (first_size sizes) (length captures) e),
-      ))
-      | true ↦ (λ e.
-          let less = ltb-true (first_size sizes) (length captures) e in
-          cut_on sizes captures less
-          (cut_at fuel (later_sizes sizes) (drop (first_size sizes) captures) (later_positive sizes z)
-          (omega (arith, length-drop (first_size sizes) captures, first_positive sizes z, less, f))))
-    ]) refl
+    let n = first_size sizes in
+    let some = first_positive sizes z in
+    elim (cases_lt n (length captures)) as (λ _. (pages : Pages) × AreCut sizes pages captures) [
+      | inr few ↦ (record { members = captures; next = None } ∷ [], (refl, few))
+      | inl less ↦ (
+          let rest = cut_at fuel (later_sizes sizes) (drop n captures) (later_positive sizes z)
+          (omega (arith, length-drop n captures)) in (
+            record { members = take n captures; next = last_of (take n captures) } ∷ rest.0,
+            cut_on sizes captures
+                rest.0 less rest.1,
+          ))
+    ]
 
 pub cut_there : (sizes : List ℕ) (captures : List Member) → AllPositive sizes → (pages : Pages)
     × AreCut sizes pages captures
@@ -107,6 +104,20 @@ head_text q left (page ∷ other ∷ rest) rows later h k =
     let f = begun_is_front (form_of q) rows t.0 (option_map resume_text page.next) in (
       f.0 ++ pages_text q (other ∷ rest),
       grind (arith, append_assoc),
+    )
+
+-- pages of which a front was written, up to rows that the first page left has room for
+front_from : (q : QueryValue) (sizes left : List ℕ) (whole : Pages) (all rows later : List Member)
+    (start new : Option (List ℕ)) → AllPositive left → length rows ≤ first_size left
+    → ((rest : Pages) → AreCut left rest (rows ++ later) → AreCut sizes (whole ++ rest) all)
+    → AppendsPrefix start new (pages_text q whole ++ begun (form_of q) rows)
+    → (pages : Pages) × AreCut sizes pages all × AppendsPrefix start new (pages_text q pages)
+front_from q sizes left whole all rows later start new z room goes_on p =
+    let rest = cut_there left (rows ++ later) z in
+    let head = head_text q left rest.0 rows later rest.1 room in (
+      whole ++ rest.0,
+      goes_on rest.0 rest.1,
+      subst (AppendsPrefix start new) (grind (arith, text_more, append_assoc)) (prefix_longer start new _ head.0 p),
     )
 
 -- ---- the pages so far
@@ -136,14 +147,6 @@ nonempty : (whole : Pages) (page : Page Member PlaceValue) (later : List Member)
 nonempty whole page later (inl e) = absurd (omega (arith, ap length e, length-append whole (page ∷ [])))
 nonempty whole page later (inr h) = h
 
-last_joined : (rows : List Member) (m : Member) → last_of (rows ++ m ∷ []) ≡ Some (member_place m)
-last_joined rows m = end_joined None rows
-  where
-    end_joined : (p : Option PlaceValue) (rows : List Member) → end_place member_place p (rows ++ m ∷ [])
-        ≡ Some (member_place m)
-    end_joined p [] = refl
-    end_joined p (r ∷ rows) = end_joined (Some (member_place r)) rows
-
 module _ (q : QueryValue) (sizes : List ℕ) (c : List Member) (start now : Option (List ℕ)) (left : List ℕ) (given : ℕ)
     (last : Option PlaceValue) (count : ℕ) (s : PagesStand q sizes c start now left given last count) where
   abbrev form : FormValue
@@ -151,6 +154,9 @@ module _ (q : QueryValue) (sizes : List ℕ) (c : List Member) (start now : Opti
 
   abbrev before : List ℕ
   before = pages_text q s.whole ++ begun form s.rows
+
+  row_more : (m : Member) → before ++ row_text form m ≡ pages_text q s.whole ++ begun form (s.rows ++ m ∷ [])
+  row_more m = grind (arith, append_assoc, begun-more)
 
   -- a capture more
   pub capture_stands : (m : Member) (new : Option (List ℕ)) (given' : ℕ) (last' : Option PlaceValue)
@@ -160,23 +166,29 @@ module _ (q : QueryValue) (sizes : List ℕ) (c : List Member) (start now : Opti
       → (s : PagesStand q sizes (c ++ m ∷ []) start new left given' last' count) × HasNext s.whole s.rows
   capture_stands m new given' last' less fits a g l =
       let len : length (s.rows ++ m ∷ []) ≡ length s.rows + 1 = length-append s.rows (m ∷ []) in
-      let is : given' ≡ length (s.rows ++ m ∷ []) = omega (arith, len, g, s.given_is, less, fits) in (
+      let is : given' ≡ length (s.rows ++ m ∷ []) = omega (arith, s.given_is) in (
         record {
           whole = s.whole;
           rows = s.rows ++ m ∷ [];
           goes_on = grind (arith, append_assoc);
           positive = s.positive;
           keyed = s.keyed;
-          text = subst (Appends start new) (append_assoc (pages_text q s.whole) (begun form s.rows) (row_text form m)
-              ∙ ap (λ l. pages_text q s.whole ++ l) (sym (begun-more form s.rows m)))
-              (Appends-join start now new before (row_text form m) s.text a);
+          text = rw (row_more m) at (Appends-join _ _ _ _ _ s.text a);
           given_is = is;
-          room = omega (arith, len, s.given_is, less);
-          last_is = λ e. l (is ∙ e) ∙ sym (last_joined s.rows m);
+          room = omega (arith, s.given_is);
+          last_is = grind (arith, end_last);
           count_is = s.count_is;
         },
-        inr (omega (arith, len)),
+        inr (omega arith),
       )
+
+  -- in the row of a capture more, or after it
+  pub capture_front : (m : Member) (new : Option (List ℕ)) → given < first_size left
+      → AppendsPrefix now new (row_text form m) → IsFront q sizes (c ++ m ∷ []) start new
+  capture_front m new less p later =
+      front_from q sizes left s.whole ((c ++ m ∷ []) ++ later) (s.rows ++ m ∷ []) later start new s.positive
+      (omega (arith, length-append s.rows (m ∷ []), s.given_is)) (λ rest h. grind (arith, append_assoc, length-append))
+      (rw (row_more m) at (prefix_after _ _ _ _ _ s.text p))
 
   -- ---- where the page is full
 
@@ -191,7 +203,7 @@ module _ (q : QueryValue) (sizes : List ℕ) (c : List Member) (start now : Opti
     key = grind arith
 
     turned : before ++ (page_end form (shown_key true last) ++ page_start form) ≡ pages_text q (s.whole ++ page ∷ [])
-        ++ page_start form
+        ++ begun form []
     turned = grind (arith, append_assoc, page_in_pieces, append-nil, text_more)
 
     goes_on : (later : List Member) (rest : Pages) → 0 < length later → AreCut (later_sizes left) rest later
@@ -204,19 +216,18 @@ module _ (q : QueryValue) (sizes : List ℕ) (c : List Member) (start now : Opti
         → left' ≡ later_sizes left → given' ≡ 0 → count' ≡ min (count + 1) (2 ^ 64 - 1) → IfSome last IsReadBack
         → PagesStand q sizes c start new left' given' last' count'
     turned_stands new left' given' last' count' a is none n read =
-        let positive : AllPositive left' = subst AllPositive (sym is) (later_positive left s.positive) in
+        let positive : AllPositive left' = rw is (later_positive left s.positive) in
         record {
           whole = s.whole ++ page ∷ [];
           rows = [];
           goes_on = grind (arith, goes_on, nonempty);
           positive = positive;
           keyed = grind (arith, each_join, are_full);
-          text = subst (Appends start new)
-              (grind (arith, turned, append-nil)) (Appends-join start now new before _ s.text a);
+          text = rw turned at (Appends-join _ _ _ _ _ s.text a);
           given_is = none;
           room = omega arith;
-          last_is = λ e. absurd (omega (arith, e, first_positive left' positive));
-          count_is = omega (arith, n, s.count_is, length-append s.whole (page ∷ []));
+          last_is = λ e. absurd (omega (arith, first_positive left' positive));
+          count_is = omega (arith, s.count_is, length-append s.whole (page ∷ []));
         }
 
     -- while it is ended, or the next is begun
@@ -224,48 +235,17 @@ module _ (q : QueryValue) (sizes : List ℕ) (c : List Member) (start now : Opti
         → AppendsPrefix now new (page_end form (shown_key true last) ++ page_start form)
         → IsFront q sizes (c ++ m ∷ []) start new
     turning_front m new p later =
-        let rest = cut_there (later_sizes left) (m ∷ later) (later_positive left s.positive) in
-        let head = head_text q (later_sizes left) rest.0 [] (m ∷ later) rest.1 (omega arith) in (
-          (s.whole ++ page ∷ []) ++ rest.0,
-          subst (AreCut sizes ((s.whole ++ page ∷ []) ++ rest.0)) (sym (append_assoc c (m ∷ []) later))
-              (goes_on (m ∷ later) rest.0 (omega arith) rest.1),
-          subst (AppendsPrefix start new)
-              (grind (arith, text_more, append-nil, append_assoc, turned))
-              (prefix_longer start new (before ++ (page_end form (shown_key true last) ++ page_start form)) head.0
-              (prefix_after start now new before (page_end form (shown_key true last) ++ page_start form) s.text p)),
-        )
-
-  -- in the row of a capture more, or after it
-  pub capture_front : (m : Member) (new : Option (List ℕ)) → given < first_size left
-      → AppendsPrefix now new (row_text form m) → IsFront q sizes (c ++ m ∷ []) start new
-  capture_front m new less p later =
-      let len : length (s.rows ++ m ∷ []) ≡ length s.rows + 1 = length-append s.rows (m ∷ []) in
-      let rest = cut_there left ((s.rows ++ m ∷ []) ++ later) s.positive in
-      let head = head_text q left rest.0 (s.rows ++ m ∷ []) later rest.1 (omega (arith, len, s.given_is, less)) in (
-        s.whole ++ rest.0,
-        subst (AreCut sizes (s.whole ++ rest.0)) (sym (append_assoc c (m ∷ []) later))
-            (s.goes_on (m ∷ later) rest.0 (inr (omega (arith, length-append s.rows (m ∷ later))))
-            (subst (AreCut left rest.0) (append_assoc s.rows (m ∷ []) later) rest.1)),
-        subst (AppendsPrefix start new)
-            (grind (arith, text_more, begun-more, append_assoc))
-            (prefix_longer start new (before ++ row_text form m) head.0
-            (prefix_after start now new before (row_text form m) s.text p)),
-      )
+        front_from q sizes (later_sizes left) (s.whole ++ page ∷ []) ((c ++ m ∷ []) ++ later) [] (m ∷ later) start new
+        (later_positive left s.positive) (omega arith)
+        (λ rest h. rw (append_assoc c (m ∷ []) later) (goes_on (m ∷ later) rest (omega arith) h))
+        (rw turned at (prefix_after _ _ _ _ _ s.text p))
 
   -- after what was written so far
   module _ (more : HasNext s.whole s.rows) where
-    has_more : (later : List Member) → HasNext s.whole (s.rows ++ later)
-    has_more later = grind (arith, length-append)
-
     pub stands_front : IsFront q sizes c start now
     stands_front later =
-        let rest = cut_there left (s.rows ++ later) s.positive in
-        let head = head_text q left rest.0 s.rows later rest.1 s.room in (
-          s.whole ++ rest.0,
-          s.goes_on later rest.0 (has_more later) rest.1,
-          subst (AppendsPrefix start now)
-              (grind (arith, text_more, append_assoc)) (prefix_whole start now before head.0 s.text),
-        )
+        front_from q sizes left s.whole (c ++ later) s.rows later start now s.positive s.room
+        (λ rest h. grind (arith, length-append)) (whole_prefix _ _ _ s.text)
 
     abbrev last_page : Page Member PlaceValue
     last_page = record { members = s.rows; next = None }
@@ -318,10 +298,4 @@ front_as s first sizes taken start now same front =
 pub start_front : (q : QueryValue) (sizes : List ℕ) (start new : Option (List ℕ)) → AllPositive sizes
     → AppendsPrefix start new (page_start (form_of q)) → IsFront q sizes [] start new
 start_front q sizes start new z p later =
-    let found = cut_there sizes later z in
-    let head = head_text q sizes found.0 [] later found.1 (omega arith) in (
-      found.0,
-      found.1,
-      subst (AppendsPrefix start new)
-          (grind (arith, append-nil)) (prefix_longer start new (page_start (form_of q)) head.0 p),
-    )
+    front_from q sizes sizes [] later [] later start new z (omega arith) (λ rest h. h) (rw append-nil p)

@@ -1,10 +1,10 @@
 -- A page by the lines that were taken for it.
 use Rattle.std.proofs.Common.{◌≡◌, ℕ, zero, suc, ◌+◌, ◌-◌, ◌^◌, ◌<◌, ◌≤◌, List, [], ◌∷◌, ◌++◌}
 use Rattle.std.proofs.Common.{refl, sym, ap, ◌∙◌, subst, arith, Option, Some, None, Bool, true, false, filter, length}
-use Rattle.std.proofs.Common.{take, min, append-nil, length-append, length-take, ◌⊎◌, inl}
+use Rattle.std.proofs.Common.{take, min, append-nil, length-append, length-take, ◌⊎◌, inl, inr}
 use Rattle.std.specs.Option.{is_some}
 use Rattle.std.specs.Io.KnownBytes.{Appends}
-use Rattle.std.proofs.lemmas.Bool.{true≢false, eqb-false}
+use Rattle.std.proofs.lemmas.Bool.{cases_lt, true≢false, eqb-false}
 use Rattle.std.proofs.lemmas.List.{take_all, take-append-le}
 use Rattle.cdxj_places.specs.Places.{PlaceValue}
 use Rattle.query_text.specs.Queries.{QueryValue}
@@ -18,7 +18,7 @@ use Rattle.devices.specs.Device.{AppendsPrefix}
 use Rattle.page_writers.specs.QueryPages.{form_of}
 use Rattle.page_writers.specs.PageWriting.{is_wanted, captures_over, place_before, page_over, place_at, last_place}
 use Rattle.page_writers.specs.PageWriting.{is_full, last_after, FitsWord, next_of, PageStands}
-use Rattle.page_writers.proofs.CaptureLemmas.{kept_after, captures_append}
+use Rattle.page_writers.proofs.CaptureLemmas.{end_last, kept_after, captures_append}
 
 abbrev next : ℕ → List Member → Option PlaceValue
 next = next_after member_place
@@ -28,48 +28,59 @@ page = at_most member_place
 
 -- ---- the n-th, and what follows it
 
-next_some : (n : ℕ) (c : List Member) → is_some (next n c) ≡ true → n < length c
-next_some zero c h = absurd (true≢false (sym h))
-next_some (suc n) [] h = absurd (true≢false (sym h))
-next_some (suc zero) (x ∷ []) h = absurd (true≢false (sym h))
-next_some (suc zero) (x ∷ y ∷ ys) h = omega arith
-next_some (suc (suc n)) (x ∷ xs) h = let ih = next_some (suc n) xs h in omega arith
+-- the last of the first n
+pub record EndsAt (n : ℕ) (c : List Member) : Type 0 where
+  pub before : List Member
+  pub last : Member
+  pub taken : take n c ≡ before ++ last ∷ []
+  pub place : place_at n c ≡ Some (member_place last)
 
-pub next_none : (n : ℕ) (c : List Member) → 0 < n → is_some (next n c) ≡ false → length c ≤ n
-next_none zero c z h = absurd (omega arith)
-next_none (suc n) [] z h = omega arith
-next_none (suc zero) (x ∷ []) z h = omega arith
-next_none (suc zero) (x ∷ y ∷ ys) z h = absurd (true≢false h)
-next_none (suc (suc n)) (x ∷ xs) z h = let ih = next_none (suc n) xs (omega arith) h in omega arith
+pub ends_at : (n : ℕ) (c : List Member) → 0 < n → n ≤ length c → EndsAt n c
+ends_at zero c z h = absurd (omega arith)
+ends_at (suc n) [] z h = absurd (omega arith)
+ends_at (suc zero) (x ∷ xs) z h = record { before = []; last = x; taken = refl; place = refl }
+ends_at (suc (suc n)) (x ∷ xs) z h =
+    let r = ends_at (suc n) xs (omega arith) (omega arith) in
+    record { before = x ∷ r.before; last = r.last; taken = ap (λ us. x ∷ us) r.taken; place = r.place }
 
-next_short : (n : ℕ) (c : List Member) → length c ≤ n → next n c ≡ None
+-- where one more follows
+pub next_place : (n : ℕ) (c : List Member) → n < length c → next n c ≡ place_at n c
+next_place zero c h = refl
+next_place (suc n) [] h = absurd (omega arith)
+next_place (suc zero) (x ∷ []) h = absurd (omega arith)
+next_place (suc zero) (x ∷ y ∷ ys) h = refl
+next_place (suc (suc n)) (x ∷ xs) h = next_place (suc n) xs (omega arith)
+
+-- where none does
+pub next_short : (n : ℕ) (c : List Member) → length c ≤ n → next n c ≡ None
 next_short zero c h = refl
 next_short (suc n) [] h = refl
 next_short (suc zero) (x ∷ []) h = refl
 next_short (suc zero) (x ∷ y ∷ ys) h = absurd (omega arith)
 next_short (suc (suc n)) (x ∷ xs) h = next_short (suc n) xs (omega arith)
 
--- where one more follows the n-th
-next_full : (n : ℕ) (c : List Member) (m : Member) → length c ≡ n → next n (c ++ m ∷ []) ≡ place_at n c
-next_full zero c m h = refl
-next_full (suc n) [] m h = absurd (omega arith)
-next_full (suc zero) (x ∷ []) m h = refl
-next_full (suc zero) (x ∷ y ∷ ys) m h = absurd (omega arith)
-next_full (suc (suc n)) (x ∷ xs) m h = next_full (suc n) xs m (omega arith)
+pub next_some : (n : ℕ) (c : List Member) → is_some (next n c) ≡ true → n < length c
+next_some n c h = grind (arith, next_short, cases_lt n (length c))
 
--- what follows more than n changes nothing
-next_same : (n : ℕ) (c vs : List Member) → n < length c → next n (c ++ vs) ≡ next n c
-next_same zero c vs h = refl
-next_same (suc n) [] vs h = absurd (omega arith)
-next_same (suc zero) (x ∷ []) vs h = absurd (omega arith)
-next_same (suc zero) (x ∷ y ∷ ys) vs h = refl
-next_same (suc (suc n)) (x ∷ xs) vs h = next_same (suc n) xs vs (omega arith)
+pub next_none : (n : ℕ) (c : List Member) → 0 < n → is_some (next n c) ≡ false → length c ≤ n
+next_none n c z h = elim (cases_lt n (length c)) as (λ _. length c ≤ n) [
+  | inl less ↦ (let r = ends_at n c z (omega arith) in let same = next_place n c less in absurd (grind arith))
+  | inr few ↦ few
+]
 
 place_same : (n : ℕ) (c vs : List Member) → n ≤ length c → place_at n (c ++ vs) ≡ place_at n c
 place_same zero c vs h = refl
 place_same (suc n) [] vs h = absurd (omega arith)
 place_same (suc zero) (x ∷ xs) vs h = refl
 place_same (suc (suc n)) (x ∷ xs) vs h = place_same (suc n) xs vs (omega arith)
+
+-- where one more follows the n-th
+next_full : (n : ℕ) (c : List Member) (m : Member) → length c ≡ n → next n (c ++ m ∷ []) ≡ place_at n c
+next_full n c m h = grind (arith, next_place, place_same, length-append)
+
+-- what follows more than n changes nothing
+next_same : (n : ℕ) (c vs : List Member) → n < length c → next n (c ++ vs) ≡ next n c
+next_same n c vs h = grind (arith, next_place, place_same, length-append)
 
 place_short : (n : ℕ) (c : List Member) → length c < n → place_at n c ≡ None
 place_short zero c h = absurd (omega arith)
@@ -79,11 +90,10 @@ place_short (suc (suc n)) (x ∷ xs) h = place_short (suc n) xs (omega arith)
 
 place_last : (n : ℕ) (c : List Member) (m : Member) → n ≡ suc (length c) → place_at n (c ++ m ∷ [])
     ≡ Some (member_place m)
-place_last zero c m h = absurd (omega arith)
-place_last (suc zero) [] m h = refl
-place_last (suc (suc n)) [] m h = absurd (omega arith)
-place_last (suc zero) (x ∷ xs) m h = absurd (omega arith)
-place_last (suc (suc n)) (x ∷ xs) m h = place_last (suc n) xs m (omega arith)
+place_last n c m h =
+    let r = ends_at n (c ++ m ∷ []) (omega arith) (omega (arith, length-append c (m ∷ []))) in
+    let all : take n (c ++ m ∷ []) ≡ c ++ m ∷ [] = grind (arith, take_all, length-append) in
+    grind (arith, end_last None c m, end_last None r.before r.last)
 
 -- what is at most a number and isn't it is below it
 pub below : (k n : ℕ) → k ≤ n → (k ≡ n → ⊥) → k < n
@@ -217,23 +227,12 @@ pub decided : (limit : Option ℕ) (us vs : List Member) → is_some (page limit
 decided None us vs h = absurd (true≢false (sym h))
 decided (Some n) us vs h = at_end n us vs (next_some n us h)
 
-next_last : (n : ℕ) (c : List Member) → is_some (next n c) ≡ true → next n c ≡ place_at n c
-next_last zero c h = absurd (true≢false (sym h))
-next_last (suc n) [] h = absurd (true≢false (sym h))
-next_last (suc zero) (x ∷ []) h = absurd (true≢false (sym h))
-next_last (suc zero) (x ∷ y ∷ ys) h = refl
-next_last (suc (suc n)) (x ∷ xs) h = next_last (suc n) xs h
-
-none_is : {X : Type 0} (o : Option X) → is_some o ≡ false → None ≡ o
-none_is None h = refl
-none_is (Some x) h = absurd (true≢false h)
-
 pub next_is : (limit : Option ℕ) (c : List Member) (more : Bool) (last : Option PlaceValue) → more
     ≡ is_some (page limit c).next → last ≡ last_place limit c → next_of more last ≡ (page limit c).next
 next_is None c true last h k = absurd (true≢false h)
 next_is None c false last h k = refl
-next_is (Some n) c true last h k = k ∙ sym (next_last n c (sym h))
-next_is (Some n) c false last h k = none_is (next n c) (sym h)
+next_is (Some n) c true last h k = grind (arith, next_some, next_place)
+next_is (Some n) c false last h k = grind (arith, next_short, next_place, ends_at, cases_lt n (length c))
 
 -- ---- answers
 

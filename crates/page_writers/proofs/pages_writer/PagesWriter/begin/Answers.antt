@@ -1,6 +1,4 @@
-use Rattle.std.proofs.Common.{arith, ap, subst, sym, ◌∙◌}
-use Rattle.std.specs.Io.KnownBytes.{Appends}
-use Rattle.page_core.specs.PageText.{page_start}
+use Rattle.std.proofs.Common.{arith, ap, sym, ◌∙◌}
 use Rattle.devices.proofs.WritingLemmas.{wrote_nothing}
 use Rattle.page_writers.specs.QueryPages.{form_of}
 use Rattle.page_writers.proofs.PagesLemmas.{none_stand}
@@ -11,10 +9,6 @@ returns-in_err-selection-clause-front g c = grind (arith, wrote_nothing)
 
 pub returns-clause-stands : goal.returns-clause-stands
 returns-clause-stands g c = λ positive.
-    let q = c.in_ok-selection.selection.query.now in
-    let old = g.O.Output.written c.args.out.now in
-    let new = g.O.Output.written c.put_start.new.out in
     let form = c.new-output.ensures ∙ c.form_of.ensures ∙ ap form_of (sym c.in_ok-selection.ensures.query.0) in
-    let begun = none_stand q c.args.sizes.now old new positive
-    (subst (λ form. Appends old new (page_start form)) form c.in_ok-put_start.ensures.text) in
+    let begun = none_stand _ _ _ _ positive (rw (← form) c.in_ok-put_start.ensures.text) in
     (c.in_ok-selection.ensures.selects, begun.0, begun.1)

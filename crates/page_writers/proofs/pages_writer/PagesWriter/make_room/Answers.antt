@@ -1,6 +1,5 @@
-use Rattle.std.proofs.Common.{rules, ◌≡◌, ◌==◌, true, arith, eqb-true}
+use Rattle.std.proofs.Common.{rules, arith, eqb-true}
 use Rattle.std.proofs.lemmas.Result.{err_from_is_err_and}
-use Rattle.page_core.specs.Pages.{first_size}
 use Rattle.page_writers.proofs.PagesLemmas.{turned_stands, turning_front}
 use Rattle.page_writers.proofs.SizeLemmas.{first_positive}
 use Rattle.page_writers.proofs.pages_writer.PagesWriter.make_room.Goals as goal
@@ -13,10 +12,5 @@ returns-in_ok-turn-clause-stands g c = grind (arith, turned_stands, first_positi
 
 pub returns-in_err-turn-clause-front : goal.returns-in_err-turn-clause-front
 returns-in_err-turn-clause-front g c = λ sizes captures start m s.
-    let w = c.args.self.now in
-    let full : (w.given == first_size w.sizes.now) ≡ true = search rules in
     let p = err_from_is_err_and c.from_residual.result c.from_residual.ensures.1 in
-    rw p.1 (turning_front w.selection.query.now sizes captures start
-    (g.O.Output.written c.args.out.now) w.sizes.now w.given
-    w.last w.count s (eqb-true w.given (first_size w.sizes.now) full)
-    m (g.O.Output.written c.turn.new.out) c.in_err-turn.ensures.text)
+    rw p.1 (turning_front _ _ _ _ _ _ _ _ _ s (eqb-true _ _ (search rules)) m _ c.in_err-turn.ensures.text)

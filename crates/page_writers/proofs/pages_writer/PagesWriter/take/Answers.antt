@@ -1,19 +1,17 @@
-use Rattle.std.proofs.Common.{◌≡◌, ◌++◌, take, map, sym, subst, arith, append-nil, refl, Bor}
+use Rattle.std.proofs.Common.{◌≡◌, take, arith, append-nil, refl}
 use Rattle.std.proofs.lemmas.Result.{err_from_is_err_and}
 use Rattle.std.proofs.lemmas.List.{take_all}
-use Rattle.cdxj_core.specs.declared.line.Line.{Line}
 use Rattle.devices.proofs.DeviceLemmas.{grows_not, grows_on}
-use Rattle.page_writers.specs.WriterView.{pages_stand, from_view}
+use Rattle.page_writers.specs.WriterView.{from_view}
 use Rattle.page_writers.proofs.PagesLemmas.{front_more}
 use Rattle.page_writers.proofs.TakenLines.{one_more, parted}
 use Rattle.page_writers.proofs.pages_writer.PagesWriter.take.Goals as goal
 
 pub loop-line-init : goal.loop-line-init
 loop-line-init g c = record {
-  stands = λ sizes taken start s. subst
-      (λ l. pages_stand sizes c.args.self.now l start (g.O.Output.written c.args.out.now)) (sym (append-nil taken)) s;
+  stands = λ sizes taken start s. rw append-nil s;
   same = (refl, refl);
-  grows = grind (arith, grows_not);
+  grows = grows_not _;
   failures = refl;
 }
 
@@ -30,8 +28,7 @@ loop-line-preserved g c = record {
 pub returns-clause-stands : goal.returns-clause-stands
 returns-clause-stands g c = λ sizes taken start s.
     let all : take c.loop-line.line-index c.args.lines.now ≡ c.args.lines.now = grind (arith, take_all) in
-    subst (λ l. pages_stand sizes c.loop-line.self (taken ++ map (λ (l : Bor Line). l.now) l) start
-    (g.O.Output.written c.loop-line.out)) all (c.loop-line.invariant.stands sizes taken start s)
+    rw all at (c.loop-line.invariant.stands sizes taken start s)
 
 pub returns-in_err-take_line-clause-broke : goal.returns-in_err-take_line-clause-broke
 returns-in_err-take_line-clause-broke g c = λ sizes taken start s.

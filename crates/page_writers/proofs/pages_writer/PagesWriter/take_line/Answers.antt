@@ -43,6 +43,7 @@ pub returns-in_ok-put_capture-clause-stands : goal.returns-in_ok-put_capture-cla
 returns-in_ok-put_capture-clause-stands g c = λ sizes taken start s.
     let is : c.in_ok-takes.field-0 ≡ true = search rules in
     let same = c.takes.ensures.same in
+    let capture = c.in_ok-takes.ensures.capture taken s.0 in
     let put = c.in_ok-put_capture.ensures in
     let kept = c.put_capture.ensures in
     let selection = c.make_room.ensures.selection in
@@ -50,26 +51,11 @@ returns-in_ok-put_capture-clause-stands g c = λ sizes taken start s.
     (rw same.0 s.1) in
     let stands = rw (selection, same.0) at (capture_stands _ _ _ _ _ _ _ _ _ room.0 c.args.line.now _ _ _ room.1
     put.fits put.text put.given put.last) in
-    rw (
-      kept.selection,
-      selection,
-      kept.sizes.0,
-      kept.sizes.1,
-      same.0,
-      same.1,
-      c.in_ok-takes.ensures.capture taken s.0,
-      is,
-    )
+    rw (kept.selection, selection, kept.sizes.0, kept.sizes.1, same.0, same.1, capture, is)
     (rw (same.0, same.1) at (c.in_ok-takes.ensures.selects taken s.0), stands.0, stands.1)
 
 pub returns-in_ok-put_capture-clause-grows : goal.returns-in_ok-put_capture-clause-grows
-returns-in_ok-put_capture-clause-grows g c =
-    let mid = g.O.Output.written c.make_room.new.out in
-    let new = g.O.Output.written c.put_capture.new.out in
-    grows_on (g.O.Output.written c.args.out.now) mid new c.make_room.ensures.grows (grind arith)
+returns-in_ok-put_capture-clause-grows g c = grows_on _ _ _ c.make_room.ensures.grows (grind arith)
 
 pub returns-in_err-put_capture-clause-grows : goal.returns-in_err-put_capture-clause-grows
-returns-in_err-put_capture-clause-grows g c =
-    let mid = g.O.Output.written c.make_room.new.out in
-    let new = g.O.Output.written c.put_capture.new.out in
-    grows_on (g.O.Output.written c.args.out.now) mid new c.make_room.ensures.grows (grind arith)
+returns-in_err-put_capture-clause-grows g c = grows_on _ _ _ c.make_room.ensures.grows (grind arith)

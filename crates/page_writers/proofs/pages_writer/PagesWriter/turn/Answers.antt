@@ -1,7 +1,5 @@
 use Rattle.std.proofs.Common.{arith, rules, true}
 use Rattle.std.proofs.lemmas.Result.{err_from_is_err_and}
-use Rattle.std.specs.Io.KnownBytes.{Appends}
-use Rattle.devices.specs.Device.{AppendsPrefix}
 use Rattle.devices.proofs.WritingLemmas.{prefix_after, prefix_longer}
 use Rattle.page_core.specs.PageText.{page_start, page_end}
 use Rattle.page_writers.specs.QueryPages.{form_of, shown_key}
@@ -13,11 +11,7 @@ returns-in_err-put_end-clause-text g c = grind (arith, prefix_longer)
 pub returns-in_err-put_start-clause-text : goal.returns-in_err-put_start-clause-text
 returns-in_err-put_start-clause-text g c =
     let w = c.args.self.now in
-    let old = g.O.Output.written c.args.out.now in
-    let mid = g.O.Output.written c.put_end.new.out in
-    let now = g.O.Output.written c.put_start.new.out in
     let form = form_of w.selection.query.now in
-    let end : Appends old mid (page_end form (shown_key true w.last)) = search rules in
-    let begin : AppendsPrefix mid now (page_start form) = search rules in
     let p = err_from_is_err_and c.from_residual-in_err-put_start.result c.from_residual-in_err-put_start.ensures.1 in
-    rw p.1 (prefix_after old mid now (page_end form (shown_key true w.last)) (page_start form) end begin)
+    rw p.1 (prefix_after _ (g.O.Output.written c.put_end.new.out) _ (page_end form (shown_key true w.last))
+    (page_start form) (search rules) (search rules))
