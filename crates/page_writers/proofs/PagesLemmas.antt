@@ -19,10 +19,10 @@ use Rattle.page_core.specs.Pages.{Page, AllPositive, first_size, later_sizes}
 use Rattle.page_core.specs.Form.{FormValue}
 use Rattle.page_core.specs.PageText.{begun, page_start, page_end, row_text}
 use Rattle.page_core.proofs.PageLemmas.{begun-more, begun_is_front, page_in_pieces}
-use Rattle.page_writers.specs.QueryPages.{chain_text, form_of, shown_key}
+use Rattle.page_writers.specs.QueryPages.{form_of, shown_key}
 use Rattle.page_writers.specs.declared.selection.Selection.{Selection}
 use Rattle.page_writers.specs.PageWriting.{captures_over, is_wanted, place_before}
-use Rattle.page_writers.specs.WriterView.{IsFront, IsSame, captures_of, from_view}
+use Rattle.page_writers.specs.WriterView.{IsFront, IsSame, captures_of}
 use Rattle.page_writers.specs.WrittenPages.{IsReadBack, pages_text}
 use Rattle.page_writers.specs.PagesWriting.{AreCut, HasNext, HasReadKey, PagesStand, last_of}
 use Rattle.page_writers.proofs.CaptureLemmas.{end_last, captures_append, kept_after}
@@ -46,20 +46,19 @@ EndedInPart q sizes captures old new = (pages : Pages) × AreCut sizes pages cap
 
 -- ---- a list that is cut
 
+-- a page that others follow
+abbrev full_page : List Member → Page Member PlaceValue
+full_page rows = record { members = rows; next = last_of rows }
+
 -- a page more
 cut_on : (sizes : List ℕ) (captures : List Member) (rest : Pages) → first_size sizes < length captures
     → AreCut (later_sizes sizes) rest (drop (first_size sizes) captures)
-    → AreCut sizes (record {
-      members = take (first_size sizes) captures;
-      next = last_of
-          (take (first_size sizes) captures);
-    } ∷ rest) captures
+    → AreCut sizes (full_page (take (first_size sizes) captures) ∷ rest) captures
 cut_on sizes captures [] less h = absurd h
 cut_on sizes captures (other ∷ rest) less h = (refl, less, h)
 
 cut_more : (sizes : List ℕ) (rows later : List Member) (rest : Pages) → length rows ≡ first_size sizes
-    → 0 < length later → AreCut (later_sizes sizes) rest later
-    → AreCut sizes (record { members = rows; next = last_of rows } ∷ rest) (rows ++ later)
+    → 0 < length later → AreCut (later_sizes sizes) rest later → AreCut sizes (full_page rows ∷ rest) (rows ++ later)
 cut_more sizes rows later [] full some h = absurd h
 cut_more sizes rows later (other ∷ rest) full some h = grind (arith, take_at, length-append, drop_at)
 
@@ -74,11 +73,8 @@ cut_at (suc fuel) sizes captures z f =
       | inr few ↦ (record { members = captures; next = None } ∷ [], (refl, few))
       | inl less ↦ (
           let rest = cut_at fuel (later_sizes sizes) (drop n captures) (later_positive sizes z)
-          (omega (arith, length-drop n captures)) in (
-            record { members = take n captures; next = last_of (take n captures) } ∷ rest.0,
-            cut_on sizes captures
-                rest.0 less rest.1,
-          ))
+          (omega (arith, length-drop n captures)) in
+          (full_page (take n captures) ∷ rest.0, cut_on sizes captures rest.0 less rest.1))
     ]
 
 pub cut_there : (sizes : List ℕ) (captures : List Member) → AllPositive sizes → (pages : Pages)
@@ -86,10 +82,6 @@ pub cut_there : (sizes : List ℕ) (captures : List Member) → AllPositive size
 cut_there sizes captures z = cut_at (suc (length captures)) sizes captures z (omega arith)
 
 -- ---- texts
-
-text_more : (q : QueryValue) (pages rest : Pages) → pages_text q (pages ++ rest) ≡ pages_text q pages
-    ++ pages_text q rest
-text_more q pages rest = flat_map-append (chain_text q) pages rest
 
 -- the text of pages begins with that of the captures that the first page has room for
 head_text : (q : QueryValue) (left : List ℕ) (pages : Pages) (rows later : List Member)
@@ -117,7 +109,8 @@ front_from q sizes left whole all rows later start new z room goes_on p =
     let head = head_text q left rest.0 rows later rest.1 room in (
       whole ++ rest.0,
       goes_on rest.0 rest.1,
-      subst (AppendsPrefix start new) (grind (arith, text_more, append_assoc)) (prefix_longer start new _ head.0 p),
+      subst (AppendsPrefix start new) (grind (arith, flat_map-append, append_assoc))
+          (prefix_longer start new _ head.0 p),
     )
 
 -- ---- the pages so far
@@ -194,17 +187,14 @@ module _ (q : QueryValue) (sizes : List ℕ) (c : List Member) (start now : Opti
 
   module _ (full : given ≡ first_size left) where
     abbrev page : Page Member PlaceValue
-    page = record { members = s.rows; next = last_of s.rows }
+    page = full_page s.rows
 
     are_full : length s.rows ≡ first_size left
     are_full = sym s.given_is ∙ full
 
-    key : shown_key true last ≡ option_map resume_text (last_of s.rows)
-    key = grind arith
-
     turned : before ++ (page_end form (shown_key true last) ++ page_start form) ≡ pages_text q (s.whole ++ page ∷ [])
         ++ begun form []
-    turned = grind (arith, append_assoc, page_in_pieces, append-nil, text_more)
+    turned = grind (arith, append_assoc, page_in_pieces, append-nil, flat_map-append)
 
     goes_on : (later : List Member) (rest : Pages) → 0 < length later → AreCut (later_sizes left) rest later
         → AreCut sizes ((s.whole ++ page ∷ []) ++ rest) (c ++ later)
@@ -251,10 +241,10 @@ module _ (q : QueryValue) (sizes : List ℕ) (c : List Member) (start now : Opti
     last_page = record { members = s.rows; next = None }
 
     all_cut : AreCut sizes (s.whole ++ last_page ∷ []) c
-    all_cut = subst (AreCut sizes (s.whole ++ last_page ∷ [])) (append-nil c) (grind (arith, append-nil, length-append))
+    all_cut = rw append-nil at (s.goes_on [] (last_page ∷ []) (rw append-nil more) (rw append-nil (refl, s.room)))
 
     ended : pages_text q (s.whole ++ last_page ∷ []) ≡ before ++ page_end form None
-    ended = grind (arith, text_more, append-nil, page_in_pieces, append_assoc)
+    ended = grind (arith, flat_map-append, append-nil, page_in_pieces, append_assoc)
 
     -- the last page is ended
     pub ended_stands : (new : Option (List ℕ)) (number : ℕ) → Appends now new (page_end form None) → number
@@ -263,19 +253,14 @@ module _ (q : QueryValue) (sizes : List ℕ) (c : List Member) (start now : Opti
     ended_stands new number a n = (
       s.whole ++ last_page ∷ [],
       all_cut,
-      subst (Appends start new) (sym ended) (Appends-join start now new before (page_end form None) s.text a),
+      rw ended (Appends-join _ _ _ _ _ s.text a),
       omega (arith, n, s.count_is, length-append s.whole (last_page ∷ [])),
       grind (arith, each_join),
     )
 
     pub ending_front : (new : Option (List ℕ)) → AppendsPrefix now new (page_end form None)
         → EndedInPart q sizes c start new
-    ending_front new p = (
-      s.whole ++ last_page ∷ [],
-      all_cut,
-      subst (AppendsPrefix start new) (sym ended)
-          (prefix_after start now new before (page_end form None) s.text p),
-    )
+    ending_front new p = (s.whole ++ last_page ∷ [], all_cut, rw ended (prefix_after _ _ _ _ _ s.text p))
 
 -- a front of the captures of more lines
 pub front_more : (q : QueryValue) (from : Option PlaceValue) (sizes : List ℕ) (taken rest : List Member)
@@ -290,9 +275,7 @@ front_more q from sizes taken rest start now front later =
 pub front_as : (s first : Selection) (sizes : List ℕ) (taken : List Member) (start now : Option (List ℕ))
     → IsSame first s → IsFront s.query.now sizes (captures_of s taken) start now
     → IsFront first.query.now sizes (captures_of first taken) start now
-front_as s first sizes taken start now same front =
-    subst (λ r. IsFront r.now sizes (captures_over r.now (from_view first.from) taken) start now) same.0
-    (subst (λ f. IsFront s.query.now sizes (captures_over s.query.now (from_view f) taken) start now) same.1 front)
+front_as s first sizes taken start now same front = rw (← same.0, ← same.1) front
 
 -- in the start of the first page
 pub start_front : (q : QueryValue) (sizes : List ℕ) (start new : Option (List ℕ)) → AllPositive sizes

@@ -1,6 +1,6 @@
 -- A page by the lines that were taken for it.
 use Rattle.std.proofs.Common.{◌≡◌, ℕ, zero, suc, ◌+◌, ◌-◌, ◌^◌, ◌<◌, ◌≤◌, List, [], ◌∷◌, ◌++◌}
-use Rattle.std.proofs.Common.{refl, sym, ap, ◌∙◌, subst, arith, Option, Some, None, Bool, true, false, filter, length}
+use Rattle.std.proofs.Common.{refl, sym, ap, ◌∙◌, arith, Option, Some, None, Bool, true, false, filter, length}
 use Rattle.std.proofs.Common.{take, min, append-nil, length-append, length-take, ◌⊎◌, inl, inr}
 use Rattle.std.specs.Option.{is_some}
 use Rattle.std.specs.Io.KnownBytes.{Appends}
@@ -95,35 +95,21 @@ place_last n c m h =
     let all : take n (c ++ m ∷ []) ≡ c ++ m ∷ [] = grind (arith, take_all, length-append) in
     grind (arith, end_last None c m, end_last None r.before r.last)
 
--- what is at most a number and isn't it is below it
-pub below : (k n : ℕ) → k ≤ n → (k ≡ n → ⊥) → k < n
-below k n h f = grind arith
-
 -- ---- one line more
 
 at_end : (n : ℕ) (c vs : List Member) → n < length c → page (Some n) (c ++ vs) ≡ page (Some n) c
 at_end n c vs h = grind (arith, take-append-le, next_same)
 
--- captures after a page that has its next
-after_end : (form : FormValue) (limit : Option ℕ) (c later : List Member) (start now : Option (List ℕ)) (given : ℕ)
-    (more : Bool) (last : Option PlaceValue)
-    → more ≡ true → PageStands form limit c start now given more last
-    → PageStands form limit (c ++ later) start now given more last
-after_end form None c later start now given more last h s = absurd (true≢false (sym h ∙ s.more_is))
-after_end form (Some n) c later start now given more last h s =
-    let beyond : n < length c = next_some n c (sym s.more_is ∙ h) in
-    let page_is = at_end n c later beyond in
-    let place_is : place_at n (c ++ later) ≡ place_at n c = place_same n c later (omega arith) in
+-- more captures after a page that has its next
+pub after_end : (form : FormValue) (limit : Option ℕ) (c later all : List Member) (start now : Option (List ℕ))
+    (given : ℕ) (more : Bool) (last : Option PlaceValue) → all ≡ c ++ later → more ≡ true
+    → PageStands form limit c start now given more last → PageStands form limit all start now given more last
+after_end form None c later all start now given more last is h s = absurd (true≢false (sym h ∙ s.more_is))
+after_end form (Some n) c later all start now given more last is h s =
+    let beyond = next_some n c (sym s.more_is ∙ h) in
+    let page_is : page (Some n) all ≡ page (Some n) c = rw is (at_end n c later beyond) in
+    let place_is : place_at n all ≡ place_at n c = rw is (place_same n c later (omega (arith, beyond))) in
     grind arith
-
--- lines after it
-pub after_taken : (form : FormValue) (q : QueryValue) (from : Option PlaceValue) (limit : Option ℕ)
-    (taken later : List Member) (start now : Option (List ℕ)) (given : ℕ) (more : Bool) (last : Option PlaceValue)
-    → more ≡ true → PageStands form limit (captures_over q from taken) start now given more last
-    → PageStands form limit (captures_over q from (taken ++ later)) start now given more last
-after_taken form q from limit taken later start now given more last h s =
-    rw (captures_append q from taken later) (after_end form limit (captures_over q from taken) _ start now given more
-    last h s)
 
 -- where a page is full and has no next yet, its last is the n-th
 full_is : (n : ℕ) (c : List Member) (given : ℕ) → is_full (Some n) given ≡ true → given
@@ -151,7 +137,7 @@ room_is (suc n) c given l f g h = grind (arith, length-take, eqb-false)
 last_of : (n given : ℕ) (c : List Member) (m : Member) (last : Option PlaceValue) → n < 2 ^ 64 → length c < n → given
     ≡ min (length c + 1) (2 ^ 64 - 1) → last ≡ place_at n c
     → last_after (Some n) given last (member_place m) ≡ place_at n (c ++ m ∷ [])
-last_of n given c m last l room g k = grind (arith, place_last, eqb-false, length-append, below, place_short)
+last_of n given c m last l room g k = grind (arith, place_last, eqb-false, length-append, place_short)
 
 -- a capture that was written
 pub written_one : (form : FormValue) (limit : Option ℕ) (c : List Member) (m : Member) (start now new : Option (List ℕ))
@@ -182,9 +168,8 @@ pub broke_row : (form : FormValue) (limit : Option ℕ) (c : List Member) (m : M
     → PageStands form limit c start now given more last
     → AppendsPrefix start new (begun form (page limit (c ++ m ∷ [])).members)
 broke_row form limit c m start now new given more last h f l p s =
-    subst (λ ms. AppendsPrefix start new (begun form ms)) (sym (members_one limit f l (sym s.more_is ∙ h) s.given_is))
-    (subst (AppendsPrefix start new) (sym (begun-more form (page limit c).members m))
-    (prefix_after start now new (begun form (page limit c).members) (row_text form m) s.text p))
+    rw (members_one limit f l (sym s.more_is ∙ h) s.given_is, begun-more form (page limit c).members m)
+    (prefix_after _ _ _ _ _ s.text p)
   where
     members_one : (limit : Option ℕ) → is_full limit given ≡ false → FitsWord limit → is_some (page limit c).next
         ≡ false → given ≡ min (length (page limit c).members) (2 ^ 64 - 1)
@@ -213,11 +198,8 @@ pub broke_longer : (q : QueryValue) (from : Option PlaceValue) (limit : Option �
 broke_longer q from limit taken later start now p =
     let r = page_front limit (captures_over q from taken)
     (kept_after q from (place_before q from taken) (filter (is_wanted q from) later)) in
-    let members : (page_over q from limit (taken ++ later)).members ≡ (page_over q from limit taken).members ++ r.0 =
-    ap (λ l. (page limit l).members) (captures_append q from taken later) ∙ r.1 in
-    subst (AppendsPrefix start now)
-    (sym (ap (begun (form_of q)) members ∙ begun-append (form_of q) (page_over q from limit taken).members r.0))
-    (grind (arith, prefix_longer))
+    rw (captures_append q from taken later, r.1, begun-append (form_of q) (page_over q from limit taken).members r.0)
+    (prefix_longer _ _ _ _ p)
 
 -- ---- the whole page
 

@@ -27,8 +27,8 @@ returns-in_err-take_line-clause-broke g c = λ taken start s.
     let old = c.args.self.now in
     let broke = rw (inv.kept.0.0, inv.kept.0.1, inv.kept.1) at
     (c.in_err-take_line.ensures.broke _ start (inv.stands taken start s)) in
-    let p = err_from_is_err_and c.from_residual.result c.from_residual.ensures.1 in
-    rw (p.1, parts.1) (broke_longer old.selection.query.now (from_view old.selection.from) old.limit _ parts.0 start _
+    rw ((err_from_is_err_and c.from_residual.result c.from_residual.ensures.1).1, parts.1)
+    (broke_longer old.selection.query.now (from_view old.selection.from) old.limit _ parts.0 start _
     broke)
 
 pub returns-in_err-take_line-clause-grows : goal.returns-in_err-take_line-clause-grows

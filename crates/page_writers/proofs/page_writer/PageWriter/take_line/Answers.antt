@@ -2,14 +2,15 @@ use Rattle.std.proofs.Common.{arith, rules, ◌≡◌, true, false}
 use Rattle.std.proofs.Common.{append-nil}
 use Rattle.std.proofs.lemmas.Result.{err_from_is_err_and}
 use Rattle.page_writers.specs.WriterView.{from_view}
-use Rattle.page_writers.proofs.WriterLemmas.{after_taken, at_limit, written_one, broke_row, broke_longer}
+use Rattle.page_writers.proofs.CaptureLemmas.{captures_append}
+use Rattle.page_writers.proofs.WriterLemmas.{after_end, at_limit, written_one, broke_row, broke_longer}
 use Rattle.page_writers.proofs.WriterLemmas.{whole_prefix}
 use Rattle.page_writers.proofs.page_writer.PageWriter.take_line.Goals as goal
 
 pub returns-then-self-clause-stands : goal.returns-then-self-clause-stands
 returns-then-self-clause-stands g c = λ taken start s.
     let w = c.args.self.now.selection in
-    (after_taken _ w.query.now (from_view w.from) _ taken _ _ _ _ _ _ c.if-self.true s.0, λ e. cc)
+    (after_end _ _ _ _ _ _ _ _ _ _ (captures_append w.query.now (from_view w.from) taken _) c.if-self.true s.0, λ e. cc)
 
 pub returns-then-not-branch-clause-stands : goal.returns-then-not-branch-clause-stands
 returns-then-not-branch-clause-stands g c = λ taken start s.
@@ -46,8 +47,10 @@ returns-in_err-takes-clause-broke g c = grind (arith, broke_longer, whole_prefix
 pub returns-in_err-put_capture-clause-broke : goal.returns-in_err-put_capture-clause-broke
 returns-in_err-put_capture-clause-broke g c = λ taken start s.
     let is : c.in_ok-takes.field-0 ≡ true = search rules in
-    let p = err_from_is_err_and c.from_residual-in_err-put_capture.result c.from_residual-in_err-put_capture.ensures.1
-    in
-    rw (p.1, c.in_ok-takes.ensures.capture taken (s.1 c.if-self.false), is)
+    rw (
+      (err_from_is_err_and c.from_residual-in_err-put_capture.result c.from_residual-in_err-put_capture.ensures.1).1,
+      c.in_ok-takes.ensures.capture taken (s.1 c.if-self.false),
+      is,
+    )
     (broke_row _ _ _ c.args.line.now _ _ _ _ _ _ c.if-self.false (search rules) c.is_full.ensures.fits
     (rw (← c.takes.ensures.same.0) c.in_err-put_capture.ensures.part) s.0)

@@ -12,5 +12,5 @@ returns-in_ok-turn-clause-stands g c = grind (arith, turned_stands, first_positi
 
 pub returns-in_err-turn-clause-front : goal.returns-in_err-turn-clause-front
 returns-in_err-turn-clause-front g c = λ sizes captures start m s.
-    let p = err_from_is_err_and c.from_residual.result c.from_residual.ensures.1 in
-    rw p.1 (turning_front _ _ _ _ _ _ _ _ _ s (eqb-true _ _ (search rules)) m _ c.in_err-turn.ensures.text)
+    rw (err_from_is_err_and c.from_residual.result c.from_residual.ensures.1).1
+    (turning_front _ _ _ _ _ _ _ _ _ s (eqb-true _ _ (search rules)) m _ c.in_err-turn.ensures.text)

@@ -37,8 +37,8 @@ returns-in_err-take_line-clause-broke g c = λ sizes taken start s.
     let old = c.args.self.now in
     let broke = rw (inv.same.0, inv.same.1) at (c.in_err-take_line.ensures.broke sizes _ start
     (inv.stands sizes taken start s)) in
-    let p = err_from_is_err_and c.from_residual.result c.from_residual.ensures.1 in
-    rw (p.1, parts.1) (front_more old.selection.query.now (from_view old.selection.from) sizes _ parts.0 start _ broke)
+    rw ((err_from_is_err_and c.from_residual.result c.from_residual.ensures.1).1, parts.1)
+    (front_more old.selection.query.now (from_view old.selection.from) sizes _ parts.0 start _ broke)
 
 pub returns-in_err-take_line-clause-grows : goal.returns-in_err-take_line-clause-grows
 returns-in_err-take_line-clause-grows g c = grows_on _ _ _ c.loop-line.invariant.grows c.take_line.ensures.grows

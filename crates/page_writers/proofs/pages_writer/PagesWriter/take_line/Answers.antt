@@ -9,8 +9,8 @@ use Rattle.page_writers.proofs.pages_writer.PagesWriter.take_line.Goals as goal
 pub returns-in_err-takes-clause-broke : goal.returns-in_err-takes-clause-broke
 returns-in_err-takes-clause-broke g c = λ sizes taken start s.
     let w = c.args.self.now.selection in
-    let p = err_from_is_err_and c.from_residual.result c.from_residual.ensures.1 in
-    rw p.1 (front_more w.query.now (from_view w.from) sizes taken _ start _ (stands_front _ _ _ _ _ _ _ _ _ s.1 s.2))
+    rw (err_from_is_err_and c.from_residual.result c.from_residual.ensures.1).1
+    (front_more w.query.now (from_view w.from) sizes taken _ start _ (stands_front _ _ _ _ _ _ _ _ _ s.1 s.2))
 
 pub returns-else-branch-clause-stands : goal.returns-else-branch-clause-stands
 returns-else-branch-clause-stands g c = λ sizes taken start s.
@@ -23,8 +23,12 @@ pub returns-in_err-make_room-clause-broke : goal.returns-in_err-make_room-clause
 returns-in_err-make_room-clause-broke g c = λ sizes taken start s.
     let is : c.in_ok-takes.field-0 ≡ true = search rules in
     let same = c.takes.ensures.same.0 in
-    let p = err_from_is_err_and c.from_residual-in_err-make_room.result c.from_residual-in_err-make_room.ensures.1 in
-    rw (p.1, c.in_ok-takes.ensures.capture taken s.0, is, ← same)
+    rw (
+      (err_from_is_err_and c.from_residual-in_err-make_room.result c.from_residual-in_err-make_room.ensures.1).1,
+      c.in_ok-takes.ensures.capture taken s.0,
+      is,
+      ← same,
+    )
     (c.in_err-make_room.ensures.front sizes _ start c.args.line.now (rw same s.1))
 
 pub returns-in_err-put_capture-clause-broke : goal.returns-in_err-put_capture-clause-broke
@@ -33,9 +37,11 @@ returns-in_err-put_capture-clause-broke g c = λ sizes taken start s.
     let same = c.takes.ensures.same.0 in
     let room = c.in_ok-make_room.ensures.stands sizes (captures_of c.args.self.now.selection taken) start
     (rw same s.1) in
-    let p = err_from_is_err_and c.from_residual-in_err-put_capture.result c.from_residual-in_err-put_capture.ensures.1
-    in
-    rw (p.1, c.in_ok-takes.ensures.capture taken s.0, is)
+    rw (
+      (err_from_is_err_and c.from_residual-in_err-put_capture.result c.from_residual-in_err-put_capture.ensures.1).1,
+      c.in_ok-takes.ensures.capture taken s.0,
+      is,
+    )
     (rw (c.make_room.ensures.selection, same) at (capture_front _ _ _ _ _ _ _ _ _ room.0 c.args.line.now _ room.1
     c.in_err-put_capture.ensures.part))
 

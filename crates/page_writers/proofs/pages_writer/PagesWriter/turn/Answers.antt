@@ -12,6 +12,6 @@ pub returns-in_err-put_start-clause-text : goal.returns-in_err-put_start-clause-
 returns-in_err-put_start-clause-text g c =
     let w = c.args.self.now in
     let form = form_of w.selection.query.now in
-    let p = err_from_is_err_and c.from_residual-in_err-put_start.result c.from_residual-in_err-put_start.ensures.1 in
-    rw p.1 (prefix_after _ (g.O.Output.written c.put_end.new.out) _ (page_end form (shown_key true w.last))
+    rw (err_from_is_err_and c.from_residual-in_err-put_start.result c.from_residual-in_err-put_start.ensures.1).1
+    (prefix_after _ (g.O.Output.written c.put_end.new.out) _ (page_end form (shown_key true w.last))
     (page_start form) (search rules) (search rules))
