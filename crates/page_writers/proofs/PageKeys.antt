@@ -4,11 +4,10 @@ use Rattle.std.proofs.Common.{MatchOption, refl, ap, ◌∙◌}
 use Rattle.std.specs.List.{AllByRecursion}
 use Rattle.std.specs.Option.{is_some}
 use Rattle.std.proofs.lemmas.List.{take_all}
-use Rattle.page_core.specs.Pages.{at_most}
+use Rattle.page_core.specs.Pages.{at_most, Page, first_size, later_sizes, collapsed, next_after, IsChain}
 use Rattle.page_writers.proofs.WriterLemmas.{ends_at, next_place, next_short, next_some}
 use Rattle.cdxj_places.specs.Places.{PlaceValue, place_cmp}
 use Rattle.cdxj_core.specs.Members.{Member, member_place}
-use Rattle.page_core.specs.Pages.{Page, first_size, later_sizes, collapsed, next_after, IsChain}
 use Rattle.page_writers.specs.PagesWriting.{HasReadKey}
 use Rattle.page_writers.specs.WrittenPages.{EndsWithKey, KeysButLast, empty_page}
 
