@@ -1,12 +1,12 @@
 -- The steps of a search.
 use Rattle.std.proofs.Common.{◌≡◌, ℕ, ◌+◌, ◌-◌, ◌/◌, ◌<◌, ◌≤◌, List, length, drop, true, false, Option, Some, None}
-use Rattle.std.proofs.Common.{IfSome, IfNone, inr, ◌∙◌, subst, arith}
+use Rattle.std.proofs.Common.{IfSome, IfNone, inr, subst, arith}
 use Rattle.std.proofs.lemmas.List.{drop_all}
 use Rattle.cdxj_core.specs.Indexes.{IsIndex}
 use Rattle.cdxj_core.specs.Members.{Member}
 use Rattle.cdxj_places.specs.Pairs.{Pair}
 use Rattle.source_core.specs.IndexLines.{lines, from_line, first_length, BeginsAfter}
-use Rattle.source_core.specs.Halved.{Halved, IsFar}
+use Rattle.source_core.specs.Halved.{Halved, HalvedIn, IsFar}
 use Rattle.source_core.specs.Halving.{stops}
 use Rattle.source_core.specs.Search.{line_below, IsCut, IsStop}
 use Rattle.source_core.specs.declared.seeking.Span.{Span}
@@ -17,21 +17,28 @@ use Rattle.source_core.proofs.SortedCuts.{begins_there, cut_there, lines_are_sho
 module _ (limit : ℕ) (start : Pair) (text : Option (List ℕ)) (extent : ℕ) (s : Span)
     (h : Halved limit start text extent s) (some : s.low < s.high) (middle : ℕ)
     (half : middle ≡ s.low + (s.high - s.low) / 2) (probes : ℕ) (next : probes ≡ s.probes + 1) where
+  -- the upper half is left out
+  halves : (line : Option ℕ) → IfSome line (λ o. o ≤ extent) → IfNone line (0 < middle)
+      → ((t : List ℕ) → text ≡ Some t
+      → HalvedIn limit start extent t (record { low = s.low; high = middle; line = line; probes = probes }))
+      → Halved limit start text extent (record { low = s.low; high = middle; line = line; probes = probes })
+  halves line there hidden told =
+      let w = half_step (s.high - s.low) h.left.0 h.left.2 (omega arith) in
+      record {
+        ordered = omega arith;
+        within = omega (arith, h.within);
+        inside = there;
+        some = hidden;
+        left = (w.0, omega (arith, h.left.1, w.1), omega arith);
+        told = told;
+      }
+
   -- the line that begins there isn't below the pair
   pub halves_down : (offset : ℕ) → offset ≤ extent
       → ((t : List ℕ) → text ≡ Some t → (drop offset t ≡ from_line middle t)
       × (stops (line_below limit start) middle t ≡ true))
       → Halved limit start text extent (record { low = s.low; high = middle; line = Some offset; probes = probes })
-  halves_down offset inside told =
-      let w = half_step (s.high - s.low) h.left.0 h.left.2 (omega arith) in
-      record {
-        ordered = omega arith;
-        within = omega (arith, h.within);
-        inside = inside;
-        some = tt;
-        left = (w.0, omega (arith, h.left.1, w.1), (omega arith));
-        told = λ t e. let d = h.told t e in grind arith;
-      }
+  halves_down offset inside told = halves (Some offset) inside tt (λ t e. let d = h.told t e in grind arith)
 
   -- it is below the pair
   pub halves_up : (offset : ℕ) → middle ≤ offset → offset < s.high
@@ -46,43 +53,14 @@ module _ (limit : ℕ) (start : Pair) (text : Option (List ℕ)) (extent : ℕ) 
   pub halves_hidden : (until : ℕ) → 0 < middle → until ≡ middle + limit → until ≤ s.high
       → ((t : List ℕ) → text ≡ Some t → from_line until t ≡ from_line middle t)
       → Halved limit start text extent (record { low = s.low; high = middle; line = None; probes = probes })
-  halves_hidden until later far inside told =
-      let w = half_step (s.high - s.low) h.left.0 h.left.2 (omega arith) in
-      record {
-        ordered = omega arith;
-        within = omega (arith, h.within);
-        inside = tt;
-        some = later;
-        left = (w.0, omega (arith, h.left.1, w.1), (omega arith));
-        told = λ t e. let d = h.told t e in record {
-          long = d.long;
-          from = tt;
-          here = tt;
-          far = far_here limit t middle until far (omega (arith, d.long, h.within)) (told t e);
-          before = d.before;
-          begins = d.begins;
-        };
-      }
+  halves_hidden until later far inside told = halves None tt later (λ t e.
+      let d = h.told t e in
+      let hidden = far_here limit t middle until far (omega (arith, d.long, h.within)) (told t e) in grind arith)
 
   -- none begins in the upper half
   pub halves_none : 0 < middle → ((t : List ℕ) → text ≡ Some t → from_line s.high t ≡ from_line middle t)
       → Halved limit start text extent (record { low = s.low; high = middle; line = s.line; probes = probes })
-  halves_none later told =
-      let w = half_step (s.high - s.low) h.left.0 h.left.2 (omega arith) in
-      record {
-        ordered = omega arith;
-        within = omega (arith, h.within);
-        inside = h.inside;
-        some = none_so s.line _ later;
-        left = (w.0, omega (arith, h.left.1, w.1), (omega arith));
-        told = λ t e. let d = h.told t e in grind arith;
-      }
-
--- a source that stayed as it was
-pub halved_kept : (limit : ℕ) (start : Pair) (text text' : Option (List ℕ)) (extent extent' : ℕ) (s : Span) → text'
-    ≡ text → extent' ≡ extent
-    → Halved limit start text extent s → Halved limit start text' extent' s
-halved_kept limit start text text' extent extent' s e f h = grind arith
+  halves_none later told = halves s.line h.inside (none_so s.line _ later) (λ t e. let d = h.told t e in grind arith)
 
 -- before the first step
 pub halves_none_yet : (limit : ℕ) (start : Pair) (text : Option (List ℕ)) (extent : ℕ)

@@ -87,44 +87,36 @@ module _ (limit : ℕ) (start : Pair) where
       ap (λ l. is_some_below start (pair_of l)) (take_all limit line (omega arith))
       ∙ ap (is_some_below start) (entry_pair_is limit line m h)
 
-  abbrev HaveEntries : List (List ℕ) → List Member → Type 0
-  HaveEntries ls ms = map (line_entry limit) ls ≡ map Some ms
+  -- the lines and their entries, one by one
+  data Entries : List (List ℕ) → List Member → Type 0 where
+    none : Entries [] []
+    one : {l : List ℕ} {ls : List (List ℕ)} {m : Member} {ms : List Member} → line_entry limit l ≡ Some m
+        → Entries ls ms → Entries (l ∷ ls) (m ∷ ms)
 
-  same_head : (l : List ℕ) (ls : List (List ℕ)) (m : Member) (ms : List Member) → HaveEntries (l ∷ ls) (m ∷ ms)
-      → line_entry limit l ≡ Some m
-  same_head l ls m ms h = cc
+  each : (ls : List (List ℕ)) (ms : List Member) → map (line_entry limit) ls ≡ map Some ms → Entries ls ms
+  each [] [] h = none
+  each [] (m ∷ ms) h = absurd (cc)
+  each (l ∷ ls) [] h = absurd (cc)
+  each (l ∷ ls) (m ∷ ms) h = one (cc) (each ls ms (cc))
 
-  same_tail : (l : List ℕ) (ls : List (List ℕ)) (m : Member) (ms : List Member) → HaveEntries (l ∷ ls) (m ∷ ms)
-      → HaveEntries ls ms
-  same_tail l ls m ms h = cc
-
-  entries_short : (ls : List (List ℕ)) (ms : List Member) → HaveEntries ls ms → longest ls ≤ limit
-  entries_short [] ms h = omega arith
-  entries_short (l ∷ ls) [] h = absurd (cc)
-  entries_short (l ∷ ls) (m ∷ ms) h =
-      grind (arith, entry_is_short, body_length, entries_short ls ms (same_tail l ls m ms h))
+  entries_short : {ls : List (List ℕ)} {ms : List Member} → Entries ls ms → longest ls ≤ limit
+  entries_short none = omega arith
+  entries_short (one e r) = grind (arith, entry_is_short, body_length, entries_short r)
 
   pub lines_are_short : (t : List ℕ) (ms : List Member) → IsIndex limit t ms → longest (lines t) ≤ limit
-  lines_are_short t ms index = entries_short (lines t) ms index.entries
+  lines_are_short t ms index = entries_short (each (lines t) ms index.entries)
 
-  later_high : (m : Member) (ls : List (List ℕ)) (ms : List Member) → HaveEntries ls ms
+  later_high : {ls : List (List ℕ)} {ms : List Member} (m : Member) → Entries ls ms
       → AllByRecursion (λ k. is_gt (pair_cmp (member_pair m) (member_pair k)) ≡ false) ms
       → is_below start (member_pair m) ≡ false → AllByRecursion (λ k. line_below limit start k ≡ false) ls
-  later_high m [] ms h up low = tt
-  later_high m (l ∷ ls) [] h up low = absurd (cc)
-  later_high m (l ∷ ls) (k ∷ ms) h up low = (
-    entry_below l k (same_head l ls k ms h) ∙ not_below_later start (member_pair m) (member_pair k) low up.0,
-    later_high m ls ms (same_tail l ls k ms h) up.1 low,
-  )
+  later_high m none up low = tt
+  later_high m (one e r) up low =
+      (entry_below _ _ e ∙ not_below_later start (member_pair m) _ low up.0, later_high m r up.1 low)
 
-  below_first : (ls : List (List ℕ)) (ms : List Member) → HaveEntries ls ms → NeverFalls member_pair pair_cmp ms
+  below_first : {ls : List (List ℕ)} {ms : List Member} → Entries ls ms → NeverFalls member_pair pair_cmp ms
       → BelowFirst (line_below limit start) ls
-  below_first [] ms h n = tt
-  below_first (l ∷ ls) [] h n = absurd (cc)
-  below_first (l ∷ ls) (m ∷ ms) h n = (
-    (λ e. later_high m ls ms (same_tail l ls m ms h) n.0 (sym (entry_below l m (same_head l ls m ms h)) ∙ e)),
-    below_first ls ms (same_tail l ls m ms h) n.1,
-  )
+  below_first none n = tt
+  below_first (one {m = m} e r) n = (λ low. later_high m r n.0 (sym (entry_below _ _ e) ∙ low), below_first r n.1)
 
   record Split (before : List (List ℕ)) (members : List Member) : Type 0 where
     low : List Member
@@ -134,39 +126,25 @@ module _ (limit : ℕ) (start : Pair) where
     all_below : AllByRecursion (λ m. is_below start (member_pair m) ≡ true) low
     none_below : AllByRecursion (λ m. is_below start (member_pair m) ≡ false) high
 
-  all_high : (ls : List (List ℕ)) (ms : List Member) → HaveEntries ls ms
+  all_high : {ls : List (List ℕ)} {ms : List Member} → Entries ls ms
       → AllByRecursion (λ k. line_below limit start k ≡ false) ls
       → AllByRecursion (λ m. is_below start (member_pair m) ≡ false) ms
-  all_high ls [] h a = tt
-  all_high [] (m ∷ ms) h a = absurd (cc)
-  all_high (l ∷ ls) (m ∷ ms) h a = (
-    sym (entry_below l m (same_head l ls m ms h))
-        ∙ a.0,
-    all_high ls ms (same_tail l ls m ms h) a.1,
-  )
+  all_high none a = tt
+  all_high (one e r) a = (sym (entry_below _ _ e) ∙ a.0, all_high r a.1)
 
-  split : (before rest : List (List ℕ)) (ms : List Member) → HaveEntries (before ++ rest) ms
+  split : (before rest : List (List ℕ)) {ms : List Member} → Entries (before ++ rest) ms
       → AllByRecursion (λ k. line_below limit start k ≡ true) before
       → AllByRecursion (λ k. line_below limit start k ≡ false) rest → Split before ms
-  split [] rest ms h low high =
-      record {
-        low = [];
-        high = ms;
-        members_are = refl;
-        as_many = refl;
-        all_below = tt;
-        none_below = all_high rest ms h
-            high;
-      }
-  split (l ∷ before) rest [] h low high = absurd (cc)
-  split (l ∷ before) rest (m ∷ ms) h low high =
-      let ih = split before rest ms (same_tail l (before ++ rest) m ms h) low.1 high in
+  split [] rest {ms = ms} h low high =
+      record { low = []; high = ms; members_are = refl; as_many = refl; all_below = tt; none_below = all_high h high }
+  split (l ∷ before) rest (one {m = m} e r) low high =
+      let ih = split before rest r low.1 high in
       record {
         low = m ∷ ih.low;
         high = ih.high;
         members_are = ap (λ ms. m ∷ ms) ih.members_are;
         as_many = ap suc ih.as_many;
-        all_below = grind (arith, entry_below);
+        all_below = (sym (entry_below l m e) ∙ low.0, ih.all_below);
         none_below = ih.none_below;
       }
 
@@ -175,10 +153,10 @@ module _ (limit : ℕ) (start : Pair) where
       → stops (line_below limit start) r t ≡ true → ((k : ℕ) → r ≡ k + 1 → stops (line_below limit start) k t ≡ false)
       → IsCut start t ms offset
   cut_there t ms r offset index inside from here before =
-      let s = sought (line_below limit start) t r (below_first (lines t) ms index.entries index.ordered) here before in
+      let entries = each (lines t) ms index.entries in
+      let s = sought (line_below limit start) t r (below_first entries index.ordered) here before in
       let cut : lines t ≡ s.before ++ lines (drop offset t) = grind arith in
-      let parts = split s.before (lines (from_line r t)) ms (ap (map (line_entry limit)) (sym s.cut) ∙ index.entries)
-      s.low s.high in
+      let parts = split s.before (lines (from_line r t)) (rw s.cut at entries) s.low s.high in
       record {
         before = s.before;
         begins = (cut, begins_at t offset s.before cut inside);

@@ -1,7 +1,7 @@
 -- Bytes that a window holds.
 use Rattle.std.proofs.lemmas.Grind.{common_steps}
 use Rattle.std.proofs.Common.{◌≡◌, ℕ, ◌+◌, ◌-◌, ◌≤◌, Bool, List, [], ◌++◌, length, take, drop, min, Option, Some, inl}
-use Rattle.std.proofs.Common.{inr, ◌∙◌, subst, arith, drop-drop, length-take, length-append}
+use Rattle.std.proofs.Common.{inr, subst, arith, drop-drop, length-take, length-append}
 use Rattle.std.proofs.lemmas.Bool.{cases_lt, cond-false, cond_both, le-ltb, ltb-false}
 use Rattle.std.specs.Prelude.{ltb}
 use Rattle.std.proofs.lemmas.List.{drop-take, drop_all, take-take}

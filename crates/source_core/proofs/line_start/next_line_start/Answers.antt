@@ -1,5 +1,5 @@
 use Rattle.std.proofs.lemmas.Grind.{common_steps}
-use Rattle.std.proofs.Common.{◌≡◌, ◌+◌, ◌≤◌, ℕ, Some, List, take, drop, arith, ◌∙◌}
+use Rattle.std.proofs.Common.{◌≡◌, ◌+◌, ◌≤◌, ℕ, Some, List, take, drop, arith}
 use Rattle.source_core.specs.Windows.{AreBytesAt}
 use Rattle.source_core.specs.IndexLines.{lines, longest}
 use Rattle.source_core.proofs.Pieces.{nowhere_in, found_in, begins_in}

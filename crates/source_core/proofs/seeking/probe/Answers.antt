@@ -1,4 +1,4 @@
-use Rattle.std.proofs.Common.{arith, ◌≡◌, ◌∙◌, subst, drop, IfSome}
+use Rattle.std.proofs.Common.{arith, ◌≡◌, subst, drop, IfSome}
 use Rattle.source_core.specs.IndexLines.{from_line}
 use Rattle.source_core.proofs.seeking.probe.Goals as goal
 

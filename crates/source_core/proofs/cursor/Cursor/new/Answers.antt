@@ -1,4 +1,4 @@
-use Rattle.std.proofs.Common.{◌∙◌, arith}
+use Rattle.std.proofs.Common.{arith}
 use Rattle.source_core.proofs.cursor.Cursor.new.Goals as goal
 
 pub returns-clause-stands : goal.returns-clause-stands

@@ -1,5 +1,5 @@
 use Rattle.std.proofs.lemmas.Grind.{common_steps}
-use Rattle.std.proofs.Common.{rules, arith, ◌≡◌, ◌+◌, ◌-◌, ◌<◌, ◌≤◌, ◌++◌, ◌∷◌, List, ℕ, Some, length, take, drop, sym}
+use Rattle.std.proofs.Common.{rules, arith, ◌≡◌, ◌+◌, ◌-◌, ◌≤◌, ◌++◌, List, ℕ, Some, length, take, drop, sym}
 use Rattle.std.proofs.Common.{ap, ◌∙◌, subst, length-append, length-take, length-drop}
 use Rattle.source_core.specs.LineParts.{PartOf, NoFeed}
 use Rattle.source_core.specs.Windows.{AreBytesAt, held_from}

@@ -1,4 +1,4 @@
-use Rattle.std.proofs.Common.{arith, ◌-◌, ◌∙◌}
+use Rattle.std.proofs.Common.{arith}
 use Rattle.std.proofs.lemmas.Bool.{le-ltb}
 use Rattle.source_core.proofs.WindowLemmas.{held_rest}
 use Rattle.source_core.proofs.window.Window.from.Goals as goal
