@@ -1,8 +1,8 @@
 -- What the first bytes of a line say of its pair.
-use Rattle.std.proofs.Common.{◌≡◌, ℕ, zero, suc, ◌+◌, ◌-◌, ◌<◌, ◌≤◌, Bool, true, false, not, cond, List, [], ◌∷◌, ◌++◌}
+use Rattle.std.proofs.Common.{◌≡◌, ℕ, ◌+◌, ◌-◌, ◌<◌, ◌≤◌, Bool, true, false, not, List, [], ◌∷◌, ◌++◌}
 use Rattle.std.proofs.Common.{length, take, drop, Option, Some, None, option_map, refl, sym, ap, ◌∙◌, arith, append-nil}
-use Rattle.std.specs.List.{onto_first}
-use Rattle.std.proofs.lemmas.List.{take-take, take_all, drop_all}
+use Rattle.std.proofs.Math.Seq.{take-append-add}
+use Rattle.std.proofs.lemmas.List.{take_at, take-take, take_all, drop_all}
 use Rattle.cdxj_places.specs.Pair.{pair_of}
 use Rattle.cdxj_places.proofs.PairLemmas.{pair_longer}
 use Rattle.cdxj_places.specs.TextLines.{lines}
@@ -11,7 +11,8 @@ use Rattle.source_core.specs.Search.{is_below, is_some_below, line_below}
 use Rattle.source_core.specs.Halving.{stops_lines}
 use Rattle.source_core.specs.LineParts.{NoFeed, PartOf, BeginsWith, ReadsOn}
 use Rattle.source_core.proofs.Parts.{ended, goes_on, lines_last}
-use Rattle.source_core.proofs.Seeks.{lines_first}
+use Rattle.source_core.proofs.Seeks.{head_line, lines_first}
+use Rattle.source_core.specs.IndexLines.{after_line}
 
 -- ---- reading on
 
@@ -26,17 +27,9 @@ reads_on t piece front new offset count n ends bytes inside grown len part b =
 
 -- ---- the first line
 
-first_line : (b : ℕ) (u v : List ℕ) → NoFeed (b ∷ u) → (y : List ℕ) × (ls : List (List ℕ))
-    × (lines (b ∷ (u ++ v)) ≡ (b ∷ (u ++ y)) ∷ ls)
-first_line b [] [] h = ([], [], lines_last b [] h)
-first_line b [] (c ∷ w) h =
-    let first = lines_first c w in (
-      first.0,
-      _,
-      ap (λ t. cond t ((b ∷ []) ∷ lines (c ∷ w)) (onto_first b (lines (c ∷ w)))) h.0
-          ∙ ap (onto_first b) first.1,
-    )
-first_line b (c ∷ u) v h = grind (arith, first_line c u v h.1)
+head_on : (u v : List ℕ) → NoFeed u → head_line (u ++ v) ≡ u ++ head_line v
+head_on [] v h = refl
+head_on (b ∷ u) v h = grind (arith, head_on u v h.1)
 
 abbrev FirstIs : List ℕ → List ℕ → Type 0
 FirstIs s front = (y : List ℕ) × (ls : List (List ℕ)) × (lines s ≡ (front ++ y) ∷ ls)
@@ -44,20 +37,19 @@ FirstIs s front = (y : List ℕ) × (ls : List (List ℕ)) × (lines s ≡ (fron
 goes_first : (t : List ℕ) (offset : ℕ) (front : List ℕ) → BeginsWith t offset front → 0 < length front
     → FirstIs (drop offset t) front
 goes_first t offset [] b h = absurd (omega arith)
-goes_first t offset (x ∷ u) b h = grind (arith, first_line x u (drop (offset + length (x ∷ u)) t) b.goes_on)
+goes_first t offset (x ∷ u) b h =
+    let rest = drop (offset + length (x ∷ u)) t in
+    (head_line rest, lines (after_line (x ∷ (u ++ rest))), grind (arith, lines_first, head_on (x ∷ u) rest b.goes_on))
 
 reads_first : (t : List ℕ) (offset : ℕ) (front : List ℕ) (ends : Bool) → ReadsOn t offset front ends → 0 < length front
     → FirstIs (drop offset t) front
 reads_first t offset front true r h = grind (arith, append-nil front)
 reads_first t offset front false r h = goes_first t offset front r h
 
-take_front : (n : ℕ) (x y : List ℕ) → length x ≤ n → take n (x ++ y) ≡ x ++ take (n - length x) y
-take_front n [] y h = grind arith
-take_front zero (b ∷ x) y h = absurd (omega arith)
-take_front (suc n) (b ∷ x) y h = grind (arith, take_front n x y (omega arith))
-
-take_whole : (n : ℕ) (x y : List ℕ) → length x ≡ n → take n (x ++ y) ≡ x
-take_whole n x y h = grind (arith, take_front, append-nil)
+take-append : (n : ℕ) (x y : List ℕ) → length x ≤ n → take n (x ++ y) ≡ x ++ take (n - length x) y
+take-append n x y h =
+    let e : n ≡ length x + (n - length x) = omega arith in
+    ap (λ k. take k (x ++ y)) e ∙ take-append-add x y (n - length x)
 
 -- ---- the answers of a test
 
@@ -73,33 +65,22 @@ module _ (limit : ℕ) (start : Pair) where
       let same : below ≡ is_below start p = cc in
       ap not same
       ∙ ap (λ o. not (is_some_below start o))
-      (sym (ap pair_of (take_front limit front first.0 short)
+      (sym (ap pair_of (take-append limit front first.0 short)
       ∙ pair_longer front (take (limit - length front) first.0) p e))
       ∙ ap (stops_lines (λ l. is_some_below start (pair_of (take limit l)))) (sym first.2)
 
-  -- the front has a pair
-  pub decided : (t : List ℕ) (offset : ℕ) (front held : List ℕ) (ends below : Bool) → held ≡ front
-      → ReadsOn t offset front ends → 0 < length front → length front ≤ limit
-      → Some below ≡ option_map (is_below start) (pair_of held) → not below
-      ≡ stops_lines (line_below limit start) (lines (drop offset t))
-  decided t offset front held ends below same r some short h =
-      decided_by t offset front ends below (pair_of front) r some short refl (grind arith)
-
-  -- so it isn't empty
+  -- the front has a pair, so it isn't empty
   pub decided_at : (t : List ℕ) (offset : ℕ) (front held : List ℕ) (ends below : Bool) → held ≡ front
       → ReadsOn t offset front ends → length front ≤ limit
       → Some below ≡ option_map (is_below start) (pair_of held) → not below
       ≡ stops_lines (line_below limit start) (lines (drop offset t))
   decided_at t offset [] held ends below same r short h = grind arith
-  decided_at t offset (x ∷ u) held ends below same r short h = grind (arith, decided)
+  decided_at t offset (x ∷ u) held ends below same r short h =
+      decided_by t offset (x ∷ u) ends below _ r (omega arith) short refl (grind arith)
 
-  none_by : (o : Option Pair) → None ≡ option_map (is_below start) o → o ≡ None
+  pub none_by : (o : Option Pair) → None ≡ option_map (is_below start) o → o ≡ None
   none_by None h = refl
   none_by (Some p) h = absurd (cc)
-
-  pub has_none : (front held : List ℕ) → held ≡ front → None ≡ option_map (is_below start) (pair_of held)
-      → pair_of front ≡ None
-  has_none front held same h = grind (arith, none_by)
 
   -- the whole line, or as much as is looked at, has none
   pub none_whole : (t : List ℕ) (offset : ℕ) (front : List ℕ) → ReadsOn t offset front true → length front ≤ limit
@@ -112,7 +93,7 @@ module _ (limit : ℕ) (start : Pair) where
       ≡ limit → pair_of front ≡ None
       → true ≡ stops_lines (line_below limit start) (lines (drop offset t))
   unfolding line_below
-  none_long t offset front b some long e = grind (arith, goes_first, take_whole)
+  none_long t offset front b some long e = grind (arith, goes_first, take_at)
 
   pub none_left : (t : List ℕ) (offset : ℕ) (front : List ℕ) → BeginsWith t offset front
       → length t ≤ offset + length front → length front ≤ limit → pair_of front ≡ None

@@ -1,12 +1,12 @@
 -- The steps of a search.
 use Rattle.std.proofs.Common.{◌≡◌, ℕ, ◌+◌, ◌-◌, ◌/◌, ◌<◌, ◌≤◌, List, length, drop, true, false, Option, Some, None}
-use Rattle.std.proofs.Common.{IfSome, IfNone, inr, subst, arith}
+use Rattle.std.proofs.Common.{IfSome, IfNone, inr, arith}
 use Rattle.std.proofs.lemmas.List.{drop_all}
 use Rattle.cdxj_core.specs.Indexes.{IsIndex}
 use Rattle.cdxj_core.specs.Members.{Member}
 use Rattle.cdxj_places.specs.Pairs.{Pair}
-use Rattle.source_core.specs.IndexLines.{lines, from_line, first_length, BeginsAfter}
-use Rattle.source_core.specs.Halved.{Halved, HalvedIn, IsFar}
+use Rattle.source_core.specs.IndexLines.{lines, from_line, BeginsAfter}
+use Rattle.source_core.specs.Halved.{Halved, HalvedIn}
 use Rattle.source_core.specs.Halving.{stops}
 use Rattle.source_core.specs.Search.{line_below, IsCut, IsStop}
 use Rattle.source_core.specs.declared.seeking.Span.{Span}
@@ -70,43 +70,26 @@ halves_none_yet limit start text extent long = grind (arith, digits_below extent
 
 -- ---- the end
 
--- where it ends, and whether a line was hidden
-module _ (limit : ℕ) (start : Pair) (text : Option (List ℕ)) (extent : ℕ) (s : Span)
-    (h : Halved limit start text extent s) (end : s.high ≤ s.low) where
-  -- the line that was found, or the last one that was below the pair
-  abbrev pub IsEnd : Option ℕ → ℕ → Type 0
-  IsEnd None offset = (s.line ≡ None) × (offset ≡ s.low - 1)
-  IsEnd (Some o) offset = (s.line ≡ Some o) × (offset ≡ o)
+module _ (limit : ℕ) (start : Pair) (text : Option (List ℕ)) (extent offset : ℕ) where
+  -- a search is over: the line was found, or it is hidden behind the last one that was below the pair
+  pub data IsOver : Type 0 where
+    found : (s : Span) → Halved limit start text extent s → s.high ≤ s.low → s.line ≡ Some offset → IsOver
+    hidden : (s : Span) → Halved limit start text extent s → s.high ≤ s.low → s.line ≡ None → offset ≡ s.low - 1
+        → IsOver
 
-  pub ends_begins : (o : Option ℕ) (offset : ℕ) → IsEnd o offset → (t : List ℕ) → text ≡ Some t
-      → (before : List (List ℕ)) × BeginsAfter t offset before
-  ends_begins None offset e t w =
-      let d = h.told t w in
-      grind (arith, begins_there)
-  ends_begins (Some o) offset e t w =
-      let d = h.told t w in
-      grind (arith, begins_there)
+  pub ends_begins : IsOver → (t : List ℕ) → text ≡ Some t → (before : List (List ℕ)) × BeginsAfter t offset before
+  ends_begins (found s h end some) t w = let d = h.told t w in grind (arith, begins_there)
+  ends_begins (hidden s h end none last) t w = let d = h.told t w in grind (arith, begins_there)
 
-  pub ends_stops : (o : Option ℕ) (offset : ℕ) → IsEnd o offset → (t : List ℕ) → text ≡ Some t
-      → IsStop limit start (lines (drop offset t))
-  ends_stops None offset e t w =
-      let d = h.told t w in
-      let some : 0 < s.high = subst (λ u. IfNone u (0 < s.high)) e.0 h.some in
-      let far : IsFar limit t s.high = subst (λ u. IfNone u (IsFar limit t s.high)) e.0 d.far in
-      let before : s.high - 1 ≡ offset = omega (arith, h.ordered, e.1) in
-      inr (subst (λ k. limit < first_length (lines (drop k t))) before (far_first limit t s.high some far))
-  ends_stops (Some o) offset e t w =
-      let d = h.told t w in
-      grind arith
+  pub ends_stops : IsOver → (t : List ℕ) → text ≡ Some t → IsStop limit start (lines (drop offset t))
+  ends_stops (found s h end some) t w = let d = h.told t w in grind arith
+  ends_stops (hidden s h end none last) t w =
+      let before : offset ≡ s.high - 1 = omega (arith, h.ordered) in
+      inr (rw before (far_first limit t s.high (rw none at h.some) (rw none at (h.told t w).far)))
 
-  pub ends_cut : (o : Option ℕ) (offset : ℕ) → IsEnd o offset → (t : List ℕ) (members : List Member) → text ≡ Some t
-      → IsIndex limit t members → IsCut start t members offset
-  ends_cut None offset e t members w index =
-      let d = h.told t w in
-      let some : 0 < s.high = subst (λ u. IfNone u (0 < s.high)) e.0 h.some in
-      let far : IsFar limit t s.high = subst (λ u. IfNone u (IsFar limit t s.high)) e.0 d.far in
-      let long = far_longest limit t s.high some far in
+  pub ends_cut : IsOver → (t : List ℕ) (members : List Member) → text ≡ Some t → IsIndex limit t members
+      → IsCut start t members offset
+  ends_cut (found s h end some) t members w index = let d = h.told t w in grind (arith, cut_there)
+  ends_cut (hidden s h end none last) t members w index =
+      let long = far_longest limit t s.high (rw none at h.some) (rw none at (h.told t w).far) in
       grind (arith, lines_are_short)
-  ends_cut (Some o) offset e t members w index =
-      let d = h.told t w in
-      grind (arith, cut_there)
