@@ -7,12 +7,19 @@ use Rattle.cdxj_core.specs.Members.{Member}
 use Rattle.cdxj_places.specs.Pairs.{Pair}
 use Rattle.source_core.specs.IndexLines.{lines, from_line, BeginsAfter}
 use Rattle.source_core.specs.Halved.{Halved, HalvedIn}
-use Rattle.source_core.specs.Halving.{stops}
+use Rattle.source_core.specs.Halving.{digits, stops}
 use Rattle.source_core.specs.Search.{line_below, IsCut, IsStop}
 use Rattle.source_core.specs.declared.seeking.Span.{Span}
 use Rattle.source_core.proofs.FarLines.{far_first, far_here, far_longest, none_so}
 use Rattle.source_core.proofs.Halves.{digits_below, from_line_end, half_step, stops_end}
 use Rattle.source_core.proofs.SortedCuts.{begins_there, cut_there, lines_are_short}
+
+-- while offsets are left, so are steps
+pub steps_left : (limit : ℕ) (start : Pair) (text : Option (List ℕ)) (extent : ℕ) (s : Span)
+    → Halved limit start text extent s → s.low < s.high → s.probes + 1 ≤ digits extent
+steps_left limit start text extent s h some =
+    let w = half_step (s.high - s.low) h.left.0 h.left.2 (omega arith) in
+    omega (arith, h.left.1)
 
 module _ (limit : ℕ) (start : Pair) (text : Option (List ℕ)) (extent : ℕ) (s : Span)
     (h : Halved limit start text extent s) (some : s.low < s.high) (middle : ℕ)
