@@ -1,13 +1,13 @@
 -- What the first bytes of a line say of its pair.
 use Rattle.std.proofs.Common.{◌≡◌, ℕ, ◌+◌, ◌-◌, ◌<◌, ◌≤◌, Bool, true, false, not, List, [], ◌∷◌, ◌++◌}
-use Rattle.std.proofs.Common.{length, take, drop, Option, Some, None, option_map, refl, sym, ap, ◌∙◌, arith, append-nil}
+use Rattle.std.proofs.Common.{length, take, drop, Option, Some, None, option_map, refl, ap, ◌∙◌, arith, append-nil}
 use Rattle.std.proofs.Math.Seq.{take-append-add}
 use Rattle.std.proofs.lemmas.List.{take_at, take-take, take_all, drop_all}
 use Rattle.cdxj_places.specs.Pair.{pair_of}
 use Rattle.cdxj_places.proofs.PairLemmas.{pair_longer}
 use Rattle.cdxj_places.specs.TextLines.{lines}
 use Rattle.cdxj_places.specs.Pairs.{Pair}
-use Rattle.source_core.specs.Search.{is_below, is_some_below, line_below}
+use Rattle.source_core.specs.Search.{is_below, line_below}
 use Rattle.source_core.specs.Halving.{stops_lines}
 use Rattle.source_core.specs.LineParts.{NoFeed, PartOf, BeginsWith, ReadsOn}
 use Rattle.source_core.proofs.Parts.{ended, goes_on, lines_last}
@@ -63,11 +63,12 @@ module _ (limit : ℕ) (start : Pair) where
   decided_by t offset front ends below (Some p) r some short e h =
       let first = reads_first t offset front ends r some in
       let same : below ≡ is_below start p = cc in
-      ap not same
-      ∙ ap (λ o. not (is_some_below start o))
-      (sym (ap pair_of (take-append limit front first.0 short)
-      ∙ pair_longer front (take (limit - length front) first.0) p e))
-      ∙ ap (stops_lines (λ l. is_some_below start (pair_of (take limit l)))) (sym first.2)
+      rw (
+        first.2,
+        take-append limit front first.0 short,
+        pair_longer front (take (limit - length front) first.0) p e,
+        same,
+      )
 
   -- the front has a pair, so it isn't empty
   pub decided_at : (t : List ℕ) (offset : ℕ) (front held : List ℕ) (ends below : Bool) → held ≡ front

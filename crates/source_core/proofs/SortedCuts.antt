@@ -1,9 +1,8 @@
 -- Indexes, cut at a pair.
 use Rattle.std.proofs.Common.{◌≡◌, ℕ, zero, suc, ◌+◌, ◌-◌, ◌*◌, ◌^◌, ◌<◌, ◌≤◌, List, [], ◌∷◌, ◌++◌, Bool, true, false}
 use Rattle.std.proofs.Common.{None, Option, not, cond, length, take, drop, flat_map, map, Some, refl, sym, ap, ◌∙◌}
-use Rattle.std.proofs.Common.{arith, length-append, length-drop, length-take, Less, Equal, Greater, is_gt, is_lt}
+use Rattle.std.proofs.Common.{arith, length-append, length-drop, length-take, is_gt}
 use Rattle.std.specs.List.{AllByRecursion}
-use Rattle.std.proofs.lemmas.Bool.{true≢false}
 use Rattle.std.proofs.lemmas.Grind.{flat_map-append}
 use Rattle.std.proofs.lemmas.List.{take_all}
 use Rattle.std.proofs.Math.Pow.{pow_mono}
@@ -44,16 +43,7 @@ begins_there t offset m e inside =
 -- what is not below a start has nothing below it after it
 not_below_later : (start p q : Pair) → is_below start p ≡ false → is_gt (pair_cmp p q) ≡ false → is_below start q
     ≡ false
-not_below_later start p q low up =
-    (elim (pair_cmp q start) as (λ r. pair_cmp q start ≡ r → is_lt r ≡ false) [
-      | Less ↦ (λ e. absurd ((elim (pair_cmp p q) as (λ r. pair_cmp p q ≡ r → is_gt r ≡ false → ⊥) [
-        | Less ↦ (λ f h. true≢false (sym (ap is_lt (pair_cmp_total.trans p q start f e)) ∙ low))
-        | Equal ↦ (λ f h. true≢false (sym (ap is_lt (pair_cmp_total.congr p q start f ∙ e)) ∙ low))
-        | Greater ↦ (λ f h. true≢false h)
-      ]) refl up))
-      | Equal ↦ (λ e. refl)
-      | Greater ↦ (λ e. refl)
-    ]) refl
+not_below_later start p q low up = grind (arith, pair_cmp_total.trans p q start, pair_cmp_total.congr p q start)
 
 -- nothing is below the least pair
 pub none_below_least : (key stamp : List ℕ) → is_below ([], []) (key, stamp) ≡ false
@@ -84,8 +74,7 @@ module _ (limit : ℕ) (start : Pair) where
   entry_below line m h =
       let short = entry_is_short limit line m h in
       let long : length line ≤ length (body_of line) + 1 = body_length _ line in
-      ap (λ l. is_some_below start (pair_of l)) (take_all limit line (omega arith))
-      ∙ ap (is_some_below start) (entry_pair_is limit line m h)
+      rw (take_all limit line (omega arith), entry_pair_is limit line m h)
 
   -- the lines and their entries, one by one
   data Entries : List (List ℕ) → List Member → Type 0 where

@@ -1,16 +1,11 @@
-use Rattle.std.proofs.Common.{arith, ◌≡◌, subst, drop, IfSome}
-use Rattle.source_core.specs.IndexLines.{from_line}
+use Rattle.std.proofs.Common.{arith}
 use Rattle.source_core.proofs.seeking.probe.Goals as goal
 
 pub returns-in_ok-stops-in-Some-clause-line : goal.returns-in_ok-stops-in-Some-clause-line
-returns-in_ok-stops-in-Some-clause-line g c = λ t e.
-    subst (λ o. IfSome o (λ offset. drop offset t ≡ from_line c.args.middle t)) c.in-Some.is
-    (c.in_ok-offset.ensures.line t e)
+returns-in_ok-stops-in-Some-clause-line g c = λ t e. rw c.in-Some.is at (c.in_ok-offset.ensures.line t e)
 
 pub returns-in_ok-stops-in-Some-clause-begins : goal.returns-in_ok-stops-in-Some-clause-begins
-returns-in_ok-stops-in-Some-clause-begins g c = λ t e.
-    subst (λ o. IfSome o (λ offset. drop offset t ≡ from_line offset t)) c.in-Some.is
-    (c.in_ok-offset.ensures.begins t e)
+returns-in_ok-stops-in-Some-clause-begins g c = λ t e. rw c.in-Some.is at (c.in_ok-offset.ensures.begins t e)
 
 pub returns-in_ok-stops-in-Some-clause-stops : goal.returns-in_ok-stops-in-Some-clause-stops
 returns-in_ok-stops-in-Some-clause-stops g c = grind (arith, returns-in_ok-stops-in-Some-clause-line)

@@ -1,6 +1,6 @@
 use Rattle.std.proofs.lemmas.Grind.{common_steps}
-use Rattle.std.proofs.Common.{rules, arith, ◌≡◌, ◌+◌, ◌-◌, ◌≤◌, ◌++◌, List, ℕ, Some, length, take, drop, sym}
-use Rattle.std.proofs.Common.{ap, ◌∙◌, subst, length-append, length-take, length-drop}
+use Rattle.std.proofs.Common.{rules, arith, ◌≡◌, ◌+◌, ◌-◌, ◌≤◌, ◌++◌, List, ℕ, Some, length, take, drop}
+use Rattle.std.proofs.Common.{◌∙◌, length-append, length-take, length-drop}
 use Rattle.source_core.specs.LineParts.{PartOf, NoFeed}
 use Rattle.source_core.specs.Windows.{AreBytesAt, held_from}
 use Rattle.source_core.proofs.Parts.{ended, goes_on, cut_short, given_more, given_out}
@@ -44,9 +44,8 @@ longer g c = grind (arith, length-take)
 behind : (g : Over) (c : After-line_part-length g) → AreBytesAt (g.S.Source.text c.hold.new.source)
     (g.S.Source.extent c.hold.new.source) (c.loop-self.self-inside.at + c.line_part-length.result.0)
     (held_from c.hold.new.self (c.loop-self.self-inside.at + c.line_part-length.result.0))
-behind g c =
-    subst (AreBytesAt _ _ _) (grind (arith, held_behind))
-    (given_out _ _ c.loop-self.self-inside.at c.line_part-length.result.0 (held g c) (stands g c) (inside g c))
+behind g c = rw (held_behind c.hold.new.self c.loop-self.self-inside.at c.line_part-length.result.0 (inside g c))
+    (given_out _ _ _ _ _ (stands g c) (inside g c))
 
 left : (g : Over) (c : After-line_part-length g)
     → length (held_from c.hold.new.self (c.loop-self.self-inside.at + c.line_part-length.result.0))
@@ -55,22 +54,13 @@ left g c = grind (arith, length-drop)
 
 pub returns-then-length-len-clause-long : goal.returns-then-length-len-clause-long
 returns-then-length-len-clause-long g c = λ t e _.
-    let inv = c.loop-self.invariant in
-    let n = c.line_part-length.result.0 in
     let here = (goal.at.returns-then-length-len-clause-long g c).After-line_part-length in
-    let told = inv.told t e in
-    let first = first_at_least t (held g here) (length (held g here)) c.loop-self.self-inside.at n c.args.self.now.at
-    c.loop-self.line.items (bytes g here t e) (inside g here) told.1 told.2 _ (part g here) in
-    omega (
-      arith,
-      inv.short,
-      c.len.ensures,
-      c.if-length-len.true,
-      length-append c.loop-self.line.items (take n (held g here)),
-      length-take n (held g here),
-      inside g here,
-      first,
-    )
+    let told = c.loop-self.invariant.told t e in
+    let within = inside g here in
+    let first = first_at_least t (held g here) _ _ c.line_part-length.result.0 _ _ (bytes g here t e) within told.1
+    told.2
+    c.line_part-length.result.1 (part g here) in
+    omega (arith, length-append {A = ℕ}, length-take {A = ℕ}, first)
 
 pub returns-then-ends-clause-given : goal.returns-then-ends-clause-given
 returns-then-ends-clause-given g c = grind (arith, ended, inside, part, grown)
@@ -102,13 +92,9 @@ loop-self-preserved g c =
     let told : (t : List ℕ) → g.S.Source.text c.args.source.now ≡ Some t → (length t ≡ c.size-size.result)
     × (drop c.args.self.now.at t ≡ line ++ drop (c.loop-self.self-inside.at + n) t) × NoFeed line = λ t e.
     let was = inv.told t e in
-    let r = goes_on t (held g here) (length (held g here)) c.loop-self.self-inside.at n (bytes g here t e)
-    (inside g here) c.args.self.now.at c.loop-self.line.items was.1 was.2
-    (subst (λ b. PartOf (held g here) n b) c.if-ends.false (part g here)) in (
-      was.0,
-      r.0 ∙ ap (λ l. l ++ drop (c.loop-self.self-inside.at + n) t) (sym (grown g then)),
-      subst NoFeed (sym (grown g then)) r.1,
-    ) in
+    let r = goes_on t (held g here) _ _ n (bytes g here t e) (inside g here) _ _ was.1 was.2
+    (rw c.if-ends.false at (part g here))
+    in (was.0, rw (grown g then) r.0, rw (grown g then) r.1) in
     record {
       text = ok.text ∙ inv.text;
       extent = ok.extent ∙ inv.extent;
