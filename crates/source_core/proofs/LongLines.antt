@@ -9,15 +9,11 @@ use Rattle.source_core.proofs.LongestLines.{no_feed_first}
 pub first_at_least : (t held : List ℕ) (m at n at0 : ℕ) (line : List ℕ) → held ≡ take m (drop at t) → n ≤ m
     → drop at0 t ≡ line ++ drop at t → NoFeed line → (ends : Bool) → PartOf held n ends
     → length (line ++ take n held) ≤ first_length (lines (drop at0 t))
-first_at_least t held m at n at0 line bytes inside is clean ends part =
-    (elim ends as (λ ends. PartOf held n ends → length (line ++ take n held) ≤ first_length (lines (drop at0 t))) [
-      | true ↦ (λ p. let same = ap first_length (ended t held m at n bytes inside at0 line is clean p) in omega arith)
-      | false ↦ (λ p.
-          let on = goes_on t held m at n bytes inside at0 line is clean p in
-          let same = ap (λ s. first_length (lines s)) on.0 in
-          let most = no_feed_first (line ++ take n held) (drop (at + n) t) on.1 in
-          omega arith)
-    ]) part
+first_at_least t held m at n at0 line bytes inside is clean true part =
+    let same = ap first_length (ended t held m at n bytes inside at0 line is clean part) in omega arith
+first_at_least t held m at n at0 line bytes inside is clean false part =
+    let on = goes_on t held m at n bytes inside at0 line is clean part in
+    rw on.0 (no_feed_first (line ++ take n held) (drop (at + n) t) on.1)
 
 -- the bytes of a line so far end where the line ends, or before
 pub part_of_first : (t : List ℕ) (at0 at : ℕ) (line : List ℕ) → drop at0 t ≡ line ++ drop at t → NoFeed line

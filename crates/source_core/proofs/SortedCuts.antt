@@ -1,5 +1,24 @@
 -- Indexes, cut at a pair.
-use Rattle.std.proofs.Common.{◌≡◌, ℕ, zero, suc, ◌+◌, ◌-◌, ◌*◌, ◌^◌, ◌<◌, ◌≤◌, List, [], ◌∷◌, ◌++◌, Bool, true, false}
+use Rattle.std.proofs.Common.{
+  take-append-drop,
+  ◌≡◌,
+  ℕ,
+  zero,
+  suc,
+  ◌+◌,
+  ◌-◌,
+  ◌*◌,
+  ◌^◌,
+  ◌<◌,
+  ◌≤◌,
+  List,
+  [],
+  ◌∷◌,
+  ◌++◌,
+  Bool,
+  true,
+  false,
+}
 use Rattle.std.proofs.Common.{None, Option, not, cond, length, take, drop, flat_map, map, Some, refl, sym, ap, ◌∙◌}
 use Rattle.std.proofs.Common.{arith, length-append, length-drop, length-take, is_gt}
 use Rattle.std.specs.List.{AllByRecursion}
@@ -107,35 +126,21 @@ module _ (limit : ℕ) (start : Pair) where
   below_first none n = tt
   below_first (one {m = m} e r) n = (λ low. later_high m r n.0 (sym (entry_below _ _ e) ∙ low), below_first r n.1)
 
-  record Split (before : List (List ℕ)) (members : List Member) : Type 0 where
-    low : List Member
-    high : List Member
-    members_are : members ≡ low ++ high
-    as_many : length before ≡ length low
-    all_below : AllByRecursion (λ m. is_below start (member_pair m) ≡ true) low
-    none_below : AllByRecursion (λ m. is_below start (member_pair m) ≡ false) high
+  as_many : {ls : List (List ℕ)} {ms : List Member} → Entries ls ms → length ls ≡ length ms
+  as_many none = refl
+  as_many (one e r) = ap suc (as_many r)
 
-  all_high : {ls : List (List ℕ)} {ms : List Member} → Entries ls ms
-      → AllByRecursion (λ k. line_below limit start k ≡ false) ls
-      → AllByRecursion (λ m. is_below start (member_pair m) ≡ false) ms
-  all_high none a = tt
-  all_high (one e r) a = (sym (entry_below _ _ e) ∙ a.0, all_high r a.1)
+  -- where each line is below, or none is, so are the entries
+  each_is : {ls : List (List ℕ)} {ms : List Member} (b : Bool) → Entries ls ms
+      → AllByRecursion (λ k. line_below limit start k ≡ b) ls
+      → AllByRecursion (λ m. is_below start (member_pair m) ≡ b) ms
+  each_is b none a = tt
+  each_is b (one e r) a = (sym (entry_below _ _ e) ∙ a.0, each_is b r a.1)
 
-  split : (before rest : List (List ℕ)) {ms : List Member} → Entries (before ++ rest) ms
-      → AllByRecursion (λ k. line_below limit start k ≡ true) before
-      → AllByRecursion (λ k. line_below limit start k ≡ false) rest → Split before ms
-  split [] rest {ms = ms} h low high =
-      record { low = []; high = ms; members_are = refl; as_many = refl; all_below = tt; none_below = all_high h high }
-  split (l ∷ before) rest (one {m = m} e r) low high =
-      let ih = split before rest r low.1 high in
-      record {
-        low = m ∷ ih.low;
-        high = ih.high;
-        members_are = ap (λ ms. m ∷ ms) ih.members_are;
-        as_many = ap suc ih.as_many;
-        all_below = (sym (entry_below l m e) ∙ low.0, ih.all_below);
-        none_below = ih.none_below;
-      }
+  parts : (before rest : List (List ℕ)) {ms : List Member} → Entries (before ++ rest) ms
+      → Entries before (take (length before) ms) × Entries rest (drop (length before) ms)
+  parts [] rest h = (none, h)
+  parts (l ∷ before) rest (one e r) = let ih = parts before rest r in (one e ih.0, ih.1)
 
   pub cut_there : (t : List ℕ) (ms : List Member) (r offset : ℕ) → IsIndex limit t ms → offset ≤ length t
       → drop offset t ≡ from_line r t
@@ -145,16 +150,17 @@ module _ (limit : ℕ) (start : Pair) where
       let entries = each (lines t) ms index.entries in
       let s = sought (line_below limit start) t r (below_first entries index.ordered) here before in
       let cut : lines t ≡ s.before ++ lines (drop offset t) = grind arith in
-      let parts = split s.before (lines (from_line r t)) (rw s.cut at entries) s.low s.high in
+      let n = length s.before in
+      let halves = parts s.before (lines (from_line r t)) (rw s.cut at entries) in
       record {
         before = s.before;
         begins = (cut, begins_at t offset s.before cut inside);
-        low = parts.low;
-        high = parts.high;
-        members_are = parts.members_are;
-        as_many = parts.as_many;
-        all_below = parts.all_below;
-        none_below = parts.none_below;
+        low = take n ms;
+        high = drop n ms;
+        members_are = sym (take-append-drop n ms);
+        as_many = as_many halves.0;
+        all_below = each_is true halves.0 s.low;
+        none_below = each_is false halves.1 s.high;
       }
 
 -- ---- the bytes of turns

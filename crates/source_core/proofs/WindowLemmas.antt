@@ -1,7 +1,7 @@
 -- Bytes that a window holds.
 use Rattle.std.proofs.lemmas.Grind.{common_steps}
 use Rattle.std.proofs.Common.{◌≡◌, ℕ, ◌+◌, ◌-◌, ◌≤◌, Bool, List, [], ◌++◌, length, take, drop, min, Option, Some, inl}
-use Rattle.std.proofs.Common.{inr, subst, arith, drop-drop, length-take, length-append}
+use Rattle.std.proofs.Common.{inr, arith, drop-drop, length-take, length-append}
 use Rattle.std.proofs.lemmas.Bool.{cases_lt, cond-false, cond_both, le-ltb, ltb-false}
 use Rattle.std.specs.Prelude.{ltb}
 use Rattle.std.proofs.lemmas.List.{drop-take, drop_all, take-take}
@@ -25,11 +25,10 @@ pub held_stands : (text : Option (List ℕ)) (extent : ℕ) (w : HeldBytes) (at 
     → AreBytesAt text extent at (held_from w at)
 held_stands text extent w at h inside =
     cond_both (ltb at w.at) [] (drop (at - w.at) w.bytes) (AreBytesAt text extent at)
-    (λ e. none_held text extent at inside) (λ e.
-    let low = ltb-false at w.at e in
+    (λ e. none_held text extent at inside)
+    (λ e. let low = ltb-false at w.at e in
     let there : w.at + (at - w.at) ≡ at = omega arith in
-    subst (λ k. AreBytesAt text extent k (drop (at - w.at) w.bytes)) there
-    (held_past text extent w (at - w.at) h (omega arith)))
+    rw there at (held_past text extent w (at - w.at) h (omega arith)))
 
 -- what is held behind the first n bytes of that
 pub held_behind : (w : HeldBytes) (at n : ℕ) → n ≤ length (held_from w at)
