@@ -56,10 +56,9 @@ pub returns-then-length-len-clause-long : goal.returns-then-length-len-clause-lo
 returns-then-length-len-clause-long g c = λ t e _.
     let here = (goal.at.returns-then-length-len-clause-long g c).After-line_part-length in
     let told = c.loop-self.invariant.told t e in
+    let n = c.line_part-length.result.0 in
     let within = inside g here in
-    let first = first_at_least t (held g here) _ _ c.line_part-length.result.0 _ _ (bytes g here t e) within told.1
-    told.2
-    c.line_part-length.result.1 (part g here) in
+    let first = first_at_least t (held g here) _ _ n _ _ (bytes g here t e) within told.1 told.2 _ (part g here) in
     omega (arith, length-append {A = ℕ}, length-take {A = ℕ}, first)
 
 pub returns-then-ends-clause-given : goal.returns-then-ends-clause-given
