@@ -100,32 +100,11 @@ place_last n c m h =
 at_end : (n : ℕ) (c vs : List Member) → n < length c → page (Some n) (c ++ vs) ≡ page (Some n) c
 at_end n c vs h = grind (arith, take-append-le, next_same)
 
--- more captures after a page that has its next
-pub after_end : (form : FormValue) (limit : Option ℕ) (c later all : List Member) (start now : Option (List ℕ))
-    (given : ℕ) (more : Bool) (last : Option PlaceValue) → all ≡ c ++ later → more ≡ true
-    → PageStands form limit c start now given more last → PageStands form limit all start now given more last
-after_end form None c later all start now given more last is h s = absurd (true≢false (sym h ∙ s.more_is))
-after_end form (Some n) c later all start now given more last is h s =
-    let beyond = next_some n c (sym s.more_is ∙ h) in
-    let page_is : page (Some n) all ≡ page (Some n) c = rw is (at_end n c later beyond) in
-    let place_is : place_at n all ≡ place_at n c = rw is (place_same n c later (omega (arith, beyond))) in
-    grind arith
-
 -- where a page is full and has no next yet, its last is the n-th
 full_is : (n : ℕ) (c : List Member) (given : ℕ) → is_full (Some n) given ≡ true → given
     ≡ min (length (take n c)) (2 ^ 64 - 1) → is_some (next n c) ≡ false → (n ≡ 0) ⊎ (length c ≡ n)
 full_is zero c given f g h = inl refl
 full_is (suc n) c given f g h = grind (arith, next_none, length-take)
-
--- the capture after a full page
-pub at_limit : (form : FormValue) (limit : Option ℕ) (c : List Member) (m : Member) (start now : Option (List ℕ))
-    (given : ℕ) (more : Bool) (last : Option PlaceValue)
-    → more ≡ false → is_full limit given ≡ true
-    → PageStands form limit c start now given more last
-    → PageStands form limit (c ++ m ∷ []) start now given (is_some last) last
-at_limit form None c m start now given more last h f s = absurd (true≢false (sym f))
-at_limit form (Some n) c m start now given more last h f s =
-    grind (arith, full_is, take-append-le, next_full, place_same)
 
 -- where a page is not full and has no next, it has room for one more
 room_is : (n : ℕ) (c : List Member) (given : ℕ) → n < 2 ^ 64 → is_full (Some n) given ≡ false → given
@@ -139,17 +118,48 @@ last_of : (n given : ℕ) (c : List Member) (m : Member) (last : Option PlaceVal
     → last_after (Some n) given last (member_place m) ≡ place_at n (c ++ m ∷ [])
 last_of n given c m last l room g k = grind (arith, place_last, eqb-false, length-append, place_short)
 
--- a capture that was written
-pub written_one : (form : FormValue) (limit : Option ℕ) (c : List Member) (m : Member) (start now new : Option (List ℕ))
-    (given given' : ℕ) (more : Bool) (last last' : Option PlaceValue)
-    → more ≡ false → is_full limit given ≡ false → FitsWord limit → given' ≡ min (given + 1) (2 ^ 64 - 1)
-    → last' ≡ last_after limit given' last (member_place m) → Appends now new (row_text form m)
-    → PageStands form limit c start now given more last
-    → PageStands form limit (c ++ m ∷ []) start new given' more last'
-written_one form None c m start now new given given' more last last' h f l g k a s =
-    grind (arith, written-more, length-append)
-written_one form (Some n) c m start now new given given' more last last' h f l g k a s =
-    grind (arith, room_is, take_all, length-append, written-more, next_short, last_of)
+members_one : (limit : Option ℕ) (c : List Member) (m : Member) (given : ℕ) → is_full limit given ≡ false
+    → FitsWord limit → is_some (page limit c).next ≡ false → given ≡ min (length (page limit c).members) (2 ^ 64 - 1)
+    → (page limit (c ++ m ∷ [])).members ≡ (page limit c).members ++ m ∷ []
+members_one None c m given f l none g = refl
+members_one (Some n) c m given f l none g = grind (arith, room_is, length-append, take_all)
+
+module _ {form : FormValue} {start now : Option (List ℕ)} {given : ℕ} {more : Bool} {last : Option PlaceValue} where
+  -- more captures after a page that has its next
+  pub after_end : (limit : Option ℕ) (c later all : List Member) → all ≡ c ++ later → more ≡ true
+      → PageStands form limit c start now given more last → PageStands form limit all start now given more last
+  after_end None c later all is h s = absurd (true≢false (sym h ∙ s.more_is))
+  after_end (Some n) c later all is h s =
+      let beyond = next_some n c (sym s.more_is ∙ h) in
+      let page_is : page (Some n) all ≡ page (Some n) c = rw is (at_end n c later beyond) in
+      let place_is : place_at n all ≡ place_at n c = rw is (place_same n c later (omega (arith, beyond))) in
+      grind arith
+
+  -- the capture after a full page
+  pub at_limit : (limit : Option ℕ) (c : List Member) (m : Member) → more ≡ false → is_full limit given ≡ true
+      → PageStands form limit c start now given more last
+      → PageStands form limit (c ++ m ∷ []) start now given (is_some last) last
+  at_limit None c m h f s = absurd (true≢false (sym f))
+  at_limit (Some n) c m h f s = grind (arith, full_is, take-append-le, next_full, place_same)
+
+  -- a capture that was written
+  pub written_one : (limit : Option ℕ) (c : List Member) (m : Member) (new : Option (List ℕ)) (given' : ℕ)
+      (last' : Option PlaceValue) → more ≡ false → is_full limit given ≡ false → FitsWord limit
+      → given' ≡ min (given + 1) (2 ^ 64 - 1) → last' ≡ last_after limit given' last (member_place m)
+      → Appends now new (row_text form m) → PageStands form limit c start now given more last
+      → PageStands form limit (c ++ m ∷ []) start new given' more last'
+  written_one None c m new given' last' h f l g k a s = grind (arith, written-more, length-append)
+  written_one (Some n) c m new given' last' h f l g k a s =
+      grind (arith, room_is, take_all, length-append, written-more, next_short, last_of)
+
+  -- a fault in the row of a capture more, or after it
+  pub broke_row : (limit : Option ℕ) (c : List Member) (m : Member) (new : Option (List ℕ)) → more ≡ false
+      → is_full limit given ≡ false → FitsWord limit → AppendsPrefix now new (row_text form m)
+      → PageStands form limit c start now given more last
+      → AppendsPrefix start new (begun form (page limit (c ++ m ∷ [])).members)
+  broke_row limit c m new h f l p s =
+      rw (members_one limit c m given f l (sym s.more_is ∙ h) s.given_is, begun-more form (page limit c).members m)
+      (prefix_after _ _ _ _ _ s.text p)
 
 -- before the first capture
 pub nothing_taken : (form : FormValue) (limit : Option ℕ) (start now : Option (List ℕ))
@@ -160,22 +170,6 @@ nothing_taken form (Some zero) start now a = grind (arith, written-start)
 nothing_taken form (Some (suc n)) start now a = grind (arith, written-start)
 
 -- ---- after a fault
-
--- in the row of a capture more, or after it
-pub broke_row : (form : FormValue) (limit : Option ℕ) (c : List Member) (m : Member) (start now new : Option (List ℕ))
-    (given : ℕ) (more : Bool) (last : Option PlaceValue)
-    → more ≡ false → is_full limit given ≡ false → FitsWord limit → AppendsPrefix now new (row_text form m)
-    → PageStands form limit c start now given more last
-    → AppendsPrefix start new (begun form (page limit (c ++ m ∷ [])).members)
-broke_row form limit c m start now new given more last h f l p s =
-    rw (members_one limit f l (sym s.more_is ∙ h) s.given_is, begun-more form (page limit c).members m)
-    (prefix_after _ _ _ _ _ s.text p)
-  where
-    members_one : (limit : Option ℕ) → is_full limit given ≡ false → FitsWord limit → is_some (page limit c).next
-        ≡ false → given ≡ min (length (page limit c).members) (2 ^ 64 - 1)
-        → (page limit (c ++ m ∷ [])).members ≡ (page limit c).members ++ m ∷ []
-    members_one None f l none g = refl
-    members_one (Some n) f l none g = grind (arith, room_is, length-append, take_all)
 
 pub whole_prefix : (old new : Option (List ℕ)) (text : List ℕ) → Appends old new text → AppendsPrefix old new text
 whole_prefix old new text a = grind (arith, append-nil)
@@ -216,8 +210,7 @@ next_is None c false last h k = refl
 next_is (Some n) c true last h k = grind (arith, next_some, next_place)
 next_is (Some n) c false last h k = grind (arith, next_short, next_place, ends_at, cases_lt n (length c))
 
--- ---- answers
-
+-- the same, of a writer that kept these
 pub broke_as : (q q' : QueryValue) (from from' : Option PlaceValue) (limit limit' : Option ℕ) (taken : List Member)
     (start now : Option (List ℕ)) → q ≡ q' → from ≡ from' → limit ≡ limit'
     → AppendsPrefix start now (begun (form_of q) (page_over q from limit taken).members)

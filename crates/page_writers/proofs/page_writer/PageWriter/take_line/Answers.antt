@@ -8,7 +8,7 @@ use Rattle.page_writers.proofs.page_writer.PageWriter.take_line.Goals as goal
 pub returns-then-self-clause-stands : goal.returns-then-self-clause-stands
 returns-then-self-clause-stands g c = λ taken start s.
     let w = c.args.self.now.selection in
-    (after_end _ _ _ _ _ _ _ _ _ _ (captures_append w.query.now (from_view w.from) taken _) c.if-self.true s.0, λ e. cc)
+    (after_end _ _ _ _ (captures_append w.query.now (from_view w.from) taken _) c.if-self.true s.0, λ e. cc)
 
 pub returns-then-not-branch-clause-stands : goal.returns-then-not-branch-clause-stands
 returns-then-not-branch-clause-stands g c = λ taken start s.
@@ -20,7 +20,7 @@ pub returns-then-is_full-clause-stands : goal.returns-then-is_full-clause-stands
 returns-then-is_full-clause-stands g c = λ taken start s.
     let selects = s.1 c.if-self.false in
     let capture = c.in_ok-takes.ensures.capture taken selects in
-    let stood = at_limit _ _ _ c.args.line.now _ _ _ _ _ c.if-self.false (search rules) s.0 in
+    let stood = at_limit _ _ c.args.line.now c.if-self.false (search rules) s.0 in
     (grind arith, λ e. c.in_ok-takes.ensures.selects taken selects)
 
 pub returns-clause-stands : goal.returns-clause-stands
@@ -31,7 +31,7 @@ returns-clause-stands g c = λ taken start s.
     let same = c.takes.ensures.same in
     let kept = c.put_capture.ensures.kept in (
       rw (kept.0, kept.1, same.0, same.1, capture, c.if-not-branch.false, kept.2)
-          (written_one _ _ _ c.args.line.now _ _ _ _ _ _ _ _ c.if-self.false (search rules) c.is_full.ensures.fits
+          (written_one _ _ c.args.line.now _ _ _ c.if-self.false (search rules) c.is_full.ensures.fits
           put.given put.last (rw (← same.0) put.text) s.0),
       λ e. rw kept.0 (c.in_ok-takes.ensures.selects taken selects),
     )
@@ -43,5 +43,5 @@ pub returns-in_err-put_capture-clause-broke : goal.returns-in_err-put_capture-cl
 returns-in_err-put_capture-clause-broke g c = λ taken start s.
     rw (err_from_is_err_and c.from_residual-in_err-put_capture.result c.from_residual-in_err-put_capture.ensures.1).1
     (rw (c.in_ok-takes.ensures.capture taken (s.1 c.if-self.false), c.if-not-branch.false)
-    (broke_row _ _ _ c.args.line.now _ _ _ _ _ _ c.if-self.false (search rules) c.is_full.ensures.fits
+    (broke_row _ _ c.args.line.now _ c.if-self.false (search rules) c.is_full.ensures.fits
     (rw (← c.takes.ensures.same.0) c.in_err-put_capture.ensures.part) s.0))
