@@ -63,15 +63,13 @@ module _ (q : QueryValue) (from : Option PlaceValue) where
         → repeats member_place (same_part q.collapse) (place_before q from taken) m ≡ true
         → captures_over q from (taken ++ m ∷ []) ≡ captures_over q from taken
     captures_repeated h r =
-        captures_split (taken ++ m ∷ []) taken (m ∷ []) (joined h)
-        ∙ ap (λ l. captures_over q from taken ++ l) (grind arith) ∙ append-nil (captures_over q from taken)
+        let split = captures_split (taken ++ m ∷ []) taken (m ∷ []) (joined h) in grind (arith, append-nil)
 
     pub captures_joined : is_wanted q from m ≡ true
         → repeats member_place (same_part q.collapse) (place_before q from taken) m ≡ false
         → captures_over q from (taken ++ m ∷ []) ≡ captures_over q from taken ++ m ∷ []
     captures_joined h r =
-        captures_split (taken ++ m ∷ []) taken (m ∷ []) (joined h)
-        ∙ ap (λ l. captures_over q from taken ++ l) (grind arith)
+        let split = captures_split (taken ++ m ∷ []) taken (m ∷ []) (joined h) in grind arith
 
 -- ---- what a selection takes
 

@@ -74,7 +74,7 @@ module _ (q : QueryValue) (sizes : List ℕ) (positive : AllPositive sizes) (lin
       pub wrote_whole : (number : ℕ) → Ended q sizes captures old new number → WrotePages q lines sizes old new number
       wrote_whole number found =
           let same = same_part q.collapse in
-          let chain = chain_of found.0 (subst (AreCut sizes found.0) (sym all) found.1) in
+          let chain = chain_of found.0 (rw all found.1) in
           let law = chain_law member_place place_cmp same place_cmp_total (selected q lines) q.resume sizes found.0
           selects positive chain in
           record {
