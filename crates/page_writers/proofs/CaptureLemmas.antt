@@ -1,5 +1,5 @@
 -- The captures of lines, which are collapsed, and what the next line is compared with.
-use Rattle.std.proofs.Common.{arith, ◌≡◌, Bool, List, [], ◌∷◌, ◌++◌, refl, sym, ap, ◌∙◌, Option, Some, None, true}
+use Rattle.std.proofs.Common.{arith, ◌≡◌, Bool, List, [], ◌∷◌, ◌++◌, refl, sym, Option, Some, None, true}
 use Rattle.std.proofs.Common.{false, filter, append-nil, ◌&&◌}
 use Rattle.std.proofs.lemmas.Bool.{cond-true, true≢false}
 use Rattle.std.proofs.lemmas.List.Elements.{filter-append}

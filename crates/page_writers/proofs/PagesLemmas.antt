@@ -1,7 +1,8 @@
 -- Captures that are cut into pages, as they come.
-use Rattle.std.proofs.Common.{◌≡◌, inl, inr, ℕ, zero, suc, ◌+◌, ◌-◌, ◌^◌, ◌<◌, ◌≤◌, List, [], ◌∷◌, ◌++◌, length, take}
-use Rattle.std.proofs.Common.{drop, min, true, Option, None, Some, IfSome, option_map, refl, sym, ap, ◌∙◌, subst, arith}
-use Rattle.std.proofs.Common.{append_assoc, append-nil, length-append, length-drop, filter}
+use Rattle.std.proofs.Common.{take-append-drop, length-take, ◌≡◌, inl, inr, ℕ, zero, suc, ◌+◌, ◌-◌, ◌^◌, ◌<◌, ◌≤◌, List}
+use Rattle.std.proofs.Common.{[], ◌∷◌, ◌++◌, length, take, drop, min, true, Option, None, Some, IfSome, option_map}
+use Rattle.std.proofs.Common.{refl, sym, ap, ◌∙◌, subst, arith, append_assoc, append-nil, length-append, length-drop}
+use Rattle.std.proofs.Common.{filter}
 use Rattle.std.specs.Io.KnownBytes.{Appends}
 use Rattle.std.proofs.lemmas.Bool.{cases_lt}
 use Rattle.std.specs.List.{AllByRecursion}
@@ -50,12 +51,6 @@ abbrev full_page : List Member → Page Member PlaceValue
 full_page rows = record { members = rows; next = last_of rows }
 
 -- a page more
-cut_on : (sizes : List ℕ) (captures : List Member) (rest : Pages) → first_size sizes < length captures
-    → AreCut (later_sizes sizes) rest (drop (first_size sizes) captures)
-    → AreCut sizes (full_page (take (first_size sizes) captures) ∷ rest) captures
-cut_on sizes captures [] less h = absurd h
-cut_on sizes captures (other ∷ rest) less h = (refl, less, h)
-
 cut_more : (sizes : List ℕ) (rows later : List Member) (rest : Pages) → length rows ≡ first_size sizes
     → 0 < length later → AreCut (later_sizes sizes) rest later → AreCut sizes (full_page rows ∷ rest) (rows ++ later)
 cut_more sizes rows later [] full some h = absurd h
@@ -72,8 +67,12 @@ cut_at (suc fuel) sizes captures z f =
       | inr few ↦ (record { members = captures; next = None } ∷ [], (refl, few))
       | inl less ↦ (
           let rest = cut_at fuel (later_sizes sizes) (drop n captures) (later_positive sizes z)
-          (omega (arith, length-drop n captures)) in
-          (full_page (take n captures) ∷ rest.0, cut_on sizes captures rest.0 less rest.1))
+          (omega (arith, length-drop n captures)) in (
+            full_page (take n captures) ∷ rest.0,
+            rw (take-append-drop n captures) at (cut_more sizes (take n captures)
+                (drop n captures) rest.0 (omega (arith, length-take n captures))
+                (omega (arith, length-drop n captures)) rest.1),
+          ))
     ]
 
 pub cut_there : (sizes : List ℕ) (captures : List Member) → AllPositive sizes → (pages : Pages)
@@ -178,7 +177,7 @@ module _ (q : QueryValue) (sizes : List ℕ) (c : List Member) (start now : Opti
   pub capture_front : (m : Member) (new : Option (List ℕ)) → given < first_size left
       → AppendsPrefix now new (row_text form m) → IsFront q sizes (c ++ m ∷ []) start new
   capture_front m new less p later =
-      front_from q sizes left s.whole ((c ++ m ∷ []) ++ later) (s.rows ++ m ∷ []) later start new s.positive
+      front_from q _ left s.whole _ (s.rows ++ m ∷ []) later _ _ s.positive
       (omega (arith, length-append s.rows (m ∷ []), s.given_is)) (λ rest h. grind (arith, append_assoc, length-append))
       (rw (row_more m) at (prefix_after _ _ _ _ _ s.text p))
 
@@ -224,7 +223,7 @@ module _ (q : QueryValue) (sizes : List ℕ) (c : List Member) (start now : Opti
         → AppendsPrefix now new (page_end form (shown_key true last) ++ page_start form)
         → IsFront q sizes (c ++ m ∷ []) start new
     turning_front m new p later =
-        front_from q sizes (later_sizes left) (s.whole ++ page ∷ []) ((c ++ m ∷ []) ++ later) [] (m ∷ later) start new
+        front_from q _ (later_sizes left) (s.whole ++ page ∷ []) _ [] (m ∷ later) _ _
         (later_positive left s.positive) (omega arith)
         (λ rest h. rw (append_assoc c (m ∷ []) later) (goes_on (m ∷ later) rest (omega arith) h))
         (rw turned at (prefix_after _ _ _ _ _ s.text p))
@@ -233,7 +232,7 @@ module _ (q : QueryValue) (sizes : List ℕ) (c : List Member) (start now : Opti
   module _ (more : HasNext s.whole s.rows) where
     pub stands_front : IsFront q sizes c start now
     stands_front later =
-        front_from q sizes left s.whole (c ++ later) s.rows later start now s.positive s.room
+        front_from q _ left s.whole _ s.rows later _ _ s.positive s.room
         (λ rest h. grind (arith, length-append)) (whole_prefix _ _ _ s.text)
 
     abbrev last_page : Page Member PlaceValue
@@ -280,4 +279,4 @@ front_as s first sizes taken start now same front = rw (← same.0, ← same.1) 
 pub start_front : (q : QueryValue) (sizes : List ℕ) (start new : Option (List ℕ)) → AllPositive sizes
     → AppendsPrefix start new (page_start (form_of q)) → IsFront q sizes [] start new
 start_front q sizes start new z p later =
-    front_from q sizes sizes [] later [] later start new z (omega arith) (λ rest h. h) (rw append-nil p)
+    front_from q _ sizes [] _ [] later _ _ z (omega arith) (λ rest h. h) (rw append-nil p)
