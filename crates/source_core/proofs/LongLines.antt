@@ -10,9 +10,9 @@ pub first_at_least : (t held : List ℕ) (m at n at0 : ℕ) (line : List ℕ) �
     → drop at0 t ≡ line ++ drop at t → NoFeed line → (ends : Bool) → PartOf held n ends
     → length (line ++ take n held) ≤ first_length (lines (drop at0 t))
 first_at_least t held m at n at0 line bytes inside is clean true part =
-    let same = ap first_length (ended t held m at n bytes inside at0 line is clean part) in omega arith
+    let same = ap first_length (ended t held _ _ n bytes inside _ line is clean part) in omega arith
 first_at_least t held m at n at0 line bytes inside is clean false part =
-    let on = goes_on t held m at n bytes inside at0 line is clean part in
+    let on = goes_on t held _ _ n bytes inside _ line is clean part in
     rw on.0 (no_feed_first (line ++ take n held) (drop (at + n) t) on.1)
 
 -- the bytes of a line so far end where the line ends, or before
