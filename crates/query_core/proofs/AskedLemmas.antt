@@ -1,6 +1,6 @@
 -- One page of a query, by what was taken of its sources.
-use Rattle.std.proofs.Common.{arith, ◌≡◌, ℕ, List, ◌++◌, refl, sym, ap, ◌∙◌, subst, Bool, true, false, not, ◌&&◌}
-use Rattle.std.proofs.Common.{Option, ◌-◌, ◌^◌}
+use Rattle.std.proofs.Common.{arith, ◌≡◌, ℕ, List, ◌++◌, refl, sym, ap, ◌∙◌, subst, Bool, true, false, not}
+use Rattle.std.proofs.Common.{Option}
 use Rattle.std.specs.Option.{is_some}
 use Rattle.std.specs.Io.KnownBytes.{Appends}
 use Rattle.cdxj_places.specs.Places.{PlaceValue}

@@ -4,7 +4,6 @@ use Rattle.std.proofs.Common.{not, ◌&&◌, Option, refl, sym, ap, ◌∙◌, s
 use Rattle.std.specs.List.{AllZip, AllByRecursion}
 use Rattle.cdxj_places.specs.Pair.{is_stamp}
 use Rattle.cdxj_places.specs.Pairs.{Pair}
-use Rattle.cdxj_places.specs.Places.{PlaceValue}
 use Rattle.cdxj_places.proofs.PlaceOrder.{place_cmp_total}
 use Rattle.cdxj_places.proofs.RisingLaws.{each_weaker, each_rising, each_join}
 use Rattle.cdxj_core.specs.declared.limit.TheConstants.{LINE_LIMIT}
@@ -22,7 +21,10 @@ use Rattle.merge_core.specs.Openings.{IsCutAt}
 use Rattle.merge_core.specs.Reached.{Reached}
 use Rattle.merge_core.proofs.ReadLemmas.{sought_before, sought_first, sought_whole}
 use Rattle.page_writers.specs.PageWriting.{is_wanted, captures_over, place_before}
-use Rattle.merge_core.specs.SourceLines.{IsLineIn, IsLineOf}
+use Rattle.merge_core.specs.SourceLines.{AreLinesOf, IsLineIn, IsLineOf}
+use Rattle.merge_core.specs.Gathering.{AreTold}
+use Rattle.merge_core.specs.Spending.{CameWithin}
+use Rattle.merge_core.proofs.WholeLemmas.{told_known}
 use Rattle.query_core.specs.Starts.{start_pair}
 use Rattle.page_writers.proofs.CaptureLemmas.{kept_after, captures_split}
 use Rattle.query_core.proofs.LineStamps.{index_lines, line_stamp}
@@ -60,68 +62,111 @@ known_stamp (o ∷ os) (t ∷ ts) m k h = elim (subst (λ o. IsLineOf LINE_LIMIT
   | inr later ↦ known_stamp os ts m k.1 later
 ]
 
-module _ {S : Type 0} (text : S → Option (List ℕ)) (extent gave : S → ℕ) (q : QueryValue) (from : Option PlaceValue)
-    (ss0 : List S) (fs0 : List Feed) (ss : List S) (fs : List Feed) (ws : List WaitingLine) (b : Option Pair)
-    (taken : List Member) (same : length ss0 ≡ length fs0)
-    (reached : Reached LINE_LIMIT text (is_past q.target) extent gave ss0 fs0 ss fs ws b taken)
-    (cut : AllByRecursion (λ x. IsCutAt LINE_LIMIT (start_pair q from) (text x.0) x.1.cursor) (zip ss0 fs0))
-    (texts : List (List ℕ)) (indexes : List (List Member)) (known : Known (map text ss0) texts)
-    (are : AllZip (IsIndex LINE_LIMIT) texts indexes) where
+-- Of these sources lines are taken, from where the search for the page's start ended
+module _ {S : Type 0} (text : S → Option (List ℕ)) (extent gave : S → ℕ) (q : QueryValue) (olds : List S) where
+  -- they were opened
+  pub record Opened (opened : List S) (begun : List Feed) : Type 0 where
+    pub kept : map text opened ≡ map text olds
+    pub same : length opened ≡ length begun
+    pub came : AllZip (λ x y. CameWithin (text x) (extent x) (gave x) (gave y.0) y.1.cursor) olds (zip opened begun)
+    pub cut : AllByRecursion (λ x. IsCutAt LINE_LIMIT (start_pair q q.resume) (text x.0) x.1.cursor) (zip opened begun)
+
+  -- these lines were taken
+  pub record Reading : Type 0 where
+    pub opened : List S
+    pub begun : List Feed
+    pub sources : List S
+    pub feeds : List Feed
+    pub waiting : List WaitingLine
+    pub bound : Option Pair
+    pub taken : List Member
+    pub start : Opened opened begun
+    pub reached : Reached LINE_LIMIT text (is_past q.target) extent gave opened begun sources feeds waiting bound taken
+
+abbrev pub reading : {S : Type 0} {text : S → Option (List ℕ)} {extent gave : S → ℕ} {q : QueryValue} {olds : List S}
+    {opened : List S} {begun : List Feed} {sources : List S} {feeds : List Feed} {waiting : List WaitingLine}
+    {bound : Option Pair} {taken : List Member} → Opened text extent gave q olds opened begun
+    → Reached LINE_LIMIT text (is_past q.target) extent gave opened begun sources feeds waiting bound taken
+    → Reading text extent gave q olds
+reading start reached = record {
+  opened = _;
+  begun = _;
+  sources = _;
+  feeds = _;
+  waiting = _;
+  bound = _;
+  taken = _;
+  start = start;
+  reached = reached;
+}
+
+module _ (q : QueryValue) where
   abbrev sought : Member → Bool
-  sought m = is_wanted q from m && is_stamp m.values.stamp
+  sought m = is_wanted q q.resume m && is_stamp m.values.stamp
 
   within : (m : Member) → sought m ≡ true → not (is_past q.target m.values.key) ≡ true
   within m h = grind arith
 
-  beyond : (m : Member) → sought m ≡ true → is_low (start_pair q from) m ≡ false
+  beyond : (m : Member) → sought m ≡ true → is_low (start_pair q q.resume) m ≡ false
   beyond m h = grind (arith, start_not_above, and_right, and_left)
 
-  of_all : filter sought (collection indexes) ≡ filter (is_wanted q from) (collection indexes)
-  of_all = stamped (is_wanted q from) (collection indexes)
-      (grind (arith, each_rising, place_cmp_total, index_stamps))
+module _ {S : Type 0} {text : S → Option (List ℕ)} {extent gave : S → ℕ} {q : QueryValue} {olds : List S}
+    (r : Reading text extent gave q olds) where
+  pub lines_taken : AreLinesOf LINE_LIMIT (map text olds) r.taken
+  lines_taken = rw (← r.start.kept) (taken_lines LINE_LIMIT text extent (is_past q.target) gave r.opened r.begun
+      r.sources r.feeds r.waiting r.bound r.taken r.start.same r.reached)
 
-  of_taken : filter sought taken ≡ filter (is_wanted q from) taken
-  of_taken = stamped (is_wanted q from) taken
-      (grind (arith, each_weaker, known_stamp, taken_lines))
+  module _ (texts : List (List ℕ)) (known : Known (map text olds) texts) where
+    pub known_opened : Known (map text r.opened) texts
+    known_opened = rw r.start.kept known
 
-  abbrev captures : List Member → List Member
-  captures lines = captures_over q from lines
+    pub told : AreTold text r.opened
+    told = told_known text r.opened texts known_opened
 
-  -- what is wanted after these lines, collapsed
-  abbrev later : List Member → List Member
-  later rest = kept_after q from (place_before q from taken) rest
+    module _ (indexes : List (List Member)) (are : AllZip (IsIndex LINE_LIMIT) texts indexes) where
+      of_all : filter (sought q) (collection indexes) ≡ filter (is_wanted q q.resume) (collection indexes)
+      of_all = stamped (is_wanted q q.resume) (collection indexes)
+          (grind (arith, each_rising, place_cmp_total, index_stamps))
 
-  later_each : (A : Member → Type 0) (rest : List Member) → AllByRecursion A rest → AllByRecursion A (later rest)
-  later_each A rest = grind (arith, each_kept, place_cmp_total)
+      of_taken : filter (sought q) r.taken ≡ filter (is_wanted q q.resume) r.taken
+      of_taken = stamped (is_wanted q q.resume) r.taken (grind (arith, each_weaker, known_stamp, lines_taken))
 
-  -- what was taken is a front of what is wanted
-  pub wanted_first : (rest : List Member) × (captures (collection indexes) ≡ captures taken ++ rest)
-      × AllByRecursion (λ m. IsAbove b (member_pair m)) rest
-  wanted_first =
-      let f = sought_first text extent gave LINE_LIMIT (is_past q.target) (past_upward q.target) ss0 fs0 ss fs ws b
-      taken same reached texts indexes known are sought within (start_pair q from) cut beyond in (
-        later f.0,
-        grind (arith, captures_split, of_all, of_taken),
-        grind (arith, later_each, each_weaker),
-      )
+      abbrev captures : List Member → List Member
+      captures lines = captures_over q q.resume lines
 
-  -- where the lines that wait don't stand below a pair, the rest doesn't either
-  pub wanted_before : (next : Pair) → IsAbove b next → AllByRecursion (λ w. Upto next (waiting_pair w)) ws
-      → (rest : List Member) × (captures (collection indexes) ≡ captures taken ++ rest)
-      × AllByRecursion (λ m. Upto next (member_pair m)) rest
-  wanted_before next above least =
-      let f = sought_before text extent gave LINE_LIMIT (is_past q.target) (past_upward q.target) ss0 fs0 ss fs ws b
-      taken same reached texts indexes known are sought within (start_pair q from) cut beyond next above least in (
-        later f.0,
-        grind (arith, captures_split, of_all, of_taken),
-        grind (arith, later_each, each_weaker),
-      )
+      -- what is wanted after these lines, collapsed
+      abbrev later : List Member → List Member
+      later rest = kept_after q q.resume (place_before q q.resume r.taken) rest
 
-  -- where no line waits, it is all
-  pub wanted_whole : ws ≡ [] → captures (collection indexes) ≡ captures taken
-  wanted_whole none =
-      ap (kept_after q from from)
-      (sym of_all
-      ∙ sought_whole text extent gave LINE_LIMIT (is_past q.target) (past_upward q.target) ss0 fs0 ss fs ws b taken same
-      reached texts indexes known are sought within (start_pair q from) cut beyond none
-      ∙ of_taken)
+      later_each : (A : Member → Type 0) (rest : List Member) → AllByRecursion A rest → AllByRecursion A (later rest)
+      later_each A rest = grind (arith, each_kept, place_cmp_total)
+
+      -- what was taken is a front of what is wanted
+      pub wanted_first : (rest : List Member) × (captures (collection indexes) ≡ captures r.taken ++ rest)
+          × AllByRecursion (λ m. IsAbove r.bound (member_pair m)) rest
+      wanted_first =
+          let f = sought_first _ _ _ _ _ (past_upward q.target) _ _ _ _ _ _ _ r.start.same r.reached texts indexes
+          known_opened are (sought q) (within q) _ r.start.cut (beyond q) in (
+            later f.0,
+            grind (arith, captures_split, of_all, of_taken),
+            grind (arith, later_each, each_weaker),
+          )
+
+      -- where the lines that wait don't stand below a pair, the rest doesn't either
+      pub wanted_before : (next : Pair) → IsAbove r.bound next
+          → AllByRecursion (λ w. Upto next (waiting_pair w)) r.waiting
+          → (rest : List Member) × (captures (collection indexes) ≡ captures r.taken ++ rest)
+          × AllByRecursion (λ m. Upto next (member_pair m)) rest
+      wanted_before next above least =
+          let f = sought_before _ _ _ _ _ (past_upward q.target) _ _ _ _ _ _ _ r.start.same r.reached texts indexes
+          known_opened are (sought q) (within q) _ r.start.cut (beyond q) next above least in (
+            later f.0,
+            grind (arith, captures_split, of_all, of_taken),
+            grind (arith, later_each, each_weaker),
+          )
+
+      -- where no line waits, it is all
+      pub wanted_whole : r.waiting ≡ [] → captures (collection indexes) ≡ captures r.taken
+      wanted_whole none = ap (kept_after q q.resume q.resume)
+          (sym of_all ∙ sought_whole _ _ _ _ _ (past_upward q.target) _ _ _ _ _ _ _ r.start.same r.reached texts
+          indexes known_opened are (sought q) (within q) _ r.start.cut (beyond q) none ∙ of_taken)

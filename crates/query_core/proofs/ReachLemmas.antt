@@ -1,12 +1,11 @@
 -- What was read of indexes, beside the reach of a page.
-use Rattle.std.proofs.Common.{◌≡◌, ℕ, zero, suc, ◌+◌, ◌<◌, ◌≤◌, List, [], ◌∷◌, ◌++◌, length, map, filter, zip, Bool}
+use Rattle.std.proofs.Common.{◌≡◌, ℕ, zero, suc, ◌≤◌, List, [], ◌∷◌, ◌++◌, length, map, filter, zip, Bool}
 use Rattle.std.proofs.Common.{true, false, not, ◌&&◌, Option, None, Some, refl, sym, ap, ◌∙◌, subst, arith}
-use Rattle.std.proofs.Common.{append_assoc, append-nil, Ordering, Less, Equal, Greater, nat_cmp, is_gt, is_lt}
+use Rattle.std.proofs.Common.{min, ◌-◌, ◌^◌, append_assoc, append-nil, Ordering, Less, Equal, Greater, nat_cmp, is_gt, is_lt}
 use Rattle.std.specs.List.{AllByRecursion, sum, AllZip}
 use Rattle.std.specs.Ordering.{ordering_then, ordering_reverse}
 use Rattle.std.specs.Cmp.Lexicographic.{slice_cmp}
 use Rattle.std.proofs.lemmas.Bool.{false_from_ne_true, eq-eqb}
-use Rattle.std.proofs.lemmas.List.{length-map}
 use Rattle.std.proofs.lemmas.Slice.Eq.{bytes_eq-Decides}
 use Rattle.cdxj_places.specs.Pairs.{Pair, pair_cmp}
 use Rattle.cdxj_places.specs.Places.{PlaceValue, place_cmp}
@@ -27,24 +26,29 @@ use Rattle.page_core.proofs.PageLaws.{each_kept}
 use Rattle.source_core.specs.Search.{IsCut}
 use Rattle.merge_core.specs.declared.feed.Feed.{Feed}
 use Rattle.merge_core.specs.PairOrders.{Alike, Below, IsAbove, IsUpto, Upto, is_low}
-use Rattle.merge_core.specs.WaitingLines.{WaitingLine, waiting_pair}
-use Rattle.merge_core.specs.Collections.{Known, all_lines, collection}
+use Rattle.merge_core.specs.WaitingLines.{waiting_pair}
+use Rattle.merge_core.specs.Collections.{Known, OverIndexes, OverTexts, collection}
 use Rattle.merge_core.specs.Openings.{IsCutAt}
-use Rattle.merge_core.specs.Reached.{Reached}
-use Rattle.merge_core.specs.Spending.{AllGaveWithin, AreReadTo, CameWithin, OpenedWithin}
+use Rattle.merge_core.specs.Runs.{parts}
+use Rattle.merge_core.specs.Spending.{AllGaveWithin, AreReadTo, OpenedWithin}
 use Rattle.merge_core.proofs.CountLemmas.{lines_most}
 use Rattle.merge_core.proofs.Filters.{each_filter}
 use Rattle.merge_core.proofs.ByteLemmas.{gave_most, tell_both}
-use Rattle.merge_core.proofs.Many.{Move, length_zip, two_each, two_same}
+use Rattle.merge_core.proofs.Many.{Move, length_zip, told_moved, two_each, two_same}
 use Rattle.merge_core.proofs.PairOrder.{below_below, below_upto, from_not_below, not_below_itself, same_from, upto_upto}
 use Rattle.merge_core.proofs.MergeLemmas.{is_less}
-use Rattle.merge_core.proofs.WholeLemmas.{told_known}
+use Rattle.merge_core.proofs.RunLemmas.{parts_are, parts_count, parts_first, parts_whole}
+use Rattle.merge_core.proofs.SpendLemmas.{are_read_to}
+use Rattle.merge_core.proofs.WholeLemmas.{texts_kept}
+use Rattle.query_text.proofs.RangeLaw.{past_upward}
+use Rattle.query_core.proofs.AskedLemmas.{wanted_within}
 use Rattle.page_writers.specs.PageWriting.{is_wanted, captures_over, place_before}
 use Rattle.query_core.specs.Reach.{pair_after, follower, is_within, in_reach}
-use Rattle.query_core.specs.Passes.{AreAtMost}
+use Rattle.query_core.specs.Passes.{AreAtMost, GaveFor, IsOfParts, ReadFor, Took}
 use Rattle.query_core.specs.Starts.{later_pair, start_pair}
-use Rattle.page_writers.proofs.CaptureLemmas.{kept_after, captures_append}
-use Rattle.query_core.proofs.PageOfIndexes.{wanted_before, wanted_first, wanted_whole}
+use Rattle.page_writers.proofs.CaptureLemmas.{kept_after, captures_append, captures_split}
+use Rattle.query_core.proofs.PageOfIndexes.{Reading, known_opened, lines_taken, told, wanted_before, wanted_first}
+use Rattle.query_core.proofs.PageOfIndexes.{wanted_whole}
 
 -- ---- the range
 
@@ -163,62 +167,66 @@ as_many R [] (y ∷ ys) h = absurd h
 as_many R (x ∷ xs) [] h = absurd h
 as_many R (x ∷ xs) (y ∷ ys) h = ap suc (as_many R xs ys h.1)
 
--- These lines were taken of indexes that were read from where the search for the page's start ended
-module _ {S : Type 0} (text : S → Option (List ℕ)) (extent gave : S → ℕ) (q : QueryValue) (from : Option PlaceValue)
-    (ss0 : List S) (fs0 : List Feed) (ss : List S) (fs : List Feed)
-    (ws : List WaitingLine) (b : Option Pair) (taken : List Member) (same : length ss0 ≡ length fs0)
-    (reached : Reached LINE_LIMIT text (is_past q.target) extent gave ss0 fs0 ss fs ws b taken)
-    (cut : AllByRecursion (λ x. IsCutAt LINE_LIMIT (start_pair q from) (text x.0) x.1.cursor) (zip ss0 fs0))
-    (texts : List (List ℕ)) (indexes : List (List Member)) (known : Known (map text ss0) texts)
-    (are : AllZip (IsIndex LINE_LIMIT) texts indexes) where
-  abbrev wanted : List Member → List Member
-  wanted lines = captures_over q from lines
-
+module _ (q : QueryValue) (indexes : List (List Member)) where
   -- what is wanted, cut behind the captures of these lines; nothing up to the bound stands above those behind the cut
   pub record Cut (bound : Option Pair) (earlier : List Member) : Type 0 where
     pub back : List Member
-    pub whole : wanted (collection indexes) ≡ wanted earlier ++ back
+    pub whole : captures_over q q.resume (collection indexes) ≡ captures_over q q.resume earlier ++ back
     pub later : (m : Member) → IsUpto bound (member_pair m)
         → AllByRecursion (λ v. Upto (member_pair m) (member_pair v)) back
 
+  module _ (bound : Option Pair) (earlier : List Member) (c : Cut bound earlier) (limit : Option ℕ)
+      (most : AreAtMost limit (captures_over q q.resume earlier)) where
+    in_bound : (m : Member) → IsUpto bound (member_pair m)
+        → is_within (follower q q.resume limit (collection indexes)) (member_pair m) ≡ true
+    in_bound m upto = grind (arith, within_follower)
+
+    passes : (m : Member) → is_past q.target m.values.key ≡ false → is_low (start_pair q q.resume) m ≡ false
+        → IsUpto bound (member_pair m) → in_reach q q.resume limit (collection indexes) m ≡ true
+    passes = grind (arith, reach_passes, in_bound)
+
+module _ {S : Type 0} {text : S → Option (List ℕ)} {extent gave : S → ℕ} {q : QueryValue} {olds : List S}
+    (r : Reading text extent gave q olds) where
+  -- the same over indexes
+  abbrev Cuts : Option Pair → List Member → Type 0
+  Cuts bound earlier = OverIndexes LINE_LIMIT (map text olds) (λ texts indexes. Cut q indexes bound earlier)
+
   -- all was read
-  pub cut_all : ws ≡ [] → Cut b taken
-  cut_all none = record {
+  pub cut_all : r.waiting ≡ [] → Cuts r.bound r.taken
+  cut_all none = λ texts indexes known are. record {
     back = [];
-    whole = grind (arith, wanted_whole, append-nil);
+    whole = wanted_whole r texts known indexes are none ∙ sym (append-nil _);
     later = λ m upto. tt;
   }
 
   -- behind the lines before the pair that was taken last
-  pub cut_last : (pair : Pair) (earlier others : List Member) → b ≡ Some pair → taken ≡ earlier ++ others
-      → AllByRecursion (λ m. Alike (member_pair m) pair) others → Cut b earlier
-  cut_last pair earlier others bound parts alike =
-      let first = wanted_first text extent gave q from ss0 fs0 ss fs ws b taken same reached cut texts indexes known
-      are in
-      let group = filter (is_wanted q from) others in
-      let p = place_before q from earlier in
+  pub cut_last : (pair : Pair) (earlier others : List Member) → r.bound ≡ Some pair → r.taken ≡ earlier ++ others
+      → AllByRecursion (λ m. Alike (member_pair m) pair) others → Cuts r.bound earlier
+  cut_last pair earlier others bound parts alike = λ texts indexes known are.
+      let first = wanted_first r texts known indexes are in
+      let group = filter (is_wanted q q.resume) others in
+      let p = place_before q q.resume earlier in
       record {
-        back = kept_after q from p group ++ first.0;
+        back = kept_after q q.resume p group ++ first.0;
         whole = grind (arith, captures_append, append_assoc, kept_after);
         later = λ m upto.
             let low : Upto (member_pair m) pair = subst (λ o. IsUpto o (member_pair m)) bound upto in
-            each_join (λ v. Upto (member_pair m) (member_pair v)) (kept_after q from p group) first.0
+            each_join (λ v. Upto (member_pair m) (member_pair v)) (kept_after q q.resume p group) first.0
             (each_kept member_place place_cmp (same_part q.collapse) place_cmp_total
             (λ v. Upto (member_pair m) (member_pair v)) p group
-            (each_weaker (λ (v : Member) (h : Alike (member_pair v) pair × (is_wanted q from v ≡ true)). upto_upto
+            (each_weaker (λ (v : Member) (h : Alike (member_pair v) pair × (is_wanted q q.resume v ≡ true)). upto_upto
             (member_pair m) pair (member_pair v) low (same_from (member_pair v) pair h.0)) group
-            (each_filter (λ v. Alike (member_pair v) pair) (is_wanted q from) others alike)))
-            (each_weaker (λ (v : Member) (h : IsAbove b (member_pair v)). upto_upto (member_pair m) pair (member_pair v)
-            low (below_upto pair (member_pair v) (subst (λ o. IsAbove o (member_pair v)) bound h))) first.0
-            first.2);
+            (each_filter (λ v. Alike (member_pair v) pair) (is_wanted q q.resume) others alike)))
+            (each_weaker (λ (v : Member) (h : IsAbove r.bound (member_pair v)). upto_upto (member_pair m) pair
+            (member_pair v) low (below_upto pair (member_pair v) (subst (λ o. IsAbove o (member_pair v)) bound h)))
+            first.0 first.2);
       }
 
   -- before a pair whose lines couldn't be had or handed on
-  pub cut_before : (next : Pair) → IsAbove b next → AllByRecursion (λ w. Upto next (waiting_pair w)) ws
-      → Cut (Some next) taken
-  cut_before next above least =
-      let before = wanted_before text extent gave q from ss0 fs0 ss fs ws b taken same reached cut texts indexes known
-      are next above least in
+  pub cut_before : (next : Pair) → IsAbove r.bound next → AllByRecursion (λ w. Upto next (waiting_pair w)) r.waiting
+      → Cuts (Some next) r.taken
+  cut_before next above least = λ texts indexes known are.
+      let before = wanted_before r texts known indexes are next above least in
       record {
         back = before.0;
         whole = before.1;
@@ -227,54 +235,84 @@ module _ {S : Type 0} (text : S → Option (List ℕ)) (extent gave : S → ℕ)
             before.0 before.2;
       }
 
-  module _ (bound : Option Pair) (earlier : List Member) (c : Cut bound earlier) (limit : Option ℕ)
-      (most : AreAtMost limit (wanted earlier)) where
-    in_bound : (m : Member) → IsUpto bound (member_pair m)
-        → is_within (follower q from limit (collection indexes)) (member_pair m) ≡ true
-    in_bound m upto = grind (arith, within_follower)
+  as_long : length r.sources ≡ length r.opened
+  as_long = grind (arith, as_many, length_zip)
 
-    passes : (m : Member) → is_past q.target m.values.key ≡ false → is_low (start_pair q from) m ≡ false
-        → IsUpto bound (member_pair m) → in_reach q from limit (collection indexes) m ≡ true
-    passes = grind (arith, reach_passes, in_bound)
+  kept_now : map text r.sources ≡ map text olds
+  kept_now = grind (arith, as_long, texts_kept)
 
-    -- what sources gave that were read up to the bound
-    pub gave_within : (olds news : List S) (feeds : List Feed) → Known (map text olds) texts
-        → AllZip (λ x y. CameWithin (text x) (extent x) (gave x) (gave y.0) y.1.cursor) olds (zip ss0 fs0)
-        → AllZip (Move text extent gave) (zip ss0 fs0) (zip news feeds) → length news ≡ length ss0
-        → AreReadTo LINE_LIMIT (is_past q.target) text bound news feeds
-        → AllGaveWithin extent gave (in_reach q from limit (collection indexes)) texts indexes olds news
-    gave_within olds news feeds known_old came moved long reads =
-        let test = in_reach q from limit (collection indexes) in
-        let all = as_many (Move text extent gave) (zip ss0 fs0) (zip news feeds) moved in
-        subst (λ ys. AllGaveWithin extent gave test texts indexes olds ys)
-        (firsts news feeds (omega (arith, all, long, length_zip ss0 fs0 same)))
-        (gave_most LINE_LIMIT (is_past q.target) (start_pair q from) bound test passes text extent gave olds
-        (zip ss0 fs0) (zip news feeds) texts indexes known_old
-        (tell_both LINE_LIMIT (is_past q.target) (start_pair q from) bound test passes text extent gave ss0 fs0 texts
-        same known) are came moved cut reads)
+  -- what sources gave that were read up to the bound
+  pub gave_upto : (bound : Option Pair) (earlier : List Member) (news : List S) (feeds : List Feed) → Cuts bound earlier
+      → AllZip (Move text extent gave) (zip r.opened r.begun) (zip news feeds) → length news ≡ length r.opened
+      → OverTexts (map text olds) (λ texts. AreReadTo LINE_LIMIT (is_past q.target) text bound news feeds)
+      → GaveFor q (map text olds) extent gave earlier olds news
+  gave_upto bound earlier news feeds cuts moved long reads = λ texts indexes known are limit most.
+      let test = in_reach q q.resume limit (collection indexes) in
+      let all = as_many (Move text extent gave) (zip r.opened r.begun) (zip news feeds) moved in
+      let pass = passes q indexes bound earlier (cuts texts indexes known are) limit most in
+      subst (λ ys. AllGaveWithin extent gave test texts indexes olds ys)
+      (firsts news feeds (omega (arith, all, long, length_zip r.opened r.begun r.start.same)))
+      (gave_most LINE_LIMIT (is_past q.target) (start_pair q q.resume) bound test pass text extent gave olds
+      (zip r.opened r.begun) (zip news feeds) texts indexes known
+      (tell_both LINE_LIMIT (is_past q.target) (start_pair q q.resume) bound test pass text extent gave r.opened r.begun
+      texts r.start.same (known_opened r texts known)) are r.start.came moved r.start.cut (reads texts known))
 
-  -- no more lines were read than are in reach, and one of each index
-  pub lines_within : Known (map text ss) texts → (earlier : List Member) → Cut b earlier → (limit : Option ℕ)
-      → AreAtMost limit (wanted earlier)
-      → sum (map (λ (f : Feed). f.cursor.count) fs) ≤ length
-      (filter (in_reach q from limit (collection indexes)) (all_lines indexes)) + length ss0
-  lines_within known_now earlier c limit most =
-      let h = lines_most LINE_LIMIT (is_past q.target) (start_pair q from) b
-      (in_reach q from limit (collection indexes)) (passes b earlier c limit most) text extent ws 0 ss fs texts
-      indexes reached.ready.same
-      known_now are
-      (two_each (Move text extent gave) (λ (x : S × Feed). IsCutAt LINE_LIMIT (start_pair q from) (text x.0) x.1.cursor)
-      (λ (x : S × Feed). IsCutAt LINE_LIMIT (start_pair q from) (text x.0) x.1.cursor)
-      (λ x y m c. λ t members e i. subst (λ n. IsCut (start_pair q from) t members n) (sym m.start_kept)
-      (c t members (sym m.text_kept ∙ e) i)) (zip ss0 fs0) (zip ss fs) reached.moved cut)
-      reached.ready.fed (reached.handed.told (told_known text ss0 texts known)).1 in
-      omega (
-        arith,
-        h,
-        as_many (IsIndex LINE_LIMIT) texts indexes are,
-        as_many (λ told t. told ≡ Some t) (map text ss0) texts known,
-        length-map ss0 text,
-      )
+  -- what they gave of which these lines were taken
+  pub gave_within : (earlier : List Member) → Cuts r.bound earlier
+      → GaveFor q (map text olds) extent gave earlier olds r.sources
+  gave_within earlier cuts = gave_upto r.bound earlier r.sources r.feeds cuts r.reached.moved as_long
+      (λ texts known. are_read_to LINE_LIMIT (is_past q.target) text extent r.bound 0 r.sources r.feeds r.waiting
+      r.reached.ready.fed (r.reached.handed.told (told r texts known)).1)
+
+  module _ (lines : ℕ) (counted : lines ≡ min (sum (map (λ (f : Feed). f.cursor.count) r.feeds)) (2 ^ 64 - 1)) where
+    -- no more lines were read than are in reach, and one of each index
+    pub lines_within : (earlier : List Member) → Cuts r.bound earlier → ReadFor q (map text olds) earlier lines
+    lines_within earlier cuts = λ texts indexes known are limit most.
+        let h = lines_most LINE_LIMIT (is_past q.target) (start_pair q q.resume) r.bound
+        (in_reach q q.resume limit (collection indexes))
+        (passes q indexes r.bound earlier (cuts texts indexes known are) limit most) text extent r.waiting 0 r.sources
+        r.feeds texts indexes r.reached.ready.same (rw kept_now known) are
+        (two_each (Move text extent gave)
+        (λ (x : S × Feed). IsCutAt LINE_LIMIT (start_pair q q.resume) (text x.0) x.1.cursor)
+        (λ (x : S × Feed). IsCutAt LINE_LIMIT (start_pair q q.resume) (text x.0) x.1.cursor)
+        (λ x y m c. λ t members e i. subst (λ n. IsCut (start_pair q q.resume) t members n) (sym m.start_kept)
+        (c t members (sym m.text_kept ∙ e) i)) (zip r.opened r.begun) (zip r.sources r.feeds) r.reached.moved
+        r.start.cut) r.reached.ready.fed (r.reached.handed.told (told r texts known)).1 in
+        omega (
+          arith,
+          counted,
+          h,
+          as_many (IsIndex LINE_LIMIT) texts indexes are,
+          as_many (λ told t. told ≡ Some t) (map text olds) texts known,
+        )
+
+    -- of each source consecutive lines were read
+    pub of_parts : (all : Bool) → (all ≡ true → r.waiting ≡ [])
+        → OverTexts (map text olds) (λ texts. IsOfParts q texts r.taken all lines)
+    of_parts all ended = λ texts known.
+        let read = parts LINE_LIMIT text r.sources r.feeds in
+        let found = parts_first _ _ _ _ _ (past_upward q.target) _ _ _ _ _ _ _ r.reached (told r texts known)
+        (is_wanted q q.resume) (wanted_within q q.resume) in
+        record {
+          parts = read;
+          each = λ whole is. parts_are LINE_LIMIT (is_past q.target) text extent r.waiting 0 r.sources r.feeds texts
+              whole r.reached.ready.same (rw kept_now known) r.reached.ready.fed r.reached.settled (λ e. ended (is e));
+          count = counted ∙ ap (λ n. min n (2 ^ 64 - 1))
+              (parts_count LINE_LIMIT (is_past q.target) text extent r.waiting 0 r.sources r.feeds r.reached.ready.same
+              (told_moved text extent gave r.opened r.sources r.begun r.feeds r.reached.ready.same r.reached.moved
+              (told r texts known)) r.reached.ready.fed);
+          first = (_, captures_split q q.resume (collection read) r.taken found.0 found.1);
+          ended = λ e. ap (kept_after q q.resume q.resume)
+              (parts_whole _ _ _ _ _ (past_upward q.target) _ _ _ _ _ _ _ r.reached (told r texts known)
+              (is_wanted q q.resume) (wanted_within q q.resume) (ended e));
+        }
+
+  -- they are lines of the sources, which over indexes come first
+  pub took : Took q (map text olds) r.taken
+  took = record {
+    lines = lines_taken r;
+    first = λ texts indexes known are. let first = wanted_first r texts known indexes are in (first.0, first.1);
+  }
 
 pub within_opening : {S : Type 0} (text : S → Option (List ℕ)) (extent gave : S → ℕ) (test : Member → Bool)
     (texts : List (List ℕ)) (indexes : List (List Member)) (olds news : List S) → Known (map text olds) texts

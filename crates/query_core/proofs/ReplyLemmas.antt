@@ -2,7 +2,7 @@
 use Rattle.std.proofs.Common.{◌≡◌, ℕ, suc, ◌+◌, ◌-◌, ◌^◌, ◌<◌, ◌≤◌, List, [], ◌∷◌, ◌++◌, map, length, length-append}
 use Rattle.std.proofs.Common.{length-take, take, refl, sym, ap, ◌∙◌, subst, arith, cond, Bool, true, false, Option}
 use Rattle.std.proofs.Common.{Some, None, append_assoc, append-nil, lt-ltb, ltb-false, nat_lt, slice_index, ltb-true}
-use Rattle.std.specs.Prelude.{flat_map, ◌==◌, codes, IsErrAnd, MatchBool, Result, Ok, Err}
+use Rattle.std.specs.Prelude.{flat_map, codes, IsErrAnd, MatchBool, Result, Ok, Err}
 use Rattle.std.specs.List.{AllZip}
 use Rattle.std.specs.Str.{is_utf8}
 use Rattle.std.proofs.lemmas.List.{map-append, take_all}

@@ -1,4 +1,4 @@
-use Rattle.std.proofs.Common.{arith, rules, ◌≡◌, ◌++◌, ◌∙◌, ℕ, List, [], append-nil, Bool, true, refl, sym, map, Option}
+use Rattle.std.proofs.Common.{arith, rules, ◌≡◌, ◌++◌, ℕ, List, [], append-nil, Bool, true, refl, sym, map, Option}
 use Rattle.std.proofs.Common.{None}
 use Rattle.std.proofs.lemmas.Bool.{true_from_ne_false}
 use Rattle.std.proofs.lemmas.Result.{err_from_is_err_and}
