@@ -75,35 +75,8 @@ settled g c all rest split ended =
 
 -- ---- what is refused, and failures
 
-pub returns-then-sources-gt-SOURCES_LIMIT-clause-refused : goal.returns-then-sources-gt-SOURCES_LIMIT-clause-refused
-returns-then-sources-gt-SOURCES_LIMIT-clause-refused g c = grind arith
-
-pub returns-in_err-writer-clause-refused : goal.returns-in_err-writer-clause-refused
-returns-in_err-writer-clause-refused g c = grind arith
-
-pub returns-in_err-pass-clause-refused : goal.returns-in_err-pass-clause-refused
-returns-in_err-pass-clause-refused g c = grind arith
-
-pub returns-in_err-end-clause-refused : goal.returns-in_err-end-clause-refused
-returns-in_err-end-clause-refused g c = grind arith
-
 pub returns-clause-refused : goal.returns-clause-refused
 returns-clause-refused g c = grind (arith, refuses_few)
-
-pub returns-in_err-writer-clause-failures : goal.returns-in_err-writer-clause-failures
-returns-in_err-writer-clause-failures g c = grind arith
-
-pub returns-in_err-pass-clause-failures : goal.returns-in_err-pass-clause-failures
-returns-in_err-pass-clause-failures g c = grind arith
-
-pub returns-in_err-end-clause-failures : goal.returns-in_err-end-clause-failures
-returns-in_err-end-clause-failures g c = grind arith
-
-pub returns-in_err-writer-clause-fault : goal.returns-in_err-writer-clause-fault
-returns-in_err-writer-clause-fault g c = grind arith
-
-pub returns-in_err-end-clause-fault : goal.returns-in_err-end-clause-fault
-returns-in_err-end-clause-fault g c = grind arith
 
 -- ---- the page of lines of the sources
 

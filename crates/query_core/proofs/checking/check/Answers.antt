@@ -28,9 +28,6 @@ returns-in_err-line-clause-checked g c =
     (value c.loop-previous.previous) (inv.told t e) rest
     (omega (arith, long, inv.stands.filled.within, inv.extent)) c.in_err-line.field-0.0 (known.fault t told))
 
-pub returns-in_err-line-clause-failures : goal.returns-in_err-line-clause-failures
-returns-in_err-line-clause-failures g c = grind arith
-
 pub returns-then-falls_after-clause-checked : goal.returns-then-falls_after-clause-checked
 returns-then-falls_after-clause-checked g c =
     let inv = c.loop-previous.invariant in

@@ -36,40 +36,7 @@ collection_rises indexes = grind (arith, rises_rising, place_cmp_total)
 
 -- ---- what is refused
 
-pub returns-then-not-are_sizes-clause-refused : goal.returns-then-not-are_sizes-clause-refused
-returns-then-not-are_sizes-clause-refused g c = grind arith
-
-pub returns-then-sources-gt-SOURCES_LIMIT-clause-refused : goal.returns-then-sources-gt-SOURCES_LIMIT-clause-refused
-returns-then-sources-gt-SOURCES_LIMIT-clause-refused g c = grind arith
-
-pub returns-in_err-writer-clause-refused : goal.returns-in_err-writer-clause-refused
-returns-in_err-writer-clause-refused g c = grind arith
-
-pub returns-in_err-read_lines-clause-refused : goal.returns-in_err-read_lines-clause-refused
-returns-in_err-read_lines-clause-refused g c = grind arith
-
-pub returns-in_err-end-clause-refused : goal.returns-in_err-end-clause-refused
-returns-in_err-end-clause-refused g c = grind arith
-
-pub returns-clause-refused : goal.returns-clause-refused
-returns-clause-refused g c = grind arith
-
 -- ---- failures, and lines at fault
-
-pub returns-in_err-writer-clause-failures : goal.returns-in_err-writer-clause-failures
-returns-in_err-writer-clause-failures g c = grind arith
-
-pub returns-in_err-read_lines-clause-failures : goal.returns-in_err-read_lines-clause-failures
-returns-in_err-read_lines-clause-failures g c = grind arith
-
-pub returns-in_err-end-clause-failures : goal.returns-in_err-end-clause-failures
-returns-in_err-end-clause-failures g c = grind arith
-
-pub returns-in_err-writer-clause-fault : goal.returns-in_err-writer-clause-fault
-returns-in_err-writer-clause-fault g c = grind arith
-
-pub returns-in_err-end-clause-fault : goal.returns-in_err-end-clause-fault
-returns-in_err-end-clause-fault g c = grind arith
 
 -- ---- how much was read
 
@@ -213,9 +180,6 @@ returns-clause-lines g c =
     (took.lines, took.took.lines, ended g here (search rules) took.lines took.took.lines.rise refl)
 
 -- ---- the lines of indexes
-
-pub returns-then-not-are_sizes-clause-pages : goal.returns-then-not-are_sizes-clause-pages
-returns-then-not-are_sizes-clause-pages g c = grind arith
 
 pub returns-then-sources-gt-SOURCES_LIMIT-clause-pages : goal.returns-then-sources-gt-SOURCES_LIMIT-clause-pages
 returns-then-sources-gt-SOURCES_LIMIT-clause-pages g c = grind (arith, wrote_none, all_positive, collection_rises)

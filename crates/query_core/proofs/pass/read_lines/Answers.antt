@@ -27,12 +27,6 @@ returns-in_err-all-clause-kept g c = grind (arith, texts_kept, extents_kept)
 pub returns-clause-kept : goal.returns-clause-kept
 returns-clause-kept g c = grind (arith, texts_kept, extents_kept)
 
-pub returns-in_err-opened-clause-failures : goal.returns-in_err-opened-clause-failures
-returns-in_err-opened-clause-failures g c = grind arith
-
-pub returns-in_err-all-clause-failures : goal.returns-in_err-all-clause-failures
-returns-in_err-all-clause-failures g c = grind arith
-
 pub returns-in_err-opened-clause-fault : goal.returns-in_err-opened-clause-fault
 returns-in_err-opened-clause-fault g c = grind (arith, err_from_is_err_and, merge_line)
 

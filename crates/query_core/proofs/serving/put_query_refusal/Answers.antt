@@ -10,9 +10,3 @@ pub returns-in-Memory-clause-lines : goal.returns-in-Memory-clause-lines
 returns-in-Memory-clause-lines g c = λ told read is.
     let some = some_reply told read in
     grind (arith, wrote_nothing)
-
-pub returns-in_default-clause-text : goal.returns-in_default-clause-text
-returns-in_default-clause-text g c = grind arith
-
-pub returns-in_default-clause-lines : goal.returns-in_default-clause-lines
-returns-in_default-clause-lines g c = grind arith

@@ -13,12 +13,6 @@ use Rattle.query_core.proofs.serving.reply_to_line.Goals as goal
 abbrev Is : List (List Member) → List ℕ → List ℕ → Type 0
 Is indexes = IsOneReply (reply_of QUERY_LIMIT (collection indexes))
 
-pub returns-then-line-gt-QUERY_LIMIT-clause-text : goal.returns-then-line-gt-QUERY_LIMIT-clause-text
-returns-then-line-gt-QUERY_LIMIT-clause-text g c = grind arith
-
-pub returns-then-line-gt-QUERY_LIMIT-clause-lines : goal.returns-then-line-gt-QUERY_LIMIT-clause-lines
-returns-then-line-gt-QUERY_LIMIT-clause-lines g c = grind arith
-
 pub returns-in-Ok-clause-text : goal.returns-in-Ok-clause-text
 returns-in-Ok-clause-text g c = grind (arith, le-ltb, writes_some, text_reply, is_utf8-from_IsUtf8)
 

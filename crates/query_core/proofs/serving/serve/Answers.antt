@@ -131,12 +131,3 @@ returns-clause-lines g c = grind (arith, line-none)
 
 pub returns-clause-part : goal.returns-clause-part
 returns-clause-part g c = grind (arith, one_reply_part, replied-front)
-
-pub returns-in_err-read_line-clause-failures : goal.returns-in_err-read_line-clause-failures
-returns-in_err-read_line-clause-failures g c = grind arith
-
-pub returns-in_err-reply_and_mark-clause-failures : goal.returns-in_err-reply_and_mark-clause-failures
-returns-in_err-reply_and_mark-clause-failures g c = grind arith
-
-pub returns-clause-failures : goal.returns-clause-failures
-returns-clause-failures g c = grind arith

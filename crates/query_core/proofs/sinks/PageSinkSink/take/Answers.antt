@@ -4,9 +4,6 @@ use Rattle.page_writers.specs.WriterView.{from_view}
 use Rattle.page_writers.proofs.WriterLemmas.{broke_as}
 use Rattle.query_core.proofs.sinks.PageSinkSink.take.Goals as goal
 
-pub returns-in-Ok-clause-wrote : goal.returns-in-Ok-clause-wrote
-returns-in-Ok-clause-wrote g c = grind arith
-
 pub returns-in-Err-clause-wrote : goal.returns-in-Err-clause-wrote
 returns-in-Err-clause-wrote g c = λ first taken start s.
     let w = c.args.self.now.writer in
