@@ -1,12 +1,10 @@
 pub mod ConversionLemmas
-pub mod RefusalLemmas
 pub mod Runs
 pub mod CheckLemmas
 pub mod StartLemmas
 pub mod LineStamps
 pub mod AskedLemmas
 pub mod PageOfIndexes
-pub mod PageExits
 pub mod PagesExits
 pub mod FewerLines
 pub mod RisingPages

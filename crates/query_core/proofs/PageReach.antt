@@ -13,15 +13,14 @@ use Rattle.page_core.specs.Pages.{Page}
 use Rattle.page_core.specs.PageText.{begun}
 use Rattle.cdxj_core.specs.declared.limit.TheConstants.{LINE_LIMIT}
 use Rattle.cdxj_core.specs.Indexes.{IsIndex}
-use Rattle.merge_core.specs.Collections.{Known, collection}
+use Rattle.merge_core.specs.Collections.{Known, OverIndexes, collection}
 use Rattle.std.specs.List.{AllZip}
 use Rattle.devices.specs.Device.{Grows}
-use Rattle.merge_core.specs.Spending.{AllGaveWithin}
 use Rattle.page_writers.specs.PageWriting.{captures_over, page_over}
-use Rattle.query_core.specs.Passes.{AreAtMost}
+use Rattle.query_core.specs.Passes.{AreAtMost, AreFirst, GaveFor}
 use Rattle.page_writers.specs.QueryPages.{form_of, query_page}
-use Rattle.query_core.specs.Reach.{in_reach, captures_text, GaveInReach, WroteFirst}
-use Rattle.query_core.proofs.AskedLemmas.{asked_is}
+use Rattle.query_core.specs.Reach.{captures_text, GaveInReach, WroteFirst}
+use Rattle.query_core.proofs.AskedLemmas.{Writing, asked_is, stood}
 use Rattle.query_core.proofs.ReachLemmas.{opened_not, within_opening}
 use Rattle.page_writers.proofs.WriterLemmas.{page, next_none, page_front}
 
@@ -59,27 +58,29 @@ front_written form (m ∷ ms) old middle new a g = grind arith
 
 -- What was written of the page of these lines, which come first, and what sources gave for the captures of the earlier
 -- of them
-pub page_reached : {S : Type 0} (extent gave : S → ℕ) (q : QueryValue) (texts : List (List ℕ))
-    (indexes : List (List Member)) (old middle new : Option (List ℕ)) (olds news : List S)
-    (taken rest c tail : List Member) → captures_over q q.resume (collection indexes) ≡ captures_over q q.resume taken
-    ++ rest → captures_over q q.resume taken ≡ c ++ tail → AreAtMost q.limit c
-    → Appends old middle (begun (form_of q) (page_over q q.resume q.limit taken).members) → Grows middle new
-    → ((n : ℕ) → length c ≤ n → AllGaveWithin extent gave (in_reach q q.resume (Some n) (collection indexes)) texts
-    indexes olds news)
-    → GaveInReach extent gave q texts indexes old new olds news
-page_reached extent gave q texts indexes old middle new olds news taken rest c tail split of_taken most front grows
-    within =
+pub page_reached : {S : Type 0} (text : S → Option (List ℕ)) (extent gave : S → ℕ) {q : QueryValue}
+    {old middle : Option (List ℕ)} (new : Option (List ℕ)) (olds news : List S) {taken : List Member}
+    (earlier tail : List Member) → Writing q old middle taken → Grows middle new
+    → OverIndexes LINE_LIMIT (map text olds) (λ texts indexes. AreFirst q (collection indexes) taken)
+    → captures_over q q.resume taken ≡ captures_over q q.resume earlier ++ tail
+    → AreAtMost q.limit (captures_over q q.resume earlier) → GaveFor q (map text olds) extent gave earlier olds news
+    → OverIndexes LINE_LIMIT (map text olds) (λ texts indexes. GaveInReach extent gave q texts indexes old new olds news)
+page_reached text extent gave {q} {old} {middle} new olds news {taken} earlier tail w grows first split most within =
+    λ texts indexes known are.
+    let front = first texts indexes known are in
     let mine = (page_over q q.resume q.limit taken).members in
-    let later = page_front q.limit (captures_over q q.resume taken) rest in
+    let later = page_front q.limit (captures_over q q.resume taken) front.0 in
     let members : (query_page q (collection indexes)).members ≡ mine ++ later.0 =
-    ap (λ (p : Page Member PlaceValue). p.members) (asked_is q (collection indexes) ∙ ap (page q.limit) split)
+    ap (λ (p : Page Member PlaceValue). p.members) (asked_is q (collection indexes) ∙ ap (page q.limit) front.1)
     ∙ later.1 in
+    let written = front_written (form_of q) mine old middle new (stood w).text grows in
     record {
       whole = length mine;
       most = omega (arith, ap length members, length-append mine later.0);
-      wrote = grind (arith, take-append_seam, front_written);
-      within = within (length mine)
-          (subst (λ ms. length c ≤ length (page q.limit ms).members) (sym of_taken) (has_all q.limit c tail most));
+      wrote = grind (arith, take-append_seam);
+      within = within texts indexes known are (Some (length mine))
+          (subst (λ ms. length (captures_over q q.resume earlier) ≤ length (page q.limit ms).members) (sym split)
+          (has_all q.limit (captures_over q q.resume earlier) tail most));
     }
 
 -- nothing was read at all, and no capture was written

@@ -1,4 +1,4 @@
-use Rattle.std.proofs.Common.{arith, ◌++◌, map, ap, Bor}
+use Rattle.std.proofs.Common.{◌++◌, map, ap, Bor}
 use Rattle.cdxj_core.specs.declared.line.Line.{Line}
 use Rattle.page_writers.specs.WriterView.{from_view}
 use Rattle.page_writers.proofs.WriterLemmas.{broke_as}
