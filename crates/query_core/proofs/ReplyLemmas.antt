@@ -172,18 +172,29 @@ module _ (limit : ℕ) (IsReply : List ℕ → List ℕ → Type 0) where
 
 -- ---- the same, in the words of the calls
 
-module _ (limit : ℕ) (IsReply : List ℕ → List ℕ → Type 0) (input now after : Option (List ℕ)) (count : ℕ)
-    (old new last : Option (List ℕ)) (line text : List ℕ) (is : text ≡ without_carriage_return line)
-    (found : Bool) (so_far : RepliedSoFar limit IsReply input now count old new)
-    (takes : TakesLine (limit + 2) found now after line) where
-  pub line-more : found ≡ true → (reply : List ℕ) × IsMarkedReply limit IsReply text reply × Appends new last reply
-      → RepliedSoFar limit IsReply input after (count + 1) old last
-  line-more there (reply, m, a) = grind (arith, replied-more)
+-- after so many lines this one was read, and then more was written
+pub record Turn (limit : ℕ) : Type 0 where
+  pub input : Option (List ℕ)
+  pub now : Option (List ℕ)
+  pub after : Option (List ℕ)
+  pub count : ℕ
+  pub old : Option (List ℕ)
+  pub new : Option (List ℕ)
+  pub last : Option (List ℕ)
+  pub line : List ℕ
+  pub takes : TakesLine (limit + 2) true now after line
 
-  pub line-within : found ≡ true → (reply : List ℕ) × IsMarkedReply limit IsReply text reply
-      × AppendsPrefix new last reply → RepliedToFirst limit IsReply input old last
-  line-within there (reply, m, p) =
-      replied-within limit IsReply input now after count old new last line reply so_far (grind arith) (grind arith) p
+module _ {limit : ℕ} (t : Turn limit) (IsReply : List ℕ → List ℕ → Type 0)
+    (so_far : RepliedSoFar limit IsReply t.input t.now t.count t.old t.new) where
+  pub line-more : (reply : List ℕ) × IsMarkedReply limit IsReply (without_carriage_return t.line) reply
+      × Appends t.new t.last reply → RepliedSoFar limit IsReply t.input t.after (t.count + 1) t.old t.last
+  line-more (reply, m, a) =
+      replied-more limit IsReply t.input t.now t.after t.count t.old t.new t.last t.line reply so_far t.takes m a
+
+  pub line-within : (reply : List ℕ) × IsMarkedReply limit IsReply (without_carriage_return t.line) reply
+      × AppendsPrefix t.new t.last reply → RepliedToFirst limit IsReply t.input t.old t.last
+  line-within (reply, m, p) =
+      replied-within limit IsReply t.input t.now t.after t.count t.old t.new t.last t.line reply so_far t.takes m p
 
 module _ (limit : ℕ) (IsReply : List ℕ → List ℕ → Type 0) (input now after : Option (List ℕ)) (count taken before : ℕ)
     (old new : Option (List ℕ)) (line : List ℕ)

@@ -7,8 +7,8 @@ use Rattle.cdxj_core.specs.declared.line.Line.{Line}
 use Rattle.cdxj_core.specs.Members.{Member}
 use Rattle.source_core.specs.IndexLines.{lines}
 use Rattle.merge_core.specs.NextLine.{IsNextLine}
-use Rattle.query_core.specs.Checking.{FallsAfter, EndsOutOfOrder}
-use Rattle.query_core.proofs.CheckLemmas.{CheckedTo, checked_more, checked_whole, checked_falls, checked_fault}
+use Rattle.query_core.specs.Checking.{EndsOutOfOrder}
+use Rattle.query_core.proofs.CheckLemmas.{checked_more, checked_whole, checked_falls, checked_fault}
 use Rattle.query_core.proofs.checking.check.Goals as goal
 
 abbrev value : Option (Box Line Global) → Option Member
@@ -41,8 +41,7 @@ returns-then-falls_after-clause-checked g c =
     (checked_falls LINE_LIMIT t c.loop-previous.cursor.at c.loop-previous.cursor.count (value c.loop-previous.previous)
     (inv.told t e) rest
     (omega (arith, long, inv.stands.filled.within, inv.extent)) c.next_line.new.cursor.at c.in-Some.line.value next
-    (subst (FallsAfter (value c.loop-previous.previous)) c.deref.ensures
-    (c.falls_after.ensures.falls c.if-falls_after.true)))
+    (rw c.deref.ensures at (c.falls_after.ensures.falls c.if-falls_after.true)))
 
 pub loop-previous-preserved : goal.loop-previous-preserved
 loop-previous-preserved g c =
@@ -65,13 +64,9 @@ loop-previous-preserved g c =
           let next = subst (λ o. IsNextLine LINE_LIMIT t c.loop-previous.cursor.at c.next_line.new.cursor.at (value o))
           c.in-Some.is (ok.line t told) in
           let more = checked_more LINE_LIMIT t c.loop-previous.cursor.at c.loop-previous.cursor.count
-          (value c.loop-previous.previous) (inv.told t e) rest
-          c.next_line.new.cursor.at c.in-Some.line.value next
-          (subst (λ m. FallsAfter (value c.loop-previous.previous) m → ⊥) c.deref.ensures
-          (c.falls_after.ensures.stays c.if-falls_after.false)) in
-          subst (λ n. CheckedTo LINE_LIMIT t n (value c.replace.new.self)) (sym counted)
-          (subst (λ o. CheckedTo LINE_LIMIT t (c.loop-previous.cursor.count + 1) (value o))
-          (sym c.replace.ensures.after) more);
+          (value c.loop-previous.previous) (inv.told t e) rest c.next_line.new.cursor.at c.in-Some.line.value next
+          (rw c.deref.ensures at (c.falls_after.ensures.stays c.if-falls_after.false)) in
+          rw (counted, c.replace.ensures.after) more;
     }
 
 counted : (found : Option (Box Line Global)) (n count : ℕ) → MatchOption found (n ≡ count) (λ _. n ≡ count + 1)

@@ -13,7 +13,7 @@ use Rattle.merge_core.specs.SourceLines.{AreLinesOf}
 use Rattle.merge_core.specs.Spending.{AllGaveWithin}
 use Rattle.page_writers.specs.PageWriting.{captures_over}
 use Rattle.page_writers.specs.WrittenPages.{are_sizes, WrotePages, WrotePagesInPart}
-use Rattle.page_writers.proofs.PageChains.{wrote_front, wrote_most, wrote_none, wrote_whole}
+use Rattle.page_writers.proofs.PageChains.{wrote_front, wrote_none}
 use Rattle.query_core.proofs.PagesExits.{all_ended, any_front, at_end}
 use Rattle.page_writers.proofs.PagesLemmas.{start_front}
 use Rattle.page_writers.proofs.SizeLemmas.{all_positive}
@@ -63,78 +63,60 @@ returns-in_err-end-clause-bytes g c = λ texts indexes known are. c.in_ok-read_l
 
 -- ---- the pages of lines that rise by place, of which those that were read come first
 
-before : (g : Over) (c : In_err-writer g) (sized : are_sizes c.args.sizes.now ≡ true) (lines : List Member)
+before : (g : Over) (c : In_err-writer g) → are_sizes c.args.sizes.now ≡ true → (lines : List Member)
     → Rises member_place place_cmp lines
     → WrotePagesInPart c.args.query.now lines c.args.sizes.now (g.O.Output.written c.args.out.now)
     (g.O.Output.written c.begin.new.out)
 before g c sized lines rise =
-    let q = c.args.query.now in
     let positive = all_positive c.args.sizes.now sized in
     let old = g.O.Output.written c.args.out.now in
     let new = g.O.Output.written c.begin.new.out in
-    wrote_front q c.args.sizes.now positive lines rise [] old new (captures_over q q.resume lines) refl
-    (start_front q c.args.sizes.now old new positive c.in_err-writer.ensures.front)
+    wrote_front c.args.query.now c.args.sizes.now positive lines rise [] old new _ refl
+    (start_front c.args.query.now c.args.sizes.now old new positive c.in_err-writer.ensures.front)
 
-broken : (g : Over) (c : In_err-read_lines g) (sized : are_sizes c.args.sizes.now ≡ true) (lines : List Member)
-    → Rises member_place place_cmp lines → (rest : List Member)
+ended : (g : Over) (c : In_ok-end g) (lines : List Member) → Rises member_place place_cmp lines
     → captures_over c.args.query.now c.args.query.now.resume lines
-    ≡ captures_over c.args.query.now c.args.query.now.resume c.in_err-read_lines.ensures.broke.lines ++ rest
-    → WrotePagesInPart c.args.query.now lines c.args.sizes.now (g.O.Output.written c.args.out.now)
-    (g.O.Output.written c.read_lines.new.out)
-broken g c sized lines rise rest split =
-    let q = c.args.query.now in
-    let sizes = c.args.sizes.now in
-    let positive = all_positive sizes sized in
-    let start = g.O.Output.written c.args.out.now in
-    let new = g.O.Output.written c.read_lines.new.out in
-    let is = c.in_ok-writer.ensures.query in
-    let broke = c.in_err-read_lines.ensures.broke in
-    wrote_front q sizes positive lines rise (captures_over q q.resume broke.lines) start new rest split
-    (any_front c.in_ok-writer.writer q sizes is.0 is.1 is.2 broke.lines start new
-    (broke.wrote (record { writer = c.in_ok-writer.writer }) start
-    ((refl, refl), c.in_ok-writer.ensures.stands positive)))
+    ≡ captures_over c.args.query.now c.args.query.now.resume c.in_ok-read_lines.ensures.took.lines
+    → WrotePages c.args.query.now lines c.args.sizes.now (g.O.Output.written c.args.out.now)
+    (g.O.Output.written c.end.new.out) c.in_ok-end.field-0
+ended g c lines rise all =
+    let positive = all_positive c.args.sizes.now (search rules) in
+    let took = c.in_ok-read_lines.ensures.took in
+    let end = c.in_ok-end.ensures in
+    all_ended c.in_ok-writer.writer c.args.query.now c.args.sizes.now c.in_ok-writer.ensures.query positive
+    (g.O.Output.written c.args.out.now) lines rise c.read_lines.new.sink.writer took.lines
+    (g.O.Output.written c.read_lines.new.out) (took.came (record { writer = c.in_ok-writer.writer })
+    (g.O.Output.written c.args.out.now) ((refl, refl), c.in_ok-writer.ensures.stands positive)) all
+    (g.O.Output.written c.end.new.out) c.in_ok-end.field-0 end.text end.count
 
-unended : (g : Over) (c : In_err-end g) (sized : are_sizes c.args.sizes.now ≡ true) (lines : List Member)
+unended : (g : Over) (c : In_err-end g) → are_sizes c.args.sizes.now ≡ true → (lines : List Member)
     → Rises member_place place_cmp lines
     → captures_over c.args.query.now c.args.query.now.resume lines
     ≡ captures_over c.args.query.now c.args.query.now.resume c.in_ok-read_lines.ensures.took.lines
     → WrotePagesInPart c.args.query.now lines c.args.sizes.now (g.O.Output.written c.args.out.now)
     (g.O.Output.written c.end.new.out)
 unended g c sized lines rise all =
-    let q = c.args.query.now in
-    let sizes = c.args.sizes.now in
-    let positive = all_positive sizes sized in
-    let start = g.O.Output.written c.args.out.now in
-    let mid = g.O.Output.written c.read_lines.new.out in
-    let new = g.O.Output.written c.end.new.out in
-    let is = c.in_ok-writer.ensures.query in
+    let positive = all_positive c.args.sizes.now sized in
     let took = c.in_ok-read_lines.ensures.took in
-    wrote_most q sizes positive lines rise (captures_over q q.resume took.lines) start new all
-    (at_end c.in_ok-writer.writer q sizes is.0 is.1 is.2 c.read_lines.new.sink.writer took.lines start mid
-    (took.came (record { writer = c.in_ok-writer.writer }) start
-    ((refl, refl), c.in_ok-writer.ensures.stands positive)) new c.in_err-end.ensures.text)
+    at_end c.in_ok-writer.writer c.args.query.now c.args.sizes.now c.in_ok-writer.ensures.query positive
+    (g.O.Output.written c.args.out.now) lines rise c.read_lines.new.sink.writer took.lines
+    (g.O.Output.written c.read_lines.new.out) (took.came (record { writer = c.in_ok-writer.writer })
+    (g.O.Output.written c.args.out.now) ((refl, refl), c.in_ok-writer.ensures.stands positive)) all
+    (g.O.Output.written c.end.new.out) c.in_err-end.ensures.text
 
-ended : (g : Over) (c : In_ok-end g) (sized : are_sizes c.args.sizes.now ≡ true) (lines : List Member)
-    → Rises member_place place_cmp lines
+broken : (g : Over) (c : In_err-read_lines g) → are_sizes c.args.sizes.now ≡ true → (lines : List Member)
+    → Rises member_place place_cmp lines → (rest : List Member)
     → captures_over c.args.query.now c.args.query.now.resume lines
-    ≡ captures_over c.args.query.now c.args.query.now.resume c.in_ok-read_lines.ensures.took.lines
-    → WrotePages c.args.query.now lines c.args.sizes.now (g.O.Output.written c.args.out.now)
-    (g.O.Output.written c.end.new.out) c.in_ok-end.field-0
-ended g c sized lines rise all =
-    let q = c.args.query.now in
-    let sizes = c.args.sizes.now in
-    let positive = all_positive sizes sized in
-    let start = g.O.Output.written c.args.out.now in
-    let mid = g.O.Output.written c.read_lines.new.out in
-    let new = g.O.Output.written c.end.new.out in
-    let is = c.in_ok-writer.ensures.query in
-    let took = c.in_ok-read_lines.ensures.took in
-    let end = c.in_ok-end.ensures in
-    wrote_whole q sizes positive lines rise (captures_over q q.resume took.lines) start new all c.in_ok-end.field-0
-    (all_ended c.in_ok-writer.writer q sizes is.0 is.1 is.2 c.read_lines.new.sink.writer took.lines start mid
-    (took.came (record { writer = c.in_ok-writer.writer }) start
-    ((refl, refl), c.in_ok-writer.ensures.stands positive)) new c.in_ok-end.field-0 end.text
-    end.count)
+    ≡ captures_over c.args.query.now c.args.query.now.resume c.in_err-read_lines.ensures.broke.lines ++ rest
+    → WrotePagesInPart c.args.query.now lines c.args.sizes.now (g.O.Output.written c.args.out.now)
+    (g.O.Output.written c.read_lines.new.out)
+broken g c sized lines rise rest split =
+    let positive = all_positive c.args.sizes.now sized in
+    let broke = c.in_err-read_lines.ensures.broke in
+    any_front c.in_ok-writer.writer c.args.query.now c.args.sizes.now c.in_ok-writer.ensures.query positive
+    (g.O.Output.written c.args.out.now) lines rise broke.lines rest (g.O.Output.written c.read_lines.new.out) split
+    (broke.wrote (record { writer = c.in_ok-writer.writer }) (g.O.Output.written c.args.out.now)
+    ((refl, refl), c.in_ok-writer.ensures.stands positive))
 
 -- ---- lines of the sources
 
@@ -152,8 +134,8 @@ returns-then-sources-gt-SOURCES_LIMIT-clause-lines g c = (
 pub returns-in_err-writer-clause-lines : goal.returns-in_err-writer-clause-lines
 returns-in_err-writer-clause-lines g c =
     let p = err_from_is_err_and c.from_residual.result c.from_residual.ensures.1 in
-    rw p.1 (let here = (goal.at.returns-in_err-writer-clause-lines g c).In_err-writer in
-    ([], no_lines (map g.S.Source.text c.args.sources.now), λ sized. before g here sized [] tt))
+    let here = (goal.at.returns-in_err-writer-clause-lines g c).In_err-writer in
+    rw p.1 (([], no_lines (map g.S.Source.text c.args.sources.now), λ sized. before g here sized [] tt))
 
 pub returns-in_err-read_lines-clause-lines : goal.returns-in_err-read_lines-clause-lines
 returns-in_err-read_lines-clause-lines g c =
@@ -177,7 +159,7 @@ pub returns-clause-lines : goal.returns-clause-lines
 returns-clause-lines g c =
     let took = c.in_ok-read_lines.ensures.took in
     let here = (goal.at.returns-clause-lines g c).In_ok-end in
-    (took.lines, took.took.lines, ended g here (search rules) took.lines took.took.lines.rise refl)
+    (took.lines, took.took.lines, ended g here took.lines took.took.lines.rise refl)
 
 -- ---- the lines of indexes
 
@@ -187,9 +169,8 @@ returns-then-sources-gt-SOURCES_LIMIT-clause-pages g c = grind (arith, wrote_non
 pub returns-in_err-writer-clause-pages : goal.returns-in_err-writer-clause-pages
 returns-in_err-writer-clause-pages g c =
     let p = err_from_is_err_and c.from_residual.result c.from_residual.ensures.1 in
-    rw p.1 (λ texts indexes known are sized. before g
-    (goal.at.returns-in_err-writer-clause-pages g c).In_err-writer sized (collection indexes)
-    (collection_rises indexes))
+    let here = (goal.at.returns-in_err-writer-clause-pages g c).In_err-writer in
+    rw p.1 (λ texts indexes known are sized. before g here sized (collection indexes) (collection_rises indexes))
 
 pub returns-in_err-read_lines-clause-pages : goal.returns-in_err-read_lines-clause-pages
 returns-in_err-read_lines-clause-pages g c =
@@ -210,7 +191,7 @@ returns-in_err-end-clause-pages g c =
 
 pub returns-clause-pages : goal.returns-clause-pages
 returns-clause-pages g c = λ texts indexes known are.
-    ended g (goal.at.returns-clause-pages g c).In_ok-end (search rules) (collection indexes) (collection_rises indexes)
+    ended g (goal.at.returns-clause-pages g c).In_ok-end (collection indexes) (collection_rises indexes)
     (grind arith)
 
 pub returns-clause-parts : goal.returns-clause-parts
@@ -220,6 +201,6 @@ returns-clause-parts g c = λ texts known.
     record {
       parts = read.parts;
       each = read.each true (λ e. whole);
-      wrote = ended g (goal.at.returns-clause-parts g c).In_ok-end (search rules) (collection read.parts)
+      wrote = ended g (goal.at.returns-clause-parts g c).In_ok-end (collection read.parts)
           (collection_rises read.parts) (read.ended whole);
     }

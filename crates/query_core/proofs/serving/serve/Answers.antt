@@ -1,23 +1,20 @@
-use Rattle.std.proofs.Common.{◌<◌, ◌∙◌, ℕ, List, map, sym, subst, arith}
-use Rattle.std.specs.Io.KnownBytes.{Appends, prepend_known}
+use Rattle.std.proofs.Common.{◌∙◌, ℕ, List, map, arith}
+use Rattle.std.specs.Io.KnownBytes.{prepend_known}
 use Rattle.cdxj_core.specs.Members.{Member}
-use Rattle.devices.specs.Device.{AppendsPrefix}
-use Rattle.devices.specs.LineReading.{TakesLine}
 use Rattle.devices.proofs.Takings.{taken-join}
 use Rattle.query_text.specs.declared.query.TheConstants.{QUERY_LIMIT}
-use Rattle.merge_core.specs.Collections.{Known, collection}
+use Rattle.merge_core.specs.Collections.{collection}
 use Rattle.query_core.specs.AnyReplies.{IsTextReply}
-use Rattle.query_core.specs.Conversations.{IsMarkedReply, IsOneReply}
+use Rattle.query_core.specs.Conversations.{IsOneReply}
 use Rattle.query_core.specs.Replies.{reply_of}
-use Rattle.query_core.proofs.ReplyLemmas.{converses_err, line-more, line-none, line-within, nothing_replied, one_reply}
+use Rattle.query_core.proofs.ReplyLemmas.{Turn, converses_err, line-more, line-none, line-within, nothing_replied, one_reply}
 use Rattle.query_core.proofs.ReplyLemmas.{one_reply_part, replied-front, replied-none}
+use Rattle.query_core.proofs.serving.serve.Given.{Over}
+use Rattle.query_core.proofs.serving.serve.Goals.{After-reply_and_mark}
 use Rattle.query_core.proofs.serving.serve.Goals as goal
 
 abbrev reply : List (List Member) → List ℕ → List ℕ
 reply indexes = reply_of QUERY_LIMIT (collection indexes)
-
-abbrev Is : List (List Member) → List ℕ → List ℕ → Type 0
-Is indexes = IsOneReply (reply indexes)
 
 -- ---- nothing is replied
 
@@ -43,43 +40,35 @@ returns-in_err-read_line-clause-lines g c = grind (arith, converses_err, replied
 
 -- ---- a reply ends in a fault
 
+abbrev turn : (g : Over) (c : After-reply_and_mark g) → Turn QUERY_LIMIT
+turn g c = record {
+  input = g.I.Input.remaining c.args.input.now;
+  now = prepend_known c.loop-lines.lines.buffer (g.I.Input.remaining c.loop-lines.input);
+  after = prepend_known c.read_line.new.lines.buffer (g.I.Input.remaining c.read_line.new.input);
+  count = c.loop-lines.count;
+  old = g.O.Output.written c.args.out.now;
+  new = g.O.Output.written c.loop-lines.out;
+  last = g.O.Output.written c.reply_and_mark.new.out;
+  line = c.read_line.new.lines.line;
+  takes = rw (c.loop-lines.invariant.most, c.if-branch.true) at c.in_ok-read_line.ensures.line;
+}
+
 pub returns-in_err-reply_and_mark-clause-part : goal.returns-in_err-reply_and_mark-clause-part
 returns-in_err-reply_and_mark-clause-part g c = λ texts indexes known are.
     let inv = c.loop-lines.invariant in
-    let before = prepend_known c.loop-lines.lines.buffer (g.I.Input.remaining c.loop-lines.input) in
-    let after = prepend_known c.read_line.new.lines.buffer (g.I.Input.remaining c.read_line.new.input) in
-    let found = c.in_ok-read_line.field-0 in
-    let takes = subst (λ m. TakesLine m found before after c.read_line.new.lines.line) inv.most
-    c.in_ok-read_line.ensures.line in
-    let last = g.O.Output.written c.reply_and_mark.new.out in
-    let text = c.in_err-reply_and_mark.ensures.text texts indexes (subst (λ ts. Known ts texts) (sym inv.kept.0) known)
-    are in
-    one_reply_part QUERY_LIMIT (reply indexes) (g.I.Input.remaining c.args.input.now)
-    (g.O.Output.written c.args.out.now) last
-    (line-within QUERY_LIMIT (Is indexes) (g.I.Input.remaining c.args.input.now) before after c.loop-lines.count
-    (g.O.Output.written c.args.out.now) (g.O.Output.written c.loop-lines.out) last
-    c.read_line.new.lines.line c.line.result.now c.line.ensures found (inv.told texts indexes known are) takes
-    c.if-branch.true text)
+    let t = turn g (goal.at.returns-in_err-reply_and_mark-clause-part g c).After-reply_and_mark in
+    one_reply_part QUERY_LIMIT (reply indexes) t.input t.old t.last
+    (line-within t (IsOneReply (reply indexes)) (inv.told texts indexes known are)
+    (rw c.line.ensures at (c.in_err-reply_and_mark.ensures.text texts indexes (rw inv.kept.0 known) are)))
 
 pub returns-in_err-reply_and_mark-clause-lines : goal.returns-in_err-reply_and_mark-clause-lines
 returns-in_err-reply_and_mark-clause-lines g c =
     let inv = c.loop-lines.invariant in
-    let before = prepend_known c.loop-lines.lines.buffer (g.I.Input.remaining c.loop-lines.input) in
-    let after = prepend_known c.read_line.new.lines.buffer (g.I.Input.remaining c.read_line.new.input) in
-    let found = c.in_ok-read_line.field-0 in
-    let takes = subst (λ m. TakesLine m found before after c.read_line.new.lines.line) inv.most
-    c.in_ok-read_line.ensures.line in
-    let last = g.O.Output.written c.reply_and_mark.new.out in
-    let text = subst (λ told. (reply : List ℕ) × IsMarkedReply QUERY_LIMIT (IsTextReply told) c.line.result.now reply
-    × AppendsPrefix (g.O.Output.written c.loop-lines.out) last reply) inv.kept.0
-    c.in_err-reply_and_mark.ensures.lines in
-    converses_err QUERY_LIMIT (IsTextReply (map g.S.Source.text c.args.sources.now)) _
-    c.from_residual-in_err-reply_and_mark.result (g.I.Input.remaining c.args.input.now)
-    (g.O.Output.written c.args.out.now) last c.from_residual-in_err-reply_and_mark.ensures.1
-    (line-within QUERY_LIMIT (IsTextReply (map g.S.Source.text c.args.sources.now))
-    (g.I.Input.remaining c.args.input.now) before after c.loop-lines.count (g.O.Output.written c.args.out.now)
-    (g.O.Output.written c.loop-lines.out) last
-    c.read_line.new.lines.line c.line.result.now c.line.ensures found inv.any takes c.if-branch.true text)
+    let t = turn g (goal.at.returns-in_err-reply_and_mark-clause-lines g c).After-reply_and_mark in
+    let is = IsTextReply (map g.S.Source.text c.args.sources.now) in
+    converses_err QUERY_LIMIT is _ c.from_residual-in_err-reply_and_mark.result t.input t.old t.last
+    c.from_residual-in_err-reply_and_mark.ensures.1
+    (line-within t is inv.any (rw (inv.kept.0, c.line.ensures) at c.in_err-reply_and_mark.ensures.lines))
 
 -- ---- a reply more
 
@@ -89,36 +78,23 @@ loop-lines-init g c = grind (arith, replied-none)
 pub loop-lines-preserved : goal.loop-lines-preserved
 loop-lines-preserved g c =
     let inv = c.loop-lines.invariant in
-    let before = prepend_known c.loop-lines.lines.buffer (g.I.Input.remaining c.loop-lines.input) in
-    let after = prepend_known c.read_line.new.lines.buffer (g.I.Input.remaining c.read_line.new.input) in
-    let found = c.in_ok-read_line.field-0 in
-    let takes = subst (λ m. TakesLine m found before after c.read_line.new.lines.line) inv.most
-    c.in_ok-read_line.ensures.line in
-    let last = g.O.Output.written c.reply_and_mark.new.out in
-    let rises : c.loop-lines.lines.taken < c.read_line.new.lines.taken = c.in_ok-read_line.ensures.some
-    c.if-branch.true in
+    let read = c.in_ok-read_line.ensures in
+    let marked = c.in_ok-reply_and_mark.ensures in
+    let t = turn g (goal.at.loop-lines-preserved g c).After-reply_and_mark in
+    let rises = read.some c.if-branch.true in
     record {
-      kept = (c.in_ok-reply_and_mark.ensures.kept.0 ∙ inv.kept.0, c.in_ok-reply_and_mark.ensures.kept.1 ∙ inv.kept.1);
-      sources = c.in_ok-reply_and_mark.ensures.failures.0 ∙ inv.sources;
-      writes = c.in_ok-reply_and_mark.ensures.failures.1 ∙ inv.writes;
-      reads = c.in_ok-read_line.ensures.failures ∙ inv.reads;
+      kept = (marked.kept.0 ∙ inv.kept.0, marked.kept.1 ∙ inv.kept.1);
+      sources = marked.failures.0 ∙ inv.sources;
+      writes = marked.failures.1 ∙ inv.writes;
+      reads = read.failures ∙ inv.reads;
       most = c.read_line.ensures.most ∙ inv.most;
-      taken = taken-join _ _ _ 0 c.loop-lines.lines.taken _ inv.taken c.in_ok-read_line.ensures.count;
-      within = c.in_ok-read_line.ensures.within;
+      taken = taken-join _ _ _ 0 c.loop-lines.lines.taken _ inv.taken read.count;
+      within = read.within;
       fits = omega (arith, inv.fits, rises);
-      told = λ texts indexes known are.
-          line-more QUERY_LIMIT (Is indexes) (g.I.Input.remaining c.args.input.now) before after c.loop-lines.count
-          (g.O.Output.written c.args.out.now) (g.O.Output.written c.loop-lines.out) last
-          c.read_line.new.lines.line c.line.result.now c.line.ensures found (inv.told texts indexes known are) takes
-          c.if-branch.true (c.in_ok-reply_and_mark.ensures.text texts indexes
-          (subst (λ ts. Known ts texts) (sym inv.kept.0) known) are);
-      any = line-more QUERY_LIMIT (IsTextReply (map g.S.Source.text c.args.sources.now))
-          (g.I.Input.remaining c.args.input.now) before after c.loop-lines.count (g.O.Output.written c.args.out.now)
-          (g.O.Output.written c.loop-lines.out) last
-          c.read_line.new.lines.line c.line.result.now c.line.ensures found inv.any takes c.if-branch.true
-          (subst (λ told. (reply : List ℕ) × IsMarkedReply QUERY_LIMIT (IsTextReply told) c.line.result.now reply
-          × Appends (g.O.Output.written c.loop-lines.out) last reply) inv.kept.0
-          c.in_ok-reply_and_mark.ensures.lines);
+      told = λ texts indexes known are. line-more t (IsOneReply (reply indexes)) (inv.told texts indexes known are)
+          (rw c.line.ensures at (marked.text texts indexes (rw inv.kept.0 known) are));
+      any = line-more t (IsTextReply (map g.S.Source.text c.args.sources.now)) inv.any
+          (rw (inv.kept.0, c.line.ensures) at marked.lines);
     }
 
 -- ---- no line is left
