@@ -2,8 +2,8 @@
 use Rattle.std.proofs.Common.{◌≡◌, ℕ, ◌+◌, ◌≤◌, List, [], ◌∷◌, ◌++◌, length, take, drop, Option, None, Some, refl, sym}
 use Rattle.std.proofs.Common.{ap, ◌∙◌, subst, arith, take-append-drop, length-append, length-drop}
 use Rattle.std.specs.Prelude.{Err, MatchOption}
-use Rattle.std.proofs.lemmas.List.{take_all}
-use Rattle.cdxj_core.specs.Members.{Member}
+use Rattle.std.proofs.lemmas.List.{take_all, drop-drop}
+use Rattle.cdxj_core.specs.Members.{Member, member_pair, line_entry}
 use Rattle.cdxj_core.specs.Indexes.{IsRun, IsIndex}
 use Rattle.source_core.specs.IndexLines.{lines}
 use Rattle.source_core.specs.LinesAtFault.{LineBeginsAt}
@@ -12,22 +12,47 @@ use Rattle.query_core.specs.declared.fault.AnswerFault.{AnswerFault}
 use Rattle.query_core.specs.declared.fault.AnswerFault.TheVariants as fault
 use Rattle.merge_core.specs.NextLine.{IsNextLine}
 use Rattle.query_core.specs.Checking.{IsLineFaultAt, IsLastOf, FallsAfter, EndsInBadLine, EndsOutOfOrder, IsChecked}
-use Rattle.query_core.proofs.Runs.{run_push, take_next}
+use Rattle.std.proofs.lemmas.List.{map-append}
+use Rattle.std.specs.List.{AllByRecursion}
+use Rattle.cdxj_places.specs.Pairs.{pair_cmp}
+use Rattle.cdxj_places.specs.Rising.{NeverFalls}
+use Rattle.cdxj_places.proofs.RisingLaws.{each_join, each_weaker}
+use Rattle.merge_core.specs.PairOrders.{Upto}
+use Rattle.merge_core.proofs.FeedLemmas.{falls_push, take_next}
+use Rattle.merge_core.proofs.PairOrder.{upto_upto}
+use Rattle.merge_core.proofs.StreamLemmas.{falls_last}
+
+all_upto : (members : List Member) (previous : Option Member) (m : Member) → IsLastOf members previous
+    → (FallsAfter previous m → ⊥) → NeverFalls member_pair pair_cmp members
+    → AllByRecursion (λ k. Upto (member_pair k) (member_pair m)) members
+all_upto members None m is stays ordered = cc
+all_upto members (Some last) m is stays ordered =
+    let step : Upto (member_pair last) (member_pair m) = grind arith in
+    subst (AllByRecursion (λ k. Upto (member_pair k) (member_pair m))) (sym is.1)
+    (each_join (λ k. Upto (member_pair k) (member_pair m)) is.0 (last ∷ [])
+    (each_weaker (λ (k : Member) (h : Upto (member_pair k) (member_pair last)). upto_upto (member_pair k)
+    (member_pair last) (member_pair m) h step) is.0
+    (falls_last is.0 last (subst (NeverFalls member_pair pair_cmp) is.1 ordered))) (step, tt))
+
+run_push : (limit : ℕ) (ls : List (List ℕ)) (members : List Member) (previous : Option Member) (l : List ℕ)
+    (m : Member) → IsRun limit ls members → IsLastOf members previous
+    → line_entry limit l ≡ Some m → (FallsAfter previous m → ⊥) → IsRun limit (ls ++ l ∷ []) (members ++ m ∷ [])
+run_push limit ls members previous l m run is entry stays = grind (arith, map-append, falls_push, all_upto)
 
 module _ (limit : ℕ) (t : List ℕ) where
-  -- so many lines are an index by themselves, of which this is the last
-  pub record CheckedTo (count : ℕ) (previous : Option Member) : Type 0 where
+  -- so many lines, up to an offset, are an index by themselves, of which this is the last
+  pub record CheckedTo (at count : ℕ) (previous : Option Member) : Type 0 where
     pub members : List Member
     pub run : IsRun limit (take count (lines t)) members
     pub last : IsLastOf members previous
     pub as_many : count ≡ length members
+    pub rest : lines (drop at t) ≡ drop count (lines t)
 
-  module _ (at count : ℕ) (previous : Option Member) (checked : CheckedTo count previous) (rest : lines (drop at t)
-      ≡ drop count (lines t)) where
+  module _ {at count : ℕ} {previous : Option Member} (checked : CheckedTo at count previous) where
     pub checked_more : (to : ℕ) (m : Member) → IsNextLine limit t at to (Some m) → (FallsAfter previous m → ⊥)
-        → CheckedTo (count + 1) (Some m)
+        → CheckedTo to (count + 1) (Some m)
     checked_more to m next stays =
-        let grown = take_next count (lines t) next.0 (lines (drop to t)) (sym rest ∙ next.1) in
+        let grown = take_next count (lines t) next.0 (lines (drop to t)) (sym checked.rest ∙ next.1) in
         record {
           members = checked.members ++ m ∷ [];
           run = subst (λ ls. IsRun limit ls (checked.members ++ m ∷ [])) (sym grown)
@@ -35,6 +60,7 @@ module _ (limit : ℕ) (t : List ℕ) where
               stays);
           last = (checked.members, refl);
           as_many = omega (arith, length-append checked.members (m ∷ []));
+          rest = sym (ap (drop 1) (sym checked.rest ∙ next.1)) ∙ drop-drop 1 count (lines t);
         }
 
     pub checked_whole : (to number : ℕ) (found : Option Member) → IsNextLine limit t at to found
@@ -44,7 +70,7 @@ module _ (limit : ℕ) (t : List ℕ) where
     checked_whole to number None none counted end =
         let whole : take count (lines t)
         ≡ lines t = take_all count (lines t)
-        (omega (arith, ap length (sym rest ∙ none), length-drop count (lines t))) in
+        (omega (arith, ap length (sym checked.rest ∙ none), length-drop count (lines t))) in
         grind arith
     checked_whole to number (Some m) next counted end = absurd (end m refl)
 

@@ -1,8 +1,10 @@
 -- A page has no more captures than lines were read.
 use Rattle.std.proofs.Common.{◌≡◌, ℕ, ◌-◌, ◌^◌, ◌≤◌, List, [], ◌∷◌, length, map, filter, min, Bool, Option, None, Some}
-use Rattle.std.proofs.Common.{arith, length-append, length-take}
+use Rattle.std.proofs.Common.{arith, length-take}
 use Rattle.std.specs.List.{sum}
-use Rattle.std.proofs.lemmas.List.Sums.{sum_by-cons}
+use Rattle.std.proofs.Common.{sym, ◌∙◌}
+use Rattle.std.proofs.lemmas.List.Concat.{length-flat_map}
+use Rattle.std.proofs.lemmas.List.Sums.{sum-map}
 use Rattle.cdxj_places.specs.Places.{PlaceValue, place_cmp}
 use Rattle.cdxj_places.specs.Rising.{put, rising}
 use Rattle.cdxj_core.specs.Members.{Member, member_place}
@@ -35,14 +37,8 @@ rising_fewer [] = omega arith
 rising_fewer (m ∷ ms) = grind (arith, put_fewer, rising_fewer ms)
 
 all_count : (parts : List (List Member)) → length (all_lines parts) ≡ sum (map (λ (ms : List Member). length ms) parts)
-all_count [] = omega arith
-all_count (ms ∷ parts) =
-    let h = all_count parts in
-    omega (
-      arith,
-      length-append ms (all_lines parts),
-      sum_by-cons (λ (k : ℕ). k) (length ms) (map (λ (ms : List Member). length ms) parts),
-    )
+all_count parts =
+    length-flat_map (λ (ms : List Member). ms) parts ∙ sym (sum-map (λ (ms : List Member). length ms) parts)
 
 over_fewer : (q : QueryValue) (from : Option PlaceValue) (limit : Option ℕ) (lines : List Member)
     → length (page_over q from limit lines).members ≤ length lines

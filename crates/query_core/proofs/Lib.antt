@@ -1,5 +1,4 @@
 pub mod ConversionLemmas
-pub mod Runs
 pub mod CheckLemmas
 pub mod StartLemmas
 pub mod LineStamps
@@ -7,9 +6,7 @@ pub mod AskedLemmas
 pub mod PageOfIndexes
 pub mod PagesExits
 pub mod FewerLines
-pub mod RisingPages
 pub mod SoundIndexes
-pub mod FieldNames
 pub mod LineReplies
 pub mod ReplyLemmas
 pub mod ReachLemmas

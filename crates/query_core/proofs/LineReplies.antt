@@ -1,7 +1,7 @@
 -- The reply to a line, by what the line is.
-use Rattle.std.proofs.Common.{arith, ◌≡◌, ℕ, List, [], ◌++◌, length, Bool, true, false, refl, nat_lt, Option, Some}
+use Rattle.std.proofs.Common.{arith, ◌≡◌, ℕ, List, [], ◌++◌, length, true, false, refl, nat_lt, Option, Some}
 use Rattle.std.proofs.Common.{Result, Ok, Err}
-use Rattle.std.specs.Prelude.{codes, MatchBool}
+use Rattle.std.specs.Prelude.{codes}
 use Rattle.std.specs.Str.{is_utf8}
 use Rattle.std.specs.Io.KnownBytes.{Appends}
 use Rattle.cdxj_core.specs.declared.limit.TheConstants.{LINE_LIMIT}
@@ -63,12 +63,6 @@ some_reply told (Err fault) = grind arith
 -- ---- the reply to a line
 
 module _ (limit : ℕ) (IsReply : List ℕ → List ℕ → Type 0) (line reply : List ℕ) where
-  abbrev short : Bool → Type 0
-  short b = MatchBool b (IsReply line reply) (reply ≡ refusal_text (codes "NotText"))
-
-  abbrev any : Bool → Type 0
-  any b = MatchBool b (reply ≡ refusal_text (codes "QueryTooLong")) (short (is_utf8 line))
-
   pub text_reply : nat_lt limit (length line) ≡ false → is_utf8 line ≡ true → IsReply line reply
       → IsLineReply limit IsReply line reply
   text_reply fits utf8 is = grind arith

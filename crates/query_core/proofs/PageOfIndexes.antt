@@ -29,7 +29,8 @@ use Rattle.query_core.specs.Starts.{start_pair}
 use Rattle.page_writers.proofs.CaptureLemmas.{kept_after, captures_split}
 use Rattle.query_core.proofs.LineStamps.{index_lines, line_stamp}
 use Rattle.merge_core.proofs.SourceLemmas.{taken_lines}
-use Rattle.query_core.proofs.StartLemmas.{start_not_above, and_left, and_right}
+use Rattle.query_core.proofs.StartLemmas.{start_not_above}
+use Rattle.std.proofs.lemmas.Bool.{and_parts}
 
 and_true : (a b : Bool) → b ≡ true → (a && b) ≡ a
 and_true true b h = h
@@ -108,7 +109,7 @@ module _ (q : QueryValue) where
   within m h = grind arith
 
   beyond : (m : Member) → sought m ≡ true → is_low (start_pair q q.resume) m ≡ false
-  beyond m h = grind (arith, start_not_above, and_right, and_left)
+  beyond m h = grind (arith, start_not_above, and_parts)
 
 module _ {S : Type 0} {text : S → Option (List ℕ)} {extent gave : S → ℕ} {q : QueryValue} {olds : List S}
     (r : Reading text extent gave q olds) where

@@ -5,6 +5,8 @@ use Rattle.std.proofs.Common.{min, ◌-◌, ◌^◌, append_assoc, append-nil, O
 use Rattle.std.specs.List.{AllByRecursion, sum, AllZip}
 use Rattle.std.specs.Ordering.{ordering_then, ordering_reverse}
 use Rattle.std.specs.Cmp.Lexicographic.{slice_cmp}
+use Rattle.std.specs.FinMap.{slice_cmp-IsAntisymmetric}
+use Rattle.std.proofs.lemmas.Slice.Zip.{AllZip-long}
 use Rattle.std.proofs.lemmas.Bool.{false_from_ne_true, eq-eqb}
 use Rattle.std.proofs.lemmas.Slice.Eq.{bytes_eq-Decides}
 use Rattle.cdxj_places.specs.Pairs.{Pair, pair_cmp}
@@ -57,22 +59,6 @@ first_not_less Less b h = h
 first_not_less Equal b h = refl
 first_not_less Greater b h = refl
 
-nat_met : (x y : ℕ) → nat_cmp x y ≡ Equal → x ≡ y
-nat_met x y h = grind arith
-
-then_met : (a b : Ordering) → ordering_then a b ≡ Equal → (a ≡ Equal) × (b ≡ Equal)
-then_met Less b h = cc
-then_met Equal b h = (refl, h)
-then_met Greater b h = cc
-
-text_met : (xs ys : List ℕ) → slice_cmp nat_cmp xs ys ≡ Equal → xs ≡ ys
-text_met [] [] h = refl
-text_met [] (y ∷ ys) h = cc
-text_met (x ∷ xs) [] h = cc
-text_met (x ∷ xs) (y ∷ ys) h =
-    let parts = then_met (nat_cmp x y) (slice_cmp nat_cmp xs ys) h in
-    λ i. nat_met x y parts.0 i ∷ text_met xs ys parts.1 i
-
 begins_itself : (text : List ℕ) → begins text text ≡ true
 begins_itself [] = refl
 begins_itself (b ∷ text) = rw (eq-eqb b b refl, begins_itself text) refl
@@ -96,8 +82,9 @@ covered_where_met t key past low =
     (λ b. covers t key ≡ b → (is_gt (slice_cmp nat_cmp key t.text) && not b) ≡ false → b ≡ true) [
       | true ↦ (λ e h. refl)
       | false ↦ (λ e h.
-          let same : key ≡ t.text = text_met key t.text
-          (neither (slice_cmp nat_cmp key t.text) (sym (and_whole (is_gt (slice_cmp nat_cmp key t.text))) ∙ h) low) in
+          let met = neither (slice_cmp nat_cmp key t.text)
+          (sym (and_whole (is_gt (slice_cmp nat_cmp key t.text))) ∙ h) low in
+          let same : key ≡ t.text = grind (arith, slice_cmp-IsAntisymmetric) in
           sym e ∙ ap (covers t) same ∙ covers_itself t.kind t.text)
     ]) refl past
   where
@@ -160,12 +147,6 @@ pub reach_passes : (q : QueryValue) (from : Option PlaceValue) (limit : Option �
     → (m : Member) → is_past q.target m.values.key ≡ false → is_low (start_pair q from) m ≡ false
     → IsUpto b (member_pair m) → in_reach q from limit lines m ≡ true
 reach_passes q from limit lines b bound m past low upto = grind (arith, both, covered_from_start)
-
-as_many : {X Y : Type 0} (R : X → Y → Type 0) (xs : List X) (ys : List Y) → AllZip R xs ys → length xs ≡ length ys
-as_many R [] [] h = refl
-as_many R [] (y ∷ ys) h = absurd h
-as_many R (x ∷ xs) [] h = absurd h
-as_many R (x ∷ xs) (y ∷ ys) h = ap suc (as_many R xs ys h.1)
 
 module _ (q : QueryValue) (indexes : List (List Member)) where
   -- what is wanted, cut behind the captures of these lines; nothing up to the bound stands above those behind the cut
@@ -236,7 +217,7 @@ module _ {S : Type 0} {text : S → Option (List ℕ)} {extent gave : S → ℕ}
       }
 
   as_long : length r.sources ≡ length r.opened
-  as_long = grind (arith, as_many, length_zip)
+  as_long = grind (arith, AllZip-long, length_zip)
 
   kept_now : map text r.sources ≡ map text olds
   kept_now = grind (arith, as_long, texts_kept)
@@ -248,7 +229,7 @@ module _ {S : Type 0} {text : S → Option (List ℕ)} {extent gave : S → ℕ}
       → GaveFor q (map text olds) extent gave earlier olds news
   gave_upto bound earlier news feeds cuts moved long reads = λ texts indexes known are limit most.
       let test = in_reach q q.resume limit (collection indexes) in
-      let all = as_many (Move text extent gave) (zip r.opened r.begun) (zip news feeds) moved in
+      let all = AllZip-long (Move text extent gave) (zip r.opened r.begun) (zip news feeds) moved in
       let pass = passes q indexes bound earlier (cuts texts indexes known are) limit most in
       subst (λ ys. AllGaveWithin extent gave test texts indexes olds ys)
       (firsts news feeds (omega (arith, all, long, length_zip r.opened r.begun r.start.same)))
@@ -282,8 +263,8 @@ module _ {S : Type 0} {text : S → Option (List ℕ)} {extent gave : S → ℕ}
           arith,
           counted,
           h,
-          as_many (IsIndex LINE_LIMIT) texts indexes are,
-          as_many (λ told t. told ≡ Some t) (map text olds) texts known,
+          AllZip-long (IsIndex LINE_LIMIT) texts indexes are,
+          AllZip-long (λ told t. told ≡ Some t) (map text olds) texts known,
         )
 
     -- of each source consecutive lines were read

@@ -1,11 +1,11 @@
 -- The replies to the lines of an input, so far and at its end.
-use Rattle.std.proofs.Common.{◌≡◌, ℕ, suc, ◌+◌, ◌-◌, ◌^◌, ◌<◌, ◌≤◌, List, [], ◌∷◌, ◌++◌, map, length, length-append}
+use Rattle.std.proofs.Common.{◌≡◌, ℕ, ◌+◌, ◌-◌, ◌^◌, ◌<◌, ◌≤◌, List, [], ◌∷◌, ◌++◌, map, length, length-append}
 use Rattle.std.proofs.Common.{length-take, take, refl, sym, ap, ◌∙◌, subst, arith, cond, Bool, true, false, Option}
 use Rattle.std.proofs.Common.{Some, None, append_assoc, append-nil, lt-ltb, ltb-false, nat_lt, slice_index, ltb-true}
 use Rattle.std.specs.Prelude.{flat_map, codes, IsErrAnd, MatchBool, Result, Ok, Err}
 use Rattle.std.specs.List.{AllZip}
 use Rattle.std.specs.Str.{is_utf8}
-use Rattle.std.proofs.lemmas.List.{map-append, take_all}
+use Rattle.std.proofs.lemmas.List.{length-map, map-append, take_all}
 use Rattle.std.proofs.lemmas.List.Concat.{flat_map-append}
 use Rattle.std.specs.Io.KnownBytes.{Appends, prepend_known}
 use Rattle.devices.specs.Device.{AppendsPrefix}
@@ -34,10 +34,6 @@ zip_map P f [] [] each = tt
 zip_map P f [] (z ∷ zs) each = absurd each
 zip_map P f (x ∷ xs) [] each = absurd each
 zip_map P f (x ∷ xs) (z ∷ zs) each = (each.0, zip_map P f xs zs each.1)
-
-many : {X Y : Type 0} (f : X → Y) (xs : List X) → length (map f xs) ≡ length xs
-many f [] = refl
-many f (x ∷ xs) = ap suc (many f xs)
 
 abbrev joined : List (List ℕ) → List ℕ
 joined texts = flat_map (λ text. text) texts
@@ -120,7 +116,7 @@ module _ (limit : ℕ) (IsReply : List ℕ → List ℕ → Type 0) where
       (none, end) n small =
       let all : cut_lines input ≡ done = cut ∙ (ap (λ l. done ++ cut_lines l) none ∙ append-nil done) in (
         omega (arith, n, small, ap length end),
-        grind (arith, many),
+        grind (arith, length-map),
         texts,
         zip_map (IsMarkedReply limit IsReply) without_carriage_return (cut_lines input) texts
             (subst (λ ls. AllZip Marked ls texts) (sym all) each),

@@ -1,8 +1,7 @@
 -- Of an index no line is at fault.
 use Rattle.std.specs.List.{AllZip, AllByRecursion}
 use Rattle.std.proofs.Common.{◌≡◌, ◌<◌, ℕ, zero, suc, List, [], ◌∷◌, ◌++◌, length, get_or, map, Option, None, Some}
-use Rattle.std.proofs.Common.{arith, refl, sym, ap, ◌∙◌, subst, append_assoc, true, false, is_gt}
-use Rattle.std.proofs.lemmas.Bool.{true≢false}
+use Rattle.std.proofs.Common.{arith, refl, sym, ap, ◌∙◌, subst, append_assoc, false, is_gt}
 use Rattle.cdxj_places.specs.Pairs.{pair_cmp}
 use Rattle.cdxj_places.specs.Rising.{NeverFalls}
 use Rattle.cdxj_core.specs.declared.limit.TheConstants.{LINE_LIMIT}
@@ -62,36 +61,24 @@ module _ (limit : ℕ) where
   stays [] m vs h = h.0
   stays (u ∷ us) m vs h = stays us m vs h.1
 
+  next_stays : (m : Member) (line : List ℕ) (after : List (List ℕ)) (later : List Member) (n : Member)
+      → map (line_entry limit) (line ∷ after) ≡ map Some later
+      → AllByRecursion (λ v. is_gt (pair_cmp (member_pair m) (member_pair v)) ≡ false) later
+      → line_entry limit line ≡ Some n → is_gt (pair_cmp (member_pair m) (member_pair n)) ≡ false
+  next_stays m line after [] n e all is = cc
+  next_stays m line after (v ∷ later) n e all is = let same : v ≡ n = cc in rw same at all.0
+
   pub none_out_of_order : (text : List ℕ) (members : List Member) (offset : ℕ) → IsIndex limit text members
       → IsOutOfOrder limit text offset → ⊥
   none_out_of_order text members offset index out =
       let cut = out.begins.lines_are ∙ append_assoc out.before (out.previous ∷ []) (out.line ∷ out.begins.after) in
       let first = entries_at out.before out.previous (out.line ∷ out.begins.after) members
       (ap (map (line_entry limit)) (sym cut) ∙ index.entries) in
-      let second = entries_at [] out.line out.begins.after first.later first.others in
-      let is_earlier : Some out.earlier ≡ Some first.member = sym out.earlier_is ∙ first.entry in
-      let is_later : Some out.later ≡ Some second.member = sym out.later_is ∙ second.entry in
       let ordered = stays first.earlier first.member first.later
       (subst (NeverFalls member_pair pair_cmp) first.split index.ordered) in
-      after_first first.member second.earlier second.member second.later first.later second.split ordered out.earlier
-      out.later is_earlier is_later out.falls
-    where
-      after_first : (m : Member) (us : List Member) (n : Member) (vs ws : List Member) → ws ≡ us ++ n ∷ vs
-          → AllByRecursion (λ v. is_gt (pair_cmp (member_pair m) (member_pair v)) ≡ false) ws
-          → (a b : Member) → Some a ≡ Some m → Some b ≡ Some n → is_gt (pair_cmp (member_pair a) (member_pair b)) ≡ true
-          → ⊥
-      after_first m us n vs ws split all a b is_a is_b falls =
-          let same_a : a ≡ m = (let f = is_a in cc) in
-          let same_b : b ≡ n = (let f = is_b in cc) in
-          let here = each_at (λ v. is_gt (pair_cmp (member_pair m) (member_pair v)) ≡ false) us n vs
-          (subst (AllByRecursion (λ v. is_gt (pair_cmp (member_pair m) (member_pair v)) ≡ false)) split all) in
-          true≢false (sym (subst (λ y. is_gt (pair_cmp (member_pair m) (member_pair y)) ≡ true) same_b
-          (subst (λ x. is_gt (pair_cmp (member_pair x) (member_pair b)) ≡ true) same_a falls)) ∙ here)
-        where
-          each_at : (A : Member → Type 0) (us : List Member) (n : Member) (vs : List Member)
-              → AllByRecursion A (us ++ n ∷ vs) → A n
-          each_at A [] n vs h = h.0
-          each_at A (u ∷ us) n vs h = each_at A us n vs h.1
+      let is_earlier : first.member ≡ out.earlier = cc in
+      let here = next_stays first.member out.line out.begins.after first.later out.later first.others ordered out.later_is
+      in grind arith
 
   -- the source with this number tells the bytes of an index
   record ToldIndex (told : Option (List ℕ)) : Type 0 where

@@ -1,5 +1,5 @@
 -- Nothing that is wanted stands below the start of a page.
-use Rattle.std.proofs.Common.{◌≡◌, ℕ, zero, suc, ◌<◌, ◌≤◌, List, [], ◌∷◌, length, Bool, true, false, ◌&&◌, Option, None}
+use Rattle.std.proofs.Common.{◌≡◌, ℕ, zero, suc, ◌<◌, ◌≤◌, List, [], ◌∷◌, length, true, false, Option, None}
 use Rattle.std.proofs.Common.{Some, refl, ap, ◌∙◌, arith, Ordering, Less, Equal, Greater, nat_cmp, is_gt, is_lt, All}
 use Rattle.std.proofs.Common.{eqb-true}
 use Rattle.std.specs.Char.{is_ascii_digit}
@@ -21,14 +21,6 @@ use Rattle.page_core.specs.Pages.{is_above}
 use Rattle.merge_core.specs.PairOrders.{is_low}
 use Rattle.page_writers.specs.PageWriting.{is_wanted}
 use Rattle.query_core.specs.Starts.{first_stamp, later_pair, start_pair}
-
-pub and_left : (a b : Bool) → (a && b) ≡ true → a ≡ true
-and_left true b h = refl
-and_left false b h = cc
-
-pub and_right : (a b : Bool) → (a && b) ≡ true → b ≡ true
-and_right true b h = h
-and_right false b h = cc
 
 -- ---- orders
 
@@ -88,4 +80,4 @@ pub start_not_above : (q : QueryValue) (from : Option PlaceValue) (m : Member) �
 start_not_above q from m s h =
     later_not_low (q.target.text, first_stamp) from m
     (not_low (q.target.text, first_stamp) m
-    (grind (arith, then_not_above, match_not_below, wanted_key, stamp_not_below))) (grind (arith, and_right))
+    (grind (arith, then_not_above, match_not_below, wanted_key, stamp_not_below))) (grind (arith, and_parts))

@@ -8,7 +8,6 @@ use Rattle.cdxj_core.specs.declared.limit.TheConstants.{LINE_LIMIT}
 use Rattle.cdxj_core.specs.Members.{Member}
 use Rattle.cdxj_places.specs.Places.{PlaceValue}
 use Rattle.page_core.specs.Pages.{Page}
-use Rattle.merge_core.specs.SourceLines.{AreLinesOf}
 use Rattle.devices.proofs.DeviceLemmas.{grows_by, grows_not, grows_part}
 use Rattle.merge_core.specs.Collections.{OverIndexes, collection}
 use Rattle.query_core.specs.Passes.{AreAtMost}
@@ -24,9 +23,6 @@ use Rattle.query_core.proofs.PageReach.{all_read, none_follows, page_not_reached
 use Rattle.query_core.proofs.answering.answer.Given.{Over}
 use Rattle.query_core.proofs.answering.answer.Goals.{In_ok-writer, In_err-pass, In_ok-pass}
 use Rattle.query_core.proofs.answering.answer.Goals as goal
-
-no_lines : (texts : List (Option (List ℕ))) → AreLinesOf LINE_LIMIT texts []
-no_lines texts = grind arith
 
 -- ---- the writer
 
@@ -110,7 +106,7 @@ returns-then-sources-gt-SOURCES_LIMIT-clause-lines g c = ([], grind arith, wrote
 pub returns-in_err-writer-clause-lines : goal.returns-in_err-writer-clause-lines
 returns-in_err-writer-clause-lines g c =
     let p = err_from_is_err_and c.from_residual.result c.from_residual.ensures.1 in
-    rw p.1 (([], no_lines (map g.S.Source.text c.args.sources.now), grind (arith, front-start)))
+    rw p.1 (([], record { rise = tt; each = tt }, grind (arith, front-start)))
 
 pub returns-in_err-pass-clause-lines : goal.returns-in_err-pass-clause-lines
 returns-in_err-pass-clause-lines g c =

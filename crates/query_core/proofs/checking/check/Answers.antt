@@ -1,11 +1,10 @@
-use Rattle.std.proofs.Common.{◌≡◌, ◌+◌, ℕ, Box, Global, Option, None, Some, drop, option_map, refl, sym, ap, ◌∙◌, subst}
+use Rattle.std.proofs.Common.{◌≡◌, ◌+◌, ℕ, Box, Global, Option, None, Some, option_map, refl, sym, ◌∙◌, subst}
 use Rattle.std.proofs.Common.{arith}
 use Rattle.std.specs.Prelude.{MatchOption}
 use Rattle.std.proofs.lemmas.Result.{err_from_is_err_and}
 use Rattle.cdxj_core.specs.declared.limit.TheConstants.{LINE_LIMIT}
 use Rattle.cdxj_core.specs.declared.line.Line.{Line}
 use Rattle.cdxj_core.specs.Members.{Member}
-use Rattle.source_core.specs.IndexLines.{lines}
 use Rattle.merge_core.specs.NextLine.{IsNextLine}
 use Rattle.query_core.specs.Checking.{EndsOutOfOrder}
 use Rattle.query_core.proofs.CheckLemmas.{checked_more, checked_whole, checked_falls, checked_fault}
@@ -20,12 +19,10 @@ returns-in_err-line-clause-checked g c =
     let given = err_from_is_err_and c.from_residual-in_err-line.result c.from_residual-in_err-line.ensures.1 in
     λ t e.
     let told : g.S.Source.text c.loop-previous.source ≡ Some t = inv.text ∙ e in
-    let rest = inv.stands.rest t told ∙ ap (λ s. drop c.loop-previous.cursor.count (lines (drop s t))) inv.start in
     let long = inv.long t e in
     let known = c.in_err-line.ensures in
     rw (given.1, given.2)
-    (checked_fault LINE_LIMIT t c.loop-previous.cursor.at c.loop-previous.cursor.count
-    (value c.loop-previous.previous) (inv.told t e) rest
+    (checked_fault LINE_LIMIT t (inv.told t e)
     (omega (arith, long, inv.stands.filled.within, inv.extent)) c.in_err-line.field-0.0 (known.fault t told))
 
 pub returns-then-falls_after-clause-checked : goal.returns-then-falls_after-clause-checked
@@ -33,13 +30,11 @@ returns-then-falls_after-clause-checked g c =
     let inv = c.loop-previous.invariant in
     λ t e.
     let told : g.S.Source.text c.loop-previous.source ≡ Some t = inv.text ∙ e in
-    let rest = inv.stands.rest t told ∙ ap (λ s. drop c.loop-previous.cursor.count (lines (drop s t))) inv.start in
     let long = inv.long t e in
     let next = subst (λ o. IsNextLine LINE_LIMIT t c.loop-previous.cursor.at c.next_line.new.cursor.at (value o))
     c.in-Some.is (c.in_ok-line.ensures.line t told) in
     subst (EndsOutOfOrder LINE_LIMIT t) (sym inv.offset)
-    (checked_falls LINE_LIMIT t c.loop-previous.cursor.at c.loop-previous.cursor.count (value c.loop-previous.previous)
-    (inv.told t e) rest
+    (checked_falls LINE_LIMIT t (inv.told t e)
     (omega (arith, long, inv.stands.filled.within, inv.extent)) c.next_line.new.cursor.at c.in-Some.line.value next
     (rw c.deref.ensures at (c.falls_after.ensures.falls c.if-falls_after.true)))
 
@@ -59,12 +54,9 @@ loop-previous-preserved g c =
       long = inv.long;
       told = λ t e.
           let told : g.S.Source.text c.loop-previous.source ≡ Some t = inv.text ∙ e in
-          let rest = inv.stands.rest t told
-          ∙ ap (λ s. drop c.loop-previous.cursor.count (lines (drop s t))) inv.start in
           let next = subst (λ o. IsNextLine LINE_LIMIT t c.loop-previous.cursor.at c.next_line.new.cursor.at (value o))
           c.in-Some.is (ok.line t told) in
-          let more = checked_more LINE_LIMIT t c.loop-previous.cursor.at c.loop-previous.cursor.count
-          (value c.loop-previous.previous) (inv.told t e) rest c.next_line.new.cursor.at c.in-Some.line.value next
+          let more = checked_more LINE_LIMIT t (inv.told t e) c.next_line.new.cursor.at c.in-Some.line.value next
           (rw c.deref.ensures at (c.falls_after.ensures.stays c.if-falls_after.false)) in
           rw (counted, c.replace.ensures.after) more;
     }
@@ -85,9 +77,7 @@ returns-clause-checked g c =
     let ok = c.in_ok-line.ensures in
     λ t e.
     let told : g.S.Source.text c.loop-previous.source ≡ Some t = inv.text ∙ e in
-    let rest = inv.stands.rest t told ∙ ap (λ s. drop c.loop-previous.cursor.count (lines (drop s t))) inv.start in
-    checked_whole LINE_LIMIT t c.loop-previous.cursor.at c.loop-previous.cursor.count (value c.loop-previous.previous)
-    (inv.told t e) rest
+    checked_whole LINE_LIMIT t (inv.told t e)
     c.next_line.new.cursor.at c.count.result (value c.in_ok-line.field-0) (ok.line t told)
     (counted c.in_ok-line.field-0 c.count.result c.loop-previous.cursor.count
     (subst (λ n. MatchOption c.in_ok-line.field-0 (n ≡ c.loop-previous.cursor.count)

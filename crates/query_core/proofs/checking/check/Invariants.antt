@@ -14,7 +14,7 @@ invariant-loop-previous g l = record {
   offset : l.offset ≡ l.cursor.at;
   long : (t : List ℕ) → g.S.Source.text l.fn.source ≡ Some t → length t ≡ g.S.Source.extent l.fn.source;
   told : (t : List ℕ) → g.S.Source.text l.fn.source ≡ Some t
-      → CheckedTo LINE_LIMIT t l.cursor.count (option_map (λ b. b.value) l.previous);
+      → CheckedTo LINE_LIMIT t l.cursor.at l.cursor.count (option_map (λ b. b.value) l.previous);
 }
 
 abbrev pub decreases-loop-previous : goal.decreases-loop-previous

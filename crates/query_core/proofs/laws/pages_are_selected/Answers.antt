@@ -1,11 +1,41 @@
-use Rattle.query_core.proofs.RisingPages.{all_are_kept, selected_are_first, selected_rise}
+use Rattle.std.proofs.Common.{arith, ◌≡◌, ◌↔◌, Bool, List, [], ◌∷◌, Option, None, Some, filter, true, refl, ap}
+use Rattle.cdxj_places.specs.Places.{PlaceValue, place_cmp}
+use Rattle.cdxj_places.specs.Rising.{IsIn}
+use Rattle.cdxj_places.proofs.PlaceOrder.{place_cmp_total}
+use Rattle.cdxj_places.proofs.RisingLaws.{rises_rising, rising_members}
+use Rattle.cdxj_core.specs.Members.{Member, member_place}
+use Rattle.query_text.specs.Collapses.{same_part}
+use Rattle.query_text.specs.Matching.{matches}
+use Rattle.page_core.proofs.PageLaws.{rises_filter}
+use Rattle.merge_core.specs.Collections.{all_lines, collection}
+use Rattle.page_core.specs.Pages.{kept}
+use Rattle.query_core.specs.QueryLaws.{AllAreKept, SelectedAreFirst}
 use Rattle.query_core.proofs.laws.pages_are_selected.Goals as goal
 
 pub returns-clause-rise : goal.returns-clause-rise
-returns-clause-rise c = λ q indexes. selected_rise q indexes
+returns-clause-rise c = λ q indexes. grind (arith, rises_filter, place_cmp_total, rises_rising)
+
+-- what is in a list and passes a test is in what is left of it, and nothing else is
+filter_members : (f : Member → Bool) (m : Member) (l : List Member) → IsIn m (filter f l) ↔ (IsIn m l × (f m ≡ true))
+filter_members f m [] = grind arith
+filter_members f m (x ∷ l) = grind (arith, filter_members f m l)
+
+selected_are_first : SelectedAreFirst
+selected_are_first q indexes m =
+    let lines = filter_members (λ m. matches q m.values) m (collection indexes) in
+    let first = rising_members member_place place_cmp place_cmp_total m (all_lines indexes) in
+    grind arith
+
+kept_all : (place : Option PlaceValue) (lines : List Member) → kept member_place (same_part None) place lines ≡ lines
+kept_all place [] = refl
+kept_all None (m ∷ lines) = ap (λ l. m ∷ l) (kept_all (Some (member_place m)) lines)
+kept_all (Some p) (m ∷ lines) = ap (λ l. m ∷ l) (kept_all (Some (member_place m)) lines)
+
+all_are_kept : AllAreKept
+all_are_kept lines place = grind (arith, kept_all)
 
 pub returns-clause-members : goal.returns-clause-members
-returns-clause-members c = λ q indexes m. selected_are_first q indexes m
+returns-clause-members c = selected_are_first
 
 pub returns-clause-plain : goal.returns-clause-plain
-returns-clause-plain c = λ lines place. all_are_kept lines place
+returns-clause-plain c = all_are_kept

@@ -1,6 +1,31 @@
-use Rattle.std.proofs.Common.{arith}
-use Rattle.query_core.proofs.RisingPages.{pages_rise}
+use Rattle.std.proofs.Common.{arith, ◌≡◌, true, sym}
+use Rattle.std.proofs.Common.{subst, ◌∙◌}
+use Rattle.std.specs.List.{AllByRecursion}
+use Rattle.cdxj_places.specs.Places.{place_cmp}
+use Rattle.cdxj_places.specs.Rising.{Rises}
+use Rattle.cdxj_places.proofs.PlaceOrder.{place_cmp_total}
+use Rattle.cdxj_core.specs.Members.{member_place}
+use Rattle.query_text.specs.Collapses.{same_part}
+use Rattle.query_text.specs.Matching.{matches}
+use Rattle.page_core.proofs.PageLaws.{chain_law, rises_filter, rises_collapsed}
+use Rattle.page_writers.specs.QueryPages.{selected}
+use Rattle.query_core.specs.QueryLaws.{PagesRise}
+use Rattle.page_writers.specs.PageWriting.{is_wanted}
+use Rattle.page_writers.proofs.NextPlaces.{captures_wanted}
+use Rattle.page_writers.proofs.PageChains.{captures_are}
 use Rattle.query_core.proofs.laws.pages_rise.Goals as goal
+
+pages_rise : PagesRise
+pages_rise q lines sizes pages rise positive chain =
+    let selects = rises_filter member_place place_cmp place_cmp_total (λ m. matches q m.values) lines rise in
+    let joined = (chain_law member_place place_cmp (same_part q.collapse) place_cmp_total (selected q lines) q.resume
+    sizes pages selects positive chain).0 in (
+      subst (Rises member_place place_cmp) (sym joined)
+          (rises_collapsed member_place place_cmp (same_part q.collapse) place_cmp_total (selected q lines) q.resume
+          selects),
+      subst (AllByRecursion (λ m. is_wanted q q.resume m ≡ true)) (captures_are q sizes positive lines rise
+          ∙ sym joined) (captures_wanted q.resume q lines),
+    )
 
 pub returns : goal.returns
 returns c = grind (arith, pages_rise)

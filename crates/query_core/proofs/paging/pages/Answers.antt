@@ -9,7 +9,6 @@ use Rattle.cdxj_places.proofs.RisingLaws.{rises_rising}
 use Rattle.cdxj_core.specs.declared.limit.TheConstants.{LINE_LIMIT}
 use Rattle.cdxj_core.specs.Members.{Member, member_place}
 use Rattle.merge_core.specs.Collections.{OverIndexes, collection}
-use Rattle.merge_core.specs.SourceLines.{AreLinesOf}
 use Rattle.merge_core.specs.Spending.{AllGaveWithin}
 use Rattle.page_writers.specs.PageWriting.{captures_over}
 use Rattle.page_writers.specs.WrittenPages.{are_sizes, WrotePages, WrotePagesInPart}
@@ -21,9 +20,6 @@ use Rattle.query_core.proofs.ReachLemmas.{opened_not, within_opening}
 use Rattle.query_core.proofs.paging.pages.Given.{Over}
 use Rattle.query_core.proofs.paging.pages.Goals.{In_err-writer, In_err-read_lines, In_err-end, In_ok-end}
 use Rattle.query_core.proofs.paging.pages.Goals as goal
-
-no_lines : (texts : List (Option (List ℕ))) → AreLinesOf LINE_LIMIT texts []
-no_lines texts = grind arith
 
 -- nothing was read
 unread : {S : Type 0} (text : S → Option (List ℕ)) (extent gave : S → ℕ) (test : Member → Bool) (sources : List S)
@@ -135,7 +131,7 @@ pub returns-in_err-writer-clause-lines : goal.returns-in_err-writer-clause-lines
 returns-in_err-writer-clause-lines g c =
     let p = err_from_is_err_and c.from_residual.result c.from_residual.ensures.1 in
     let here = (goal.at.returns-in_err-writer-clause-lines g c).In_err-writer in
-    rw p.1 (([], no_lines (map g.S.Source.text c.args.sources.now), λ sized. before g here sized [] tt))
+    rw p.1 (([], record { rise = tt; each = tt }, λ sized. before g here sized [] tt))
 
 pub returns-in_err-read_lines-clause-lines : goal.returns-in_err-read_lines-clause-lines
 returns-in_err-read_lines-clause-lines g c =

@@ -1,17 +1,9 @@
-use Rattle.std.proofs.Common.{arith, ℕ, List, le-ltb}
+use Rattle.std.proofs.Common.{arith, le-ltb}
 use Rattle.std.proofs.lemmas.Str.{IsUtf8-from_is_utf8, is_utf8-from_IsUtf8}
 use Rattle.std.proofs.lemmas.Bool.{false_from_ne_true}
 use Rattle.std.specs.Str.{is_utf8}
-use Rattle.cdxj_core.specs.Members.{Member}
-use Rattle.merge_core.specs.Collections.{collection}
-use Rattle.query_text.specs.declared.query.TheConstants.{QUERY_LIMIT}
-use Rattle.query_core.specs.Conversations.{IsOneReply}
-use Rattle.query_core.specs.Replies.{reply_of}
 use Rattle.query_core.proofs.LineReplies.{no_text_reply, text_reply, writes_some, writes_weaker}
 use Rattle.query_core.proofs.serving.reply_to_line.Goals as goal
-
-abbrev Is : List (List Member) → List ℕ → List ℕ → Type 0
-Is indexes = IsOneReply (reply_of QUERY_LIMIT (collection indexes))
 
 pub returns-in-Ok-clause-text : goal.returns-in-Ok-clause-text
 returns-in-Ok-clause-text g c = grind (arith, le-ltb, writes_some, text_reply, is_utf8-from_IsUtf8)
