@@ -28,6 +28,10 @@ pub wanted_within : (q : QueryValue) (from : Option PlaceValue) (m : Member) →
     → not (is_past q.target m.values.key) ≡ true
 wanted_within q from m h = grind arith
 
+-- what is wanted of these lines, collapsed
+abbrev pub captures : QueryValue → List Member → List Member
+captures q lines = captures_over q q.resume lines
+
 -- the query's page is that of the lines that are wanted
 pub asked_is : (q : QueryValue) (lines : List Member) → query_page q lines ≡ page_over q q.resume q.limit lines
 asked_is q lines = grind (arith, page, filter_and)
@@ -40,13 +44,10 @@ pub record Writing (q : QueryValue) (start now : Option (List ℕ)) (taken : Lis
   pub wrote : Wrote first writer taken start now
 
 module _ {q : QueryValue} {start mid : Option (List ℕ)} {taken : List Member} (w : Writing q start mid taken) where
-  abbrev captures : List Member → List Member
-  captures lines = captures_over q q.resume lines
-
   abbrev taken_page : Page Member PlaceValue
   taken_page = page_over q q.resume q.limit taken
 
-  pub stood : PageStands (form_of q) q.limit (captures taken) start mid w.writer.given w.writer.more w.writer.last
+  pub stood : PageStands (form_of q) q.limit (captures q taken) start mid w.writer.given w.writer.more w.writer.last
   stood = grind arith
 
   abbrev key_of : QueryValue → Option (List ℕ)
@@ -57,8 +58,8 @@ module _ {q : QueryValue} {start mid : Option (List ℕ)} {taken : List Member} 
 
   module _ (all : List Member) where
     -- of all lines those that were taken settle the page
-    pub settles : (whole : Bool) (rest : List Member) → captures all ≡ captures taken ++ rest
-        → (whole ≡ true → captures all ≡ captures taken) → (whole ≡ false → w.writer.more ≡ true)
+    pub settles : (whole : Bool) (rest : List Member) → captures q all ≡ captures q taken ++ rest
+        → (whole ≡ true → captures q all ≡ captures q taken) → (whole ≡ false → w.writer.more ≡ true)
         → query_page q all ≡ taken_page
     settles true rest first ended enough = asked_is q all ∙ ap (page q.limit) (ended refl)
     settles false rest first ended enough = grind (arith, asked_is, page, decided, stood)
@@ -98,12 +99,12 @@ module _ (first : PageWriter) (q : QueryValue) (is : (first.selection.query.now 
   rows_front (inr p) = grind arith
 
   -- are a front of the page of lines of which these come first
-  pub page_broke : (all rest : List Member) → captures_over q q.resume all ≡ captures_over q q.resume taken ++ rest
+  pub page_broke : (all rest : List Member) → captures q all ≡ captures q taken ++ rest
       → ((k : PageSink) × Wrote first k.writer taken start now) ⊎ Broke first taken start now
       → AppendsPrefix start now (answer_text q (query_page q all))
   page_broke all rest split wrote =
       let members = (page_over q q.resume q.limit taken).members in
-      let r = page_front q.limit (captures_over q q.resume taken) rest in
+      let r = page_front q.limit (captures q taken) rest in
       let key = shown_key q.show_resume_key (query_page q all).next in
       let same : (query_page q all).members ≡ members ++ r.0 =
       ap (λ (p : Page Member PlaceValue). p.members) (asked_is q all ∙ ap (page q.limit) split) ∙ r.1 in

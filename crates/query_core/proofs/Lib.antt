@@ -1,11 +1,9 @@
 pub mod ConversionLemmas
 pub mod CheckLemmas
 pub mod StartLemmas
-pub mod LineStamps
 pub mod AskedLemmas
 pub mod PageOfIndexes
 pub mod PagesExits
-pub mod FewerLines
 pub mod SoundIndexes
 pub mod LineReplies
 pub mod ReplyLemmas

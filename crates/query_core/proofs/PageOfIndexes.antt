@@ -1,4 +1,5 @@
 -- What was taken of indexes, beside all that is wanted of their collection.
+use Rattle.query_core.proofs.AskedLemmas.{captures}
 use Rattle.std.proofs.Common.{arith, ◌≡◌, inl, inr, ℕ, List, [], ◌∷◌, ◌++◌, length, map, filter, zip, Bool, true, false}
 use Rattle.std.proofs.Common.{not, ◌&&◌, Option, refl, sym, ap, ◌∙◌, subst}
 use Rattle.std.specs.List.{AllZip, AllByRecursion}
@@ -20,17 +21,58 @@ use Rattle.merge_core.specs.PairOrders.{IsAbove, Upto, is_low}
 use Rattle.merge_core.specs.Openings.{IsCutAt}
 use Rattle.merge_core.specs.Reached.{Reached}
 use Rattle.merge_core.proofs.ReadLemmas.{sought_before, sought_first, sought_whole}
-use Rattle.page_writers.specs.PageWriting.{is_wanted, captures_over, place_before}
+use Rattle.page_writers.specs.PageWriting.{is_wanted, place_before}
 use Rattle.merge_core.specs.SourceLines.{AreLinesOf, IsLineIn, IsLineOf}
 use Rattle.merge_core.specs.Gathering.{AreTold}
 use Rattle.merge_core.specs.Spending.{CameWithin}
 use Rattle.merge_core.proofs.WholeLemmas.{told_known}
 use Rattle.query_core.specs.Starts.{start_pair}
 use Rattle.page_writers.proofs.CaptureLemmas.{kept_after, captures_split}
-use Rattle.query_core.proofs.LineStamps.{index_lines, line_stamp}
+use Rattle.std.proofs.Common.{arith, ◌≡◌, inl, inr, ℕ, List, [], ◌∷◌, map, Bool, true, false, cond, Some, None}
+use Rattle.std.proofs.Common.{refl}
+use Rattle.std.specs.List.{AllByRecursion}
+use Rattle.std.proofs.lemmas.Bool.{and_parts}
+use Rattle.cdxj_places.specs.Pair.{is_stamp, key_part, stamp_part, begins_with_pair, pair_of}
+use Rattle.cdxj_places.specs.Pairs.{Pair}
+use Rattle.cdxj_places.specs.Rising.{IsIn}
+use Rattle.cdxj_places.specs.TextLines.{lines}
+use Rattle.cdxj_core.specs.Indexes.{IsIndex}
+use Rattle.cdxj_core.specs.Members.{Member, member_pair, line_entry}
+use Rattle.cdxj_core.proofs.MemberLemmas.{entry_pair_is}
+use Rattle.merge_core.specs.SourceLines.{IsLineIn}
 use Rattle.merge_core.proofs.SourceLemmas.{taken_lines}
 use Rattle.query_core.proofs.StartLemmas.{start_not_above}
 use Rattle.std.proofs.lemmas.Bool.{and_parts}
+
+-- a line has a stamp
+line_stamp : (limit : ℕ) (t : List ℕ) (m : Member) → IsLineIn limit t m → is_stamp m.values.stamp ≡ true
+line_stamp limit t m h = pair_stamp h.0 m (entry_pair_is limit h.0 m h.2)
+  where
+    some_pair : (b : Bool) (key stamp : List ℕ) (pair : Pair) → cond b (Some (key, stamp)) None ≡ Some pair → (b ≡ true)
+        × (stamp ≡ pair.1)
+    some_pair true key stamp pair e = grind arith
+    some_pair false key stamp pair e = cc
+
+    pair_stamp : (line : List ℕ) (m : Member) → pair_of line ≡ Some (member_pair m) → is_stamp m.values.stamp ≡ true
+    pair_stamp line m e =
+        let found = some_pair (begins_with_pair line) (key_part line) (stamp_part line) (member_pair m) e in
+        grind (arith, and_parts)
+
+entries_are : (limit : ℕ) (t : List ℕ) (ls : List (List ℕ)) (ms : List Member)
+    → ((l : List ℕ) → IsIn l ls → IsIn l (lines t)) → map (line_entry limit) ls ≡ map Some ms
+    → AllByRecursion (IsLineIn limit t) ms
+entries_are limit t [] [] sub e = tt
+entries_are limit t [] (m ∷ ms) sub e = cc
+entries_are limit t (l ∷ ls) [] sub e = cc
+entries_are limit t (l ∷ ls) (m ∷ ms) sub e =
+    let here : line_entry limit l ≡ Some m = cc in
+    let rest : map (line_entry limit) ls ≡ map Some ms = cc in
+    ((l, sub l (inl refl), here), entries_are limit t ls ms (λ k i. sub k (inr i)) rest)
+
+-- the members of an index are lines of it
+index_lines : (limit : ℕ) (t : List ℕ) (ms : List Member) → IsIndex limit t ms
+    → AllByRecursion (IsLineIn limit t) ms
+index_lines limit t ms run = grind (arith, entries_are)
 
 and_true : (a b : Bool) → b ≡ true → (a && b) ≡ a
 and_true true b h = h
@@ -132,9 +174,6 @@ module _ {S : Type 0} {text : S → Option (List ℕ)} {extent gave : S → ℕ}
       of_taken : filter (sought q) r.taken ≡ filter (is_wanted q q.resume) r.taken
       of_taken = stamped (is_wanted q q.resume) r.taken (grind (arith, each_weaker, known_stamp, lines_taken))
 
-      abbrev captures : List Member → List Member
-      captures lines = captures_over q q.resume lines
-
       -- what is wanted after these lines, collapsed
       abbrev later : List Member → List Member
       later rest = kept_after q q.resume (place_before q q.resume r.taken) rest
@@ -143,7 +182,7 @@ module _ {S : Type 0} {text : S → Option (List ℕ)} {extent gave : S → ℕ}
       later_each A rest = grind (arith, each_kept, place_cmp_total)
 
       -- what was taken is a front of what is wanted
-      pub wanted_first : (rest : List Member) × (captures (collection indexes) ≡ captures r.taken ++ rest)
+      pub wanted_first : (rest : List Member) × (captures q (collection indexes) ≡ captures q r.taken ++ rest)
           × AllByRecursion (λ m. IsAbove r.bound (member_pair m)) rest
       wanted_first =
           let f = sought_first _ _ _ _ _ (past_upward q.target) _ _ _ _ _ _ _ r.start.same r.reached texts indexes
@@ -156,7 +195,7 @@ module _ {S : Type 0} {text : S → Option (List ℕ)} {extent gave : S → ℕ}
       -- where the lines that wait don't stand below a pair, the rest doesn't either
       pub wanted_before : (next : Pair) → IsAbove r.bound next
           → AllByRecursion (λ w. Upto next (waiting_pair w)) r.waiting
-          → (rest : List Member) × (captures (collection indexes) ≡ captures r.taken ++ rest)
+          → (rest : List Member) × (captures q (collection indexes) ≡ captures q r.taken ++ rest)
           × AllByRecursion (λ m. Upto next (member_pair m)) rest
       wanted_before next above least =
           let f = sought_before _ _ _ _ _ (past_upward q.target) _ _ _ _ _ _ _ r.start.same r.reached texts indexes
@@ -167,7 +206,7 @@ module _ {S : Type 0} {text : S → Option (List ℕ)} {extent gave : S → ℕ}
           )
 
       -- where no line waits, it is all
-      pub wanted_whole : r.waiting ≡ [] → captures (collection indexes) ≡ captures r.taken
+      pub wanted_whole : r.waiting ≡ [] → captures q (collection indexes) ≡ captures q r.taken
       wanted_whole none = ap (kept_after q q.resume q.resume)
           (sym of_all ∙ sought_whole _ _ _ _ _ (past_upward q.target) _ _ _ _ _ _ _ r.start.same r.reached texts
           indexes known_opened are (sought q) (within q) _ r.start.cut (beyond q) none ∙ of_taken)

@@ -20,9 +20,25 @@ use Rattle.page_writers.specs.PageWriting.{captures_over, page_over}
 use Rattle.query_core.specs.Passes.{AreAtMost, AreFirst, GaveFor}
 use Rattle.page_writers.specs.QueryPages.{form_of, query_page}
 use Rattle.query_core.specs.Reach.{captures_text, GaveInReach, WroteFirst}
+use Rattle.query_core.proofs.AskedLemmas.{captures}
 use Rattle.query_core.proofs.AskedLemmas.{Writing, asked_is, stood}
 use Rattle.query_core.proofs.ReachLemmas.{opened_not, within_opening}
 use Rattle.page_writers.proofs.WriterLemmas.{page, next_none, page_front}
+use Rattle.std.proofs.Common.{◌≡◌, ℕ, ◌-◌, ◌^◌, ◌≤◌, List, [], ◌∷◌, length, map, filter, min, Bool, Option, None, Some}
+use Rattle.std.proofs.Common.{arith, length-take}
+use Rattle.std.specs.List.{sum}
+use Rattle.std.proofs.Common.{sym, ◌∙◌}
+use Rattle.std.proofs.lemmas.List.Concat.{length-flat_map}
+use Rattle.std.proofs.lemmas.List.Sums.{sum-map}
+use Rattle.cdxj_places.specs.Places.{PlaceValue, place_cmp}
+use Rattle.cdxj_places.specs.Rising.{put, rising}
+use Rattle.cdxj_core.specs.Members.{Member, member_place}
+use Rattle.query_text.specs.Queries.{QueryValue}
+use Rattle.page_core.specs.Pages.{kept}
+use Rattle.merge_core.specs.Collections.{all_lines, collection}
+use Rattle.page_writers.specs.QueryPages.{query_page}
+use Rattle.page_writers.specs.PageWriting.{captures_over, page_over}
+use Rattle.query_core.proofs.AskedLemmas.{asked_is}
 
 -- an empty page has none
 pub none_follows : (limit : Option ℕ) → is_some (page limit []).next ≡ false
@@ -62,14 +78,14 @@ pub page_reached : {S : Type 0} (text : S → Option (List ℕ)) (extent gave : 
     {old middle : Option (List ℕ)} (new : Option (List ℕ)) (olds news : List S) {taken : List Member}
     (earlier tail : List Member) → Writing q old middle taken → Grows middle new
     → OverIndexes LINE_LIMIT (map text olds) (λ texts indexes. AreFirst q (collection indexes) taken)
-    → captures_over q q.resume taken ≡ captures_over q q.resume earlier ++ tail
-    → AreAtMost q.limit (captures_over q q.resume earlier) → GaveFor q (map text olds) extent gave earlier olds news
+    → captures q taken ≡ captures q earlier ++ tail
+    → AreAtMost q.limit (captures q earlier) → GaveFor q (map text olds) extent gave earlier olds news
     → OverIndexes LINE_LIMIT (map text olds) (λ texts indexes. GaveInReach extent gave q texts indexes old new olds news)
 page_reached text extent gave {q} {old} {middle} new olds news {taken} earlier tail w grows first split most within =
     λ texts indexes known are.
     let front = first texts indexes known are in
     let mine = (page_over q q.resume q.limit taken).members in
-    let later = page_front q.limit (captures_over q q.resume taken) front.0 in
+    let later = page_front q.limit (captures q taken) front.0 in
     let members : (query_page q (collection indexes)).members ≡ mine ++ later.0 =
     ap (λ (p : Page Member PlaceValue). p.members) (asked_is q (collection indexes) ∙ ap (page q.limit) front.1)
     ∙ later.1 in
@@ -79,8 +95,8 @@ page_reached text extent gave {q} {old} {middle} new olds news {taken} earlier t
       most = omega (arith, ap length members, length-append mine later.0);
       wrote = grind (arith, take-append_seam);
       within = within texts indexes known are (Some (length mine))
-          (subst (λ ms. length (captures_over q q.resume earlier) ≤ length (page q.limit ms).members) (sym split)
-          (has_all q.limit (captures_over q q.resume earlier) tail most));
+          (subst (λ ms. length (captures q earlier) ≤ length (page q.limit ms).members) (sym split)
+          (has_all q.limit (captures q earlier) tail most));
     }
 
 -- nothing was read at all, and no capture was written
@@ -100,3 +116,40 @@ pub all_read : (all more shown : Bool) (found : Option PlaceValue) → more ≡ 
     → (all ≡ false → more ≡ true) → not shown ≡ true → all ≡ true
 all_read true more shown found a b enough e = refl
 all_read false more shown found a b enough e = grind arith
+
+-- ---- a page has no more captures than lines were read
+
+filter_fewer : (f : Member → Bool) (ms : List Member) → length (filter f ms) ≤ length ms
+filter_fewer f [] = omega arith
+filter_fewer f (m ∷ ms) = grind (arith, filter_fewer f ms)
+
+kept_fewer : (same : PlaceValue → PlaceValue → Bool) (p : Option PlaceValue) (ms : List Member)
+    → length (kept member_place same p ms) ≤ length ms
+kept_fewer same p [] = omega arith
+kept_fewer same p (m ∷ ms) = grind (arith, kept_fewer same (Some (member_place m)) ms)
+
+captures_fewer : (q : QueryValue) (from : Option PlaceValue) (lines : List Member)
+    → length (captures_over q from lines) ≤ length lines
+captures_fewer q from lines = grind (arith, kept_fewer, filter_fewer)
+
+put_fewer : (m : Member) (ms : List Member) → length (put member_place place_cmp m ms) ≤ length (m ∷ ms)
+put_fewer m [] = omega arith
+put_fewer m (k ∷ ms) = grind (arith, put_fewer m ms)
+
+rising_fewer : (ms : List Member) → length (rising member_place place_cmp ms) ≤ length ms
+rising_fewer [] = omega arith
+rising_fewer (m ∷ ms) = grind (arith, put_fewer, rising_fewer ms)
+
+all_count : (parts : List (List Member)) → length (all_lines parts) ≡ sum (map (λ (ms : List Member). length ms) parts)
+all_count parts =
+    length-flat_map (λ (ms : List Member). ms) parts ∙ sym (sum-map (λ (ms : List Member). length ms) parts)
+
+over_fewer : (q : QueryValue) (from : Option PlaceValue) (limit : Option ℕ) (lines : List Member)
+    → length (page_over q from limit lines).members ≤ length lines
+over_fewer q from None lines = captures_fewer q from lines
+over_fewer q from (Some n) lines = grind (arith, captures_fewer, length-take)
+
+pub page_fewer : (q : QueryValue) (parts : List (List Member)) (given lines : ℕ) → given
+    ≡ min (length (query_page q (collection parts)).members) (2 ^ 64 - 1)
+    → lines ≡ min (sum (map (λ (ms : List Member). length ms) parts)) (2 ^ 64 - 1) → given ≤ lines
+page_fewer q parts given lines g l = grind (arith, asked_is, over_fewer, rising_fewer, all_count)

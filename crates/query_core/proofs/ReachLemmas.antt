@@ -43,6 +43,7 @@ use Rattle.merge_core.proofs.RunLemmas.{parts_are, parts_count, parts_first, par
 use Rattle.merge_core.proofs.SpendLemmas.{are_read_to}
 use Rattle.merge_core.proofs.WholeLemmas.{texts_kept}
 use Rattle.query_text.proofs.RangeLaw.{past_upward}
+use Rattle.query_core.proofs.AskedLemmas.{captures}
 use Rattle.query_core.proofs.AskedLemmas.{wanted_within}
 use Rattle.page_writers.specs.PageWriting.{is_wanted, captures_over, place_before}
 use Rattle.query_core.specs.Reach.{pair_after, follower, is_within, in_reach}
@@ -152,12 +153,12 @@ module _ (q : QueryValue) (indexes : List (List Member)) where
   -- what is wanted, cut behind the captures of these lines; nothing up to the bound stands above those behind the cut
   pub record Cut (bound : Option Pair) (earlier : List Member) : Type 0 where
     pub back : List Member
-    pub whole : captures_over q q.resume (collection indexes) ≡ captures_over q q.resume earlier ++ back
+    pub whole : captures q (collection indexes) ≡ captures q earlier ++ back
     pub later : (m : Member) → IsUpto bound (member_pair m)
         → AllByRecursion (λ v. Upto (member_pair m) (member_pair v)) back
 
   module _ (bound : Option Pair) (earlier : List Member) (c : Cut bound earlier) (limit : Option ℕ)
-      (most : AreAtMost limit (captures_over q q.resume earlier)) where
+      (most : AreAtMost limit (captures q earlier)) where
     in_bound : (m : Member) → IsUpto bound (member_pair m)
         → is_within (follower q q.resume limit (collection indexes)) (member_pair m) ≡ true
     in_bound m upto = grind (arith, within_follower)

@@ -11,14 +11,15 @@ use Rattle.page_core.specs.Pages.{Page}
 use Rattle.devices.proofs.DeviceLemmas.{grows_by, grows_not, grows_part}
 use Rattle.merge_core.specs.Collections.{OverIndexes, collection}
 use Rattle.query_core.specs.Passes.{AreAtMost}
-use Rattle.page_writers.specs.PageWriting.{captures_over, page_over}
+use Rattle.page_writers.specs.PageWriting.{page_over}
 use Rattle.page_writers.specs.QueryPages.{answer_text, query_page}
 use Rattle.devices.specs.Device.{AppendsPrefix}
 use Rattle.page_writers.specs.WriterView.{Wrote}
 use Rattle.query_core.specs.declared.sinks.PageSink.{PageSink}
+use Rattle.query_core.proofs.AskedLemmas.{captures}
 use Rattle.query_core.proofs.AskedLemmas.{Writing, asked_is, end_front, page_broke, page_ended, settles, stood}
 use Rattle.page_core.proofs.PageLemmas.{front-start}
-use Rattle.query_core.proofs.FewerLines.{page_fewer}
+use Rattle.query_core.proofs.PageReach.{page_fewer}
 use Rattle.query_core.proofs.PageReach.{all_read, none_follows, page_not_reached, page_reached, within_page}
 use Rattle.query_core.proofs.answering.answer.Given.{Over}
 use Rattle.query_core.proofs.answering.answer.Goals.{In_ok-writer, In_err-pass, In_ok-pass}
@@ -49,7 +50,7 @@ within : (g : Over) (c : In_ok-writer g) (sink : PageSink) (lines : List Member)
     → Wrote first.writer c.in_ok-writer.writer [] start (g.O.Output.written c.begin.new.out)
     → Wrote first.writer sink.writer lines start now)
     → ((c.in_ok-writer.writer.more ≡ true → ⊥) → sink.writer.more ≡ true → ⊥)
-    → AreAtMost c.args.query.now.limit (captures_over c.args.query.now c.args.query.now.resume lines)
+    → AreAtMost c.args.query.now.limit (captures c.args.query.now lines)
 within g c sink lines now came more =
     let first = begun g c in
     let last = stood (at g c sink lines now came) in
@@ -68,10 +69,10 @@ writing g c = record {
 
 -- the page of lines of which these were taken, if they settle it
 settled : (g : Over) (c : In_ok-pass g) (all rest : List Member)
-    → captures_over c.args.query.now c.args.query.now.resume all
-    ≡ captures_over c.args.query.now c.args.query.now.resume c.in_ok-pass.ensures.took.lines ++ rest
-    → (c.in_ok-pass.pass.all ≡ true → captures_over c.args.query.now c.args.query.now.resume all
-    ≡ captures_over c.args.query.now c.args.query.now.resume c.in_ok-pass.ensures.took.lines)
+    → captures c.args.query.now all
+    ≡ captures c.args.query.now c.in_ok-pass.ensures.took.lines ++ rest
+    → (c.in_ok-pass.pass.all ≡ true → captures c.args.query.now all
+    ≡ captures c.args.query.now c.in_ok-pass.ensures.took.lines)
     → query_page c.args.query.now all ≡ page_over c.args.query.now c.args.query.now.resume c.args.query.now.limit
     c.in_ok-pass.ensures.took.lines
 settled g c all rest split ended =
@@ -87,8 +88,8 @@ settled_over g c texts indexes known are =
 
 -- the page of lines of which these were taken before a fault
 broken : (g : Over) (c : In_err-pass g) (all rest : List Member)
-    → captures_over c.args.query.now c.args.query.now.resume all
-    ≡ captures_over c.args.query.now c.args.query.now.resume c.in_err-pass.ensures.broke.lines ++ rest
+    → captures c.args.query.now all
+    ≡ captures c.args.query.now c.in_err-pass.ensures.broke.lines ++ rest
     → AppendsPrefix (g.O.Output.written c.args.out.now) (g.O.Output.written c.read_lines.new.out)
     (answer_text c.args.query.now (query_page c.args.query.now all))
 broken g c all rest split =

@@ -1,3 +1,4 @@
+use Rattle.query_core.proofs.AskedLemmas.{captures}
 use Rattle.std.proofs.Common.{arith, rules, ◌≡◌, ◌++◌, ℕ, List, [], append-nil, Bool, true, refl, sym, map, Option}
 use Rattle.std.proofs.Common.{None}
 use Rattle.std.proofs.lemmas.Bool.{true_from_ne_false}
@@ -10,7 +11,6 @@ use Rattle.cdxj_core.specs.declared.limit.TheConstants.{LINE_LIMIT}
 use Rattle.cdxj_core.specs.Members.{Member, member_place}
 use Rattle.merge_core.specs.Collections.{OverIndexes, collection}
 use Rattle.merge_core.specs.Spending.{AllGaveWithin}
-use Rattle.page_writers.specs.PageWriting.{captures_over}
 use Rattle.page_writers.specs.WrittenPages.{are_sizes, WrotePages, WrotePagesInPart}
 use Rattle.page_writers.proofs.PageChains.{wrote_front, wrote_none}
 use Rattle.query_core.proofs.PagesExits.{all_ended, any_front, at_end}
@@ -71,8 +71,8 @@ before g c sized lines rise =
     (start_front c.args.query.now c.args.sizes.now old new positive c.in_err-writer.ensures.front)
 
 ended : (g : Over) (c : In_ok-end g) (lines : List Member) → Rises member_place place_cmp lines
-    → captures_over c.args.query.now c.args.query.now.resume lines
-    ≡ captures_over c.args.query.now c.args.query.now.resume c.in_ok-read_lines.ensures.took.lines
+    → captures c.args.query.now lines
+    ≡ captures c.args.query.now c.in_ok-read_lines.ensures.took.lines
     → WrotePages c.args.query.now lines c.args.sizes.now (g.O.Output.written c.args.out.now)
     (g.O.Output.written c.end.new.out) c.in_ok-end.field-0
 ended g c lines rise all =
@@ -87,8 +87,8 @@ ended g c lines rise all =
 
 unended : (g : Over) (c : In_err-end g) → are_sizes c.args.sizes.now ≡ true → (lines : List Member)
     → Rises member_place place_cmp lines
-    → captures_over c.args.query.now c.args.query.now.resume lines
-    ≡ captures_over c.args.query.now c.args.query.now.resume c.in_ok-read_lines.ensures.took.lines
+    → captures c.args.query.now lines
+    ≡ captures c.args.query.now c.in_ok-read_lines.ensures.took.lines
     → WrotePagesInPart c.args.query.now lines c.args.sizes.now (g.O.Output.written c.args.out.now)
     (g.O.Output.written c.end.new.out)
 unended g c sized lines rise all =
@@ -102,8 +102,8 @@ unended g c sized lines rise all =
 
 broken : (g : Over) (c : In_err-read_lines g) → are_sizes c.args.sizes.now ≡ true → (lines : List Member)
     → Rises member_place place_cmp lines → (rest : List Member)
-    → captures_over c.args.query.now c.args.query.now.resume lines
-    ≡ captures_over c.args.query.now c.args.query.now.resume c.in_err-read_lines.ensures.broke.lines ++ rest
+    → captures c.args.query.now lines
+    ≡ captures c.args.query.now c.in_err-read_lines.ensures.broke.lines ++ rest
     → WrotePagesInPart c.args.query.now lines c.args.sizes.now (g.O.Output.written c.args.out.now)
     (g.O.Output.written c.read_lines.new.out)
 broken g c sized lines rise rest split =
@@ -141,7 +141,7 @@ returns-in_err-read_lines-clause-lines g c =
       broke.lines,
       broke.took.lines,
       λ sized. broken g here sized broke.lines broke.took.lines.rise []
-          (sym (append-nil (captures_over c.args.query.now c.args.query.now.resume broke.lines))),
+          (sym (append-nil (captures c.args.query.now broke.lines))),
     ))
 
 pub returns-in_err-end-clause-lines : goal.returns-in_err-end-clause-lines

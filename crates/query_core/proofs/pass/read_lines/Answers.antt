@@ -1,3 +1,4 @@
+use Rattle.query_core.proofs.AskedLemmas.{captures}
 use Rattle.std.proofs.Common.{ℕ, length, ◌≡◌, Bool, true, false, refl, sym, ◌∙◌, map, arith}
 use Rattle.std.proofs.Common.{subst, List, [], ap, append-nil, Some}
 use Rattle.std.specs.List.{AllZip}
@@ -10,7 +11,6 @@ use Rattle.merge_core.specs.Collections.{Known}
 use Rattle.query_core.proofs.ConversionLemmas.{merge_line}
 use Rattle.merge_core.proofs.WholeLemmas.{extents_kept, texts_kept}
 use Rattle.devices.proofs.DeviceLemmas.{grows_not}
-use Rattle.page_writers.specs.PageWriting.{captures_over}
 use Rattle.page_writers.proofs.CaptureLemmas.{captures_append}
 use Rattle.query_core.proofs.PageOfIndexes.{Opened, reading, told, wanted_whole}
 use Rattle.query_core.proofs.ReachLemmas.{cut_all, cut_before, cut_last, gave_upto, gave_within, lines_within}
@@ -138,7 +138,7 @@ returns-clause-took g c =
       parts = read;
       earlier = r.taken;
       later = [];
-      split = sym (append-nil (captures_over q q.resume r.taken));
+      split = sym (append-nil (captures q r.taken));
       before = record {
         state = c.merge.new.sink;
         middle = g.O.Output.written c.merge.new.out;
@@ -158,7 +158,7 @@ returns-clause-took g c =
       parts = read;
       earlier = l.earlier;
       later = _;
-      split = ap (captures_over q q.resume) l.split ∙ captures_append q q.resume l.earlier l.group;
+      split = ap (captures q) l.split ∙ captures_append q q.resume l.earlier l.group;
       before = record {
         state = l.state;
         middle = l.middle;
