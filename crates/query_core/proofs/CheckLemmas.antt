@@ -2,7 +2,7 @@
 use Rattle.std.proofs.Common.{◌≡◌, ℕ, ◌+◌, ◌≤◌, List, [], ◌∷◌, ◌++◌, length, take, drop, Option, None, Some, refl, sym}
 use Rattle.std.proofs.Common.{ap, ◌∙◌, subst, arith, take-append-drop, length-append, length-drop}
 use Rattle.std.specs.Prelude.{Err, MatchOption}
-use Rattle.std.proofs.lemmas.List.{take_all, drop-drop}
+use Rattle.std.proofs.lemmas.List.{take_all, drop-drop, map-append}
 use Rattle.cdxj_core.specs.Members.{Member, member_pair, line_entry}
 use Rattle.cdxj_core.specs.Indexes.{IsRun, IsIndex}
 use Rattle.source_core.specs.IndexLines.{lines}
@@ -12,7 +12,6 @@ use Rattle.query_core.specs.declared.fault.AnswerFault.{AnswerFault}
 use Rattle.query_core.specs.declared.fault.AnswerFault.TheVariants as fault
 use Rattle.merge_core.specs.NextLine.{IsNextLine}
 use Rattle.query_core.specs.Checking.{IsLineFaultAt, IsLastOf, FallsAfter, EndsInBadLine, EndsOutOfOrder, IsChecked}
-use Rattle.std.proofs.lemmas.List.{map-append}
 use Rattle.std.specs.List.{AllByRecursion}
 use Rattle.cdxj_places.specs.Pairs.{pair_cmp}
 use Rattle.cdxj_places.specs.Rising.{NeverFalls}

@@ -1,15 +1,15 @@
 -- What was taken of indexes, beside all that is wanted of their collection.
 use Rattle.query_core.proofs.AskedLemmas.{captures}
 use Rattle.std.proofs.Common.{arith, ◌≡◌, inl, inr, ℕ, List, [], ◌∷◌, ◌++◌, length, map, filter, zip, Bool, true, false}
-use Rattle.std.proofs.Common.{not, ◌&&◌, Option, refl, sym, ap, ◌∙◌, subst}
+use Rattle.std.proofs.Common.{not, ◌&&◌, Option, refl, sym, ap, ◌∙◌, subst, cond, Some, None}
 use Rattle.std.specs.List.{AllZip, AllByRecursion}
-use Rattle.cdxj_places.specs.Pair.{is_stamp}
+use Rattle.cdxj_places.specs.Pair.{is_stamp, key_part, stamp_part, begins_with_pair, pair_of}
 use Rattle.cdxj_places.specs.Pairs.{Pair}
 use Rattle.cdxj_places.proofs.PlaceOrder.{place_cmp_total}
 use Rattle.cdxj_places.proofs.RisingLaws.{each_weaker, each_rising, each_join}
 use Rattle.cdxj_core.specs.declared.limit.TheConstants.{LINE_LIMIT}
 use Rattle.cdxj_core.specs.Indexes.{IsIndex}
-use Rattle.cdxj_core.specs.Members.{Member, member_pair}
+use Rattle.cdxj_core.specs.Members.{Member, member_pair, line_entry}
 use Rattle.query_text.specs.Queries.{QueryValue}
 use Rattle.query_text.specs.Matching.{is_past}
 use Rattle.query_text.proofs.RangeLaw.{past_upward}
@@ -28,21 +28,12 @@ use Rattle.merge_core.specs.Spending.{CameWithin}
 use Rattle.merge_core.proofs.WholeLemmas.{told_known}
 use Rattle.query_core.specs.Starts.{start_pair}
 use Rattle.page_writers.proofs.CaptureLemmas.{kept_after, captures_split}
-use Rattle.std.proofs.Common.{arith, ◌≡◌, inl, inr, ℕ, List, [], ◌∷◌, map, Bool, true, false, cond, Some, None}
-use Rattle.std.proofs.Common.{refl}
-use Rattle.std.specs.List.{AllByRecursion}
 use Rattle.std.proofs.lemmas.Bool.{and_parts}
-use Rattle.cdxj_places.specs.Pair.{is_stamp, key_part, stamp_part, begins_with_pair, pair_of}
-use Rattle.cdxj_places.specs.Pairs.{Pair}
 use Rattle.cdxj_places.specs.Rising.{IsIn}
 use Rattle.cdxj_places.specs.TextLines.{lines}
-use Rattle.cdxj_core.specs.Indexes.{IsIndex}
-use Rattle.cdxj_core.specs.Members.{Member, member_pair, line_entry}
 use Rattle.cdxj_core.proofs.MemberLemmas.{entry_pair_is}
-use Rattle.merge_core.specs.SourceLines.{IsLineIn}
 use Rattle.merge_core.proofs.SourceLemmas.{taken_lines}
 use Rattle.query_core.proofs.StartLemmas.{start_not_above}
-use Rattle.std.proofs.lemmas.Bool.{and_parts}
 
 -- a line has a stamp
 line_stamp : (limit : ℕ) (t : List ℕ) (m : Member) → IsLineIn limit t m → is_stamp m.values.stamp ≡ true

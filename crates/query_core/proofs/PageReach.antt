@@ -1,44 +1,32 @@
 -- What was read for a page, beside its reach.
 use Rattle.std.proofs.Common.{◌≡◌, ℕ, zero, suc, ◌≤◌, List, [], ◌∷◌, ◌++◌, length, map, Bool, true, false, not, Option}
-use Rattle.std.proofs.Common.{None, Some, refl, sym, ap, ◌∙◌, subst, arith, length-append, length-take}
+use Rattle.std.proofs.Common.{None, Some, refl, sym, ap, ◌∙◌, subst, arith, length-append, length-take, ◌-◌, ◌^◌}
+use Rattle.std.proofs.Common.{filter, min}
 use Rattle.std.specs.Io.KnownBytes.{Appends}
 use Rattle.std.specs.Option.{is_some}
 use Rattle.std.proofs.Math.Seq.{take-append_seam}
-use Rattle.cdxj_places.specs.Places.{PlaceValue}
-use Rattle.cdxj_core.specs.Members.{Member}
+use Rattle.cdxj_places.specs.Places.{PlaceValue, place_cmp}
+use Rattle.cdxj_core.specs.Members.{Member, member_place}
 use Rattle.devices.proofs.DeviceLemmas.{Appends-none, grows_by, grows_on}
 use Rattle.query_text.specs.Queries.{QueryValue}
 use Rattle.page_core.specs.Form.{FormValue}
-use Rattle.page_core.specs.Pages.{Page}
+use Rattle.page_core.specs.Pages.{Page, kept}
 use Rattle.page_core.specs.PageText.{begun}
 use Rattle.cdxj_core.specs.declared.limit.TheConstants.{LINE_LIMIT}
 use Rattle.cdxj_core.specs.Indexes.{IsIndex}
-use Rattle.merge_core.specs.Collections.{Known, OverIndexes, collection}
-use Rattle.std.specs.List.{AllZip}
+use Rattle.merge_core.specs.Collections.{Known, OverIndexes, collection, all_lines}
+use Rattle.std.specs.List.{AllZip, sum}
 use Rattle.devices.specs.Device.{Grows}
 use Rattle.page_writers.specs.PageWriting.{captures_over, page_over}
 use Rattle.query_core.specs.Passes.{AreAtMost, AreFirst, GaveFor}
 use Rattle.page_writers.specs.QueryPages.{form_of, query_page}
 use Rattle.query_core.specs.Reach.{captures_text, GaveInReach, WroteFirst}
-use Rattle.query_core.proofs.AskedLemmas.{captures}
-use Rattle.query_core.proofs.AskedLemmas.{Writing, asked_is, stood}
+use Rattle.query_core.proofs.AskedLemmas.{captures, Writing, asked_is, stood}
 use Rattle.query_core.proofs.ReachLemmas.{opened_not, within_opening}
 use Rattle.page_writers.proofs.WriterLemmas.{page, next_none, page_front}
-use Rattle.std.proofs.Common.{◌≡◌, ℕ, ◌-◌, ◌^◌, ◌≤◌, List, [], ◌∷◌, length, map, filter, min, Bool, Option, None, Some}
-use Rattle.std.proofs.Common.{arith, length-take}
-use Rattle.std.specs.List.{sum}
-use Rattle.std.proofs.Common.{sym, ◌∙◌}
 use Rattle.std.proofs.lemmas.List.Concat.{length-flat_map}
 use Rattle.std.proofs.lemmas.List.Sums.{sum-map}
-use Rattle.cdxj_places.specs.Places.{PlaceValue, place_cmp}
 use Rattle.cdxj_places.specs.Rising.{put, rising}
-use Rattle.cdxj_core.specs.Members.{Member, member_place}
-use Rattle.query_text.specs.Queries.{QueryValue}
-use Rattle.page_core.specs.Pages.{kept}
-use Rattle.merge_core.specs.Collections.{all_lines, collection}
-use Rattle.page_writers.specs.QueryPages.{query_page}
-use Rattle.page_writers.specs.PageWriting.{captures_over, page_over}
-use Rattle.query_core.proofs.AskedLemmas.{asked_is}
 
 -- an empty page has none
 pub none_follows : (limit : Option ℕ) → is_some (page limit []).next ≡ false
@@ -78,9 +66,9 @@ pub page_reached : {S : Type 0} (text : S → Option (List ℕ)) (extent gave : 
     {old middle : Option (List ℕ)} (new : Option (List ℕ)) (olds news : List S) {taken : List Member}
     (earlier tail : List Member) → Writing q old middle taken → Grows middle new
     → OverIndexes LINE_LIMIT (map text olds) (λ texts indexes. AreFirst q (collection indexes) taken)
-    → captures q taken ≡ captures q earlier ++ tail
-    → AreAtMost q.limit (captures q earlier) → GaveFor q (map text olds) extent gave earlier olds news
-    → OverIndexes LINE_LIMIT (map text olds) (λ texts indexes. GaveInReach extent gave q texts indexes old new olds news)
+    → captures q taken ≡ captures q earlier ++ tail → AreAtMost q.limit (captures q earlier)
+    → GaveFor q (map text olds) extent gave earlier olds news → OverIndexes LINE_LIMIT (map text olds)
+    (λ texts indexes. GaveInReach extent gave q texts indexes old new olds news)
 page_reached text extent gave {q} {old} {middle} new olds news {taken} earlier tail w grows first split most within =
     λ texts indexes known are.
     let front = first texts indexes known are in

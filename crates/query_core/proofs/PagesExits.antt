@@ -54,5 +54,5 @@ module _ (first : PagesWriter) (q : QueryValue) (sizes : List ℕ) (is : (first.
       → WrotePagesInPart q lines sizes start now
   any_front taken rest now split (inl k) =
       wrote_front q sizes positive lines rise (captures q taken) start now rest split (between k.0.writer taken now k.1)
-  any_front taken rest now split (inr p) = wrote_front q sizes positive lines rise (captures q taken) start now rest split
-      (rw (is.0, is.1, is.2) at p)
+  any_front taken rest now split (inr p) =
+      wrote_front q sizes positive lines rise (captures q taken) start now rest split (rw (is.0, is.1, is.2) at p)

@@ -1,7 +1,7 @@
 -- What was read of indexes, beside the reach of a page.
-use Rattle.std.proofs.Common.{◌≡◌, ℕ, zero, suc, ◌≤◌, List, [], ◌∷◌, ◌++◌, length, map, filter, zip, Bool}
-use Rattle.std.proofs.Common.{true, false, not, ◌&&◌, Option, None, Some, refl, sym, ap, ◌∙◌, subst, arith}
-use Rattle.std.proofs.Common.{min, ◌-◌, ◌^◌, append_assoc, append-nil, Ordering, Less, Equal, Greater, nat_cmp, is_gt, is_lt}
+use Rattle.std.proofs.Common.{◌≡◌, ℕ, zero, suc, ◌≤◌, List, [], ◌∷◌, ◌++◌, length, map, filter, zip, Bool, true, false}
+use Rattle.std.proofs.Common.{not, ◌&&◌, Option, None, Some, refl, sym, ap, ◌∙◌, subst, arith, min, ◌-◌, ◌^◌}
+use Rattle.std.proofs.Common.{append_assoc, append-nil, Ordering, Less, Equal, Greater, nat_cmp, is_gt, is_lt}
 use Rattle.std.specs.List.{AllByRecursion, sum, AllZip}
 use Rattle.std.specs.Ordering.{ordering_then, ordering_reverse}
 use Rattle.std.specs.Cmp.Lexicographic.{slice_cmp}
@@ -43,8 +43,7 @@ use Rattle.merge_core.proofs.RunLemmas.{parts_are, parts_count, parts_first, par
 use Rattle.merge_core.proofs.SpendLemmas.{are_read_to}
 use Rattle.merge_core.proofs.WholeLemmas.{texts_kept}
 use Rattle.query_text.proofs.RangeLaw.{past_upward}
-use Rattle.query_core.proofs.AskedLemmas.{captures}
-use Rattle.query_core.proofs.AskedLemmas.{wanted_within}
+use Rattle.query_core.proofs.AskedLemmas.{captures, wanted_within}
 use Rattle.page_writers.specs.PageWriting.{is_wanted, captures_over, place_before}
 use Rattle.query_core.specs.Reach.{pair_after, follower, is_within, in_reach}
 use Rattle.query_core.specs.Passes.{AreAtMost, GaveFor, IsOfParts, ReadFor, Took}

@@ -77,8 +77,9 @@ module _ (limit : ℕ) where
       let ordered = stays first.earlier first.member first.later
       (subst (NeverFalls member_pair pair_cmp) first.split index.ordered) in
       let is_earlier : first.member ≡ out.earlier = cc in
-      let here = next_stays first.member out.line out.begins.after first.later out.later first.others ordered out.later_is
-      in grind arith
+      let here = next_stays first.member out.line out.begins.after first.later out.later first.others ordered
+      out.later_is in
+      grind arith
 
   -- the source with this number tells the bytes of an index
   record ToldIndex (told : Option (List ℕ)) : Type 0 where

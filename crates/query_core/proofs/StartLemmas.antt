@@ -1,7 +1,6 @@
 -- Nothing that is wanted stands below the start of a page.
-use Rattle.std.proofs.Common.{◌≡◌, ℕ, zero, suc, ◌<◌, ◌≤◌, List, [], ◌∷◌, length, true, false, Option, None}
-use Rattle.std.proofs.Common.{Some, refl, ap, ◌∙◌, arith, Ordering, Less, Equal, Greater, nat_cmp, is_gt, is_lt, All}
-use Rattle.std.proofs.Common.{eqb-true}
+use Rattle.std.proofs.Common.{◌≡◌, ℕ, zero, suc, ◌<◌, ◌≤◌, List, [], ◌∷◌, length, true, false, Option, None, Some, refl}
+use Rattle.std.proofs.Common.{ap, ◌∙◌, arith, Ordering, Less, Equal, Greater, nat_cmp, is_gt, is_lt, All, eqb-true}
 use Rattle.std.specs.Char.{is_ascii_digit}
 use Rattle.std.specs.Ordering.{ordering_then, ordering_reverse}
 use Rattle.std.specs.Cmp.Lexicographic.{slice_cmp}

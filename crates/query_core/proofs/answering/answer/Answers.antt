@@ -16,11 +16,10 @@ use Rattle.page_writers.specs.QueryPages.{answer_text, query_page}
 use Rattle.devices.specs.Device.{AppendsPrefix}
 use Rattle.page_writers.specs.WriterView.{Wrote}
 use Rattle.query_core.specs.declared.sinks.PageSink.{PageSink}
-use Rattle.query_core.proofs.AskedLemmas.{captures}
-use Rattle.query_core.proofs.AskedLemmas.{Writing, asked_is, end_front, page_broke, page_ended, settles, stood}
+use Rattle.query_core.proofs.AskedLemmas.{captures, Writing, asked_is, end_front, page_broke, page_ended, settles}
+use Rattle.query_core.proofs.AskedLemmas.{stood}
 use Rattle.page_core.proofs.PageLemmas.{front-start}
-use Rattle.query_core.proofs.PageReach.{page_fewer}
-use Rattle.query_core.proofs.PageReach.{all_read, none_follows, page_not_reached, page_reached, within_page}
+use Rattle.query_core.proofs.PageReach.{page_fewer, all_read, none_follows, page_not_reached, page_reached, within_page}
 use Rattle.query_core.proofs.answering.answer.Given.{Over}
 use Rattle.query_core.proofs.answering.answer.Goals.{In_ok-writer, In_err-pass, In_ok-pass}
 use Rattle.query_core.proofs.answering.answer.Goals as goal
@@ -68,8 +67,7 @@ writing g c = record {
 }
 
 -- the page of lines of which these were taken, if they settle it
-settled : (g : Over) (c : In_ok-pass g) (all rest : List Member)
-    → captures c.args.query.now all
+settled : (g : Over) (c : In_ok-pass g) (all rest : List Member) → captures c.args.query.now all
     ≡ captures c.args.query.now c.in_ok-pass.ensures.took.lines ++ rest
     → (c.in_ok-pass.pass.all ≡ true → captures c.args.query.now all
     ≡ captures c.args.query.now c.in_ok-pass.ensures.took.lines)
@@ -87,8 +85,7 @@ settled_over g c texts indexes known are =
     settled g c (collection indexes) first.0 first.1 (λ e. took.whole e texts indexes known are)
 
 -- the page of lines of which these were taken before a fault
-broken : (g : Over) (c : In_err-pass g) (all rest : List Member)
-    → captures c.args.query.now all
+broken : (g : Over) (c : In_err-pass g) (all rest : List Member) → captures c.args.query.now all
     ≡ captures c.args.query.now c.in_err-pass.ensures.broke.lines ++ rest
     → AppendsPrefix (g.O.Output.written c.args.out.now) (g.O.Output.written c.read_lines.new.out)
     (answer_text c.args.query.now (query_page c.args.query.now all))

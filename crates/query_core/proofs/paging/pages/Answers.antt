@@ -71,8 +71,7 @@ before g c sized lines rise =
     (start_front c.args.query.now c.args.sizes.now old new positive c.in_err-writer.ensures.front)
 
 ended : (g : Over) (c : In_ok-end g) (lines : List Member) → Rises member_place place_cmp lines
-    → captures c.args.query.now lines
-    ≡ captures c.args.query.now c.in_ok-read_lines.ensures.took.lines
+    → captures c.args.query.now lines ≡ captures c.args.query.now c.in_ok-read_lines.ensures.took.lines
     → WrotePages c.args.query.now lines c.args.sizes.now (g.O.Output.written c.args.out.now)
     (g.O.Output.written c.end.new.out) c.in_ok-end.field-0
 ended g c lines rise all =
@@ -87,8 +86,7 @@ ended g c lines rise all =
 
 unended : (g : Over) (c : In_err-end g) → are_sizes c.args.sizes.now ≡ true → (lines : List Member)
     → Rises member_place place_cmp lines
-    → captures c.args.query.now lines
-    ≡ captures c.args.query.now c.in_ok-read_lines.ensures.took.lines
+    → captures c.args.query.now lines ≡ captures c.args.query.now c.in_ok-read_lines.ensures.took.lines
     → WrotePagesInPart c.args.query.now lines c.args.sizes.now (g.O.Output.written c.args.out.now)
     (g.O.Output.written c.end.new.out)
 unended g c sized lines rise all =
@@ -102,8 +100,7 @@ unended g c sized lines rise all =
 
 broken : (g : Over) (c : In_err-read_lines g) → are_sizes c.args.sizes.now ≡ true → (lines : List Member)
     → Rises member_place place_cmp lines → (rest : List Member)
-    → captures c.args.query.now lines
-    ≡ captures c.args.query.now c.in_err-read_lines.ensures.broke.lines ++ rest
+    → captures c.args.query.now lines ≡ captures c.args.query.now c.in_err-read_lines.ensures.broke.lines ++ rest
     → WrotePagesInPart c.args.query.now lines c.args.sizes.now (g.O.Output.written c.args.out.now)
     (g.O.Output.written c.read_lines.new.out)
 broken g c sized lines rise rest split =

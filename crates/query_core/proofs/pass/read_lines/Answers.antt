@@ -1,6 +1,6 @@
 use Rattle.query_core.proofs.AskedLemmas.{captures}
-use Rattle.std.proofs.Common.{ℕ, length, ◌≡◌, Bool, true, false, refl, sym, ◌∙◌, map, arith}
-use Rattle.std.proofs.Common.{subst, List, [], ap, append-nil, Some}
+use Rattle.std.proofs.Common.{ℕ, length, ◌≡◌, Bool, true, false, refl, sym, ◌∙◌, map, arith, subst, List, [], ap}
+use Rattle.std.proofs.Common.{append-nil, Some}
 use Rattle.std.specs.List.{AllZip}
 use Rattle.std.proofs.lemmas.List.{length-map}
 use Rattle.std.proofs.lemmas.Result.{err_from_is_err_and}
@@ -13,8 +13,8 @@ use Rattle.merge_core.proofs.WholeLemmas.{extents_kept, texts_kept}
 use Rattle.devices.proofs.DeviceLemmas.{grows_not}
 use Rattle.page_writers.proofs.CaptureLemmas.{captures_append}
 use Rattle.query_core.proofs.PageOfIndexes.{Opened, reading, told, wanted_whole}
-use Rattle.query_core.proofs.ReachLemmas.{cut_all, cut_before, cut_last, gave_upto, gave_within, lines_within}
-use Rattle.query_core.proofs.ReachLemmas.{of_parts, took, within_opening}
+use Rattle.query_core.proofs.ReachLemmas.{cut_all, cut_before, cut_last, gave_upto, gave_within, lines_within, of_parts}
+use Rattle.query_core.proofs.ReachLemmas.{took, within_opening}
 use Rattle.query_core.proofs.pass.read_lines.Given.{Over}
 use Rattle.query_core.proofs.pass.read_lines.Goals.{In_ok-opened}
 use Rattle.query_core.proofs.pass.read_lines.Goals as goal
@@ -126,15 +126,12 @@ returns-clause-took g c =
     let came = passed.so_far.came in
     let r = reading (start g (goal.at.returns-clause-took g c).In_ok-opened)
     (rw c.target.ensures at passed.so_far.reached) in
-    let whole = λ (e : c.in_ok-all.all ≡ true) (texts : List (List ℕ)) (indexes : List (List Member))
-    (known : Known (map g.S.Source.text c.args.sources.now) texts) (are : AllZip (IsIndex LINE_LIMIT) texts indexes).
-    wanted_whole r texts known indexes are (passed.ended e) in
     let read = of_parts r c.lines.result c.lines.ensures c.in_ok-all.all passed.ended in
     by_truth c.in_ok-all.all _ (λ e. record {
       lines = r.taken;
       came = came;
       took = took r;
-      whole = whole;
+      whole = λ e texts indexes known are. wanted_whole r texts known indexes are (passed.ended e);
       parts = read;
       earlier = r.taken;
       later = [];
@@ -154,7 +151,7 @@ returns-clause-took g c =
       lines = r.taken;
       came = came;
       took = took r;
-      whole = whole;
+      whole = λ e texts indexes known are. wanted_whole r texts known indexes are (passed.ended e);
       parts = read;
       earlier = l.earlier;
       later = _;

@@ -7,8 +7,8 @@ use Rattle.merge_core.specs.Collections.{collection}
 use Rattle.query_core.specs.AnyReplies.{IsTextReply}
 use Rattle.query_core.specs.Conversations.{IsOneReply}
 use Rattle.query_core.specs.Replies.{reply_of}
-use Rattle.query_core.proofs.ReplyLemmas.{Turn, converses_err, line-more, line-none, line-within, nothing_replied, one_reply}
-use Rattle.query_core.proofs.ReplyLemmas.{one_reply_part, replied-front, replied-none}
+use Rattle.query_core.proofs.ReplyLemmas.{Turn, converses_err, line-more, line-none, line-within, nothing_replied}
+use Rattle.query_core.proofs.ReplyLemmas.{one_reply, one_reply_part, replied-front, replied-none}
 use Rattle.query_core.proofs.serving.serve.Given.{Over}
 use Rattle.query_core.proofs.serving.serve.Goals.{After-reply_and_mark}
 use Rattle.query_core.proofs.serving.serve.Goals as goal
