@@ -69,28 +69,19 @@ covers_itself Prefix text = begins_itself text
 covers_itself Host text = begins_itself text
 covers_itself Domain text = begins_itself text
 
-neither : (r : Ordering) → is_gt r ≡ false → is_lt r ≡ false → r ≡ Equal
-neither Less h k = cc
-neither Equal h k = refl
-neither Greater h k = cc
+covered_by : (b : Bool) (o : Ordering) → (is_gt o && not b) ≡ false → is_lt o ≡ false → (o ≡ Equal → b ≡ true)
+    → b ≡ true
+covered_by true o past low met = refl
+covered_by false Less past low met = cc
+covered_by false Equal past low met = met refl
+covered_by false Greater past low met = cc
 
 -- a key that isn't past the target, and isn't below it
 covered_where_met : (t : TargetValue) (key : List ℕ) → is_past t key ≡ false → is_lt (slice_cmp nat_cmp key t.text)
     ≡ false → covers t key ≡ true
-covered_where_met t key past low =
-    (elim (covers t key) as
-    (λ b. covers t key ≡ b → (is_gt (slice_cmp nat_cmp key t.text) && not b) ≡ false → b ≡ true) [
-      | true ↦ (λ e h. refl)
-      | false ↦ (λ e h.
-          let met = neither (slice_cmp nat_cmp key t.text)
-          (sym (and_whole (is_gt (slice_cmp nat_cmp key t.text))) ∙ h) low in
-          let same : key ≡ t.text = grind (arith, slice_cmp-IsAntisymmetric) in
-          sym e ∙ ap (covers t) same ∙ covers_itself t.kind t.text)
-    ]) refl past
-  where
-    and_whole : (a : Bool) → (a && true) ≡ a
-    and_whole true = refl
-    and_whole false = refl
+covered_where_met t key past low = covered_by (covers t key) (slice_cmp nat_cmp key t.text) past low (λ met.
+    let same : key ≡ t.text = grind (arith, slice_cmp-IsAntisymmetric) in
+    ap (covers t) same ∙ covers_itself t.kind t.text)
 
 turned : (p q : Pair) (o : Ordering) → pair_cmp p q ≡ o → is_gt o ≡ true → Below q p
 turned p q Less f h = cc

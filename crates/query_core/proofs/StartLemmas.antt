@@ -46,16 +46,16 @@ zeros (suc n) = 48 ∷ zeros n
 digit_least : (b : ℕ) → is_ascii_digit b ≡ true → 48 ≤ b
 digit_least b h = grind (arith, nat_tests)
 
+not_above : (b : ℕ) → 48 ≤ b → is_gt (nat_cmp 48 b) ≡ false
+not_above b h = grind arith
+
 least : (n : ℕ) (s : List ℕ) → length s ≡ n → All (λ b. 48 ≤ b) s → is_gt (slice_cmp nat_cmp (zeros n) s) ≡ false
 unfolding zeros
 least zero [] e h = refl
 least zero (b ∷ s) e h = absurd (omega arith)
 least (suc n) [] e h = absurd (omega arith)
 least (suc n) (b ∷ s) e h =
-    then_not_above (nat_cmp 48 b) (slice_cmp nat_cmp (zeros n) s)
-    (by_ranked (48 < b) (48 ≡ b) (b < 48) (nat_cmp 48 b) (ranked 48 b (nat_cmp 48 b) refl) (λ o less. ap is_gt o)
-    (λ o same. ap is_gt o)
-    (λ o more. absurd (let l = All-head (λ b. 48 ≤ b) b s h in omega (arith, l, more))))
+    then_not_above (nat_cmp 48 b) (slice_cmp nat_cmp (zeros n) s) (not_above b (All-head (λ b. 48 ≤ b) b s h))
     (least n s (omega arith) (All-tail (λ b. 48 ≤ b) b s h))
 
 stamp_not_below : (stamp : List ℕ) → is_stamp stamp ≡ true → is_gt (slice_cmp nat_cmp first_stamp stamp) ≡ false
