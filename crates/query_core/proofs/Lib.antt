@@ -1,6 +1,5 @@
 pub mod ConversionLemmas
 pub mod CheckLemmas
-pub mod StartLemmas
 pub mod AskedLemmas
 pub mod PageOfIndexes
 pub mod PagesExits

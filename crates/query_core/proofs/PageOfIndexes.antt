@@ -1,18 +1,19 @@
 -- What was taken of indexes, beside all that is wanted of their collection.
 use Rattle.query_core.proofs.AskedLemmas.{captures}
 use Rattle.std.proofs.Common.{arith, ◌≡◌, inl, inr, ℕ, List, [], ◌∷◌, ◌++◌, length, map, filter, zip, Bool, true, false}
-use Rattle.std.proofs.Common.{not, ◌&&◌, Option, refl, sym, ap, ◌∙◌, subst, cond, Some, None}
+use Rattle.std.proofs.Common.{not, ◌&&◌, Option, refl, sym, ap, ◌∙◌, subst, cond, Some, None, zero, suc, ◌<◌, ◌≤◌}
+use Rattle.std.proofs.Common.{Ordering, Less, Equal, Greater, nat_cmp, is_gt, is_lt, All, eqb-true}
 use Rattle.std.specs.List.{AllZip, AllByRecursion}
 use Rattle.cdxj_places.specs.Pair.{is_stamp, key_part, stamp_part, begins_with_pair, pair_of}
-use Rattle.cdxj_places.specs.Pairs.{Pair}
+use Rattle.cdxj_places.specs.Pairs.{Pair, pair_cmp}
 use Rattle.cdxj_places.proofs.PlaceOrder.{place_cmp_total}
 use Rattle.cdxj_places.proofs.RisingLaws.{each_weaker, each_rising, each_join}
 use Rattle.cdxj_core.specs.declared.limit.TheConstants.{LINE_LIMIT}
 use Rattle.cdxj_core.specs.Indexes.{IsIndex}
-use Rattle.cdxj_core.specs.Members.{Member, member_pair, line_entry}
+use Rattle.cdxj_core.specs.Members.{Member, member_pair, line_entry, member_place}
 use Rattle.query_text.specs.Queries.{QueryValue}
-use Rattle.query_text.specs.Matching.{is_past}
-use Rattle.query_text.proofs.RangeLaw.{past_upward}
+use Rattle.query_text.specs.Matching.{is_past, key_matches}
+use Rattle.query_text.proofs.RangeLaw.{past_upward, match_not_below}
 use Rattle.page_core.proofs.PageLaws.{each_kept}
 use Rattle.merge_core.specs.declared.feed.Feed.{Feed}
 use Rattle.merge_core.specs.WaitingLines.{WaitingLine, waiting_pair}
@@ -26,14 +27,80 @@ use Rattle.merge_core.specs.SourceLines.{AreLinesOf, IsLineIn, IsLineOf}
 use Rattle.merge_core.specs.Gathering.{AreTold}
 use Rattle.merge_core.specs.Spending.{CameWithin}
 use Rattle.merge_core.proofs.WholeLemmas.{told_known}
-use Rattle.query_core.specs.Starts.{start_pair}
+use Rattle.query_core.specs.Starts.{start_pair, first_stamp, later_pair}
 use Rattle.page_writers.proofs.CaptureLemmas.{kept_after, captures_split}
 use Rattle.std.proofs.lemmas.Bool.{and_parts}
 use Rattle.cdxj_places.specs.Rising.{IsIn}
 use Rattle.cdxj_places.specs.TextLines.{lines}
 use Rattle.cdxj_core.proofs.MemberLemmas.{entry_pair_is}
 use Rattle.merge_core.proofs.SourceLemmas.{taken_lines}
-use Rattle.query_core.proofs.StartLemmas.{start_not_above}
+use Rattle.std.specs.Char.{is_ascii_digit}
+use Rattle.std.specs.Ordering.{ordering_then, ordering_reverse}
+use Rattle.std.specs.Cmp.Lexicographic.{slice_cmp}
+use Rattle.std.proofs.lemmas.Bool.Decides.{nat_tests}
+use Rattle.std.proofs.lemmas.Cmp.{ranked, by_ranked}
+use Rattle.std.proofs.lemmas.List.Elements.{All-head, All-tail}
+use Rattle.cdxj_places.specs.Places.{PlaceValue, place_cmp}
+use Rattle.cdxj_places.proofs.PairLemmas.{pair_cmp_total}
+use Rattle.page_core.specs.Pages.{is_above}
+
+-- ---- nothing that is wanted stands below the start of a page
+
+then_not_above : (a b : Ordering) → is_gt a ≡ false → is_gt b ≡ false → is_gt (ordering_then a b) ≡ false
+then_not_above Less b h k = refl
+then_not_above Equal b h k = k
+then_not_above Greater b h k = h
+
+lt_reverse : (r : Ordering) → is_gt r ≡ false → is_lt (ordering_reverse r) ≡ false
+lt_reverse Less h = refl
+lt_reverse Equal h = refl
+lt_reverse Greater h = cc
+
+-- a pair that isn't above that of a line
+not_low : (pair : Pair) (m : Member) → is_gt (pair_cmp pair (member_pair m)) ≡ false → is_low pair m ≡ false
+not_low pair m h = ap is_lt (pair_cmp_total.antisymm (member_pair m) pair) ∙ lt_reverse _ h
+
+zeros : ℕ → List ℕ
+zeros zero = []
+zeros (suc n) = 48 ∷ zeros n
+
+digit_least : (b : ℕ) → is_ascii_digit b ≡ true → 48 ≤ b
+digit_least b h = grind (arith, nat_tests)
+
+not_above : (b : ℕ) → 48 ≤ b → is_gt (nat_cmp 48 b) ≡ false
+not_above b h = grind arith
+
+least : (n : ℕ) (s : List ℕ) → length s ≡ n → All (λ b. 48 ≤ b) s → is_gt (slice_cmp nat_cmp (zeros n) s) ≡ false
+unfolding zeros
+least zero [] e h = refl
+least zero (b ∷ s) e h = absurd (omega arith)
+least (suc n) [] e h = absurd (omega arith)
+least (suc n) (b ∷ s) e h =
+    then_not_above (nat_cmp 48 b) (slice_cmp nat_cmp (zeros n) s) (not_above b (All-head (λ b. 48 ≤ b) b s h))
+    (least n s (omega arith) (All-tail (λ b. 48 ≤ b) b s h))
+
+stamp_not_below : (stamp : List ℕ) → is_stamp stamp ≡ true → is_gt (slice_cmp nat_cmp first_stamp stamp) ≡ false
+unfolding zeros
+stamp_not_below stamp h = grind (arith, least, eqb-true, and_parts, digit_least)
+
+later_not_low : (pair : Pair) (from : Option PlaceValue) (m : Member) → is_low pair m ≡ false
+    → is_above member_place place_cmp from m ≡ true → is_low (later_pair pair from) m ≡ false
+later_not_low pair None m h k = h
+later_not_low pair (Some p) m h k = grind arith
+
+wanted_key : (q : QueryValue) (from : Option PlaceValue) (m : Member) → is_wanted q from m ≡ true
+    → key_matches q.target m.values.key ≡ true
+wanted_key q from m h = grind arith
+
+-- a line with a stamp that is wanted doesn't stand below the start
+start_not_above : (q : QueryValue) (from : Option PlaceValue) (m : Member) → is_stamp m.values.stamp ≡ true
+    → is_wanted q from m ≡ true → is_low (start_pair q from) m ≡ false
+start_not_above q from m s h =
+    later_not_low (q.target.text, first_stamp) from m
+    (not_low (q.target.text, first_stamp) m
+    (grind (arith, then_not_above, match_not_below, wanted_key, stamp_not_below))) (grind (arith, and_parts))
+
+-- ---- every line of an index has a stamp
 
 -- a line has a stamp
 line_stamp : (limit : ℕ) (t : List ℕ) (m : Member) → IsLineIn limit t m → is_stamp m.values.stamp ≡ true
@@ -95,6 +162,8 @@ known_stamp (o ∷ os) (t ∷ ts) m k h = elim (subst (λ o. IsLineOf LINE_LIMIT
   | inl here ↦ line_stamp LINE_LIMIT t m here
   | inr later ↦ known_stamp os ts m k.1 later
 ]
+
+-- ---- what was taken
 
 -- Of these sources lines are taken, from where the search for the page's start ended
 module _ {S : Type 0} (text : S → Option (List ℕ)) (extent gave : S → ℕ) (q : QueryValue) (olds : List S) where
