@@ -1,12 +1,8 @@
 use Rattle.query_core.proofs.AskedLemmas.{captures}
-use Rattle.std.proofs.Common.{ℕ, length, ◌≡◌, Bool, true, false, refl, sym, ◌∙◌, map, arith, subst, List, [], ap}
+use Rattle.std.proofs.Common.{length, ◌≡◌, Bool, true, false, refl, sym, ◌∙◌, arith, subst, [], ap}
 use Rattle.std.proofs.Common.{append-nil, Some}
-use Rattle.std.specs.List.{AllZip}
 use Rattle.std.proofs.lemmas.List.{length-map}
 use Rattle.std.proofs.lemmas.Result.{err_from_is_err_and}
-use Rattle.cdxj_core.specs.declared.limit.TheConstants.{LINE_LIMIT}
-use Rattle.cdxj_core.specs.Indexes.{IsIndex}
-use Rattle.cdxj_core.specs.Members.{Member}
 use Rattle.merge_core.specs.Collections.{Known}
 use Rattle.query_core.proofs.ConversionLemmas.{merge_line}
 use Rattle.merge_core.proofs.WholeLemmas.{extents_kept, texts_kept}
