@@ -11,7 +11,7 @@ use Rattle.source_core.proofs.SortedCuts.{begins_at}
 use Rattle.query_core.specs.declared.fault.AnswerFault.{AnswerFault}
 use Rattle.query_core.specs.declared.fault.AnswerFault.TheVariants as fault
 use Rattle.merge_core.specs.NextLine.{IsNextLine}
-use Rattle.query_core.specs.Checking.{IsLineFaultAt, IsLastOf, FallsAfter, EndsInBadLine, EndsOutOfOrder, IsChecked}
+use Rattle.query_core.specs.Checking.{IsLineFaultAt, IsLastOf, FallsAfter, EndsOutOfOrder, IsChecked}
 use Rattle.std.specs.List.{AllByRecursion}
 use Rattle.cdxj_places.specs.Pairs.{pair_cmp}
 use Rattle.cdxj_places.specs.Rising.{NeverFalls}
@@ -54,7 +54,7 @@ module _ (limit : ℕ) (t : List ℕ) where
         let grown = take_next count (lines t) next.0 (lines (drop to t)) (sym checked.rest ∙ next.1) in
         record {
           members = checked.members ++ m ∷ [];
-          run = subst (λ ls. IsRun limit ls (checked.members ++ m ∷ [])) (sym grown)
+          run = rw grown
               (run_push limit (take count (lines t)) checked.members previous next.0 m checked.run checked.last next.2
               stays);
           last = (checked.members, refl);
@@ -100,15 +100,14 @@ module _ (limit : ℕ) (t : List ℕ) where
       checked_fault fault.Memory known = tt
       checked_fault (fault.Read i) known = tt
       checked_fault fault.Write known = absurd known
-      checked_fault (fault.BadLine i offset) known = let bad = known.2 in subst (EndsInBadLine limit t) (sym known.1)
-          (record {
-            before = take count (lines t);
-            line = bad.0;
-            begins = begins bad.0 bad.1 bad.2;
-            members = checked.members;
-            run = checked.run;
-            bad = bad.3;
-          })
+      checked_fault (fault.BadLine i offset) known = let bad = known.2 in rw known.1 (record {
+        before = take count (lines t);
+        line = bad.0;
+        begins = begins bad.0 bad.1 bad.2;
+        members = checked.members;
+        run = checked.run;
+        bad = bad.3;
+      })
       checked_fault (fault.OutOfOrder i offset) known = absurd known
       checked_fault fault.TooManySources known = absurd known
       checked_fault fault.BadSizes known = absurd known

@@ -25,7 +25,6 @@ use Rattle.query_text.specs.Matching.{begins, kind_covers, covers, is_past}
 use Rattle.query_text.specs.declared.target.MatchKind.{MatchKind}
 use Rattle.query_text.specs.declared.target.MatchKind.TheVariants.{Exact, Prefix, Host, Domain}
 use Rattle.page_core.proofs.PageLaws.{each_kept}
-use Rattle.source_core.specs.Search.{IsCut}
 use Rattle.merge_core.specs.declared.feed.Feed.{Feed}
 use Rattle.merge_core.specs.PairOrders.{Alike, Below, IsAbove, IsUpto, Upto, is_low}
 use Rattle.merge_core.specs.WaitingLines.{waiting_pair}
@@ -182,7 +181,7 @@ module _ {S : Type 0} {text : S → Option (List ℕ)} {extent gave : S → ℕ}
         back = kept_after q q.resume p group ++ first.0;
         whole = grind (arith, captures_append, append_assoc, kept_after);
         later = λ m upto.
-            let low : Upto (member_pair m) pair = subst (λ o. IsUpto o (member_pair m)) bound upto in
+            let low = rw bound at upto in
             each_join (λ v. Upto (member_pair m) (member_pair v)) (kept_after q q.resume p group) first.0
             (each_kept member_place place_cmp (same_part q.collapse) place_cmp_total
             (λ v. Upto (member_pair m) (member_pair v)) p group
@@ -190,7 +189,7 @@ module _ {S : Type 0} {text : S → Option (List ℕ)} {extent gave : S → ℕ}
             (member_pair m) pair (member_pair v) low (same_from (member_pair v) pair h.0)) group
             (each_filter (λ v. Alike (member_pair v) pair) (is_wanted q q.resume) others alike)))
             (each_weaker (λ (v : Member) (h : IsAbove r.bound (member_pair v)). upto_upto (member_pair m) pair
-            (member_pair v) low (below_upto pair (member_pair v) (subst (λ o. IsAbove o (member_pair v)) bound h)))
+            (member_pair v) low (below_upto pair (member_pair v) (rw bound at h)))
             first.0 first.2);
       }
 
@@ -247,9 +246,9 @@ module _ {S : Type 0} {text : S → Option (List ℕ)} {extent gave : S → ℕ}
         (two_each (Move text extent gave)
         (λ (x : S × Feed). IsCutAt LINE_LIMIT (start_pair q q.resume) (text x.0) x.1.cursor)
         (λ (x : S × Feed). IsCutAt LINE_LIMIT (start_pair q q.resume) (text x.0) x.1.cursor)
-        (λ x y m c. λ t members e i. subst (λ n. IsCut (start_pair q q.resume) t members n) (sym m.start_kept)
-        (c t members (sym m.text_kept ∙ e) i)) (zip r.opened r.begun) (zip r.sources r.feeds) r.reached.moved
-        r.start.cut) r.reached.ready.fed (r.reached.handed.told (told r texts known)).1 in
+        (λ x y m c. λ t members e i. rw m.start_kept (c t members (sym m.text_kept ∙ e) i)) (zip r.opened r.begun)
+        (zip r.sources r.feeds) r.reached.moved r.start.cut) r.reached.ready.fed
+        (r.reached.handed.told (told r texts known)).1 in
         omega (
           arith,
           counted,

@@ -1,7 +1,7 @@
 -- Of an index no line is at fault.
 use Rattle.std.specs.List.{AllZip, AllByRecursion}
 use Rattle.std.proofs.Common.{◌≡◌, ◌<◌, ℕ, zero, suc, List, [], ◌∷◌, ◌++◌, length, get_or, map, Option, None, Some}
-use Rattle.std.proofs.Common.{arith, refl, sym, ap, ◌∙◌, subst, append_assoc, false, is_gt}
+use Rattle.std.proofs.Common.{arith, refl, ap, ◌∙◌, append_assoc, false, is_gt}
 use Rattle.cdxj_places.specs.Pairs.{pair_cmp}
 use Rattle.cdxj_places.specs.Rising.{NeverFalls}
 use Rattle.cdxj_core.specs.declared.limit.TheConstants.{LINE_LIMIT}
@@ -52,8 +52,7 @@ module _ (limit : ℕ) where
   pub no_bad_line : (text : List ℕ) (members : List Member) (offset : ℕ) → IsIndex limit text members
       → IsBadLine limit text offset → ⊥
   no_bad_line text members offset index bad =
-      let found = entries_at bad.before bad.line bad.begins.after members
-      (ap (map (line_entry limit)) (sym bad.begins.lines_are) ∙ index.entries) in
+      let found = entries_at bad.before bad.line bad.begins.after members (rw bad.begins.lines_are at index.entries) in
       grind arith
 
   stays : (us : List Member) (m : Member) (vs : List Member) → NeverFalls member_pair pair_cmp (us ++ m ∷ vs)
@@ -73,9 +72,8 @@ module _ (limit : ℕ) where
   none_out_of_order text members offset index out =
       let cut = out.begins.lines_are ∙ append_assoc out.before (out.previous ∷ []) (out.line ∷ out.begins.after) in
       let first = entries_at out.before out.previous (out.line ∷ out.begins.after) members
-      (ap (map (line_entry limit)) (sym cut) ∙ index.entries) in
-      let ordered = stays first.earlier first.member first.later
-      (subst (NeverFalls member_pair pair_cmp) first.split index.ordered) in
+      (rw cut at index.entries) in
+      let ordered = stays first.earlier first.member first.later (rw first.split at index.ordered) in
       let is_earlier : first.member ≡ out.earlier = cc in
       let here = next_stays first.member out.line out.begins.after first.later out.later first.others ordered
       out.later_is in

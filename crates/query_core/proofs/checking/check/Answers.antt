@@ -1,11 +1,9 @@
-use Rattle.std.proofs.Common.{◌≡◌, ◌+◌, ℕ, Box, Global, Option, None, Some, option_map, refl, sym, ◌∙◌, subst, arith}
+use Rattle.std.proofs.Common.{◌≡◌, ◌+◌, ℕ, Box, Global, Option, None, Some, option_map, refl, ◌∙◌, arith}
 use Rattle.std.specs.Prelude.{MatchOption}
 use Rattle.std.proofs.lemmas.Result.{err_from_is_err_and}
 use Rattle.cdxj_core.specs.declared.limit.TheConstants.{LINE_LIMIT}
 use Rattle.cdxj_core.specs.declared.line.Line.{Line}
 use Rattle.cdxj_core.specs.Members.{Member}
-use Rattle.merge_core.specs.NextLine.{IsNextLine}
-use Rattle.query_core.specs.Checking.{EndsOutOfOrder}
 use Rattle.query_core.proofs.CheckLemmas.{checked_more, checked_whole, checked_falls, checked_fault}
 use Rattle.query_core.proofs.checking.check.Goals as goal
 
@@ -30,10 +28,8 @@ returns-then-falls_after-clause-checked g c =
     λ t e.
     let told : g.S.Source.text c.loop-previous.source ≡ Some t = inv.text ∙ e in
     let long = inv.long t e in
-    let next = subst (λ o. IsNextLine LINE_LIMIT t c.loop-previous.cursor.at c.next_line.new.cursor.at (value o))
-    c.in-Some.is (c.in_ok-line.ensures.line t told) in
-    subst (EndsOutOfOrder LINE_LIMIT t) (sym inv.offset)
-    (checked_falls LINE_LIMIT t (inv.told t e)
+    let next = rw c.in-Some.is at (c.in_ok-line.ensures.line t told) in
+    rw inv.offset (checked_falls LINE_LIMIT t (inv.told t e)
     (omega (arith, long, inv.stands.filled.within, inv.extent)) c.next_line.new.cursor.at c.in-Some.line.value next
     (rw c.deref.ensures at (c.falls_after.ensures.falls c.if-falls_after.true)))
 
@@ -41,8 +37,7 @@ pub loop-previous-preserved : goal.loop-previous-preserved
 loop-previous-preserved g c =
     let inv = c.loop-previous.invariant in
     let ok = c.in_ok-line.ensures in
-    let counted = subst (λ o. MatchOption o (c.next_line.new.cursor.count ≡ c.loop-previous.cursor.count)
-    (λ _. c.next_line.new.cursor.count ≡ c.loop-previous.cursor.count + 1)) c.in-Some.is ok.count in
+    let counted = rw c.in-Some.is at ok.count in
     record {
       text = ok.text ∙ inv.text;
       extent = ok.extent ∙ inv.extent;
@@ -53,8 +48,7 @@ loop-previous-preserved g c =
       long = inv.long;
       told = λ t e.
           let told : g.S.Source.text c.loop-previous.source ≡ Some t = inv.text ∙ e in
-          let next = subst (λ o. IsNextLine LINE_LIMIT t c.loop-previous.cursor.at c.next_line.new.cursor.at (value o))
-          c.in-Some.is (ok.line t told) in
+          let next = rw c.in-Some.is at (ok.line t told) in
           let more = checked_more LINE_LIMIT t (inv.told t e) c.next_line.new.cursor.at c.in-Some.line.value next
           (rw c.deref.ensures at (c.falls_after.ensures.stays c.if-falls_after.false)) in
           rw (counted, c.replace.ensures.after) more;
@@ -79,6 +73,5 @@ returns-clause-checked g c =
     checked_whole LINE_LIMIT t (inv.told t e)
     c.next_line.new.cursor.at c.count.result (value c.in_ok-line.field-0) (ok.line t told)
     (counted c.in_ok-line.field-0 c.count.result c.loop-previous.cursor.count
-    (subst (λ n. MatchOption c.in_ok-line.field-0 (n ≡ c.loop-previous.cursor.count)
-    (λ _. n ≡ c.loop-previous.cursor.count + 1)) (sym c.count.ensures) ok.count))
+    (rw (← c.count.ensures) at ok.count))
     (not_some c.in_ok-line.field-0 c.in_default.not-Some)
