@@ -15,7 +15,7 @@ use Rattle.merge_core.specs.declared.feed.Progress.TheVariants.{Due, Waiting, Pa
 use Rattle.merge_core.specs.declared.feed.Feed.{Feed}
 use Rattle.line_queue.specs.WaitingLines.{WaitingLine, waits_of}
 use Rattle.merge_core.specs.Feeds.{AreWaits, IsHead, FedOf, Fed, AreFed, Ready, given, done, due, option_list}
-use Rattle.merge_core.specs.Gathering.{EndsAt}
+use Rattle.merge_core.specs.Gathering.{IsDue}
 use Rattle.line_queue.specs.PairOrders.{Upto}
 use Rattle.line_queue.proofs.PairOrder.{upto_itself}
 use Rattle.cdxj_places.proofs.RisingLaws.{each_join}
@@ -92,20 +92,21 @@ module _ (limit : ℕ) (past : List ℕ → Bool) {S : Type 0} (text : S → Opt
         ss fs ws ws' p h.1,
   )
 
-  -- the line of a source that waits is taken
-  due_of : (t : List ℕ) (f : Feed) (m : Member) (ws : List Member) → AreWaits f.progress (m ∷ ws)
-      → FedOf limit past t f (m ∷ ws) → (given limit t f.cursor ≡ done limit t f ++ m ∷ [])
-      × (done limit t (due f) ≡ done limit t f ++ m ∷ []) × (past m.values.key ≡ false)
-  due_of t f m ws waits h =
+-- the line of a source that waits is taken
+module _ {limit : ℕ} {past : List ℕ → Bool} {f : Feed} {m : Member} {ws : List Member} where
+  due_of : {t : List ℕ} → AreWaits f.progress (m ∷ ws) → FedOf limit past t f (m ∷ ws)
+      → (given limit t f.cursor ≡ done limit t f ++ m ∷ []) × (done limit t (due f) ≡ done limit t f ++ m ∷ [])
+      × (past m.values.key ≡ false)
+  due_of {t = t} waits h =
       let only = only_waits f.progress m ws waits in
       let head = subst (λ (p : Progress). IsHead limit past (done limit t f) (given limit t f.cursor)
       (lines (drop f.cursor.at t)) (m ∷ ws) p) only.0 h.head in
       let all : given limit t f.cursor ≡ done limit t f ++ m ∷ [] = grind arith in
       (all, done_due limit t (due f) refl ∙ all, head.1.0)
 
-  pub fed_due : (text : Option (List ℕ)) (extent : ℕ) (f : Feed) (m : Member) (ws : List Member)
-      → Fed limit past text extent f (m ∷ ws) → Fed limit past text extent (due f) ws
-  fed_due text extent f m ws h = record {
+  fed_due : {text : Option (List ℕ)} {extent : ℕ} → Fed limit past text extent f (m ∷ ws)
+      → Fed limit past text extent (due f) ws
+  fed_due h = record {
     stands = h.stands;
     waits = (only_waits f.progress m ws h.waits).1;
     counted = omega arith;
@@ -114,124 +115,109 @@ module _ (limit : ℕ) (past : List ℕ → Bool) {S : Type 0} (text : S → Opt
         grind (arith, due_of, each_join, done_due);
   }
 
-  -- the first in turn is taken out
-  module _ (ss : List S) (fs : List Feed) (ws0 ws : List WaitingLine) (w : WaitingLine) (a : S) (b : Feed)
-      (ready : Ready limit past text extent ss fs ws0) (p : IsPermutation ws0 (w ∷ ws)) where
-    abbrev popped : List Feed
-    popped = set fs w.source (due (get_or fs w.source b))
+-- sources and feeds that are ready
+module _ {limit : ℕ} {past : List ℕ → Bool} {S : Type 0} {text : S → Option (List ℕ)} {extent : S → ℕ} {ss : List S}
+    {fs : List Feed} {ws : List WaitingLine} (ready : Ready limit past text extent ss fs ws) where
+  ready_permuted : (ws' : List WaitingLine) → IsPermutation ws ws' → Ready limit past text extent ss fs ws'
+  ready_permuted ws' p = record {
+    same = ready.same;
+    placed = each_permuted (λ (v : WaitingLine). v.source < length fs) ws ws' p ready.placed;
+    fed = fed_permuted limit past text extent 0 ss fs ws ws' p ready.fed;
+  }
 
-    placed_all : AllByRecursion (λ (v : WaitingLine). v.source < length fs) (w ∷ ws)
-    placed_all = each_permuted (λ (v : WaitingLine). v.source < length fs) ws0 (w ∷ ws) p ready.placed
+  ready_at : (i : ℕ) (a : S) (b : Feed) → i < length ss
+      → Fed limit past (text (get_or ss i a)) (extent (get_or ss i a)) (get_or fs i b) (waits_of i ws)
+  ready_at i a b l = subst (λ n. Fed limit past (text (get_or ss i a)) (extent (get_or ss i a)) (get_or fs i b)
+      (waits_of n ws)) (let q : 0 + i ≡ i = omega arith in q)
+      (fed_at limit past text extent 0 i ss fs ws a b ready.same l ready.fed)
 
-    pub inside_feeds : w.source < length fs
-    inside_feeds = placed_all.0
+  ready_set : (i : ℕ) (s : S) (f : Feed) (ws' : List WaitingLine) → ((j : ℕ) → j ≢ i → waits_of j ws' ≡ waits_of j ws)
+      → AllByRecursion (λ (v : WaitingLine). v.source < length fs) ws'
+      → Fed limit past (text s) (extent s) f (waits_of i ws') → Ready limit past text extent (set ss i s) (set fs i f) ws'
+  ready_set i s f ws' others placed fed = record {
+    same = grind (arith, length-set);
+    placed = simp length-set placed;
+    fed = grind (arith, fed_set);
+  }
 
-    pub inside_sources : w.source < length ss
-    inside_sources = let l = placed_all.0 in omega arith
+-- the first in turn is taken out
+module _ {limit : ℕ} {past : List ℕ → Bool} {S : Type 0} {text : S → Option (List ℕ)} {extent : S → ℕ} {ss : List S}
+    {fs : List Feed} {ws0 ws : List WaitingLine} {w : WaitingLine} (ready : Ready limit past text extent ss fs ws0)
+    (p : IsPermutation ws0 (w ∷ ws)) (a : S) (b : Feed) where
+  all_ready : Ready limit past text extent ss fs (w ∷ ws)
+  all_ready = ready_permuted ready (w ∷ ws) p
 
-    fed_all : AreFed limit past text extent 0 ss fs (w ∷ ws)
-    fed_all = fed_permuted 0 ss fs ws0 (w ∷ ws) p ready.fed
+  pub inside_sources : w.source < length ss
+  inside_sources = let l = all_ready.placed.0 in let same = ready.same in omega arith
 
-    pub fed_here : Fed limit past (text (get_or ss w.source a)) (extent (get_or ss w.source a)) (get_or fs w.source b)
-        (w.member ∷ waits_of w.source ws)
-    fed_here = subst (Fed limit past (text (get_or ss w.source a)) (extent (get_or ss w.source a))
-        (get_or fs w.source b)) (grind arith) (fed_at 0 w.source ss fs (w ∷ ws) a b ready.same inside_sources fed_all)
+  fed_here : Fed limit past (text (get_or ss w.source a)) (extent (get_or ss w.source a)) (get_or fs w.source b)
+      (w.member ∷ waits_of w.source ws)
+  fed_here = subst (Fed limit past (text (get_or ss w.source a)) (extent (get_or ss w.source a))
+      (get_or fs w.source b)) (grind arith) (ready_at all_ready w.source a b inside_sources)
 
-    pub none_left : waits_of w.source ws ≡ []
-    none_left = (only_waits (get_or fs w.source b).progress w.member (waits_of w.source ws) fed_here.waits).1
+  pub none_left : waits_of w.source ws ≡ []
+  none_left = (only_waits (get_or fs w.source b).progress w.member (waits_of w.source ws) fed_here.waits).1
 
-    pub popped_ready : Ready limit past text extent ss popped ws
-    popped_ready = record {
-      same = ready.same ∙ sym (length-set fs w.source (due (get_or fs w.source b)));
-      placed = subst (λ n. AllByRecursion (λ (v : WaitingLine). v.source < n) ws)
-          (sym (length-set fs w.source (due (get_or fs w.source b)))) placed_all.1;
-      fed = subst (λ us. AreFed limit past text extent 0 us popped ws) (set-get_or ss w.source a)
-          (fed_set 0 w.source ss fs (w ∷ ws) ws (get_or ss w.source a) (due (get_or fs w.source b))
-          (λ j q. sym (waits_other j w ws (λ e. absurd (omega arith)))) fed_all
-          (subst (λ n. Fed limit past (text (get_or ss w.source a)) (extent (get_or ss w.source a))
-          (due (get_or fs w.source b)) (waits_of n ws)) (let q : w.source ≡ 0 + w.source = omega arith in q)
-          (fed_due (text (get_or ss w.source a)) (extent (get_or ss w.source a)) (get_or fs w.source b) w.member
-          (waits_of w.source ws) fed_here)));
-    }
+  pub popped_ready : Ready limit past text extent ss (set fs w.source (due (get_or fs w.source b))) ws
+  popped_ready = subst (λ us. Ready limit past text extent us (set fs w.source (due (get_or fs w.source b))) ws)
+      (set-get_or ss w.source a) (ready_set all_ready w.source (get_or ss w.source a) (due (get_or fs w.source b)) ws
+      (λ j q. sym (waits_other j w ws (λ e. absurd (omega arith)))) all_ready.placed.1
+      (fed_due fed_here))
 
-    pub popped_done : (t : List ℕ) → text (get_or ss w.source a) ≡ Some t → done limit t (due (get_or fs w.source b))
-        ≡ done limit t (get_or fs w.source b) ++ w.member ∷ []
-    popped_done t e = (due_of t (get_or fs w.source b) w.member (waits_of w.source ws) fed_here.waits
-        (fed_here.told t e)).1
+  both : (t : List ℕ) → text (get_or ss w.source a) ≡ Some t
+      → (given limit t (get_or fs w.source b).cursor ≡ done limit t (get_or fs w.source b) ++ w.member ∷ [])
+      × (done limit t (due (get_or fs w.source b)) ≡ done limit t (get_or fs w.source b) ++ w.member ∷ [])
+  both t e = let d = due_of fed_here.waits (fed_here.told t e) in (d.0, d.1)
 
-    pub popped_last : (t : List ℕ) → text (get_or ss w.source a) ≡ Some t
-        → EndsAt (member_pair w.member) (done limit t (due (get_or fs w.source b)))
-    popped_last t e = (
-      done limit t (get_or fs w.source b),
-      w.member,
-      popped_done t e,
-      upto_itself
-          (member_pair w.member),
-    )
+  pub popped_done : (t : List ℕ) → text (get_or ss w.source a) ≡ Some t
+      → done limit t (due (get_or fs w.source b)) ≡ done limit t (get_or fs w.source b) ++ w.member ∷ []
+  popped_done t e = (both t e).1
 
-    pub popped_low : (t : List ℕ) → text (get_or ss w.source a) ≡ Some t
-        → AllByRecursion (λ m. Upto (member_pair m) (member_pair w.member)) (done limit t (due (get_or fs w.source b)))
-    popped_low t e =
+  pub popped_due : IsDue limit (member_pair w.member) (text (get_or ss w.source a)) (due (get_or fs w.source b))
+  popped_due = record {
+    is_due = refl;
+    low = λ t e.
         let f = get_or fs w.source b in
-        let both = due_of t f w.member (waits_of w.source ws) fed_here.waits (fed_here.told t e) in
-        subst (AllByRecursion (λ m. Upto (member_pair m) (member_pair w.member))) (sym both.1)
+        subst (AllByRecursion (λ m. Upto (member_pair m) (member_pair w.member))) (sym (both t e).1)
         (each_join (λ m. Upto (member_pair m) (member_pair w.member)) (done limit t f) (w.member ∷ [])
         (falls_last (done limit t f) w.member
-        (subst (NeverFalls member_pair pair_cmp) both.0 (fed_here.told t e).run.ordered))
-        (upto_itself (member_pair w.member), tt))
+        (subst (NeverFalls member_pair pair_cmp) (both t e).0 (fed_here.told t e).run.ordered))
+        (upto_itself (member_pair w.member), tt));
+    last = λ t e. (done limit t (get_or fs w.source b), w.member, popped_done t e, upto_itself (member_pair w.member));
+  }
 
-  -- the lines of a source with the pair of a group were taken
-  module _ (ss : List S) (fs : List Feed) (ws : List WaitingLine) (i : ℕ) (a s : S) (b f : Feed)
-      (ready : Ready limit past text extent ss fs ws) (inside : i < length ss) (is_due : (get_or fs i b).progress ≡ Due)
-    where
-      none_waits_here : waits_of i ws ≡ []
-      none_waits_here = subst (λ n. waits_of n ws ≡ []) (let q : 0 + i ≡ i = omega arith in q)
-          (subst (λ (p : Progress). AreWaits p (waits_of (0 + i) ws)) is_due
-          (fed_at 0 i ss fs ws a b ready.same inside ready.fed).waits)
+-- the lines of a source with the pair of a group were taken
+module _ {limit : ℕ} {past : List ℕ → Bool} {S : Type 0} {text : S → Option (List ℕ)} {extent : S → ℕ} {ss : List S}
+    {fs : List Feed} {ws : List WaitingLine} {i : ℕ} (ready : Ready limit past text extent ss fs ws) (a : S) (b : Feed)
+    (inside : i < length ss) (is_due : (get_or fs i b).progress ≡ Due) where
+  none_waits_here : waits_of i ws ≡ []
+  none_waits_here = subst (λ (p : Progress). AreWaits p (waits_of i ws)) is_due (ready_at ready i a b inside).waits
 
-      same_lengths : length (set ss i s) ≡ length (set fs i f)
-      same_lengths = grind (arith, length-set)
+  pub due_fed : Fed limit past (text (get_or ss i a)) (extent (get_or ss i a)) (get_or fs i b) []
+  due_fed = subst (Fed limit past (text (get_or ss i a)) (extent (get_or ss i a)) (get_or fs i b)) none_waits_here
+      (ready_at ready i a b inside)
 
-      placed_still : AllByRecursion (λ (v : WaitingLine). v.source < length (set fs i f)) ws
-      placed_still = subst (λ n. AllByRecursion (λ (v : WaitingLine). v.source < n) ws) (sym (length-set fs i f))
-          ready.placed
+  module _ {B : Type 0} (value : B → Member) (ws' : List WaitingLine) where
+    abbrev pub Waited : Option B → Type 0
+    Waited o = MatchOption o (ws' ≡ ws) (λ b. IsPermutation (record { member = value b; source = i } ∷ ws) ws')
 
-      pub drained_ready : Fed limit past (text s) (extent s) f []
-          → Ready limit past text extent (set ss i s) (set fs i f) ws
-      drained_ready fed = grind (arith, same_lengths, placed_still, fed_set, none_waits_here)
+    pub waited_ready : (s : S) (f : Feed) (o : Option B) → Waited o
+        → Fed limit past (text s) (extent s) f (option_list (option_map value o))
+        → Ready limit past text extent (set ss i s) (set fs i f) ws'
+    waited_ready s f None e fed =
+        let same = ready_set ready i s f ws (λ j q. refl) ready.placed
+        (subst (Fed limit past (text s) (extent s) f) (sym none_waits_here) fed) in
+        grind arith
+    waited_ready s f (Some x) p fed =
+        let w : WaitingLine = record { member = value x; source = i } in
+        let here : waits_of i (w ∷ ws) ≡ w.member ∷ [] =
+        waits_here i w ws refl ∙ ap (λ l. w.member ∷ l) none_waits_here in
+        let same = ready.same in
+        ready_permuted (ready_set ready i s f (w ∷ ws) (λ j q. waits_other j w ws (λ e. absurd (omega arith)))
+        (omega arith, ready.placed) (subst (Fed limit past (text s) (extent s) f) (sym here) fed)) ws' p
 
-      pub refilled_ready : (w : WaitingLine) (ws' : List WaitingLine) → w.source ≡ i → IsPermutation (w ∷ ws) ws'
-          → Fed limit past (text s) (extent s) f (w.member ∷ [])
-          → Ready limit past text extent (set ss i s) (set fs i f) ws'
-      refilled_ready w ws' e p fed =
-          let here : waits_of i (w ∷ ws) ≡ w.member ∷ [] =
-          waits_here i w ws e ∙ ap (λ l. w.member ∷ l) none_waits_here in
-          record {
-            same = same_lengths;
-            placed = each_permuted (λ (v : WaitingLine). v.source < length (set fs i f)) (w ∷ ws) ws' p
-                (omega (arith, length-set fs i f, e), placed_still);
-            fed = fed_permuted 0 (set ss i s) (set fs i f) (w ∷ ws) ws' p
-                (grind (arith, fed_set, waits_other));
-          }
-
-      pub due_fed : Fed limit past (text (get_or ss i a)) (extent (get_or ss i a)) (get_or fs i b) []
-      due_fed = subst (Fed limit past (text (get_or ss i a)) (extent (get_or ss i a)) (get_or fs i b))
-          (grind (arith, none_waits_here)) (fed_at 0 i ss fs ws a b ready.same inside ready.fed)
-
-      module _ {B : Type 0} (value : B → Member) (ws' : List WaitingLine) where
-        abbrev pub Waited : Option B → Type 0
-        Waited o = MatchOption o (ws' ≡ ws) (λ b. IsPermutation (record { member = value b; source = i } ∷ ws) ws')
-
-        pub waited_ready : (o : Option B) → Waited o
-            → Fed limit past (text s) (extent s) f (option_list (option_map value o))
-            → Ready limit past text extent (set ss i s) (set fs i f) ws'
-        waited_ready None e fed = grind (arith, drained_ready)
-        waited_ready (Some x) p fed = refilled_ready (record { member = value x; source = i }) ws' refl p fed
-
-        pub waited_length : (o : Option B) → Waited o
-            → length ws' ≡ length ws + length (option_list (option_map value o))
-        waited_length None e = grind arith
-        waited_length (Some x) p =
-            (let w : WaitingLine = record { member = value x; source = i } in
-            let h = length_permutation (w ∷ ws) ws' p in
-            omega arith)
+    pub waited_length : (o : Option B) → Waited o → length ws' ≡ length ws + length (option_list (option_map value o))
+    waited_length None e = grind arith
+    waited_length (Some x) p =
+        let w : WaitingLine = record { member = value x; source = i } in
+        let h = length_permutation (w ∷ ws) ws' p in omega arith

@@ -24,9 +24,7 @@ drain-requires-clause-fed g c =
     subst (λ (f : Feed). Fed LINE_LIMIT (g.R.Range.past c.args.range.now)
     (g.S.Source.text (get_or c.args.sources.now c.args.i a))
     (g.S.Source.extent (get_or c.args.sources.now c.args.i a)) f []) (sym c.index_mut.ensures.value)
-    (due_fed LINE_LIMIT (g.R.Range.past c.args.range.now) g.S.Source.text g.S.Source.extent c.args.sources.now
-    c.args.self.now.feeds.items c.args.self.now.waiting c.args.i a a b b c.requires.ready c.requires.inside
-    (c.requires.due a b).is_due)
+    (due_fed c.requires.ready a b c.requires.inside (c.requires.due a b).is_due)
 
 pub drain-requires-clause-due : goal.drain-requires-clause-due
 drain-requires-clause-due g c = subst (λ (f : Feed). f.progress ≡ Due) (sym c.index_mut.ensures.value)
@@ -82,9 +80,8 @@ returns-clause-ready g c =
     c.args.i in
     subst (λ (us : List Feed). Ready LINE_LIMIT (g.R.Range.past c.args.range.now) g.S.Source.text g.S.Source.extent
     (set ss i c.drain.new.source) us c.let_wait.new.self.waiting) (sym c.let_wait.ensures.feeds)
-    (waited_ready LINE_LIMIT (g.R.Range.past c.args.range.now) g.S.Source.text g.S.Source.extent ss fs ws i a
-    c.drain.new.source b c.drain.new.self c.requires.ready c.requires.inside (c.requires.due a b).is_due
-    (λ (l : Box Line Global). l.value) c.let_wait.new.self.waiting c.in-Ok.next c.in_ok-let_wait.ensures.waiting
+    (waited_ready c.requires.ready a b c.requires.inside (c.requires.due a b).is_due (λ (l : Box Line Global). l.value)
+    c.let_wait.new.self.waiting c.drain.new.source c.drain.new.self c.in-Ok.next c.in_ok-let_wait.ensures.waiting
     c.in-Ok.ensures.fed)
 
 pub returns-clause-fewer : goal.returns-clause-fewer
@@ -92,8 +89,7 @@ returns-clause-fewer g c =
     let a = c.index-sources-i.result in let b = c.index_mut.result.now in
     let ss = c.args.sources.now in let fs = c.args.self.now.feeds.items in let ws = c.args.self.now.waiting in let i =
     c.args.i in
-    let long = waited_length LINE_LIMIT (g.R.Range.past c.args.range.now) g.S.Source.text g.S.Source.extent ss fs ws i a
-    c.drain.new.source b c.drain.new.self c.requires.ready c.requires.inside (c.requires.due a b).is_due
+    let long = waited_length c.requires.ready a b c.requires.inside (c.requires.due a b).is_due
     (λ (l : Box Line Global). l.value) c.let_wait.new.self.waiting c.in-Ok.next c.in_ok-let_wait.ensures.waiting in
     let left = unread_set g.S.Source.text g.S.Source.extent g.S.Source.gave ss fs i a c.drain.new.source b
     c.drain.new.self c.requires.ready.same c.requires.inside in

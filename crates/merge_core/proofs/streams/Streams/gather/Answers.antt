@@ -45,18 +45,8 @@ drained : (g : Over) (c : In_ok-drain g)
     c.drain.new.sources c.drain.new.self.feeds.items c.drain.new.self.waiting
     (c.new-keyed.result ∷ values c.drain.new.rest.items)
 drained g c =
-    let text = g.S.Source.text in
-    let ss = c.sources.sources in let fs = c.sources.self.feeds.items in let i = c.sources.i in
-    let old = values c.sources.rest.items in let new = values c.drain.new.rest.items in
     let ok = c.in_ok-drain.ensures in
-    let s = ok.drained.source in let f = ok.drained.feed in
-    gathers_drained LINE_LIMIT (g.R.Range.past c.args.range.now) text g.S.Source.extent g.S.Source.gave
-    c.args.sources.now c.args.self.now.feeds.items (member_pair c.new-keyed.result) i ss fs c.sources.self.waiting
-    c.new-keyed.result old new c.sources.invariant.gathers s f
-    c.drain.new.sources c.drain.new.self.feeds.items c.drain.new.self.waiting s f
-    c.sources.invariant.inside ok.ready ok.moved ok.drained.source_is ok.drained.feed_is (ok.drained.text_is s)
-    (subst (λ p. Drained LINE_LIMIT p (text (get_or ss i s)) (get_or fs i f) f old new) (same g c)
-    (ok.drained.drained s f))
+    gathers_drained c.sources.invariant.gathers ok.drained (same g c) c.sources.invariant.inside ok.ready ok.moved
 
 -- and of the feeds
 drained_settled : (g : Over) (c : In_ok-drain g) → AreSettled c.drain.new.self.feeds.items
@@ -100,11 +90,7 @@ taken : (g : Over) (c : After-push g)
     c.drain.new.sources c.drain.new.self.feeds.items c.drain.new.self.waiting
     (c.new-keyed.result ∷ values c.drain.new.rest.items))
     → AllByRecursion (IsFrom (member_pair c.new-keyed.result) (c.sources.i + 1)) c.drain.new.self.waiting
-    → TakenNext LINE_LIMIT (g.R.Range.past c.args.range.now) g.S.Source.text g.S.Source.extent g.S.Source.gave
-    c.args.sources.now c.args.self.now.feeds.items (member_pair c.new-keyed.result) (c.sources.i + 1)
-    c.drain.new.sources c.drain.new.self.feeds.items c.drain.new.self.waiting
-    (c.new-keyed.result ∷ values c.drain.new.rest.items) h
-    (taken_line g c) c.take_at.new.self.waiting c.take_at.new.self.feeds.items
+    → TakenNext h (taken_line g c) c.take_at.new.self.waiting c.take_at.new.self.feeds.items
 taken g c h from =
     let pair = member_pair c.new-keyed.result in
     let left = c.take_at.new.self.waiting in
@@ -113,11 +99,7 @@ taken g c h from =
     let took = c.in-Some-take_at.ensures in
     let out = subst (λ (v : WaitingLine). IsPermutation c.drain.new.self.waiting (v ∷ left)) is took.out in
     let mine = (each_permuted (IsFrom pair (c.sources.i + 1)) c.drain.new.self.waiting (w ∷ left) out from).0 in
-    taken_next LINE_LIMIT (g.R.Range.past c.args.range.now) g.S.Source.text g.S.Source.extent g.S.Source.gave
-    c.args.sources.now c.args.self.now.feeds.items pair (c.sources.i + 1)
-    c.drain.new.sources c.drain.new.self.feeds.items c.drain.new.self.waiting
-    (c.new-keyed.result ∷ values c.drain.new.rest.items) h
-    w left c.take_at.new.self.feeds.items out (taken_feeds g c)
+    taken_next h w left c.take_at.new.self.feeds.items out (taken_feeds g c)
     (subst (λ (x : WaitingLine). AllByRecursion (λ v. is_lt (turn_cmp v x) ≡ false) left) is took.first)
     (mine.1 (taken_alike g c)) (taken_alike g c)
 
@@ -138,9 +120,9 @@ sources-init g c =
     ≡ set fs v.source (due (get_or fs v.source d))) is c.in-Some.ensures.feeds in
     let later = subst (λ (x : WaitingLine). AllByRecursion (λ v. is_lt (turn_cmp v x) ≡ false)
     c.take_first.new.self.waiting) is c.in-Some.ensures.first in
-    let t = taken_next LINE_LIMIT past g.S.Source.text g.S.Source.extent g.S.Source.gave ss fs pair 0 ss fs ws []
-    (gathers_start LINE_LIMIT past g.S.Source.text g.S.Source.extent g.S.Source.gave ss fs pair ws c.requires.ready)
-    w c.take_first.new.self.waiting c.take_first.new.self.feeds.items out feeds later (omega arith)
+    let t = taken_next
+    (gathers_start LINE_LIMIT past g.S.Source.text g.S.Source.extent g.S.Source.gave ss fs pair ws c.requires.ready) w
+    c.take_first.new.self.waiting c.take_first.new.self.feeds.items out feeds later (omega arith)
     (tied_itself pair_cmp_total pair) in
     record {
       gathers = grind arith;
@@ -211,9 +193,7 @@ returns-in_default-take_at-clause-group g c =
       gathered = λ told low.
           subst (λ (us : List Feed). Gathered pair (all_done LINE_LIMIT text old old_feeds)
           (all_done LINE_LIMIT text ss us) [] group) (sym feeds)
-          (gathers_all LINE_LIMIT (g.R.Range.past c.args.range.now) text extent g.S.Source.gave old old_feeds pair
-          (c.sources.i + 1)
-          ss fs c.drain.new.self.waiting group now c.requires.ready.same inside told low);
+          (gathers_all now c.requires.ready.same inside told low);
     })
 
 pub returns-in_err-push-clause-moved : goal.returns-in_err-push-clause-moved
@@ -278,9 +258,7 @@ read_to g c told low =
     let inv = c.sources.invariant in
     let ss = c.sources.sources in let fs = c.sources.self.feeds.items in
     let is = ap member_pair (c.deref-in-sources.ensures ∙ sym (c.new-keyed.ensures ∙ c.deref.ensures)) in
-    let all = (gathers_all LINE_LIMIT past text g.S.Source.extent g.S.Source.gave c.args.sources.now
-    c.args.self.now.feeds.items (member_pair c.new-keyed.result) (c.sources.i + 1) ss fs c.sources.self.waiting
-    (c.new-keyed.result ∷ values c.sources.rest.items) inv.gathers c.requires.ready.same (omega arith) told low).upto in
+    let all = (gathers_all inv.gathers c.requires.ready.same (omega arith) told low).upto in
     subst (λ q. AreReadTo LINE_LIMIT past text (Some q) c.drain.new.sources c.drain.new.self.feeds.items) is
     (c.drain.ensures.reads
     (subst (λ q. AllByRecursion (λ m. Upto (member_pair m) q) (all_done LINE_LIMIT text ss fs)) (sym is) all))
