@@ -39,14 +39,6 @@ pub first_long : (limit : ℕ) (ls : List (List ℕ)) → limit < first_length l
 first_long limit [] long = absurd (omega arith)
 first_long limit (l ∷ ls) long = (l, ls, refl, long_none limit l long)
 
--- the first of the lines was refused
-pub refused_at : (limit : ℕ) (ls rest : List (List ℕ)) (line : List ℕ) (at begin : ℕ) (e : LineFault) → begin ≡ at → ls
-    ≡ line ∷ rest → (e ≢ reading.Memory → line_entry limit line ≡ None)
-    → IsFeedFaultAt limit ls at (line_fault begin e)
-refused_at limit ls rest line at begin reading.Memory there is bad = tt
-refused_at limit ls rest line at begin reading.LineTooLong there is bad = grind arith
-refused_at limit ls rest line at begin reading.BadLine there is bad = grind arith
-
 -- where lines are left, the offset lies within the text
 inside : (t : List ℕ) (at : ℕ) (line : List ℕ) (after : List (List ℕ)) → lines (drop at t) ≡ line ∷ after
     → at ≤ length t

@@ -119,15 +119,12 @@ same_stays past pair m ms within low end alike =
 
 -- the limit of a line, in bytes
 module _ (limit : ℕ) where
-  run_push : (ls : List (List ℕ)) (ms : List Member) (l : List ℕ) (m : Member) (low : Pair) → IsRun limit ls ms
-      → line_entry limit l ≡ Some m
-      → AllByRecursion (λ k. Upto (member_pair k) low) ms → Upto low (member_pair m)
+  run_push : (ls : List (List ℕ)) (ms : List Member) (l : List ℕ) (m : Member) → IsRun limit ls ms
+      → line_entry limit l ≡ Some m → AllByRecursion (λ k. Upto (member_pair k) (member_pair m)) ms
       → IsRun limit (ls ++ l ∷ []) (ms ++ m ∷ [])
-  run_push ls ms l m low run e upto h = record {
+  run_push ls ms l m run e low = record {
     entries = grind (arith, map-append);
-    ordered = falls_push ms m run.ordered
-        (each_weaker (λ (k : Member) (q : Upto (member_pair k) low). upto_upto (member_pair k) low (member_pair m) q h)
-        ms upto);
+    ordered = falls_push ms m run.ordered low;
   }
 
   -- this line was read after those that were read before
@@ -137,15 +134,6 @@ module _ (limit : ℕ) where
   pub given_next : (t : List ℕ) (old new : CursorState) (m : Member) → ReadNext t old new m → given limit t new
       ≡ given limit t old ++ m ∷ []
   given_next t old new m r = grind (arith, map-append)
-
-  run_next : (t : List ℕ) (old new : CursorState) (m : Member) (low : Pair) → ReadNext t old new m
-      → IsRun limit (read_lines t old) (given limit t old)
-      → AllByRecursion (λ k. Upto (member_pair k) low) (given limit t old) → Upto low (member_pair m)
-      → IsRun limit (read_lines t new) (given limit t new)
-  run_next t old new m low r run upto h =
-      subst (λ ls. IsRun limit ls (given limit t new)) (sym r.1)
-      (subst (IsRun limit (read_lines t old ++ r.0 ∷ [])) (sym (given_next t old new m r))
-      (run_push (read_lines t old) (given limit t old) r.0 m low run r.2 upto h))
 
   -- what is done of a feed, beside what was read before
   pub done_is : (t : List ℕ) (f : Feed) (old : CursorState) → f.cursor.start ≡ old.start → f.cursor.count
@@ -177,81 +165,77 @@ module _ (limit : ℕ) where
       (λ l. ReadNext t old new (seen l)) → ReadNext t old new (seen line)
   line_read t old new seen o line e h = grind arith
 
-  -- what is known of a feed whose next line is to be read
-  module _ (past : List ℕ → Bool) (text : Option (List ℕ)) (extent : ℕ) (old f : Feed) (is_due : old.progress ≡ Due)
-      (was : Fed limit past text extent old [])
-      (stands : Stands text extent f.cursor) (start : f.cursor.start ≡ old.cursor.start) (near : (t : List ℕ) → text
-      ≡ Some t → f.cursor.at ≤ old.cursor.at + first_length (lines (drop old.cursor.at t))) where
-    given_old : (t : List ℕ) → done limit t old ≡ given limit t old.cursor
-    given_old t = done_due t old is_due
+  -- the next line of a feed was read, which is this one
+  pub record LineRead (past : List ℕ → Bool) (text : Option (List ℕ)) (extent : ℕ) (old f : Feed) (m : Member) : Type 0
+    where
+      pub is_due : old.progress ≡ Due
+      pub was : Fed limit past text extent old []
+      pub stands : Stands text extent f.cursor
+      pub start : f.cursor.start ≡ old.cursor.start
+      pub count : f.cursor.count ≡ old.cursor.count + 1
+      pub near : (t : List ℕ) → text ≡ Some t
+          → f.cursor.at ≤ old.cursor.at + first_length (lines (drop old.cursor.at t))
+      pub next : (t : List ℕ) → text ≡ Some t → ReadNext t old.cursor f.cursor m
+      pub low : (t : List ℕ) → text ≡ Some t
+          → AllByRecursion (λ k. Upto (member_pair k) (member_pair m)) (done limit t old)
 
-    begins_still : (t : List ℕ) → text ≡ Some t → (before : List (List ℕ)) × BeginsAfter t f.cursor.start before
-    begins_still t e = subst (λ n. (before : List (List ℕ)) × BeginsAfter t n before) (sym start) (was.told t e).begins
+module _ {limit : ℕ} {past : List ℕ → Bool} {text : Option (List ℕ)} {extent : ℕ} {old f : Feed} {m : Member}
+    (r : LineRead limit past text extent old f m) where
+  given_old : (t : List ℕ) → done limit t old ≡ given limit t old.cursor
+  given_old t = done_due limit t old r.is_due
 
-    -- where its next line is this one
-    module _ (m : Member) (low : Pair) (count : f.cursor.count ≡ old.cursor.count + 1) (next : (t : List ℕ) → text
-        ≡ Some t → ReadNext t old.cursor f.cursor m)
-        (upto : (t : List ℕ) → text ≡ Some t → AllByRecursion (λ k. Upto (member_pair k) low) (done limit t old))
-        (up : Upto low (member_pair m)) where
-      run_more : (t : List ℕ) → text ≡ Some t → IsRun limit (read_lines t f.cursor) (given limit t f.cursor)
-      run_more t e = run_next t old.cursor f.cursor m low (next t e) (was.told t e).run
-          (grind arith) up
+  begins_still : (t : List ℕ) → text ≡ Some t → (before : List (List ℕ)) × BeginsAfter t f.cursor.start before
+  begins_still t e = subst (λ n. (before : List (List ℕ)) × BeginsAfter t n before) (sym r.start) (r.was.told t e).begins
 
-      stood_more : (t : List ℕ) → text ≡ Some t → f.cursor.at ≤ f.cursor.start + bytes_of (read_lines t f.cursor)
-      stood_more t e = grind (arith, after_taken, bytes_push)
+  run_more : (t : List ℕ) → text ≡ Some t → IsRun limit (read_lines t f.cursor) (given limit t f.cursor)
+  run_more t e =
+      let next = r.next t e in
+      subst (λ ls. IsRun limit ls (given limit t f.cursor)) (sym next.1)
+      (subst (IsRun limit (read_lines t old.cursor ++ next.0 ∷ [])) (sym (given_next limit t old.cursor f.cursor m next))
+      (run_push limit (read_lines t old.cursor) (given limit t old.cursor) next.0 m (r.was.told t e).run next.2
+      (subst (AllByRecursion (λ k. Upto (member_pair k) (member_pair m))) (given_old t) (r.low t e))))
 
-      many_more : (t : List ℕ) → text ≡ Some t → length (read_lines t f.cursor) ≡ f.cursor.count
-      many_more t e = grind (arith, length-append)
+  stood_more : (t : List ℕ) → text ≡ Some t → f.cursor.at ≤ f.cursor.start + bytes_of (read_lines t f.cursor)
+  stood_more t e = grind (arith, after_taken, bytes_push)
 
-      pub fed_next : (ws : List Member) → IsNext past m f.progress ws → Fed limit past text extent f ws
-      fed_next ws n =
-          let many = held_next past m f.progress ws f.cursor.count old.cursor.count n count in
-          record {
-            stands = stands;
-            waits = next_waits past m f.progress ws n;
-            counted = omega (arith, many);
-            told = λ t e. record {
-              begins = begins_still t e;
-              stood = stood_more t e;
-              as_many = many_more t e;
-              within = grind (arith, done_is, given_old);
-              run = run_more t e;
-              head = grind (arith, head_next, given_next, done_is);
-            };
-          }
+  many_more : (t : List ℕ) → text ≡ Some t → length (read_lines t f.cursor) ≡ f.cursor.count
+  many_more t e = grind (arith, length-append)
 
-      pub done_next : (ws : List Member) → IsNext past m f.progress ws → (t : List ℕ) → done limit t f
-          ≡ done limit t old
-      done_next ws n t = grind (arith, done_is, held_next, given_old)
-
-      pub done_taken : f.progress ≡ Due → (t : List ℕ) → text ≡ Some t → done limit t f ≡ done limit t old ++ m ∷ []
-      done_taken d t e = grind (arith, done_due, given_next, given_old)
-
-      pub fed_taken : f.progress ≡ Due → ((t : List ℕ) → text ≡ Some t → past m.values.key ≡ false)
-          → Fed limit past text extent f []
-      fed_taken d stays = record {
-        stands = stands;
-        waits = grind arith;
-        counted = (let h = ap held d in omega arith);
+  pub fed_next : (ws : List Member) → IsNext past m f.progress ws → Fed limit past text extent f ws
+  fed_next ws n =
+      let many = held_next past m f.progress ws f.cursor.count old.cursor.count n r.count in
+      record {
+        stands = r.stands;
+        waits = next_waits past m f.progress ws n;
+        counted = omega (arith, many);
         told = λ t e. record {
           begins = begins_still t e;
           stood = stood_more t e;
           as_many = many_more t e;
-          within = grind (arith, done_taken, each_join);
+          within = grind (arith, done_is, given_old);
           run = run_more t e;
-          head = grind (arith, done_due);
+          head = grind (arith, head_next, given_next, done_is);
         };
       }
 
-    -- where no line is left
-    module _ (count : f.cursor.count ≡ old.cursor.count) (none : (t : List ℕ) → text ≡ Some t
-        → (read_lines t f.cursor ≡ read_lines t old.cursor) × (lines (drop f.cursor.at t) ≡ []))
-        (ended : f.progress ≡ Ended) where
-      pub done_ended : (t : List ℕ) → done limit t f ≡ done limit t old
-      done_ended t = cc
+  pub done_next : (ws : List Member) → IsNext past m f.progress ws → (t : List ℕ) → done limit t f ≡ done limit t old
+  done_next ws n t = grind (arith, done_is, held_next, given_old)
 
-      stood_still : (t : List ℕ) → text ≡ Some t → f.cursor.at ≤ f.cursor.start + bytes_of (read_lines t f.cursor)
-      stood_still t e = grind arith
+  pub done_taken : f.progress ≡ Due → (t : List ℕ) → text ≡ Some t → done limit t f ≡ done limit t old ++ m ∷ []
+  done_taken d t e = grind (arith, done_due, given_next, given_old)
 
-      pub fed_ended : Fed limit past text extent f []
-      fed_ended = grind (arith, begins_still, stood_still, done_ended, given_old)
+  pub fed_taken : f.progress ≡ Due → ((t : List ℕ) → text ≡ Some t → past m.values.key ≡ false)
+      → Fed limit past text extent f []
+  fed_taken d stays = record {
+    stands = r.stands;
+    waits = grind arith;
+    counted = (let h = ap held d in omega arith);
+    told = λ t e. record {
+      begins = begins_still t e;
+      stood = stood_more t e;
+      as_many = many_more t e;
+      within = grind (arith, done_taken, each_join);
+      run = run_more t e;
+      head = grind (arith, done_due);
+    };
+  }

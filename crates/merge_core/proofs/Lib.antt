@@ -1,7 +1,6 @@
 pub mod PairOrder
 pub mod Filters
 pub mod FeedLemmas
-pub mod DrainLemmas
 pub mod BadLines
 pub mod StreamLemmas
 pub mod Many

@@ -8,8 +8,7 @@ use Rattle.merge_core.specs.Feeds.{Fed, option_list}
 use Rattle.merge_core.specs.Spending.{ReadTo}
 use Rattle.merge_core.proofs.SpendLemmas.{read_to}
 use Rattle.line_queue.proofs.PairOrder.{upto_itself}
-use Rattle.merge_core.proofs.FeedLemmas.{fresh_done}
-use Rattle.merge_core.proofs.DrainLemmas.{settled}
+use Rattle.merge_core.proofs.FeedLemmas.{LineRead, fresh_done, fed_next}
 use Rattle.merge_core.proofs.feed.Feed.begin.Given.{Over}
 use Rattle.merge_core.proofs.feed.Feed.begin.Goals.{After-next_line}
 use Rattle.merge_core.proofs.feed.Feed.begin.Goals as goal
@@ -17,14 +16,18 @@ use Rattle.merge_core.proofs.feed.Feed.begin.Goals as goal
 pub returns-in-Some-clause-fed : goal.returns-in-Some-clause-fed
 returns-in-Some-clause-fed g c =
     let ok = c.in_ok-line.ensures in
-    let pair = member_pair c.in-Some.line.value in
-    settled LINE_LIMIT (g.R.Range.past c.args.range.now) (λ (b : Box Line Global). b.value)
-    _ _ _ _ c.args.self.now c.next_line.new.cursor c.in_ok-line.field-0 ok.text ok.extent c.requires.due c.requires.fed
-    ok.stands ok.start ok.count ok.given ok.most c.settle.new.self c.settle.ensures.cursor
-    c.in-Some.line c.in-Some.is pair
-    (λ t e. subst (AllByRecursion (λ k. Upto (member_pair k) pair))
-    (sym (fresh_done LINE_LIMIT t c.args.self.now c.requires.fresh)) tt) (upto_itself pair)
-    (option_list (option_map (λ (b : Box Line Global). b.value) c.settle.result)) c.settle.ensures.next
+    let read : LineRead LINE_LIMIT (g.R.Range.past c.args.range.now) (g.S.Source.text c.next_line.new.source)
+    (g.S.Source.extent c.next_line.new.source) c.args.self.now c.settle.new.self c.in-Some.line.value = record {
+      is_due = grind arith;
+      was = grind arith;
+      stands = grind arith;
+      start = grind arith;
+      count = grind arith;
+      near = grind arith;
+      next = grind arith;
+      low = grind (arith, fresh_done);
+    } in
+    fed_next read _ c.settle.ensures.next
 
 pub returns-in-None-clause-fed : goal.returns-in-None-clause-fed
 returns-in-None-clause-fed g c = grind arith

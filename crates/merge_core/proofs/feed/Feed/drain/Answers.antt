@@ -1,28 +1,28 @@
 use Rattle.std.proofs.lemmas.List.{map-append}
 use Rattle.std.proofs.Common.{◌≡◌, ℕ, List, Some, ◌+◌, ◌<◌, ◌∷◌, ◌++◌, [], Box, Global, option_map, map, MatchOption}
-use Rattle.std.proofs.Common.{refl, sym, ap, ◌∙◌, subst, arith}
+use Rattle.std.proofs.Common.{refl, sym, ap, ◌∙◌, subst, arith, append_assoc}
 use Rattle.std.specs.List.{AllByRecursion}
 use Rattle.std.specs.Ordering.{ordering_reverse}
 use Rattle.cdxj_core.specs.declared.limit.TheConstants.{LINE_LIMIT}
 use Rattle.cdxj_core.specs.declared.line.Line.{Line}
-use Rattle.cdxj_core.specs.Members.{member_pair}
-use Rattle.cdxj_places.specs.Pairs.{pair_cmp}
+use Rattle.cdxj_core.specs.Members.{Member, member_pair}
+use Rattle.cdxj_places.specs.Pairs.{Pair, pair_cmp}
 use Rattle.cdxj_places.proofs.PairLemmas.{pair_cmp_total}
 use Rattle.merge_core.specs.declared.feed.Feed.{Feed}
-use Rattle.line_queue.specs.PairOrders.{Alike, Below}
+use Rattle.line_queue.specs.PairOrders.{Alike, Below, Upto}
 use Rattle.source_core.specs.LinesAtFault.{IsOutOfOrder}
 use Rattle.merge_core.specs.Feeds.{Fed, done, option_list}
 use Rattle.merge_core.specs.LineFaults.{NamesLine}
+use Rattle.source_core.specs.Cursors.{CursorState}
 use Rattle.merge_core.specs.Spending.{ReadTo}
 use Rattle.merge_core.proofs.SpendLemmas.{read_to}
 use Rattle.merge_core.proofs.BadLines.{bad_named, order_named}
 use Rattle.merge_core.proofs.FailLemmas.{if_err}
-use Rattle.line_queue.proofs.PairOrder.{below_upto, same_upto, same_from}
-use Rattle.cdxj_places.proofs.RisingLaws.{each_join}
-use Rattle.merge_core.proofs.FeedLemmas.{line_read, same_stays}
-use Rattle.merge_core.proofs.DrainLemmas.{settled, settled_done, taken, taken_done, taken_more}
+use Rattle.line_queue.proofs.PairOrder.{below_upto, same_upto, same_from, upto_upto}
+use Rattle.cdxj_places.proofs.RisingLaws.{each_join, each_weaker}
+use Rattle.merge_core.proofs.FeedLemmas.{LineRead, ReadNext, line_read, same_stays, fed_next, done_next, fed_taken, done_taken}
 use Rattle.merge_core.proofs.feed.Feed.drain.Given.{Over}
-use Rattle.merge_core.proofs.feed.Feed.drain.Goals.{After-next_line, In-Greater}
+use Rattle.merge_core.proofs.feed.Feed.drain.Goals.{After-next_line, In-Greater, In-Some}
 use Rattle.merge_core.proofs.feed.Feed.drain.Goals as goal
 
 -- a line that is above the first one
@@ -54,37 +54,48 @@ returns-in-Greater-clause-later g c =
     let over = above g (goal.at.returns-in-Greater-clause-later g c).In-Greater in
     grind arith
 
+-- one line more was taken
+taken_more : (pair : Pair) (before d1 d2 taken g0 g g' : List Member) (m : Member) → d1 ≡ before ++ taken → g ≡ g0
+    ++ taken → AllByRecursion (λ k. Alike (member_pair k) pair) taken
+    → d2 ≡ d1 ++ m ∷ [] → g' ≡ g ++ m ∷ [] → Alike (member_pair m) pair
+    → (more : List Member) × (d2 ≡ before ++ more) × (g' ≡ g0 ++ more)
+    × AllByRecursion (λ k. Alike (member_pair k) pair) more
+taken_more pair before d1 d2 taken g0 g g' m e f a h k b = grind (arith, append_assoc, each_join)
+
+-- a line was read that isn't below the first one
+was_read : (g : Over) (c : In-Some g) (f : Feed) → f.cursor ≡ c.next_line.new.cursor
+    → Upto (member_pair c.args.first.now) (member_pair c.in-Some.line.value)
+    → LineRead LINE_LIMIT (g.R.Range.past c.args.range.now) (g.S.Source.text c.next_line.new.source)
+    (g.S.Source.extent c.next_line.new.source) c.loop-line.self f c.in-Some.line.value
+was_read g c f is up = record {
+  is_due = grind arith;
+  was = grind arith;
+  stands = grind arith;
+  start = grind arith;
+  count = grind arith;
+  near = grind arith;
+  next = λ t e. subst (λ (k : CursorState). ReadNext LINE_LIMIT t c.loop-line.self.cursor k c.in-Some.line.value) (sym is)
+      (line_read LINE_LIMIT t c.loop-line.self.cursor c.next_line.new.cursor (λ (b : Box Line Global). b.value)
+      c.in_ok-line.field-0 c.in-Some.line c.in-Some.is
+      (c.in_ok-line.ensures.given t (sym c.in_ok-line.ensures.text ∙ e)));
+  low = λ t e. each_weaker (λ (k : Member) (q : Upto (member_pair k) (member_pair c.args.first.now)).
+      upto_upto (member_pair k) (member_pair c.args.first.now) (member_pair c.in-Some.line.value) q up) _
+      (c.loop-line.invariant.low t (sym c.loop-line.invariant.text ∙ sym c.in_ok-line.ensures.text ∙ e));
+}
+
 pub returns-in-Greater-clause-fed : goal.returns-in-Greater-clause-fed
 returns-in-Greater-clause-fed g c =
-    let ok = c.in_ok-line.ensures in
-    let inv = c.loop-line.invariant in
-    let first = member_pair c.args.first.now in
-    let m = c.in-Some.line.value in
-    let over = above g (goal.at.returns-in-Greater-clause-fed g c).In-Greater in
-    settled LINE_LIMIT (g.R.Range.past c.args.range.now) (λ (b : Box Line Global). b.value)
-    _ _ _ _ c.loop-line.self c.next_line.new.cursor
-    c.in_ok-line.field-0 ok.text ok.extent inv.due inv.fed ok.stands ok.start ok.count ok.given ok.most
-    c.settle.new.self c.settle.ensures.cursor
-    c.in-Some.line c.in-Some.is first
-    (λ t e. inv.low t (sym inv.text ∙ e)) (below_upto first (member_pair m) over)
-    (option_list (option_map (λ (b : Box Line Global). b.value) c.settle.result)) c.settle.ensures.next
+    let here = goal.at.returns-in-Greater-clause-fed g c in
+    let up = below_upto (member_pair c.args.first.now) (member_pair c.in-Some.line.value) (above g here.In-Greater) in
+    fed_next (was_read g here.In-Some c.settle.new.self c.settle.ensures.cursor up) _ c.settle.ensures.next
 
 pub returns-in-Greater-clause-taken : goal.returns-in-Greater-clause-taken
 returns-in-Greater-clause-taken g c = λ t e.
-    let ok = c.in_ok-line.ensures in
-    let inv = c.loop-line.invariant in
-    let first = member_pair c.args.first.now in
-    let m = c.in-Some.line.value in
-    let over = above g (goal.at.returns-in-Greater-clause-taken g c).In-Greater in
-    let h = inv.taken t e in (
+    let here = goal.at.returns-in-Greater-clause-taken g c in
+    let up = below_upto (member_pair c.args.first.now) (member_pair c.in-Some.line.value) (above g here.In-Greater) in
+    let h = c.loop-line.invariant.taken t e in (
       h.0,
-      settled_done LINE_LIMIT (g.R.Range.past c.args.range.now) (λ (b : Box Line Global). b.value)
-          _ _ _ _ c.loop-line.self c.next_line.new.cursor
-          c.in_ok-line.field-0 ok.text ok.extent inv.due inv.fed ok.stands ok.start ok.count ok.given ok.most
-          c.settle.new.self c.settle.ensures.cursor
-          c.in-Some.line c.in-Some.is first
-          (λ t e. inv.low t (sym inv.text ∙ e)) (below_upto first (member_pair m) over)
-          (option_list (option_map (λ (b : Box Line Global). b.value) c.settle.result)) c.settle.ensures.next t ∙ h.1,
+      done_next (was_read g here.In-Some c.settle.new.self c.settle.ensures.cursor up) _ c.settle.ensures.next t ∙ h.1,
       h.2,
       h.3,
     )
@@ -103,11 +114,9 @@ loop-line-preserved g c =
     ≡ map (λ (b : Box Line Global). b.value) c.loop-line.rest.items ++ m ∷ [] =
     ap (map (λ (b : Box Line Global). b.value)) c.in_ok-push-in-Equal.ensures.items
     ∙ map-append (λ (b : Box Line Global). b.value) c.loop-line.rest.items (line ∷ []) in
-    let more = taken_done LINE_LIMIT (g.R.Range.past c.args.range.now) (λ (b : Box Line Global). b.value)
-    _ _ _ _ c.loop-line.self c.next_line.new.cursor
-    c.in_ok-line.field-0 ok.text ok.extent inv.due inv.fed ok.stands ok.start ok.count ok.given ok.most
-    f refl line c.in-Some.is first
-    (λ t e. inv.low t (sym inv.text ∙ e)) (same_from (member_pair m) first alike) inv.due in
+    let up = same_from (member_pair m) first alike in
+    let read = was_read g (goal.at.loop-line-preserved g c).In-Some f refl up in
+    let more = done_taken read inv.due in
     record {
       text = ok.text ∙ inv.text;
       extent = ok.extent ∙ inv.extent;
@@ -115,28 +124,24 @@ loop-line-preserved g c =
       gave = omega (arith, ok.gave, inv.gave);
       start = ok.start ∙ inv.start;
       there = grind arith;
-      fed = taken LINE_LIMIT (g.R.Range.past c.args.range.now) (λ (b : Box Line Global). b.value)
-          _ _ _ _ c.loop-line.self c.next_line.new.cursor
-          c.in_ok-line.field-0 ok.text ok.extent inv.due inv.fed ok.stands ok.start ok.count ok.given ok.most
-          f refl line c.in-Some.is first
-          (λ t e. inv.low t (sym inv.text ∙ e)) (same_from (member_pair m) first alike) inv.due
+      fed = fed_taken read inv.due
           (λ t e. same_stays (g.R.Range.past c.args.range.now) first m (done LINE_LIMIT t c.loop-line.self)
-          (inv.fed.told t e).within (inv.low t (sym inv.text ∙ e)) (inv.last t (sym inv.text ∙ e)) alike);
+          (inv.fed.told t (sym ok.text ∙ e)).within (inv.low t (sym inv.text ∙ sym ok.text ∙ e))
+          (inv.last t (sym inv.text ∙ sym ok.text ∙ e)) alike);
       due = inv.due;
       begin = c.at-begin-in-Some.ensures;
       last = λ t e. (
         done LINE_LIMIT t c.loop-line.self,
         m,
-        more t (inv.text ∙ e),
-        same_from (member_pair m) first
-            alike,
+        more t (ok.text ∙ inv.text ∙ e),
+        up,
       );
       low = grind (arith, each_join, same_upto);
       each = λ h. subst (AllByRecursion (λ k. Alike (member_pair k) first)) (sym pushed)
           (each_join (λ k. Alike (member_pair k) first) _ (m ∷ []) (inv.each h) (alike, tt));
       taken = λ t e.
           let h = inv.taken t e in
-          taken_more first _ _ _ h.0 _ _ _ m h.1 h.2 h.3 (more t (inv.text ∙ e)) pushed alike;
+          taken_more first _ _ _ h.0 _ _ _ m h.1 h.2 h.3 (more t (ok.text ∙ inv.text ∙ e)) pushed alike;
     }
 
 pub returns-clause-fed : goal.returns-clause-fed
