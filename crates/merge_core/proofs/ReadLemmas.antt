@@ -23,7 +23,7 @@ use Rattle.merge_core.proofs.Many.{is_told, told_moved}
 use Rattle.merge_core.proofs.MergeLemmas.{lower_by_pair}
 use Rattle.merge_core.proofs.WholeLemmas.{told_known}
 use Rattle.merge_core.proofs.ReadLines.{IsUpward, stays, is_read, IsLate, fed_read, wanted_high}
-use Rattle.merge_core.proofs.TakenLemmas.{taken_first, taken_whole, taken_before}
+use Rattle.merge_core.proofs.TakenLemmas.{Took, taken_first, taken_whole, taken_before}
 use Rattle.merge_core.proofs.StartLemmas.{RunsFrom, runs_sought, runs_kept}
 pub use Rattle.merge_core.proofs.TakenLemmas.{TakenFirst}
 
@@ -71,31 +71,16 @@ module _ {S : Type 0} (text : S → Option (List ℕ)) (extent gave : S → ℕ)
   told_now : AreTold text ss
   told_now = grind (arith, told_moved, told_known)
 
-  handed : (taken ≡ rising member_place place_cmp (all_done limit text ss fs))
-      × AllByRecursion (λ m. IsUpto b (member_pair m)) (all_done limit text ss fs)
-  handed = grind (arith, told_known)
-
   -- beside the lines that the sources have from where they are read on
-  module _ (highs : List (List Member)) (runs : AllZip (RunsFrom limit text) (zip ss0 fs0) highs) where
-    read : (upto : Member → Bool) → AllByRecursion (λ (w : WaitingLine). IsLate limit past upward upto w.member) ws
-        → AllByRecursion (λ m. upto m ≡ true) (all_done limit text ss fs)
-        → filter (is_read limit past upward upto) (all_lines highs)
-        ≡ filter (stays limit past upward) (all_done limit text ss fs)
-    read upto late each = grind (arith, all_read, told_now, runs_kept)
-
-    first_of : TakenFirst wanted b (rising member_place place_cmp (all_lines highs)) taken
-    first_of = taken_first limit past upward wanted within b ws reached.above (all_done limit text ss fs) taken handed.1
-        handed.0 (all_lines highs) read
-
-    whole_of : ws ≡ [] → filter wanted (rising member_place place_cmp (all_lines highs)) ≡ filter wanted taken
-    whole_of = taken_whole limit past upward wanted within b ws reached.above (all_done limit text ss fs) taken handed.1
-        handed.0 (all_lines highs) read
-
-    before_of : (next : Pair) → IsAbove b next → AllByRecursion (λ w. Upto next (waiting_pair w)) ws
-        → (rest : List Member) × (filter wanted (rising member_place place_cmp (all_lines highs)) ≡ filter wanted taken
-        ++ rest) × AllByRecursion (λ m. (wanted m ≡ true) × Upto next (member_pair m)) rest
-    before_of = taken_before limit past upward wanted within b ws reached.above (all_done limit text ss fs) taken
-        handed.1 handed.0 (all_lines highs) read
+  took : (highs : List (List Member)) → AllZip (RunsFrom limit text) (zip ss0 fs0) highs
+      → Took limit past upward wanted b ws (all_lines highs) taken
+  took highs runs = record {
+    within = within;
+    above = reached.above;
+    done = all_done limit text ss fs;
+    handed = grind (arith, told_known);
+    read = λ upto late each. grind (arith, all_read, told_now, runs_kept);
+  }
 
   -- sources that are read from where the search for this pair ended, below which nothing is wanted
   module _ (start : Pair) (cut : AllByRecursion (λ x. IsCutAt limit start (text x.0) x.1.cursor) (zip ss0 fs0))
@@ -110,14 +95,15 @@ module _ {S : Type 0} (text : S → Option (List ℕ)) (extent gave : S → ℕ)
 
     -- what was taken so far is a front of what is wanted
     pub sought_first : TakenFirst wanted b (collection indexes) taken
-    sought_first = grind (arith, first_of, skipped)
+    sought_first = grind (arith, taken_first, took, skipped)
 
     -- where no line waits, it is all
     pub sought_whole : ws ≡ [] → filter wanted (collection indexes) ≡ filter wanted taken
-    sought_whole none = skipped ∙ whole_of sought.0 sought.1 none
+    sought_whole none = skipped ∙ taken_whole (took sought.0 sought.1) none
 
     -- where the lines that wait don't stand below a pair, what is wanted beyond those that were taken doesn't either
     pub sought_before : (next : Pair) → IsAbove b next → AllByRecursion (λ w. Upto next (waiting_pair w)) ws
         → (rest : List Member) × (filter wanted (collection indexes) ≡ filter wanted taken ++ rest)
         × AllByRecursion (λ m. (wanted m ≡ true) × Upto next (member_pair m)) rest
-    sought_before next above least = grind (arith, before_of, skipped)
+    sought_before next above least =
+        let first = taken_before (took sought.0 sought.1) next above least in (first.0, skipped ∙ first.1, first.2)

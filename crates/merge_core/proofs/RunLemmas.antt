@@ -25,7 +25,7 @@ use Rattle.merge_core.proofs.GroupLemmas.{each_cut}
 use Rattle.merge_core.proofs.Many.{is_told, told_moved}
 use Rattle.merge_core.proofs.ReadLines.{IsUpward, stays, is_read, IsLate, given_read}
 use Rattle.merge_core.proofs.ReadLemmas.{late_of}
-use Rattle.merge_core.proofs.TakenLemmas.{TakenFirst, taken_first, taken_whole}
+use Rattle.merge_core.proofs.TakenLemmas.{TakenFirst, Took, taken_first, taken_whole}
 
 -- ---- one source
 
@@ -129,22 +129,19 @@ module _ {S : Type 0} (text : S → Option (List ℕ)) (extent gave : S → ℕ)
   told_now : AreTold text ss
   told_now = grind (arith, told_moved)
 
-  handed : (taken ≡ rising member_place place_cmp (all_done limit text ss fs))
-      × AllByRecursion (λ m. IsUpto b (member_pair m)) (all_done limit text ss fs)
-  handed = reached.handed.told told
-
-  read : (upto : Member → Bool) → AllByRecursion (λ (w : WaitingLine). IsLate limit past upward upto w.member) ws
-      → AllByRecursion (λ m. upto m ≡ true) (all_done limit text ss fs)
-      → filter (is_read limit past upward upto) (all_lines (parts limit text ss fs))
-      ≡ filter (stays limit past upward) (all_done limit text ss fs)
-  read upto late each = grind (arith, parts_read, told_now)
+  took : Took limit past upward wanted b ws (all_lines (parts limit text ss fs)) taken
+  took = record {
+    within = within;
+    above = reached.above;
+    done = all_done limit text ss fs;
+    handed = reached.handed.told told;
+    read = λ upto late each. grind (arith, parts_read, told_now);
+  }
 
   -- what was taken is a front of what is wanted of the lines that were read
   pub parts_first : TakenFirst wanted b (collection (parts limit text ss fs)) taken
-  parts_first = taken_first limit past upward wanted within b ws reached.above (all_done limit text ss fs) taken
-      handed.1 handed.0 (all_lines (parts limit text ss fs)) read
+  parts_first = taken_first took
 
   -- where no line waits, it is all
   pub parts_whole : ws ≡ [] → filter wanted (collection (parts limit text ss fs)) ≡ filter wanted taken
-  parts_whole = taken_whole limit past upward wanted within b ws reached.above (all_done limit text ss fs) taken
-      handed.1 handed.0 (all_lines (parts limit text ss fs)) read
+  parts_whole = taken_whole took

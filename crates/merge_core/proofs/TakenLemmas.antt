@@ -59,15 +59,19 @@ TakenFirst wanted b all taken =
     × AllByRecursion (λ m. (wanted m ≡ true) × IsAbove b (member_pair m)) rest
 
 -- what was taken of lines, of which those that were come to are known
-module _ (limit : ℕ) (past : List ℕ → Bool) (upward : IsUpward past) (wanted : Member → Bool) (within : (m : Member)
-    → wanted m ≡ true → not (past m.values.key) ≡ true) (b : Option Pair) (ws : List WaitingLine)
-    (above : AllByRecursion (λ w. IsAbove b (waiting_pair w)) ws) (done taken : List Member)
-    (below : AllByRecursion (λ m. IsUpto b (member_pair m)) done) (taken_is : taken
-    ≡ rising member_place place_cmp done)
-    (all : List Member) (read : (upto : Member → Bool)
-    → AllByRecursion (λ (w : WaitingLine). IsLate limit past upward upto w.member) ws
-    → AllByRecursion (λ m. upto m ≡ true) done
-    → filter (is_read limit past upward upto) all ≡ filter (stays limit past upward) done) where
+pub record Took (limit : ℕ) (past : List ℕ → Bool) (upward : IsUpward past) (wanted : Member → Bool) (b : Option Pair)
+    (ws : List WaitingLine) (all taken : List Member) : Type 0 where
+  pub within : (m : Member) → wanted m ≡ true → not (past m.values.key) ≡ true
+  pub above : AllByRecursion (λ w. IsAbove b (waiting_pair w)) ws
+  pub done : List Member
+  pub handed : (taken ≡ rising member_place place_cmp done) × AllByRecursion (λ m. IsUpto b (member_pair m)) done
+  pub read : (upto : Member → Bool)
+      → AllByRecursion (λ (w : WaitingLine). IsLate limit past upward upto w.member) ws
+      → AllByRecursion (λ m. upto m ≡ true) done
+      → filter (is_read limit past upward upto) all ≡ filter (stays limit past upward) done
+
+module _ {limit : ℕ} {past : List ℕ → Bool} {upward : IsUpward past} {wanted : Member → Bool} {b : Option Pair}
+    {ws : List WaitingLine} {all taken : List Member} (r : Took limit past upward wanted b ws all taken) where
   abbrev seen : List Member → List Member
   seen xs = filter wanted (rising member_place place_cmp xs)
 
@@ -77,7 +81,7 @@ module _ (limit : ℕ) (past : List ℕ → Bool) (upward : IsUpward past) (want
   split : (upto : Member → Bool)
       → ((x y : Member) → upto x ≡ true → upto y ≡ false → Below (member_pair x) (member_pair y))
       → AllByRecursion (λ (w : WaitingLine). IsLate limit past upward upto w.member) ws
-      → AllByRecursion (λ m. upto m ≡ true) done
+      → AllByRecursion (λ m. upto m ≡ true) r.done
       → seen all ≡ filter wanted taken ++ seen (filter (λ m. not (low upto m)) all)
   split upto lower late each =
       let is_lower : IsLower member_place place_cmp
@@ -98,7 +102,7 @@ module _ (limit : ℕ) (past : List ℕ → Bool) (upward : IsUpward past) (want
         seen others,
         split (upto_bound b) (bound_lower b)
             (grind (arith, each_weaker, bound_late))
-            (each_weaker (λ (m : Member) (h : IsUpto b (member_pair m)). bound_upto b m h) done below),
+            (each_weaker (λ (m : Member) (h : IsUpto b (member_pair m)). bound_upto b m h) r.done r.handed.1),
         each_weaker rest_above (seen others)
             (each_filter (λ m. low (upto_bound b) m ≡ false) wanted (rising member_place place_cmp others)
             (each_rising member_place place_cmp place_cmp_total (λ m. low (upto_bound b) m ≡ false) others
@@ -110,9 +114,9 @@ module _ (limit : ℕ) (past : List ℕ → Bool) (upward : IsUpward past) (want
   taken_whole none =
       split (λ m. true) (λ x y h k. absurd (true≢false k))
       (subst (AllByRecursion (λ (w : WaitingLine). IsLate limit past upward (λ m. true) w.member)) (sym none) tt)
-      (each_any done)
+      (each_any r.done)
       ∙ ap (λ l. filter wanted taken ++ l)
-      (none_wanted wanted (stays limit past upward) within (filter (λ m. not (low (λ k. true) m)) all)
+      (none_wanted wanted (stays limit past upward) r.within (filter (λ m. not (low (λ k. true) m)) all)
       (filter_out (stays limit past upward) all))
       ∙ append-nil (filter wanted taken)
     where
@@ -136,7 +140,7 @@ module _ (limit : ℕ) (past : List ℕ → Bool) (upward : IsUpward past) (want
       h.1,
       elim (and_cases (is_low next m) (not (past m.values.key)) h.0) [
         | inl e ↦ from_not_below (member_pair m) next e
-        | inr e ↦ absurd (true≢false (sym (within m h.1) ∙ e))
+        | inr e ↦ absurd (true≢false (sym (r.within m h.1) ∙ e))
       ],
     )
 
