@@ -110,15 +110,14 @@ at_pair pair m u = at_order (pair_cmp (member_pair m) pair) u
     at_order Equal g h = refl
     at_order Greater g h = cc
 
-module _ (limit : ℕ) (past : List ℕ → Bool) {S : Type 0} (text : S → Option (List ℕ)) (extent gave : S → ℕ)
-    (old ss0 ss : List S) (fs0 fs : List Feed) (ws0 ws : List WaitingLine) (b : Option Pair) (pair : Pair)
-    (taken group : List Member)
-    (was : Handed limit text old ss0 fs0 b taken) (above : AllByRecursion (λ w. IsAbove b (waiting_pair w)) ws0)
+module _ {limit : ℕ} {past : List ℕ → Bool} {S : Type 0} {text : S → Option (List ℕ)} {extent : S → ℕ}
+    {old ss0 ss : List S} {fs0 fs : List Feed} {ws0 ws : List WaitingLine} {b : Option Pair} {pair : Pair}
+    {taken group : List Member} (was : Handed limit text old ss0 fs0 b taken)
+    (above : AllByRecursion (λ w. IsAbove b (waiting_pair w)) ws0)
     (grouped : Grouped limit text extent ss0 fs0 ws0 ss fs ws pair group)
-    (ready : Ready limit past text extent ss fs ws)
+    (ready : Ready limit past text extent ss fs ws) (kept : AreTold text old → AreTold text ss0)
     (texts : List (List ℕ)) (indexes : List (List Member)) (most : ℕ) (known_old : Known (map text old) texts)
-    (known : Known (map text ss) texts) (kept : AreTold text old → AreTold text ss0)
-    (are : AllZip (IsIndex limit) texts indexes)
+    (known : Known (map text ss) texts) (are : AllZip (IsIndex limit) texts indexes)
     (share : ShareAtMost most (all_lines indexes)) where
   group_most : length group ≤ most
   group_most =

@@ -63,11 +63,11 @@ place_above pair u v h k =
     ∙ ap ordering_reverse
     (place_below u v (below_then (member_pair u) pair (member_pair v) h (same_from (member_pair v) pair k))))
 
-module _ {S : Type 0} (limit : ℕ) (text : S → Option (List ℕ)) (extent : S → ℕ) (old ss0 ss : List S)
-    (fs0 fs : List Feed) (ws0 ws : List WaitingLine) (b : Option Pair) (pair : Pair) (taken group : List Member)
+module _ {S : Type 0} {limit : ℕ} {text : S → Option (List ℕ)} {extent : S → ℕ} {old ss0 ss : List S}
+    {fs0 fs : List Feed} {ws0 ws : List WaitingLine} {b : Option Pair} {pair : Pair} {taken group : List Member}
     (was : Handed limit text old ss0 fs0 b taken) (above : AllByRecursion (λ w. IsAbove b (waiting_pair w)) ws0)
-    (grouped : Grouped limit text extent ss0 fs0 ws0 ss fs ws pair group) (kept : AreTold text old
-    → AreTold text ss0) where
+    (grouped : Grouped limit text extent ss0 fs0 ws0 ss fs ws pair group) (kept : AreTold text old → AreTold text ss0)
+  where
   up : IsAbove b pair
   up = grouped.above b above
 

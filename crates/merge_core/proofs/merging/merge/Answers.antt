@@ -60,12 +60,7 @@ reached g c entries =
       settled = ok.settled;
       moved = grind (arith, moved_trans);
       above = (grouped g c).later;
-      handed = handed_next LINE_LIMIT g.S.Source.text g.S.Source.extent c.args.sources.now c.loop-rest.sources
-          c.gather.new.sources c.loop-rest.streams.feeds.items c.gather.new.self.feeds.items c.loop-rest.streams.waiting
-          c.gather.new.self.waiting
-          came.bound (member_pair c.in-Some.first.value) came.taken (group g c) came.reached.handed came.reached.above
-          (grouped g c)
-          (told g c) entries;
+      handed = handed_next came.reached.handed came.reached.above (grouped g c) (told g c) entries;
     }
 
 entries : (g : Over) (c : After-hand_on g)
@@ -86,10 +81,8 @@ group_most g c texts indexes most known are share =
     let kept_old = texts_kept text extent gave old was c.args.streams.now.feeds.items was_feeds c.requires.ready.same
     (omega arith) came.reached.moved in
     let kept_new = texts_kept text extent gave was now was_feeds feeds came.reached.ready.same (omega arith) ok.moved in
-    let most_here = held_most LINE_LIMIT (g.R.Range.past c.args.range.now) text extent gave old was now was_feeds feeds
-    c.loop-rest.streams.waiting c.gather.new.self.waiting came.bound (member_pair c.in-Some.first.value) came.taken
-    (group g c) came.reached.handed came.reached.above (grouped g c) ok.ready
-    texts indexes most known (subst (λ l. Known l texts) (sym (kept_new ∙ kept_old)) known) (told g c) are share in
+    let most_here = held_most came.reached.handed came.reached.above (grouped g c) ok.ready (told g c) texts indexes most
+    known (subst (λ l. Known l texts) (sym (kept_new ∙ kept_old)) known) are share in
     let e : length now ≡ length old = omega arith in
     subst (λ n. length c.gather.new.self.waiting + length (group g c) ≤ n + most) e most_here
 
