@@ -14,14 +14,14 @@ use Rattle.cdxj_core.specs.Members.{Member, member_pair}
 use Rattle.merge_core.specs.declared.feed.Feed.{Feed}
 use Rattle.line_queue.specs.PairOrders.{Upto, IsAbove, is_low}
 use Rattle.line_queue.specs.WaitingLines.{WaitingLine, waiting_pair, is_of, waits_of}
-use Rattle.merge_core.specs.Collections.{Known, all_lines}
+use Rattle.merge_core.specs.Collections.{Known, OverIndexes, all_lines}
 use Rattle.merge_core.specs.Counts.{is_at, ShareAtMost}
 use Rattle.merge_core.specs.Feeds.{Fed, AreFed, Ready, member_of, given, done}
 use Rattle.merge_core.specs.Gathering.{AreTold, Grouped, all_done}
-use Rattle.merge_core.specs.Reached.{Handed}
-use Rattle.merge_core.proofs.MergeLemmas.{below_next}
+use Rattle.merge_core.specs.Reached.{Reached}
+use Rattle.merge_core.proofs.MergeLemmas.{gathered_now}
 use Rattle.merge_core.proofs.ReadLines.{members_are}
-use Rattle.merge_core.proofs.WholeLemmas.{told_known}
+use Rattle.merge_core.proofs.WholeLemmas.{told_known, texts_kept}
 
 -- ---- the lines that wait: one of each source at most
 
@@ -97,11 +97,6 @@ module _ (limit : ℕ) (past : List ℕ → Bool) {S : Type 0} (text : S → Opt
             fed.1,
       )
 
-pub held_after : {B : Type 0} (value : B → Member) (ws : List WaitingLine) (first : Member) (rest : List B)
-    (old new bound : ℕ) → new ≡ max old (min (length ws + 1 + length rest) (2 ^ 64 - 1))
-    → old ≤ bound → length ws + length (first ∷ map value rest) ≤ bound → new ≤ bound
-held_after value ws first rest old new bound e h k = let l = length-map rest value in omega arith
-
 at_pair : (pair : Pair) (m : Member) → Upto (member_pair m) pair → not (is_low pair m) ≡ true → is_at pair m ≡ true
 at_pair pair m u = at_order (pair_cmp (member_pair m) pair) u
   where
@@ -110,27 +105,25 @@ at_pair pair m u = at_order (pair_cmp (member_pair m) pair) u
     at_order Equal g h = refl
     at_order Greater g h = cc
 
-module _ {limit : ℕ} {past : List ℕ → Bool} {S : Type 0} {text : S → Option (List ℕ)} {extent : S → ℕ}
-    {old ss0 ss : List S} {fs0 fs : List Feed} {ws0 ws : List WaitingLine} {b : Option Pair} {pair : Pair}
-    {taken group : List Member} (was : Handed limit text old ss0 fs0 b taken)
-    (above : AllByRecursion (λ w. IsAbove b (waiting_pair w)) ws0)
+module _ {S : Type 0} {limit : ℕ} {text : S → Option (List ℕ)} {past : List ℕ → Bool} {extent gave : S → ℕ}
+    {old ss0 ss : List S} {old_fs fs0 fs : List Feed} {ws0 ws : List WaitingLine} {b c : Option Pair} {pair : Pair}
+    {taken more group : List Member} (was : Reached limit text past extent gave old old_fs ss0 fs0 ws0 b taken)
     (grouped : Grouped limit text extent ss0 fs0 ws0 ss fs ws pair group)
-    (ready : Ready limit past text extent ss fs ws) (kept : AreTold text old → AreTold text ss0)
-    (texts : List (List ℕ)) (indexes : List (List Member)) (most : ℕ) (known_old : Known (map text old) texts)
-    (known : Known (map text ss) texts) (are : AllZip (IsIndex limit) texts indexes)
-    (share : ShareAtMost most (all_lines indexes)) where
-  group_most : length group ≤ most
-  group_most =
-      let told = told_known text old texts known_old in
-      let low = below_next b pair (grouped.above b above) (all_done limit text ss0 fs0) (was.told told).1 in
-      let gathered = grouped.gathered (kept told) low in
+    (now : Reached limit text past extent gave old old_fs ss fs ws c more) (long : length ss ≡ length old)
+    (same : length old ≡ length old_fs) where
+  -- the lines that wait and the group are one line of each source, and as many as share a pair
+  pub held_most : OverIndexes limit (map text old) (λ texts indexes. (most : ℕ) → ShareAtMost most (all_lines indexes)
+      → length ws + length group ≤ length old + most)
+  held_most texts indexes known are most share =
+      let known_now = subst (λ l. Known l texts) (sym (texts_kept text extent gave old ss old_fs fs same long now.moved))
+      known in
+      let gathered = gathered_now was grouped (told_known text old texts known) in
       let all = all_done limit text ss fs in
       let here = filter_weaker (λ m. not (is_low pair m)) (is_at pair) all
       (each_weaker (λ (m : Member) (u : Upto (member_pair m) pair). at_pair pair m u) all gathered.upto) in
-      let there = all_fewer limit past text extent 0 ss fs ws texts indexes (is_at pair) ready.same known are
-      ready.fed in
-      omega (arith, ap length gathered.taken)
-
-  -- with the lines that wait
-  pub held_most : length ws + length group ≤ length ss + most
-  held_most = grind (arith, group_most, few_wait)
+      let there = all_fewer limit past text extent 0 ss fs ws texts indexes (is_at pair) now.ready.same known_now are
+      now.ready.fed in
+      let few = few_wait limit past text extent ss fs ws now.ready in
+      let few_group : length group ≤ most = omega (arith, ap length gathered.taken) in
+      let pairs = now.ready.same in
+      omega arith

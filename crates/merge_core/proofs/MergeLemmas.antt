@@ -1,6 +1,6 @@
 -- One group more of a merge.
 use Rattle.std.proofs.Common.{arith, ◌≡◌, ℕ, Result, Ok, Err, IsErrAnd, OnErr, List, [], ◌∷◌, ◌++◌, refl, sym, ap, ap₂}
-use Rattle.std.proofs.Common.{◌∙◌, Option, Some, None, map, true, Less, Equal, Greater, Ordering, is_lt, is_gt}
+use Rattle.std.proofs.Common.{◌∙◌, Bool, Option, Some, None, map, true, Less, Equal, Greater, Ordering, is_lt, is_gt}
 use Rattle.std.specs.List.{AllByRecursion}
 use Rattle.std.specs.Ordering.{ordering_reverse}
 use Rattle.cdxj_places.specs.Pairs.{Pair}
@@ -13,7 +13,9 @@ use Rattle.merge_core.specs.declared.feed.Feed.{Feed}
 use Rattle.line_queue.specs.PairOrders.{Alike, Below, Upto, IsAbove, IsUpto, is_low}
 use Rattle.line_queue.specs.WaitingLines.{WaitingLine, waiting_pair}
 use Rattle.merge_core.specs.Gathering.{Gathered, Grouped, AreTold, all_done}
-use Rattle.merge_core.specs.Reached.{Handed}
+use Rattle.merge_core.specs.Reached.{Handed, Reached}
+use Rattle.merge_core.specs.Feeds.{Ready, AreSettled, AllMoved}
+use Rattle.merge_core.proofs.Many.{told_moved, moved_trans}
 use Rattle.merge_core.specs.SourceLines.{HasEntry}
 use Rattle.line_queue.proofs.PairOrder.{from_not_below, below_then, then_below, below_upto, same_upto, same_from}
 use Rattle.merge_core.proofs.GroupLemmas.{AreAt, AreBelow}
@@ -63,27 +65,35 @@ place_above pair u v h k =
     ∙ ap ordering_reverse
     (place_below u v (below_then (member_pair u) pair (member_pair v) h (same_from (member_pair v) pair k))))
 
-module _ {S : Type 0} {limit : ℕ} {text : S → Option (List ℕ)} {extent : S → ℕ} {old ss0 ss : List S}
-    {fs0 fs : List Feed} {ws0 ws : List WaitingLine} {b : Option Pair} {pair : Pair} {taken group : List Member}
-    (was : Handed limit text old ss0 fs0 b taken) (above : AllByRecursion (λ w. IsAbove b (waiting_pair w)) ws0)
-    (grouped : Grouped limit text extent ss0 fs0 ws0 ss fs ws pair group) (kept : AreTold text old → AreTold text ss0)
-  where
-  up : IsAbove b pair
-  up = grouped.above b above
-
+module _ {S : Type 0} {limit : ℕ} {text : S → Option (List ℕ)} {past : List ℕ → Bool} {extent gave : S → ℕ}
+    {old ss0 ss : List S} {old_fs fs0 fs : List Feed} {ws0 ws : List WaitingLine} {b : Option Pair} {pair : Pair}
+    {taken group : List Member} (was : Reached limit text past extent gave old old_fs ss0 fs0 ws0 b taken)
+    (grouped : Grouped limit text extent ss0 fs0 ws0 ss fs ws pair group) where
   low : AreBelow pair taken
-  low = below_next b pair up taken was.upto
+  low = below_next b pair (grouped.above b was.above) taken was.handed.upto
 
   at : AreAt pair (rising member_place place_cmp group)
   at = grind (arith, each_rising, place_cmp_total)
 
-  pub handed_next : AllByRecursion (HasEntry limit) group
-      → Handed limit text old ss fs (Some pair) (taken ++ rising member_place place_cmp group)
-  handed_next entries = record {
-    entries = grind (arith, each_join, each_rising, place_cmp_total);
-    upto = grind (arith, each_join, each_weaker, below_upto, low, same_upto, at);
-    rises = grind (arith, rises_join, rises_rising, place_cmp_total, each_weaker, place_above, at, low);
-    told = grind (arith, below_next, up, risen_on);
+  pub gathered_now : AreTold text old
+      → Gathered pair (all_done limit text ss0 fs0) (all_done limit text ss fs) [] group
+  gathered_now told = grouped.gathered (told_moved text extent gave old ss0 old_fs fs0 was.ready.same was.moved told)
+      (below_next b pair (grouped.above b was.above) (all_done limit text ss0 fs0) (was.handed.told told).1)
+
+  pub reached_next : Ready limit past text extent ss fs ws → AreSettled fs → AllMoved text extent gave ss0 fs0 ss fs
+      → AllByRecursion (HasEntry limit) group
+      → Reached limit text past extent gave old old_fs ss fs ws (Some pair) (taken ++ rising member_place place_cmp group)
+  reached_next ready settled moved entries = record {
+    ready = ready;
+    settled = settled;
+    moved = grind (arith, moved_trans);
+    above = grouped.later;
+    handed = record {
+      entries = grind (arith, each_join, each_rising, place_cmp_total);
+      upto = grind (arith, each_join, each_weaker, below_upto, low, same_upto, at);
+      rises = grind (arith, rises_join, rises_rising, place_cmp_total, each_weaker, place_above, at, low);
+      told = grind (arith, gathered_now, risen_on);
+    };
   }
 
 pub handed_none : {S : Type 0} (limit : ℕ) (text : S → Option (List ℕ)) (ss : List S) (fs : List Feed)

@@ -1,4 +1,5 @@
 use Rattle.std.specs.List.{AllByRecursion, AllZip}
+use Rattle.std.proofs.lemmas.List.{length-map}
 use Rattle.std.proofs.Common.{arith, ◌≡◌, ℕ, ◌+◌, ◌≤◌, length, ◌∷◌, ◌++◌, [], inl, inr, Box, Global, List, Some, None}
 use Rattle.std.proofs.Common.{map, zip, refl, sym, ◌∙◌, subst}
 use Rattle.cdxj_core.specs.declared.limit.TheConstants.{LINE_LIMIT}
@@ -11,7 +12,7 @@ use Rattle.cdxj_places.specs.Rising.{rising}
 use Rattle.cdxj_places.proofs.PlaceOrder.{place_cmp_total}
 use Rattle.cdxj_places.proofs.RisingLaws.{each_rising}
 use Rattle.merge_core.proofs.SpendLemmas.{are_read_to}
-use Rattle.merge_core.specs.Collections.{Known, all_lines}
+use Rattle.merge_core.specs.Collections.{OverIndexes, all_lines}
 use Rattle.merge_core.specs.Counts.{ShareAtMost}
 use Rattle.merge_core.specs.Gathering.{Grouped, AreTold, all_done}
 use Rattle.line_queue.specs.PairOrders.{Alike}
@@ -20,85 +21,49 @@ use Rattle.merge_core.specs.SourceLines.{HasEntry}
 use Rattle.merge_core.proofs.WholeLemmas.{texts_kept}
 use Rattle.merge_core.proofs.FailLemmas.{if_err}
 use Rattle.merge_core.proofs.Many.{Move, moved_trans, moved_still, told_moved}
-use Rattle.merge_core.proofs.HeldLemmas.{held_most, held_after}
-use Rattle.merge_core.proofs.MergeLemmas.{above_none, below_next, handed_none, handed_next, on_err}
+use Rattle.merge_core.proofs.HeldLemmas.{held_most}
+use Rattle.merge_core.proofs.MergeLemmas.{above_none, below_next, handed_none, reached_next, on_err}
 use Rattle.merge_core.specs.Feeds.{AreSettled}
 use Rattle.devices.proofs.DeviceLemmas.{grows_not}
 use Rattle.merge_core.proofs.merging.merge.Given.{Over}
-use Rattle.merge_core.proofs.merging.merge.Goals.{In-Some, After-deref-in-Some, After-gather, After-hand_on}
-use Rattle.merge_core.proofs.merging.merge.Goals.{After-put_back}
+use Rattle.merge_core.proofs.merging.merge.Goals.{After-gather, After-hand_on}
 use Rattle.merge_core.proofs.merging.merge.Goals as goal
 
 abbrev values : List (Box Line Global) → List Member
 values = map (λ b. b.value)
 
-abbrev group : (g : Over) → In-Some g → List Member
+abbrev group : (g : Over) → After-hand_on g → List Member
 group g c = c.in-Some.first.value ∷ values c.gather.new.rest.items
 
 -- the lines before this group, and those with it
-abbrev taken : (g : Over) → In-Some g → List Member
+abbrev taken : (g : Over) → After-hand_on g → List Member
 taken g c = c.loop-rest.invariant.came.taken ++ rising member_place place_cmp (group g c)
 
-grouped : (g : Over) (c : In-Some g) → Grouped LINE_LIMIT g.S.Source.text g.S.Source.extent c.loop-rest.sources
+grouped : (g : Over) (c : After-hand_on g) → Grouped LINE_LIMIT g.S.Source.text g.S.Source.extent c.loop-rest.sources
     c.loop-rest.streams.feeds.items c.loop-rest.streams.waiting c.gather.new.sources c.gather.new.self.feeds.items
     c.gather.new.self.waiting (member_pair c.in-Some.first.value) (group g c)
 grouped g c = grind arith
 
-told : (g : Over) (c : In-Some g) → AreTold g.S.Source.text c.args.sources.now
-    → AreTold g.S.Source.text c.loop-rest.sources
-told g c = grind (arith, told_moved)
-
-reached : (g : Over) (c : In-Some g) → AllByRecursion (HasEntry LINE_LIMIT) (group g c)
+reached : (g : Over) (c : After-hand_on g)
     → Reached LINE_LIMIT g.S.Source.text (g.R.Range.past c.args.range.now) g.S.Source.extent g.S.Source.gave
     c.args.sources.now c.args.streams.now.feeds.items c.gather.new.sources c.gather.new.self.feeds.items
     c.gather.new.self.waiting (Some (member_pair c.in-Some.first.value)) (taken g c)
-reached g c entries =
-    let came = c.loop-rest.invariant.came in
+reached g c =
     let ok = c.in_ok-first.ensures in
-    record {
-      ready = ok.ready;
-      settled = ok.settled;
-      moved = grind (arith, moved_trans);
-      above = (grouped g c).later;
-      handed = handed_next came.reached.handed came.reached.above (grouped g c) (told g c) entries;
-    }
-
-entries : (g : Over) (c : After-hand_on g)
-    → AllByRecursion (HasEntry LINE_LIMIT) (c.in-Some.first.value ∷ values c.gather.new.rest.items)
-entries g c = grind arith
+    let entries : AllByRecursion (HasEntry LINE_LIMIT) (group g c) = grind arith in
+    reached_next c.loop-rest.invariant.came.reached (grouped g c) ok.ready ok.settled c.gather.ensures.moved entries
 
 -- the waiting lines and the group are one line of each source, and as many as share a pair
-group_most : (g : Over) (c : In-Some g) (texts : List (List ℕ)) (indexes : List (List Member)) (most : ℕ)
-    → Known (map g.S.Source.text c.args.sources.now) texts → AllZip (IsIndex LINE_LIMIT) texts indexes
-    → ShareAtMost most (all_lines indexes)
-    → length c.gather.new.self.waiting + length (group g c) ≤ length c.args.sources.now + most
-group_most g c texts indexes most known are share =
-    let came = c.loop-rest.invariant.came in
-    let ok = c.in_ok-first.ensures in
-    let text = g.S.Source.text in let extent = g.S.Source.extent in let gave = g.S.Source.gave in
-    let old = c.args.sources.now in let was = c.loop-rest.sources in let now = c.gather.new.sources in
-    let was_feeds = c.loop-rest.streams.feeds.items in let feeds = c.gather.new.self.feeds.items in
-    let kept_old = texts_kept text extent gave old was c.args.streams.now.feeds.items was_feeds c.requires.ready.same
-    (omega arith) came.reached.moved in
-    let kept_new = texts_kept text extent gave was now was_feeds feeds came.reached.ready.same (omega arith) ok.moved in
-    let most_here = held_most came.reached.handed came.reached.above (grouped g c) ok.ready (told g c) texts indexes most
-    known (subst (λ l. Known l texts) (sym (kept_new ∙ kept_old)) known) are share in
-    let e : length now ≡ length old = omega arith in
-    subst (λ n. length c.gather.new.self.waiting + length (group g c) ≤ n + most) e most_here
+group_most : (g : Over) (c : After-hand_on g) → OverIndexes LINE_LIMIT (map g.S.Source.text c.args.sources.now)
+    (λ texts indexes. (most : ℕ) → ShareAtMost most (all_lines indexes)
+    → length c.gather.new.self.waiting + length (group g c) ≤ length c.args.sources.now + most)
+group_most g c = held_most c.loop-rest.invariant.came.reached (grouped g c) (reached g c) (omega arith)
+    c.requires.ready.same
 
-order : (g : Over) (c : After-deref-in-Some g)
+order : (g : Over) (c : After-hand_on g)
     → rising member_place place_cmp (c.deref.result.now ∷ values c.deref-in-Some.result.now)
-    ≡ rising member_place place_cmp (c.in-Some.first.value ∷ values c.gather.new.rest.items)
+    ≡ rising member_place place_cmp (group g c)
 order g c = cc
-
-kept : (g : Over) (c : After-put_back g) (pair : Pair) (ms : List Member)
-    → Reached LINE_LIMIT g.S.Source.text (g.R.Range.past c.args.range.now) g.S.Source.extent g.S.Source.gave
-    c.args.sources.now c.args.streams.now.feeds.items c.gather.new.sources c.gather.new.self.feeds.items
-    c.gather.new.self.waiting (Some pair) ms
-    → Reached LINE_LIMIT g.S.Source.text (g.R.Range.past c.args.range.now) g.S.Source.extent g.S.Source.gave
-    c.args.sources.now c.args.streams.now.feeds.items c.gather.new.sources c.put_back.new.self.feeds.items
-    c.put_back.new.self.waiting (Some pair) ms
-kept g c pair ms r = grind arith
 
 -- the sources moved on
 moved : (g : Over) (c : After-gather g) → AllZip (Move g.S.Source.text g.S.Source.extent g.S.Source.gave)
@@ -132,7 +97,7 @@ returns-then-not-more-clause-moved g c = grind (arith, moved)
 
 pub returns-in_err-more-clause-broke : goal.returns-in_err-more-clause-broke
 returns-in_err-more-clause-broke g c =
-    let here = goal.at.returns-in_err-more-clause-broke g c in
+    let here = (goal.at.returns-in_err-more-clause-broke g c).After-hand_on in
     let came = c.loop-rest.invariant.came in
     on_err c.from_residual-in_err-more.result c.in_err-more.field-0.0 _ c.from_residual-in_err-more.ensures.1 (
     elim c.in_err-more.ensures.broke [
@@ -153,33 +118,34 @@ returns-in_err-more-clause-broke g c =
         sources = c.gather.new.sources;
         streams = c.gather.new.self;
         bound = Some (member_pair c.in-Some.first.value);
-        taken = taken g here.In-Some;
-        reached = reached g here.In-Some (entries g here.After-hand_on);
+        taken = taken g here;
+        reached = reached g here;
         wrote = λ begin start w. inr (subst
             (λ l. g.K.Sink.Broke begin (came.taken ++ l) start (g.O.Output.written c.hand_on.new.out))
-            (order g here.After-deref-in-Some) (k begin came.taken start (came.came begin start w)));
+            (order g here) (k begin came.taken start (came.came begin start w)));
       }
     ])
 
 pub returns-then-not-more-clause-passed : goal.returns-then-not-more-clause-passed
 returns-then-not-more-clause-passed g c =
-    let here = goal.at.returns-then-not-more-clause-passed g c in
+    let here = (goal.at.returns-then-not-more-clause-passed g c).After-hand_on in
     let came = c.loop-rest.invariant.came in
     let pair = member_pair c.in-Some.first.value in
+    let now = reached g here in
     record {
-      so_far = grind (arith, reached, kept, entries, order);
+      so_far = grind (arith, order);
       last = λ e. record {
         pair = pair;
         earlier = came.taken;
-        group = rising member_place place_cmp (group g here.In-Some);
+        group = rising member_place place_cmp (group g here);
         state = c.loop-rest.sink;
         middle = g.O.Output.written c.loop-rest.out;
         bound_is = refl;
         split = refl;
-        below = below_next came.bound pair ((grouped g here.In-Some).above came.bound came.reached.above) came.taken
+        below = below_next came.bound pair ((grouped g here).above came.bound came.reached.above) came.taken
             came.reached.handed.upto;
         alike = each_rising member_place place_cmp place_cmp_total (λ m. Alike (member_pair m) pair)
-            (group g here.In-Some) (grouped g here.In-Some).each;
+            (group g here) (grouped g here).each;
         more = c.loop-rest.invariant.further;
         came = came.came;
       };
@@ -190,7 +156,7 @@ returns-then-not-more-clause-passed g c =
 
 pub loop-rest-preserved : goal.loop-rest-preserved
 loop-rest-preserved g c =
-    let here = goal.at.loop-rest-preserved g c in
+    let here = (goal.at.loop-rest-preserved g c).After-hand_on in
     let came = c.loop-rest.invariant.came in
     let pair = member_pair c.in-Some.first.value in
     let ok = c.in_ok-first.ensures in
@@ -202,20 +168,16 @@ loop-rest-preserved g c =
       further = λ f. c.in_ok-more.ensures.further c.if-not-more.false;
       held = λ texts indexes known are most share h.
           let before = c.loop-rest.invariant.held texts indexes known are most share h in
-          let same = ok.held in
-          held_after (λ (b : Box Line Global). b.value) c.gather.new.self.waiting c.in-Some.first.value
-          c.gather.new.rest.items c.gather.new.self.held c.put_back.new.self.held (length c.args.sources.now + most)
-          c.put_back.ensures.held
-          (omega (arith, before, same)) (group_most g here.In-Some texts indexes most known are share);
+          let few = group_most g here texts indexes known are most share in
+          grind (arith, length-map);
       came = record {
         bound = Some pair;
-        taken = taken g here.In-Some;
-        reached = kept g here.After-put_back pair (taken g here.In-Some)
-            (reached g here.In-Some (entries g here.After-hand_on));
+        taken = taken g here;
+        reached = (let now = reached g here in grind arith);
         came = λ begin start w. subst
             (λ l. g.K.Sink.Wrote begin c.hand_on.new.sink (came.taken ++ l) start
             (g.O.Output.written c.hand_on.new.out))
-            (order g here.After-deref-in-Some)
+            (order g here)
             (c.in_ok-more.ensures.wrote begin came.taken start (came.came begin start w));
       };
     }
@@ -225,28 +187,19 @@ returns-in_err-first-clause-fault g c = grind (arith, texts_kept, if_err)
 
 pub returns-then-not-more-clause-held : goal.returns-then-not-more-clause-held
 returns-then-not-more-clause-held g c = λ texts indexes known are most share h.
-    let here = goal.at.returns-then-not-more-clause-held g c in
+    let here = (goal.at.returns-then-not-more-clause-held g c).After-hand_on in
     let before = c.loop-rest.invariant.held texts indexes known are most share h in
-    let same = c.in_ok-first.ensures.held in
-    held_after (λ (b : Box Line Global). b.value) c.gather.new.self.waiting c.in-Some.first.value
-    c.gather.new.rest.items c.gather.new.self.held c.put_back.new.self.held (length c.args.sources.now + most)
-    c.put_back.ensures.held
-    (omega (arith, before, same)) (group_most g here.In-Some texts indexes most known are share)
+    let few = group_most g here texts indexes known are most share in
+    grind (arith, length-map)
 
 pub returns-in_err-first-clause-held : goal.returns-in_err-first-clause-held
-returns-in_err-first-clause-held g c = λ texts indexes known are most share h.
-    let before = c.loop-rest.invariant.held texts indexes known are most share h in
-    grind arith
+returns-in_err-first-clause-held g c = simp c.gather.ensures.held c.loop-rest.invariant.held
 
 pub returns-in_err-more-clause-held : goal.returns-in_err-more-clause-held
-returns-in_err-more-clause-held g c = λ texts indexes known are most share h.
-    let before = c.loop-rest.invariant.held texts indexes known are most share h in
-    grind arith
+returns-in_err-more-clause-held g c = simp c.gather.ensures.held c.loop-rest.invariant.held
 
 pub returns-clause-held : goal.returns-clause-held
-returns-clause-held g c = λ texts indexes known are most share h.
-    let before = c.loop-rest.invariant.held texts indexes known are most share h in
-    grind arith
+returns-clause-held g c = simp c.gather.ensures.held c.loop-rest.invariant.held
 
 pub returns-in_err-first-clause-broke : goal.returns-in_err-first-clause-broke
 returns-in_err-first-clause-broke g c =
@@ -287,8 +240,7 @@ returns-in_err-first-clause-halted g c =
 
 pub returns-in_err-more-clause-halted : goal.returns-in_err-more-clause-halted
 returns-in_err-more-clause-halted g c =
-    let all = goal.at.returns-in_err-more-clause-halted g c in
-    let here = all.In-Some in
+    let here = (goal.at.returns-in_err-more-clause-halted g c).After-hand_on in
     let came = c.loop-rest.invariant.came in
     let pair = member_pair c.in-Some.first.value in
     on_err c.from_residual-in_err-more.result c.in_err-more.field-0.0 _ c.from_residual-in_err-more.ensures.1 (record {
@@ -304,7 +256,7 @@ returns-in_err-more-clause-halted g c =
       least = (grouped g here).least;
       read = λ t. are_read_to LINE_LIMIT (g.R.Range.past c.args.range.now) g.S.Source.text g.S.Source.extent
           (Some pair) 0 c.gather.new.sources c.gather.new.self.feeds.items c.gather.new.self.waiting
-          c.in_ok-first.ensures.ready.fed ((reached g here (entries g all.After-hand_on)).handed.told t).1;
+          c.in_ok-first.ensures.ready.fed ((reached g here).handed.told t).1;
     })
 
 pub returns-clause-passed : goal.returns-clause-passed
