@@ -5,23 +5,23 @@ use Rattle.std.proofs.Common.{flat_map, Bool, true, false, is_lt, Option, refl, 
 use Rattle.std.proofs.Common.{length-set, drop-set-lt}
 use Rattle.std.specs.List.Sorted.{IsPermutation}
 use Rattle.std.specs.Option.{is_some}
-use Rattle.std.proofs.lemmas.List.{set-get_or, get_or-set_same, get_or_default}
+use Rattle.std.proofs.lemmas.List.{set-set, set-get_or, get_or-set_same, get_or_default}
 use Rattle.std.proofs.lemmas.List.Sorted.{length_permutation}
 use Rattle.cdxj_places.specs.Pairs.{Pair}
-use Rattle.cdxj_places.proofs.RisingLaws.{each_weaker}
+use Rattle.cdxj_places.proofs.RisingLaws.{each_weaker, each_join}
 use Rattle.cdxj_core.specs.Members.{Member, member_pair}
 use Rattle.merge_core.specs.declared.feed.Feed.{Feed}
 use Rattle.line_queue.specs.PairOrders.{Alike, Upto}
 use Rattle.line_queue.specs.WaitingLines.{WaitingLine, waiting_pair, turn_cmp}
-use Rattle.merge_core.specs.Feeds.{Ready, done, due}
+use Rattle.merge_core.specs.Feeds.{Ready, IsSettled, AreSettled, done, due}
 use Rattle.merge_core.specs.Gathering.{Gathered, AreTold, text_or, all_done, unread, IsFrom, IsDue}
-use Rattle.merge_core.specs.Gathering.{DrainedSource}
+use Rattle.merge_core.specs.Gathering.{DrainedSource, WaitsAbove}
 use Rattle.line_queue.proofs.PairOrder.{upto_upto, same_upto, same_from}
 use Rattle.line_queue.proofs.HeapLemmas.{each_get, each_permuted}
 use Rattle.merge_core.proofs.Many.{is_told, zip_set, zip_at, length_zip, Move, moved_trans, moved_still, moved_set}
-use Rattle.merge_core.proofs.Many.{moved_not, told_moved, unread_set}
+use Rattle.merge_core.proofs.Many.{each_replaced, moved_not, told_moved, unread_set}
 use Rattle.merge_core.proofs.StreamLemmas.{inside_sources, none_left, popped_ready, popped_done, popped_due}
-use Rattle.merge_core.proofs.GroupLemmas.{from_popped, AreAt, AreBelow, all_sources, last_changes, next_changes, rest_changes}
+use Rattle.merge_core.proofs.GroupLemmas.{from_popped, from_waited, AreAt, AreBelow, all_sources, last_changes, next_changes, rest_changes}
 
 any_of : {X : Type 0} (xs : List X) (i : ℕ) → i < length xs → X
 any_of [] i l = absurd (omega arith)
@@ -50,16 +50,21 @@ module _ (limit : ℕ) (past : List ℕ → Bool) {S : Type 0} (text : S → Opt
     pub as_many : length ss ≡ length ss0
     pub moved : AllZip (Move text extent gave) (zip ss0 fs0) (zip ss fs)
     pub rest : drop n (zip ss fs) ≡ drop n (zip ss0 fs0)
+    pub each : AreAt pair group
+    pub from : AllByRecursion (IsFrom pair n) ws
     pub gathered : AreTold text ss0 → AreBelow pair (flat_map (of limit text) (zip ss0 fs0))
         → Gathered pair (flat_map (of limit text) (take n (zip ss0 fs0))) (flat_map (of limit text) (take n (zip ss fs)))
         [] group
 
-  pub gathers_start : (ws0 : List WaitingLine) → Ready limit past text extent ss0 fs0 ws0 → Gathers 0 ss0 fs0 ws0 []
-  gathers_start ws0 ready = record {
+  pub gathers_start : (ws0 : List WaitingLine) → Ready limit past text extent ss0 fs0 ws0
+      → AllByRecursion (λ w. Upto pair (waiting_pair w)) ws0 → Gathers 0 ss0 fs0 ws0 []
+  gathers_start ws0 ready least = record {
     ready = ready;
     as_many = refl;
     moved = moved_still text extent gave (zip ss0 fs0);
     rest = refl;
+    each = tt;
+    from = each_weaker (λ (w : WaitingLine) (u : Upto pair (waiting_pair w)). (u, λ a. omega arith)) ws0 least;
     gathered = grind arith;
   }
 
@@ -92,16 +97,19 @@ module _ {limit n : ℕ} {past : List ℕ → Bool} {S : Type 0} {text : S → O
     zip_now : zip ss (set fs w.source f) ≡ set (zip ss fs) w.source (get_or ss w.source a, f)
     zip_now = grind (arith, same_sources, zip_set)
 
+    turn : n ≤ w.source
+    turn = (each_permuted (IsFrom pair n) ws (w ∷ ws') p h.from).0.1 at
+
     next_fewer : unread extent ss (set fs w.source f) + length ws' < unread extent ss fs + length ws
     next_fewer =
         let e = unread_set text extent gave ss fs w.source a (get_or ss w.source a) b f h.ready.same inside in
         let l = length_permutation ws (w ∷ ws') p in
         grind (arith, same_sources)
 
-    gathers_next : n ≤ w.source
+    gathers_next : AllByRecursion (λ v. is_lt (turn_cmp v w) ≡ false) ws'
         → Gathers limit past text extent gave ss0 fs0 pair (w.source + 1) ss (set fs w.source f) ws'
         (group ++ w.member ∷ [])
-    gathers_next l = record {
+    gathers_next first = record {
       ready = popped_ready h.ready p a b;
       as_many = h.as_many;
       moved = moved_trans text extent gave (zip ss0 fs0) (zip ss fs) (zip ss (set fs w.source f)) h.moved
@@ -110,13 +118,15 @@ module _ {limit n : ℕ} {past : List ℕ → Bool} {S : Type 0} {text : S → O
           (moved_not (text (get_or ss w.source a)) (extent (get_or ss w.source a)) (gave (get_or ss w.source a))
           (get_or fs w.source b).cursor)));
       rest = ap (drop (w.source + 1)) zip_now
-          ∙ rest_changes pair (of limit text) (zip ss0 fs0) (zip ss fs) [] n w.source (get_or ss w.source a, f) l h.rest;
+          ∙ rest_changes pair (of limit text) (zip ss0 fs0) (zip ss fs) [] n w.source (get_or ss w.source a, f) turn h.rest;
+      each = each_join (λ m. Alike (member_pair m) pair) group (w.member ∷ []) h.each (at, tt);
+      from = from_popped pair w ws' at first (none_left h.ready p a b);
       gathered = λ told low.
           let d = of limit text in
           subst (λ z. Gathered pair (flat_map d (take (w.source + 1) (zip ss0 fs0)))
           (flat_map d (take (w.source + 1) z)) [] (group ++ w.member ∷ [])) (sym zip_now)
           (next_changes pair d (zip ss0 fs0) (zip ss fs) [] n w.source (a, b) (get_or ss w.source a, f)
-          (w.member ∷ []) group l
+          (w.member ∷ []) group turn
           (let e = length_zip ss fs h.ready.same in let i = inside in omega arith) h.rest low
           (popped_done h.ready p a b (text_or (text (get_or ss w.source a)))
           (is_told (text (get_or ss w.source a)) (told_now w.source a inside told))
@@ -142,20 +152,22 @@ module _ {limit n : ℕ} {past : List ℕ → Bool} {S : Type 0} {text : S → O
       pub gathers : Gathers limit past text extent gave ss0 fs0 pair (w.source + 1) ss fs' ws' (group ++ w.member ∷ [])
       pub inside : w.source < length ss
       pub due : (x : S) → (d : Feed) → IsDue limit pair (text (get_or ss w.source x)) (get_or fs' w.source d)
-      pub from : AllByRecursion (IsFrom pair (w.source + 1)) ws'
+      pub settled : AreSettled fs → (f : Feed) → IsSettled f → AreSettled (set fs' w.source f)
       pub fewer : unread extent ss fs' + length ws' < unread extent ss fs + length ws
 
     pub taken_next : (fs' : List Feed) → IsPermutation ws (w ∷ ws') → ((d : Feed) → fs' ≡ set fs w.source (due (get_or fs w.source d)))
-        → AllByRecursion (λ v. is_lt (turn_cmp v w) ≡ false) ws' → n ≤ w.source → Alike (waiting_pair w) pair → TakenNext fs'
-    taken_next fs' p feeds first l at =
+        → AllByRecursion (λ v. is_lt (turn_cmp v w) ≡ false) ws' → Alike (waiting_pair w) pair → TakenNext fs'
+    taken_next fs' p feeds first at =
         let placed = (each_permuted (λ (v : WaitingLine). v.source < length fs) ws (w ∷ ws') p h.ready.placed).0 in
         let b : Feed = any_of fs w.source placed in
         let a : S = any_of ss w.source (let same = h.ready.same in omega arith) in
         subst TakenNext (sym (feeds b)) (record {
-          gathers = gathers_next h a b p at l;
+          gathers = gathers_next h a b p at first;
           inside = inside h a b p at;
           due = next_due h a b p at;
-          from = from_popped pair w ws' at first (none_left h.ready p a b);
+          settled = λ all f s.
+              subst AreSettled (sym (set-set fs w.source (due (get_or fs w.source b)) f))
+              (each_replaced IsSettled fs w.source f all s);
           fewer = next_fewer h a b p at;
         })
 
@@ -165,29 +177,31 @@ module _ {limit i : ℕ} {past : List ℕ → Bool} {S : Type 0} {text : S → O
     {g g' : List Member} (h : Gathers limit past text extent gave ss0 fs0 pair (i + 1) ss fs ws (first ∷ g))
     (d : DrainedSource limit text q i ss ss' fs fs' g g') (same : q ≡ pair) (inside : i < length ss)
     (ready : Ready limit past text extent ss' fs' ws') (moved : AllZip (Move text extent gave) (zip ss fs) (zip ss' fs'))
-  where
-    zip_drained : zip ss' fs' ≡ set (zip ss fs) i (d.source, d.feed)
-    zip_drained = ap₂ (λ us vs. zip us vs) d.source_is d.feed_is ∙ zip_set ss fs i d.source d.feed
+    (waits : WaitsAbove pair i ws ws') (each : AreAt q g → AreAt q g') where
+  zip_drained : zip ss' fs' ≡ set (zip ss fs) i (d.source, d.feed)
+  zip_drained = ap₂ (λ us vs. zip us vs) d.source_is d.feed_is ∙ zip_set ss fs i d.source d.feed
 
-    pub gathers_drained : Gathers limit past text extent gave ss0 fs0 pair (i + 1) ss' fs' ws' (first ∷ g')
-    gathers_drained = record {
-      ready = ready;
-      as_many = ap length d.source_is ∙ length-set ss i d.source ∙ h.as_many;
-      moved = moved_trans text extent gave (zip ss0 fs0) (zip ss fs) (zip ss' fs') h.moved moved;
-      rest = ap (drop (i + 1)) zip_drained
-          ∙ drop-set-lt (i + 1) (zip ss fs) i (d.source, d.feed) (omega arith) ∙ h.rest;
-      gathered = λ told low.
-          let s = d.source in
-          let all = of limit text in
-          let before = flat_map all (take (i + 1) (zip ss0 fs0)) in
-          let more = d.drained s d.feed (text_or (text (get_or ss i s)))
-          (is_told (text (get_or ss i s)) (told_now h i s inside told)) in
-          subst (λ u. Gathered pair before (flat_map all (take (i + 1) (zip ss' fs'))) [] u)
-          (ap (λ u. first ∷ u) (sym more.2))
-          (subst (λ z. Gathered pair before (flat_map all (take (i + 1) z)) [] (first ∷ g ++ more.0)) (sym zip_drained)
-          (last_changes pair all (zip ss0 fs0) (zip ss fs) [] i (s, d.feed) (s, d.feed) more.0 (first ∷ g) before
-          (let e = length_zip ss fs h.ready.same in omega arith)
-          (ap (λ o. done limit (text_or o) d.feed) (d.text_is s) ∙ more.1
-          ∙ ap (λ x. all x ++ more.0) (sym (zip_at ss fs i s d.feed h.ready.same inside)))
-          (subst (λ p. AreAt p more.0) same more.3) (h.gathered told low)));
-    }
+  pub gathers_drained : Gathers limit past text extent gave ss0 fs0 pair (i + 1) ss' fs' ws' (first ∷ g')
+  gathers_drained = record {
+    ready = ready;
+    as_many = ap length d.source_is ∙ length-set ss i d.source ∙ h.as_many;
+    moved = moved_trans text extent gave (zip ss0 fs0) (zip ss fs) (zip ss' fs') h.moved moved;
+    rest = ap (drop (i + 1)) zip_drained
+        ∙ drop-set-lt (i + 1) (zip ss fs) i (d.source, d.feed) (omega arith) ∙ h.rest;
+    each = (h.each.0, subst (λ p. AreAt p g → AreAt p g') same each h.each.1);
+    from = from_waited pair (i + 1) i ws ws' waits h.from;
+    gathered = λ told low.
+        let s = d.source in
+        let all = of limit text in
+        let before = flat_map all (take (i + 1) (zip ss0 fs0)) in
+        let more = d.drained s d.feed (text_or (text (get_or ss i s)))
+        (is_told (text (get_or ss i s)) (told_now h i s inside told)) in
+        subst (λ u. Gathered pair before (flat_map all (take (i + 1) (zip ss' fs'))) [] u)
+        (ap (λ u. first ∷ u) (sym more.2))
+        (subst (λ z. Gathered pair before (flat_map all (take (i + 1) z)) [] (first ∷ g ++ more.0)) (sym zip_drained)
+        (last_changes pair all (zip ss0 fs0) (zip ss fs) [] i (s, d.feed) (s, d.feed) more.0 (first ∷ g) before
+        (let e = length_zip ss fs h.ready.same in omega arith)
+        (ap (λ o. done limit (text_or o) d.feed) (d.text_is s) ∙ more.1
+        ∙ ap (λ x. all x ++ more.0) (sym (zip_at ss fs i s d.feed h.ready.same inside)))
+        (subst (λ p. AreAt p more.0) same more.3) (h.gathered told low)));
+  }

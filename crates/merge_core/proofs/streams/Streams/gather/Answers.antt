@@ -47,6 +47,7 @@ drained : (g : Over) (c : In_ok-drain g)
 drained g c =
     let ok = c.in_ok-drain.ensures in
     gathers_drained c.sources.invariant.gathers ok.drained (same g c) c.sources.invariant.inside ok.ready ok.moved
+    (grind arith) ok.each
 
 -- and of the feeds
 drained_settled : (g : Over) (c : In_ok-drain g) → AreSettled c.drain.new.self.feeds.items
@@ -56,20 +57,6 @@ drained_settled g c =
     let own = ap (λ (l : List Feed). get_or l c.sources.i f) ok.drained.feed_is
     ∙ set_own c.sources.self.feeds.items c.sources.i f in
     grind arith
-
--- its lines have the group's pair
-drained_each : (g : Over) (c : In_ok-drain g) → AreAt (member_pair c.new-keyed.result) (values c.drain.new.rest.items)
-drained_each g c =
-    subst (λ p. AreAt p (values c.sources.rest.items) → AreAt p (values c.drain.new.rest.items)) (same g c)
-    c.in_ok-drain.ensures.each c.sources.invariant.each
-
--- the lines that wait come after it
-drained_from : (g : Over) (c : In_ok-drain g)
-    → AllByRecursion (IsFrom (member_pair c.new-keyed.result) (c.sources.i + 1)) c.drain.new.self.waiting
-drained_from g c =
-    let pair = member_pair c.new-keyed.result in
-    from_waited pair (c.sources.i + 1) c.sources.i c.sources.self.waiting c.drain.new.self.waiting (grind arith)
-    c.sources.invariant.from
 
 -- the line that is taken next
 abbrev taken_line : (g : Over) → After-push g → WaitingLine
@@ -89,19 +76,12 @@ taken : (g : Over) (c : After-push g)
     c.args.sources.now c.args.self.now.feeds.items (member_pair c.new-keyed.result) (c.sources.i + 1)
     c.drain.new.sources c.drain.new.self.feeds.items c.drain.new.self.waiting
     (c.new-keyed.result ∷ values c.drain.new.rest.items))
-    → AllByRecursion (IsFrom (member_pair c.new-keyed.result) (c.sources.i + 1)) c.drain.new.self.waiting
     → TakenNext h (taken_line g c) c.take_at.new.self.waiting c.take_at.new.self.feeds.items
-taken g c h from =
-    let pair = member_pair c.new-keyed.result in
-    let left = c.take_at.new.self.waiting in
-    let w = taken_line g c in
-    let is = sym c.next-in-sources.view_is in
+taken g c h =
     let took = c.in-Some-take_at.ensures in
-    let out = subst (λ (v : WaitingLine). IsPermutation c.drain.new.self.waiting (v ∷ left)) is took.out in
-    let mine = (each_permuted (IsFrom pair (c.sources.i + 1)) c.drain.new.self.waiting (w ∷ left) out from).0 in
-    taken_next h w left c.take_at.new.self.feeds.items out (taken_feeds g c)
-    (subst (λ (x : WaitingLine). AllByRecursion (λ v. is_lt (turn_cmp v x) ≡ false) left) is took.first)
-    (mine.1 (taken_alike g c)) (taken_alike g c)
+    let is = sym c.next-in-sources.view_is in
+    taken_next h (taken_line g c) c.take_at.new.self.waiting c.take_at.new.self.feeds.items (rw is at took.out)
+    (taken_feeds g c) (rw is at took.first) (taken_alike g c)
 
 pub returns-in_default-clause-moved : goal.returns-in_default-clause-moved
 returns-in_default-clause-moved g c = grind (arith, moved_still)
@@ -110,40 +90,30 @@ pub sources-init : goal.sources-init
 sources-init g c =
     let past = g.R.Range.past c.args.range.now in
     let ss = c.args.sources.now in let fs = c.args.self.now.feeds.items in let ws = c.args.self.now.waiting in
+    let left = c.take_first.new.self.waiting in
     let from : Member → WaitingLine = λ m. record { member = m; source = c.next.inside.source } in
     let w = from c.new-keyed.result in
     let is = sym c.next.view_is ∙ ap from (sym (c.new-keyed.ensures ∙ c.deref.ensures)) in
     let pair = waiting_pair w in
-    let out = subst (λ (v : WaitingLine). IsPermutation ws (v ∷ c.take_first.new.self.waiting)) is
-    c.in-Some.ensures.out in
-    let feeds = subst (λ (v : WaitingLine). (d : Feed) → c.take_first.new.self.feeds.items
-    ≡ set fs v.source (due (get_or fs v.source d))) is c.in-Some.ensures.feeds in
-    let later = subst (λ (x : WaitingLine). AllByRecursion (λ v. is_lt (turn_cmp v x) ≡ false)
-    c.take_first.new.self.waiting) is c.in-Some.ensures.first in
-    let t = taken_next
-    (gathers_start LINE_LIMIT past g.S.Source.text g.S.Source.extent g.S.Source.gave ss fs pair ws c.requires.ready) w
-    c.take_first.new.self.waiting c.take_first.new.self.feeds.items out feeds later (omega arith)
+    let out = rw is at c.in-Some.ensures.out in
+    let later = rw is at c.in-Some.ensures.first in
+    let least = each_permuted (λ (v : WaitingLine). Upto pair (waiting_pair v)) (w ∷ left) ws
+    (IsPermutation-sym ws (w ∷ left) out) (
+      upto_itself pair,
+      each_weaker (λ (v : WaitingLine) (q : is_lt (turn_cmp v w) ≡ false). not_before v w q) left later,
+    ) in
+    let t = taken_next (gathers_start LINE_LIMIT past g.S.Source.text g.S.Source.extent g.S.Source.gave ss fs pair ws
+    c.requires.ready least) w left c.take_first.new.self.feeds.items out (rw is at c.in-Some.ensures.feeds) later
     (tied_itself pair_cmp_total pair) in
     record {
       gathers = grind arith;
       held = c.take_first.ensures.held;
       inside = t.inside;
       due = t.due;
-      settled = λ f s.
-          subst AreSettled (sym (ap (λ (l : List Feed). set l w.source f) (feeds f)
-          ∙ set-set fs w.source (due (get_or fs w.source f)) f))
-          (each_replaced IsSettled fs w.source f c.requires.settled s);
+      settled = t.settled c.requires.settled;
       failures = refl;
-      from = t.from;
-      above = λ b h. above_popped b ws c.take_first.new.self.waiting w out h;
-      least = each_permuted (λ (v : WaitingLine). Upto pair (waiting_pair v)) (w ∷ c.take_first.new.self.waiting) ws
-          (IsPermutation-sym ws (w ∷ c.take_first.new.self.waiting) out) (
-            upto_itself pair,
-            each_weaker (λ (v : WaitingLine) (q : is_lt (turn_cmp v w) ≡ false). not_before v w q)
-                c.take_first.new.self.waiting later,
-          );
-      each = subst (λ (l : List (Box Line Global)). AreAt pair (map (λ (b : Box Line Global). b.value) l))
-          (sym c.requires.empty) tt;
+      above = λ b h. above_popped b ws left w out h;
+      least = least;
       fewer = t.fewer;
     }
 
@@ -158,8 +128,7 @@ returns-in_err-drain-clause-moved g c = grind (arith, moved_trans)
 pub take_at-requires-clause-from : goal.take_at-requires-clause-from
 take_at-requires-clause-from g c =
     each_weaker (λ (w : WaitingLine) (h : IsFrom (member_pair c.new-keyed.result) (c.sources.i + 1) w). h.0)
-    c.drain.new.self.waiting
-    (drained_from g (goal.at.take_at-requires-clause-from g c).In_ok-drain)
+    c.drain.new.self.waiting (drained g (goal.at.take_at-requires-clause-from g c).In_ok-drain).from
 
 pub returns-in_default-take_at-clause-moved : goal.returns-in_default-take_at-clause-moved
 returns-in_default-take_at-clause-moved g c = grind (arith, drained)
@@ -188,7 +157,7 @@ returns-in_default-take_at-clause-group g c =
       above = inv.above;
       least = inv.least;
       later = out.1;
-      each = (tied_itself pair_cmp_total pair, drained_each g here);
+      each = now.each;
       fewer = omega (arith, ok.fewer, inv.fewer, unread_same, long);
       gathered = λ told low.
           subst (λ (us : List Feed). Gathered pair (all_done LINE_LIMIT text old old_feeds)
@@ -199,18 +168,18 @@ returns-in_default-take_at-clause-group g c =
 pub returns-in_err-push-clause-moved : goal.returns-in_err-push-clause-moved
 returns-in_err-push-clause-moved g c =
     let here = goal.at.returns-in_err-push-clause-moved g c in
-    (taken g here.After-push (drained g here.In_ok-drain) (drained_from g here.In_ok-drain)).gathers.moved
+    (taken g here.After-push (drained g here.In_ok-drain)).gathers.moved
 
 pub sources-smaller : goal.sources-smaller
 sources-smaller g c =
     let here = goal.at.sources-smaller g c in
-    let fewer = (taken g here.After-push (drained g here.In_ok-drain) (drained_from g here.In_ok-drain)).fewer in
+    let fewer = (taken g here.After-push (drained g here.In_ok-drain)).fewer in
     omega (arith, fewer, c.in_ok-drain.ensures.fewer)
 
 pub sources-preserved : goal.sources-preserved
 sources-preserved g c =
     let here = goal.at.sources-preserved g c in
-    let t = taken g here.After-push (drained g here.In_ok-drain) (drained_from g here.In_ok-drain) in
+    let t = taken g here.After-push (drained g here.In_ok-drain) in
     let w = taken_line g here.After-push in
     let pair = member_pair c.new-keyed.result in
     let rest = c.drain.new.rest.items in
@@ -225,16 +194,10 @@ sources-preserved g c =
       held = c.take_at.ensures.held ∙ ok.held ∙ inv.held;
       inside = t.inside;
       due = t.due;
-      settled = λ f s.
-          let next = ap (λ (l : List Feed). set l w.source f) (taken_feeds g here.After-push f)
-          ∙ set-set feeds w.source (due (get_or feeds w.source f)) f in
-          subst AreSettled (sym next) (each_replaced IsSettled feeds w.source f (drained_settled g here.In_ok-drain) s);
+      settled = t.settled (drained_settled g here.In_ok-drain);
       failures = ok.failures ∙ inv.failures;
-      from = t.from;
       above = inv.above;
       least = inv.least;
-      each = subst (AreAt pair) (sym pushed) (each_join (λ m. Alike (member_pair m) pair) (values rest) (w.member ∷ [])
-          (drained_each g here.In_ok-drain) (taken_alike g here.After-push, tt));
       fewer = omega (arith, t.fewer, ok.fewer, inv.fewer);
     }
 

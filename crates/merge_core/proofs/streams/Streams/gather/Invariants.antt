@@ -7,8 +7,7 @@ use Rattle.merge_core.specs.declared.feed.Feed.{Feed}
 use Rattle.line_queue.specs.PairOrders.{IsAbove, Upto}
 use Rattle.line_queue.specs.WaitingLines.{waiting_pair}
 use Rattle.merge_core.specs.Feeds.{IsSettled, AreSettled}
-use Rattle.merge_core.specs.Gathering.{IsFrom, IsDue, unread}
-use Rattle.merge_core.proofs.GroupLemmas.{AreAt}
+use Rattle.merge_core.specs.Gathering.{IsDue, unread}
 use Rattle.merge_core.proofs.GatherSteps.{Gathers}
 use Rattle.merge_core.proofs.streams.Streams.gather.Given as goal
 
@@ -24,11 +23,9 @@ invariant-sources g l = record {
       (get_or l.self.feeds.items l.i d);
   settled : (f : Feed) → IsSettled f → AreSettled (set l.self.feeds.items l.i f);
   failures : map g.S.Source.failures l.sources ≡ map g.S.Source.failures l.fn.sources;
-  from : AllByRecursion (IsFrom (member_pair l.keyed) (l.i + 1)) l.self.waiting;
   above : (b : Option Pair) → AllByRecursion (λ w. IsAbove b (waiting_pair w)) l.fn.self.waiting
       → IsAbove b (member_pair l.keyed);
   least : AllByRecursion (λ w. Upto (member_pair l.keyed) (waiting_pair w)) l.fn.self.waiting;
-  each : AreAt (member_pair l.keyed) (map (λ b. b.value) l.rest.items);
   fewer : unread g.S.Source.extent l.sources l.self.feeds.items + length l.self.waiting < unread g.S.Source.extent
       l.fn.sources l.fn.self.feeds.items + length l.fn.self.waiting;
 }
