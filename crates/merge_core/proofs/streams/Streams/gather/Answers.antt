@@ -118,9 +118,7 @@ sources-init g c =
     }
 
 pub drain-requires-clause-due : goal.drain-requires-clause-due
-drain-requires-clause-due g c = λ a d.
-    subst (λ p. IsDue LINE_LIMIT p (g.S.Source.text (get_or c.sources.sources c.sources.i a))
-    (get_or c.sources.self.feeds.items c.sources.i d)) (grind arith) (c.sources.invariant.due a d)
+drain-requires-clause-due g c = λ a d. let due = c.sources.invariant.due a d in grind arith
 
 pub returns-in_err-drain-clause-moved : goal.returns-in_err-drain-clause-moved
 returns-in_err-drain-clause-moved g c = grind (arith, moved_trans)
@@ -137,32 +135,23 @@ pub returns-in_default-take_at-clause-group : goal.returns-in_default-take_at-cl
 returns-in_default-take_at-clause-group g c =
     let here = (goal.at.returns-in_default-take_at-clause-group g c).In_ok-drain in
     let now = drained g here in
-    let text = g.S.Source.text in let extent = g.S.Source.extent in
-    let old = c.args.sources.now in let old_feeds = c.args.self.now.feeds.items in
-    let ss = c.drain.new.sources in let fs = c.drain.new.self.feeds.items in
+    let ss = c.drain.new.sources in
     let inv = c.sources.invariant in
     let ok = c.in_ok-drain.ensures in
-    let first = c.new-keyed.result in
-    let pair = member_pair first in
-    let group = first ∷ values c.drain.new.rest.items in
-    let feeds = c.in_default-take_at.ensures.feeds in
-    let out = c.in_default-take_at.ensures.out in
-    let unread_same = ap (λ (us : List Feed). unread extent ss us) feeds in
-    let long = ap (λ (ws : List WaitingLine). length ws) out.0 in
+    let took = c.in_default-take_at.ensures in
+    let unread_same = ap (λ (us : List Feed). unread g.S.Source.extent ss us) took.feeds in
+    let long = ap (λ (ws : List WaitingLine). length ws) took.out.0 in
     let inside : c.sources.i + 1 ≤ length ss = omega
     (arith, inv.inside, ap length ok.drained.source_is, length-set c.sources.sources c.sources.i ok.drained.source) in
-    subst (λ m. Grouped LINE_LIMIT text extent old old_feeds c.args.self.now.waiting ss c.take_at.new.self.feeds.items
-    c.take_at.new.self.waiting
+    subst (λ m. Grouped LINE_LIMIT g.S.Source.text g.S.Source.extent c.args.sources.now c.args.self.now.feeds.items
+    c.args.self.now.waiting ss c.take_at.new.self.feeds.items c.take_at.new.self.waiting
     (member_pair m) (m ∷ values c.drain.new.rest.items)) (c.new-keyed.ensures ∙ c.deref.ensures) (record {
       above = inv.above;
       least = inv.least;
-      later = out.1;
+      later = took.out.1;
       each = now.each;
       fewer = omega (arith, ok.fewer, inv.fewer, unread_same, long);
-      gathered = λ told low.
-          subst (λ (us : List Feed). Gathered pair (all_done LINE_LIMIT text old old_feeds)
-          (all_done LINE_LIMIT text ss us) [] group) (sym feeds)
-          (gathers_all now c.requires.ready.same inside told low);
+      gathered = λ told low. rw took.feeds (gathers_all now c.requires.ready.same inside told low);
     })
 
 pub returns-in_err-push-clause-moved : goal.returns-in_err-push-clause-moved
@@ -216,15 +205,9 @@ read_to : (g : Over) (c : After-drain g) → AreTold g.S.Source.text c.args.sour
     → AreReadTo LINE_LIMIT (g.R.Range.past c.args.range.now) g.S.Source.text (Some (member_pair c.new-keyed.result))
     c.drain.new.sources c.drain.new.self.feeds.items
 read_to g c told low =
-    let past = g.R.Range.past c.args.range.now in
-    let text = g.S.Source.text in
-    let inv = c.sources.invariant in
-    let ss = c.sources.sources in let fs = c.sources.self.feeds.items in
-    let is = ap member_pair (c.deref-in-sources.ensures ∙ sym (c.new-keyed.ensures ∙ c.deref.ensures)) in
-    let all = (gathers_all inv.gathers c.requires.ready.same (omega arith) told low).upto in
-    subst (λ q. AreReadTo LINE_LIMIT past text (Some q) c.drain.new.sources c.drain.new.self.feeds.items) is
-    (c.drain.ensures.reads
-    (subst (λ q. AllByRecursion (λ m. Upto (member_pair m) q) (all_done LINE_LIMIT text ss fs)) (sym is) all))
+    let is = c.deref-in-sources.ensures ∙ sym (c.new-keyed.ensures ∙ c.deref.ensures) in
+    let all = (gathers_all c.sources.invariant.gathers c.requires.ready.same (omega arith) told low).upto in
+    (rw is at c.drain.ensures.reads) all
 
 pub returns-in_err-drain-clause-reads : goal.returns-in_err-drain-clause-reads
 returns-in_err-drain-clause-reads g c =
@@ -237,17 +220,13 @@ pub returns-in_err-push-clause-reads : goal.returns-in_err-push-clause-reads
 returns-in_err-push-clause-reads g c =
     let at = goal.at.returns-in_err-push-clause-reads g c in
     let inv = c.sources.invariant in
-    let pair = member_pair c.new-keyed.result in
-    let past = g.R.Range.past c.args.range.now in
     let f = c.in_ok-drain.ensures.drained.feed in
     on_err c.from_residual-in_err-push.result Memory _ c.from_residual-in_err-push.ensures.1 (record {
-      pair = pair;
+      pair = member_pair c.new-keyed.result;
       above = inv.above;
       least = inv.least;
-      read = λ told low.
-          subst (λ (us : List Feed). AreReadTo LINE_LIMIT past g.S.Source.text (Some pair) c.drain.new.sources us)
-          (sym (taken_feeds g at.After-push f))
-          (due_read LINE_LIMIT past g.S.Source.text g.S.Source.extent (Some pair) c.drain.new.sources
+      read = λ told low. rw (taken_feeds g at.After-push f)
+          (due_read LINE_LIMIT (g.R.Range.past c.args.range.now) g.S.Source.text g.S.Source.extent _ c.drain.new.sources
           c.drain.new.self.feeds.items (taken_line g at.After-push).source f (read_to g at.After-drain told low));
     })
 
