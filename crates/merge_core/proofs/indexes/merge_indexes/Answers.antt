@@ -3,7 +3,7 @@ use Rattle.std.proofs.Common.{false, refl, sym, ap, ◌∙◌, subst, arith, app
 use Rattle.std.specs.Io.KnownBytes.{Appends}
 use Rattle.std.proofs.lemmas.List.{length-map}
 use Rattle.std.proofs.lemmas.Result.{err_from_is_err_and}
-use Rattle.std.proofs.lemmas.Bool.{true≢false}
+use Rattle.std.proofs.lemmas.Bool.{true≢false, cases_Bool}
 use Rattle.std.proofs.lemmas.List.Concat.{flat_map-append}
 use Rattle.cdxj_core.specs.declared.limit.TheConstants.{LINE_LIMIT}
 use Rattle.cdxj_core.specs.Members.{Member, line_row, member_pair, member_place}
@@ -43,16 +43,16 @@ filter_every [] = refl
 filter_every (x ∷ xs) = ap (λ l. x ∷ l) (filter_every xs)
 
 -- of sources that are indexes, what was taken is a front of their collection
-front : (g : Over) (c : After-merge g) (ss : List g.row.S.Denot) (fs : List Feed) (ws : List WaitingLine)
-    (b : Option Pair) (taken : List Member) → ReachedFrom g c ss fs ws b taken
+front : (g : Over) (c : After-merge g) {ss : List g.row.S.Denot} {fs : List Feed} {ws : List WaitingLine}
+    {b : Option Pair} {taken : List Member} → ReachedFrom g c ss fs ws b taken
     → (old new : Option (List ℕ)) → AppendsPrefix old new (lines_text taken)
     → OverIndexes LINE_LIMIT (map g.S.Source.text c.args.sources.now)
     (λ texts indexes. AppendsPrefix old new (lines_text (collection indexes)))
-front g c ss fs ws b taken reached old new p texts indexes known are =
+front g c {ss} {fs} {ws} {b} {taken} reached old new p texts indexes known are =
     let opened = c.in_ok-opened.ensures in
     let first = sought_first g.S.Source.text g.S.Source.extent g.S.Source.gave LINE_LIMIT never
     (λ key later e h. absurd (true≢false (sym e))) c.open_at.new.sources c.in_ok-opened.opened.streams.feeds.items ss fs
-    ws b taken opened.ready.same reached texts indexes (subst (λ l. Known l texts) (sym opened.text) known) are
+    ws b taken opened.ready.same reached texts indexes (rw (← opened.text) at known) are
     (λ m. true) (λ m e. refl) ([], []) opened.cut
     (λ m e. none_below_least (member_pair m).0 (member_pair m).1) in
     let whole : collection indexes ≡ taken ++ first.0 = grind (arith, filter_every) in
@@ -60,12 +60,10 @@ front g c ss fs ws b taken reached old new p texts indexes known are =
     (prefix_longer old new (lines_text taken) (lines_text first.0) p)
 
 -- and of any sources, it is lines of theirs
-lines : (g : Over) (c : After-merge g) (ss : List g.row.S.Denot) (fs : List Feed) (ws : List WaitingLine)
-    (b : Option Pair) (taken : List Member) → ReachedFrom g c ss fs ws b taken
+lines : (g : Over) (c : After-merge g) {ss : List g.row.S.Denot} {fs : List Feed} {ws : List WaitingLine}
+    {b : Option Pair} {taken : List Member} → ReachedFrom g c ss fs ws b taken
     → AreLinesOf LINE_LIMIT (map g.S.Source.text c.args.sources.now) taken
-lines g c ss fs ws b taken reached =
-    let opened = c.in_ok-opened.ensures in
-    subst (λ ts. AreLinesOf LINE_LIMIT ts taken) opened.text (grind (arith, taken_lines))
+lines g c reached = rw (← c.in_ok-opened.ensures.text) (grind (arith, taken_lines))
 
 whole : (old new : Option (List ℕ)) (text : List ℕ) → Appends old new text → AppendsPrefix old new text
 whole old new text a = grind (arith, append-nil, prefix_whole)
@@ -101,9 +99,7 @@ returns-in_err-opened-clause-lines g c =
 pub returns-in_err-merge-clause-part : goal.returns-in_err-merge-clause-part
 returns-in_err-merge-clause-part g c =
     let at = goal.at.returns-in_err-merge-clause-part g c in
-    let b = c.in_err-merge.ensures.broke in
-    front g at.After-merge b.sources b.streams.feeds.items b.streams.waiting b.bound b.taken b.reached _ _
-    (broke g at.In_err-merge)
+    front g at.After-merge c.in_err-merge.ensures.broke.reached _ _ (broke g at.In_err-merge)
 
 pub returns-in_err-merge-clause-lines : goal.returns-in_err-merge-clause-lines
 returns-in_err-merge-clause-lines g c =
@@ -113,9 +109,7 @@ returns-in_err-merge-clause-lines g c =
 pub returns-clause-part : goal.returns-clause-part
 returns-clause-part g c =
     let at = goal.at.returns-clause-part g c in
-    let w = c.in_ok-merge.ensures.passed.so_far in
-    front g at.After-merge c.merge.new.sources c.merge.new.streams.feeds.items c.merge.new.streams.waiting w.bound
-    w.taken w.reached _ _ (grind (arith, whole, wrote))
+    front g at.After-merge c.in_ok-merge.ensures.passed.so_far.reached _ _ (grind (arith, whole, wrote))
 
 pub returns-clause-lines : goal.returns-clause-lines
 returns-clause-lines g c =
@@ -139,35 +133,24 @@ returns-clause-merged g c = λ texts known.
     let ss1 = c.open_at.new.sources in let fs1 = c.in_ok-opened.opened.streams.feeds.items in
     let ss2 = c.merge.new.sources in let fs2 = c.merge.new.streams.feeds.items in
     let opened = c.in_ok-opened.ensures in
-    let ok = c.in_ok-merge.ensures in
-    let out = g.O.Output.written c.args.out.now in
-    let new = g.O.Output.written c.merge.new.out in
-    let taken = ok.passed.so_far.taken in
-    let reached = ok.passed.so_far.reached in
-    let empty : c.merge.new.streams.waiting ≡ [] =
-    (elim c.in_ok-merge.field-0 as (λ b. (b ≡ true → c.merge.new.streams.waiting ≡ []) → (b ≡ false → ⊥)
-    → c.merge.new.streams.waiting ≡ []) [
-      | true ↦ (λ f h. f refl)
-      | false ↦ (λ f h. absurd (h refl))
-    ]) ok.passed.ended ok.passed.enough in
+    let passed = c.in_ok-merge.ensures.passed in
+    let reached = passed.so_far.reached in
+    let empty : c.merge.new.streams.waiting ≡ [] = grind (arith, cases_Bool) in
     let moved = c.merge.ensures.moved in
-    let known1 = subst (λ l. Known l texts) (sym opened.text) known in
-    let kept2 = texts_kept text extent gave ss1 ss2 fs1 fs2 opened.ready.same (omega arith) moved in
-    let known2 = subst (λ l. Known l texts) (sym kept2) known1 in
-    let fed = subst (λ (ws : List WaitingLine). AreFed LINE_LIMIT never text extent 0 ss2 fs2 ws) empty
-    reached.ready.fed in
+    let known1 = rw (← opened.text) at known in
+    let kept = texts_kept text extent gave ss1 ss2 fs1 fs2 opened.ready.same (omega arith) moved in
     let starts = starts_kept text extent gave ss1 ss2 fs1 fs2 opened.ready.same reached.ready.same moved
     (opened.start refl refl) in
-    let all : taken ≡ collection (its_lines LINE_LIMIT never (λ key. refl) text extent ss2 fs2) =
+    let all : passed.so_far.taken ≡ collection (its_lines LINE_LIMIT never (λ key. refl) text extent ss2 fs2) =
     (reached.handed.told (told_known text ss1 texts known1)).0
     ∙ ap (rising member_place place_cmp) (all_lines_are LINE_LIMIT never (λ key. refl) text extent ss2 fs2) in
-    let w = ok.passed.so_far.came c.new-writer.result out (Appends-none out, c.new-writer.ensures) in
+    let w = wrote g (goal.at.returns-clause-merged g c).In_ok-merge in
     record {
       indexes = its_lines LINE_LIMIT never (λ key. refl) text extent ss2 fs2;
-      are = are_read LINE_LIMIT never (λ key. refl) text extent 0 ss2 fs2 texts reached.ready.same known2 starts
-          reached.settled fed;
-      text = subst (λ (l : List Member). Appends out new (lines_text l)) all w.0;
-      count = w.1 ∙ ap (λ (l : List Member). min (length l) (2 ^ 64 - 1)) all;
+      are = are_read LINE_LIMIT never (λ key. refl) text extent 0 ss2 fs2 texts reached.ready.same
+          (rw (← kept) at known1) starts reached.settled (rw empty at reached.ready.fed);
+      text = rw (← all) w.0;
+      count = rw (← all) w.1;
     }
 
 pub returns-in_err-opened-clause-failures : goal.returns-in_err-opened-clause-failures
@@ -179,7 +162,7 @@ returns-in_err-merge-clause-failures g c = grind arith
 pub returns-clause-held : goal.returns-clause-held
 returns-clause-held g c = λ texts indexes known are most share.
     let opened = c.in_ok-opened.ensures in
-    let known1 = subst (λ l. Known l texts) (sym opened.text) known in
+    let known1 = rw (← opened.text) at known in
     let few = c.merge.ensures.held texts indexes known1 are most share (omega (arith, opened.held)) in
     omega (
       arith,

@@ -29,53 +29,42 @@ returns-in-Err-clause-extent g c = grind (arith, map_set_same)
 
 pub loop-i-preserved : goal.loop-i-preserved
 loop-i-preserved g c =
-    let past = g.R.Range.past c.args.range.now in
     let inv = c.loop-i.invariant in
     let ok = c.in-Ok.ensures in
     let added = ok.added in
-    let ss = c.loop-i.sources in let fs = c.loop-i.streams.feeds.items in let ws = c.loop-i.streams.waiting in let i =
-    c.loop-i.i in
-    let a = c.index-sources-i.result in let s = c.add_from.new.source in let f = added.feed in
-    let ws' = c.add_from.new.self.waiting in
+    let olds = c.args.sources.now in let ss = c.loop-i.sources in let fs = c.loop-i.streams.feeds.items in
+    let i = c.loop-i.i in let a = c.index-sources-i.result in let s = c.add_from.new.source in let f = added.feed in
     let inside : i < length ss = omega arith in
-    let both = fed_added LINE_LIMIT past g.S.Source.text g.S.Source.extent i ss fs ws ws' s f added.first inv.count
-    inside
-    inv.placed inv.fed added.waits added.fed in
     let text = g.S.Source.text in let extent = g.S.Source.extent in let gave = g.S.Source.gave in
+    let both = fed_added LINE_LIMIT (g.R.Range.past c.args.range.now) text extent i ss fs c.loop-i.streams.waiting
+    c.add_from.new.self.waiting s f added.first inv.count inside inv.placed inv.fed added.waits added.fed in
     let Came = λ (x : g.row.S.Denot) (y : g.row.S.Denot × Feed). CameWithin (text x) (extent x) (gave x) (gave y.0)
     y.1.cursor in
-    let inside_old : i < length c.args.sources.now = omega arith in
-    let same_here : get_or ss i a ≡ get_or c.args.sources.now i a = left_here c.args.sources.now ss i a inv.left in
-    let turns = sum_turn (λ s. digits (g.S.Source.extent s)) ss i s inside in
+    let inside_old : i < length olds = omega arith in
+    let same_here : get_or ss i a ≡ get_or olds i a = left_here olds ss i a inv.left in
+    let turns = sum_turn (λ s. digits (extent s)) ss i s inside in
     let here = ap digits ok.extent in
-    let few = ok.probes in
-    let before = inv.probes in
     let all = c.saturating_add-probes.ensures in
     record {
-      text = map_set_same g.S.Source.text ss i a s inside ok.text ∙ inv.text;
-      extent = map_set_same g.S.Source.extent ss i a s inside ok.extent ∙ inv.extent;
+      text = map_set_same text ss i a s inside ok.text ∙ inv.text;
+      extent = map_set_same extent ss i a s inside ok.extent ∙ inv.extent;
       failures = map_set_same g.S.Source.failures ss i a s inside ok.failures ∙ inv.failures;
       held = ok.held ∙ inv.held;
       count = ap length added.feeds_are ∙ length-append fs (f ∷ []) ∙ ap (λ n. n + 1) inv.count;
-      placed = subst (λ us. AllByRecursion (λ (w : WaitingLine). w.source < length us) ws')
-          (sym added.feeds_are) both.0;
-      fed = subst (λ us. AreFed LINE_LIMIT past g.S.Source.text g.S.Source.extent 0 (set ss i s) us ws')
-          (sym added.feeds_are)
-          both.1;
+      placed = rw added.feeds_are both.0;
+      fed = rw added.feeds_are both.1;
       cut = grind (arith, zip_push, each_join);
-      start = λ k s. subst (AllByRecursion (λ (f : Feed). f.cursor.start ≡ 0)) (sym added.feeds_are)
+      start = λ k s. rw added.feeds_are
           (each_join (λ (f : Feed). f.cursor.start ≡ 0) fs (f ∷ []) (inv.start k s) (added.cursor_is.2 k s, tt));
       settled = ok.settled inv.settled;
       fresh = grind (arith, zip_push, flat_push, fresh_of);
-      probes = omega (arith, turns, here, few, before, all);
-      left = left_after c.args.sources.now ss i s inv.left;
-      spent = two_put (λ x y. OpenedWithin (text x) (extent x) (gave x) (gave y)) c.args.sources.now ss i a s inv.spent
-          (subst (λ x. OpenedWithin (text x) (extent x) (gave x) (gave s)) same_here ok.spent);
-      came = subst (λ us. AllZip Came (take (i + 1) c.args.sources.now) (zip (set ss i s) us)) (sym added.feeds_are)
-          (subst (AllZip Came (take (i + 1) c.args.sources.now)) (sym (zip_push ss fs i s f inv.count inside))
-          (subst (λ us. AllZip Came us (zip ss fs ++ (s, f) ∷ [])) (sym (take_more c.args.sources.now i a inside_old))
-          (all_zipped_more Came (take i c.args.sources.now) (zip ss fs) (get_or c.args.sources.now i a) (s, f) inv.came
-          (subst (λ x. CameWithin (text x) (extent x) (gave x) (gave s) f.cursor) same_here added.cursor_is.1))));
+      probes = omega (arith, turns, here, ok.probes, inv.probes, all);
+      left = left_after olds ss i s inv.left;
+      spent = two_put (λ x y. OpenedWithin (text x) (extent x) (gave x) (gave y)) olds ss i a s inv.spent
+          (rw same_here at ok.spent);
+      came = rw (added.feeds_are, zip_push ss fs i s f inv.count inside, take_more olds i a inside_old)
+          (all_zipped_more Came (take i olds) (zip ss fs) (get_or olds i a) (s, f) inv.came
+          (rw same_here at added.cursor_is.1));
     }
 
 pub returns-clause-probes : goal.returns-clause-probes
@@ -91,12 +80,10 @@ returns-clause-probes g c =
 pub returns-in-Err-clause-spent : goal.returns-in-Err-clause-spent
 returns-in-Err-clause-spent g c =
     let text = g.S.Source.text in let extent = g.S.Source.extent in let gave = g.S.Source.gave in
-    let inv = c.loop-i.invariant in
-    let ss = c.loop-i.sources in let i = c.loop-i.i in let a = c.index-sources-i.result in let s =
-    c.add_from.new.source in
-    two_put (λ x y. OpenedWithin (text x) (extent x) (gave x) (gave y)) c.args.sources.now ss i a s inv.spent
-    (subst (λ x. OpenedWithin (text x) (extent x) (gave x) (gave s)) (left_here c.args.sources.now ss i a inv.left)
-    c.add_from.ensures.spent)
+    let olds = c.args.sources.now in let ss = c.loop-i.sources in let i = c.loop-i.i in
+    let a = c.index-sources-i.result in
+    two_put (λ x y. OpenedWithin (text x) (extent x) (gave x) (gave y)) olds ss i a c.add_from.new.source
+    c.loop-i.invariant.spent (rw (left_here olds ss i a c.loop-i.invariant.left) at c.add_from.ensures.spent)
 
 pub returns-clause-came : goal.returns-clause-came
 returns-clause-came g c = grind (arith, take_all)
