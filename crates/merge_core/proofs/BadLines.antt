@@ -98,7 +98,7 @@ module _ (limit : ℕ) (past : List ℕ → Bool) (t : List ℕ) (extent : ℕ) 
         before = told.begins.0 ++ last.0;
         previous = last.1;
         line = next.0;
-        begins = subst (λ ls. LineBeginsAt t f.cursor.at ls next.0) front here;
+        begins = rw (← front) here;
         earlier = end.1;
         later = m;
         earlier_is = last.3;

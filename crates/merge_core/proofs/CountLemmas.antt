@@ -48,9 +48,8 @@ module _ (limit : ℕ) (past : List ℕ → Bool) (start : Pair) (b : Option Pai
       let run = run_after limit start t ms f.cursor.start index cut in
       let high : map (member_of limit) from ≡ cut.high = members_are limit from cut.high run.0.entries in
       let not_low = each_take (λ m. is_low start m ≡ false) (f.cursor.count - held f.progress) (given limit t f.cursor)
-      (subst (AllByRecursion (λ m. is_low start m ≡ false)) (take-map (member_of limit) f.cursor.count from)
-      (each_take (λ m. is_low start m ≡ false) f.cursor.count (map (member_of limit) from)
-      (subst (AllByRecursion (λ m. is_low start m ≡ false)) (sym high) cut.none_below))) in
+      (rw (← take-map (member_of limit) f.cursor.count from) (each_take (λ m. is_low start m ≡ false) f.cursor.count (map (member_of limit) from)
+      (rw high cut.none_below))) in
       let all_pass : AllByRecursion (λ m. test m ≡ true) (done limit t f) =
       each_weaker (λ (m : Member) (h : ((past m.values.key ≡ false) × (is_low start m ≡ false))
       × IsUpto b (member_pair m)). passes m h.0.0 h.0.1 h.1) (done limit t f)

@@ -32,4 +32,4 @@ counts_reads (Err x) e old was new h k q = grind arith
 -- an error that a `?` returns has what the error has
 pub if_err : {A E : Type 0} (r : Result A E) (e : E) (Q : E → Type 0) → IsErrAnd r (λ x. x ≡ e) → Q e → IfErr r Q
 if_err (Ok x) e Q h q = absurd h
-if_err (Err x) e Q h q = subst Q (sym h) q
+if_err (Err x) e Q h q = rw h q

@@ -97,10 +97,10 @@ pub same_stays : (past : List ℕ → Bool) (pair : Pair) (m : Member) (ms : Lis
 same_stays past pair m ms within low end alike =
     let last = end.1 in
     let stays = (each_last (λ (k : Member). past k.values.key ≡ false) end.0
-    (subst (AllByRecursion (λ (k : Member). past k.values.key ≡ false)) end.2 within)) in
+    (rw (← end.2) within)) in
     let at : Alike (member_pair last) pair = upto_both (member_pair last) pair
     (each_last (λ k. Upto (member_pair k) pair) end.0
-    (subst (AllByRecursion (λ k. Upto (member_pair k) pair)) end.2 low)) end.3 in
+    (rw (← end.2) low)) end.3 in
     let keys : m.values.key ≡ last.values.key =
     slice_cmp-IsAntisymmetric nat_cmp-IsAntisymmetric m.values.key last.values.key
     (then_equal _ (slice_cmp nat_cmp m.values.stamp last.values.stamp)
@@ -185,7 +185,7 @@ module _ {limit : ℕ} {past : List ℕ → Bool} {text : Option (List ℕ)} {ex
   given_old t = done_due limit t old r.is_due
 
   begins_still : (t : List ℕ) → text ≡ Some t → (before : List (List ℕ)) × BeginsAfter t f.cursor.start before
-  begins_still t e = subst (λ n. (before : List (List ℕ)) × BeginsAfter t n before) (sym r.start) (r.was.told t e).begins
+  begins_still t e = rw r.start (r.was.told t e).begins
 
   run_more : (t : List ℕ) → text ≡ Some t → IsRun limit (read_lines t f.cursor) (given limit t f.cursor)
   run_more t e =

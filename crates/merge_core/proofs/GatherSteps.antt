@@ -161,13 +161,12 @@ module _ {limit n : ℕ} {past : List ℕ → Bool} {S : Type 0} {text : S → O
         let placed = (each_permuted (λ (v : WaitingLine). v.source < length fs) ws (w ∷ ws') p h.ready.placed).0 in
         let b : Feed = any_of fs w.source placed in
         let a : S = any_of ss w.source (let same = h.ready.same in omega arith) in
-        subst TakenNext (sym (feeds b)) (record {
+        rw (feeds b) (record {
           gathers = gathers_next h a b p at first;
           inside = inside h a b p at;
           due = next_due h a b p at;
           settled = λ all f s.
-              subst AreSettled (sym (set-set fs w.source (due (get_or fs w.source b)) f))
-              (each_replaced IsSettled fs w.source f all s);
+              rw (set-set fs w.source (due (get_or fs w.source b)) f) (each_replaced IsSettled fs w.source f all s);
           fewer = next_fewer h a b p at;
         })
 

@@ -69,15 +69,12 @@ module _ (pair : Pair) where
         λ us. ap (λ m. flat_map d (take m us)) is ∙ ap (flat_map d) (take-add n k us)
         ∙ flat_map-append d (take n us) (take k (drop n us)) in
         let below : AreBelow pair more = (each_cut (λ m. Below (member_pair m) pair) (flat_map d (take n xs0)) more
-        (subst (AreBelow pair) (cut xs0)
-        (each_cut (λ m. Below (member_pair m) pair) (flat_map d (take j xs0)) (flat_map d (drop j xs0))
-        (subst (AreBelow pair) (ap (flat_map d) (sym (take-append-drop j xs0))
-        ∙ flat_map-append d (take j xs0) (drop j xs0)) low)).0)).1 in
+        (rw (← cut xs0) (each_cut (λ m. Below (member_pair m) pair) (flat_map d (take j xs0)) (flat_map d (drop j xs0))
+        (rw (← (ap (flat_map d) (sym (take-append-drop j xs0))
+        ∙ flat_map-append d (take j xs0) (drop j xs0))) low)).0)).1 in
         let now : flat_map d (take j xs) ≡ flat_map d (take n xs) ++ more = cut xs
         ∙ ap (λ us. flat_map d (take n xs) ++ flat_map d (take k us)) rest in
-        subst (λ u. Gathered pair u (flat_map d (take j xs)) g0 g) (sym (cut xs0))
-        (subst (λ u. Gathered pair (flat_map d (take n xs0) ++ more) u g0 g) (sym now)
-        (gathered_low (flat_map d (take n xs0)) (flat_map d (take n xs)) g0 g more h below))
+        rw (cut xs0) (rw now (gathered_low (flat_map d (take n xs0)) (flat_map d (take n xs)) g0 g more h below))
 
     pub all_sources : (n : ℕ) (g : List Member) → length xs ≡ length xs0 → n ≤ length xs → drop n xs ≡ drop n xs0
         → AreBelow pair (flat_map d xs0)
@@ -101,8 +98,7 @@ module _ (pair : Pair) where
         let now : flat_map d (take (j + 1) (set xs j y))
         ≡ flat_map d (take (j + 1) xs) ++
         us = grind (arith, take_more_set, flat_map-append, append-nil, append_assoc) in
-        subst (λ u. Gathered pair old u g0 (g ++ us)) (sym now)
-        (gathered_at old (flat_map d (take (j + 1) xs)) g0 g us h at)
+        rw now (gathered_at old (flat_map d (take (j + 1) xs)) g0 g us h at)
 
     -- the next source of which a line is taken
     pub next_changes : (n j : ℕ) (x y : X) (us g : List Member) → n ≤ j → j < length xs → drop n xs ≡ drop n xs0

@@ -58,8 +58,7 @@ module _ (limit : ℕ) (past : List ℕ → Bool) {S : Type 0} (text : S → Opt
       → length ws ≤ length fs
   few_wait ss fs ws ready =
       few_of (length fs) ws ready.placed
-      (λ i l. subst (λ k. length (waits_of k ws) ≤ 1) (let q : 0 + i ≡ i = omega arith in q)
-      (few_at 0 i ss fs ws ready.same (omega arith) ready.fed))
+      (λ i l. rw (← let q : 0 + i ≡ i = omega arith in q) (few_at 0 i ss fs ws ready.same (omega arith) ready.fed))
 
   -- ---- the lines of a group
 
@@ -88,7 +87,7 @@ module _ (limit : ℕ) (past : List ℕ → Bool) {S : Type 0} (text : S → Opt
   all_fewer n (s ∷ ss) (f ∷ fs) ws (t ∷ ts) [] test e known are fed = absurd are
   all_fewer n (s ∷ ss) (f ∷ fs) ws (t ∷ ts) (i ∷ is) test e known are fed =
       let here = done_fewer t (extent s) f (waits_of n ws) i test
-      (subst (λ o. Fed limit past o (extent s) f (waits_of n ws)) known.0 fed.0) are.0 in
+      (rw (← known.0) fed.0) are.0 in
       grind (
         arith,
         filter-append,

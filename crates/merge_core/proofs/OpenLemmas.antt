@@ -41,7 +41,7 @@ module _ (limit : ℕ) (past : List ℕ → Bool) where
         let q : n + suc i ≡ (n + 1) + i = omega arith in (
           grind arith,
           fed_push (n + 1) i ss fs ws ws' s f (omega arith) (omega arith) h.1
-              (λ j p. same j (subst (λ m. j ≢ m) (sym q) p)) (grind arith),
+              (λ j p. same j (rw q p)) (grind arith),
         )
 
     pub fed_added : (i : ℕ) (ss : List S) (fs : List Feed) (ws ws' : List WaitingLine) (s : S) (f : Feed)

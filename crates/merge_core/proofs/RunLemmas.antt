@@ -67,8 +67,7 @@ module _ (limit : ℕ) (past : List ℕ → Bool) {S : Type 0} (text : S → Opt
   parts_are n (s ∷ ss) [] texts whole same known fed settled none = absurd (omega arith)
   parts_are n (s ∷ ss) (f ∷ fs) [] whole same known fed settled none = absurd known
   parts_are n (s ∷ ss) (f ∷ fs) (t ∷ ts) whole same known fed settled none = (
-    subst (λ o. IsPart limit past whole t (given limit (text_or o) f.cursor)) (sym known.0)
-        (part_is limit past t (extent s) f (waits_of n ws) whole (grind arith) settled.0
+    rw known.0 (part_is limit past t (extent s) f (waits_of n ws) whole (grind arith) settled.0
         (λ e. ap (waits_of n) (none e))),
     parts_are (n + 1) ss fs ts whole (omega arith) known.1 fed.1 settled.1 none,
   )
@@ -108,7 +107,7 @@ module _ (limit : ℕ) (past : List ℕ → Bool) {S : Type 0} (text : S → Opt
         let here : filter (is_read limit past upward upto) (given limit t f.cursor)
         ≡ filter (stays limit past upward) first =
         given_read limit past upward upto t (extent s) f (waits_of n ws)
-        (subst (λ o. Fed limit past o (extent s) f (waits_of n ws)) (is_told (text s) told.0) fed.0) settled.0
+        (rw (← is_told (text s) told.0) fed.0) settled.0
         (late_of limit past upward upto text extent ws late n) cut.0 in
         grind (
           arith,

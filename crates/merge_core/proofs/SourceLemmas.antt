@@ -51,7 +51,7 @@ module _ (limit : ℕ) where
       let from = lines (drop f.cursor.start t) in
       each_take (IsLineIn limit t) (f.cursor.count - held f.progress) (given limit t f.cursor)
       (each_entry (read_lines t f.cursor) (lines t) (given limit t f.cursor) told.run.entries
-      (λ l i. subst (IsIn l) (sym told.begins.1.0) (in_later l told.begins.0 from (in_take l f.cursor.count from i))))
+      (λ l i. rw told.begins.1.0 (in_later l told.begins.0 from (in_take l f.cursor.count from i))))
 
   later_source : (o : Option (List ℕ)) (sources : List (Option (List ℕ))) (m : Member) → IsLineOf limit sources m
       → IsLineOf limit (o ∷ sources) m
@@ -98,12 +98,9 @@ module _ (limit : ℕ) where
       rise = reached.handed.rises;
       each = elim (told_or ss0) [
         | inl told ↦
-            subst (AllByRecursion (IsLineOf limit (map text ss0))) (sym (reached.handed.told told).0)
-            (each_rising member_place place_cmp place_cmp_total (IsLineOf limit (map text ss0))
+            rw (reached.handed.told told).0 (each_rising member_place place_cmp place_cmp_total (IsLineOf limit (map text ss0))
             (all_done limit text ss fs)
-            (subst (λ ts. AllByRecursion (IsLineOf limit ts) (all_done limit text ss fs))
-            (texts_kept text extent gave ss0 ss fs0 fs same long reached.moved)
-            (all_lines_of past 0 ss fs ws
+            (rw (← texts_kept text extent gave ss0 ss fs0 fs same long reached.moved) (all_lines_of past 0 ss fs ws
             (told_moved text extent gave ss0 ss fs0 fs reached.ready.same reached.moved told) reached.ready.fed)))
         | inr f ↦ each_weaker f taken reached.handed.entries
       ];

@@ -87,7 +87,7 @@ module _ (limit : ℕ) (past : List ℕ → Bool) where
         let parts = each_cut (λ m. IsUpto b (member_pair m)) (done limit (text_or (text s)) f)
         (all_done limit text ss fs) upto in (
           λ t e. read_to t (extent s) f (waits_of n ws) b
-              (subst (λ o. Fed limit past o (extent s) f (waits_of n ws)) e fed.0) (grind arith) f.cursor refl
+              (rw (← e) fed.0) (grind arith) f.cursor refl
               (omega arith) (fed.0.stands.filled.most),
           are_read_to (n + 1) ss fs ws fed.1 parts.1,
         )

@@ -70,6 +70,6 @@ module _ {S : Type 0} (limit : ℕ) (text : S → Option (List ℕ)) where
   runs_kept extent gave (x ∷ xs) [] highs m h = absurd m
   runs_kept extent gave (x ∷ xs) (y ∷ ys) [] m h = absurd h
   runs_kept extent gave (x ∷ xs) (y ∷ ys) (i ∷ is) m h = (
-    λ t e. subst (λ n. IsRun limit (lines (drop n t)) i) (sym m.0.start_kept) (h.0 t (sym m.0.text_kept ∙ e)),
+    λ t e. rw m.0.start_kept (h.0 t (sym m.0.text_kept ∙ e)),
     runs_kept extent gave xs ys is m.1 h.1,
   )

@@ -77,7 +77,7 @@ module _ (limit : ℕ) (past : List ℕ → Bool) {S : Type 0} (text : S → Opt
   fed_set n (suc i) (x ∷ ss) (y ∷ fs) ws ws' s f same h k =
       let e : n + suc i ≡ (n + 1) + i = omega arith in (
         grind arith,
-        fed_set (n + 1) i ss fs ws ws' s f (λ j q. same j (subst (λ l. j ≢ l) (sym e) q)) h.1
+        fed_set (n + 1) i ss fs ws ws' s f (λ j q. same j (rw e q)) h.1
             (grind arith),
       )
 
@@ -159,8 +159,7 @@ module _ {limit : ℕ} {past : List ℕ → Bool} {S : Type 0} {text : S → Opt
   none_left = (only_waits (get_or fs w.source b).progress w.member (waits_of w.source ws) fed_here.waits).1
 
   pub popped_ready : Ready limit past text extent ss (set fs w.source (due (get_or fs w.source b))) ws
-  popped_ready = subst (λ us. Ready limit past text extent us (set fs w.source (due (get_or fs w.source b))) ws)
-      (set-get_or ss w.source a) (ready_set all_ready w.source (get_or ss w.source a) (due (get_or fs w.source b)) ws
+  popped_ready = rw (← set-get_or ss w.source a) (ready_set all_ready w.source (get_or ss w.source a) (due (get_or fs w.source b)) ws
       (λ j q. sym (waits_other j w ws (λ e. absurd (omega arith)))) all_ready.placed.1
       (fed_due fed_here))
 
@@ -178,10 +177,9 @@ module _ {limit : ℕ} {past : List ℕ → Bool} {S : Type 0} {text : S → Opt
     is_due = refl;
     low = λ t e.
         let f = get_or fs w.source b in
-        subst (AllByRecursion (λ m. Upto (member_pair m) (member_pair w.member))) (sym (both t e).1)
-        (each_join (λ m. Upto (member_pair m) (member_pair w.member)) (done limit t f) (w.member ∷ [])
+        rw (both t e).1 (each_join (λ m. Upto (member_pair m) (member_pair w.member)) (done limit t f) (w.member ∷ [])
         (falls_last (done limit t f) w.member
-        (subst (NeverFalls member_pair pair_cmp) (both t e).0 (fed_here.told t e).run.ordered))
+        (rw (← (both t e).0) (fed_here.told t e).run.ordered))
         (upto_itself (member_pair w.member), tt));
     last = λ t e. (done limit t (get_or fs w.source b), w.member, popped_done t e, upto_itself (member_pair w.member));
   }
@@ -194,8 +192,7 @@ module _ {limit : ℕ} {past : List ℕ → Bool} {S : Type 0} {text : S → Opt
   none_waits_here = subst (λ (p : Progress). AreWaits p (waits_of i ws)) is_due (ready_at ready i a b inside).waits
 
   pub due_fed : Fed limit past (text (get_or ss i a)) (extent (get_or ss i a)) (get_or fs i b) []
-  due_fed = subst (Fed limit past (text (get_or ss i a)) (extent (get_or ss i a)) (get_or fs i b)) none_waits_here
-      (ready_at ready i a b inside)
+  due_fed = rw (← none_waits_here) (ready_at ready i a b inside)
 
   module _ {B : Type 0} (value : B → Member) (ws' : List WaitingLine) where
     abbrev pub Waited : Option B → Type 0
@@ -206,7 +203,7 @@ module _ {limit : ℕ} {past : List ℕ → Bool} {S : Type 0} {text : S → Opt
         → Ready limit past text extent (set ss i s) (set fs i f) ws'
     waited_ready s f None e fed =
         let same = ready_set ready i s f ws (λ j q. refl) ready.placed
-        (subst (Fed limit past (text s) (extent s) f) (sym none_waits_here) fed) in
+        (rw none_waits_here fed) in
         grind arith
     waited_ready s f (Some x) p fed =
         let w : WaitingLine = record { member = value x; source = i } in
@@ -214,7 +211,7 @@ module _ {limit : ℕ} {past : List ℕ → Bool} {S : Type 0} {text : S → Opt
         waits_here i w ws refl ∙ ap (λ l. w.member ∷ l) none_waits_here in
         let same = ready.same in
         ready_permuted (ready_set ready i s f (w ∷ ws) (λ j q. waits_other j w ws (λ e. absurd (omega arith)))
-        (omega arith, ready.placed) (subst (Fed limit past (text s) (extent s) f) (sym here) fed)) ws' p
+        (omega arith, ready.placed) (rw here fed)) ws' p
 
     pub waited_length : (o : Option B) → Waited o → length ws' ≡ length ws + length (option_list (option_map value o))
     waited_length None e = grind arith

@@ -113,7 +113,7 @@ module _ {limit : ℕ} {past : List ℕ → Bool} {upward : IsUpward past} {want
   pub taken_whole : ws ≡ [] → filter wanted (rising member_place place_cmp all) ≡ filter wanted taken
   taken_whole none =
       split (λ m. true) (λ x y h k. absurd (true≢false k))
-      (subst (AllByRecursion (λ (w : WaitingLine). IsLate limit past upward (λ m. true) w.member)) (sym none) tt)
+      (rw none tt)
       (each_any r.done)
       ∙ ap (λ l. filter wanted taken ++ l)
       (none_wanted wanted (stays limit past upward) r.within (filter (λ m. not (low (λ k. true) m)) all)

@@ -45,8 +45,7 @@ module _ (limit : ℕ) (past : List ℕ → Bool) (never : (key : List ℕ) → 
     are_read n (s ∷ ss) [] texts same known start settled fed = absurd (omega arith)
     are_read n (s ∷ ss) (f ∷ fs) [] same known start settled fed = absurd known
     are_read n (s ∷ ss) (f ∷ fs) (t ∷ texts) same known start settled fed = (
-      subst (λ o. IsIndex limit t (done limit (text_or o) f)) (sym known.0)
-          (index_read t (extent s) f start.0 settled.0 (grind arith)),
+      rw known.0 (index_read t (extent s) f start.0 settled.0 (grind arith)),
       are_read (n + 1) ss fs texts (omega arith) known.1 start.1 settled.1 fed.1,
     )
 

@@ -27,8 +27,7 @@ broke_at seen start mid new taken ls k b l is a p =
     let text : lines_text (taken ++ map seen ls) ≡ (lines_text front ++ line_row (seen b)) ++ lines_text rest =
     ap lines_text whole ∙ flat_map-append line_row front (seen b ∷ rest)
     ∙ sym (append_assoc (lines_text front) (line_row (seen b)) (lines_text rest)) in
-    subst (AppendsPrefix start new) (sym text)
-    (prefix_longer start new (lines_text front ++ line_row (seen b)) (lines_text rest)
+    rw text (prefix_longer start new (lines_text front ++ line_row (seen b)) (lines_text rest)
     (prefix_after start mid new (lines_text front) (line_row (seen b)) a p))
 
 -- one line more was written
@@ -46,6 +45,6 @@ wrote_more seen start mid new taken ls k b count count' l is h row next =
     let text : lines_text (taken ++ map seen (take (k + 1) ls)) ≡ lines_text front ++ line_row (seen b) =
     ap lines_text more ∙ flat_map-append line_row front (seen b ∷ [])
     ∙ ap (λ t. lines_text front ++ t) (append-nil (line_row (seen b))) in (
-      subst (Appends start new) (sym text) (Appends-join start mid new (lines_text front) (line_row (seen b)) h.0 row),
+      rw text (Appends-join start mid new (lines_text front) (line_row (seen b)) h.0 row),
       omega (arith, h.1, next, ap length more, length-append front (seen b ∷ [])),
     )

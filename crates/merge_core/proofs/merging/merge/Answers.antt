@@ -109,9 +109,7 @@ returns-in_err-more-clause-broke g c =
         reached = came.reached;
         wrote = λ begin start w. inl (
           c.loop-rest.sink,
-          subst
-              (λ o. g.K.Sink.Wrote begin c.loop-rest.sink came.taken start (g.O.Output.written o)) (sym k.1)
-              (came.came begin start w),
+          rw k.1 (came.came begin start w),
         );
       }
       | inr k ↦ record {
@@ -120,9 +118,7 @@ returns-in_err-more-clause-broke g c =
         bound = Some (member_pair c.in-Some.first.value);
         taken = taken g here;
         reached = reached g here;
-        wrote = λ begin start w. inr (subst
-            (λ l. g.K.Sink.Broke begin (came.taken ++ l) start (g.O.Output.written c.hand_on.new.out))
-            (order g here) (k begin came.taken start (came.came begin start w)));
+        wrote = λ begin start w. inr (rw (← order g here) (k begin came.taken start (came.came begin start w)));
       }
     ])
 
@@ -162,7 +158,7 @@ loop-rest-preserved g c =
     let ok = c.in_ok-first.ensures in
     record {
       empty = c.put_back.ensures.rest;
-      settled = subst AreSettled (sym c.put_back.ensures.feeds) ok.settled;
+      settled = rw c.put_back.ensures.feeds ok.settled;
       reads = ok.failures ∙ c.loop-rest.invariant.reads;
       writes = c.in_ok-more.ensures.failures ∙ c.loop-rest.invariant.writes;
       further = λ f. c.in_ok-more.ensures.further c.if-not-more.false;
@@ -174,11 +170,7 @@ loop-rest-preserved g c =
         bound = Some pair;
         taken = taken g here;
         reached = (let now = reached g here in grind arith);
-        came = λ begin start w. subst
-            (λ l. g.K.Sink.Wrote begin c.hand_on.new.sink (came.taken ++ l) start
-            (g.O.Output.written c.hand_on.new.out))
-            (order g here)
-            (c.in_ok-more.ensures.wrote begin came.taken start (came.came begin start w));
+        came = λ begin start w. rw (← order g here) (c.in_ok-more.ensures.wrote begin came.taken start (came.came begin start w));
       };
     }
 

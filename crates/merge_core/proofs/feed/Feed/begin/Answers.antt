@@ -43,7 +43,7 @@ reads g c t e =
     let extent = g.S.Source.extent c.args.source.now in
     let f = c.args.self.now in
     let next = c.next_line.ensures in
-    read_to LINE_LIMIT past t extent f [] None (subst (λ o. Fed LINE_LIMIT past o extent f []) e c.requires.fed)
+    read_to LINE_LIMIT past t extent f [] None (rw (← e) c.requires.fed)
     (grind arith) c.next_line.new.cursor next.start (next.most t e) next.ahead
 
 pub returns-in_err-line-clause-reads : goal.returns-in_err-line-clause-reads

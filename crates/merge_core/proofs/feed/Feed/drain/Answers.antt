@@ -74,8 +74,7 @@ was_read g c f is up = record {
   start = grind arith;
   count = grind arith;
   near = grind arith;
-  next = λ t e. subst (λ (k : CursorState). ReadNext LINE_LIMIT t c.loop-line.self.cursor k c.in-Some.line.value) (sym is)
-      (line_read LINE_LIMIT t c.loop-line.self.cursor c.next_line.new.cursor (λ (b : Box Line Global). b.value)
+  next = λ t e. rw is (line_read LINE_LIMIT t c.loop-line.self.cursor c.next_line.new.cursor (λ (b : Box Line Global). b.value)
       c.in_ok-line.field-0 c.in-Some.line c.in-Some.is
       (c.in_ok-line.ensures.given t (sym c.in_ok-line.ensures.text ∙ e)));
   low = λ t e. each_weaker (λ (k : Member) (q : Upto (member_pair k) (member_pair c.args.first.now)).
@@ -137,8 +136,7 @@ loop-line-preserved g c =
         up,
       );
       low = grind (arith, each_join, same_upto);
-      each = λ h. subst (AllByRecursion (λ k. Alike (member_pair k) first)) (sym pushed)
-          (each_join (λ k. Alike (member_pair k) first) _ (m ∷ []) (inv.each h) (alike, tt));
+      each = λ h. rw pushed (each_join (λ k. Alike (member_pair k) first) _ (m ∷ []) (inv.each h) (alike, tt));
       taken = λ t e.
           let h = inv.taken t e in
           taken_more first _ _ _ h.0 _ _ _ m h.1 h.2 h.3 (more t (ok.text ∙ inv.text ∙ e)) pushed alike;

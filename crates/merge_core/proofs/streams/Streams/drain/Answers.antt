@@ -21,25 +21,18 @@ use Rattle.merge_core.proofs.streams.Streams.drain.Goals as goal
 pub drain-requires-clause-fed : goal.drain-requires-clause-fed
 drain-requires-clause-fed g c =
     let a = c.index-sources-i.result in let b = c.index_mut.result.now in
-    subst (λ (f : Feed). Fed LINE_LIMIT (g.R.Range.past c.args.range.now)
-    (g.S.Source.text (get_or c.args.sources.now c.args.i a))
-    (g.S.Source.extent (get_or c.args.sources.now c.args.i a)) f []) (sym c.index_mut.ensures.value)
-    (due_fed c.requires.ready a b c.requires.inside (c.requires.due a b).is_due)
+    rw c.index_mut.ensures.value (due_fed c.requires.ready a b c.requires.inside (c.requires.due a b).is_due)
 
 pub drain-requires-clause-due : goal.drain-requires-clause-due
-drain-requires-clause-due g c = subst (λ (f : Feed). f.progress ≡ Due) (sym c.index_mut.ensures.value)
-    (c.requires.due c.index-sources-i.result c.index_mut.result.now).is_due
+drain-requires-clause-due g c = rw c.index_mut.ensures.value (c.requires.due c.index-sources-i.result c.index_mut.result.now).is_due
 
 pub drain-requires-clause-low : goal.drain-requires-clause-low
 drain-requires-clause-low g c = λ t e.
-    subst (λ (f : Feed). AllByRecursion (λ m. Upto (member_pair m) (member_pair c.args.first.now))
-    (done LINE_LIMIT t f)) (sym c.index_mut.ensures.value)
-    ((c.requires.due c.index-sources-i.result c.index_mut.result.now).low t e)
+    rw c.index_mut.ensures.value ((c.requires.due c.index-sources-i.result c.index_mut.result.now).low t e)
 
 pub drain-requires-clause-last : goal.drain-requires-clause-last
 drain-requires-clause-last g c = λ t e.
-    subst (λ (f : Feed). EndsAt (member_pair c.args.first.now) (done LINE_LIMIT t f)) (sym c.index_mut.ensures.value)
-    ((c.requires.due c.index-sources-i.result c.index_mut.result.now).last t e)
+    rw c.index_mut.ensures.value ((c.requires.due c.index-sources-i.result c.index_mut.result.now).last t e)
 
 -- the source and its feed moved, and no other
 moved : (g : Over) (c : After-drain g) → AllZip (Move g.S.Source.text g.S.Source.extent g.S.Source.gave)
@@ -78,9 +71,7 @@ returns-clause-ready g c =
     let a = c.index-sources-i.result in let b = c.index_mut.result.now in
     let ss = c.args.sources.now in let fs = c.args.self.now.feeds.items in let ws = c.args.self.now.waiting in let i =
     c.args.i in
-    subst (λ (us : List Feed). Ready LINE_LIMIT (g.R.Range.past c.args.range.now) g.S.Source.text g.S.Source.extent
-    (set ss i c.drain.new.source) us c.let_wait.new.self.waiting) (sym c.let_wait.ensures.feeds)
-    (waited_ready c.requires.ready a b c.requires.inside (c.requires.due a b).is_due (λ (l : Box Line Global). l.value)
+    rw c.let_wait.ensures.feeds (waited_ready c.requires.ready a b c.requires.inside (c.requires.due a b).is_due (λ (l : Box Line Global). l.value)
     c.let_wait.new.self.waiting c.drain.new.source c.drain.new.self c.in-Ok.next c.in_ok-let_wait.ensures.waiting
     c.in-Ok.ensures.fed)
 

@@ -143,9 +143,7 @@ returns-in_default-take_at-clause-group g c =
     let long = ap (λ (ws : List WaitingLine). length ws) took.out.0 in
     let inside : c.sources.i + 1 ≤ length ss = omega
     (arith, inv.inside, ap length ok.drained.source_is, length-set c.sources.sources c.sources.i ok.drained.source) in
-    subst (λ m. Grouped LINE_LIMIT g.S.Source.text g.S.Source.extent c.args.sources.now c.args.self.now.feeds.items
-    c.args.self.now.waiting ss c.take_at.new.self.feeds.items c.take_at.new.self.waiting
-    (member_pair m) (m ∷ values c.drain.new.rest.items)) (c.new-keyed.ensures ∙ c.deref.ensures) (record {
+    rw (← (c.new-keyed.ensures ∙ c.deref.ensures)) (record {
       above = inv.above;
       least = inv.least;
       later = took.out.1;
@@ -192,8 +190,7 @@ sources-preserved g c =
 
 pub returns-in_default-take_at-clause-settled : goal.returns-in_default-take_at-clause-settled
 returns-in_default-take_at-clause-settled g c =
-    subst AreSettled (sym c.in_default-take_at.ensures.feeds)
-    (drained_settled g (goal.at.returns-in_default-take_at-clause-settled g c).In_ok-drain)
+    rw c.in_default-take_at.ensures.feeds (drained_settled g (goal.at.returns-in_default-take_at-clause-settled g c).In_ok-drain)
 
 pub returns-in_err-drain-clause-fault : goal.returns-in_err-drain-clause-fault
 returns-in_err-drain-clause-fault g c = grind (arith, texts_kept, if_err)
