@@ -72,8 +72,7 @@ module _ (limit : ℕ) (past : List ℕ → Bool) (start : Pair) (b : Option Pai
       ap (λ l. l ++ map (line_entry limit) r.rest) (sym r.entries) ∙ sym (map-append (line_entry limit) r.read r.rest)
       ∙ ap (map (line_entry limit)) (sym r.cut) ∙ run.0.entries in
       let tail = front_of r.members (map (line_entry limit) r.rest) cut.high both in
-      let not_low = (each_cut (λ m. is_low start m ≡ false) r.members tail.0
-      (rw (← tail.1) cut.none_below)).0 in
+      let not_low = (each_cut (λ m. is_low start m ≡ false) r.members tail.0 (rw (← tail.1) cut.none_below)).0 in
       let all_pass : AllByRecursion (λ m. test m ≡ true) r.members =
       each_weaker (λ (m : Member) (h : ((past m.values.key ≡ false) × IsUpto b (member_pair m))
       × (is_low start m ≡ false)). passes m h.0.0 h.1 h.0.1) r.members
@@ -113,6 +112,5 @@ module _ (limit : ℕ) (past : List ℕ → Bool) (start : Pair) (b : Option Pai
         let m = moved.0 in
         let r = reads.0 t (m.text_kept ∙ tells.0) in
         let from = m.start_kept in
-        let here = source_bytes t i x.1.cursor are.0
-        (rw from (cut.0 t i tells.0 are.0)) r in
+        let here = source_bytes t i x.1.cursor are.0 (rw from (cut.0 t i tells.0 are.0)) r in
         grind (arith, gave_most ss ys xs ts is known.1 tells.1 are.1 came.1 moved.1 cut.1 reads.1)

@@ -48,8 +48,8 @@ module _ (limit : ℕ) (past : List ℕ → Bool) (start : Pair) (b : Option Pai
       let run = run_after limit start t ms f.cursor.start index cut in
       let high : map (member_of limit) from ≡ cut.high = members_are limit from cut.high run.0.entries in
       let not_low = each_take (λ m. is_low start m ≡ false) (f.cursor.count - held f.progress) (given limit t f.cursor)
-      (rw (← take-map (member_of limit) f.cursor.count from) (each_take (λ m. is_low start m ≡ false) f.cursor.count (map (member_of limit) from)
-      (rw high cut.none_below))) in
+      (rw (← take-map (member_of limit) f.cursor.count from) (each_take (λ m. is_low start m ≡ false) f.cursor.count
+      (map (member_of limit) from) (rw high cut.none_below))) in
       let all_pass : AllByRecursion (λ m. test m ≡ true) (done limit t f) =
       each_weaker (λ (m : Member) (h : ((past m.values.key ≡ false) × (is_low start m ≡ false))
       × IsUpto b (member_pair m)). passes m h.0.0 h.0.1 h.1) (done limit t f)
@@ -76,9 +76,8 @@ module _ (limit : ℕ) (past : List ℕ → Bool) (start : Pair) (b : Option Pai
     lines_most n (s ∷ ss) (f ∷ fs) (t ∷ ts) (i ∷ is) same known are cut fed upto =
         let parts = each_cut (λ m. IsUpto b (member_pair m)) (done limit (text_or (text s)) f)
         (all_done limit text ss fs) upto in
-        let here = source_most t (extent s) f (waits_of n ws) i
-        (subst (λ o. Fed limit past o (extent s) f (waits_of n ws)) known.0 fed.0) are.0 (cut.0 t i known.0 are.0)
-        (subst (λ o. AllByRecursion (λ m. IsUpto b (member_pair m)) (done limit (text_or o) f)) known.0 parts.0) in
+        let here = source_most t (extent s) f (waits_of n ws) i (rw known.0 at fed.0) are.0 (cut.0 t i known.0 are.0)
+        (rw known.0 at parts.0) in
         let rest = lines_most (n + 1) ss fs ts is (omega arith) known.1 are.1 cut.1 fed.1 parts.1 in
         omega (
           arith,

@@ -96,11 +96,9 @@ pub same_stays : (past : List ℕ → Bool) (pair : Pair) (m : Member) (ms : Lis
     → EndsAt pair ms → Alike (member_pair m) pair → past m.values.key ≡ false
 same_stays past pair m ms within low end alike =
     let last = end.1 in
-    let stays = (each_last (λ (k : Member). past k.values.key ≡ false) end.0
-    (rw (← end.2) within)) in
+    let stays = (each_last (λ (k : Member). past k.values.key ≡ false) end.0 (rw (← end.2) within)) in
     let at : Alike (member_pair last) pair = upto_both (member_pair last) pair
-    (each_last (λ k. Upto (member_pair k) pair) end.0
-    (rw (← end.2) low)) end.3 in
+    (each_last (λ k. Upto (member_pair k) pair) end.0 (rw (← end.2) low)) end.3 in
     let keys : m.values.key ≡ last.values.key =
     slice_cmp-IsAntisymmetric nat_cmp-IsAntisymmetric m.values.key last.values.key
     (then_equal _ (slice_cmp nat_cmp m.values.stamp last.values.stamp)
@@ -190,10 +188,9 @@ module _ {limit : ℕ} {past : List ℕ → Bool} {text : Option (List ℕ)} {ex
   run_more : (t : List ℕ) → text ≡ Some t → IsRun limit (read_lines t f.cursor) (given limit t f.cursor)
   run_more t e =
       let next = r.next t e in
-      subst (λ ls. IsRun limit ls (given limit t f.cursor)) (sym next.1)
-      (subst (IsRun limit (read_lines t old.cursor ++ next.0 ∷ [])) (sym (given_next limit t old.cursor f.cursor m next))
-      (run_push limit (read_lines t old.cursor) (given limit t old.cursor) next.0 m (r.was.told t e).run next.2
-      (subst (AllByRecursion (λ k. Upto (member_pair k) (member_pair m))) (given_old t) (r.low t e))))
+      rw (← next.1) at (rw (← given_next limit t old.cursor f.cursor m next) at (run_push limit
+      (read_lines t old.cursor) (given limit t old.cursor) next.0 m (r.was.told t e).run next.2
+      (rw (given_old t) at (r.low t e))))
 
   stood_more : (t : List ℕ) → text ≡ Some t → f.cursor.at ≤ f.cursor.start + bytes_of (read_lines t f.cursor)
   stood_more t e = grind (arith, after_taken, bytes_push)

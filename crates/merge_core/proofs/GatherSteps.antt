@@ -21,7 +21,8 @@ use Rattle.line_queue.proofs.HeapLemmas.{each_get, each_permuted}
 use Rattle.merge_core.proofs.Many.{is_told, zip_set, zip_at, length_zip, Move, moved_trans, moved_still, moved_set}
 use Rattle.merge_core.proofs.Many.{each_replaced, moved_not, told_moved, unread_set}
 use Rattle.merge_core.proofs.StreamLemmas.{inside_sources, none_left, popped_ready, popped_done, popped_due}
-use Rattle.merge_core.proofs.GroupLemmas.{from_popped, from_waited, AreAt, AreBelow, all_sources, last_changes, next_changes, rest_changes}
+use Rattle.merge_core.proofs.GroupLemmas.{from_popped, from_waited, AreAt, AreBelow, all_sources, last_changes}
+use Rattle.merge_core.proofs.GroupLemmas.{next_changes, rest_changes}
 
 any_of : {X : Type 0} (xs : List X) (i : ℕ) → i < length xs → X
 any_of [] i l = absurd (omega arith)
@@ -53,7 +54,8 @@ module _ (limit : ℕ) (past : List ℕ → Bool) {S : Type 0} (text : S → Opt
     pub each : AreAt pair group
     pub from : AllByRecursion (IsFrom pair n) ws
     pub gathered : AreTold text ss0 → AreBelow pair (flat_map (of limit text) (zip ss0 fs0))
-        → Gathered pair (flat_map (of limit text) (take n (zip ss0 fs0))) (flat_map (of limit text) (take n (zip ss fs)))
+        → Gathered pair (flat_map (of limit text) (take n (zip ss0 fs0)))
+        (flat_map (of limit text) (take n (zip ss fs)))
         [] group
 
   pub gathers_start : (ws0 : List WaitingLine) → Ready limit past text extent ss0 fs0 ws0
@@ -113,25 +115,20 @@ module _ {limit n : ℕ} {past : List ℕ → Bool} {S : Type 0} {text : S → O
       ready = popped_ready h.ready p a b;
       as_many = h.as_many;
       moved = moved_trans text extent gave (zip ss0 fs0) (zip ss fs) (zip ss (set fs w.source f)) h.moved
-          (subst (λ us. AllZip (Move text extent gave) (zip ss fs) (zip us (set fs w.source f))) same_sources
-          (moved_set text extent gave ss fs w.source a (get_or ss w.source a) b f h.ready.same inside
-          (moved_not (text (get_or ss w.source a)) (extent (get_or ss w.source a)) (gave (get_or ss w.source a))
+          (rw same_sources at (moved_set text extent gave ss fs w.source a (get_or ss w.source a) b f h.ready.same
+          inside (moved_not (text (get_or ss w.source a)) (extent (get_or ss w.source a)) (gave (get_or ss w.source a))
           (get_or fs w.source b).cursor)));
-      rest = ap (drop (w.source + 1)) zip_now
-          ∙ rest_changes pair (of limit text) (zip ss0 fs0) (zip ss fs) [] n w.source (get_or ss w.source a, f) turn h.rest;
+      rest = ap (drop (w.source + 1)) zip_now ∙ rest_changes pair (of limit text) (zip ss0 fs0) (zip ss fs) [] n
+          w.source (get_or ss w.source a, f) turn h.rest;
       each = each_join (λ m. Alike (member_pair m) pair) group (w.member ∷ []) h.each (at, tt);
       from = from_popped pair w ws' at first (none_left h.ready p a b);
       gathered = λ told low.
           let d = of limit text in
-          subst (λ z. Gathered pair (flat_map d (take (w.source + 1) (zip ss0 fs0)))
-          (flat_map d (take (w.source + 1) z)) [] (group ++ w.member ∷ [])) (sym zip_now)
-          (next_changes pair d (zip ss0 fs0) (zip ss fs) [] n w.source (a, b) (get_or ss w.source a, f)
-          (w.member ∷ []) group turn
-          (let e = length_zip ss fs h.ready.same in let i = inside in omega arith) h.rest low
-          (popped_done h.ready p a b (text_or (text (get_or ss w.source a)))
-          (is_told (text (get_or ss w.source a)) (told_now w.source a inside told))
-          ∙ ap (λ x. d x ++ w.member ∷ []) (sym (zip_at ss fs w.source a b h.ready.same inside)))
-          (at, tt) (h.gathered told low));
+          rw (← zip_now) at (next_changes pair d (zip ss0 fs0) (zip ss fs) [] n w.source (a, b)
+          (get_or ss w.source a, f) (w.member ∷ []) group turn (let e = length_zip ss fs h.ready.same in
+          let i = inside in omega arith) h.rest low (popped_done h.ready p a b (text_or (text (get_or ss w.source a)))
+          (is_told (text (get_or ss w.source a)) (told_now w.source a inside told)) ∙ ap (λ x. d x ++ w.member ∷ [])
+          (sym (zip_at ss fs w.source a b h.ready.same inside))) (at, tt) (h.gathered told low));
     }
 
     next_due : (x : S) → (d : Feed)
@@ -140,8 +137,7 @@ module _ {limit n : ℕ} {past : List ℕ → Bool} {S : Type 0} {text : S → O
         let l : w.source < length fs = (let i = inside in let same = h.ready.same in omega arith) in
         let t : text (get_or ss w.source a) ≡ text (get_or ss w.source x) = ap text
         (get_or_default ss w.source a x inside) in
-        subst (IsDue limit pair (text (get_or ss w.source x))) (sym (get_or-set_same fs w.source f d l))
-        (due_alike at (subst (λ o. IsDue limit (waiting_pair w) o f) t (popped_due h.ready p a b)))
+        rw (← get_or-set_same fs w.source f d l) at (due_alike at (rw t at (popped_due h.ready p a b)))
 
 -- the next line was taken out, and its source's next line is to be read
 module _ {limit n : ℕ} {past : List ℕ → Bool} {S : Type 0} {text : S → Option (List ℕ)} {extent gave : S → ℕ}
@@ -155,7 +151,8 @@ module _ {limit n : ℕ} {past : List ℕ → Bool} {S : Type 0} {text : S → O
       pub settled : AreSettled fs → (f : Feed) → IsSettled f → AreSettled (set fs' w.source f)
       pub fewer : unread extent ss fs' + length ws' < unread extent ss fs + length ws
 
-    pub taken_next : (fs' : List Feed) → IsPermutation ws (w ∷ ws') → ((d : Feed) → fs' ≡ set fs w.source (due (get_or fs w.source d)))
+    pub taken_next : (fs' : List Feed) → IsPermutation ws (w ∷ ws')
+        → ((d : Feed) → fs' ≡ set fs w.source (due (get_or fs w.source d)))
         → AllByRecursion (λ v. is_lt (turn_cmp v w) ≡ false) ws' → Alike (waiting_pair w) pair → TakenNext fs'
     taken_next fs' p feeds first at =
         let placed = (each_permuted (λ (v : WaitingLine). v.source < length fs) ws (w ∷ ws') p h.ready.placed).0 in
@@ -175,7 +172,8 @@ module _ {limit i : ℕ} {past : List ℕ → Bool} {S : Type 0} {text : S → O
     {ss0 ss ss' : List S} {fs0 fs fs' : List Feed} {pair q : Pair} {ws ws' : List WaitingLine} {first : Member}
     {g g' : List Member} (h : Gathers limit past text extent gave ss0 fs0 pair (i + 1) ss fs ws (first ∷ g))
     (d : DrainedSource limit text q i ss ss' fs fs' g g') (same : q ≡ pair) (inside : i < length ss)
-    (ready : Ready limit past text extent ss' fs' ws') (moved : AllZip (Move text extent gave) (zip ss fs) (zip ss' fs'))
+    (ready : Ready limit past text extent ss' fs' ws')
+    (moved : AllZip (Move text extent gave) (zip ss fs) (zip ss' fs'))
     (waits : WaitsAbove pair i ws ws') (each : AreAt q g → AreAt q g') where
   zip_drained : zip ss' fs' ≡ set (zip ss fs) i (d.source, d.feed)
   zip_drained = ap₂ (λ us vs. zip us vs) d.source_is d.feed_is ∙ zip_set ss fs i d.source d.feed
@@ -187,7 +185,7 @@ module _ {limit i : ℕ} {past : List ℕ → Bool} {S : Type 0} {text : S → O
     moved = moved_trans text extent gave (zip ss0 fs0) (zip ss fs) (zip ss' fs') h.moved moved;
     rest = ap (drop (i + 1)) zip_drained
         ∙ drop-set-lt (i + 1) (zip ss fs) i (d.source, d.feed) (omega arith) ∙ h.rest;
-    each = (h.each.0, subst (λ p. AreAt p g → AreAt p g') same each h.each.1);
+    each = (h.each.0, rw same at each h.each.1);
     from = from_waited pair (i + 1) i ws ws' waits h.from;
     gathered = λ told low.
         let s = d.source in
@@ -195,12 +193,8 @@ module _ {limit i : ℕ} {past : List ℕ → Bool} {S : Type 0} {text : S → O
         let before = flat_map all (take (i + 1) (zip ss0 fs0)) in
         let more = d.drained s d.feed (text_or (text (get_or ss i s)))
         (is_told (text (get_or ss i s)) (told_now h i s inside told)) in
-        subst (λ u. Gathered pair before (flat_map all (take (i + 1) (zip ss' fs'))) [] u)
-        (ap (λ u. first ∷ u) (sym more.2))
-        (subst (λ z. Gathered pair before (flat_map all (take (i + 1) z)) [] (first ∷ g ++ more.0)) (sym zip_drained)
-        (last_changes pair all (zip ss0 fs0) (zip ss fs) [] i (s, d.feed) (s, d.feed) more.0 (first ∷ g) before
-        (let e = length_zip ss fs h.ready.same in omega arith)
-        (ap (λ o. done limit (text_or o) d.feed) (d.text_is s) ∙ more.1
-        ∙ ap (λ x. all x ++ more.0) (sym (zip_at ss fs i s d.feed h.ready.same inside)))
-        (subst (λ p. AreAt p more.0) same more.3) (h.gathered told low)));
+        rw (ap (λ u. first ∷ u) (sym more.2)) at (rw (← zip_drained) at (last_changes pair all (zip ss0 fs0) (zip ss fs)
+        [] i (s, d.feed) (s, d.feed) more.0 (first ∷ g) before (let e = length_zip ss fs h.ready.same in omega arith)
+        (ap (λ o. done limit (text_or o) d.feed) (d.text_is s) ∙ more.1 ∙ ap (λ x. all x ++ more.0)
+        (sym (zip_at ss fs i s d.feed h.ready.same inside))) (rw same at more.3) (h.gathered told low)));
   }

@@ -81,9 +81,8 @@ module _ (pair : Pair) where
         → Gathered pair (flat_map d (take n xs0)) (flat_map d (take n xs)) g0 g
         → Gathered pair (flat_map d xs0) (flat_map d xs) g0 g
     all_sources n g e l rest low h =
-        subst (λ u. Gathered pair (flat_map d u) (flat_map d xs) g0 g) (take_all (length xs) xs0 (omega arith))
-        (subst (λ u. Gathered pair (flat_map d (take (length xs) xs0)) (flat_map d u) g0 g)
-        (take_all (length xs) xs (omega arith)) (skipped n (length xs) g l rest low h))
+        rw (take_all (length xs) xs0 (omega arith)) at (rw (take_all (length xs) xs (omega arith)) at
+        (skipped n (length xs) g l rest low h))
 
     -- one source's lines change, the last of those that were gone over
     pub last_changes : (j : ℕ) (x y : X) (us g : List Member) (old : List Member) → j < length xs → d y

@@ -86,8 +86,7 @@ module _ (limit : ℕ) (past : List ℕ → Bool) {S : Type 0} (text : S → Opt
   all_fewer n (s ∷ ss) (f ∷ fs) ws [] indexes test e known are fed = absurd known
   all_fewer n (s ∷ ss) (f ∷ fs) ws (t ∷ ts) [] test e known are fed = absurd are
   all_fewer n (s ∷ ss) (f ∷ fs) ws (t ∷ ts) (i ∷ is) test e known are fed =
-      let here = done_fewer t (extent s) f (waits_of n ws) i test
-      (rw (← known.0) fed.0) are.0 in
+      let here = done_fewer t (extent s) f (waits_of n ws) i test (rw (← known.0) fed.0) are.0 in
       grind (
         arith,
         filter-append,
@@ -114,8 +113,7 @@ module _ {S : Type 0} {limit : ℕ} {text : S → Option (List ℕ)} {past : Lis
   pub held_most : OverIndexes limit (map text old) (λ texts indexes. (most : ℕ) → ShareAtMost most (all_lines indexes)
       → length ws + length group ≤ length old + most)
   held_most texts indexes known are most share =
-      let known_now = subst (λ l. Known l texts) (sym (texts_kept text extent gave old ss old_fs fs same long now.moved))
-      known in
+      let known_now = rw (← texts_kept text extent gave old ss old_fs fs same long now.moved) at known in
       let gathered = gathered_now was grouped (told_known text old texts known) in
       let all = all_done limit text ss fs in
       let here = filter_weaker (λ m. not (is_low pair m)) (is_at pair) all

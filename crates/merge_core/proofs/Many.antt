@@ -119,8 +119,10 @@ module _ {S : Type 0} (text : S → Option (List ℕ)) (extent gave : S → ℕ)
 
     pub moved_set : Move (get_or ss i a, get_or fs i b) (s, f) → AllZip Move (zip ss fs) (zip (set ss i s) (set fs i f))
     moved_set m =
-        rw (zip_set ss fs i s f) (two_set Move (λ x y z. moved_then (text x.0) (text y.0) (text z.0) (extent x.0) (extent y.0) (extent z.0)
-        (gave x.0) (gave y.0) (gave z.0) x.1.cursor y.1.cursor z.1.cursor) (zip ss fs) (zip ss fs) i (a, b) (s, f)
+        rw (zip_set ss fs i s f)
+        (two_set Move
+        (λ x y z. moved_then (text x.0) (text y.0) (text z.0) (extent x.0) (extent y.0) (extent z.0) (gave x.0)
+        (gave y.0) (gave z.0) x.1.cursor y.1.cursor z.1.cursor) (zip ss fs) (zip ss fs) i (a, b) (s, f)
         (moved_still (zip ss fs)) within (grind (arith, zip_at)))
 
     -- how many bytes weren't read

@@ -82,7 +82,8 @@ module _ {S : Type 0} {limit : ℕ} {text : S → Option (List ℕ)} {past : Lis
 
   pub reached_next : Ready limit past text extent ss fs ws → AreSettled fs → AllMoved text extent gave ss0 fs0 ss fs
       → AllByRecursion (HasEntry limit) group
-      → Reached limit text past extent gave old old_fs ss fs ws (Some pair) (taken ++ rising member_place place_cmp group)
+      → Reached limit text past extent gave old old_fs ss fs ws (Some pair)
+      (taken ++ rising member_place place_cmp group)
   reached_next ready settled moved entries = record {
     ready = ready;
     settled = settled;

@@ -40,8 +40,7 @@ module _ (limit : ℕ) (past : List ℕ → Bool) where
     fed_push n (suc i) (x ∷ ss) (y ∷ fs) ws ws' s f e l h same k =
         let q : n + suc i ≡ (n + 1) + i = omega arith in (
           grind arith,
-          fed_push (n + 1) i ss fs ws ws' s f (omega arith) (omega arith) h.1
-              (λ j p. same j (rw q p)) (grind arith),
+          fed_push (n + 1) i ss fs ws ws' s f (omega arith) (omega arith) h.1 (λ j p. same j (rw q p)) (grind arith),
         )
 
     pub fed_added : (i : ℕ) (ss : List S) (fs : List Feed) (ws ws' : List WaitingLine) (s : S) (f : Feed)

@@ -104,11 +104,9 @@ module _ (limit : ℕ) (past : List ℕ → Bool) {S : Type 0} (text : S → Opt
         let first = done limit t f in
         let others = all_done limit text ss fs in
         let cut = each_cut (λ m. upto m ≡ true) first others each in
-        let here : filter (is_read limit past upward upto) (given limit t f.cursor)
-        ≡ filter (stays limit past upward) first =
-        given_read limit past upward upto t (extent s) f (waits_of n ws)
-        (rw (← is_told (text s) told.0) fed.0) settled.0
-        (late_of limit past upward upto text extent ws late n) cut.0 in
+        let here : filter (is_read limit past upward upto) (given limit t f.cursor) ≡ filter (stays limit past upward)
+        first = given_read limit past upward upto t (extent s) f (waits_of n ws) (rw (← is_told (text s) told.0) fed.0)
+        settled.0 (late_of limit past upward upto text extent ws late n) cut.0 in
         grind (
           arith,
           filter-append,

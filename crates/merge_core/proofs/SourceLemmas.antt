@@ -97,9 +97,8 @@ module _ (limit : ℕ) where
     taken_lines past gave ss0 fs0 ss fs ws b taken same reached = record {
       rise = reached.handed.rises;
       each = elim (told_or ss0) [
-        | inl told ↦
-            rw (reached.handed.told told).0 (each_rising member_place place_cmp place_cmp_total (IsLineOf limit (map text ss0))
-            (all_done limit text ss fs)
+        | inl told ↦ rw (reached.handed.told told).0 (each_rising member_place place_cmp place_cmp_total
+            (IsLineOf limit (map text ss0)) (all_done limit text ss fs)
             (rw (← texts_kept text extent gave ss0 ss fs0 fs same long reached.moved) (all_lines_of past 0 ss fs ws
             (told_moved text extent gave ss0 ss fs0 fs reached.ready.same reached.moved told) reached.ready.fed)))
         | inr f ↦ each_weaker f taken reached.handed.entries

@@ -86,9 +86,8 @@ module _ (limit : ℕ) (past : List ℕ → Bool) where
     are_read_to n (s ∷ ss) (f ∷ fs) ws fed upto =
         let parts = each_cut (λ m. IsUpto b (member_pair m)) (done limit (text_or (text s)) f)
         (all_done limit text ss fs) upto in (
-          λ t e. read_to t (extent s) f (waits_of n ws) b
-              (rw (← e) fed.0) (grind arith) f.cursor refl
-              (omega arith) (fed.0.stands.filled.most),
+          λ t e. read_to t (extent s) f (waits_of n ws) b (rw (← e) fed.0) (grind arith) f.cursor refl (omega arith)
+              (fed.0.stands.filled.most),
           are_read_to (n + 1) ss fs ws fed.1 parts.1,
         )
 

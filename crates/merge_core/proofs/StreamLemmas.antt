@@ -77,8 +77,7 @@ module _ (limit : ℕ) (past : List ℕ → Bool) {S : Type 0} (text : S → Opt
   fed_set n (suc i) (x ∷ ss) (y ∷ fs) ws ws' s f same h k =
       let e : n + suc i ≡ (n + 1) + i = omega arith in (
         grind arith,
-        fed_set (n + 1) i ss fs ws ws' s f (λ j q. same j (rw e q)) h.1
-            (grind arith),
+        fed_set (n + 1) i ss fs ws ws' s f (λ j q. same j (rw e q)) h.1 (grind arith),
       )
 
   pub fed_permuted : (n : ℕ) (ss : List S) (fs : List Feed) (ws ws' : List WaitingLine) → IsPermutation ws ws'
@@ -99,8 +98,7 @@ module _ {limit : ℕ} {past : List ℕ → Bool} {f : Feed} {m : Member} {ws : 
       × (past m.values.key ≡ false)
   due_of {t = t} waits h =
       let only = only_waits f.progress m ws waits in
-      let head = subst (λ (p : Progress). IsHead limit past (done limit t f) (given limit t f.cursor)
-      (lines (drop f.cursor.at t)) (m ∷ ws) p) only.0 h.head in
+      let head = rw only.0 at h.head in
       let all : given limit t f.cursor ≡ done limit t f ++ m ∷ [] = grind arith in
       (all, done_due limit t (due f) refl ∙ all, head.1.0)
 
@@ -127,13 +125,13 @@ module _ {limit : ℕ} {past : List ℕ → Bool} {S : Type 0} {text : S → Opt
 
   ready_at : (i : ℕ) (a : S) (b : Feed) → i < length ss
       → Fed limit past (text (get_or ss i a)) (extent (get_or ss i a)) (get_or fs i b) (waits_of i ws)
-  ready_at i a b l = subst (λ n. Fed limit past (text (get_or ss i a)) (extent (get_or ss i a)) (get_or fs i b)
-      (waits_of n ws)) (let q : 0 + i ≡ i = omega arith in q)
-      (fed_at limit past text extent 0 i ss fs ws a b ready.same l ready.fed)
+  ready_at i a b l = rw (let q : 0 + i ≡ i = omega arith in q) at (fed_at limit past text extent 0 i ss fs ws a b
+      ready.same l ready.fed)
 
   ready_set : (i : ℕ) (s : S) (f : Feed) (ws' : List WaitingLine) → ((j : ℕ) → j ≢ i → waits_of j ws' ≡ waits_of j ws)
       → AllByRecursion (λ (v : WaitingLine). v.source < length fs) ws'
-      → Fed limit past (text s) (extent s) f (waits_of i ws') → Ready limit past text extent (set ss i s) (set fs i f) ws'
+      → Fed limit past (text s) (extent s) f (waits_of i ws')
+      → Ready limit past text extent (set ss i s) (set fs i f) ws'
   ready_set i s f ws' others placed fed = record {
     same = grind (arith, length-set);
     placed = simp length-set placed;
@@ -159,8 +157,8 @@ module _ {limit : ℕ} {past : List ℕ → Bool} {S : Type 0} {text : S → Opt
   none_left = (only_waits (get_or fs w.source b).progress w.member (waits_of w.source ws) fed_here.waits).1
 
   pub popped_ready : Ready limit past text extent ss (set fs w.source (due (get_or fs w.source b))) ws
-  popped_ready = rw (← set-get_or ss w.source a) (ready_set all_ready w.source (get_or ss w.source a) (due (get_or fs w.source b)) ws
-      (λ j q. sym (waits_other j w ws (λ e. absurd (omega arith)))) all_ready.placed.1
+  popped_ready = rw (← set-get_or ss w.source a) (ready_set all_ready w.source (get_or ss w.source a)
+      (due (get_or fs w.source b)) ws (λ j q. sym (waits_other j w ws (λ e. absurd (omega arith)))) all_ready.placed.1
       (fed_due fed_here))
 
   both : (t : List ℕ) → text (get_or ss w.source a) ≡ Some t
@@ -178,8 +176,7 @@ module _ {limit : ℕ} {past : List ℕ → Bool} {S : Type 0} {text : S → Opt
     low = λ t e.
         let f = get_or fs w.source b in
         rw (both t e).1 (each_join (λ m. Upto (member_pair m) (member_pair w.member)) (done limit t f) (w.member ∷ [])
-        (falls_last (done limit t f) w.member
-        (rw (← (both t e).0) (fed_here.told t e).run.ordered))
+        (falls_last (done limit t f) w.member (rw (← (both t e).0) (fed_here.told t e).run.ordered))
         (upto_itself (member_pair w.member), tt));
     last = λ t e. (done limit t (get_or fs w.source b), w.member, popped_done t e, upto_itself (member_pair w.member));
   }
@@ -189,7 +186,7 @@ module _ {limit : ℕ} {past : List ℕ → Bool} {S : Type 0} {text : S → Opt
     {fs : List Feed} {ws : List WaitingLine} {i : ℕ} (ready : Ready limit past text extent ss fs ws) (a : S) (b : Feed)
     (inside : i < length ss) (is_due : (get_or fs i b).progress ≡ Due) where
   none_waits_here : waits_of i ws ≡ []
-  none_waits_here = subst (λ (p : Progress). AreWaits p (waits_of i ws)) is_due (ready_at ready i a b inside).waits
+  none_waits_here = rw is_due at (ready_at ready i a b inside).waits
 
   pub due_fed : Fed limit past (text (get_or ss i a)) (extent (get_or ss i a)) (get_or fs i b) []
   due_fed = rw (← none_waits_here) (ready_at ready i a b inside)
@@ -202,8 +199,7 @@ module _ {limit : ℕ} {past : List ℕ → Bool} {S : Type 0} {text : S → Opt
         → Fed limit past (text s) (extent s) f (option_list (option_map value o))
         → Ready limit past text extent (set ss i s) (set fs i f) ws'
     waited_ready s f None e fed =
-        let same = ready_set ready i s f ws (λ j q. refl) ready.placed
-        (rw none_waits_here fed) in
+        let same = ready_set ready i s f ws (λ j q. refl) ready.placed (rw none_waits_here fed) in
         grind arith
     waited_ready s f (Some x) p fed =
         let w : WaitingLine = record { member = value x; source = i } in

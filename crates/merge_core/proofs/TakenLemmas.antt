@@ -112,12 +112,9 @@ module _ {limit : ℕ} {past : List ℕ → Bool} {upward : IsUpward past} {want
   -- where no line waits, it is all
   pub taken_whole : ws ≡ [] → filter wanted (rising member_place place_cmp all) ≡ filter wanted taken
   taken_whole none =
-      split (λ m. true) (λ x y h k. absurd (true≢false k))
-      (rw none tt)
-      (each_any r.done)
-      ∙ ap (λ l. filter wanted taken ++ l)
-      (none_wanted wanted (stays limit past upward) r.within (filter (λ m. not (low (λ k. true) m)) all)
-      (filter_out (stays limit past upward) all))
+      split (λ m. true) (λ x y h k. absurd (true≢false k)) (rw none tt) (each_any r.done)
+      ∙ ap (λ l. filter wanted taken ++ l) (none_wanted wanted (stays limit past upward) r.within
+      (filter (λ m. not (low (λ k. true) m)) all) (filter_out (stays limit past upward) all))
       ∙ append-nil (filter wanted taken)
     where
       each_any : (xs : List Member) → AllByRecursion (λ m. true ≡ true) xs

@@ -56,7 +56,8 @@ front g c {ss} {fs} {ws} {b} {taken} reached old new p texts indexes known are =
     (λ m. true) (λ m e. refl) ([], []) opened.cut
     (λ m e. none_below_least (member_pair m).0 (member_pair m).1) in
     let whole : collection indexes ≡ taken ++ first.0 = grind (arith, filter_every) in
-    rw (ap lines_text whole ∙ flat_map-append line_row taken first.0) (prefix_longer old new (lines_text taken) (lines_text first.0) p)
+    rw (ap lines_text whole ∙ flat_map-append line_row taken first.0) (prefix_longer old new (lines_text taken)
+    (lines_text first.0) p)
 
 -- and of any sources, it is lines of theirs
 lines : (g : Over) (c : After-merge g) {ss : List g.row.S.Denot} {fs : List Feed} {ws : List WaitingLine}

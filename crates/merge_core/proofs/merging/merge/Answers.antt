@@ -170,7 +170,8 @@ loop-rest-preserved g c =
         bound = Some pair;
         taken = taken g here;
         reached = (let now = reached g here in grind arith);
-        came = λ begin start w. rw (← order g here) (c.in_ok-more.ensures.wrote begin came.taken start (came.came begin start w));
+        came = λ begin start w. rw (← order g here) (c.in_ok-more.ensures.wrote begin came.taken start
+            (came.came begin start w));
       };
     }
 

@@ -24,7 +24,8 @@ drain-requires-clause-fed g c =
     rw c.index_mut.ensures.value (due_fed c.requires.ready a b c.requires.inside (c.requires.due a b).is_due)
 
 pub drain-requires-clause-due : goal.drain-requires-clause-due
-drain-requires-clause-due g c = rw c.index_mut.ensures.value (c.requires.due c.index-sources-i.result c.index_mut.result.now).is_due
+drain-requires-clause-due g c = rw c.index_mut.ensures.value (c.requires.due c.index-sources-i.result
+    c.index_mut.result.now).is_due
 
 pub drain-requires-clause-low : goal.drain-requires-clause-low
 drain-requires-clause-low g c = λ t e.
@@ -71,9 +72,9 @@ returns-clause-ready g c =
     let a = c.index-sources-i.result in let b = c.index_mut.result.now in
     let ss = c.args.sources.now in let fs = c.args.self.now.feeds.items in let ws = c.args.self.now.waiting in let i =
     c.args.i in
-    rw c.let_wait.ensures.feeds (waited_ready c.requires.ready a b c.requires.inside (c.requires.due a b).is_due (λ (l : Box Line Global). l.value)
-    c.let_wait.new.self.waiting c.drain.new.source c.drain.new.self c.in-Ok.next c.in_ok-let_wait.ensures.waiting
-    c.in-Ok.ensures.fed)
+    rw c.let_wait.ensures.feeds (waited_ready c.requires.ready a b c.requires.inside (c.requires.due a b).is_due
+    (λ (l : Box Line Global). l.value) c.let_wait.new.self.waiting c.drain.new.source c.drain.new.self c.in-Ok.next
+    c.in_ok-let_wait.ensures.waiting c.in-Ok.ensures.fed)
 
 pub returns-clause-fewer : goal.returns-clause-fewer
 returns-clause-fewer g c =

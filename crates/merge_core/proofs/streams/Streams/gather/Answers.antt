@@ -190,7 +190,8 @@ sources-preserved g c =
 
 pub returns-in_default-take_at-clause-settled : goal.returns-in_default-take_at-clause-settled
 returns-in_default-take_at-clause-settled g c =
-    rw c.in_default-take_at.ensures.feeds (drained_settled g (goal.at.returns-in_default-take_at-clause-settled g c).In_ok-drain)
+    rw c.in_default-take_at.ensures.feeds (drained_settled g (goal.at.returns-in_default-take_at-clause-settled g
+    c).In_ok-drain)
 
 pub returns-in_err-drain-clause-fault : goal.returns-in_err-drain-clause-fault
 returns-in_err-drain-clause-fault g c = grind (arith, texts_kept, if_err)
