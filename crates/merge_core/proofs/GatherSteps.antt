@@ -19,7 +19,7 @@ use Rattle.merge_core.specs.Gathering.{DrainedSource, WaitsAbove}
 use Rattle.line_queue.proofs.PairOrder.{upto_upto, same_upto, same_from}
 use Rattle.line_queue.proofs.HeapLemmas.{each_get, each_permuted}
 use Rattle.merge_core.proofs.Many.{is_told, zip_set, zip_at, length_zip, Move, moved_trans, moved_still, moved_set}
-use Rattle.merge_core.proofs.Many.{each_replaced, moved_not, told_moved, unread_set}
+use Rattle.merge_core.proofs.Many.{each_replaced, move_not, told_moved, unread_set}
 use Rattle.merge_core.proofs.StreamLemmas.{inside_sources, none_left, popped_ready, popped_done, popped_due}
 use Rattle.merge_core.proofs.GroupLemmas.{from_popped, from_waited, AreAt, AreBelow, all_sources, last_changes}
 use Rattle.merge_core.proofs.GroupLemmas.{next_changes, rest_changes}
@@ -116,8 +116,7 @@ module _ {limit n : ℕ} {past : List ℕ → Bool} {S : Type 0} {text : S → O
       as_many = h.as_many;
       moved = moved_trans text extent gave (zip ss0 fs0) (zip ss fs) (zip ss (set fs w.source f)) h.moved
           (rw same_sources at (moved_set text extent gave ss fs w.source a (get_or ss w.source a) b f h.ready.same
-          inside (moved_not (text (get_or ss w.source a)) (extent (get_or ss w.source a)) (gave (get_or ss w.source a))
-          (get_or fs w.source b).cursor)));
+          inside (move_not text extent gave (get_or ss w.source a, get_or fs w.source b))));
       rest = ap (drop (w.source + 1)) zip_now ∙ rest_changes pair (of limit text) (zip ss0 fs0) (zip ss fs) [] n
           w.source (get_or ss w.source a, f) turn h.rest;
       each = each_join (λ m. Alike (member_pair m) pair) group (w.member ∷ []) h.each (at, tt);

@@ -5,7 +5,6 @@ use Rattle.std.proofs.Common.{Some, None, true, length, get_or, set, map, zip}
 use Rattle.std.specs.Option.{is_some}
 use Rattle.std.proofs.lemmas.List.Sums.{sum_by-cons}
 use Rattle.merge_core.specs.declared.feed.Feed.{Feed}
-use Rattle.source_core.specs.Cursors.{CursorState}
 use Rattle.merge_core.specs.Feeds.{Moved}
 use Rattle.merge_core.specs.Gathering.{text_or, unread}
 
@@ -59,13 +58,6 @@ two_each R P Q f [] (y ∷ ys) h p = absurd h
 two_each R P Q f (x ∷ xs) [] h p = absurd h
 two_each R P Q f (x ∷ xs) (y ∷ ys) h p = (f x y h.0 p.0, two_each R P Q f xs ys h.1 p.1)
 
-pub moved_then : (t0 t1 t2 : Option (List ℕ)) (e0 e1 e2 g0 g1 g2 : ℕ) (f0 f1 f2 : CursorState)
-    → Moved t0 t1 e0 e1 g0 g1 f0 f1 → Moved t1 t2 e1 e2 g1 g2 f1 f2 → Moved t0 t2 e0 e2 g0 g2 f0 f2
-moved_then t0 t1 t2 e0 e1 e2 g0 g1 g2 f0 f1 f2 a b = grind arith
-
-pub moved_not : (t : Option (List ℕ)) (e g : ℕ) (f : CursorState) → Moved t t e e g g f f
-moved_not t e g f = grind arith
-
 two_trans : {X : Type 0} (R : X → X → Type 0) → ((x y z : X) → R x y → R y z → R x z) → (xs ys zs : List X)
     → AllZip R xs ys → AllZip R ys zs → AllZip R xs zs
 two_trans R t [] [] zs h k = k
@@ -100,11 +92,17 @@ module _ {S : Type 0} (text : S → Option (List ℕ)) (extent gave : S → ℕ)
   abbrev pub Move : S × Feed → S × Feed → Type 0
   Move x y = Moved (text x.0) (text y.0) (extent x.0) (extent y.0) (gave x.0) (gave y.0) x.1.cursor y.1.cursor
 
+  move_then : (x y z : S × Feed) → Move x y → Move y z → Move x z
+  move_then x y z a b = grind arith
+
+  pub move_not : (x : S × Feed) → Move x x
+  move_not x = grind arith
+
   pub moved_trans : (xs ys zs : List (S × Feed)) → AllZip Move xs ys → AllZip Move ys zs → AllZip Move xs zs
-  moved_trans = grind (arith, two_trans, moved_then)
+  moved_trans = two_trans Move move_then
 
   pub moved_still : (xs : List (S × Feed)) → AllZip Move xs xs
-  moved_still = grind (arith, two_same, moved_not)
+  moved_still = two_same Move move_not
 
   pub told_moved : (ss ss' : List S) (fs fs' : List Feed) → length ss' ≡ length fs'
       → AllZip Move (zip ss fs) (zip ss' fs') → AllByRecursion (λ s. is_some (text s) ≡ true) ss
@@ -119,10 +117,7 @@ module _ {S : Type 0} (text : S → Option (List ℕ)) (extent gave : S → ℕ)
 
     pub moved_set : Move (get_or ss i a, get_or fs i b) (s, f) → AllZip Move (zip ss fs) (zip (set ss i s) (set fs i f))
     moved_set m =
-        rw (zip_set ss fs i s f)
-        (two_set Move
-        (λ x y z. moved_then (text x.0) (text y.0) (text z.0) (extent x.0) (extent y.0) (extent z.0) (gave x.0)
-        (gave y.0) (gave z.0) x.1.cursor y.1.cursor z.1.cursor) (zip ss fs) (zip ss fs) i (a, b) (s, f)
+        rw (zip_set ss fs i s f) (two_set Move move_then (zip ss fs) (zip ss fs) i (a, b) (s, f)
         (moved_still (zip ss fs)) within (grind (arith, zip_at)))
 
     -- how many bytes weren't read

@@ -39,43 +39,47 @@ one_line [] h = omega arith
 one_line (l ∷ []) h = omega (arith, ap length (append-nil l))
 one_line (l ∷ k ∷ ls) h = absurd (omega arith)
 
-module _ (limit : ℕ) (past : List ℕ → Bool) where
+module _ {limit : ℕ} {past : List ℕ → Bool} {t : List ℕ} {extent : ℕ} {f : Feed} {ws : List Member} {b : Option Pair}
+    {new : CursorState} (fed : Fed limit past (Some t) extent f ws)
+    (upto : AllByRecursion (λ m. IsUpto b (member_pair m)) (done limit t f)) where
   -- a cursor that passed one line more at most than those that the feed gave
-  pub read_to : (t : List ℕ) (extent : ℕ) (f : Feed) (ws : List Member) (b : Option Pair)
-      → Fed limit past (Some t) extent f ws → AllByRecursion (λ m. IsUpto b (member_pair m)) (done limit t f)
-      → (new : CursorState) → new.start ≡ f.cursor.start
-      → new.at ≤ f.cursor.at + first_length (lines (drop f.cursor.at t)) → length new.ahead ≤ 8192
-      → ReadTo limit past b t new
-  read_to t extent f ws b fed upto new start near ahead =
+  pub read_to : new.start ≡ f.cursor.start → new.at ≤ f.cursor.at + first_length (lines (drop f.cursor.at t))
+      → length new.ahead ≤ 8192 → ReadTo limit past b t new
+  read_to start near ahead =
       let told = fed.told t refl in
       let from = lines (drop f.cursor.start t) in
       let all = read_lines t f.cursor in
       let k = f.cursor.count - held f.progress in
       let one = one_held f.progress in
-      let stood = told.stood in
-      let split = ap bytes_of (take-append-drop k all) in
-      let parts = ap length (flat_map-append (λ (l : List ℕ). l) (take k all) (drop k all)) in
-      let sum = length-append (flat_map (λ (l : List ℕ). l) (take k all)) (flat_map (λ (l : List ℕ). l) (drop k all)) in
-      let last = one_line (drop k all) (omega (arith, length-drop k all)) in
-      let l1 = longest_later k all in
-      let l2 = longest_front f.cursor.count from in
-      let l3 = longest_drop f.cursor.start t in
-      let l4 = first_most (lines (drop f.cursor.at t)) in
-      let l5 = longest_drop f.cursor.at t in
+      let front = take k all in let back = drop k all in
+      let last = one_line back (omega (arith, length-drop k all)) in
       record {
-        read = take k all;
-        rest = drop k all ++ drop f.cursor.count from;
+        read = front;
+        rest = back ++ drop f.cursor.count from;
         cut = ap (λ s. lines (drop s t)) start ∙ sym (take-append-drop f.cursor.count from)
             ∙ ap (λ ls. ls ++ drop f.cursor.count from) (sym (take-append-drop k all))
-            ∙ append_assoc (take k all) (drop k all) (drop f.cursor.count from);
+            ∙ append_assoc front back (drop f.cursor.count from);
         members = done limit t f;
         entries = sym (take-map (line_entry limit) k all) ∙ ap (take k) told.run.entries
             ∙ take-map Some k (given limit t f.cursor);
         within = each_both (λ (m : Member). past m.values.key ≡ false) (λ m. IsUpto b (member_pair m)) (done limit t f)
             told.within upto;
-        most = omega (arith, start, near, ahead, stood, split, parts, sum, last, l1, l2, l3, l4, l5);
+        most = omega (
+          arith,
+          told.stood,
+          last,
+          ap bytes_of (take-append-drop k all),
+          ap length (flat_map-append (λ (l : List ℕ). l) front back),
+          length-append (flat_map (λ (l : List ℕ). l) front) (flat_map (λ (l : List ℕ). l) back),
+          longest_later k all,
+          longest_front f.cursor.count from,
+          longest_drop f.cursor.start t,
+          first_most (lines (drop f.cursor.at t)),
+          longest_drop f.cursor.at t,
+        );
       }
 
+module _ (limit : ℕ) (past : List ℕ → Bool) where
   module _ {S : Type 0} (text : S → Option (List ℕ)) (extent : S → ℕ) (b : Option Pair) where
     -- sources of which no line above the bound is done
     pub are_read_to : (n : ℕ) (ss : List S) (fs : List Feed) (ws : List WaitingLine)
@@ -86,8 +90,7 @@ module _ (limit : ℕ) (past : List ℕ → Bool) where
     are_read_to n (s ∷ ss) (f ∷ fs) ws fed upto =
         let parts = each_cut (λ m. IsUpto b (member_pair m)) (done limit (text_or (text s)) f)
         (all_done limit text ss fs) upto in (
-          λ t e. read_to t (extent s) f (waits_of n ws) b (rw (← e) fed.0) (grind arith) f.cursor refl (omega arith)
-              (fed.0.stands.filled.most),
+          λ t e. read_to (rw e at fed.0) (grind arith) refl (omega arith) fed.0.stands.filled.most,
           are_read_to (n + 1) ss fs ws fed.1 parts.1,
         )
 

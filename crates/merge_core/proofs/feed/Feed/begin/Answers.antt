@@ -39,12 +39,8 @@ returns-in_err-line-clause-fault g c = grind arith
 reads : (g : Over) (c : After-next_line g) (t : List ℕ) → g.S.Source.text c.args.source.now ≡ Some t
     → ReadTo LINE_LIMIT (g.R.Range.past c.args.range.now) None t c.next_line.new.cursor
 reads g c t e =
-    let past = g.R.Range.past c.args.range.now in
-    let extent = g.S.Source.extent c.args.source.now in
-    let f = c.args.self.now in
     let next = c.next_line.ensures in
-    read_to LINE_LIMIT past t extent f [] None (rw (← e) c.requires.fed)
-    (grind arith) c.next_line.new.cursor next.start (next.most t e) next.ahead
+    read_to (rw e at c.requires.fed) (grind arith) next.start (next.most t e) next.ahead
 
 pub returns-in_err-line-clause-reads : goal.returns-in_err-line-clause-reads
 returns-in_err-line-clause-reads g c = grind (arith, reads)

@@ -46,9 +46,7 @@ reads : (g : Over) (c : After-next_line g) (t : List ℕ) → g.S.Source.text c.
 reads g c t e =
     let inv = c.loop-line.invariant in
     let next = c.next_line.ensures in
-    read_to LINE_LIMIT (g.R.Range.past c.args.range.now) t (g.S.Source.extent c.loop-line.source) c.loop-line.self []
-    (Some (member_pair c.args.first.now)) (told g c t e) (inv.low t e) c.next_line.new.cursor next.start
-    (next.most t (inv.text ∙ e)) next.ahead
+    read_to (told g c t e) (inv.low t e) next.start (next.most t (inv.text ∙ e)) next.ahead
 
 pub returns-in-Greater-clause-later : goal.returns-in-Greater-clause-later
 returns-in-Greater-clause-later g c =
