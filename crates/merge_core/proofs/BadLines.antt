@@ -57,7 +57,7 @@ last_line limit (l ∷ ls) (m ∷ before) last e =
     ≡ map Some (before ++ last ∷ []) = cc in q) in
     (l ∷ rest.0, rest.1, ap (λ us. l ∷ us) rest.2, rest.3)
 
-module _ (limit : ℕ) (past : List ℕ → Bool) (t : List ℕ) (extent : ℕ) (f : Feed)
+module _ {limit : ℕ} {past : List ℕ → Bool} {t : List ℕ} {extent : ℕ} {f : Feed}
     (fed : Fed limit past (Some t) extent f []) where
   -- the line at which the cursor stands, after those before it
   begins_here : (line : List ℕ) (after : List (List ℕ)) → lines (drop f.cursor.at t) ≡ line ∷ after

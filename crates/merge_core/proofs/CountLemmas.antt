@@ -39,10 +39,10 @@ one_held Ended = omega arith
 module _ (limit : ℕ) (past : List ℕ → Bool) (start : Pair) (b : Option Pair) (test : Member → Bool)
     (passes : (m : Member) → past m.values.key ≡ false → is_low start m ≡ false → IsUpto b (member_pair m) → test m
     ≡ true) where
-  source_most : (t : List ℕ) (extent : ℕ) (f : Feed) (ws ms : List Member) → Fed limit past (Some t) extent f ws
+  source_most : {t : List ℕ} {extent : ℕ} {f : Feed} {ws ms : List Member} → Fed limit past (Some t) extent f ws
       → IsIndex limit t ms → IsCut start t ms f.cursor.start
       → AllByRecursion (λ m. IsUpto b (member_pair m)) (done limit t f) → f.cursor.count ≤ length (filter test ms) + 1
-  source_most t extent f ws ms fed index cut upto =
+  source_most {t} {f = f} {ms = ms} fed index cut upto =
       let told = fed.told t refl in
       let from = lines (drop f.cursor.start t) in
       let run = run_after limit start t ms f.cursor.start index cut in
@@ -57,7 +57,7 @@ module _ (limit : ℕ) (past : List ℕ → Bool) (start : Pair) (b : Option Pai
       (done limit t f)
       (each_both (λ (m : Member). past m.values.key ≡ false) (λ m. is_low start m ≡ false) (done limit t f) told.within
       not_low) upto) in
-      let fewer = done_fewer limit past (λ (u : Unit {0}). Some t) (λ u. extent) t extent f ws ms test fed index in
+      let fewer = done_fewer test fed index in
       grind (arith, one_held, length-map, filter_all, length-take)
 
   module _ {S : Type 0} (text : S → Option (List ℕ)) (extent : S → ℕ) (ws : List WaitingLine) where
@@ -76,8 +76,7 @@ module _ (limit : ℕ) (past : List ℕ → Bool) (start : Pair) (b : Option Pai
     lines_most n (s ∷ ss) (f ∷ fs) (t ∷ ts) (i ∷ is) same known are cut fed upto =
         let parts = each_cut (λ m. IsUpto b (member_pair m)) (done limit (text_or (text s)) f)
         (all_done limit text ss fs) upto in
-        let here = source_most t (extent s) f (waits_of n ws) i (rw known.0 at fed.0) are.0 (cut.0 t i known.0 are.0)
-        (rw known.0 at parts.0) in
+        let here = source_most (rw known.0 at fed.0) are.0 (cut.0 t i known.0 are.0) (rw known.0 at parts.0) in
         let rest = lines_most (n + 1) ss fs ts is (omega arith) known.1 are.1 cut.1 fed.1 parts.1 in
         omega (
           arith,

@@ -60,22 +60,23 @@ module _ (limit : ℕ) (past : List ℕ → Bool) {S : Type 0} (text : S → Opt
       few_of (length fs) ws ready.placed
       (λ i l. rw (← let q : 0 + i ≡ i = omega arith in q) (few_at 0 i ss fs ws ready.same (omega arith) ready.fed))
 
-  -- ---- the lines of a group
+-- ---- the lines of a group
 
-  -- what is done of an index is among its lines
-  pub done_fewer : (t : List ℕ) (e : ℕ) (f : Feed) (ws ms : List Member) (test : Member → Bool)
-      → Fed limit past (Some t) e f ws → IsIndex limit t ms
-      → length (filter test (done limit t f)) ≤ length (filter test ms)
-  done_fewer t e f ws ms test fed index =
-      let told = fed.told t refl in
-      let from = lines (drop f.cursor.start t) in
-      let whole : ms ≡ map (member_of limit) told.begins.0 ++ map (member_of limit) from =
-      sym (members_are limit (lines t) ms index.entries) ∙ ap (map (member_of limit)) told.begins.1.0
-      ∙ map-append (member_of limit) told.begins.0 from in
-      let read : given limit t f.cursor
-      ≡ take f.cursor.count (map (member_of limit) from) = sym (take-map (member_of limit) f.cursor.count from) in
-      grind (arith, filter_front, filter_back)
+-- what is done of an index is among its lines
+pub done_fewer : {limit : ℕ} {past : List ℕ → Bool} {t : List ℕ} {extent : ℕ} {f : Feed} {ws ms : List Member}
+    (test : Member → Bool) → Fed limit past (Some t) extent f ws → IsIndex limit t ms
+    → length (filter test (done limit t f)) ≤ length (filter test ms)
+done_fewer {limit = limit} {t = t} {f = f} {ms = ms} test fed index =
+    let told = fed.told t refl in
+    let from = lines (drop f.cursor.start t) in
+    let whole : ms ≡ map (member_of limit) told.begins.0 ++ map (member_of limit) from =
+    sym (members_are limit (lines t) ms index.entries) ∙ ap (map (member_of limit)) told.begins.1.0
+    ∙ map-append (member_of limit) told.begins.0 from in
+    let read : given limit t f.cursor ≡ take f.cursor.count (map (member_of limit) from) =
+    sym (take-map (member_of limit) f.cursor.count from) in
+    grind (arith, filter_front, filter_back)
 
+module _ (limit : ℕ) (past : List ℕ → Bool) {S : Type 0} (text : S → Option (List ℕ)) (extent : S → ℕ) where
   all_fewer : (n : ℕ) (ss : List S) (fs : List Feed) (ws : List WaitingLine) (texts : List (List ℕ))
       (indexes : List (List Member)) (test : Member → Bool) → length ss ≡ length fs → Known (map text ss) texts
       → AllZip (IsIndex limit) texts indexes
@@ -86,7 +87,7 @@ module _ (limit : ℕ) (past : List ℕ → Bool) {S : Type 0} (text : S → Opt
   all_fewer n (s ∷ ss) (f ∷ fs) ws [] indexes test e known are fed = absurd known
   all_fewer n (s ∷ ss) (f ∷ fs) ws (t ∷ ts) [] test e known are fed = absurd are
   all_fewer n (s ∷ ss) (f ∷ fs) ws (t ∷ ts) (i ∷ is) test e known are fed =
-      let here = done_fewer t (extent s) f (waits_of n ws) i test (rw (← known.0) fed.0) are.0 in
+      let here = done_fewer test (rw known.0 at fed.0) are.0 in
       grind (
         arith,
         filter-append,

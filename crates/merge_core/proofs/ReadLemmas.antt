@@ -51,9 +51,7 @@ module _ (limit : ℕ) (past : List ℕ → Bool) (upward : IsUpward past) (upto
       let first = done limit t f in
       let others = all_done limit text ss fs in
       let parts = each_cut (λ m. upto m ≡ true) first others each in
-      let here : filter (is_read limit past upward upto) i ≡ filter (stays limit past upward) first = fed_read limit
-      past upward upto t (extent s) f (waits_of n ws) i (rw (← is_text) fed.0) settled.0 (runs.0 t is_text) (late_of n)
-      parts.0 in
+      let here = fed_read upward upto (rw is_text at fed.0) settled.0 (late_of n) parts.0 i (runs.0 t is_text) in
       filter-append (is_read limit past upward upto) i (all_lines is)
       ∙ ap₂ (λ u v. u ++ v) here (all_read (n + 1) ss fs is (omega arith) told.1 runs.1 fed.1 settled.1 parts.1)
       ∙ sym (filter-append (stays limit past upward) first others)

@@ -166,33 +166,31 @@ module _ (limit : ℕ) (past : List ℕ → Bool) (upward : IsUpward past) where
         grind (arith, append_assoc, read_is, rest_unread, false_right, later_past)
     head_read before all ms rest left ws Ended settled waits h e falls end late each = grind (arith, read_is)
 
-    -- Of the lines from the start on, those that were come to are those that are done
-    pub fed_read : (t : List ℕ) (extent : ℕ) (f : Feed) (ws ms : List Member) → Fed limit past (Some t) extent f ws
-        → IsSettled f → IsRun limit (lines (drop f.cursor.start t)) ms
-        → AllByRecursion IsLate ws → AllByRecursion (λ m. upto m ≡ true) (done limit t f) → filter is_read ms
-        ≡ filter stays (done limit t f)
-    fed_read t extent f ws ms fed settled run late each =
-        let told = fed.told t refl in
-        let from = lines (drop f.cursor.start t) in
-        let whole : map (member_of limit) from ≡ ms = members_are limit from ms run.entries in
-        let read : given limit t f.cursor
-        ≡ take f.cursor.count ms = sym (take-map (member_of limit) f.cursor.count from)
-        ∙ ap (take f.cursor.count) whole in
-        let rest : drop f.cursor.count ms ≡ map (member_of limit) (lines (drop f.cursor.at t)) =
-        ap (drop f.cursor.count) (sym whole) ∙ drop-map (member_of limit) f.cursor.count from
-        ∙ ap (map (member_of limit)) (sym (fed.stands.rest t refl)) in
-        head_read (done limit t f) (given limit t f.cursor) ms (drop f.cursor.count ms) (lines (drop f.cursor.at t)) ws
-        f.progress settled fed.waits told.head
-        (sym (take-append-drop f.cursor.count ms) ∙ ap (λ l. l ++ drop f.cursor.count ms) (sym read)) run.ordered
-        (λ e. rest ∙ ap (map (member_of limit)) e) late each
+module _ {limit : ℕ} {past : List ℕ → Bool} (upward : IsUpward past) (upto : Member → Bool) {t : List ℕ} {extent : ℕ}
+    {f : Feed} {ws : List Member} (fed : Fed limit past (Some t) extent f ws) (settled : IsSettled f)
+    (late : AllByRecursion (IsLate limit past upward upto) ws)
+    (each : AllByRecursion (λ m. upto m ≡ true) (done limit t f)) where
+  read_of : (ms rest : List Member) → ms ≡ given limit t f.cursor ++ rest → NeverFalls member_pair pair_cmp ms
+      → (lines (drop f.cursor.at t) ≡ [] → rest ≡ [])
+      → filter (is_read limit past upward upto) ms ≡ filter (stays limit past upward) (done limit t f)
+  read_of ms rest is falls end = head_read limit past upward upto (done limit t f) (given limit t f.cursor) ms rest
+      (lines (drop f.cursor.at t)) ws f.progress settled fed.waits (fed.told t refl).head is falls end late each
 
-    -- the same of the lines that were read
-    pub given_read : (t : List ℕ) (extent : ℕ) (f : Feed) (ws : List Member) → Fed limit past (Some t) extent f ws
-        → IsSettled f
-        → AllByRecursion IsLate ws → AllByRecursion (λ m. upto m ≡ true) (done limit t f)
-        → filter is_read (given limit t f.cursor) ≡ filter stays (done limit t f)
-    given_read t extent f ws fed settled late each =
-        let told = fed.told t refl in
-        head_read (done limit t f) (given limit t f.cursor) (given limit t f.cursor) [] (lines (drop f.cursor.at t)) ws
-        f.progress settled fed.waits told.head
-        (sym (append-nil (given limit t f.cursor))) told.run.ordered (λ e. refl) late each
+  -- Of the lines from the start on, those that were come to are those that are done
+  pub fed_read : (ms : List Member) → IsRun limit (lines (drop f.cursor.start t)) ms
+      → filter (is_read limit past upward upto) ms ≡ filter (stays limit past upward) (done limit t f)
+  fed_read ms run =
+      let from = lines (drop f.cursor.start t) in
+      let n = f.cursor.count in
+      let whole : map (member_of limit) from ≡ ms = members_are limit from ms run.entries in
+      let read : given limit t f.cursor ≡ take n ms = sym (take-map (member_of limit) n from) ∙ ap (take n) whole in
+      let rest : drop n ms ≡ map (member_of limit) (lines (drop f.cursor.at t)) =
+      ap (drop n) (sym whole) ∙ drop-map (member_of limit) n from ∙ ap (map (member_of limit)) (sym (fed.stands.rest t refl)) in
+      read_of ms (drop n ms) (sym (take-append-drop n ms) ∙ ap (λ l. l ++ drop n ms) (sym read)) run.ordered
+      (λ e. rest ∙ ap (map (member_of limit)) e)
+
+  -- the same of the lines that were read
+  pub given_read : filter (is_read limit past upward upto) (given limit t f.cursor)
+      ≡ filter (stays limit past upward) (done limit t f)
+  given_read = read_of (given limit t f.cursor) [] (sym (append-nil (given limit t f.cursor)))
+      (fed.told t refl).run.ordered (λ e. refl)

@@ -39,9 +39,9 @@ module _ (limit : ℕ) (past : List ℕ → Bool) where
   head_ended Past before all rest ws settled waits none h = inr (before, h.0, h.1, h.2)
   head_ended Ended before all rest ws settled waits none h = inl h.1
 
-  part_is : (t : List ℕ) (extent : ℕ) (f : Feed) (ws : List Member) (whole : Bool) → Fed limit past (Some t) extent f ws
+  part_is : {t : List ℕ} {extent : ℕ} {f : Feed} {ws : List Member} (whole : Bool) → Fed limit past (Some t) extent f ws
       → IsSettled f → (whole ≡ true → ws ≡ []) → IsPart limit past whole t (given limit t f.cursor)
-  part_is t extent f ws whole fed settled none =
+  part_is {t} {f = f} {ws = ws} whole fed settled none =
       let told = fed.told t refl in
       record {
         before = told.begins.0;
@@ -67,8 +67,7 @@ module _ (limit : ℕ) (past : List ℕ → Bool) {S : Type 0} (text : S → Opt
   parts_are n (s ∷ ss) [] texts whole same known fed settled none = absurd (omega arith)
   parts_are n (s ∷ ss) (f ∷ fs) [] whole same known fed settled none = absurd known
   parts_are n (s ∷ ss) (f ∷ fs) (t ∷ ts) whole same known fed settled none = (
-    rw known.0 (part_is limit past t (extent s) f (waits_of n ws) whole (grind arith) settled.0
-        (λ e. ap (waits_of n) (none e))),
+    rw known.0 (part_is limit past whole (rw known.0 at fed.0) settled.0 (λ e. ap (waits_of n) (none e))),
     parts_are (n + 1) ss fs ts whole (omega arith) known.1 fed.1 settled.1 none,
   )
 
@@ -104,9 +103,8 @@ module _ (limit : ℕ) (past : List ℕ → Bool) {S : Type 0} (text : S → Opt
         let first = done limit t f in
         let others = all_done limit text ss fs in
         let cut = each_cut (λ m. upto m ≡ true) first others each in
-        let here : filter (is_read limit past upward upto) (given limit t f.cursor) ≡ filter (stays limit past upward)
-        first = given_read limit past upward upto t (extent s) f (waits_of n ws) (rw (← is_told (text s) told.0) fed.0)
-        settled.0 (late_of limit past upward upto text extent ws late n) cut.0 in
+        let here = given_read upward upto (rw (is_told (text s) told.0) at fed.0) settled.0
+        (late_of limit past upward upto text extent ws late n) cut.0 in
         grind (
           arith,
           filter-append,

@@ -18,7 +18,7 @@ use Rattle.merge_core.specs.Gathering.{AreTold, text_or, all_done}
 use Rattle.merge_core.specs.Reached.{Reached}
 use Rattle.merge_core.specs.SourceLines.{HasEntry, IsLineIn, IsLineOf, AreLinesOf}
 use Rattle.merge_core.proofs.Filters.{each_take}
-use Rattle.merge_core.proofs.Many.{Move, told_moved, length_zip}
+use Rattle.merge_core.proofs.Many.{Move, is_told, told_moved, length_zip}
 use Rattle.merge_core.proofs.WholeLemmas.{texts_kept}
 
 in_take : {X : Type 0} (x : X) (n : ℕ) (xs : List X) → IsIn x (take n xs) → IsIn x xs
@@ -44,9 +44,9 @@ module _ (limit : ℕ) where
       ((l, f l (inl refl), here), each_entry ls all ms rest (λ k i. f k (inr i)))
 
   -- what is done of a source are lines of it
-  done_lines : (past : List ℕ → Bool) (t : List ℕ) (extent : ℕ) (f : Feed) (ws : List Member)
+  done_lines : {past : List ℕ → Bool} {t : List ℕ} {extent : ℕ} {f : Feed} {ws : List Member}
       → Fed limit past (Some t) extent f ws → AllByRecursion (IsLineIn limit t) (done limit t f)
-  done_lines past t extent f ws fed =
+  done_lines {t = t} {f = f} fed =
       let told = fed.told t refl in
       let from = lines (drop f.cursor.start t) in
       each_take (IsLineIn limit t) (f.cursor.count - held f.progress) (given limit t f.cursor)
@@ -73,7 +73,7 @@ module _ (limit : ℕ) where
         let t = text_or (text s) in
         each_join (IsLineOf limit (map text (s ∷ ss))) (done limit t f) (all_done limit text ss fs)
         (each_weaker (λ (m : Member) (h : IsLineIn limit t m). first_source (text s) (map text ss) m h) (done limit t f)
-        (done_lines past t (extent s) f (waits_of n ws) (grind arith)))
+        (done_lines (rw (is_told (text s) told.0) at fed.0)))
         (each_weaker (λ (m : Member) (h : IsLineOf limit (map text ss) m). later_source (text s) (map text ss) m h)
         (all_done limit text ss fs) (all_lines_of past (n + 1) ss fs ws told.1 fed.1))
 

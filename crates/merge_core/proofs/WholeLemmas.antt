@@ -26,9 +26,9 @@ module _ (limit : ℕ) (past : List ℕ → Bool) (never : (key : List ℕ) → 
   ended Ended before all rest s w h = h
 
   -- then its source is an index
-  index_read : (t : List ℕ) (extent : ℕ) (f : Feed) → f.cursor.start ≡ 0 → IsSettled f
+  index_read : {t : List ℕ} {extent : ℕ} {f : Feed} → f.cursor.start ≡ 0 → IsSettled f
       → Fed limit past (Some t) extent f [] → IsIndex limit t (done limit t f)
-  index_read t extent f zero_start s fed = grind (arith, ended, take_all, none_left)
+  index_read zero_start s fed = grind (arith, ended, take_all, none_left)
 
   module _ {S : Type 0} (text : S → Option (List ℕ)) (extent : S → ℕ) where
     -- the lines of each
@@ -45,7 +45,7 @@ module _ (limit : ℕ) (past : List ℕ → Bool) (never : (key : List ℕ) → 
     are_read n (s ∷ ss) [] texts same known start settled fed = absurd (omega arith)
     are_read n (s ∷ ss) (f ∷ fs) [] same known start settled fed = absurd known
     are_read n (s ∷ ss) (f ∷ fs) (t ∷ texts) same known start settled fed = (
-      rw known.0 (index_read t (extent s) f start.0 settled.0 (grind arith)),
+      rw known.0 (index_read start.0 settled.0 (rw known.0 at fed.0)),
       are_read (n + 1) ss fs texts (omega arith) known.1 start.1 settled.1 fed.1,
     )
 

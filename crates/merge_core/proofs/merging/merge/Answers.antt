@@ -208,13 +208,10 @@ returns-in_err-first-clause-broke g c =
 
 pub returns-in_err-first-clause-halted : goal.returns-in_err-first-clause-halted
 returns-in_err-first-clause-halted g c =
-    let text = g.S.Source.text in let extent = g.S.Source.extent in let gave = g.S.Source.gave in
-    let old = c.args.sources.now in let old_feeds = c.args.streams.now.feeds.items in
-    let was = c.loop-rest.sources in let was_feeds = c.loop-rest.streams.feeds.items in
     let came = c.loop-rest.invariant.came in
     let reads = c.in_err-first.ensures.reads in
     on_err c.from_residual.result c.in_err-first.field-0.0 _ c.from_residual.ensures.1 (record {
-      sources = was;
+      sources = c.loop-rest.sources;
       stood = c.loop-rest.streams;
       state = c.loop-rest.sink;
       middle = g.O.Output.written c.loop-rest.out;
@@ -224,11 +221,11 @@ returns-in_err-first-clause-halted g c =
       next = reads.pair;
       above = reads.above came.bound came.reached.above;
       least = reads.least;
-      read = λ told.
-          reads.read (told_moved text extent gave old was old_feeds was_feeds came.reached.ready.same
+      read = λ told. reads.read (told_moved g.S.Source.text g.S.Source.extent g.S.Source.gave c.args.sources.now
+          c.loop-rest.sources c.args.streams.now.feeds.items c.loop-rest.streams.feeds.items came.reached.ready.same
           came.reached.moved told)
-          (below_next came.bound reads.pair (reads.above came.bound came.reached.above)
-          (all_done LINE_LIMIT text was was_feeds) (came.reached.handed.told told).1);
+          (below_next came.bound reads.pair (reads.above came.bound came.reached.above) _
+          (came.reached.handed.told told).1);
     })
 
 pub returns-in_err-more-clause-halted : goal.returns-in_err-more-clause-halted
@@ -247,9 +244,7 @@ returns-in_err-more-clause-halted g c =
       next = pair;
       above = (grouped g here).above came.bound came.reached.above;
       least = (grouped g here).least;
-      read = λ t. are_read_to LINE_LIMIT (g.R.Range.past c.args.range.now) g.S.Source.text g.S.Source.extent
-          (Some pair) 0 c.gather.new.sources c.gather.new.self.feeds.items c.gather.new.self.waiting
-          c.in_ok-first.ensures.ready.fed ((reached g here).handed.told t).1;
+      read = (let now = reached g here in grind (arith, are_read_to));
     })
 
 pub returns-clause-passed : goal.returns-clause-passed

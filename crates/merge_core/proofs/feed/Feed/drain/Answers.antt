@@ -146,31 +146,22 @@ returns-clause-fed g c = grind arith
 
 pub returns-in_err-line-clause-fault : goal.returns-in_err-line-clause-fault
 returns-in_err-line-clause-fault g c = λ t e.
-    let past = g.R.Range.past c.args.range.now in
-    let inv = c.loop-line.invariant in
-    let extent = g.S.Source.extent c.loop-line.source in
-    let text = inv.text ∙ e in
     if_err c.from_residual.result c.in_err-line.field-0.0 (NamesLine LINE_LIMIT t) c.from_residual.ensures.1
-    (bad_named LINE_LIMIT past t extent c.loop-line.self
-    (told g (goal.at.returns-in_err-line-clause-fault g c).After-next_line t e) c.in_err-line.field-0.0
-    (c.in_err-line.ensures.fault t text))
+    (bad_named (told g (goal.at.returns-in_err-line-clause-fault g c).After-next_line t e) c.in_err-line.field-0.0
+    (c.in_err-line.ensures.fault t (c.loop-line.invariant.text ∙ e)))
 
 pub returns-in-Less-clause-fault : goal.returns-in-Less-clause-fault
 returns-in-Less-clause-fault g c = λ t e.
-    let past = g.R.Range.past c.args.range.now in
     let inv = c.loop-line.invariant in
     let ok = c.in_ok-line.ensures in
-    let extent = g.S.Source.extent c.loop-line.source in
-    let text = inv.text ∙ e in
     let first = member_pair c.args.first.now in
     let m = c.in-Some.line.value in
     let below : Below (member_pair m) first = ap (λ k. pair_cmp (member_pair k) first) (sym c.deref.ensures)
     ∙ sym c.compare_pairs.ensures ∙ c.in-Less.is in
-    let more = rw c.in-Some.is at ok.count in
-    rw (← inv.begin) at (order_named LINE_LIMIT past t extent c.loop-line.self
-    (told g (goal.at.returns-in-Less-clause-fault g c).After-next_line t e) first c.next_line.new.cursor m inv.due
-    (inv.last t e) ok.start more (line_read LINE_LIMIT t c.loop-line.self.cursor c.next_line.new.cursor
-    (λ (b : Box Line Global). b.value) c.in_ok-line.field-0 c.in-Some.line c.in-Some.is (ok.given t text)) below)
+    rw (← inv.begin) at (order_named (told g (goal.at.returns-in-Less-clause-fault g c).After-next_line t e) first
+    c.next_line.new.cursor m inv.due (inv.last t e) ok.start (rw c.in-Some.is at ok.count)
+    (line_read LINE_LIMIT t c.loop-line.self.cursor c.next_line.new.cursor (λ (b : Box Line Global). b.value)
+    c.in_ok-line.field-0 c.in-Some.line c.in-Some.is (ok.given t (inv.text ∙ e))) below)
 
 pub returns-in_err-line-clause-reads : goal.returns-in_err-line-clause-reads
 returns-in_err-line-clause-reads g c = grind (arith, reads)
