@@ -84,13 +84,3 @@ module _ (limit : ℕ) (past : List ℕ → Bool) (start : Pair) (b : Option Pai
           ap length (filter-append test i (all_lines is)),
           length-append (filter test i) (filter test (all_lines is)),
         )
-
--- ---- lines that were taken
-
-put_fewer : (m : Member) (ms : List Member) → length (put member_place place_cmp m ms) ≤ suc (length ms)
-put_fewer m [] = omega arith
-put_fewer m (k ∷ ms) = grind (arith, put_fewer m ms)
-
-rising_fewer : (ms : List Member) → length (rising member_place place_cmp ms) ≤ length ms
-rising_fewer [] = omega arith
-rising_fewer (m ∷ ms) = grind (arith, put_fewer, rising_fewer ms)

@@ -156,13 +156,6 @@ module _ (limit : ℕ) where
       none_left : 0 - held f.progress ≡ 0
       none_left = omega arith
 
-  -- what a read line says, where there was one
-  pub line_read : {L : Type 0} (t : List ℕ) (old new : CursorState) (seen : L → Member) (o : Option L) (line : L) → o
-      ≡ Some line
-      → MatchOption o ((read_lines t new ≡ read_lines t old) × (lines (drop new.at t) ≡ []))
-      (λ l. ReadNext t old new (seen l)) → ReadNext t old new (seen line)
-  line_read t old new seen o line e h = grind arith
-
   -- the next line of a feed was read, which is this one
   pub record LineRead (past : List ℕ → Bool) (text : Option (List ℕ)) (extent : ℕ) (old f : Feed) (m : Member) : Type 0
     where

@@ -20,13 +20,9 @@ use Rattle.line_queue.proofs.PairOrder.{upto_upto, same_upto, same_from}
 use Rattle.line_queue.proofs.HeapLemmas.{each_get, each_permuted}
 use Rattle.merge_core.proofs.Many.{is_told, zip_set, zip_at, length_zip, Move, moved_trans, moved_still, moved_set}
 use Rattle.merge_core.proofs.Many.{each_replaced, move_not, told_moved, unread_set}
-use Rattle.merge_core.proofs.StreamLemmas.{inside_sources, none_left, popped_ready, popped_done, popped_due}
+use Rattle.merge_core.proofs.StreamLemmas.{any_of, inside_sources, none_left, popped_ready, popped_done, popped_due}
 use Rattle.merge_core.proofs.GroupLemmas.{from_popped, from_waited, AreAt, AreBelow, all_sources, last_changes}
 use Rattle.merge_core.proofs.GroupLemmas.{next_changes, rest_changes}
-
-any_of : {X : Type 0} (xs : List X) (i : ℕ) → i < length xs → X
-any_of [] i l = absurd (omega arith)
-any_of (x ∷ xs) i l = x
 
 -- what is done of a source
 abbrev of : {S : Type 0} → ℕ → (S → Option (List ℕ)) → S × Feed → List Member

@@ -21,6 +21,7 @@ use Rattle.merge_core.specs.Gathering.{AreTold, Grouped, all_done}
 use Rattle.merge_core.specs.Reached.{Reached}
 use Rattle.merge_core.proofs.MergeLemmas.{gathered_now}
 use Rattle.merge_core.proofs.ReadLines.{members_are}
+use Rattle.merge_core.proofs.StreamLemmas.{few_wait}
 use Rattle.merge_core.proofs.WholeLemmas.{told_known, texts_kept}
 
 -- ---- the lines that wait: one of each source at most
@@ -45,20 +46,6 @@ few_of (suc n) ws placed few =
   where
     before : (w : WaitingLine) → (w.source < suc n) × (not (is_of n w) ≡ true) → w.source < n
     before w h = grind arith
-
-module _ (limit : ℕ) (past : List ℕ → Bool) {S : Type 0} (text : S → Option (List ℕ)) (extent : S → ℕ) where
-  few_at : (n i : ℕ) (ss : List S) (fs : List Feed) (ws : List WaitingLine) → length ss ≡ length fs → i < length ss
-      → AreFed limit past text extent n ss fs ws → length (waits_of (n + i) ws) ≤ 1
-  few_at n i [] fs ws e l h = absurd (omega arith)
-  few_at n i (s ∷ ss) [] ws e l h = absurd (omega arith)
-  few_at n zero (s ∷ ss) (f ∷ fs) ws e l h = grind arith
-  few_at n (suc i) (s ∷ ss) (f ∷ fs) ws e l h = grind (arith, few_at (n + 1) i ss fs ws (omega arith) (omega arith) h.1)
-
-  pub few_wait : (ss : List S) (fs : List Feed) (ws : List WaitingLine) → Ready limit past text extent ss fs ws
-      → length ws ≤ length fs
-  few_wait ss fs ws ready =
-      few_of (length fs) ws ready.placed
-      (λ i l. rw (← let q : 0 + i ≡ i = omega arith in q) (few_at 0 i ss fs ws ready.same (omega arith) ready.fed))
 
 -- ---- the lines of a group
 
@@ -121,7 +108,6 @@ module _ {S : Type 0} {limit : ℕ} {text : S → Option (List ℕ)} {past : Lis
       (each_weaker (λ (m : Member) (u : Upto (member_pair m) pair). at_pair pair m u) all gathered.upto) in
       let there = all_fewer limit past text extent 0 ss fs ws texts indexes (is_at pair) now.ready.same known_now are
       now.ready.fed in
-      let few = few_wait limit past text extent ss fs ws now.ready in
+      let few = few_of (length ss) ws (rw (← now.ready.same) at now.ready.placed) (few_wait now.ready) in
       let few_group : length group ≤ most = omega (arith, ap length gathered.taken) in
-      let pairs = now.ready.same in
       omega arith

@@ -22,7 +22,11 @@ use Rattle.cdxj_places.proofs.RisingLaws.{each_join}
 use Rattle.merge_core.proofs.FeedLemmas.{done_due}
 use Rattle.line_queue.proofs.HeapLemmas.{each_permuted, waits_here, waits_other, waits_permuted}
 
-pub few_waits : (p : Progress) (ws : List Member) → AreWaits p ws → length ws ≤ 1
+pub any_of : {X : Type 0} (xs : List X) (i : ℕ) → i < length xs → X
+any_of [] i l = absurd (omega arith)
+any_of (x ∷ xs) i l = x
+
+few_waits : (p : Progress) (ws : List Member) → AreWaits p ws → length ws ≤ 1
 few_waits Due ws h = omega (arith, ap length h)
 few_waits Waiting ws h = omega (arith, ap length h.1)
 few_waits Past ws h = omega (arith, ap length h)
@@ -127,6 +131,12 @@ module _ {limit : ℕ} {past : List ℕ → Bool} {S : Type 0} {text : S → Opt
       → Fed limit past (text (get_or ss i a)) (extent (get_or ss i a)) (get_or fs i b) (waits_of i ws)
   ready_at i a b l = rw (let q : 0 + i ≡ i = omega arith in q) at (fed_at limit past text extent 0 i ss fs ws a b
       ready.same l ready.fed)
+
+  pub few_wait : (i : ℕ) → i < length ss → length (waits_of i ws) ≤ 1
+  few_wait i l =
+      let same = ready.same in
+      let b : Feed = any_of fs i (omega arith) in
+      few_waits (get_or fs i b).progress (waits_of i ws) (ready_at i (any_of ss i l) b l).waits
 
   ready_set : (i : ℕ) (s : S) (f : Feed) (ws' : List WaitingLine) → ((j : ℕ) → j ≢ i → waits_of j ws' ≡ waits_of j ws)
       → AllByRecursion (λ (v : WaitingLine). v.source < length fs) ws'

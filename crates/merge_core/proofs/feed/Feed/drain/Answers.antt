@@ -13,14 +13,13 @@ use Rattle.line_queue.specs.PairOrders.{Alike, Below, Upto}
 use Rattle.source_core.specs.LinesAtFault.{IsOutOfOrder}
 use Rattle.merge_core.specs.Feeds.{Fed, done, option_list}
 use Rattle.merge_core.specs.LineFaults.{NamesLine}
-use Rattle.source_core.specs.Cursors.{CursorState}
 use Rattle.merge_core.specs.Spending.{ReadTo}
 use Rattle.merge_core.proofs.SpendLemmas.{read_to}
 use Rattle.merge_core.proofs.BadLines.{bad_named, order_named}
 use Rattle.merge_core.proofs.FailLemmas.{if_err}
 use Rattle.line_queue.proofs.PairOrder.{below_upto, same_upto, same_from, upto_upto}
 use Rattle.cdxj_places.proofs.RisingLaws.{each_join, each_weaker}
-use Rattle.merge_core.proofs.FeedLemmas.{LineRead, ReadNext, line_read, same_stays, fed_next, done_next, fed_taken}
+use Rattle.merge_core.proofs.FeedLemmas.{LineRead, same_stays, fed_next, done_next, fed_taken}
 use Rattle.merge_core.proofs.FeedLemmas.{done_taken}
 use Rattle.merge_core.proofs.feed.Feed.drain.Given.{Over}
 use Rattle.merge_core.proofs.feed.Feed.drain.Goals.{After-next_line, In-Greater, In-Some}
@@ -73,9 +72,7 @@ was_read g c f is up = record {
   start = grind arith;
   count = grind arith;
   near = grind arith;
-  next = λ t e. rw is (line_read LINE_LIMIT t c.loop-line.self.cursor c.next_line.new.cursor
-      (λ (b : Box Line Global). b.value) c.in_ok-line.field-0 c.in-Some.line c.in-Some.is (c.in_ok-line.ensures.given t
-      (sym c.in_ok-line.ensures.text ∙ e)));
+  next = λ t e. rw is (rw c.in-Some.is at (c.in_ok-line.ensures.given t (sym c.in_ok-line.ensures.text ∙ e)));
   low = λ t e. each_weaker (λ (k : Member) (q : Upto (member_pair k) (member_pair c.args.first.now)).
       upto_upto (member_pair k) (member_pair c.args.first.now) (member_pair c.in-Some.line.value) q up) _
       (c.loop-line.invariant.low t (sym c.loop-line.invariant.text ∙ sym c.in_ok-line.ensures.text ∙ e));
@@ -160,8 +157,7 @@ returns-in-Less-clause-fault g c = λ t e.
     ∙ sym c.compare_pairs.ensures ∙ c.in-Less.is in
     rw (← inv.begin) at (order_named (told g (goal.at.returns-in-Less-clause-fault g c).After-next_line t e) first
     c.next_line.new.cursor m inv.due (inv.last t e) ok.start (rw c.in-Some.is at ok.count)
-    (line_read LINE_LIMIT t c.loop-line.self.cursor c.next_line.new.cursor (λ (b : Box Line Global). b.value)
-    c.in_ok-line.field-0 c.in-Some.line c.in-Some.is (ok.given t (inv.text ∙ e))) below)
+    (rw c.in-Some.is at (ok.given t (inv.text ∙ e))) below)
 
 pub returns-in_err-line-clause-reads : goal.returns-in_err-line-clause-reads
 returns-in_err-line-clause-reads g c = grind (arith, reads)
