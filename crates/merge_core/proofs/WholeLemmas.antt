@@ -64,25 +64,25 @@ told_known text (s ∷ ss) [] h = absurd h
 told_known text (s ∷ ss) (t ∷ texts) h = (ap is_some h.0, told_known text ss texts h.1)
 
 module _ {S : Type 0} (text : S → Option (List ℕ)) (extent gave : S → ℕ) where
+  kept : {Y : Type 0} (f : S → Y) → ((x y : S × Feed) → Move text extent gave x y → f y.0 ≡ f x.0)
+      → (ss ss' : List S) (fs fs' : List Feed) → length ss ≡ length fs → length ss' ≡ length ss
+      → AllZip (Move text extent gave) (zip ss fs) (zip ss' fs') → map f ss' ≡ map f ss
+  kept f k [] [] fs fs' e e' h = refl
+  kept f k [] (s' ∷ ss') fs fs' e e' h = absurd (omega arith)
+  kept f k (s ∷ ss) [] fs fs' e e' h = absurd (omega arith)
+  kept f k (s ∷ ss) (s' ∷ ss') [] fs' e e' h = absurd (omega arith)
+  kept f k (s ∷ ss) (s' ∷ ss') (u ∷ fs) [] e e' h = absurd h
+  kept f k (s ∷ ss) (s' ∷ ss') (u ∷ fs) (u' ∷ fs') e e' h =
+      let same = k (s, u) (s', u') h.0 in
+      grind (arith, kept f k ss ss' fs fs' (omega arith) (omega arith) h.1)
+
   pub texts_kept : (ss ss' : List S) (fs fs' : List Feed) → length ss ≡ length fs → length ss' ≡ length ss
       → AllZip (Move text extent gave) (zip ss fs) (zip ss' fs') → map text ss' ≡ map text ss
-  texts_kept [] [] fs fs' e e' h = refl
-  texts_kept [] (s' ∷ ss') fs fs' e e' h = absurd (omega arith)
-  texts_kept (s ∷ ss) [] fs fs' e e' h = absurd (omega arith)
-  texts_kept (s ∷ ss) (s' ∷ ss') [] fs' e e' h = absurd (omega arith)
-  texts_kept (s ∷ ss) (s' ∷ ss') (f ∷ fs) [] e e' h = absurd h
-  texts_kept (s ∷ ss) (s' ∷ ss') (f ∷ fs) (f' ∷ fs') e e' h =
-      grind (arith, texts_kept ss ss' fs fs' (omega arith) (omega arith) h.1)
+  texts_kept = kept text (λ x y m. m.text_kept)
 
   pub extents_kept : (ss ss' : List S) (fs fs' : List Feed) → length ss ≡ length fs → length ss' ≡ length ss
       → AllZip (Move text extent gave) (zip ss fs) (zip ss' fs') → map extent ss' ≡ map extent ss
-  extents_kept [] [] fs fs' e e' h = refl
-  extents_kept [] (s' ∷ ss') fs fs' e e' h = absurd (omega arith)
-  extents_kept (s ∷ ss) [] fs fs' e e' h = absurd (omega arith)
-  extents_kept (s ∷ ss) (s' ∷ ss') [] fs' e e' h = absurd (omega arith)
-  extents_kept (s ∷ ss) (s' ∷ ss') (f ∷ fs) [] e e' h = absurd h
-  extents_kept (s ∷ ss) (s' ∷ ss') (f ∷ fs) (f' ∷ fs') e e' h =
-      grind (arith, extents_kept ss ss' fs fs' (omega arith) (omega arith) h.1)
+  extents_kept = kept extent (λ x y m. m.extent_kept)
 
   pub starts_kept : (ss ss' : List S) (fs fs' : List Feed) → length ss ≡ length fs → length ss' ≡ length fs'
       → AllZip (Move text extent gave) (zip ss fs) (zip ss' fs')
