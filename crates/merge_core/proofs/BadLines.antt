@@ -1,6 +1,6 @@
 -- Lines at fault, by where the cursor stands.
-use Rattle.std.proofs.Common.{◌≡◌, ◌≢◌, ℕ, ◌+◌, ◌-◌, ◌<◌, ◌≤◌, List, [], ◌∷◌, ◌++◌, Bool, true, false, cond, length}
-use Rattle.std.proofs.Common.{take, drop, map, None, Some, refl, sym, ap, ap₂, ◌∙◌, subst, arith, length-take}
+use Rattle.std.proofs.Common.{◌≡◌, ℕ, ◌+◌, ◌-◌, ◌<◌, ◌≤◌, List, [], ◌∷◌, ◌++◌, Bool, true, false, cond, length}
+use Rattle.std.proofs.Common.{take, drop, map, None, Some, refl, sym, ap, ap₂, ◌∙◌, arith, length-take}
 use Rattle.std.proofs.Common.{append_assoc, take-append-drop, is_gt}
 use Rattle.std.specs.Ordering.{ordering_reverse}
 use Rattle.std.proofs.lemmas.Bool.{cases_lt}
@@ -21,9 +21,7 @@ use Rattle.merge_core.specs.declared.feed.Feed.{Feed}
 use Rattle.line_queue.specs.PairOrders.{Below}
 use Rattle.merge_core.specs.Feeds.{Fed, read_lines, done}
 use Rattle.merge_core.specs.Gathering.{EndsAt}
-use Rattle.cdxj_core.specs.declared.fault.LineFault.{LineFault}
-use Rattle.cdxj_core.specs.declared.fault.LineFault.TheVariants as reading
-use Rattle.merge_core.specs.LineFaults.{IsBadFirst, IsFeedFaultAt, NamesLine, line_fault}
+use Rattle.merge_core.specs.LineFaults.{IsBadFirst, IsFeedFaultAt, NamesLine}
 use Rattle.line_queue.proofs.PairOrder.{below_then}
 use Rattle.merge_core.proofs.FeedLemmas.{ReadNext, done_due, after_taken}
 

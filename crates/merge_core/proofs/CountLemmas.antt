@@ -1,8 +1,8 @@
 -- How many lines were read of indexes.
 use Rattle.std.proofs.lemmas.List.{take-map, length-map}
 use Rattle.std.specs.List.{AllZip, AllByRecursion, sum}
-use Rattle.std.proofs.Common.{◌≡◌, ℕ, suc, ◌+◌, ◌-◌, ◌≤◌, List, [], ◌∷◌, length, drop, map, filter, zip, Bool, true}
-use Rattle.std.proofs.Common.{false, Option, Some, refl, sym, ap, subst, arith, length-append, length-take}
+use Rattle.std.proofs.Common.{◌≡◌, ℕ, ◌+◌, ◌-◌, ◌≤◌, List, [], ◌∷◌, length, drop, map, filter, zip, Bool, true}
+use Rattle.std.proofs.Common.{false, Option, Some, refl, ap, arith, length-append, length-take}
 use Rattle.merge_core.proofs.Filters.{each_take, each_both}
 use Rattle.std.proofs.lemmas.List.Elements.{filter-append}
 use Rattle.std.proofs.lemmas.List.Sums.{sum_by-cons}
@@ -10,18 +10,16 @@ use Rattle.cdxj_places.specs.Pairs.{Pair}
 use Rattle.cdxj_places.specs.TextLines.{lines}
 use Rattle.cdxj_places.proofs.RisingLaws.{each_weaker}
 use Rattle.cdxj_core.specs.Indexes.{IsIndex}
-use Rattle.cdxj_core.specs.Members.{Member, member_pair, member_place}
+use Rattle.cdxj_core.specs.Members.{Member, member_pair}
 use Rattle.source_core.specs.Search.{IsCut}
 use Rattle.merge_core.specs.declared.feed.Progress.{Progress}
 use Rattle.merge_core.specs.declared.feed.Progress.TheVariants.{Due, Waiting, Past, Ended}
 use Rattle.merge_core.specs.declared.feed.Feed.{Feed}
 use Rattle.line_queue.specs.PairOrders.{IsUpto, is_low}
-use Rattle.line_queue.specs.WaitingLines.{WaitingLine, waits_of}
+use Rattle.line_queue.specs.WaitingLines.{WaitingLine}
 use Rattle.merge_core.specs.Collections.{Known, all_lines}
 use Rattle.merge_core.specs.Feeds.{AreFed, Fed, done, given, held, member_of}
 use Rattle.merge_core.specs.Gathering.{text_or, all_done}
-use Rattle.cdxj_places.specs.Places.{place_cmp}
-use Rattle.cdxj_places.specs.Rising.{put, rising}
 use Rattle.merge_core.specs.Openings.{IsCutAt}
 use Rattle.merge_core.proofs.GroupLemmas.{each_cut, filter_all}
 use Rattle.merge_core.proofs.HeldLemmas.{done_fewer}

@@ -1,6 +1,6 @@
 -- Which device failed.
 use Rattle.std.proofs.lemmas.List.{get_or-map, length-map, map-set}
-use Rattle.std.proofs.Common.{◌≡◌, ℕ, ◌<◌, List, sym, ◌∙◌, subst, arith, length, map, get_or, set, Result, Ok, Err}
+use Rattle.std.proofs.Common.{◌≡◌, ℕ, ◌<◌, List, ◌∙◌, arith, length, map, get_or, set, Result, Ok, Err}
 use Rattle.std.proofs.Common.{IfErr, IsErrAnd}
 use Rattle.devices.specs.Device.{next_count}
 use Rattle.merge_core.specs.declared.fault.FeedFault.{FeedFault}

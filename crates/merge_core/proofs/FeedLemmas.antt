@@ -1,7 +1,7 @@
 -- What one line more makes of a feed.
 use Rattle.std.proofs.lemmas.List.{map-append}
 use Rattle.std.proofs.Common.{◌≡◌, Ordering, Less, Equal, Greater, ℕ, zero, suc, ◌+◌, ◌-◌, ◌≤◌, List, [], ◌∷◌, ◌++◌}
-use Rattle.std.proofs.Common.{length, refl, sym, ap, ◌∙◌, subst, arith, Bool, false, Option, Some, None, MatchOption}
+use Rattle.std.proofs.Common.{length, refl, ap, ◌∙◌, arith, Bool, false, Option, Some, None}
 use Rattle.std.proofs.Common.{take, drop, map, append-nil, length-append}
 use Rattle.std.specs.List.{AllByRecursion}
 use Rattle.std.specs.Ordering.{nat_cmp, ordering_then}
@@ -10,7 +10,7 @@ use Rattle.std.specs.FinMap.{nat_cmp-IsAntisymmetric, slice_cmp-IsAntisymmetric}
 use Rattle.std.proofs.lemmas.Cmp.{tied_back}
 use Rattle.std.proofs.lemmas.List.Concat.{flat_map-append}
 use Rattle.cdxj_places.proofs.PairLemmas.{pair_cmp_total}
-use Rattle.cdxj_places.proofs.RisingLaws.{each_join, each_weaker}
+use Rattle.cdxj_places.proofs.RisingLaws.{each_join}
 use Rattle.cdxj_places.specs.Pairs.{Pair, pair_cmp}
 use Rattle.cdxj_places.specs.Rising.{NeverFalls}
 use Rattle.cdxj_places.specs.TextLines.{lines}
@@ -26,7 +26,7 @@ use Rattle.merge_core.specs.declared.feed.Feed.{Feed}
 use Rattle.line_queue.specs.PairOrders.{Alike, Upto}
 use Rattle.merge_core.specs.Gathering.{EndsAt}
 use Rattle.merge_core.specs.Feeds.{AreWaits, IsNext, IsHead, Fed, held, bytes_of, read_lines, member_of, given, done}
-use Rattle.line_queue.proofs.PairOrder.{upto_upto, upto_both}
+use Rattle.line_queue.proofs.PairOrder.{upto_both}
 
 pub no_entry : (limit : ℕ) (line : List ℕ) (o : Option Member) → o ≡ line_entry limit line
     → limit ≤ length (body_of line) → o ≡ None

@@ -1,9 +1,9 @@
 -- How many lines are held at once.
 use Rattle.std.proofs.lemmas.List.{take-map, length-map, map-append}
 use Rattle.std.specs.List.{AllZip, AllByRecursion}
-use Rattle.std.proofs.Common.{◌≡◌, ◌≢◌, ◌^◌, max, min, ℕ, zero, suc, ◌+◌, ◌-◌, ◌==◌, ◌<◌, ◌≤◌, List, [], ◌∷◌, ◌++◌}
+use Rattle.std.proofs.Common.{◌≡◌, ℕ, zero, suc, ◌+◌, ◌<◌, ◌≤◌, List, [], ◌∷◌, ◌++◌}
 use Rattle.std.proofs.Common.{length, take, drop, map, filter, Bool, true, false, not, Option, Some, refl, sym, ap, ◌∙◌}
-use Rattle.std.proofs.Common.{subst, arith, length-append, Ordering, Less, Equal, Greater, is_gt, is_lt, is_eq}
+use Rattle.std.proofs.Common.{arith, length-append, Ordering, Less, Equal, Greater, is_gt, is_lt, is_eq}
 use Rattle.merge_core.proofs.Filters.{each_filter, filter_split, filter_fewer, filter_weaker, filter_front, filter_back}
 use Rattle.std.proofs.lemmas.List.Elements.{filter-append}
 use Rattle.cdxj_places.specs.Pairs.{Pair, pair_cmp}
@@ -12,12 +12,12 @@ use Rattle.cdxj_places.proofs.RisingLaws.{each_weaker}
 use Rattle.cdxj_core.specs.Indexes.{IsIndex}
 use Rattle.cdxj_core.specs.Members.{Member, member_pair}
 use Rattle.merge_core.specs.declared.feed.Feed.{Feed}
-use Rattle.line_queue.specs.PairOrders.{Upto, IsAbove, is_low}
-use Rattle.line_queue.specs.WaitingLines.{WaitingLine, waiting_pair, is_of, waits_of}
+use Rattle.line_queue.specs.PairOrders.{Upto, is_low}
+use Rattle.line_queue.specs.WaitingLines.{WaitingLine, is_of, waits_of}
 use Rattle.merge_core.specs.Collections.{Known, OverIndexes, all_lines}
 use Rattle.merge_core.specs.Counts.{is_at, ShareAtMost}
-use Rattle.merge_core.specs.Feeds.{Fed, AreFed, Ready, member_of, given, done}
-use Rattle.merge_core.specs.Gathering.{AreTold, Grouped, all_done}
+use Rattle.merge_core.specs.Feeds.{Fed, AreFed, member_of, given, done}
+use Rattle.merge_core.specs.Gathering.{Grouped, all_done}
 use Rattle.merge_core.specs.Reached.{Reached}
 use Rattle.merge_core.proofs.MergeLemmas.{gathered_now}
 use Rattle.merge_core.proofs.ReadLines.{members_are}

@@ -1,6 +1,6 @@
 -- Lists of sources and feeds, seen as one list of pairs.
 use Rattle.std.specs.List.{AllZip, AllByRecursion, sum}
-use Rattle.std.proofs.Common.{◌≡◌, ℕ, zero, suc, ◌+◌, ◌-◌, ◌<◌, List, [], ◌∷◌, refl, sym, ap, ◌∙◌, subst, arith, Option}
+use Rattle.std.proofs.Common.{◌≡◌, ℕ, zero, suc, ◌+◌, ◌-◌, ◌<◌, List, [], ◌∷◌, refl, sym, ap, ◌∙◌, arith, Option}
 use Rattle.std.proofs.Common.{Some, None, true, length, get_or, set, map, zip}
 use Rattle.std.specs.Option.{is_some}
 use Rattle.std.proofs.lemmas.List.Sums.{sum_by-cons}

@@ -1,6 +1,6 @@
 -- The opening of sources, one after another.
-use Rattle.std.proofs.Common.{◌≡◌, ◌≢◌, ℕ, zero, suc, ◌+◌, ◌-◌, ◌<◌, List, [], ◌∷◌, ◌++◌, length, set, zip, flat_map}
-use Rattle.std.proofs.Common.{map, take, Bool, Option, Some, None, MatchOption, refl, sym, ap, ◌∙◌, subst, arith}
+use Rattle.std.proofs.Common.{◌≡◌, ◌≢◌, ℕ, zero, suc, ◌+◌, ◌<◌, List, [], ◌∷◌, ◌++◌, length, set, zip, flat_map}
+use Rattle.std.proofs.Common.{map, take, Bool, Option, Some, None, MatchOption, refl, ap, ◌∙◌, arith}
 use Rattle.std.proofs.Common.{append-nil, length-append}
 use Rattle.std.specs.List.{AllByRecursion, sum}
 use Rattle.std.proofs.lemmas.List.Sums.{sum_by-cons}

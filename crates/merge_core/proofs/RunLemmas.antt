@@ -1,19 +1,16 @@
 -- What was taken of sources of any bytes, beside the lines that were read of them.
 use Rattle.std.specs.List.{AllZip, AllByRecursion, sum}
 use Rattle.std.proofs.Common.{◌≡◌, ◌⊎◌, inl, inr, ℕ, ◌+◌, List, [], ◌∷◌, ◌++◌, length, drop, map, filter, Bool, true}
-use Rattle.std.proofs.Common.{not, Option, Some, refl, sym, ap, ◌∙◌, subst, arith, take-append-drop, append_assoc}
+use Rattle.std.proofs.Common.{not, Option, Some, refl, ap, arith, take-append-drop, append_assoc}
 use Rattle.std.proofs.lemmas.List.{length-map}
 use Rattle.std.proofs.lemmas.List.Elements.{filter-append}
 use Rattle.std.proofs.lemmas.List.Sums.{sum_by-cons}
 use Rattle.cdxj_places.specs.Pairs.{Pair}
 use Rattle.cdxj_places.specs.TextLines.{lines}
-use Rattle.cdxj_places.specs.Places.{place_cmp}
-use Rattle.cdxj_places.specs.Rising.{rising}
-use Rattle.cdxj_core.specs.Members.{Member, member_pair, member_place}
+use Rattle.cdxj_core.specs.Members.{Member}
 use Rattle.merge_core.specs.declared.feed.Progress.{Progress}
 use Rattle.merge_core.specs.declared.feed.Progress.TheVariants.{Due, Waiting, Past, Ended}
 use Rattle.merge_core.specs.declared.feed.Feed.{Feed}
-use Rattle.line_queue.specs.PairOrders.{IsUpto}
 use Rattle.line_queue.specs.WaitingLines.{WaitingLine, waits_of}
 use Rattle.merge_core.specs.Collections.{Known, all_lines, collection}
 use Rattle.merge_core.specs.Feeds.{AreFed, AreSettled, AreWaits, IsHead, IsSettled, Fed, done, given, member_of}

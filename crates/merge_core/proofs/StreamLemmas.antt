@@ -1,6 +1,6 @@
 -- Sources and feeds, while lines wait.
 use Rattle.std.proofs.Common.{◌≡◌, ◌≢◌, ℕ, zero, suc, ◌+◌, ◌<◌, ◌≤◌, List, [], ◌∷◌, ◌++◌, false, length, get_or, set}
-use Rattle.std.proofs.Common.{drop, Bool, Option, None, Some, MatchOption, option_map, refl, sym, ap, ◌∙◌, subst, arith}
+use Rattle.std.proofs.Common.{Bool, Option, None, Some, MatchOption, option_map, refl, sym, ap, ◌∙◌, subst, arith}
 use Rattle.std.proofs.Common.{add-zero, length-set}
 use Rattle.std.specs.List.{AllByRecursion}
 use Rattle.std.specs.List.Sorted.{IsPermutation}
@@ -8,13 +8,12 @@ use Rattle.std.proofs.lemmas.List.{set-get_or}
 use Rattle.std.proofs.lemmas.List.Sorted.{length_permutation}
 use Rattle.cdxj_places.specs.Pairs.{pair_cmp}
 use Rattle.cdxj_places.specs.Rising.{NeverFalls}
-use Rattle.cdxj_places.specs.TextLines.{lines}
 use Rattle.cdxj_core.specs.Members.{Member, member_pair}
 use Rattle.merge_core.specs.declared.feed.Progress.{Progress}
 use Rattle.merge_core.specs.declared.feed.Progress.TheVariants.{Due, Waiting, Past, Ended}
 use Rattle.merge_core.specs.declared.feed.Feed.{Feed}
 use Rattle.line_queue.specs.WaitingLines.{WaitingLine, waits_of}
-use Rattle.merge_core.specs.Feeds.{AreWaits, IsHead, FedOf, Fed, AreFed, Ready, given, done, due, option_list}
+use Rattle.merge_core.specs.Feeds.{AreWaits, FedOf, Fed, AreFed, Ready, given, done, due, option_list}
 use Rattle.merge_core.specs.Gathering.{IsDue}
 use Rattle.line_queue.specs.PairOrders.{Upto}
 use Rattle.line_queue.proofs.PairOrder.{upto_itself}

@@ -1,6 +1,6 @@
 -- What was taken of lines, beside all that is wanted of them.
 use Rattle.std.proofs.Common.{arith, ◌≡◌, inl, inr, ℕ, List, [], ◌∷◌, ◌++◌, filter, Bool, true, false, not, ◌&&◌}
-use Rattle.std.proofs.Common.{Option, None, Some, refl, sym, ap, ◌∙◌, subst, append-nil, is_gt, is_lt, Less, Equal}
+use Rattle.std.proofs.Common.{Option, None, Some, refl, sym, ap, ◌∙◌, append-nil, is_gt, is_lt, Less, Equal}
 use Rattle.std.proofs.Common.{Greater, Ordering}
 use Rattle.std.proofs.lemmas.Bool.{and_cases, not-false, not-true, true≢false}
 use Rattle.std.specs.List.{AllByRecursion}

@@ -1,12 +1,10 @@
 use Rattle.std.specs.List.{AllByRecursion, AllZip}
 use Rattle.std.proofs.lemmas.List.{length-map}
 use Rattle.std.proofs.Common.{arith, ◌≡◌, ℕ, ◌+◌, ◌≤◌, length, ◌∷◌, ◌++◌, [], inl, inr, Box, Global, List, Some, None}
-use Rattle.std.proofs.Common.{map, zip, refl, sym, ◌∙◌, subst}
+use Rattle.std.proofs.Common.{map, zip, refl, ◌∙◌}
 use Rattle.cdxj_core.specs.declared.limit.TheConstants.{LINE_LIMIT}
 use Rattle.cdxj_core.specs.declared.line.Line.{Line}
 use Rattle.cdxj_core.specs.Members.{Member, member_pair, member_place}
-use Rattle.cdxj_core.specs.Indexes.{IsIndex}
-use Rattle.cdxj_places.specs.Pairs.{Pair}
 use Rattle.cdxj_places.specs.Places.{place_cmp}
 use Rattle.cdxj_places.specs.Rising.{rising}
 use Rattle.cdxj_places.proofs.PlaceOrder.{place_cmp_total}
@@ -14,7 +12,7 @@ use Rattle.cdxj_places.proofs.RisingLaws.{each_rising}
 use Rattle.merge_core.proofs.SpendLemmas.{are_read_to}
 use Rattle.merge_core.specs.Collections.{OverIndexes, all_lines}
 use Rattle.merge_core.specs.Counts.{ShareAtMost}
-use Rattle.merge_core.specs.Gathering.{Grouped, AreTold, all_done}
+use Rattle.merge_core.specs.Gathering.{Grouped}
 use Rattle.line_queue.specs.PairOrders.{Alike}
 use Rattle.merge_core.specs.Reached.{Reached}
 use Rattle.merge_core.specs.SourceLines.{HasEntry}
@@ -23,7 +21,6 @@ use Rattle.merge_core.proofs.FailLemmas.{if_err}
 use Rattle.merge_core.proofs.Many.{Move, moved_trans, moved_still, told_moved}
 use Rattle.merge_core.proofs.HeldLemmas.{held_most}
 use Rattle.merge_core.proofs.MergeLemmas.{above_none, below_next, handed_none, reached_next, on_err}
-use Rattle.merge_core.specs.Feeds.{AreSettled}
 use Rattle.devices.proofs.DeviceLemmas.{grows_not}
 use Rattle.merge_core.proofs.merging.merge.Given.{Over}
 use Rattle.merge_core.proofs.merging.merge.Goals.{After-gather, After-hand_on}

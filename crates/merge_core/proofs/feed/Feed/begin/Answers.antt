@@ -1,13 +1,7 @@
-use Rattle.std.proofs.Common.{arith, ◌≡◌, ℕ, List, Some, None, [], Box, Global, option_map, subst, sym}
-use Rattle.std.specs.List.{AllByRecursion}
+use Rattle.std.proofs.Common.{arith, ◌≡◌, ℕ, List, Some, None}
 use Rattle.cdxj_core.specs.declared.limit.TheConstants.{LINE_LIMIT}
-use Rattle.cdxj_core.specs.declared.line.Line.{Line}
-use Rattle.cdxj_core.specs.Members.{member_pair}
-use Rattle.line_queue.specs.PairOrders.{Upto}
-use Rattle.merge_core.specs.Feeds.{Fed, option_list}
 use Rattle.merge_core.specs.Spending.{ReadTo}
 use Rattle.merge_core.proofs.SpendLemmas.{read_to}
-use Rattle.line_queue.proofs.PairOrder.{upto_itself}
 use Rattle.merge_core.proofs.FeedLemmas.{LineRead, fresh_done, fed_next}
 use Rattle.merge_core.proofs.feed.Feed.begin.Given.{Over}
 use Rattle.merge_core.proofs.feed.Feed.begin.Goals.{After-next_line}

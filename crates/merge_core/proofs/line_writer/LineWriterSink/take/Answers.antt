@@ -1,4 +1,4 @@
-use Rattle.std.proofs.Common.{arith, Bor, ◌∙◌}
+use Rattle.std.proofs.Common.{arith, Bor}
 use Rattle.std.proofs.lemmas.Result.{err_from_is_err_and}
 use Rattle.cdxj_core.specs.declared.line.Line.{Line}
 use Rattle.devices.proofs.DeviceLemmas.{grows_on}

@@ -1,4 +1,4 @@
-use Rattle.std.proofs.Common.{arith, ◌≡◌, ◌+◌, ◌∷◌, ℕ, List, Some, drop, sym, ap, ◌∙◌}
+use Rattle.std.proofs.Common.{arith, ◌≡◌, ◌∷◌, ℕ, List, Some, drop, sym, ap, ◌∙◌}
 use Rattle.cdxj_places.specs.TextLines.{lines}
 use Rattle.merge_core.proofs.BadLines.{first_long}
 use Rattle.merge_core.proofs.FeedLemmas.{one_more}

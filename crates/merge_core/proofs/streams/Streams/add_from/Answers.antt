@@ -1,4 +1,4 @@
-use Rattle.std.proofs.Common.{arith, ◌∙◌}
+use Rattle.std.proofs.Common.{arith}
 use Rattle.merge_core.proofs.streams.Streams.add_from.Goals as goal
 
 pub returns-clause-added : goal.returns-clause-added

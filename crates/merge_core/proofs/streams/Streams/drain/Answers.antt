@@ -1,14 +1,12 @@
 use Rattle.std.specs.List.{AllZip, AllByRecursion}
-use Rattle.std.proofs.Common.{◌≡◌, Some, ◌++◌, [], Box, Global, List, get_or, set, zip, sym, ap, ◌∙◌, subst, arith}
+use Rattle.std.proofs.Common.{Some, Box, Global, List, set, zip, sym, ap, ◌∙◌, arith}
 use Rattle.std.proofs.lemmas.List.{get_or_default}
 use Rattle.cdxj_core.specs.declared.limit.TheConstants.{LINE_LIMIT}
 use Rattle.cdxj_core.specs.declared.line.Line.{Line}
 use Rattle.cdxj_core.specs.Members.{member_pair}
 use Rattle.merge_core.specs.declared.feed.Feed.{Feed}
-use Rattle.merge_core.specs.declared.feed.Progress.TheVariants.{Due}
 use Rattle.line_queue.specs.PairOrders.{Upto}
-use Rattle.merge_core.specs.Feeds.{Fed, Ready, done}
-use Rattle.merge_core.specs.Gathering.{EndsAt, all_done, unread}
+use Rattle.merge_core.specs.Gathering.{all_done, unread}
 use Rattle.merge_core.specs.Spending.{AreReadTo}
 use Rattle.merge_core.proofs.SpendLemmas.{are_read_to, read_on}
 use Rattle.merge_core.proofs.FailLemmas.{counts_reads, raised_by_feed}

@@ -1,20 +1,18 @@
-use Rattle.std.proofs.lemmas.List.{map-append, set-set}
-use Rattle.std.specs.List.{AllByRecursion}
+use Rattle.std.proofs.lemmas.List.{map-append}
 use Rattle.std.proofs.Common.{◌≡◌, ◌≤◌, Some, ◌+◌, ◌∷◌, ◌++◌, [], Box, Global, List, length, get_or, set, map, false}
-use Rattle.std.proofs.Common.{is_lt, refl, sym, ap, ◌∙◌, subst, arith, length-set}
-use Rattle.std.specs.List.Sorted.{IsPermutation}
+use Rattle.std.proofs.Common.{is_lt, refl, sym, ap, ◌∙◌, arith, length-set}
 use Rattle.std.proofs.lemmas.Cmp.{tied_itself}
 use Rattle.std.proofs.lemmas.List.Sorted.{IsPermutation-sym}
 use Rattle.cdxj_places.proofs.PairLemmas.{pair_cmp_total}
-use Rattle.cdxj_places.proofs.RisingLaws.{each_join, each_weaker}
+use Rattle.cdxj_places.proofs.RisingLaws.{each_weaker}
 use Rattle.cdxj_core.specs.declared.limit.TheConstants.{LINE_LIMIT}
 use Rattle.cdxj_core.specs.declared.line.Line.{Line}
 use Rattle.cdxj_core.specs.Members.{Member, member_pair}
 use Rattle.merge_core.specs.declared.feed.Feed.{Feed}
 use Rattle.line_queue.specs.PairOrders.{Alike, Upto}
 use Rattle.line_queue.specs.WaitingLines.{WaitingLine, waiting_pair, turn_cmp}
-use Rattle.merge_core.specs.Feeds.{IsSettled, AreSettled, due}
-use Rattle.merge_core.specs.Gathering.{Gathered, Grouped, IsFrom, IsDue, Drained, AreTold, all_done, unread}
+use Rattle.merge_core.specs.Feeds.{AreSettled, due}
+use Rattle.merge_core.specs.Gathering.{IsFrom, AreTold, all_done, unread}
 use Rattle.merge_core.specs.declared.fault.MergeFault.TheVariants.{Memory}
 use Rattle.merge_core.specs.Spending.{AreReadTo}
 use Rattle.line_queue.proofs.PairOrder.{upto_itself}
@@ -22,10 +20,10 @@ use Rattle.merge_core.proofs.MergeLemmas.{on_err}
 use Rattle.merge_core.proofs.SpendLemmas.{due_read}
 use Rattle.merge_core.proofs.WholeLemmas.{texts_kept}
 use Rattle.merge_core.proofs.FailLemmas.{if_err}
-use Rattle.merge_core.proofs.GroupLemmas.{AreAt, AreBelow, from_waited}
+use Rattle.merge_core.proofs.GroupLemmas.{AreBelow}
 use Rattle.merge_core.proofs.GatherSteps.{Gathers, TakenNext, gathers_start, taken_next, gathers_drained, gathers_all}
 use Rattle.line_queue.proofs.HeapLemmas.{each_permuted}
-use Rattle.merge_core.proofs.Many.{moved_trans, moved_still, set_own, each_replaced}
+use Rattle.merge_core.proofs.Many.{moved_trans, moved_still, set_own}
 use Rattle.line_queue.proofs.TurnLemmas.{above_popped, not_before}
 use Rattle.merge_core.proofs.streams.Streams.gather.Given.{Over}
 use Rattle.merge_core.proofs.streams.Streams.gather.Goals.{After-drain, After-push, In_ok-drain}

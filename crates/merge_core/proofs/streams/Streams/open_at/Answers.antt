@@ -1,13 +1,11 @@
-use Rattle.std.specs.List.{AllZip, AllByRecursion, sum}
+use Rattle.std.specs.List.{sum}
 use Rattle.std.proofs.lemmas.Slice.Zip.{all_zipped_more}
-use Rattle.std.proofs.Common.{◌≡◌, ◌++◌, get_or, take, ◌<◌, ◌+◌, ◌∷◌, [], length, map, sym, ap, ◌∙◌, subst, set, zip}
+use Rattle.std.proofs.Common.{◌≡◌, get_or, take, ◌<◌, ◌+◌, ◌∷◌, [], length, map, sym, ap, ◌∙◌, zip}
 use Rattle.std.proofs.Common.{length-append, arith}
 use Rattle.std.proofs.lemmas.List.{take_all, take_more}
 use Rattle.cdxj_core.specs.declared.limit.TheConstants.{LINE_LIMIT}
 use Rattle.source_core.specs.Halving.{digits}
 use Rattle.merge_core.specs.declared.feed.Feed.{Feed}
-use Rattle.line_queue.specs.WaitingLines.{WaitingLine}
-use Rattle.merge_core.specs.Feeds.{AreFed}
 use Rattle.merge_core.specs.Spending.{CameWithin, OpenedWithin}
 use Rattle.merge_core.proofs.SpendLemmas.{opened_none, two_put, left_here, left_after}
 use Rattle.merge_core.proofs.FailLemmas.{raised_by_feed}
