@@ -1,5 +1,6 @@
 -- What one line more makes of a feed.
 use Rattle.std.proofs.lemmas.List.{map-append}
+use Rattle.std.proofs.Common.{true, inl, inr, ◌⊎◌}
 use Rattle.std.proofs.Common.{◌≡◌, Ordering, Less, Equal, Greater, ℕ, zero, suc, ◌+◌, ◌-◌, ◌≤◌, List, [], ◌∷◌, ◌++◌}
 use Rattle.std.proofs.Common.{length, refl, ap, ◌∙◌, arith, Bool, false, Option, Some, None}
 use Rattle.std.proofs.Common.{take, drop, map, append-nil, length-append}
@@ -77,18 +78,14 @@ pub falls_push : (xs : List Member) (y : Member) → NeverFalls member_pair pair
 falls_push [] y h k = (tt, tt)
 falls_push (x ∷ xs) y h k = grind (arith, each_join, falls_push xs y h.1 k.1)
 
-next_waits : (past : List ℕ → Bool) (m : Member) (p : Progress) (ws : List Member) → IsNext past m p ws → AreWaits p ws
-next_waits past m Due ws n = absurd n
-next_waits past m Waiting ws n = (m, n.0)
-next_waits past m Past ws n = n.0
-next_waits past m Ended ws n = absurd n
-
-held_next : (past : List ℕ → Bool) (m : Member) (p : Progress) (ws : List Member) (count old : ℕ) → IsNext past m p ws
-    → count ≡ old + 1 → count ≡ old + held p
-held_next past m Due ws count old n e = absurd n
-held_next past m Waiting ws count old n e = e
-held_next past m Past ws count old n e = e
-held_next past m Ended ws count old n e = absurd n
+-- the next line waits, or lies past the range
+next_is : (past : List ℕ → Bool) (m : Member) (p : Progress) (ws : List Member) → IsNext past m p ws
+    → ((p ≡ Waiting) × (ws ≡ m ∷ []) × (past m.values.key ≡ false))
+    ⊎ ((p ≡ Past) × (ws ≡ []) × (past m.values.key ≡ true))
+next_is past m Due ws n = absurd n
+next_is past m Waiting ws n = inl (refl, n.0, n.1)
+next_is past m Past ws n = inr (refl, n.0, n.1)
+next_is past m Ended ws n = absurd n
 
 -- a line that has the pair of the last one, which lies within the range, lies within it
 pub same_stays : (past : List ℕ → Bool) (pair : Pair) (m : Member) (ms : List Member)
@@ -141,13 +138,6 @@ module _ (limit : ℕ) where
   pub done_due : (t : List ℕ) (f : Feed) → f.progress ≡ Due → done limit t f ≡ given limit t f.cursor
   done_due t f e = grind (arith, done_is)
 
-  head_next : (past : List ℕ → Bool) (before all : List Member) (rest : List (List ℕ)) (m : Member) (ws : List Member)
-      (p : Progress) → all ≡ before ++ m ∷ [] → IsNext past m p ws → IsHead limit past before all rest ws p
-  head_next past before all rest m ws Due e n = absurd n
-  head_next past before all rest m ws Waiting e n = grind arith
-  head_next past before all rest m ws Past e n = (m, e, n.1)
-  head_next past before all rest m ws Ended e n = absurd n
-
   pub fresh_done : (t : List ℕ) (f : Feed) → f.cursor.count ≡ 0 → done limit t f ≡ []
   fresh_done t f e = ap
       (λ n. take (n - held f.progress) (map (member_of limit) (take n (lines (drop f.cursor.start t))))) e
@@ -193,10 +183,11 @@ module _ {limit : ℕ} {past : List ℕ → Bool} {text : Option (List ℕ)} {ex
 
   pub fed_next : (ws : List Member) → IsNext past m f.progress ws → Fed limit past text extent f ws
   fed_next ws n =
-      let many = held_next past m f.progress ws f.cursor.count old.cursor.count n r.count in
+      let cases = next_is past m f.progress ws n in
+      let many : f.cursor.count ≡ old.cursor.count + held f.progress = grind arith in
       record {
         stands = r.stands;
-        waits = next_waits past m f.progress ws n;
+        waits = grind arith;
         counted = omega (arith, many);
         told = λ t e. record {
           begins = begins_still t e;
@@ -204,12 +195,12 @@ module _ {limit : ℕ} {past : List ℕ → Bool} {text : Option (List ℕ)} {ex
           as_many = many_more t e;
           within = grind (arith, done_is, given_old);
           run = run_more t e;
-          head = grind (arith, head_next, given_next, done_is);
+          head = grind (arith, given_next, done_is);
         };
       }
 
   pub done_next : (ws : List Member) → IsNext past m f.progress ws → (t : List ℕ) → done limit t f ≡ done limit t old
-  done_next ws n t = grind (arith, done_is, held_next, given_old)
+  done_next ws n t = grind (arith, done_is, next_is, given_old)
 
   pub done_taken : f.progress ≡ Due → (t : List ℕ) → text ≡ Some t → done limit t f ≡ done limit t old ++ m ∷ []
   done_taken d t e = grind (arith, done_due, given_next, given_old)
