@@ -26,7 +26,7 @@ use Rattle.merge_core.specs.declared.feed.Progress.TheVariants.{Due, Waiting, Pa
 use Rattle.merge_core.specs.declared.feed.Feed.{Feed}
 use Rattle.line_queue.specs.PairOrders.{Alike, Upto}
 use Rattle.merge_core.specs.Gathering.{EndsAt}
-use Rattle.merge_core.specs.Feeds.{AreWaits, IsNext, IsHead, Fed, held, bytes_of, read_lines, member_of, given, done}
+use Rattle.merge_core.specs.Feeds.{IsNext, Fed, held, bytes_of, read_lines, member_of, given, done}
 use Rattle.line_queue.proofs.PairOrder.{upto_both}
 
 pub no_entry : (limit : ℕ) (line : List ℕ) (o : Option Member) → o ≡ line_entry limit line

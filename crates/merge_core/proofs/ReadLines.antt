@@ -185,7 +185,8 @@ module _ {limit : ℕ} {past : List ℕ → Bool} (upward : IsUpward past) (upto
       let whole : map (member_of limit) from ≡ ms = members_are limit from ms run.entries in
       let read : given limit t f.cursor ≡ take n ms = sym (take-map (member_of limit) n from) ∙ ap (take n) whole in
       let rest : drop n ms ≡ map (member_of limit) (lines (drop f.cursor.at t)) =
-      ap (drop n) (sym whole) ∙ drop-map (member_of limit) n from ∙ ap (map (member_of limit)) (sym (fed.stands.rest t refl)) in
+      ap (drop n) (sym whole) ∙ drop-map (member_of limit) n from
+      ∙ ap (map (member_of limit)) (sym (fed.stands.rest t refl)) in
       read_of ms (drop n ms) (sym (take-append-drop n ms) ∙ ap (λ l. l ++ drop n ms) (sym read)) run.ordered
       (λ e. rest ∙ ap (map (member_of limit)) e)
 
