@@ -1,11 +1,10 @@
 -- The verdict on a block, from how its record was read.
-use Rattle.std.proofs.Common.{arith, ◌≡◌, ℕ, ◌∙◌, List, [], ◌++◌, Option, None, Some, Result, Ok, Err, take, ◌⊎◌}
-use Rattle.std.proofs.Common.{if◌then◌else◌}
+use Rattle.std.proofs.Common.{arith, ◌≡◌, ℕ, List, [], ◌++◌, Option, None, Some, Result, Ok, Err, take}
 use Rattle.sha1.specs.Sha1.{sha1}
 use Rattle.warc_core.specs.declared.fault.Cause.{Cause}
 use Rattle.warc_core.specs.declared.fault.Fault.{Fault}
 use Rattle.warc_core.specs.declared.phase.Phase.TheVariants.{Between}
-use Rattle.warc_core.specs.Reading.{◌>>=◌, Reads, IsFoundIn}
+use Rattle.warc_core.specs.Reading.{Reads, IsFoundIn}
 use Rattle.warc_core.specs.Record.{after_record}
 use Rattle.warc_core.specs.ReaderView.{ReaderView, state_of}
 use Rattle.warc_core.proofs.RecordLemmas.{after_block-zero}
@@ -29,9 +28,7 @@ judge-read judge left z rest h = grind arith
 pub judge-passed : (judge : List ℕ → Verdict) (verdict : Verdict) (left : ℕ) (before after : Option (List ℕ))
     → ((block : List ℕ) → judge block ≡ verdict) → Reads (after_record left) (Ok tt) before after
     → Reads (judge_record judge left) (Ok verdict) before after
-judge-passed judge verdict left None after e h = tt
-judge-passed judge verdict left (Some z) None e h = absurd h
-judge-passed judge verdict left (Some z) (Some w) e h = grind (arith, judge-read)
+judge-passed judge verdict left before after e h = grind (arith, judge-read)
 
 pub judge-stopped : (judge : List ℕ → Verdict) (c : Cause) (left : ℕ) (before after : Option (List ℕ))
     → Reads (after_record left) (Err c) before after → Reads (judge_record judge left) (Err c) before after
@@ -68,10 +65,7 @@ pub compare-closed : (judge : List ℕ → Verdict) (verdict : Verdict) (left : 
     (before mid after : Option (List ℕ)) → Reads (digest_of_rest left []) (Ok digest) before mid
     → Reads (after_record 0) (Ok tt) mid after → ((block : List ℕ) → digest ≡ sha1 block → verdict ≡ judge block)
     → Reads (judge_record judge left) (Ok verdict) before after
-compare-closed judge verdict left digest None mid after h k e = tt
-compare-closed judge verdict left digest (Some z) None after h k e = absurd h
-compare-closed judge verdict left digest (Some z) (Some w) None h k e = absurd k
-compare-closed judge verdict left digest (Some z) (Some w) (Some v) h k e = grind (arith, digest-then, judge-read)
+compare-closed judge verdict left digest before mid after h k e = grind (arith, digest-then, judge-read)
 
 -- the same record, by another name of the verdict and of where it ends
 pub judged-as : (judge other : List ℕ → Verdict) (left end other_end : ℕ) (old new : ReaderView)

@@ -1,7 +1,7 @@
 -- Which lines of each source wait, as lines come and go.
 use Rattle.std.proofs.lemmas.Grind.{common_steps}
 use Rattle.std.proofs.Common.{◌≡◌, ◌≢◌, ℕ, zero, suc, ◌==◌, ◌<◌, ◌≤◌, List, [], ◌∷◌, length, get_or, map, filter, true}
-use Rattle.std.proofs.Common.{false, cond, refl, sym, ◌∙◌, subst, arith, sum_by}
+use Rattle.std.proofs.Common.{false, cond, refl, sym, subst, arith, sum_by}
 use Rattle.std.specs.List.{AllByRecursion, All}
 use Rattle.std.specs.List.Sorted.{IsPermutation}
 use Rattle.std.proofs.lemmas.Bool.{cond-true, cond-false}
@@ -59,8 +59,7 @@ module _ (P : Member → Type 0) (i : ℕ) where
 
 all_same : (us vs : List Member) → length us ≤ 1 → length vs ≡ length us
     → ((m : Member) → us ≡ m ∷ [] → AllByRecursion (λ k. k ≡ m) vs) → vs ≡ us
-all_same [] [] l e h = refl
-all_same [] (v ∷ vs) l e h = absurd (omega arith)
+all_same [] vs l e h = grind (arith, common_steps)
 all_same (u ∷ []) [] l e h = absurd (omega arith)
 all_same (u ∷ []) (v ∷ []) l e h = grind arith
 all_same (u ∷ []) (v ∷ w ∷ vs) l e h = absurd (omega arith)

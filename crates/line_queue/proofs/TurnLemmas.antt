@@ -1,6 +1,6 @@
 -- Whose turn comes first.
-use Rattle.std.proofs.Common.{◌≡◌, ◌<◌, ◌≤◌, List, [], ◌∷◌, length, Option, Some, None, MatchOption, IfSome, sym}
-use Rattle.std.proofs.Common.{get_or, false, subst, arith, Equal, is_lt, is_eq}
+use Rattle.std.proofs.Common.{◌≡◌, ◌<◌, ◌≤◌, List, [], ◌∷◌, length, Option, MatchOption, IfSome}
+use Rattle.std.proofs.Common.{get_or, false, arith, Equal, is_lt, is_eq}
 use Rattle.cdxj_places.proofs.PairLemmas.{pair_cmp_total}
 use Rattle.std.specs.List.{AllByRecursion}
 use Rattle.cdxj_places.specs.Pairs.{Pair, pair_cmp}
@@ -45,10 +45,7 @@ pub popped_alike : (p : Pair) (old new : List WaitingLine) (r : Option WaitingLi
     → MatchOption r ((old ≡ []) × (new ≡ [])) (λ w. IsPermutation old (w ∷ new)) → IfSome r (λ w. w ≡ get_or old 0 w)
     → ((d : WaitingLine) → 0 < length old → Alike (waiting_pair (get_or old 0 d)) p)
     → IfSome r (λ w. Alike (waiting_pair w) p)
-popped_alike p old new None out top h = tt
-popped_alike p old new (Some w) out top h =
-    subst (λ (v : WaitingLine). Alike (waiting_pair v) p) (sym top)
-    (h w (omega (arith, length_permutation old (w ∷ new) out)))
+popped_alike p old new r out top h = grind (arith, length_permutation)
 
 -- the least of lines that all stand above a bound
 pub above_popped : (b : Option Pair) (old new : List WaitingLine) (w : WaitingLine) → IsPermutation old (w ∷ new)

@@ -1,5 +1,5 @@
 -- The captures of lines, which are collapsed, and what the next line is compared with.
-use Rattle.std.proofs.Common.{arith, ◌≡◌, Bool, List, [], ◌∷◌, ◌++◌, refl, sym, Option, Some, None, true}
+use Rattle.std.proofs.Common.{arith, ◌≡◌, Bool, List, [], ◌∷◌, ◌++◌, refl, Option, Some, true}
 use Rattle.std.proofs.Common.{false, filter, append-nil, ◌&&◌}
 use Rattle.std.proofs.lemmas.Bool.{cond-true, true≢false}
 use Rattle.std.proofs.lemmas.List.Elements.{filter-append}
@@ -7,7 +7,6 @@ use Rattle.std.proofs.lemmas.Slice.Eq.{bytes_eq-Decides}
 use Rattle.cdxj_places.specs.Places.{PlaceValue}
 use Rattle.cdxj_places.proofs.PlaceOrder.{place_cmp_total}
 use Rattle.cdxj_core.specs.Members.{Member, member_place}
-use Rattle.query_text.specs.declared.collapse.Collapse.{Collapse}
 use Rattle.query_text.specs.Collapses.{same_part}
 use Rattle.query_text.specs.Queries.{QueryValue}
 use Rattle.page_core.specs.Pages.{repeats, kept, end_place}
@@ -22,13 +21,6 @@ filter_and f g [] = refl
 filter_and f g (x ∷ xs) = grind (arith, filter_and f g xs)
 
 -- ---- what the next line is compared with
-
--- what is left out has the part of the one before
-pub same_part_after : (by : Option Collapse) (p : Option PlaceValue) (m : Member)
-    → repeats member_place (same_part by) p m ≡ true → collapsing_at by p ≡ collapsing_at by (Some (member_place m))
-same_part_after None p m h = refl
-same_part_after (Some by) None m h = absurd (true≢false (sym h))
-same_part_after (Some by) (Some p) m h = grind (arith, bytes_eq-Decides)
 
 -- ---- the captures of more lines
 
@@ -54,10 +46,6 @@ module _ (q : QueryValue) (from : Option PlaceValue) where
     joined : is_wanted q from m ≡ true → filter (is_wanted q from) (taken ++ m ∷ []) ≡ filter (is_wanted q from) taken
         ++ m ∷ []
     joined h = grind (arith, filter-append, cond-true)
-
-    -- a line that is
-    pub place_joined : is_wanted q from m ≡ true → place_before q from (taken ++ m ∷ []) ≡ Some (member_place m)
-    place_joined h = grind (arith, joined, end_last)
 
     pub captures_repeated : is_wanted q from m ≡ true
         → repeats member_place (same_part q.collapse) (place_before q from taken) m ≡ true
@@ -86,16 +74,12 @@ module _ (q : QueryValue) (from : Option PlaceValue) (c : Option CollapsingValue
   -- one that repeats the part of the one before
   pub repeated_compares : is_wanted q from m ≡ true → repeats_part c (member_place m) ≡ true
       → ComparesAfter q from c (taken ++ m ∷ [])
-  repeated_compares w r = grind (arith, same_part_after, place_joined)
-
-  pub repeated_is_none : is_wanted q from m ≡ true → repeats_part c (member_place m) ≡ true
-      → captures_over q from (taken ++ m ∷ []) ≡ captures_over q from taken ++ []
-  repeated_is_none w r = grind (arith, captures_repeated, append-nil)
+  repeated_compares w r = grind (arith, true≢false, bytes_eq-Decides, joined, end_last)
 
   -- a capture
   pub capture_compares : (d : Option CollapsingValue) → is_wanted q from m ≡ true → d
       ≡ collapsing_after c (member_place m) → ComparesAfter q from d (taken ++ m ∷ [])
-  capture_compares d w next = grind (arith, place_joined)
+  capture_compares d w next = grind (arith, joined, end_last)
 
   pub capture_is_one : is_wanted q from m ≡ true → repeats_part c (member_place m) ≡ false
       → captures_over q from (taken ++ m ∷ []) ≡ captures_over q from taken ++ m ∷ []

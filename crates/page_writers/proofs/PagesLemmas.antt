@@ -53,8 +53,7 @@ full_page rows = record { members = rows; next = last_of rows }
 -- a page more
 cut_more : (sizes : List ℕ) (rows later : List Member) (rest : Pages) → length rows ≡ first_size sizes
     → 0 < length later → AreCut (later_sizes sizes) rest later → AreCut sizes (full_page rows ∷ rest) (rows ++ later)
-cut_more sizes rows later [] full some h = absurd h
-cut_more sizes rows later (other ∷ rest) full some h = grind (arith, take_at, length-append, drop_at)
+cut_more sizes rows later rest full some h = grind (arith, take_at, length-append, drop_at)
 
 -- there is such a cut
 cut_at : (fuel : ℕ) (sizes : List ℕ) (captures : List Member) → AllPositive sizes → length captures < fuel

@@ -16,11 +16,7 @@ all_positive [] h = cc
 all_positive (n ∷ ns) h = grind (arith, each_positive, and_parts)
 
 pub first_positive : (sizes : List ℕ) → AllPositive sizes → 0 < first_size sizes
-first_positive [] h = absurd h
-first_positive (n ∷ []) h = h
-first_positive (n ∷ m ∷ ms) h = h.0
+first_positive sizes h = grind arith
 
 pub later_positive : (sizes : List ℕ) → AllPositive sizes → AllPositive (later_sizes sizes)
-later_positive [] h = h
-later_positive (n ∷ []) h = h
-later_positive (n ∷ m ∷ ms) h = h.1
+later_positive sizes h = grind arith

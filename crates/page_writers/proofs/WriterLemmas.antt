@@ -47,16 +47,14 @@ ends_at (suc (suc n)) (x ∷ xs) z h =
 pub next_place : (n : ℕ) (c : List Member) → n < length c → next n c ≡ place_at n c
 next_place zero c h = refl
 next_place (suc n) [] h = absurd (omega arith)
-next_place (suc zero) (x ∷ []) h = absurd (omega arith)
-next_place (suc zero) (x ∷ y ∷ ys) h = refl
+next_place (suc zero) c h = grind arith
 next_place (suc (suc n)) (x ∷ xs) h = next_place (suc n) xs (omega arith)
 
 -- where none does
 pub next_short : (n : ℕ) (c : List Member) → length c ≤ n → next n c ≡ None
 next_short zero c h = refl
 next_short (suc n) [] h = refl
-next_short (suc zero) (x ∷ []) h = refl
-next_short (suc zero) (x ∷ y ∷ ys) h = absurd (omega arith)
+next_short (suc zero) c h = grind arith
 next_short (suc (suc n)) (x ∷ xs) h = next_short (suc n) xs (omega arith)
 
 pub next_some : (n : ℕ) (c : List Member) → is_some (next n c) ≡ true → n < length c
@@ -73,10 +71,6 @@ place_same zero c vs h = refl
 place_same (suc n) [] vs h = absurd (omega arith)
 place_same (suc zero) (x ∷ xs) vs h = refl
 place_same (suc (suc n)) (x ∷ xs) vs h = place_same (suc n) xs vs (omega arith)
-
--- where one more follows the n-th
-next_full : (n : ℕ) (c : List Member) (m : Member) → length c ≡ n → next n (c ++ m ∷ []) ≡ place_at n c
-next_full n c m h = grind (arith, next_place, place_same, length-append)
 
 -- what follows more than n changes nothing
 next_same : (n : ℕ) (c vs : List Member) → n < length c → next n (c ++ vs) ≡ next n c
@@ -103,14 +97,7 @@ at_end n c vs h = grind (arith, take-append-le, next_same)
 -- where a page is full and has no next yet, its last is the n-th
 full_is : (n : ℕ) (c : List Member) (given : ℕ) → is_full (Some n) given ≡ true → given
     ≡ min (length (take n c)) (2 ^ 64 - 1) → is_some (next n c) ≡ false → (n ≡ 0) ⊎ (length c ≡ n)
-full_is zero c given f g h = inl refl
-full_is (suc n) c given f g h = grind (arith, next_none, length-take)
-
--- where a page is not full and has no next, it has room for one more
-room_is : (n : ℕ) (c : List Member) (given : ℕ) → n < 2 ^ 64 → is_full (Some n) given ≡ false → given
-    ≡ min (length (take n c)) (2 ^ 64 - 1) → is_some (next n c) ≡ false → length c < n
-room_is zero c given l f g h = grind arith
-room_is (suc n) c given l f g h = grind (arith, length-take, eqb-false)
+full_is n c given f g h = grind (arith, next_none, length-take)
 
 -- the place that is kept
 last_of : (n given : ℕ) (c : List Member) (m : Member) (last : Option PlaceValue) → n < 2 ^ 64 → length c < n → given
@@ -121,26 +108,19 @@ last_of n given c m last l room g k = grind (arith, place_last, eqb-false, lengt
 members_one : (limit : Option ℕ) (c : List Member) (m : Member) (given : ℕ) → is_full limit given ≡ false
     → FitsWord limit → is_some (page limit c).next ≡ false → given ≡ min (length (page limit c).members) (2 ^ 64 - 1)
     → (page limit (c ++ m ∷ [])).members ≡ (page limit c).members ++ m ∷ []
-members_one None c m given f l none g = refl
-members_one (Some n) c m given f l none g = grind (arith, room_is, length-append, take_all)
+members_one limit c m given f l none g = grind (arith, length-take, eqb-false, length-append, take_all)
 
 module _ {form : FormValue} {start now : Option (List ℕ)} {given : ℕ} {more : Bool} {last : Option PlaceValue} where
   -- more captures after a page that has its next
   pub after_end : (limit : Option ℕ) (c later all : List Member) → all ≡ c ++ later → more ≡ true
       → PageStands form limit c start now given more last → PageStands form limit all start now given more last
-  after_end None c later all is h s = absurd (true≢false (sym h ∙ s.more_is))
-  after_end (Some n) c later all is h s =
-      let beyond = next_some n c (sym s.more_is ∙ h) in
-      let page_is : page (Some n) all ≡ page (Some n) c = rw is (at_end n c later beyond) in
-      let place_is : place_at n all ≡ place_at n c = rw is (place_same n c later (omega (arith, beyond))) in
-      grind arith
+  after_end limit c later all is h s = grind (arith, true≢false, next_some, at_end, place_same)
 
   -- the capture after a full page
   pub at_limit : (limit : Option ℕ) (c : List Member) (m : Member) → more ≡ false → is_full limit given ≡ true
       → PageStands form limit c start now given more last
       → PageStands form limit (c ++ m ∷ []) start now given (is_some last) last
-  at_limit None c m h f s = absurd (true≢false (sym f))
-  at_limit (Some n) c m h f s = grind (arith, full_is, take-append-le, next_full, place_same)
+  at_limit limit c m h f s = grind (arith, true≢false, full_is, take-append-le, next_place, length-append, place_same)
 
   -- a capture that was written
   pub written_one : (limit : Option ℕ) (c : List Member) (m : Member) (new : Option (List ℕ)) (given' : ℕ)
@@ -148,9 +128,7 @@ module _ {form : FormValue} {start now : Option (List ℕ)} {given : ℕ} {more 
       → given' ≡ min (given + 1) (2 ^ 64 - 1) → last' ≡ last_after limit given' last (member_place m)
       → Appends now new (row_text form m) → PageStands form limit c start now given more last
       → PageStands form limit (c ++ m ∷ []) start new given' more last'
-  written_one None c m new given' last' h f l g k a s = grind (arith, written-more, length-append)
-  written_one (Some n) c m new given' last' h f l g k a s =
-      grind (arith, room_is, take_all, length-append, written-more, next_short, last_of)
+  written_one limit c m new given' last' h f l g k a s = grind (arith, written-more, length-append, length-take, eqb-false, take_all, next_short, last_of)
 
   -- a fault in the row of a capture more, or after it
   pub broke_row : (limit : Option ℕ) (c : List Member) (m : Member) (new : Option (List ℕ)) → more ≡ false
@@ -200,15 +178,11 @@ broke_longer q from limit taken later start now p =
 -- a page that has its next is the page, whatever follows
 pub decided : (limit : Option ℕ) (us vs : List Member) → is_some (page limit us).next ≡ true → page limit (us ++ vs)
     ≡ page limit us
-decided None us vs h = absurd (true≢false (sym h))
-decided (Some n) us vs h = at_end n us vs (next_some n us h)
+decided limit us vs h = grind (arith, true≢false, at_end, next_some)
 
 pub next_is : (limit : Option ℕ) (c : List Member) (more : Bool) (last : Option PlaceValue) → more
     ≡ is_some (page limit c).next → last ≡ last_place limit c → next_of more last ≡ (page limit c).next
-next_is None c true last h k = absurd (true≢false h)
-next_is None c false last h k = refl
-next_is (Some n) c true last h k = grind (arith, next_some, next_place)
-next_is (Some n) c false last h k = grind (arith, next_short, next_place, ends_at, cases_lt n (length c))
+next_is limit c more last h k = grind (arith, true≢false, next_some, next_place, next_short, ends_at, cases_lt)
 
 -- the same, of a writer that kept these
 pub broke_as : (q q' : QueryValue) (from from' : Option PlaceValue) (limit limit' : Option ℕ) (taken : List Member)

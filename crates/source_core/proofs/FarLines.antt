@@ -1,5 +1,5 @@
 -- Lines whose end is far.
-use Rattle.std.proofs.Common.{◌≡◌, ℕ, ◌+◌, ◌-◌, ◌<◌, ◌≤◌, List, length, drop, arith, length-drop, Option, None, Some}
+use Rattle.std.proofs.Common.{◌≡◌, ℕ, ◌+◌, ◌-◌, ◌<◌, ◌≤◌, List, length, drop, arith, length-drop, Option}
 use Rattle.std.proofs.Common.{IfNone}
 use Rattle.source_core.specs.IndexLines.{lines, from_line, first_length, longest}
 use Rattle.source_core.specs.Halved.{IsFar}
@@ -22,5 +22,4 @@ pub far_here : (limit : ℕ) (t : List ℕ) (m until : ℕ) → until ≡ m + li
 far_here limit t m until e inside same = grind (arith, from_line_short)
 
 pub none_so : {A : Type 0} (o : Option A) (P : Type 0) → P → IfNone o P
-none_so None P h = h
-none_so (Some x) P h = tt
+none_so o P h = grind arith

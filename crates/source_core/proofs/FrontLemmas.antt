@@ -80,8 +80,7 @@ module _ (limit : ℕ) (start : Pair) where
       decided_by t offset (x ∷ u) ends below _ r (omega arith) short refl (grind arith)
 
   pub none_by : (o : Option Pair) → None ≡ option_map (is_below start) o → o ≡ None
-  none_by None h = refl
-  none_by (Some p) h = absurd (cc)
+  none_by o h = grind arith
 
   -- the whole line, or as much as is looked at, has none
   pub none_whole : (t : List ℕ) (offset : ℕ) (front : List ℕ) → ReadsOn t offset front true → length front ≤ limit

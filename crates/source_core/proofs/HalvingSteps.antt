@@ -11,7 +11,7 @@ use Rattle.source_core.specs.Halving.{digits, stops}
 use Rattle.source_core.specs.Search.{line_below, IsCut, IsStop}
 use Rattle.source_core.specs.declared.seeking.Span.{Span}
 use Rattle.source_core.proofs.FarLines.{far_first, far_here, far_longest, none_so}
-use Rattle.source_core.proofs.Halves.{digits_below, from_line_end, half_step, stops_end}
+use Rattle.source_core.proofs.Halves.{digits_below, from_line_end, half_step}
 use Rattle.source_core.proofs.SortedCuts.{begins_there, cut_there, lines_are_short}
 
 -- while offsets are left, so are steps
@@ -73,7 +73,7 @@ module _ (limit : ℕ) (start : Pair) (text : Option (List ℕ)) (extent : ℕ) 
 pub halves_none_yet : (limit : ℕ) (start : Pair) (text : Option (List ℕ)) (extent : ℕ)
     → IfSome text (λ t. length t ≡ extent)
     → Halved limit start text extent (record { low = 0; high = extent; line = Some extent; probes = 0 })
-halves_none_yet limit start text extent long = grind (arith, digits_below extent, drop_all, from_line_end, stops_end)
+halves_none_yet limit start text extent long = grind (arith, digits_below extent, drop_all, from_line_end)
 
 -- ---- the end
 

@@ -1,6 +1,6 @@
 -- Indexes, cut at a pair.
 use Rattle.std.proofs.Common.{take-append-drop, ◌≡◌, ℕ, zero, suc, ◌+◌, ◌-◌, ◌*◌, ◌^◌, ◌<◌, ◌≤◌, List, [], ◌∷◌, ◌++◌}
-use Rattle.std.proofs.Common.{Bool, true, false, None, Option, not, cond, length, take, drop, flat_map, map, Some, refl}
+use Rattle.std.proofs.Common.{Bool, true, false, Option, not, cond, length, take, drop, flat_map, map, Some, refl}
 use Rattle.std.proofs.Common.{sym, ap, ◌∙◌, arith, length-append, length-drop, length-take, is_gt}
 use Rattle.std.specs.List.{AllByRecursion}
 use Rattle.std.proofs.lemmas.Grind.{flat_map-append}
@@ -58,14 +58,12 @@ least_stops limit start [] e = refl
 least_stops limit start (l ∷ ls) e = least_not_some (pair_of (take limit l))
   where
     least_not_some : (o : Option Pair) → not (is_some_below start o) ≡ true
-    least_not_some None = refl
-    least_not_some (Some p) = grind (arith, none_below_least)
+    least_not_some o = grind (arith, none_below_least)
 
 -- ---- the pair of a line that has an entry
 
 body_length : (b : Bool) (line : List ℕ) → length line ≤ length (cond b (take (length line - 1) line) line) + 1
-body_length true line = grind (arith, length-take)
-body_length false line = omega arith
+body_length b line = grind (arith, length-take)
 
 module _ (limit : ℕ) (start : Pair) where
   entry_below : (line : List ℕ) (m : Member) → line_entry limit line ≡ Some m → line_below limit start line

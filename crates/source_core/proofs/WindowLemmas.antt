@@ -35,12 +35,6 @@ pub held_behind : (w : HeldBytes) (at n : ℕ) → n ≤ length (held_from w at)
     → held_from w (at + n) ≡ drop n (held_from w at)
 held_behind w at n inside = grind (arith, cond-false, le-ltb, drop-drop)
 
--- a part of it
-pub held_part : (text : Option (List ℕ)) (extent at n : ℕ) (held t : List ℕ) → AreBytesAt text extent at held → text
-    ≡ Some t → n ≤ length held
-    → take n held ≡ take n (drop at t)
-held_part text extent at n held t s e short = grind (arith, take-take)
-
 -- what is left of the first `count` bytes of a buffer behind n of them
 pub held_rest : (n count skipped : ℕ) (xs : List ℕ) → skipped ≡ min count n → take (count - skipped) (drop skipped xs)
     ≡ drop n (take count xs)
@@ -56,5 +50,4 @@ pub held_reads : (text : Option (List ℕ)) (extent offset n : ℕ) (front held 
     → AreBytesAt text extent (offset + length front) held → text ≡ Some t
     → n ≤ length held → new ≡ front ++ take n held → PartOf held n ends → BeginsWith t offset front
     → ReadsOn t offset new ends
-held_reads text extent offset n front held new t ends s e inside grown part begins =
-    grind (arith, common_steps, length-append, length-take, reads_on, held_part)
+held_reads text extent offset n front held new t ends s e inside grown part begins = grind (arith, common_steps, length-append, length-take, reads_on, take-take)

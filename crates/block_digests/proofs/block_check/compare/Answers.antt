@@ -1,4 +1,4 @@
-use Rattle.std.proofs.Common.{arith, ◌+◌, ◌∙◌}
+use Rattle.std.proofs.Common.{arith}
 use Rattle.block_digests.proofs.VerdictLemmas.{compare-stopped, compare-unclosed, compare-closed}
 use Rattle.block_digests.proofs.block_check.compare.Goals as goal
 

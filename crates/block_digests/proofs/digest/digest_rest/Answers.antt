@@ -1,30 +1,17 @@
-use Rattle.std.proofs.Common.{◌≡◌, ◌≤◌, ◌-◌, ◌∙◌, ◌++◌, Ok, Err, sym, ap, subst, take, append-nil, arith}
+use Rattle.std.proofs.Common.{◌≡◌, ◌-◌, ◌∙◌, sym, append-nil, arith}
 use Rattle.std.proofs.lemmas.List.{length-take-le}
-use Rattle.std.proofs.lemmas.Result.{err_from_is_err_and}
-use Rattle.warc_core.specs.declared.phase.Phase.TheVariants.{Open}
-use Rattle.sha1.specs.Sha1.{Holds}
-use Rattle.warc_core.specs.Calls.{ReadsTo}
-use Rattle.warc_core.specs.ReaderView.{state_of}
-use Rattle.block_digests.specs.RestDigest.{digest_of_rest}
 use Rattle.warc_core.proofs.OpenLemmas.{of_open, zero_of}
 use Rattle.block_digests.proofs.DigestLemmas.{Digesting-more, Digesting-fault, Digesting-end}
 use Rattle.block_digests.proofs.digest.digest_rest.Goals as goal
 
-pub pieces-init : goal.pieces-init
-pieces-init g c = grind arith
-
 pub returns-in_err-count : goal.returns-in_err-count
 returns-in_err-count g c left len e =
-    let p = err_from_is_err_and c.from_residual.result c.from_residual.ensures.1 in
     let i = c.pieces.invariant in
     let d = i.4 in
     let b = c.in_err-count.ensures in
     let r = Digesting-fault i.0 i.1 i.2 _ _ _ _ _ _ _ _ d c.in_err-count.field-0.0 _ _ _ _
     (b.open i.2 i.1 d.stands.phase_is) i.5 in
-    rw (p.1, p.2) (of_open (λ a b. ReadsTo (digest_of_rest a c.args.start.now) c.args.reader.now.offset (Open 0 b)
-    (state_of c.args.reader.now (g.I.Input.remaining c.args.input.now) (g.I.Input.failures c.args.input.now))
-    (state_of c.block.new.self (g.I.Input.remaining c.block.new.input) (g.I.Input.failures c.block.new.input))
-    (Err c.in_err-count.field-0.0)) _ i.0 i.1 left len i.3 e r)
+    grind (arith, of_open)
 
 pub slice_bounds-piece-end : goal.slice_bounds-piece-end
 slice_bounds-piece-end g c =
@@ -67,10 +54,7 @@ returns g c left len e =
     let zero : c.in_ok-count.count ≡ 0 = c.if-count-eq0.true in
     let none : i.2 ≡ 0 = zero_of i.2 (λ some. omega (arith, zero)) in
     let last = Digesting-more i.0 i.1 i.2 _ _ _ _ _ _ _ _ d c.pieces.hasher c.in_ok-count.count c.block.new.piece _ _ b
-    (λ m h. subst (Holds c.pieces.hasher) (sym (ap (λ n. m ++ take n c.block.new.piece) zero ∙ append-nil m)) h) in
+    (λ m h. grind (arith, append-nil)) in
     let r = Digesting-end i.0 i.1 _ _ _ _ _ _ (let rest : i.2 - c.in_ok-count.count
     ≡ 0 = omega arith in rw rest at last) c.finalize.result c.finalize.ensures _ _ (b.failures ∙ i.5) in
-    of_open (λ a b. ReadsTo (digest_of_rest a c.args.start.now) c.args.reader.now.offset (Open 0 b)
-    (state_of c.args.reader.now (g.I.Input.remaining c.args.input.now) (g.I.Input.failures c.args.input.now))
-    (state_of c.block.new.self (g.I.Input.remaining c.block.new.input) (g.I.Input.failures c.block.new.input))
-    (Ok c.finalize.result)) _ i.0 i.1 left len i.3 e r
+    grind (arith, of_open)

@@ -1,4 +1,4 @@
-use Rattle.std.proofs.Common.{◌<◌, ◌∷◌, [], ◌∙◌, ap, arith}
+use Rattle.std.proofs.Common.{◌<◌, ◌∙◌, ap, arith}
 use Rattle.block_digests.specs.Base32.{letter_of}
 use Rattle.block_digests.proofs.Bits.{first, second, third, fourth, fifth, sixth, seventh, eighth}
 use Rattle.block_digests.proofs.digest_text.letters.Goals as goal
@@ -17,5 +17,4 @@ returns c =
     let t = c.letter-5.ensures ∙ ap letter_of (fifth _ _ d e) in
     let u = c.letter-6.ensures ∙ ap letter_of (sixth _ e) in
     let v = c.letter-7.ensures ∙ ap letter_of (seventh _ _ e f) in
-    let w = c.letter-8.ensures ∙ ap letter_of (eighth _ f) in
-    λ i. p i ∷ q i ∷ r i ∷ s i ∷ t i ∷ u i ∷ v i ∷ w i ∷ []
+    grind (arith, eighth)

@@ -1,13 +1,10 @@
-use Rattle.std.proofs.Common.{arith, ◌≡◌, List, false, is_eq, is_lt, sym, ap, ◌∙◌, subst, get_or}
+use Rattle.std.proofs.Common.{◌≡◌, List, false, is_eq, is_lt, sym, ap, ◌∙◌, subst, get_or}
 use Rattle.std.specs.List.{AllByRecursion}
 use Rattle.cdxj_places.specs.Pairs.{pair_cmp}
 use Rattle.cdxj_core.specs.Members.{member_pair}
 use Rattle.line_queue.specs.WaitingLines.{WaitingLine, waiting_pair, turn_cmp}
 use Rattle.line_queue.proofs.TurnLemmas.{all_later_unless}
 use Rattle.line_queue.proofs.queue.Queue.is_next_at.Goals as goal
-
-pub returns-in-Some-clause-alike : goal.returns-in-Some-clause-alike
-returns-in-Some-clause-alike c = grind arith
 
 pub returns-in-Some-clause-later : goal.returns-in-Some-clause-later
 returns-in-Some-clause-later c = λ upto not_same.

@@ -4,9 +4,6 @@ use Rattle.page_writers.proofs.PagesLemmas.{turned_stands, turning_front}
 use Rattle.page_writers.proofs.SizeLemmas.{first_positive}
 use Rattle.page_writers.proofs.pages_writer.PagesWriter.make_room.Goals as goal
 
-pub returns-else-is_full-clause-stands : goal.returns-else-is_full-clause-stands
-returns-else-is_full-clause-stands g c = grind arith
-
 pub returns-in_ok-turn-clause-stands : goal.returns-in_ok-turn-clause-stands
 returns-in_ok-turn-clause-stands g c = grind (arith, turned_stands, first_positive)
 

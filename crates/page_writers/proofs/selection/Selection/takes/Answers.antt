@@ -1,12 +1,14 @@
 use Rattle.std.proofs.Common.{arith}
-use Rattle.page_writers.proofs.CaptureLemmas.{repeated_compares, repeated_is_none, capture_compares, capture_is_one}
+use Rattle.page_writers.proofs.CaptureLemmas.{repeated_compares, capture_compares, capture_is_one}
 use Rattle.page_writers.proofs.selection.Selection.takes.Goals as goal
+use Rattle.page_writers.proofs.CaptureLemmas.{captures_repeated}
+use Rattle.std.proofs.Common.{append-nil}
 
 pub returns-then-repeats-clause-selects : goal.returns-then-repeats-clause-selects
 returns-then-repeats-clause-selects c = grind (arith, repeated_compares)
 
 pub returns-then-repeats-clause-capture : goal.returns-then-repeats-clause-capture
-returns-then-repeats-clause-capture c = grind (arith, repeated_is_none)
+returns-then-repeats-clause-capture c = grind (arith, captures_repeated, append-nil)
 
 pub returns-clause-selects : goal.returns-clause-selects
 returns-clause-selects c = grind (arith, capture_compares)
