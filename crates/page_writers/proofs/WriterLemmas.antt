@@ -128,7 +128,8 @@ module _ {form : FormValue} {start now : Option (List ℕ)} {given : ℕ} {more 
       → given' ≡ min (given + 1) (2 ^ 64 - 1) → last' ≡ last_after limit given' last (member_place m)
       → Appends now new (row_text form m) → PageStands form limit c start now given more last
       → PageStands form limit (c ++ m ∷ []) start new given' more last'
-  written_one limit c m new given' last' h f l g k a s = grind (arith, written-more, length-append, length-take, eqb-false, take_all, next_short, last_of)
+  written_one limit c m new given' last' h f l g k a s =
+      grind (arith, written-more, length-append, length-take, eqb-false, take_all, next_short, last_of)
 
   -- a fault in the row of a capture more, or after it
   pub broke_row : (limit : Option ℕ) (c : List Member) (m : Member) (new : Option (List ℕ)) → more ≡ false

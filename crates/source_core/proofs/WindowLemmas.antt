@@ -50,4 +50,5 @@ pub held_reads : (text : Option (List ℕ)) (extent offset n : ℕ) (front held 
     → AreBytesAt text extent (offset + length front) held → text ≡ Some t
     → n ≤ length held → new ≡ front ++ take n held → PartOf held n ends → BeginsWith t offset front
     → ReadsOn t offset new ends
-held_reads text extent offset n front held new t ends s e inside grown part begins = grind (arith, common_steps, length-append, length-take, reads_on, take-take)
+held_reads text extent offset n front held new t ends s e inside grown part begins =
+    grind (arith, common_steps, length-append, length-take, reads_on, take-take)
