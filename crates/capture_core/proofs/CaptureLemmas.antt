@@ -1,5 +1,5 @@
 -- The capture of a record, from how its block was read.
-use Rattle.std.proofs.Common.{◌≡◌, ◌≢◌, ℕ, ◌+◌, ◌-◌, ◌≤◌, ◌∙◌, List, ◌++◌, Option, None, Some, Result, Ok, Err, IfErr}
+use Rattle.std.proofs.Common.{◌≡◌, ◌≢◌, ℕ, ◌-◌, ◌≤◌, List, ◌++◌, Option, None, Some, Result, Ok, Err, IfErr}
 use Rattle.std.proofs.Common.{IfSome, length, take, option_map, refl, arith}
 use Rattle.std.proofs.lemmas.List.{length-take}
 use Rattle.std.specs.Io.KnownBytes.{prepend_known}
@@ -47,36 +47,27 @@ rest-behind left left' h old mid new r before between after k l k' g e s = grind
 pub behind-digest : (left : ℕ) (start digest : List ℕ) (before after : Option (List ℕ))
     → Reads (digest_of_rest left start) (Ok digest) before after
     → GoesOn (after_record left) (after_record 0) before after
-behind-digest left start digest None after r = tt
-behind-digest left start digest (Some z) None r = absurd r
-behind-digest left start digest (Some z) (Some w) r = (digest-then left start z w digest r).0
+behind-digest left start digest before after r = grind (arith, digest-then)
 
 pub digest-met : (left : ℕ) (start : List ℕ) (c : Cause) (before after : Option (List ℕ)) → c ≢ causes.Memory
     → Reads (digest_of_rest left start) (Err c) before after → Reads (after_record left) (Err c) before after
-digest-met left start c None after m r = tt
-digest-met left start causes.Memory (Some z) after m r = tt
-digest-met left start causes.Read (Some z) after m r = tt
-digest-met left start c (Some z) after m r = digest-found c left start z r
+digest-met left start c before after m r = grind (arith, digest-found)
 
 -- what was hashed, where the bytes are known
 pub digest-known : (left : ℕ) (start digest : List ℕ) (before after : Option (List ℕ))
     → Reads (digest_of_rest left start) (Ok digest) before after
     → IfSome before (λ bytes. digest ≡ sha1 (start ++ take left bytes))
-digest-known left start digest None after r = tt
-digest-known left start digest (Some z) None r = absurd r
-digest-known left start digest (Some z) (Some w) r = (digest-then left start z w digest r).1
+digest-known left start digest before after r = grind (arith, digest-then)
 
 -- ---- what the capture is
 
 payload-behind : (front more : List ℕ) (found : Option (ResponseHead × List ℕ))
     → payload_of (front ++ more) (then_more more found) ≡ payload_of front found ++ more
-payload-behind front more None = refl
-payload-behind front more (Some f) = refl
+payload-behind front more found = grind arith
 
 same-response : (more : List ℕ) (found : Option (ResponseHead × List ℕ))
     → option_map (λ f. response_of f.0) (then_more more found) ≡ option_map (λ f. response_of f.0) found
-same-response more None = refl
-same-response more (Some f) = refl
+same-response more found = grind arith
 
 module _ (limits : Limits) (h : HeadView) (name url front payload bytes digest : List ℕ)
     (response : Option ResponseValue) where
@@ -114,9 +105,7 @@ pub digest-made : (h : HeadView) (digest payload : List ℕ) → settled_digest 
 digest-made h digest payload e d = grind arith
 
 pub some-always : {A : Type 0} (o : Option A) (P : A → Type 0) → ((x : A) → P x) → IfSome o P
-some-always None P h = tt
-some-always (Some x) P h = h x
+some-always o P h = grind arith
 
 pub some-then : {A : Type 0} (o : Option A) (P Q : A → Type 0) → ((x : A) → P x → Q x) → IfSome o P → IfSome o Q
-some-then None P Q h s = tt
-some-then (Some x) P Q h s = h x s
+some-then o P Q h s = grind arith

@@ -1,6 +1,5 @@
 -- A record has one capture.
-use Rattle.std.proofs.Common.{arith, ◌≡◌, ◌∙◌, ℕ, List, Bool, true, false, cond, Option, None, Some, option_map, refl}
-use Rattle.std.proofs.Common.{sym}
+use Rattle.std.proofs.Common.{arith, ◌≡◌, ℕ, List, Bool, true, false, cond, Option, None, Some, option_map, refl}
 use Rattle.httparse.specs.Grammar.{ResponseHead}
 use Rattle.warc_core.specs.Kind.{Kind}
 use Rattle.warc_core.specs.HeadView.{HeadView}
@@ -11,18 +10,8 @@ use Rattle.capture_core.specs.Capture.{IsCaptureUnder, entry_of, response_of, di
 use Rattle.capture_core.specs.Capture.{HasCapture}
 use Rattle.capture_core.proofs.HeadLemmas.{one_head}
 
-one_found : (may : Bool) (limit few : ℕ) (block : List ℕ) (f g : Option (ResponseHead × List ℕ))
-    → cond may (IsHeadOf limit few block f) (f ≡ None) → cond may (IsHeadOf limit few block g) (g ≡ None) → f ≡ g
-one_found true limit few block f g x y = one_head limit few block f g x y
-one_found false limit few block f g x y = x ∙ sym y
-
-one_under : (url : Option (List ℕ)) (limit few : ℕ) (h : HeadView) (block name : List ℕ) (a b : Option EntryValue)
-    → IsCaptureUnder url limit few h block name a → IsCaptureUnder url limit few h block name b → a ≡ b
-one_under None limit few h block name a b x y = x ∙ sym y
-one_under (Some url) limit few h block name a b x y = grind (arith, one_found)
-
 pub one_capture : OneCapture
-one_capture types limit few h block name a b x y = grind (arith, one_under)
+one_capture types limit few h block name a b x y = grind (arith, one_head)
 
 -- ---- it has one
 

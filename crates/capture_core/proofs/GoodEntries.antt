@@ -9,11 +9,9 @@ use Rattle.std.proofs.lemmas.Grind.{common_steps}
 use Rattle.warc_core.specs.Length.{all_digits}
 use Rattle.warc_core.specs.HeadView.{HeadView}
 use Rattle.cdxj_places.specs.Pair.{is_stamp}
-use Rattle.cdxj_core.specs.Texts.{or_missing}
 use Rattle.capture_core.specs.Indexed.{field, is_marked}
 use Rattle.capture_core.specs.Utf8Text.{utf8_text}
-use Rattle.capture_core.specs.FieldValue.{media_type}
-use Rattle.capture_core.specs.Capture.{ResponseValue, media_of, content_of, mime_of, status_of}
+use Rattle.capture_core.specs.Capture.{ResponseValue, media_of, content_of, mime_of}
 
 -- the text of a value that isn't empty isn't either
 pub text_is_filled : (value : List ℕ) → 0 < length value → 0 < length (utf8_text value)
@@ -24,29 +22,17 @@ text_is_filled value h = go (is_utf8 value)
     go true = h
     go false = percent_encode_nonempty EMPTY value h
 
-or_missing_is_filled : (value : List ℕ) → 0 < length (or_missing value)
-or_missing_is_filled [] = omega arith
-or_missing_is_filled (b ∷ value) = grind (arith, common_steps)
-
-media_is_filled : (value : Option (List ℕ)) → 0 < length (media_of value)
-media_is_filled None = omega arith
-media_is_filled (Some value) = or_missing_is_filled (media_type value)
-
 content_is_filled : (h : HeadView) (response : Option ResponseValue) → 0 < length (content_of h response)
 unfolding content_of
-content_is_filled h (Some response) = media_is_filled response.content_type
+content_is_filled h (Some response) = grind (arith, common_steps)
 content_is_filled h None = go (is_marked h)
   where
     go : (marked : Bool) → 0 < length (cond marked (45 ∷ []) (media_of (field (codes "Content-Type") h)))
     go true = omega arith
-    go false = media_is_filled (field (codes "Content-Type") h)
+    go false = grind (arith, common_steps, field, codes)
 
 pub mime_is_filled : (h : HeadView) (response : Option ResponseValue) → 0 < length (mime_of h response)
 mime_is_filled h response = grind (arith, content_is_filled)
-
-pub status_is_filled : (response : Option ResponseValue) → 0 < length (status_of response)
-status_is_filled None = omega arith
-status_is_filled (Some response) = omega arith
 
 pub stamp_is : (stamp : List ℕ) → length stamp ≡ 14 → all_digits stamp ≡ true → is_stamp stamp ≡ true
 stamp_is stamp size digits = grind (arith, common_steps)

@@ -1,20 +1,18 @@
 -- A block's head is the only one, and is found in as many of its first bytes as a head may have.
 use Rattle.std.proofs.lemmas.Grind.{common_steps}
-use Rattle.std.proofs.Common.{◌≡◌, ℕ, ◌-◌, List, ◌++◌, length, length-append, refl, ◌∙◌, arith, Some, None}
+use Rattle.std.proofs.Common.{◌≡◌, ℕ, List, length, length-append, arith, Some, None}
 use Rattle.httparse.specs.Grammar.{print_response}
 use Rattle.httparse.proofs.GrammarLemmas.{response_unique}
 use Rattle.block_digests.proofs.DigestLemmas.{take_past}
 use Rattle.capture_core.specs.HttpHead.{FrontDecides, HasNoHead, OneHead}
 
 pub one_head : OneHead
-one_head bytes fields block None None a b = refl
-one_head bytes fields block None (Some y) a b = absurd (a y.0 y.1 b)
+one_head bytes fields block None x4 a b = grind arith
 one_head bytes fields block (Some x) None a b = absurd (b x.0 x.1 a)
 one_head bytes fields block (Some x) (Some y) a b = grind (arith, response_unique block x.0 y.0 x.1 y.1 a.reads b.reads)
 
 pub front_decides : FrontDecides
-front_decides bytes fields block None h = grind (arith, take_past)
-front_decides bytes fields block (Some x) h = grind (arith, common_steps)
+front_decides bytes fields block x3 h = grind (arith, take_past, common_steps)
 
 -- no head stands in no bytes
 pub no_head_in_nothing : (bytes fields : ℕ) (block : List ℕ) → length block ≡ 0 → HasNoHead bytes fields block

@@ -4,7 +4,7 @@ use Rattle.std.proofs.Common.{length-append, ap, arith}
 use Rattle.warc_core.specs.declared.fault.Fault.{Fault}
 use Rattle.warc_core.specs.HeadView.{record_length}
 use Rattle.warc_core.specs.ReaderView.{ReaderView, ReaderState, state_of}
-use Rattle.warc_core.specs.Calls.{GivesBlock, Fills}
+use Rattle.warc_core.specs.Calls.{GivesBlock}
 use Rattle.std.proofs.lemmas.List.{length-take-le}
 use Rattle.warc_core.proofs.OpenLemmas.{found-of-record}
 use Rattle.cdxj_core.specs.Entries.{EntryValue}
@@ -48,12 +48,7 @@ module _ (indexed : Indexed) (first front : List ℕ) (old mid : ReaderView) (be
       → HasFront indexed front mid
   filled-ready within fills = grind (arith, length-append)
 
--- what one call gave of a block was filled
-pub given-fills : (left len n : ℕ) (old new : ReaderState) (piece : List ℕ) → GivesBlock left len old new (Ok n) piece
-    → Fills left len old new (Ok tt) (take n piece)
-given-fills left len n old new piece b = grind (arith, length-take-le)
-
 -- what the first call gave is the front
 pub given-behind : (left len n : ℕ) (old new : ReaderState) (piece front : List ℕ) → take n piece ≡ front
     → GivesBlock left len old new (Ok n) piece → FillsBehind [] left len old new (Ok tt) front
-given-behind left len n old new piece front same b = grind (arith, given-fills)
+given-behind left len n old new piece front same b = grind (arith, length-take-le)

@@ -1,6 +1,6 @@
 -- The line of an entry: what it spells, and where its key and its stamp stand.
-use Rattle.std.proofs.Common.{◌≡◌, ◌∙◌, ℕ, ◌+◌, ◌-◌, ◌<◌, ◌≤◌, ◌^◌, List, [], ◌∷◌, ◌++◌, length, take, drop, ap}
-use Rattle.std.proofs.Common.{length-append, append_assoc, arith}
+use Rattle.std.proofs.Common.{◌≡◌, ◌∙◌, ℕ, ◌+◌, ◌-◌, List, [], ◌∷◌, ◌++◌, length, take, drop, ap}
+use Rattle.std.proofs.Common.{append_assoc, arith}
 use Rattle.std.proofs.lemmas.Fmt.{digits_value-decimal}
 use Rattle.std.proofs.Math.Seq.{take-append_seam, drop-append-add}
 use Rattle.cdxj_core.specs.declared.limit.TheConstants.{LINE_LIMIT}
@@ -27,10 +27,6 @@ behind_key e = e.stamp ++ ((32 ∷ object_text (members_of e)) ++ 10 ∷ [])
 pub line_parts : (e : EntryValue) → line_text e ≡ e.key ++ 32 ∷ behind_key e
 line_parts e = append_assoc e.key (32 ∷ (e.stamp ++ 32 ∷ object_text (members_of e))) (10 ∷ [])
     ∙ ap (λ (t : List ℕ). e.key ++ 32 ∷ t) (append_assoc e.stamp (32 ∷ object_text (members_of e)) (10 ∷ []))
-
--- the key and the stamp stand within the line
-pub line_long : (e : EntryValue) → IsGood e → length e.key + 15 ≤ length (line_text e)
-line_long e h = grind (arith, length-append)
 
 pub stamp_in : (e : EntryValue) → IsGood e
     → take (length e.key + 15 - (length e.key + 1)) (drop (length e.key + 1) (line_text e)) ≡ e.stamp

@@ -1,7 +1,7 @@
 -- The front of a block, read in steps.
 use Rattle.std.proofs.lemmas.Grind.{common_steps}
-use Rattle.std.proofs.Common.{◌≡◌, ℕ, ◌+◌, ◌-◌, ◌≤◌, ◌∙◌, ◌⊎◌, inl, inr, List, [], ◌∷◌, ◌++◌, Bool, true, false, cond}
-use Rattle.std.proofs.Common.{Option, None, Some, Result, IfSome, length, take, min, option_map, is_some, refl, sym, ap}
+use Rattle.std.proofs.Common.{◌≡◌, ℕ, ◌-◌, ◌≤◌, ◌⊎◌, inl, inr, List, [], ◌∷◌, ◌++◌, Bool, true, false, cond}
+use Rattle.std.proofs.Common.{Option, None, Some, Result, IfSome, length, take, min, option_map, is_some, refl, sym}
 use Rattle.std.proofs.Common.{subst, arith, append-nil, append_assoc, if◌then◌else◌}
 use Rattle.std.proofs.Math.Seq.{take-append_seam, drop-append_seam}
 use Rattle.std.specs.Io.KnownBytes.{Consumes}
@@ -24,8 +24,7 @@ use Rattle.capture_core.proofs.HeadLemmas.{front_decides, no_head_in_nothing}
 found-first : (may : Bool) (limit few : ℕ) (front more : List ℕ) (f : ResponseHead × List ℕ)
     → cond may (IsHeadOf limit few front (Some f)) (Some f ≡ None)
     → cond may (IsHeadOf limit few (front ++ more) (then_more more (Some f))) (then_more more (Some f) ≡ None)
-found-first true limit few front more f h = grind (arith, common_steps)
-found-first false limit few front more f h = ap (then_more more) h
+found-first may limit few front more f h = grind (arith, common_steps)
 
 -- the HTTP head of a block is that of its front
 head-behind : (limit few : ℕ) (front more : List ℕ) (found : Option (ResponseHead × List ℕ)) → (length front ≡ limit)
@@ -39,16 +38,7 @@ head-behind limit few front more found (inr none) e =
     (subst (IsHeadOf limit few front) (sym (no_more found)) e))
   where
     no_more : (f : Option (ResponseHead × List ℕ)) → then_more [] f ≡ f
-    no_more None = refl
-    no_more (Some f) = ap (λ p. Some (f.0, p)) (append-nil f.1)
-
--- found in the front, found in the block
-found-front : (may : Bool) (limit few len : ℕ) (front more : List ℕ) (found : Option (ResponseHead × List ℕ))
-    → length front ≡ min len (if may then limit else 0) → length front + length more ≤ len
-    → cond may (IsHeadOf limit few front found) (found ≡ None)
-    → cond may (IsHeadOf limit few (front ++ more) (then_more more found)) (then_more more found ≡ None)
-found-front true limit few len front more found l h f = grind (arith, common_steps, head-behind)
-found-front false limit few len front more found l h f = ap (then_more more) f
+    no_more f = grind (arith, append-nil)
 
 head-where : (may : Bool) (limit few len : ℕ) (front : List ℕ) (found : Option (ResponseHead × List ℕ))
     → length front ≤ min len (if may then limit else 0) → IsHeadOf limit few front found
@@ -70,7 +60,7 @@ module _ (limits : Limits) (h : HeadView) (front payload : List ℕ) (response :
       → IsHeadFor limits.http_head limits.http_fields h front found
       → response ≡ option_map (λ f. response_of f.0) found → payload ≡ payload_of front found
       → PartsBlock limits h front response payload
-  parts-front l f r p = grind (arith, found-front)
+  parts-front l f r p = grind (arith, common_steps, head-behind)
 
 -- first bytes with a head in them part the block
 pub parts-first : {X : Type 0} (view : X → ResponseValue) (limits : Limits) (h : HeadView) (front payload : List ℕ)
@@ -78,15 +68,7 @@ pub parts-first : {X : Type 0} (view : X → ResponseValue) (limits : Limits) (h
     → IsHeadFor limits.http_head limits.http_fields h front found → option_map view response
     ≡ option_map (λ f. response_of f.0) found → payload ≡ payload_of front found → is_some response ≡ true
     → PartsBlock limits h front (option_map view response) payload
-parts-first view limits h front payload None found l f r p s = absurd (cc)
-parts-first view limits h front payload (Some x) None l f r p s = absurd (cc)
-parts-first view limits h front payload (Some x) (Some found) l f r p s = record {
-  found = Some found;
-  within = grind arith;
-  decides = grind (arith, found-first);
-  response_is = r;
-  payload_is = p;
-}
+parts-first view limits h front payload response found l f r p s = grind (arith, found-first)
 
 -- ---- the rest
 
@@ -99,6 +81,4 @@ pub capture-behind-first : (url : Option (List ℕ)) (limits : Limits) (h : Head
     (before mid : Option (List ℕ)) (r : Result (Option EntryValue) CaptureFault) → front ≡ first ++ piece
     → Consumes before mid piece → IfSome mid (λ bytes. IsCaptureOf url limits h name (front ++ bytes) r)
     → IfSome before (λ bytes. IsCaptureOf url limits h name (first ++ bytes) r)
-capture-behind-first url limits h name first piece front None mid r e c t = tt
-capture-behind-first url limits h name first piece front (Some z) None r e c t = absurd c
-capture-behind-first url limits h name first piece front (Some z) (Some w) r e c t = grind (arith, append_assoc)
+capture-behind-first url limits h name first piece front before mid r e c t = grind (arith, append_assoc)

@@ -1,8 +1,8 @@
 -- The names of types, cut at the first comma.
-use Rattle.std.proofs.Common.{◌≡◌, ◌<◌, ◌∙◌, ℕ, Bool, true, false, List, [], ◌∷◌, Option, None, Some, IfSome, length}
-use Rattle.std.proofs.Common.{arith, refl, sym, ap, option_and_then, if◌then◌else◌}
-use Rattle.std.specs.List.{slice_split, position_or_len, before_first, after_first}
-use Rattle.std.proofs.lemmas.List.Splits.{slice_split_none, slice_split_first, length-slice_split}
+use Rattle.std.proofs.Common.{◌≡◌, ◌<◌, ℕ, true, List, [], ◌∷◌, Option, Some, IfSome, length}
+use Rattle.std.proofs.Common.{arith, sym, ap, option_and_then}
+use Rattle.std.specs.List.{slice_split, position_or_len}
+use Rattle.std.proofs.lemmas.List.Splits.{slice_split_none, length-slice_split}
 use Rattle.std.proofs.lemmas.List.Sums.{fails_before_first}
 use Rattle.warc_core.specs.Kind.{Kind}
 use Rattle.warc_core.specs.Kind.kinds
@@ -10,21 +10,12 @@ use Rattle.capture_core.specs.declared.types.Types.{Types}
 use Rattle.capture_core.specs.Types.{HasType, is_comma, no_types, plus_kind, types_of, with_kind, with_name, with_names}
 
 last_of : (o : Option Types) → option_and_then (λ types. with_names types []) o ≡ o
-last_of None = refl
-last_of (Some types) = refl
+last_of o = grind arith
 
 -- the only name of a text without commas
 pub only_name : (types : Types) (names : List ℕ) → position_or_len is_comma names ≡ length names
     → with_names types (slice_split is_comma names) ≡ with_name types names
 only_name types names e = grind (arith, slice_split_none, fails_before_first, last_of (with_name types names))
-
--- the first of several, and the others
-pub first_name : (types : Types) (names name others : List ℕ) (named : Option Types) → name
-    ≡ before_first is_comma names → others ≡ after_first is_comma names
-    → position_or_len is_comma names < length names → named ≡ with_name types name
-    → with_names types (slice_split is_comma names)
-    ≡ option_and_then (λ more. with_names more (slice_split is_comma others)) named
-first_name types names name others named before after inside is = grind (arith, slice_split_first)
 
 -- ---- a set that is read has a type
 
@@ -41,23 +32,16 @@ plus-has types kinds.Metadata more e = let same : record types { metadata = true
     ≡ more = cc in (kinds.Metadata, sym (ap (λ t. t.metadata) same))
 plus-has types kind more e = absurd (cc)
 
-with-has : (held : Bool) (types : Types) (kind : Kind) (more : Types) → (if held then None else plus_kind types kind)
-    ≡ Some more → HasType more
-with-has true types kind more e = grind arith
-with-has false types kind more e = plus-has types kind more e
-
 named-has : (kind : Option Kind) (types more : Types) → option_and_then (with_kind types) kind ≡ Some more
     → HasType more
-named-has None types more e = grind arith
-named-has (Some kind) types more e = grind (arith, with-has)
+named-has kind types more e = grind (arith, plus-has)
 
 -- the types of some names, where the first gives a set that has a type, or ends the reading
 then-has : (first : Option Types) (names : List (List ℕ)) (types : Types)
     → ((more : Types) → first ≡ Some more → HasType more)
     → ((more : Types) → HasType more → with_names more names ≡ Some types → HasType types)
     → option_and_then (λ more. with_names more names) first ≡ Some types → HasType types
-then-has None names types f g e = grind arith
-then-has (Some more) names types f g e = g more (f more refl) e
+then-has first names types f g e = grind arith
 
 still-has : (names : List (List ℕ)) (more types : Types) → HasType more → with_names more names ≡ Some types
     → HasType types
@@ -72,5 +56,4 @@ names-have (name ∷ names) types some e = then-has (with_name no_types name) na
     (λ next f. named-has _ no_types next f) (λ next. still-has names next types) e
 
 pub some-type : (text : List ℕ) (read : Option Types) → read ≡ types_of text → IfSome read HasType
-some-type text None e = tt
-some-type text (Some types) e = grind (arith, names-have, length-slice_split)
+some-type text read e = grind (arith, names-have, length-slice_split)

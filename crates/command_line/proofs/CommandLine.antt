@@ -81,9 +81,7 @@ chosen_told word form text rest e t q p short false f = inr (
 )
 
 no_text_task : (form : Form) → takes_types form ≡ true → operands_task form (codes "--types" ∷ []) ≡ None
-no_text_task (Typed make) t = refl
-no_text_task (TypedSizes make) t = refl
-no_text_task _ t = cc
+no_text_task form t = grind arith
 
 types_told : (word : Text) (form : Form) (rest : List Text) → find (is_named word) commands ≡ Some (word, form)
     → takes_types form ≡ true
@@ -121,8 +119,7 @@ two_told word option rest p short = elim (choice word option rest) [
 
 pub tells : (words : List Text) → AllPlain (other_words words) → length words < 2 ^ 64 → Tells words
 tells [] p short = no_words
-tells (word ∷ []) p short = first_told word [] p.0 p.1 (omega (arith, short)) (command_of word) refl
-tells (word ∷ option ∷ rest) p short = grind (arith, two_told)
+tells words p short = grind (arith, first_told, two_told)
 
 -- what is asked is the task of the words
 pub plain_asked : (words : List Text) → list_any is_unknown_option (other_words words) ≡ false
@@ -133,8 +130,7 @@ plain_asked words u h = rw (u, h) refl
 pub matched : (task : Option Meaning) (kinds : Kinds) (met : Option (Text × List Row)) → Told task kinds met → kinds
     ≡ []
     → ok_or task Usage ≡ ok_or (matches_task met) Usage
-matched task kinds met (inl t) e = grind arith
-matched task kinds met (inr t) e = grind arith
+matched task kinds met x3 e = grind arith
 
 -- ---- the kinds of clap's errors
 
@@ -152,16 +148,10 @@ usage_kind (x ∷ xs) k h m = go (is_usage (refusal_for x)) refl h m (usage_kind
     go true e f (inl same) rest = grind arith
     go true e f (inr later) rest = rest f later
 
-all_usage : (kinds : Kinds) (k : ErrorKind) → are_usage kinds ≡ true → IsAmong k kinds → refusal_for k ≡ Some Usage
-all_usage [] k h m = absurd m
-all_usage (x ∷ xs) k h m = usage_kind (x ∷ xs) k h m
-
 pub refused : (task : Option Meaning) (kinds : Kinds) (met : Option (Text × List Row)) (k : ErrorKind)
     → Told task kinds met
     → (k ≡ kind.OutOfMemory) ⊎ IsAmong k kinds → IfSome (refusal_for k) (λ refusal. ok_or task Usage ≡ Err refusal)
-refused task kinds met k t (inl e) = rw e tt
-refused task kinds met k (inl t) (inr m) = grind arith
-refused task kinds met k (inr t) (inr m) = rw (all_usage kinds k t.0 m, t.1) refl
+refused task kinds met k t x5 = grind (arith, usage_kind)
 
 -- ---- a first word beside one that asks for help
 
@@ -191,8 +181,7 @@ tells_help first help u h = go (asks_for_help first) refl
     go false e = grind (arith, command_help)
 
 pub never_taken : (wanted : Refusal) (kinds : Kinds) → ToldHelp wanted kinds → kinds ≡ [] → ⊥
-never_taken Help kinds t e = grind arith
-never_taken Usage kinds t e = grind arith
+never_taken wanted kinds t e = grind arith
 
 help_kind : (kinds : Kinds) (k : ErrorKind) → kinds ≡ kind.DisplayHelp ∷ [] → IsAmong k kinds → refusal_for k
     ≡ Some Help
@@ -204,6 +193,4 @@ help_kind kinds k e m = go (rw e at m)
 
 pub refused_help : (wanted : Refusal) (kinds : Kinds) (k : ErrorKind) → ToldHelp wanted kinds
     → (k ≡ kind.OutOfMemory) ⊎ IsAmong k kinds → IfSome (refusal_for k) (λ refusal. refusal ≡ wanted)
-refused_help wanted kinds k t (inl e) = rw e tt
-refused_help Help kinds k t (inr m) = rw (help_kind kinds k t m) refl
-refused_help Usage kinds k t (inr m) = rw (all_usage kinds k t m) refl
+refused_help wanted kinds k t x4 = grind (arith, help_kind, usage_kind)

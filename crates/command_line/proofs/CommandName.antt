@@ -134,8 +134,7 @@ above_clear : (word : Text) (form : Form) (cs : List (Text × Form)) (rest : Lis
 above_clear word form cs rest e = grind (arith, name_clear, met, all_clear)
 
 or_nothing : (ks : Kinds) → or_else ks [] ≡ ks
-or_nothing [] = refl
-or_nothing (k ∷ ks) = refl
+or_nothing ks = grind arith
 
 -- the fault is the command's
 pub below : (word : Text) (form : Form) (cs : List (Text × Form)) (rest : List Text) → find (is_named word) cs

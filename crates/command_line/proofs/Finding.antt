@@ -1,5 +1,5 @@
 -- The first word that passes a test, as a text.
-use Rattle.std.proofs.Common.{arith, refl, ◌≡◌, List, [], ◌∷◌, Option, Some, None, Bool, true, false, String}
+use Rattle.std.proofs.Common.{arith, refl, ◌≡◌, List, [], ◌∷◌, Option, Some, Bool, true, false, String}
 use Rattle.std.proofs.Common.{string_bytes, option_map, find, is_some}
 use Rattle.std.specs.Global.{Global}
 use Rattle.std.specs.List.{list_any}
@@ -7,8 +7,7 @@ use Rattle.command_line.specs.Words.{Text}
 
 pub in_turn : {A : Type 0} (o : Option A) (f : A → String Global) → option_map (λ x. string_bytes (f x)) o
     ≡ option_map string_bytes (option_map f o)
-in_turn None f = refl
-in_turn (Some x) f = refl
+in_turn o f = grind arith
 
 -- a word passes the test where one is found
 pub any_found : (test : Text → Bool) (words : List Text) (found : Option Text) → found ≡ find test words

@@ -1,6 +1,6 @@
 -- How clap walks over the names after a command, and counts them.
-use Rattle.std.proofs.Common.{rules, arith, refl, ℕ, ◌≡◌, ◌<◌, ◌^◌, ◌==◌, List, [], ◌∷◌, ◌++◌, Some, None, Bool, true}
-use Rattle.std.proofs.Common.{false, codes, length, ◌∙◌, append_assoc, fold, Option}
+use Rattle.std.proofs.Common.{rules, arith, refl, ℕ, ◌≡◌, ◌<◌, ◌^◌, List, [], ◌∷◌, ◌++◌, Some, None, Bool, true}
+use Rattle.std.proofs.Common.{false, codes, length, append_assoc, fold, Option}
 use Rattle.std.specs.List.{list_all}
 use Rattle.clap.specs.Words.{Row, Rule, Shape}
 use Rattle.clap.specs.Simple.{built_leaf, inherited, with_leaf_noted, marked_built}
@@ -94,12 +94,7 @@ next_clear : (name : Text) (form : Form) (rows : List Row) (before : List Text) 
     → walk_fault (shaped (name, form)) [] (after form rows before) (word ∷ words)
     ≡ walk_fault (shaped (name, form)) [] (walked (rules_of form) [] (after form rows before) word) words
 unfolding walk_fault
-next_clear name (OfNames make) rows before word words t p = grind arith
-next_clear name (OfQuery make) rows before word words t p = grind arith
-next_clear name (OfSizes make) rows before word words t p = grind arith
-next_clear name (OfTyped make) rows before word words t p = grind arith
-next_clear name (OfTypedSizes make) rows before word words t p = grind arith
-next_clear name (OfOffset make) rows before word words t p = cc
+next_clear name form rows before word words t p = grind arith
 
 pub walk_clear : (name : Text) (form : Form) (rows : List Row) (before words : List Text) → takes_names form ≡ true
     → AllPlain words

@@ -147,8 +147,7 @@ pub level_unfit : (name : Text) (form : Form) (words : List Text) → fits form 
     → are_usage (level_fault (shaped (name, form)) [] nothing_held words false []) ≡ true
 unfolding walk_fault walked defaults_fault
 level_unfit name (OfNames make) [] f p = refl
-level_unfit name (OfQuery make) [] f p = refl
-level_unfit name (OfQuery make) (a ∷ []) f p = rw (p.0.dashes, p.0.long, p.0.short) refl
+level_unfit name (OfQuery make) words f p = grind arith
 level_unfit name (OfSizes make) [] f p = refl
 level_unfit name (OfSizes make) (a ∷ []) f p = rw (p.0.dashes, p.0.long, p.0.short) refl
 level_unfit name (OfSizes make) (a ∷ b ∷ []) f p =
@@ -175,12 +174,7 @@ level_unfit _ _ _ f p = cc
 pub level_help : (name : Text) (form : Form) (help : Text) → asks_for_help help ≡ true
     → level_fault (shaped (name, form)) [] nothing_held (help ∷ []) false [] ≡ kind.DisplayHelp ∷ []
 unfolding walk_fault flags_fault chars encode_utf8
-level_help name (OfNames make) help h = grind (arith, help_word)
-level_help name (OfQuery make) help h = grind (arith, help_word)
-level_help name (OfSizes make) help h = grind (arith, help_word)
-level_help name (OfOffset make) help h = grind (arith, help_word)
-level_help name (OfTyped make) help h = grind (arith, help_word)
-level_help name (OfTypedSizes make) help h = grind (arith, help_word)
+level_help name form help h = grind (arith, help_word)
 
 -- ---- the values of a command
 
@@ -215,15 +209,4 @@ reads _ _ f p = cc
 
 pub unfit_task : (form : Form) (words : List Text) → fits form words ≡ false → AllPlain words → operands_task form words
     ≡ None
-unfit_task (OfNames make) [] f p = refl
-unfit_task (OfQuery make) [] f p = refl
-unfit_task (OfQuery make) (a ∷ []) f p = refl
-unfit_task (OfSizes make) [] f p = refl
-unfit_task (OfSizes make) (a ∷ []) f p = refl
-unfit_task (OfSizes make) (a ∷ b ∷ []) f p = refl
-unfit_task (OfOffset make) [] f p = refl
-unfit_task (OfOffset make) (a ∷ []) f p = refl
-unfit_task (OfOffset make) (a ∷ b ∷ c ∷ more) f p = refl
-unfit_task (OfTyped make) words f p = grind arith
-unfit_task (OfTypedSizes make) words f p = grind arith
-unfit_task _ _ f p = cc
+unfit_task form words f p = grind arith

@@ -43,12 +43,10 @@ plain_word word h k = go (is_option word) refl
     go true e = grind arith
 
 first_false : (a b : Bool) → (a || b) ≡ false → a ≡ false
-first_false false b h = refl
-first_false true b h = cc
+first_false a b h = grind arith
 
 second_false : (a b : Bool) → (a || b) ≡ false → b ≡ false
-second_false false b h = h
-second_false true b h = cc
+second_false a b h = grind arith
 
 pub all_plain : (words : List Text) → list_any is_unknown_option words ≡ false → list_any asks_for_help words ≡ false
     → AllPlain words

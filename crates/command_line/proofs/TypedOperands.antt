@@ -39,38 +39,31 @@ start (Some text) = walk_from (record { rows = []; pending = Some (codes "types"
 chosen : (form : Form) (text : Text) → takes_types form ≡ true → IsPlain text
     → walk (rules_of form) [] nothing_held (codes "--types" ∷ text ∷ []) ≡ start (Some text)
 unfolding walked
-chosen (OfTyped make) text t p = grind arith
-chosen (OfTypedSizes make) text t p = grind arith
-chosen _ text t p = cc
+chosen form text t p = grind arith
 
 begun : (form : Form) (choice : Option Text) (words : List Text) → takes_types form ≡ true → IsPlainChoice choice
     → walk (rules_of form) [] nothing_held (choice_words choice ++ words)
     ≡ fold (walked (rules_of form) []) (start choice) words
-begun form None words t p = refl
-begun form (Some text) words t p = grind (arith, fold, rules_of, chosen)
+begun form choice words t p = grind (arith, fold, chosen)
 
 chosen_clear : (name : Text) (form : Form) (text : Text) (words : List Text) → takes_types form ≡ true → IsPlain text
     → walk_fault (shaped (name, form)) [] (walk_from nothing_held) (codes "--types" ∷ text ∷ words)
     ≡ walk_fault (shaped (name, form)) [] (start (Some text)) words
 unfolding walk_fault walked
-chosen_clear name (OfTyped make) text words t p = grind arith
-chosen_clear name (OfTypedSizes make) text words t p = grind arith
-chosen_clear name _ text words t p = cc
+chosen_clear name form text words t p = grind arith
 
 begun_clear : (name : Text) (form : Form) (choice : Option Text) (words : List Text) → takes_types form ≡ true
     → IsPlainChoice choice
     → walk_fault (shaped (name, form)) [] (walk_from nothing_held) (choice_words choice ++ words)
     ≡ walk_fault (shaped (name, form)) [] (start choice) words
-begun_clear name form None words t p = refl
-begun_clear name form (Some text) words t p = chosen_clear name form text words t p
+begun_clear name form choice words t p = grind (arith, chosen_clear)
 
 -- ---- the walk over the operands
 
 first_in : (make : Types → List Text → Meaning) (choice : Option Text) (a : Text) → IsPlain a
     → walked (rules_of (OfTyped make)) [] (start choice) a ≡ after (OfTyped make) (choice_rows choice) (a ∷ [])
 unfolding walked
-first_in make None a p = grind arith
-first_in make (Some text) a p = grind arith
+first_in make choice a p = grind arith
 
 three_in : (make : Types → List ℕ → Text → List Text → Meaning) (choice : Option Text) (a b c : Text) → IsPlain a
     → IsPlain b → IsPlain c
@@ -105,8 +98,7 @@ first_clear : (name : Text) (make : Types → List Text → Meaning) (choice : O
     → walk_fault (shaped (name, OfTyped make)) [] (start choice) (a ∷ more)
     ≡ walk_fault (shaped (name, OfTyped make)) [] (after (OfTyped make) (choice_rows choice) (a ∷ [])) more
 unfolding walk_fault walked
-first_clear name make None a more p = grind arith
-first_clear name make (Some text) a more p = grind arith
+first_clear name make choice a more p = grind arith
 
 three_clear : (name : Text) (make : Types → List ℕ → Text → List Text → Meaning) (choice : Option Text) (a b c : Text)
     (more : List Text)
@@ -136,35 +128,7 @@ pub typed_fits : (name : Text) (form : Form) (choice : Option Text) (words : Lis
     → IsPlainChoice choice → AllPlain words → length words < 2 ^ 64
     → level_fault (shaped (name, form)) [] nothing_held (choice_words choice ++ words) false [] ≡ []
 unfolding defaults_fault
-typed_fits name (OfTyped make) None (a ∷ more) t f q p short =
-    rw (
-      ends (OfTyped make) None (a ∷ more) t f q p,
-      clear name (OfTyped make) None (a ∷ more) t f q p,
-      in_range (a ∷ more) (omega arith) short,
-      any_text more,
-    ) refl
-typed_fits name (OfTyped make) (Some text) (a ∷ more) t f q p short =
-    rw (
-      ends (OfTyped make) (Some text) (a ∷ more) t f q p,
-      clear name (OfTyped make) (Some text) (a ∷ more) t f q p,
-      in_range (a ∷ more) (omega arith) short,
-      any_text more,
-    ) refl
-typed_fits name (OfTypedSizes make) None (a ∷ b ∷ c ∷ more) t f q p short =
-    rw (
-      ends (OfTypedSizes make) None (a ∷ b ∷ c ∷ more) t f q p,
-      clear name (OfTypedSizes make) None (a ∷ b ∷ c ∷ more) t f q p,
-      in_range (c ∷ more) (omega arith) (omega (arith, short)),
-      any_text more,
-    ) refl
-typed_fits name (OfTypedSizes make) (Some text) (a ∷ b ∷ c ∷ more) t f q p short =
-    rw (
-      ends (OfTypedSizes make) (Some text) (a ∷ b ∷ c ∷ more) t f q p,
-      clear name (OfTypedSizes make) (Some text) (a ∷ b ∷ c ∷ more) t f q p,
-      in_range (c ∷ more) (omega arith) (omega (arith, short)),
-      any_text more,
-    ) refl
-typed_fits name _ choice _ t f q p short = cc
+typed_fits name form choice words t f q p short = grind (arith, ends, clear, in_range, any_text)
 
 -- ---- words that don't fit
 
@@ -172,17 +136,14 @@ typed_fits name _ choice _ t f q p short = cc
 pub without_text : (name : Text) (form : Form) → takes_types form ≡ true
     → are_usage (level_fault (shaped (name, form)) [] nothing_held (codes "--types" ∷ []) false []) ≡ true
 unfolding walk_fault walked defaults_fault
-without_text name (OfTyped make) t = refl
-without_text name (OfTypedSizes make) t = refl
-without_text name _ t = cc
+without_text name form t = grind arith
 
 pub typed_unfit : (name : Text) (form : Form) (choice : Option Text) (words : List Text) → takes_types form ≡ true
     → fits form words ≡ false
     → IsPlainChoice choice → AllPlain words
     → are_usage (level_fault (shaped (name, form)) [] nothing_held (choice_words choice ++ words) false []) ≡ true
 unfolding walk_fault walked defaults_fault
-typed_unfit name (OfTyped make) None [] t f q p = refl
-typed_unfit name (OfTyped make) (Some text) [] t f q p = rw (q.dashes, q.long, q.short) refl
+typed_unfit name (OfTyped make) choice [] t f q p = grind arith
 typed_unfit name (OfTypedSizes make) None [] t f q p = refl
 typed_unfit name (OfTypedSizes make) None (a ∷ []) t f q p = rw (p.0.dashes, p.0.long, p.0.short) refl
 typed_unfit name (OfTypedSizes make) None (a ∷ b ∷ []) t f q p =
@@ -207,32 +168,22 @@ pub typed_values : (form : Form) (choice : Option Text) (words : List Text) → 
     → IsPlainChoice choice → AllPlain words
     → finished (rules_of form) (walk (rules_of form) [] nothing_held (choice_words choice ++ words)).held
     ≡ typed_rows form choice words
-typed_values (OfTyped make) None (a ∷ more) t f q p = rw (ends (OfTyped make) None (a ∷ more) t f q p) refl
-typed_values (OfTyped make) (Some text) (a ∷ more) t f q p = rw (ends (OfTyped make) (Some text) (a ∷ more) t f q p)
-    refl
-typed_values (OfTypedSizes make) None (a ∷ b ∷ c ∷ more) t f q p =
-    rw (ends (OfTypedSizes make) None (a ∷ b ∷ c ∷ more) t f q p) refl
-typed_values (OfTypedSizes make) (Some text) (a ∷ b ∷ c ∷ more) t f q p =
-    rw (ends (OfTypedSizes make) (Some text) (a ∷ b ∷ c ∷ more) t f q p) refl
-typed_values _ choice _ t f q p = cc
+typed_values form choice words t f q p = grind (arith, ends)
 
 -- ---- the task
 
 pub in_turn : {A B C : Type 0} (o : Option A) (f : A → B) (g : B → C) → option_map g (option_map f o)
     ≡ option_map (λ x. g (f x)) o
-in_turn None f g = refl
-in_turn (Some x) f g = refl
+in_turn o f g = grind arith
 
 -- two ways to go on from a value agree
 alike : {A B C : Type 0} (o : Option A) (f : A → Option C) (g : A → B) (h : B → Option C) → ((x : A) → f x ≡ h (g x))
     → option_and_then f o ≡ option_and_then h (option_map g o)
-alike None f g h e = refl
-alike (Some x) f g h e = e x
+alike o f g h e = grind arith
 
 nowhere : {A B C : Type 0} (o : Option A) (g : A → B) (h : B → Option C) → ((x : A) → h (g x) ≡ None)
     → option_and_then h (option_map g o) ≡ None
-nowhere None g h e = refl
-nowhere (Some x) g h e = e x
+nowhere o g h e = grind arith
 
 no_choice : (word : Text) → IsPlain word → chooses_types word ≡ false
 no_choice word p = go (bytes_eq word (codes "--types")) refl
@@ -244,29 +195,16 @@ no_choice word p = go (bytes_eq word (codes "--types")) refl
 
 -- plain words are all operands, of the usual types
 usual : (words : List Text) → AllPlain words → typed_operands words ≡ Some (usual_types, words)
-usual [] p = refl
-usual (word ∷ words) p = rw (no_choice word p.0) refl
+usual words p = grind (arith, no_choice)
 
 pub typed_reads : (form : Form) (choice : Option Text) (words : List Text) → takes_types form ≡ true → fits form words
     ≡ true
     → IsPlainChoice choice → AllPlain words → values_task form (typed_rows form choice words)
     ≡ operands_task form (choice_words choice ++ words)
-typed_reads (OfTyped make) None (a ∷ more) t f q p = rw (usual (a ∷ more) p) refl
-typed_reads (OfTyped make) (Some text) (a ∷ more) t f q p = grind (arith, alike)
-typed_reads (OfTypedSizes make) None (a ∷ b ∷ c ∷ more) t f q p = grind arith
-typed_reads (OfTypedSizes make) (Some text) (a ∷ b ∷ c ∷ more) t f q p = grind (arith, alike, in_turn)
-typed_reads _ choice _ t f q p = cc
+typed_reads form choice words t f q p = grind (arith, usual, alike, in_turn)
 
 -- too few operands have no task, whatever the types
 pub typed_unfit_task : (form : Form) (choice : Option Text) (words : List Text) → takes_types form ≡ true
     → fits form words ≡ false
     → IsPlainChoice choice → AllPlain words → operands_task form (choice_words choice ++ words) ≡ None
-typed_unfit_task (OfTyped make) None [] t f q p = refl
-typed_unfit_task (OfTyped make) (Some text) [] t f q p = grind (arith, nowhere)
-typed_unfit_task (OfTypedSizes make) None [] t f q p = refl
-typed_unfit_task (OfTypedSizes make) None (a ∷ []) t f q p = rw (usual (a ∷ []) p) refl
-typed_unfit_task (OfTypedSizes make) None (a ∷ b ∷ []) t f q p = rw (usual (a ∷ b ∷ []) p) refl
-typed_unfit_task (OfTypedSizes make) (Some text) [] t f q p = grind (arith, nowhere)
-typed_unfit_task (OfTypedSizes make) (Some text) (a ∷ []) t f q p = grind (arith, nowhere)
-typed_unfit_task (OfTypedSizes make) (Some text) (a ∷ b ∷ []) t f q p = grind (arith, nowhere)
-typed_unfit_task _ choice _ t f q p = cc
+typed_unfit_task form choice words t f q p = grind (arith, nowhere, usual)

@@ -1,14 +1,12 @@
 -- The captures that are added, one record further, at the end, and at a fault.
-use Rattle.std.proofs.Common.{arith, ◌≡◌, ◌∙◌, ℕ, ◌+◌, ◌≤◌, Bool, List, [], ◌∷◌, ◌++◌, Option, None, Some, Result, Ok}
+use Rattle.std.proofs.Common.{arith, ◌≡◌, ◌∙◌, ℕ, ◌+◌, ◌≤◌, Bool, List, [], ◌∷◌, ◌++◌, Option, None, Some, Ok}
 use Rattle.std.proofs.Common.{Err, IfSome, option_to_list, length, drop, ap, append_assoc}
 use Rattle.std.specs.Bool.{⊤}
 use Rattle.std.proofs.Math.Seq.{drop-append_seam}
 use Rattle.warc_core.specs.Kind.{Kind}
-use Rattle.warc_core.specs.declared.fault.Cause.{Cause}
-use Rattle.warc_core.specs.declared.fault.Cause.TheVariants as causes
 use Rattle.warc_core.specs.HeadView.{HeadView, record_length}
 use Rattle.warc_core.specs.Next.{next_at}
-use Rattle.warc_core.specs.Reading.{Reads, IsFoundIn}
+use Rattle.warc_core.specs.Reading.{Reads}
 use Rattle.warc_core.specs.ReaderView.{ReaderView}
 use Rattle.warc_core.specs.Record.{after_record}
 use Rattle.warc_core.specs.Walk.{record_at, Walks}
@@ -16,10 +14,9 @@ use Rattle.warc_core.proofs.ArchiveLemmas.{walk-front, next-spelled}
 use Rattle.warc_core.proofs.WalkLemmas.{Walks-more, none_at_end, record-unclosed, record-whole}
 use Rattle.cdxj_core.specs.Entries.{EntryValue, line_text}
 use Rattle.capture_core.specs.declared.fault.CaptureFault.{CaptureFault}
-use Rattle.capture_core.specs.declared.fault.CaptureFault.TheVariants.{Archive, LineTooLong, KeyTooLong}
 use Rattle.capture_core.specs.Indexed.{url_of}
 use Rattle.capture_core.specs.CaptureAnswer.{Limits, IsEntryOf, Captures}
-use Rattle.capture_core.specs.RecordReading.{IsCaptureFaultAt, reading_after, reading_of}
+use Rattle.capture_core.specs.RecordReading.{IsCaptureFaultAt, reading_of}
 use Rattle.index_core.specs.Accepted.{IsCaptureAt, IsCaptured, AreCaptured, IsAccepted, IsAcceptedTo, IsRefused}
 use Rattle.capture_core.specs.Fault.{fault_offset}
 use Rattle.capture_core.specs.declared.types.Types.{Types}
@@ -29,29 +26,13 @@ use Rattle.index_core.specs.Indexing.{Held}
 use Rattle.index_core.proofs.VerdictLemmas.{behind}
 
 pub fault_at : (start : ℕ) (fault : CaptureFault) → IsCaptureFaultAt start fault → fault_offset fault ≡ start
-fault_at start (Archive f) h = h
-fault_at start (LineTooLong o) h = h
-fault_at start (KeyTooLong o) h = h
-
--- a cause that was met is found in the bytes
-pub found_there : {A : Type 0} (f : List ℕ → Result (A × List ℕ) Cause) (c : Cause) (before after : Option (List ℕ))
-    → Reads f (Err c) before after → IfSome before (λ bytes. IsFoundIn c (f bytes))
-found_there f c None after r = tt
-found_there f c (Some z) after r = r
+fault_at start fault h = grind arith
 
 -- what stands behind a head
 behind_head : (limit start : ℕ) (h : HeadView) (z y : List ℕ) → next_at limit start z ≡ Ok (Some h, y)
     → drop (length h.raw) z ≡ y
 behind_head limit start h z y r = ap (drop (length h.raw)) (next-spelled limit start z y h r).0
     ∙ drop-append_seam h.raw y
-
--- how a record at fault was read
-record_met : (limit start : ℕ) (h : HeadView) (c : Cause) (before mid after : Option (List ℕ))
-    → Reads (next_at limit start) (Ok (Some h)) before mid
-    → Reads (after_record h.parts.length) (reading_after c) mid after
-    → Reads (record_at limit start) (Err c) before after
-record_met limit start h causes.Memory before mid after r s = grind arith
-record_met limit start h c before mid after r s = grind (arith, record-unclosed)
 
 module _ (types : Kind → Bool) (limits : Limits) (limit : ℕ) (name : List ℕ) where
   -- These are the captures of the records so far, the last of which ends at the offset.
@@ -66,9 +47,7 @@ module _ (types : Kind → Bool) (limits : Limits) (limit : ℕ) (name : List �
       → Reads (next_at limit start) (Ok (Some h)) before mid → Reads (after_record h.parts.length) (Ok tt) mid after
       → Captures (url_of types h) limits h name mid (Ok captured)
       → IfSome before (λ bytes. IsCaptureAt types limits limit name h bytes captured)
-  capture_there start h captured None mid after r s k = tt
-  capture_there start h captured (Some z) None after r s k = absurd r
-  capture_there start h captured (Some z) (Some y) after r s k = grind (arith, behind_head)
+  capture_there start h captured before mid after r s k = grind (arith, behind_head)
 
   -- why a record that was read has no capture
   pub refused_there : (start : ℕ) (h : HeadView) (fault : CaptureFault) (before mid after : Option (List ℕ))
@@ -76,24 +55,7 @@ module _ (types : Kind → Bool) (limits : Limits) (limit : ℕ) (name : List �
       → Reads (after_record h.parts.length) (reading_of {A = Option EntryValue} (Err fault)) mid after
       → Captures (url_of types h) limits h name mid (Err fault)
       → IfSome before (λ bytes. IsRefused types limits limit name start bytes fault)
-  refused_there start h (Archive f) before mid after r s k = found_there (record_at limit start) f.cause before after
-      (grind (arith, record_met))
-  refused_there start h (LineTooLong o) None mid after r s k = tt
-  refused_there start h (LineTooLong o) (Some z) None after r s k = absurd r
-  refused_there start h (LineTooLong o) (Some z) (Some y) None r s k = absurd s
-  refused_there start h (LineTooLong o) (Some z) (Some y) (Some w) r s k = (
-    h,
-    w,
-    record-whole limit start (Some z) (Some y) (Some w) h r s,
-    k.0,
-    grind (arith, behind_head),
-    k.2,
-  )
-  refused_there start h (KeyTooLong o) None mid after r s k = tt
-  refused_there start h (KeyTooLong o) (Some z) None after r s k = absurd r
-  refused_there start h (KeyTooLong o) (Some z) (Some y) None r s k = absurd s
-  refused_there start h (KeyTooLong o) (Some z) (Some y) (Some w) r s k =
-      (h, w, record-whole limit start (Some z) (Some y) (Some w) h r s)
+  refused_there start h fault before mid after r s k = grind (arith, record-whole, behind_head, record-unclosed)
 
   captured_more : (archive : List ℕ) (heads : List HeadView) (captures : List EntryValue) (h : HeadView)
       (captured : Option EntryValue) → AreCaptured types limits limit name archive heads captures
@@ -105,8 +67,7 @@ module _ (types : Kind → Bool) (limits : Limits) (limit : ℕ) (name : List �
 
   fits_line : (h : HeadView) (captured : Option EntryValue) → IfSome captured (IsEntryOf h name limits.line)
       → IfSome captured (λ e. length (line_text e) ≤ limits.line)
-  fits_line h None e = tt
-  fits_line h (Some x) e = e.fits
+  fits_line h captured e = grind arith
 
   pub AddedSoFar-more : (left now after : Option (List ℕ)) (o : ℕ) (gained : List EntryValue) (h : HeadView)
       (captured : Option EntryValue) (new : ReaderView) → AddedSoFar left now o gained
@@ -127,19 +88,14 @@ module _ (types : Kind → Bool) (limits : Limits) (limit : ℕ) (name : List �
   pub AddedSoFar-end : (left now after : Option (List ℕ)) (o : ℕ) (gained : List EntryValue)
       → AddedSoFar left now o gained → Reads (record_at limit o) (Ok None) now after
       → IfSome left (λ archive. IsAccepted types limits limit name archive gained)
-  AddedSoFar-end None now after o gained s r = tt
-  AddedSoFar-end (Some archive) None after o gained s r = absurd s
-  AddedSoFar-end (Some archive) (Some z) None o gained s r = absurd r
-  AddedSoFar-end (Some archive) (Some z) (Some y) o gained s r = grind (arith, none_at_end)
+  AddedSoFar-end left now after o gained s r = grind (arith, none_at_end)
 
   -- what comes next is refused
   pub AddedSoFar-refused : (left now : Option (List ℕ)) (o : ℕ) (gained : List EntryValue) (fault : CaptureFault)
       → AddedSoFar left now o gained
       → (fault_offset fault ≡ o) × IfSome now (λ bytes. IsRefused types limits limit name o bytes fault)
       → IfSome left (λ archive. IsAcceptedTo types limits limit name fault archive gained)
-  AddedSoFar-refused None now o gained fault s r = tt
-  AddedSoFar-refused (Some archive) None o gained fault s r = absurd s
-  AddedSoFar-refused (Some archive) (Some z) o gained fault s r = grind arith
+  AddedSoFar-refused left now o gained fault s r = grind arith
 
 -- what is held with the captures of one more archive
 pub held_more : (types : Types) (names more : List (List ℕ)) (captures those gained : List EntryValue) (name : List ℕ)

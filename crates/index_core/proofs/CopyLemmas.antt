@@ -15,7 +15,7 @@ use Rattle.warc_core.specs.Record.{closing, after_block, after_record}
 use Rattle.devices.proofs.DeviceLemmas.{Appends-none, Appends-join}
 use Rattle.warc_core.proofs.ReadingLemmas.{GoesOn-reads, nil_of}
 use Rattle.warc_core.proofs.SpelledLemmas.{block-there}
-use Rattle.capture_core.specs.declared.fault.CaptureFault.TheVariants.{Archive, LineTooLong, KeyTooLong}
+use Rattle.capture_core.specs.declared.fault.CaptureFault.TheVariants.{Archive}
 use Rattle.warc_core.proofs.OpenLemmas.{behind-front, found-of-record}
 use Rattle.warc_core.proofs.FillLemmas.{Consumes-none, Consumes-join, found-behind}
 use Rattle.index_core.specs.declared.fault.IndexFault.{IndexFault}
@@ -27,21 +27,16 @@ use Rattle.index_core.specs.Copying.{WroteFront, CopiesBlock, CopiesRecord}
 -- what was taken stands in front
 front_there : (known known' : Option (List ℕ)) (a : List ℕ) → Consumes known known' a
     → IfSome known (λ bytes. (more : List ℕ) × (bytes ≡ a ++ more))
-front_there None known' a c = tt
-front_there (Some z) None a c = absurd c
-front_there (Some z) (Some w) a c = (w, c)
+front_there known known' a c = grind arith
 
 begins_behind : (known known' : Option (List ℕ)) (a front : List ℕ) → Consumes known known' a
     → IfSome known' (λ bytes. (more : List ℕ) × (bytes ≡ front ++ more))
     → IfSome known (λ bytes. (more : List ℕ) × (bytes ≡ (a ++ front) ++ more))
-begins_behind None known' a front c b = tt
-begins_behind (Some z) None a front c b = absurd c
-begins_behind (Some z) (Some w) a front c b = grind (arith, append_assoc)
+begins_behind known known' a front c b = grind (arith, append_assoc)
 
 -- a head stands in front of what follows it
 pub consumes_head : (raw : List ℕ) (known : Option (List ℕ)) → Consumes (prepend_known raw known) known raw
-consumes_head raw None = tt
-consumes_head raw (Some z) = refl
+consumes_head raw known = grind arith
 
 -- all that was taken was written
 pub wrote_all : (a : List ℕ) (known known' old new : Option (List ℕ)) → Consumes known known' a → Appends old new a
@@ -173,9 +168,7 @@ Copying-end left len rest old now before mid w v e d =
 -- the closing was taken
 closing_taken : (before after : Option (List ℕ)) → Reads (after_record 0) (Ok tt) before after
     → Consumes before after closing
-closing_taken None after r = tt
-closing_taken (Some z) None r = absurd r
-closing_taken (Some z) (Some w) r = grind (arith, block-there, nil_of)
+closing_taken before after r = grind (arith, block-there, nil_of)
 
 -- what is read behind a block that was taken whole is read behind its record's head
 behind_block : (r : Result (Unit {0}) Cause) (n : ℕ) (block : List ℕ) (before mid after : Option (List ℕ))
@@ -207,14 +200,7 @@ module _ (h : HeadView) (w v : Option (List ℕ)) where
     pub block_cut : (fault : IndexFault) (after : Option (List ℕ))
         → CopiesBlock h.parts.length (record_length h) old mid (Err fault) before between v u
         → CopiesRecord h (Err fault) (prepend_known old.held before) after w u
-    block_cut faults.Memory after b = absurd b.ends
-    block_cut faults.BadName after b = absurd b.ends
-    block_cut faults.DuplicateName after b = absurd b.ends
-    block_cut faults.NoRecord after b = absurd b.ends
-    block_cut (faults.Capture (LineTooLong o)) after b = absurd b.ends
-    block_cut (faults.Capture (KeyTooLong o)) after b = absurd b.ends
-    block_cut (faults.Capture (Archive f)) after b = grind (arith, behind_head, found-of-record)
-    block_cut faults.Write after b = grind (arith, behind_head)
+    block_cut fault after b = grind (arith, behind_head, found-of-record)
 
     module _ (block : CopiesBlock h.parts.length (record_length h) old mid (Ok tt) before between v u)
         (new : ReaderView) (after : Option (List ℕ)) (k k' : ℕ) where

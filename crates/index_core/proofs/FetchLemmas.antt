@@ -36,10 +36,7 @@ module _ (limit : ℕ) where
   pub went_past : (o : ℕ) (left now after : Option (List ℕ)) (offset : ℕ) (h : HeadView) → WalkedTo limit o left now
       → Reads (record_at limit o) (Ok (Some h)) now after → o < offset → offset < o + record_length h
       → IfSome left (λ archive. IsInRecord limit archive offset)
-  went_past o None now after offset h s r l m = tt
-  went_past o (Some archive) None after offset h s r l m = absurd s
-  went_past o (Some archive) (Some z) None offset h s r l m = absurd r
-  went_past o (Some archive) (Some z) (Some y) offset h s r l m = grind arith
+  went_past o left now after offset h s r l m = grind arith
 
   -- the archive ended before the offset, or there
   pub ends_before : (o : ℕ) (left now after : Option (List ℕ)) (offset : ℕ) → WalkedTo limit o left now
@@ -61,8 +58,7 @@ module _ (limit : ℕ) where
   same_head : (h k : HeadView) (z : List ℕ) (r : Result (Unit {0} × List ℕ) Cause)
       → ◌≡◌ {A = Result (Option HeadView × List ℕ) Cause} (r >>= λ closed. Ok (Some h, closed.1)) (Ok (Some k, z)) → h
       ≡ k
-  same_head h k z (Err c) e = absurd (cc)
-  same_head h k z (Ok (u, y)) e = grind arith
+  same_head h k z r e = grind arith
 
   -- the head that was read is that of the record which begins these bytes
   record_head : (o : ℕ) (h k : HeadView) (bytes y z : List ℕ) → next_at limit o bytes ≡ Ok (Some h, y)
@@ -122,17 +118,13 @@ module _ (limit : ℕ) where
   -- no record came next
   pub next_none : (o : ℕ) (before after : Option (List ℕ)) → Reads (next_at limit o) (Ok None) before after
       → IfSome before (λ bytes. bytes ≡ [])
-  next_none o None after n = tt
-  next_none o (Some z) None n = absurd n
-  next_none o (Some z) (Some y) n = none_at_end limit o z y (record-end limit o (Some z) (Some y) (Some y) n)
+  next_none o before after n = grind (arith, none_at_end, record-end)
 
   -- the head of the record couldn't be read
   pub next_stopped : (o : ℕ) (f : Fault) (before after w : Option (List ℕ))
       → Reads (next_at limit o) (Err f.cause) before after → f.offset ≡ o
       → CopiesNext limit o (Err (faults.Capture (Archive f))) before w w
-  next_stopped o f None after w n e = (e, tt)
-  next_stopped o f (Some z) after w n e =
-      (e, (record-stopped limit o (Some z) after after f.cause n, wrote_nothing w (most_written_at limit o z)))
+  next_stopped o f before after w n e = grind (arith, record-stopped, wrote_nothing)
 
   -- ---- the whole call
 
@@ -144,12 +136,6 @@ module _ (limit : ℕ) where
       → Walks limit 0 archive heads o z → AppendsPrefix w u (most_written_at limit o z)
       → AppendsPrefix w u (most_written_at limit o (drop o archive))
   prefix_there archive heads o z w u k p = grind (arith, from_offset)
-
-  -- the walk couldn't go on, and nothing was written
-  pub unfetched : (o : ℕ) (f : Fault) (left w : Option (List ℕ)) → f.offset ≤ o
-      → IfSome left (λ archive. StopsAt limit archive o f) → Fetches limit o left (Err (faults.Capture (Archive f))) w w
-  unfetched o f None w l s = (l, tt)
-  unfetched o f (Some archive) w l s = grind (arith, wrote_nothing)
 
   pub fetched : (o : ℕ) (r : Result ℕ IndexFault) (left known w u : Option (List ℕ)) → WalkedTo limit o left known
       → CopiesNext limit o r known w u → Fetches limit o left r w u

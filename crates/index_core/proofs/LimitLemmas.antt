@@ -1,18 +1,13 @@
 -- Archives under higher limits of lines and heads.
-use Rattle.std.proofs.Common.{ℕ, ◌≤◌, Bool, List, [], ◌∷◌, Option, None, Some, IfSome, length, arith}
+use Rattle.std.proofs.Common.{ℕ, ◌≤◌, Bool, List, [], ◌∷◌, arith}
 use Rattle.std.specs.List.{AllByRecursion}
 use Rattle.warc_core.specs.Kind.{Kind}
 use Rattle.warc_core.specs.HeadView.{HeadView}
 use Rattle.warc_core.proofs.LimitLemmas.{records_stay}
-use Rattle.cdxj_core.specs.Entries.{EntryValue, line_text}
+use Rattle.cdxj_core.specs.Entries.{EntryValue}
 use Rattle.capture_core.specs.CaptureAnswer.{Limits}
 use Rattle.index_core.specs.Accepted.{IsTaken, AreCaptured}
 use Rattle.index_core.specs.Laws.{WholeStays, CapturesStay}
-
-line_fits : (low high : ℕ) → low ≤ high → (captured : Option EntryValue)
-    → IfSome captured (λ e. length (line_text e) ≤ low) → IfSome captured (λ e. length (line_text e) ≤ high)
-line_fits low high up None h = tt
-line_fits low high up (Some e) h = omega (arith, up, h)
 
 module _ (types : Kind → Bool) (limits : Limits) (line low high : ℕ) (longer : limits.line ≤ line)
     (name archive : List ℕ) where
@@ -22,13 +17,13 @@ module _ (types : Kind → Bool) (limits : Limits) (line low high : ℕ) (longer
   are_taken : (heads : List HeadView) → AllByRecursion (IsTaken types limits low name archive) heads
       → AllByRecursion (IsTaken types higher high name archive) heads
   are_taken [] h = tt
-  are_taken (head ∷ heads) h = grind (arith, line_fits, are_taken heads h.1)
+  are_taken (head ∷ heads) h = grind (arith, are_taken heads h.1)
 
   are_captured : (heads : List HeadView) (captures : List EntryValue)
       → AreCaptured types limits low name archive heads captures
       → AreCaptured types higher high name archive heads captures
   are_captured [] captures h = h
-  are_captured (head ∷ heads) captures h = grind (arith, line_fits, are_captured heads h.1 h.3)
+  are_captured (head ∷ heads) captures h = grind (arith, are_captured heads h.1 h.3)
 
 pub whole_stays : WholeStays
 whole_stays types limits line low high longer up name archive w = record {

@@ -1,5 +1,5 @@
 -- The names of archives, as the keys of a set.
-use Rattle.std.proofs.Common.{arith, ◌≡◌, ℕ, false, ◌||◌, List, [], ◌∷◌, ◌++◌, if◌then◌else◌, map, refl, ◌∙◌}
+use Rattle.std.proofs.Common.{arith, ◌≡◌, ℕ, false, List, [], ◌∷◌, ◌++◌, if◌then◌else◌, map, refl}
 use Rattle.std.specs.List.{list_any}
 use Rattle.std.specs.Str.{bytes_eq}
 use Rattle.std.proofs.lemmas.Bool.{cond-false}

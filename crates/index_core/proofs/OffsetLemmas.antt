@@ -11,7 +11,7 @@ use Rattle.warc_core.proofs.ArchiveLemmas.{walk-front}
 use Rattle.warc_core.proofs.HeadLemmas.{which}
 use Rattle.warc_core.proofs.SpelledLemmas.{total}
 use Rattle.warc_core.proofs.WalkLemmas.{not_both, one_fault}
-use Rattle.capture_core.specs.declared.fault.CaptureFault.TheVariants.{Archive, LineTooLong, KeyTooLong}
+use Rattle.capture_core.specs.declared.fault.CaptureFault.TheVariants.{Archive}
 use Rattle.index_core.specs.declared.fault.IndexFault.{IndexFault}
 use Rattle.index_core.specs.declared.fault.IndexFault.TheVariants as faults
 use Rattle.index_core.specs.Fetching.{IsRecordOf, IsTextAt, IsInRecord, IsBehindRecords, IsDamagedBy, StandsIn}
@@ -50,16 +50,11 @@ module _ (limit : ℕ) where
       let x : Walks limit (start + record_length h) v.0 gs p t = rw (e.0, e.1) w.2 in
       longer_walk (start + record_length h) v.0 hs gs o p r t v.2 x
 
-  -- a walk that goes on from a record ends behind it
-  goes_past : (o p : ℕ) (r y t : List ℕ) (h k : HeadView) (more : List HeadView) → record_at limit o r ≡ Ok (Some h, y)
-      → Walks limit o r (k ∷ more) p t → o + record_length h ≤ p
-  goes_past o p r y t h k more a w = grind (arith, one_record, walk-front)
-
   -- a walk from a record ends behind it, or there
   goes_behind : (o p : ℕ) (r y t : List ℕ) (h : HeadView) (more : List HeadView) → record_at limit o r ≡ Ok (Some h, y)
       → (p ≡ o → t ≡ r → ⊥) → Walks limit o r more p t → o + record_length h ≤ p
   goes_behind o p r y t h [] a n w = absurd (n w.0 w.1)
-  goes_behind o p r y t h (k ∷ more) a n w = goes_past o p r y t h k more a w
+  goes_behind o p r y t h (k ∷ more) a n w = grind (arith, one_record, walk-front)
 
   -- no walk goes on from where no record stands
   goes_nowhere : (o p : ℕ) (r t : List ℕ) (more : List HeadView) → Ends limit p t → Walks limit p t more o r → (p ≡ o)
@@ -122,15 +117,7 @@ module _ (limit : ℕ) where
         ⊎ ((f : Fault) × (r ≡ Err (faults.Capture (Archive f))) × IsDamagedBy limit archive offset f))
 
     three : (r : Result (List ℕ) IndexFault) → StandsIn limit archive offset r → Three r
-    three (Ok text) s = inl (text, refl, s)
-    three (Err faults.NoRecord) s = inr (inl (refl, s))
-    three (Err (faults.Capture (Archive f))) s = inr (inr (f, refl, s))
-    three (Err (faults.Capture (LineTooLong o))) s = absurd s
-    three (Err (faults.Capture (KeyTooLong o))) s = absurd s
-    three (Err faults.Memory) s = absurd s
-    three (Err faults.BadName) s = absurd s
-    three (Err faults.DuplicateName) s = absurd s
-    three (Err faults.Write) s = absurd s
+    three r s = grind arith
 
     one_of_three : (r s : Result (List ℕ) IndexFault) → Three r → Three s → r ≡ s
     one_of_three r s (inl x) (inl y) = x.1 ∙ (ap Ok (one_text x.0 y.0 x.2 y.2) ∙ sym y.1)

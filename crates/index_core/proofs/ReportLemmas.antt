@@ -1,5 +1,5 @@
 -- The lines of a report, one record further, and at the end.
-use Rattle.std.proofs.Common.{arith, ◌≡◌, ◌∙◌, ℕ, ◌+◌, List, [], ◌∷◌, ◌++◌, ◌⊎◌, inl, inr, Option, None, Some, Result}
+use Rattle.std.proofs.Common.{arith, ◌≡◌, ◌∙◌, ℕ, ◌+◌, List, [], ◌∷◌, ◌++◌, inl, inr, Option, None, Some, Result}
 use Rattle.std.proofs.Common.{Ok, Err, sym, ap, refl, subst, append-nil, append_assoc}
 use Rattle.std.proofs.lemmas.List.Concat.{flat_map-append}
 use Rattle.std.specs.Bool.{⊤}
@@ -14,10 +14,8 @@ use Rattle.warc_core.specs.Walk.{record_at, Walks}
 use Rattle.devices.proofs.DeviceLemmas.{Appends-none, Appends-join, AppendsPrefix-behind}
 use Rattle.warc_core.proofs.SpelledLemmas.{total}
 use Rattle.warc_core.proofs.WalkLemmas.{Walks-more, none_at_end, walk-extends}
-use Rattle.capture_core.specs.declared.fault.CaptureFault.TheVariants.{Archive, LineTooLong, KeyTooLong}
 use Rattle.index_core.specs.declared.fault.IndexFault.{IndexFault}
-use Rattle.index_core.specs.declared.fault.IndexFault.TheVariants as faults
-use Rattle.index_core.specs.Report.{RecordLine, report_lines, fault_line, IsReport, Reported, ReportedToFault}
+use Rattle.index_core.specs.Report.{RecordLine, report_lines, fault_line, IsReport, Reported}
 use Rattle.index_core.specs.Report.{ReportedInPart, Reports, WritesFault}
 
 -- this text is the record's line, where the archive is known
@@ -41,8 +39,7 @@ SoFar limit line tally (Some archive) (Some rest) offset answer before after =
 -- for want of memory any reading may stop
 pub stopped_anywhere : {A : Type 0} (f : List ℕ → Result (A × List ℕ) Cause) (c : Cause)
     (before after : Option (List ℕ)) → c ≡ causes.Memory → Reads f (Err c) before after
-stopped_anywhere f c None after e = tt
-stopped_anywhere f c (Some z) after e = cc
+stopped_anywhere f c before after e = grind arith
 
 module _ (limit : ℕ) (line : RecordLine) where
   -- the archive's report goes on where the lines of its first records end
@@ -80,46 +77,18 @@ module _ (limit : ℕ) (line : RecordLine) where
   module _ {A : Type 0} (tally : List ℕ → List HeadView → A) where
     pub SoFar-start : (left written : Option (List ℕ)) (x : A) → ((archive : List ℕ) → x ≡ tally archive [])
         → SoFar limit line tally left (prepend_known [] left) 0 x written written
-    SoFar-start None written x e = tt
-    SoFar-start (Some archive) written x e = ([], (refl, refl), e archive, Appends-none written)
+    SoFar-start left written x e = grind (arith, Appends-none)
 
     pub SoFar-more : (left now after : Option (List ℕ)) (o : ℕ) (x y : A) (h : HeadView) (text : List ℕ)
         (w v u : Option (List ℕ)) → SoFar limit line tally left now o x w v
         → Reads (record_at limit o) (Ok (Some h)) now after → IsLine line left h text → CountsOn tally left h x y
         → Appends v u text → SoFar limit line tally left after (o + record_length h) y w u
-    SoFar-more None now after o x y h text w v u s r l k a = tt
-    SoFar-more (Some archive) None after o x y h text w v u s r l k a = absurd s
-    SoFar-more (Some archive) (Some z) None o x y h text w v u s r l k a = absurd r
-    SoFar-more (Some archive) (Some z) (Some later) o x y h text w v u s r l k a = (
-      s.0 ++ h ∷ [],
-      Walks-more limit 0 archive s.0 o z h later s.1 r,
-      k archive s.0 refl s.2,
-      subst (Appends w u) (sym (one_more archive s.0 h))
-          (Appends-join w v u (report_lines line archive s.0) (line archive h) s.3
-          (subst (Appends v u) (l archive refl) a)),
-    )
+    SoFar-more left now after o x y h text w v u s r l k a = grind (arith, Walks-more, one_more, Appends-join)
 
     pub SoFar-end : (left now after : Option (List ℕ)) (o : ℕ) (x : A) (w v : Option (List ℕ))
         → SoFar limit line tally left now o x w v → Reads (record_at limit o) (Ok None) now after
         → Reported limit line tally left x w v
-    SoFar-end None now after o x w v s r = tt
-    SoFar-end (Some archive) None after o x w v s r = absurd s
-    SoFar-end (Some archive) (Some z) None o x w v s r = absurd r
-    SoFar-end (Some archive) (Some z) (Some y) o x w v s r = grind (arith, none_at_end)
-
-    SoFar-fault : (left now after : Option (List ℕ)) (o : ℕ) (x : A) (f : Fault) (w v u : Option (List ℕ))
-        → SoFar limit line tally left now o x w v → Reads (record_at limit o) (Err f.cause) now after → f.offset ≡ o
-        → Appends v u (fault_line f) → ReportedToFault limit line left f w u
-    SoFar-fault None now after o x f w v u s r e a = tt
-    SoFar-fault (Some archive) None after o x f w v u s r e a = absurd s
-    SoFar-fault (Some archive) (Some z) after o x f w v u s r e a = (
-      s.0,
-      z,
-      grind arith,
-      grind arith,
-      Appends-join w v u (report_lines line archive s.0)
-          (fault_line f) s.3 a,
-    )
+    SoFar-end left now after o x w v s r = grind (arith, none_at_end)
 
     -- the output failed in the line of a fault
     SoFar-cut : (left now after : Option (List ℕ)) (o : ℕ) (x : A) (f : Fault) (w v u : Option (List ℕ))
@@ -159,14 +128,4 @@ module _ (limit : ℕ) (line : RecordLine) where
         (w v u : Option (List ℕ)) (k k' : ℕ) → SoFar limit line tally left now o x w v
         → Reads (record_at limit o) (Err fault.cause) now after → fault.offset ≡ o → WritesFault fault given v u k k'
         → Reports limit line tally left (Err given) w u
-    fault_reported fault faults.Memory left now after o x w v u k k' s r e h = h
-    fault_reported fault faults.BadName left now after o x w v u k k' s r e h = h
-    fault_reported fault faults.DuplicateName left now after o x w v u k k' s r e h = h
-    fault_reported fault faults.NoRecord left now after o x w v u k k' s r e h = h
-    fault_reported fault (faults.Capture (LineTooLong g)) left now after o x w v u k k' s r e h = h
-    fault_reported fault (faults.Capture (KeyTooLong g)) left now after o x w v u k k' s r e h = h
-    fault_reported fault (faults.Capture (Archive f)) left now after o x w v u k k' s r e h =
-        subst (λ g. ReportedToFault limit line left g w u) (sym h.0)
-        (SoFar-fault left now after o x fault w v u s r e h.1)
-    fault_reported fault faults.Write left now after o x w v u k k' s r e h = SoFar-cut left now after o x fault w v u s
-        r e h.0
+    fault_reported fault given left now after o x w v u k k' s r e h = grind (arith, Appends-join, SoFar-cut)

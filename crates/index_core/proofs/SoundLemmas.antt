@@ -1,10 +1,10 @@
 -- Captures that stay sound: each has its own place, under a name that was added.
-use Rattle.std.proofs.Common.{◌≡◌, ◌∙◌, ℕ, ◌<◌, true, ◌||◌, List, [], ◌∷◌, ◌++◌, Option, None, Some, IfSome}
-use Rattle.std.proofs.Common.{option_to_list, ap, refl, append-nil, arith}
+use Rattle.std.proofs.Common.{◌≡◌, ◌∙◌, ℕ, ◌<◌, true, List, [], ◌∷◌, ◌++◌, Option, IfSome}
+use Rattle.std.proofs.Common.{option_to_list, ap, append-nil, arith}
 use Rattle.std.specs.Ordering.{ordering_then}
 use Rattle.std.specs.FinMap.{slice_cmp-IsAntisymmetric, nat_cmp-IsAntisymmetric}
 use Rattle.std.specs.declared.cmp.Ordering.{Ordering}
-use Rattle.std.specs.declared.cmp.Ordering.TheVariants.{Less, Equal, Greater}
+use Rattle.std.specs.declared.cmp.Ordering.TheVariants.{Equal}
 use Rattle.std.proofs.lemmas.List.Folds.{list_any-append}
 use Rattle.std.proofs.lemmas.Slice.Eq.{bytes_eq-Decides}
 use Rattle.warc_core.specs.HeadView.{HeadView}
@@ -18,9 +18,7 @@ use Rattle.index_core.specs.Captures.{StandBefore}
 -- ---- places
 
 both_equal : (a b : Ordering) → ordering_then a b ≡ Equal → (a ≡ Equal) × (b ≡ Equal)
-both_equal Less b e = cc
-both_equal Equal b e = (refl, e)
-both_equal Greater b e = cc
+both_equal a b e = grind arith
 
 -- a capture that stands before the offset has another place than one at the offset
 apart : (name : List ℕ) (o : ℕ) (x e : EntryValue) → e.offset ≡ o → e.filename ≡ name
@@ -36,27 +34,21 @@ places_push name o (x ∷ xs) e at named before own = (
   places_push name o xs e at named before.1 own.1,
 )
 
-before_more : (name : List ℕ) (o p : ℕ) (xs : List EntryValue) → o < p → StandBefore name o xs → StandBefore name p xs
-before_more name o p xs less h = grind (arith, each_weaker)
-
 -- what a record at the offset adds stands before its end
 pub before_step : (name : List ℕ) (limit o p : ℕ) (h : HeadView) (xs : List EntryValue) (captured : Option EntryValue)
     → o < p → h.start ≡ o → IfSome captured (IsEntryOf h name limit) → StandBefore name o xs
     → StandBefore name p (xs ++ option_to_list captured)
-before_step name limit o p h xs None less at e before = grind (arith, append-nil, before_more)
-before_step name limit o p h xs (Some x) less at e before = grind (arith, each_join, before_more)
+before_step name limit o p h xs captured less at e before = grind (arith, append-nil, each_weaker, each_join)
 
 -- what a record adds has the archive's name
 pub named_step : (limit : ℕ) (name : List ℕ) (h : HeadView) (xs : List EntryValue) (captured : Option EntryValue)
     → IfSome captured (IsEntryOf h name limit) → AreNamed name xs → AreNamed name (xs ++ option_to_list captured)
-named_step limit name h xs None e named = grind (arith, append-nil)
-named_step limit name h xs (Some x) e named = grind (arith, each_join)
+named_step limit name h xs captured e named = grind (arith, append-nil, each_join)
 
 pub sound_step : (limit : ℕ) (names : List (List ℕ)) (name : List ℕ) (o : ℕ) (h : HeadView) (xs : List EntryValue)
     (captured : Option EntryValue) → is_among names name ≡ true → h.start ≡ o → IfSome captured (IsEntryOf h name limit)
     → StandBefore name o xs → AreSound limit names xs → AreSound limit names (xs ++ option_to_list captured)
-sound_step limit names name o h xs None used at e before s = grind (arith, append-nil)
-sound_step limit names name o h xs (Some x) used at e before s = grind (arith, places_push, each_join)
+sound_step limit names name o h xs captured used at e before s = grind (arith, append-nil, places_push, each_join)
 
 -- ---- names
 

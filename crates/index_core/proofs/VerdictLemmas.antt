@@ -4,14 +4,12 @@ use Rattle.std.proofs.Common.{length, take, drop, ap, length-append, arith}
 use Rattle.std.proofs.lemmas.List.Sums.{sum_by-append}
 use Rattle.std.proofs.Math.Seq.{drop-append_seam}
 use Rattle.warc_core.specs.declared.fault.Cause.{Cause}
-use Rattle.warc_core.specs.declared.fault.Cause.TheVariants as causes
 use Rattle.warc_core.specs.HeadView.{HeadView, block_at}
 use Rattle.warc_core.specs.Next.{next_at}
-use Rattle.warc_core.specs.Reading.{◌>>=◌, Reads, IsFoundIn}
+use Rattle.warc_core.specs.Reading.{◌>>=◌, Reads}
 use Rattle.warc_core.specs.Record.{after_record}
 use Rattle.warc_core.proofs.ArchiveLemmas.{walk-front, next-spelled}
 use Rattle.block_digests.specs.declared.verdict.Verdict.{Verdict}
-use Rattle.block_digests.specs.declared.verdict.Verdict.TheVariants as verdicts
 use Rattle.capture_core.specs.BlockDigest.{judge_record}
 use Rattle.index_core.specs.Verifying.{verdict_on, verdict_in, verdict_line, verification_line, differing_by, Judged}
 use Rattle.index_core.specs.Verifying.{verified_in, verified_of}
@@ -31,31 +29,22 @@ judged_record judge n z w v h = grind arith
 
 refused : (judge : List ℕ → Verdict) (n : ℕ) (z : List ℕ) (c : Cause) (r : Result (Unit {0} × List ℕ) Cause)
     → (◌>>=◌ {B = Verdict × List ℕ} r (λ rest. Ok (judge (take n z), rest.1))) ≡ Err c → r ≡ Err c
-refused judge n z c (Err d) h = cc
-refused judge n z c (Ok (u, rest)) h = cc
+refused judge n z c r h = grind arith
 
 refused_record : (judge : List ℕ → Verdict) (n : ℕ) (z : List ℕ) (c : Cause) → judge_record judge n z ≡ Err c
     → after_record n z ≡ Err c
 unfolding judge_record
 refused_record judge n z c h = refused judge n z c (after_record n z) h
 
-found_record : (judge : List ℕ → Verdict) (n : ℕ) (z : List ℕ) (c : Cause) → IsFoundIn c (judge_record judge n z)
-    → IsFoundIn c (after_record n z)
-found_record judge n z causes.Memory h = tt
-found_record judge n z causes.Read h = tt
-found_record judge n z c h = refused_record judge n z c h
-
 -- a judged record was read
 pub judged_reads : (judge : List ℕ → Verdict) (n : ℕ) (v : Verdict) (before after : Option (List ℕ))
     → Reads (judge_record judge n) (Ok v) before after → Reads (after_record n) (Ok tt) before after
-judged_reads judge n v None after h = tt
-judged_reads judge n v (Some z) None h = absurd h
-judged_reads judge n v (Some z) (Some w) h = (judged_record judge n z w v h).0
+judged_reads judge n v before after h = grind (arith, judged_record)
 
 pub judged_met : (judge : List ℕ → Verdict) (n : ℕ) (c : Cause) (before after : Option (List ℕ))
     → Reads (judge_record judge n) (Err c) before after → Reads (after_record n) (Err c) before after
 judged_met judge n c None after h = tt
-judged_met judge n c (Some z) after h = found_record judge n z c h
+judged_met judge n c (Some z) after h = grind (arith, refused_record)
 
 -- the verdict on a record that begins the bytes
 pub judged_verdict : (limit start : ℕ) (h : HeadView) (v : Verdict) (before mid after : Option (List ℕ))
@@ -79,9 +68,7 @@ pub verdict_known : {A : Type 0} (limit : ℕ) (tally : List ℕ → List HeadVi
     (x : A) (w u : Option (List ℕ)) (h : HeadView) (v : Verdict) → SoFar limit verification_line tally left now o x w u
     → h.start ≡ o → IfSome now (λ bytes. v ≡ verdict_on h (block_at h bytes)) → (archive : List ℕ) → left ≡ Some archive
     → v ≡ verdict_in archive h
-verdict_known limit tally None now o x w u h v s b t archive e = cc
-verdict_known limit tally (Some a) None o x w u h v s b t archive e = absurd s
-verdict_known limit tally (Some a) (Some z) o x w u h v s b t archive e = grind (arith, walk-front, behind)
+verdict_known limit tally left now o x w u h v s b t archive e = grind (arith, walk-front, behind)
 
 pub is_line : (left : Option (List ℕ)) (h : HeadView) (v : Verdict)
     → ((archive : List ℕ) → left ≡ Some archive → v ≡ verdict_in archive h)
@@ -100,7 +87,4 @@ pub one_judged : (judged : List Judged) (j : Judged) (n d : ℕ)
 one_judged judged j n d k = grind (arith, judged, length-append, sum_by-append)
 
 pub one_at_most : (v : Verdict) → differing_by v ≤ 1
-one_at_most verdicts.Same = omega arith
-one_at_most verdicts.Differs = omega arith
-one_at_most verdicts.NotSha1 = omega arith
-one_at_most verdicts.Absent = omega arith
+one_at_most v = grind arith

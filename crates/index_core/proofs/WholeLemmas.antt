@@ -2,11 +2,8 @@
 use Rattle.std.proofs.Common.{◌≡◌, ◌∙◌, ℕ, ◌+◌, ◌<◌, Bool, List, [], ◌∷◌, Some, Ok, length, sym, arith}
 use Rattle.std.specs.List.{AllByRecursion}
 use Rattle.warc_core.specs.Kind.{Kind}
-use Rattle.warc_core.specs.declared.fault.Cause.{Cause}
-use Rattle.warc_core.specs.declared.fault.Cause.TheVariants as causes
 use Rattle.warc_core.specs.HeadView.{HeadView, record_length}
 use Rattle.warc_core.specs.Next.{next_at}
-use Rattle.warc_core.specs.Reading.{IsFoundIn}
 use Rattle.warc_core.specs.Walk.{record_at, Walks}
 use Rattle.warc_core.proofs.ArchiveLemmas.{walk-front}
 use Rattle.warc_core.proofs.ReadingLemmas.{answered}
@@ -14,25 +11,15 @@ use Rattle.warc_core.proofs.SpelledLemmas.{read-spelled}
 use Rattle.warc_core.proofs.WalkLemmas.{not_both}
 use Rattle.cdxj_core.specs.Entries.{EntryValue, line_text}
 use Rattle.capture_core.specs.declared.fault.CaptureFault.{CaptureFault}
-use Rattle.capture_core.specs.declared.fault.CaptureFault.TheVariants.{Archive, LineTooLong, KeyTooLong}
 use Rattle.capture_core.specs.CaptureAnswer.{Limits}
 use Rattle.index_core.specs.Accepted.{IsCaptureAt, IsTaken, IsAcceptedTo, IsAcceptedWhole}
 use Rattle.index_core.specs.Laws.{IsNoFaultOfArchive, WholeIsNotRefused}
-use Rattle.index_core.specs.Report.{IsNoDamage}
 use Rattle.index_core.proofs.VerdictLemmas.{behind}
 
 -- no record is read at the end
 none_behind : (limit start : ℕ) (h : HeadView) (rest : List ℕ) → record_at limit start [] ≡ Ok (Some h, rest) → ⊥
 unfolding record_at next_at
 none_behind limit start h rest r = grind arith
-
--- no cause is found in whole records
-no_damage : (limit : ℕ) (archive : List ℕ) (heads gs : List HeadView) (end o : ℕ) (c : Cause) (rest : List ℕ)
-    → Walks limit 0 archive heads end [] → Walks limit 0 archive gs o rest → IsFoundIn c (record_at limit o rest)
-    → IsNoDamage c
-no_damage limit archive heads gs end o causes.Memory rest v w h = tt
-no_damage limit archive heads gs end o causes.Read rest v w h = tt
-no_damage limit archive heads gs end o c rest v w h = grind (arith, not_both)
 
 -- what holds of the records of an archive holds of one that is read where a walk stopped
 record_among : (A : HeadView → Type 0) (limit start : ℕ) (bytes : List ℕ) (heads gs : List HeadView) (end o : ℕ)
@@ -63,9 +50,7 @@ module _ (types : Kind → Bool) (limits : Limits) (limit : ℕ) (name archive :
 
   no_fault : (fault : CaptureFault) (gained : List EntryValue)
       → IsAcceptedTo types limits limit name fault archive gained → IsNoFaultOfArchive fault
-  no_fault (Archive f) gained t = grind (arith, no_damage)
-  no_fault (LineTooLong o) gained t = grind (arith, no_long_line)
-  no_fault (KeyTooLong o) gained t = tt
+  no_fault fault gained t = grind (arith, not_both, no_long_line)
 
 pub whole_is_not_refused : WholeIsNotRefused
 whole_is_not_refused types limits limit name archive gained fault a g = no_fault types limits limit name archive a fault

@@ -1,6 +1,6 @@
 -- Lines at fault, by where the cursor stands.
-use Rattle.std.proofs.Common.{◌≡◌, ℕ, ◌+◌, ◌-◌, ◌<◌, ◌≤◌, List, [], ◌∷◌, ◌++◌, Bool, true, false, cond, length}
-use Rattle.std.proofs.Common.{take, drop, map, None, Some, refl, sym, ap, ap₂, ◌∙◌, arith, length-take}
+use Rattle.std.proofs.Common.{◌≡◌, ℕ, ◌+◌, ◌-◌, ◌<◌, ◌≤◌, List, [], ◌∷◌, ◌++◌, Bool, cond, length}
+use Rattle.std.proofs.Common.{take, drop, map, Some, refl, sym, ap, ap₂, ◌∙◌, arith, length-take}
 use Rattle.std.proofs.Common.{append_assoc, take-append-drop, is_gt}
 use Rattle.std.specs.Ordering.{ordering_reverse}
 use Rattle.std.proofs.lemmas.Bool.{cases_lt}
@@ -15,7 +15,6 @@ use Rattle.source_core.specs.IndexLines.{first_length}
 use Rattle.source_core.specs.LinesAtFault.{IsOutOfOrder, LineBeginsAt}
 use Rattle.source_core.proofs.SortedCuts.{begins_at}
 use Rattle.merge_core.specs.declared.fault.FeedFault.{FeedFault}
-use Rattle.merge_core.specs.declared.fault.FeedFault.TheVariants as fault
 use Rattle.merge_core.specs.declared.feed.Progress.TheVariants.{Due}
 use Rattle.merge_core.specs.declared.feed.Feed.{Feed}
 use Rattle.line_queue.specs.PairOrders.{Below}
@@ -26,16 +25,10 @@ use Rattle.line_queue.proofs.PairOrder.{below_then}
 use Rattle.merge_core.proofs.FeedLemmas.{ReadNext, done_due, after_taken}
 
 body_length : (b : Bool) (line : List ℕ) → length line ≤ length (cond b (take (length line - 1) line) line) + 1
-body_length true line = grind (arith, length-take)
-body_length false line = omega arith
-
--- a line that is too long, with its line feed, if it has one
-long_none : (limit : ℕ) (line : List ℕ) → limit < length line → line_entry limit line ≡ None
-long_none limit line long = grind (arith, body_length, long_line_none)
+body_length b line = grind (arith, length-take)
 
 pub first_long : (limit : ℕ) (ls : List (List ℕ)) → limit < first_length ls → IsBadFirst limit ls
-first_long limit [] long = absurd (omega arith)
-first_long limit (l ∷ ls) long = (l, ls, refl, long_none limit l long)
+first_long limit ls long = grind (arith, body_length, long_line_none)
 
 -- where lines are left, the offset lies within the text
 inside : (t : List ℕ) (at : ℕ) (line : List ℕ) (after : List (List ℕ)) → lines (drop at t) ≡ line ∷ after
@@ -72,10 +65,7 @@ module _ {limit : ℕ} {past : List ℕ → Bool} {t : List ℕ} {extent : ℕ} 
       }
 
   pub bad_named : (e : FeedFault) → IsFeedFaultAt limit (lines (drop f.cursor.at t)) f.cursor.at e → NamesLine limit t e
-  bad_named fault.Memory h = tt
-  bad_named fault.Read h = tt
-  bad_named (fault.BadLine offset) h = grind (arith, begins_here)
-  bad_named (fault.OutOfOrder offset) h = absurd h
+  bad_named e h = grind (arith, begins_here)
 
   -- the next line has a pair below that of the last line before it
   pub order_named : (pair : Pair) (new : CursorState) (m : Member) → f.progress ≡ Due → EndsAt pair (done limit t f)

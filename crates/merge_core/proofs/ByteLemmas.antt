@@ -39,8 +39,7 @@ row_most limit l m e =
     omega (arith, length-append m.line (10 ∷ []))
   where
     body_most : (b : Bool) (line : List ℕ) → length line ≤ length (cond b (take (length line - 1) line) line) + 1
-    body_most true line = grind (arith, length-take)
-    body_most false line = omega arith
+    body_most b line = grind (arith, length-take)
 
 rows_most : (limit : ℕ) (ls : List (List ℕ)) (ms : List Member) → map (line_entry limit) ls ≡ map Some ms
     → bytes_of ls ≤ length (lines_text ms)
@@ -84,8 +83,7 @@ module _ (limit : ℕ) (past : List ℕ → Bool) (start : Pair) (b : Option Pai
     -- sources that tell their bytes, beside their feeds
     pub tell_both : (ss : List S) (fs : List Feed) (texts : List (List ℕ)) → length ss ≡ length fs
         → Known (map text ss) texts → AllZip (λ (t : List ℕ) (x : S × Feed). text x.0 ≡ Some t) texts (zip ss fs)
-    tell_both [] fs [] same known = tt
-    tell_both [] fs (t ∷ ts) same known = absurd known
+    tell_both [] fs texts same known = grind arith
     tell_both (s ∷ ss) [] ts same known = absurd (omega arith)
     tell_both (s ∷ ss) (f ∷ fs) [] same known = absurd known
     tell_both (s ∷ ss) (f ∷ fs) (t ∷ ts) same known = (known.0, tell_both ss fs ts (omega arith) known.1)
@@ -99,10 +97,7 @@ module _ (limit : ℕ) (past : List ℕ → Bool) (start : Pair) (b : Option Pai
         → AllByRecursion (λ x. IsCutAt limit start (text x.0) x.1.cursor) xs1
         → AllByRecursion (λ x. (t : List ℕ) → text x.0 ≡ Some t → ReadTo limit past b t x.1.cursor) xs
         → AllGaveWithin extent gave test texts indexes ss0 (map (λ x. x.0) xs)
-    gave_most [] [] [] [] [] known tells are came moved cut reads = tt
-    gave_most [] [] [] [] (i ∷ is) known tells are came moved cut reads = absurd are
-    gave_most [] [] [] (t ∷ ts) is known tells are came moved cut reads = absurd known
-    gave_most [] [] (x ∷ xs) ts is known tells are came moved cut reads = absurd moved
+    gave_most [] [] xs ts is known tells are came moved cut reads = grind arith
     gave_most [] (y ∷ ys) xs ts is known tells are came moved cut reads = absurd came
     gave_most (s ∷ ss) [] xs ts is known tells are came moved cut reads = absurd came
     gave_most (s ∷ ss) (y ∷ ys) [] ts is known tells are came moved cut reads = absurd moved

@@ -13,7 +13,6 @@ use Rattle.cdxj_core.specs.Indexes.{IsIndex}
 use Rattle.cdxj_core.specs.Members.{Member, member_pair}
 use Rattle.source_core.specs.Search.{IsCut}
 use Rattle.merge_core.specs.declared.feed.Progress.{Progress}
-use Rattle.merge_core.specs.declared.feed.Progress.TheVariants.{Due, Waiting, Past, Ended}
 use Rattle.merge_core.specs.declared.feed.Feed.{Feed}
 use Rattle.line_queue.specs.PairOrders.{IsUpto, is_low}
 use Rattle.line_queue.specs.WaitingLines.{WaitingLine}
@@ -27,10 +26,7 @@ use Rattle.merge_core.proofs.ReadLines.{members_are}
 use Rattle.merge_core.proofs.StartLemmas.{run_after}
 
 pub one_held : (p : Progress) → held p ≤ 1
-one_held Due = omega arith
-one_held Waiting = omega arith
-one_held Past = omega arith
-one_held Ended = omega arith
+one_held p = grind arith
 
 -- Lines were read of sources that are indexes, from where the search for a pair ended; this test holds of all lines
 -- that lie within the range, aren't below the pair and don't stand above the bound

@@ -1,7 +1,7 @@
 -- What one line more makes of a feed.
 use Rattle.std.proofs.lemmas.List.{map-append}
-use Rattle.std.proofs.Common.{true, inl, inr, ◌⊎◌}
-use Rattle.std.proofs.Common.{◌≡◌, Ordering, Less, Equal, Greater, ℕ, zero, suc, ◌+◌, ◌-◌, ◌≤◌, List, [], ◌∷◌, ◌++◌}
+use Rattle.std.proofs.Common.{true, ◌⊎◌}
+use Rattle.std.proofs.Common.{◌≡◌, Ordering, Equal, ℕ, zero, suc, ◌+◌, ◌-◌, ◌≤◌, List, [], ◌∷◌, ◌++◌}
 use Rattle.std.proofs.Common.{length, refl, ap, ◌∙◌, arith, Bool, false, Option, Some, None}
 use Rattle.std.proofs.Common.{take, drop, map, append-nil, length-append}
 use Rattle.std.specs.List.{AllByRecursion}
@@ -22,7 +22,7 @@ use Rattle.cdxj_core.proofs.MemberLemmas.{entry_is_short}
 use Rattle.source_core.specs.Cursors.{CursorState, Stands}
 use Rattle.source_core.specs.IndexLines.{BeginsAfter, first_length}
 use Rattle.merge_core.specs.declared.feed.Progress.{Progress}
-use Rattle.merge_core.specs.declared.feed.Progress.TheVariants.{Due, Waiting, Past, Ended}
+use Rattle.merge_core.specs.declared.feed.Progress.TheVariants.{Due, Waiting, Past}
 use Rattle.merge_core.specs.declared.feed.Feed.{Feed}
 use Rattle.line_queue.specs.PairOrders.{Alike, Upto}
 use Rattle.merge_core.specs.Gathering.{EndsAt}
@@ -31,13 +31,11 @@ use Rattle.line_queue.proofs.PairOrder.{upto_both}
 
 pub no_entry : (limit : ℕ) (line : List ℕ) (o : Option Member) → o ≡ line_entry limit line
     → limit ≤ length (body_of line) → o ≡ None
-no_entry limit line None e h = refl
-no_entry limit line (Some m) e h = grind (arith, entry_is_short)
+no_entry limit line o e h = grind (arith, entry_is_short)
 
 take_suc_at : {X : Type 0} (n : ℕ) (all : List X) (x : X) (rest : List X) → drop n all ≡ x ∷ rest → take (suc n) all
     ≡ take n all ++ x ∷ []
-take_suc_at zero [] x rest e = cc
-take_suc_at zero (y ∷ ys) x rest e = cc
+take_suc_at zero all x rest e = grind arith
 take_suc_at (suc n) [] x rest e = cc
 take_suc_at (suc n) (y ∷ ys) x rest e = ap (λ u. y ∷ u) (take_suc_at n ys x rest e)
 
@@ -58,13 +56,9 @@ after_taken {X = X} n xs x e = suc_taken n xs (ap (λ k. take k xs) (let q : suc
   where
     suc_taken : (k : ℕ) (us : List X) → take (suc k) us ≡ take k us ++ x ∷ [] → (after : List X)
         × (drop k us ≡ x ∷ after)
-    suc_taken zero [] e = absurd (cc)
-    suc_taken zero (u ∷ us) e = (us, let q : u ≡ x = cc in ap (λ y. y ∷ us) q)
+    suc_taken zero us e = grind arith
     suc_taken (suc k) [] e = absurd (cc)
     suc_taken (suc k) (u ∷ us) e = suc_taken k us (grind arith)
-
-pub bytes_push : (ls : List (List ℕ)) (l : List ℕ) → bytes_of (ls ++ l ∷ []) ≡ bytes_of ls + length l
-bytes_push ls l = grind (arith, flat_map-append, length-append, append-nil)
 
 pub take_map : {X Y : Type 0} (f : X → Y) (k n : ℕ) (xs : List X) → k ≤ n → take k (map f (take n xs))
     ≡ map f (take k xs)
@@ -82,10 +76,7 @@ falls_push (x ∷ xs) y h k = grind (arith, each_join, falls_push xs y h.1 k.1)
 next_is : (past : List ℕ → Bool) (m : Member) (p : Progress) (ws : List Member) → IsNext past m p ws
     → ((p ≡ Waiting) × (ws ≡ m ∷ []) × (past m.values.key ≡ false))
     ⊎ ((p ≡ Past) × (ws ≡ []) × (past m.values.key ≡ true))
-next_is past m Due ws n = absurd n
-next_is past m Waiting ws n = inl (refl, n.0, n.1)
-next_is past m Past ws n = inr (refl, n.0, n.1)
-next_is past m Ended ws n = absurd n
+next_is past m p ws n = grind arith
 
 -- a line that has the pair of the last one, which lies within the range, lies within it
 pub same_stays : (past : List ℕ → Bool) (pair : Pair) (m : Member) (ms : List Member)
@@ -108,9 +99,7 @@ same_stays past pair m ms within low end alike =
     each_last P (u ∷ us) h = each_last P us h.1
 
     then_equal : (a b : Ordering) → ordering_then a b ≡ Equal → a ≡ Equal
-    then_equal Less b e = cc
-    then_equal Equal b e = refl
-    then_equal Greater b e = cc
+    then_equal a b e = grind arith
 
 -- the limit of a line, in bytes
 module _ (limit : ℕ) where
@@ -176,7 +165,7 @@ module _ {limit : ℕ} {past : List ℕ → Bool} {text : Option (List ℕ)} {ex
       (rw (given_old t) at (r.low t e))))
 
   stood_more : (t : List ℕ) → text ≡ Some t → f.cursor.at ≤ f.cursor.start + bytes_of (read_lines t f.cursor)
-  stood_more t e = grind (arith, after_taken, bytes_push)
+  stood_more t e = grind (arith, after_taken, flat_map-append, length-append, append-nil)
 
   many_more : (t : List ℕ) → text ≡ Some t → length (read_lines t f.cursor) ≡ f.cursor.count
   many_more t e = grind (arith, length-append)

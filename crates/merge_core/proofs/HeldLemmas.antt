@@ -3,7 +3,7 @@ use Rattle.std.proofs.lemmas.List.{take-map, length-map, map-append}
 use Rattle.std.specs.List.{AllZip, AllByRecursion}
 use Rattle.std.proofs.Common.{◌≡◌, ℕ, zero, suc, ◌+◌, ◌<◌, ◌≤◌, List, [], ◌∷◌, ◌++◌}
 use Rattle.std.proofs.Common.{length, take, drop, map, filter, Bool, true, false, not, Option, Some, refl, sym, ap, ◌∙◌}
-use Rattle.std.proofs.Common.{arith, length-append, Ordering, Less, Equal, Greater, is_gt, is_lt, is_eq}
+use Rattle.std.proofs.Common.{arith, length-append, Ordering, is_gt, is_lt, is_eq}
 use Rattle.merge_core.proofs.Filters.{each_filter, filter_split, filter_fewer, filter_weaker, filter_front, filter_back}
 use Rattle.std.proofs.lemmas.List.Elements.{filter-append}
 use Rattle.cdxj_places.specs.Pairs.{Pair, pair_cmp}
@@ -87,9 +87,7 @@ at_pair : (pair : Pair) (m : Member) → Upto (member_pair m) pair → not (is_l
 at_pair pair m u = at_order (pair_cmp (member_pair m) pair) u
   where
     at_order : (r : Ordering) → is_gt r ≡ false → not (is_lt r) ≡ true → is_eq r ≡ true
-    at_order Less g h = cc
-    at_order Equal g h = refl
-    at_order Greater g h = cc
+    at_order r g h = grind arith
 
 module _ {S : Type 0} {limit : ℕ} {text : S → Option (List ℕ)} {past : List ℕ → Bool} {extent gave : S → ℕ}
     {old ss0 ss : List S} {old_fs fs0 fs : List Feed} {ws0 ws : List WaitingLine} {b c : Option Pair} {pair : Pair}

@@ -1,7 +1,7 @@
 -- Lists of sources and feeds, seen as one list of pairs.
 use Rattle.std.specs.List.{AllZip, AllByRecursion, sum}
 use Rattle.std.proofs.Common.{◌≡◌, ℕ, zero, suc, ◌+◌, ◌-◌, ◌<◌, List, [], ◌∷◌, refl, sym, ap, ◌∙◌, arith, Option}
-use Rattle.std.proofs.Common.{Some, None, true, length, get_or, set, map, zip}
+use Rattle.std.proofs.Common.{Some, true, length, get_or, set, map, zip}
 use Rattle.std.specs.Option.{is_some}
 use Rattle.std.proofs.lemmas.List.Sums.{sum_by-cons}
 use Rattle.merge_core.specs.declared.feed.Feed.{Feed}
@@ -9,14 +9,12 @@ use Rattle.merge_core.specs.Feeds.{Moved}
 use Rattle.merge_core.specs.Gathering.{text_or, unread}
 
 pub is_told : (o : Option (List ℕ)) → is_some o ≡ true → o ≡ Some (text_or o)
-is_told None e = cc
-is_told (Some t) e = refl
+is_told o e = grind arith
 
 pub zip_set : {A B : Type 0} (xs : List A) (ys : List B) (i : ℕ) (x : A) (y : B) → zip (set xs i x) (set ys i y)
     ≡ set (zip xs ys) i (x, y)
 zip_set [] ys i x y = refl
-zip_set (a ∷ xs) [] zero x y = refl
-zip_set (a ∷ xs) [] (suc i) x y = refl
+zip_set (a ∷ xs) [] i x y = grind arith
 zip_set (a ∷ xs) (b ∷ ys) zero x y = refl
 zip_set (a ∷ xs) (b ∷ ys) (suc i) x y = ap (λ l. (a, b) ∷ l) (zip_set xs ys i x y)
 
@@ -41,8 +39,7 @@ map_set_same f (x ∷ xs) (suc i) d y l e = ap (λ v. f x ∷ v) (map_set_same f
 pub two_set : {X : Type 0} (R : X → X → Type 0) → ((x y z : X) → R x y → R y z → R x z)
     → (olds news : List X) (i : ℕ) (d y : X) → AllZip R olds news → i < length news → R (get_or news i d) y
     → AllZip R olds (set news i y)
-two_set R trans [] [] i d y h l r = absurd (omega arith)
-two_set R trans [] (n ∷ news) i d y h l r = absurd h
+two_set R trans [] news i d y h l r = grind arith
 two_set R trans (o ∷ olds) [] i d y h l r = absurd h
 two_set R trans (o ∷ olds) (n ∷ news) zero d y h l r = (trans o n y h.0 r, h.1)
 two_set R trans (o ∷ olds) (n ∷ news) (suc i) d y h l r = (h.0, two_set R trans olds news i d y h.1 (omega arith) r)
@@ -53,15 +50,13 @@ two_same R same (x ∷ xs) = (same x, two_same R same xs)
 
 pub two_each : {X : Type 0} (R : X → X → Type 0) (P Q : X → Type 0) → ((x y : X) → R x y → P x → Q y) → (xs ys : List X)
     → AllZip R xs ys → AllByRecursion P xs → AllByRecursion Q ys
-two_each R P Q f [] [] h p = tt
-two_each R P Q f [] (y ∷ ys) h p = absurd h
+two_each R P Q f [] ys h p = grind arith
 two_each R P Q f (x ∷ xs) [] h p = absurd h
 two_each R P Q f (x ∷ xs) (y ∷ ys) h p = (f x y h.0 p.0, two_each R P Q f xs ys h.1 p.1)
 
 two_trans : {X : Type 0} (R : X → X → Type 0) → ((x y z : X) → R x y → R y z → R x z) → (xs ys zs : List X)
     → AllZip R xs ys → AllZip R ys zs → AllZip R xs zs
-two_trans R t [] [] zs h k = k
-two_trans R t [] (y ∷ ys) zs h k = absurd h
+two_trans R t [] ys zs h k = grind arith
 two_trans R t (x ∷ xs) [] zs h k = absurd h
 two_trans R t (x ∷ xs) (y ∷ ys) [] h k = k
 two_trans R t (x ∷ xs) (y ∷ ys) (z ∷ zs) h k = (t x y z h.0 k.0, two_trans R t xs ys zs h.1 k.1)

@@ -1,6 +1,6 @@
 -- One group more of a merge.
-use Rattle.std.proofs.Common.{arith, ◌≡◌, ℕ, Result, Ok, Err, IsErrAnd, OnErr, List, [], ◌∷◌, ◌++◌, refl, sym, ap, ap₂}
-use Rattle.std.proofs.Common.{◌∙◌, Bool, Option, Some, None, map, true, Less, Equal, Greater, Ordering, is_lt, is_gt}
+use Rattle.std.proofs.Common.{arith, ◌≡◌, ℕ, Result, IsErrAnd, OnErr, List, [], ◌∷◌, ◌++◌, refl, sym, ap, ap₂}
+use Rattle.std.proofs.Common.{◌∙◌, Bool, Option, Some, None, map, true, Less, Ordering, is_lt, is_gt}
 use Rattle.std.specs.List.{AllByRecursion}
 use Rattle.std.specs.Ordering.{ordering_reverse}
 use Rattle.cdxj_places.specs.Pairs.{Pair}
@@ -37,9 +37,7 @@ pub place_below : (x y : Member) → Below (member_pair x) (member_pair y) → p
 place_below x y h = grind arith
 
 pub is_less : (r : Ordering) → is_lt r ≡ true → r ≡ Less
-is_less Less e = refl
-is_less Equal e = cc
-is_less Greater e = cc
+is_less r e = grind arith
 
 pub lower_by_pair : (pair : Pair) → IsLower member_place place_cmp (is_low pair)
 lower_by_pair pair x y h k = place_below x y
@@ -102,8 +100,7 @@ pub handed_none : {S : Type 0} (limit : ℕ) (text : S → Option (List ℕ)) (s
 handed_none limit text ss fs e = grind arith
 
 pub on_err : {A E : Type 0} (r : Result A E) (e : E) (P : Type 0) → IsErrAnd r (λ x. x ≡ e) → P → OnErr r P
-on_err (Ok x) e P h p = absurd h
-on_err (Err x) e P h p = p
+on_err r e P h p = grind arith
 
 pub map_seen : {A X Y : Type 0} (f : X → Y) (g : A → X) (xs : List A) → map (λ a. f (g a)) xs ≡ map f (map g xs)
 map_seen f g [] = refl

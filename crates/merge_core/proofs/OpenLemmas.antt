@@ -1,6 +1,6 @@
 -- The opening of sources, one after another.
 use Rattle.std.proofs.Common.{◌≡◌, ◌≢◌, ℕ, zero, suc, ◌+◌, ◌<◌, List, [], ◌∷◌, ◌++◌, length, set, zip, flat_map}
-use Rattle.std.proofs.Common.{map, take, Bool, Option, Some, None, MatchOption, refl, ap, ◌∙◌, arith}
+use Rattle.std.proofs.Common.{map, take, Bool, Option, Some, MatchOption, refl, ap, ◌∙◌, arith}
 use Rattle.std.proofs.Common.{append-nil, length-append}
 use Rattle.std.specs.List.{AllByRecursion, sum}
 use Rattle.std.proofs.lemmas.List.Sums.{sum_by-cons}
@@ -34,8 +34,7 @@ module _ (limit : ℕ) (past : List ℕ → Bool) where
         → Fed limit past (text s) (extent s) f (waits_of (n + i) ws')
         → AreFed limit past text extent n (set ss i s) (fs ++ f ∷ []) ws'
     fed_push n i [] fs ws ws' s f e l h same k = absurd (omega arith)
-    fed_push n zero (x ∷ ss) [] ws ws' s f e l h same k = grind (arith, fed_nil)
-    fed_push n (suc i) (x ∷ ss) [] ws ws' s f e l h same k = absurd (omega arith)
+    fed_push n i (x ∷ ss) [] ws ws' s f e l h same k = grind (arith, fed_nil)
     fed_push n zero (x ∷ ss) (y ∷ fs) ws ws' s f e l h same k = absurd (omega arith)
     fed_push n (suc i) (x ∷ ss) (y ∷ fs) ws ws' s f e l h same k =
         let q : n + suc i ≡ (n + 1) + i = omega arith in (
@@ -51,34 +50,28 @@ module _ (limit : ℕ) (past : List ℕ → Bool) where
         → Fed limit past (text s) (extent s) f (option_list o)
         → AllByRecursion (λ (w : WaitingLine). w.source < length (fs ++ f ∷ [])) ws'
         × AreFed limit past text extent 0 (set ss i s) (fs ++ f ∷ []) ws'
-    fed_added i ss fs ws ws' s f None e l placed h m fed =
-        grind (arith, length-append, each_weaker, fed_push, waits_none)
-    fed_added i ss fs ws ws' s f (Some x) e l placed h m fed =
-        let w : WaitingLine = record { member = x; source = length fs } in
-        let long = length-append fs (f ∷ []) in
-        let here : waits_of (length fs) (w ∷ ws) ≡ x ∷ [] = waits_here (length fs) w ws refl
-        ∙ ap (λ l. x ∷ l) (waits_none (length fs) ws placed) in (
-          each_permuted (λ (w : WaitingLine). w.source < length (fs ++ f ∷ [])) (w ∷ ws) ws' m (
-            omega arith,
-            each_weaker
-                (λ (w : WaitingLine) (p : w.source < length fs).
-                (let q : w.source < length (fs ++ f ∷ []) = omega arith in q)) ws placed,
-          ),
-          fed_permuted limit past text extent 0 (set ss i s) (fs ++ f ∷ []) (w ∷ ws) ws' m
-              (grind (arith, fed_push, waits_other)),
+    fed_added i ss fs ws ws' s f o e l placed h m fed =
+        grind (
+          arith,
+          length-append,
+          each_weaker,
+          fed_push,
+          waits_none,
+          waits_here,
+          each_permuted,
+          fed_permuted,
+          waits_other,
         )
 
 pub zip_none : {A B : Type 0} (xs : List A) (ys : List B) → ys ≡ [] → zip xs ys ≡ []
 zip_none [] ys e = refl
-zip_none (x ∷ xs) [] e = refl
-zip_none (x ∷ xs) (y ∷ ys) e = cc
+zip_none (x ∷ xs) ys e = grind arith
 
 -- one source more, of those that have feeds
 pub zip_push : {A B : Type 0} (xs : List A) (ys : List B) (i : ℕ) (x : A) (y : B) → length ys ≡ i → i < length xs
     → zip (set xs i x) (ys ++ y ∷ []) ≡ zip xs ys ++ (x, y) ∷ []
 zip_push [] ys i x y e l = absurd (omega arith)
-zip_push (a ∷ xs) [] zero x y e l = ap (λ l. (x, y) ∷ l) (zip_none xs [] refl)
-zip_push (a ∷ xs) [] (suc i) x y e l = absurd (omega arith)
+zip_push (a ∷ xs) [] i x y e l = grind (arith, zip_none)
 zip_push (a ∷ xs) (b ∷ ys) zero x y e l = absurd (omega arith)
 zip_push (a ∷ xs) (b ∷ ys) (suc i) x y e l = ap (λ l. (a, b) ∷ l) (zip_push xs ys i x y (omega arith) (omega arith))
 
@@ -94,13 +87,9 @@ pub fed_none : {S : Type 0} (limit : ℕ) (past : List ℕ → Bool) (text : S �
     (ss : List S) (fs : List Feed) (ws : List WaitingLine) → fs ≡ [] → AreFed limit past text extent 0 ss fs ws
 fed_none limit past text extent ss fs ws e = grind (arith, fed_nil)
 
-take_none : {X : Type 0} (n : ℕ) (xs : List X) → xs ≡ [] → take n xs ≡ []
-take_none n xs e = grind arith
-
 pub fresh_of : (limit : ℕ) (text : Option (List ℕ)) (f : Feed) → ((t : List ℕ) → text ≡ Some t → done limit t f ≡ [])
     → done limit (text_or text) f ≡ []
-fresh_of limit (Some t) f h = h t refl
-fresh_of limit None f h = grind (arith, drop_all, take_none)
+fresh_of limit text f h = grind (arith, drop_all)
 
 -- one more of those that are summed
 pub sum_turn : {X : Type 0} (n : X → ℕ) (xs : List X) (i : ℕ) (y : X) → i < length xs

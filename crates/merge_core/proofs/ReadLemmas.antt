@@ -1,7 +1,7 @@
 -- What was taken of sources that are indexes, beside all of their collection.
 use Rattle.std.specs.List.{AllZip, AllByRecursion}
 use Rattle.std.proofs.Common.{◌≡◌, ℕ, ◌+◌, List, [], ◌∷◌, ◌++◌, length, map, filter, zip, Bool, true, false, not}
-use Rattle.std.proofs.Common.{Option, refl, sym, ap, ap₂, ◌∙◌, arith}
+use Rattle.std.proofs.Common.{Option, sym, ap, ap₂, ◌∙◌, arith}
 use Rattle.std.proofs.lemmas.List.Elements.{filter-append}
 use Rattle.cdxj_places.specs.Pairs.{Pair}
 use Rattle.cdxj_places.specs.Places.{place_cmp}
@@ -41,8 +41,7 @@ module _ (limit : ℕ) (past : List ℕ → Bool) (upward : IsUpward past) (upto
       → AllByRecursion (λ m. upto m ≡ true) (all_done limit text ss fs)
       → filter (is_read limit past upward upto) (all_lines highs)
       ≡ filter (stays limit past upward) (all_done limit text ss fs)
-  all_read n [] fs [] same told runs fed settled each = refl
-  all_read n [] fs (i ∷ is) same told runs fed settled each = absurd runs
+  all_read n [] fs highs same told runs fed settled each = grind arith
   all_read n (s ∷ ss) [] highs same told runs fed settled each = absurd (omega arith)
   all_read n (s ∷ ss) (f ∷ fs) [] same told runs fed settled each = absurd runs
   all_read n (s ∷ ss) (f ∷ fs) (i ∷ is) same told runs fed settled each =

@@ -1,8 +1,8 @@
 -- The lines of one source that were come to, among all that it has from its start on.
 use Rattle.std.proofs.Common.{arith, ◌≡◌, inl, inr, ℕ, List, [], ◌∷◌, ◌++◌, refl, sym, ap, ◌∙◌, Bool, true, false, not}
 use Rattle.std.proofs.Common.{◌&&◌, Some, take, drop, map, filter, append-nil, append_assoc, take-append-drop, Less}
-use Rattle.std.proofs.Common.{Equal, Greater, Ordering, is_gt}
-use Rattle.std.proofs.lemmas.Bool.{and_right as false_right, cases_Bool}
+use Rattle.std.proofs.Common.{Greater, Ordering, is_gt}
+use Rattle.std.proofs.lemmas.Bool.{cases_Bool}
 use Rattle.std.proofs.lemmas.List.{take-map, drop-map}
 use Rattle.std.specs.List.{AllByRecursion}
 use Rattle.merge_core.proofs.Filters.{filter_same, filter_out}
@@ -19,7 +19,7 @@ use Rattle.cdxj_places.proofs.RisingLaws.{each_weaker, each_rising, rising_split
 use Rattle.cdxj_core.specs.Indexes.{IsRun}
 use Rattle.cdxj_core.specs.Members.{Member, member_pair, member_place, line_entry}
 use Rattle.merge_core.specs.declared.feed.Progress.{Progress}
-use Rattle.merge_core.specs.declared.feed.Progress.TheVariants.{Due, Waiting, Past, Ended}
+use Rattle.merge_core.specs.declared.feed.Progress.TheVariants.{Due}
 use Rattle.merge_core.specs.declared.feed.Feed.{Feed}
 use Rattle.line_queue.specs.PairOrders.{Upto}
 use Rattle.merge_core.specs.Feeds.{AreWaits, IsHead, IsSettled, Fed, done, given, member_of}
@@ -37,23 +37,15 @@ falls_after (u ∷ us) y vs h = falls_after us y vs h.1
 -- ---- Bools
 
 pub and_left : (a b : Bool) → (a && b) ≡ true → a ≡ true
-and_left true b h = refl
-and_left false b h = cc
+and_left a b h = grind arith
 
 pub and_right : (a b : Bool) → (a && b) ≡ true → b ≡ true
-and_right true b h = h
-and_right false b h = cc
-
-pub not_wanted : {X : Type 0} (f g : X → Bool) → ((x : X) → f x ≡ true → g x ≡ true) → (x : X) → g x ≡ false → f x
-    ≡ false
-not_wanted f g h x e = grind arith
+and_right a b h = grind arith
 
 -- ---- keys
 
 pub gt_is : (r : Ordering) → is_gt r ≡ true → r ≡ Greater
-gt_is Less h = cc
-gt_is Equal h = cc
-gt_is Greater h = refl
+gt_is r h = grind arith
 
 -- a key above one past the range is past it
 abbrev pub IsUpward : (List ℕ → Bool) → Type 0
@@ -65,7 +57,7 @@ IsUpward past = (key later : List ℕ) → past key ≡ true → is_gt (slice_cm
 module _ (wanted test : Member → Bool) (passes : (m : Member) → wanted m ≡ true → test m ≡ true) where
   pub none_wanted : (xs : List Member) → AllByRecursion (λ m. test m ≡ false) xs
       → filter wanted (rising member_place place_cmp xs) ≡ []
-  none_wanted xs h = grind (arith, filter_none, each_weaker, not_wanted, each_rising, place_cmp_total)
+  none_wanted xs h = grind (arith, filter_none, each_weaker, each_rising, place_cmp_total)
 
 -- the first lines
 pub wanted_low : (wanted low : Member → Bool) → IsLower member_place place_cmp low
@@ -113,17 +105,12 @@ module _ (limit : ℕ) (past : List ℕ → Bool) (upward : IsUpward past) where
   abbrev pub stays : Member → Bool
   stays m = not (past m.values.key)
 
-  later_past : (m k : Member) → past m.values.key ≡ true → Upto (member_pair m) (member_pair k) → stays k ≡ false
-  later_past m k h u = grind arith
-
   pub stays_lower : IsLower member_place place_cmp stays
   stays_lower x y h k = place_below x y
       (key_below (slice_cmp nat_cmp x.values.key y.values.key) (slice_cmp nat_cmp x.values.stamp y.values.stamp) less)
     where
       key_below : (a b : Ordering) → a ≡ Less → ordering_then a b ≡ Less
-      key_below Less b e = refl
-      key_below Equal b e = cc
-      key_below Greater b e = cc
+      key_below a b e = grind arith
 
       less : slice_cmp nat_cmp x.values.key y.values.key ≡ Less
       less = elim (cases_Bool (is_gt (slice_cmp nat_cmp y.values.key x.values.key))) [
@@ -159,12 +146,8 @@ module _ (limit : ℕ) (past : List ℕ → Bool) (upward : IsUpward past) where
         → (progress ≡ Due → ⊥) → AreWaits progress ws → IsHead limit past before all left ws progress
         → ms ≡ all ++ rest → NeverFalls member_pair pair_cmp ms → (left ≡ [] → rest ≡ []) → AllByRecursion IsLate ws
         → AllByRecursion (λ m. upto m ≡ true) before → filter is_read ms ≡ filter stays before
-    head_read before all ms rest left ws Due settled waits h e falls end late each = absurd (settled refl)
-    head_read before all ms rest left ws Waiting settled waits h e falls end late each =
+    head_read before all ms rest left ws progress settled waits h e falls end late each =
         grind (arith, append_assoc, read_is, rest_unread)
-    head_read before all ms rest left ws Past settled waits h e falls end late each =
-        grind (arith, append_assoc, read_is, rest_unread, false_right, later_past)
-    head_read before all ms rest left ws Ended settled waits h e falls end late each = grind (arith, read_is)
 
 module _ {limit : ℕ} {past : List ℕ → Bool} (upward : IsUpward past) (upto : Member → Bool) {t : List ℕ} {extent : ℕ}
     {f : Feed} {ws : List Member} (fed : Fed limit past (Some t) extent f ws) (settled : IsSettled f)

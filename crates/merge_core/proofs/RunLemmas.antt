@@ -1,6 +1,6 @@
 -- What was taken of sources of any bytes, beside the lines that were read of them.
 use Rattle.std.specs.List.{AllZip, AllByRecursion, sum}
-use Rattle.std.proofs.Common.{◌≡◌, ◌⊎◌, inl, inr, ℕ, ◌+◌, List, [], ◌∷◌, ◌++◌, length, drop, map, filter, Bool, true}
+use Rattle.std.proofs.Common.{◌≡◌, ◌⊎◌, ℕ, ◌+◌, List, [], ◌∷◌, ◌++◌, length, drop, map, filter, Bool, true}
 use Rattle.std.proofs.Common.{not, Option, Some, refl, ap, arith, take-append-drop, append_assoc}
 use Rattle.std.proofs.lemmas.List.{length-map}
 use Rattle.std.proofs.lemmas.List.Elements.{filter-append}
@@ -9,7 +9,7 @@ use Rattle.cdxj_places.specs.Pairs.{Pair}
 use Rattle.cdxj_places.specs.TextLines.{lines}
 use Rattle.cdxj_core.specs.Members.{Member}
 use Rattle.merge_core.specs.declared.feed.Progress.{Progress}
-use Rattle.merge_core.specs.declared.feed.Progress.TheVariants.{Due, Waiting, Past, Ended}
+use Rattle.merge_core.specs.declared.feed.Progress.TheVariants.{Due}
 use Rattle.merge_core.specs.declared.feed.Feed.{Feed}
 use Rattle.line_queue.specs.WaitingLines.{WaitingLine, waits_of}
 use Rattle.merge_core.specs.Collections.{Known, all_lines, collection}
@@ -31,10 +31,7 @@ module _ (limit : ℕ) (past : List ℕ → Bool) where
       → AreWaits p ws → ws ≡ [] → IsHead limit past before all rest ws p
       → (rest ≡ []) ⊎ ((earlier : List Member) × (last : Member) × (all ≡ earlier ++ last ∷ [])
       × (past last.values.key ≡ true))
-  head_ended Due before all rest ws settled waits none h = absurd (settled refl)
-  head_ended Waiting before all rest ws settled waits none h = cc
-  head_ended Past before all rest ws settled waits none h = inr (before, h.0, h.1, h.2)
-  head_ended Ended before all rest ws settled waits none h = inl h.1
+  head_ended p before all rest ws settled waits none h = grind arith
 
   part_is : {t : List ℕ} {extent : ℕ} {f : Feed} {ws : List Member} (whole : Bool) → Fed limit past (Some t) extent f ws
       → IsSettled f → (whole ≡ true → ws ≡ []) → IsPart limit past whole t (given limit t f.cursor)

@@ -104,8 +104,7 @@ module _ (limit : ℕ) (past : List ℕ → Bool) where
     pub due_read : (ss : List S) (fs : List Feed) (i : ℕ) (d : Feed) → AreReadTo limit past text b ss fs
         → AreReadTo limit past text b ss (set fs i (due (get_or fs i d)))
     due_read [] fs i d h = tt
-    due_read (s ∷ ss) [] zero d h = h
-    due_read (s ∷ ss) [] (suc i) d h = h
+    due_read (s ∷ ss) [] i d h = grind arith
     due_read (s ∷ ss) (f ∷ fs) zero d h = h
     due_read (s ∷ ss) (f ∷ fs) (suc i) d h = (h.0, due_read ss fs i d h.1)
 
@@ -124,8 +123,7 @@ read_none limit past t c h = let most = h.most in let none = ap bytes_of
 
     no_lines : (ls : List (List ℕ)) (ms : List Member) → map (line_entry limit) ls ≡ map Some ms → ms ≡ [] → ls ≡ []
     no_lines [] ms e n = refl
-    no_lines (l ∷ ls) [] e n = cc
-    no_lines (l ∷ ls) (m ∷ ms) e n = cc
+    no_lines (l ∷ ls) ms e n = grind arith
 
 pub opened_none : {S : Type 0} (text : S → Option (List ℕ)) (extent gave : S → ℕ) (ss : List S)
     → AllZip (λ x y. OpenedWithin (text x) (extent x) (gave x) (gave y)) ss ss
@@ -134,8 +132,7 @@ opened_none text extent gave (s ∷ ss) = ((λ t e. omega arith), opened_none te
 
 pub two_put : {X Y : Type 0} (R : X → Y → Type 0) (xs : List X) (ys : List Y) (i : ℕ) (d : X) (y : Y) → AllZip R xs ys
     → R (get_or xs i d) y → AllZip R xs (set ys i y)
-two_put R [] [] i d y h r = tt
-two_put R [] (z ∷ ys) i d y h r = absurd h
+two_put R [] ys i d y h r = grind arith
 two_put R (x ∷ xs) [] i d y h r = absurd h
 two_put R (x ∷ xs) (z ∷ ys) zero d y h r = (r, h.1)
 two_put R (x ∷ xs) (z ∷ ys) (suc i) d y h r = (h.0, two_put R xs ys i d y h.1 r)

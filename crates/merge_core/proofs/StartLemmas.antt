@@ -1,6 +1,6 @@
 -- The lines that the sources have from where they are read on.
 use Rattle.std.specs.List.{AllZip, AllByRecursion}
-use Rattle.std.proofs.Common.{◌≡◌, ℕ, List, [], ◌∷◌, ◌++◌, length, map, drop, filter, zip, not, Option, Some, refl, sym}
+use Rattle.std.proofs.Common.{◌≡◌, ℕ, List, [], ◌∷◌, ◌++◌, length, map, drop, filter, zip, not, Option, Some, sym}
 use Rattle.std.proofs.Common.{ap₂, ◌∙◌, arith}
 use Rattle.std.proofs.lemmas.List.{length-map, map-append}
 use Rattle.std.proofs.lemmas.List.Elements.{filter-append}
@@ -47,9 +47,7 @@ module _ {S : Type 0} (limit : ℕ) (text : S → Option (List ℕ)) where
       → AllByRecursion (λ x. IsCutAt limit start (text x.0) x.1.cursor) (zip ss fs)
       → (highs : List (List Member)) × AllZip RunsFrom (zip ss fs) highs
       × (filter (λ m. not (is_low start m)) (all_lines indexes) ≡ all_lines highs)
-  runs_sought start [] fs [] [] same known are cut = ([], tt, refl)
-  runs_sought start [] fs [] (i ∷ is) same known are cut = absurd are
-  runs_sought start [] fs (t ∷ ts) is same known are cut = absurd known
+  runs_sought start [] fs texts is same known are cut = grind arith
   runs_sought start (s ∷ ss) [] texts is same known are cut = absurd (omega arith)
   runs_sought start (s ∷ ss) (f ∷ fs) [] is same known are cut = absurd known
   runs_sought start (s ∷ ss) (f ∷ fs) (t ∷ ts) [] same known are cut = absurd are
@@ -65,8 +63,7 @@ module _ {S : Type 0} (limit : ℕ) (text : S → Option (List ℕ)) where
   -- the same after more was read
   pub runs_kept : (extent gave : S → ℕ) (xs ys : List (S × Feed)) (highs : List (List Member))
       → AllZip (Move text extent gave) xs ys → AllZip RunsFrom xs highs → AllZip RunsFrom ys highs
-  runs_kept extent gave [] [] highs m h = h
-  runs_kept extent gave [] (y ∷ ys) highs m h = absurd m
+  runs_kept extent gave [] ys highs m h = grind arith
   runs_kept extent gave (x ∷ xs) [] highs m h = absurd m
   runs_kept extent gave (x ∷ xs) (y ∷ ys) [] m h = absurd h
   runs_kept extent gave (x ∷ xs) (y ∷ ys) (i ∷ is) m h = (

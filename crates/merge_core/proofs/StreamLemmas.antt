@@ -10,7 +10,7 @@ use Rattle.cdxj_places.specs.Pairs.{pair_cmp}
 use Rattle.cdxj_places.specs.Rising.{NeverFalls}
 use Rattle.cdxj_core.specs.Members.{Member, member_pair}
 use Rattle.merge_core.specs.declared.feed.Progress.{Progress}
-use Rattle.merge_core.specs.declared.feed.Progress.TheVariants.{Due, Waiting, Past, Ended}
+use Rattle.merge_core.specs.declared.feed.Progress.TheVariants.{Due, Waiting}
 use Rattle.merge_core.specs.declared.feed.Feed.{Feed}
 use Rattle.line_queue.specs.WaitingLines.{WaitingLine, waits_of}
 use Rattle.merge_core.specs.Feeds.{AreWaits, FedOf, Fed, AreFed, Ready, given, done, due, option_list}
@@ -26,17 +26,11 @@ any_of [] i l = absurd (omega arith)
 any_of (x ∷ xs) i l = x
 
 few_waits : (p : Progress) (ws : List Member) → AreWaits p ws → length ws ≤ 1
-few_waits Due ws h = omega (arith, ap length h)
-few_waits Waiting ws h = omega (arith, ap length h.1)
-few_waits Past ws h = omega (arith, ap length h)
-few_waits Ended ws h = omega (arith, ap length h)
+few_waits p ws h = grind arith
 
 -- a line that waits is the only one
 only_waits : (p : Progress) (m : Member) (ws : List Member) → AreWaits p (m ∷ ws) → (p ≡ Waiting) × (ws ≡ [])
-only_waits Due m ws h = absurd (cc)
-only_waits Waiting m ws h = grind arith
-only_waits Past m ws h = absurd (cc)
-only_waits Ended m ws h = absurd (cc)
+only_waits p m ws h = grind arith
 
 -- what stands before the last of lines that never fall is not above it
 pub falls_last : (xs : List Member) (y : Member) → NeverFalls member_pair pair_cmp (xs ++ y ∷ [])
@@ -74,8 +68,7 @@ module _ (limit : ℕ) (past : List ℕ → Bool) {S : Type 0} (text : S → Opt
       → AreFed limit past text extent n ss fs ws → Fed limit past (text s) (extent s) f (waits_of (n + i) ws')
       → AreFed limit past text extent n (set ss i s) (set fs i f) ws'
   fed_set n i [] fs ws ws' s f same h k = tt
-  fed_set n zero (x ∷ ss) [] ws ws' s f same h k = tt
-  fed_set n (suc i) (x ∷ ss) [] ws ws' s f same h k = tt
+  fed_set n i (x ∷ ss) [] ws ws' s f same h k = grind arith
   fed_set n zero (x ∷ ss) (y ∷ fs) ws ws' s f same h k = grind (arith, add-zero, fed_other)
   fed_set n (suc i) (x ∷ ss) (y ∷ fs) ws ws' s f same h k =
       let e : n + suc i ≡ (n + 1) + i = omega arith in (
@@ -219,7 +212,4 @@ module _ {limit : ℕ} {past : List ℕ → Bool} {S : Type 0} {text : S → Opt
         (omega arith, ready.placed) (rw here fed)) ws' p
 
     pub waited_length : (o : Option B) → Waited o → length ws' ≡ length ws + length (option_list (option_map value o))
-    waited_length None e = grind arith
-    waited_length (Some x) p =
-        let w : WaitingLine = record { member = value x; source = i } in
-        let h = length_permutation (w ∷ ws) ws' p in omega arith
+    waited_length o p = grind (arith, length_permutation)

@@ -1,7 +1,7 @@
 -- What was taken of lines, beside all that is wanted of them.
 use Rattle.std.proofs.Common.{arith, ◌≡◌, inl, inr, ℕ, List, [], ◌∷◌, ◌++◌, filter, Bool, true, false, not, ◌&&◌}
-use Rattle.std.proofs.Common.{Option, None, Some, refl, sym, ap, ◌∙◌, append-nil, is_gt, is_lt, Less, Equal}
-use Rattle.std.proofs.Common.{Greater, Ordering}
+use Rattle.std.proofs.Common.{Option, None, Some, refl, sym, ap, ◌∙◌, append-nil, is_gt, is_lt}
+use Rattle.std.proofs.Common.{Ordering}
 use Rattle.std.proofs.lemmas.Bool.{and_cases, not-false, not-true, true≢false}
 use Rattle.std.specs.List.{AllByRecursion}
 use Rattle.merge_core.proofs.Filters.{filter_out, each_filter}
@@ -31,8 +31,7 @@ upto_bound None m = false
 upto_bound (Some p) m = not (is_gt (pair_cmp (member_pair m) p))
 
 bound_upto : (b : Option Pair) (m : Member) → IsUpto b (member_pair m) → upto_bound b m ≡ true
-bound_upto None m h = absurd h
-bound_upto (Some p) m h = ap not h
+bound_upto b m h = grind (arith, not)
 
 bound_late : (b : Option Pair) (m k : Member) → IsAbove b (member_pair m) → Upto (member_pair m) (member_pair k)
     → upto_bound b k ≡ false
@@ -127,9 +126,7 @@ module _ {limit : ℕ} {past : List ℕ → Bool} {upward : IsUpward past} {want
     not_low k u = ap is_lt (pair_cmp_total.antisymm (member_pair k) next) ∙ turned (pair_cmp next (member_pair k)) u
       where
         turned : (r : Ordering) → is_gt r ≡ false → is_lt (ordering_reverse r) ≡ false
-        turned Less h = refl
-        turned Equal h = refl
-        turned Greater h = cc
+        turned r h = grind arith
 
     from_next : (m : Member) → (low (is_low next) m ≡ false) × (wanted m ≡ true) → (wanted m ≡ true)
         × Upto next (member_pair m)

@@ -7,7 +7,7 @@ use Rattle.std.proofs.lemmas.List.{take_all}
 use Rattle.cdxj_core.specs.Members.{Member}
 use Rattle.cdxj_core.specs.Indexes.{IsIndex}
 use Rattle.merge_core.specs.declared.feed.Progress.{Progress}
-use Rattle.merge_core.specs.declared.feed.Progress.TheVariants.{Due, Waiting, Past, Ended}
+use Rattle.merge_core.specs.declared.feed.Progress.TheVariants.{Due}
 use Rattle.merge_core.specs.declared.feed.Feed.{Feed}
 use Rattle.merge_core.specs.Feeds.{AreWaits, IsHead, IsSettled, AreSettled, Fed, AreFed, done}
 use Rattle.merge_core.specs.Gathering.{text_or, all_done}
@@ -20,10 +20,7 @@ module _ (limit : ℕ) (past : List ℕ → Bool) (never : (key : List ℕ) → 
   -- a feed of which no line waits, and which isn't due, has ended
   ended : (p : Progress) (before all : List Member) (rest : List (List ℕ)) → (p ≡ Due → ⊥) → AreWaits p []
       → IsHead limit past before all rest [] p → (all ≡ before) × (rest ≡ [])
-  ended Due before all rest s w h = absurd (s refl)
-  ended Waiting before all rest s w h = cc
-  ended Past before all rest s w h = grind arith
-  ended Ended before all rest s w h = h
+  ended p before all rest s w h = grind arith
 
   -- then its source is an index
   index_read : {t : List ℕ} {extent : ℕ} {f : Feed} → f.cursor.start ≡ 0 → IsSettled f
@@ -39,9 +36,7 @@ module _ (limit : ℕ) (past : List ℕ → Bool) (never : (key : List ℕ) → 
         → AllZip (λ told t. told ≡ Some t) (map text ss) texts
         → AllByRecursion (λ (f : Feed). f.cursor.start ≡ 0) fs → AreSettled fs
         → AreFed limit past text extent n ss fs [] → AllZip (IsIndex limit) texts (its_lines ss fs)
-    are_read n [] [] [] same known start settled fed = tt
-    are_read n [] [] (t ∷ texts) same known start settled fed = absurd known
-    are_read n [] (f ∷ fs) texts same known start settled fed = absurd (omega arith)
+    are_read n [] fs texts same known start settled fed = grind arith
     are_read n (s ∷ ss) [] texts same known start settled fed = absurd (omega arith)
     are_read n (s ∷ ss) (f ∷ fs) [] same known start settled fed = absurd known
     are_read n (s ∷ ss) (f ∷ fs) (t ∷ texts) same known start settled fed = (

@@ -1,5 +1,5 @@
 -- One page of a query, by what was taken of its sources, and by what a writer has written.
-use Rattle.std.proofs.Common.{arith, ◌≡◌, ◌⊎◌, inl, inr, List, ◌++◌, refl, sym, ap, ◌∙◌, subst, Bool, true, false, not}
+use Rattle.std.proofs.Common.{arith, ◌≡◌, ◌⊎◌, inl, inr, List, ◌++◌, sym, ap, ◌∙◌, subst, Bool, true, false, not}
 use Rattle.std.proofs.Common.{ℕ, Option}
 use Rattle.std.specs.Option.{is_some}
 use Rattle.std.specs.Io.KnownBytes.{Appends}
@@ -61,8 +61,7 @@ module _ {q : QueryValue} {start mid : Option (List ℕ)} {taken : List Member} 
     pub settles : (whole : Bool) (rest : List Member) → captures q all ≡ captures q taken ++ rest
         → (whole ≡ true → captures q all ≡ captures q taken) → (whole ≡ false → w.writer.more ≡ true)
         → query_page q all ≡ taken_page
-    settles true rest first ended enough = asked_is q all ∙ ap (page q.limit) (ended refl)
-    settles false rest first ended enough = grind (arith, asked_is, page, decided, stood)
+    settles whole rest first ended enough = grind (arith, asked_is, decided, stood)
 
     module _ (new : Option (List ℕ)) (same : query_page q all ≡ taken_page) where
       next_same : next_of w.writer.more w.writer.last ≡ (query_page q all).next

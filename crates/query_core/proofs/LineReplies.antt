@@ -1,5 +1,5 @@
 -- The reply to a line, by what the line is.
-use Rattle.std.proofs.Common.{arith, ◌≡◌, ℕ, List, [], ◌++◌, length, true, false, refl, nat_lt, Option, Some, Result}
+use Rattle.std.proofs.Common.{arith, ◌≡◌, ℕ, List, [], ◌++◌, length, false, refl, nat_lt, Option, Some, Result}
 use Rattle.std.proofs.Common.{Ok, Err}
 use Rattle.std.specs.Prelude.{codes}
 use Rattle.std.specs.Str.{is_utf8}
@@ -24,14 +24,7 @@ use Rattle.query_core.specs.Replies.{refusal_text}
 
 pub writes_some : {A E : Type 0} (r : Result A E) (old new : Option (List ℕ)) (Is : List ℕ → Type 0) (text : List ℕ)
     → Is text → WritesText r old new text → WritesSome r old new Is
-writes_some (Ok x) old new Is text is w = (text, is, w)
-writes_some (Err e) old new Is text is w = (text, is, w)
-
-pub writes_weaker : {A E : Type 0} (r : Result A E) (old new : Option (List ℕ)) (Is More : List ℕ → Type 0)
-    → ((text : List ℕ) → Is text → More text)
-    → WritesSome r old new Is → WritesSome r old new More
-writes_weaker (Ok x) old new Is More f w = (w.0, f w.0 w.1, w.2)
-writes_weaker (Err e) old new Is More f w = (w.0, f w.0 w.1, w.2)
+writes_some r old new Is text is w = grind arith
 
 -- a text and then another
 pub marked : {A E : Type 0} (r : Result A E) (old mid new : Option (List ℕ)) (text mark : List ℕ) → Appends old mid text
@@ -63,10 +56,6 @@ some_reply told (Err fault) = grind arith
 -- ---- the reply to a line
 
 module _ (limit : ℕ) (IsReply : List ℕ → List ℕ → Type 0) (line reply : List ℕ) where
-  pub text_reply : nat_lt limit (length line) ≡ false → is_utf8 line ≡ true → IsReply line reply
-      → IsLineReply limit IsReply line reply
-  text_reply fits utf8 is = grind arith
-
   pub no_text_reply : nat_lt limit (length line) ≡ false → is_utf8 line ≡ false → reply ≡ refusal_text (codes "NotText")
       → IsLineReply limit IsReply line reply
   no_text_reply fits other is = grind arith

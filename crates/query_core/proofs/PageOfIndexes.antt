@@ -2,7 +2,7 @@
 use Rattle.query_core.proofs.AskedLemmas.{captures}
 use Rattle.std.proofs.Common.{arith, ◌≡◌, inl, inr, ℕ, List, [], ◌∷◌, ◌++◌, length, map, filter, zip, Bool, true, false}
 use Rattle.std.proofs.Common.{not, ◌&&◌, Option, refl, sym, ap, ◌∙◌, subst, cond, Some, None, zero, suc, ◌≤◌}
-use Rattle.std.proofs.Common.{Ordering, Less, Equal, Greater, nat_cmp, is_gt, is_lt, All, eqb-true}
+use Rattle.std.proofs.Common.{Ordering, nat_cmp, is_gt, is_lt, All, eqb-true}
 use Rattle.std.specs.List.{AllZip, AllByRecursion}
 use Rattle.cdxj_places.specs.Pair.{is_stamp, key_part, stamp_part, begins_with_pair, pair_of}
 use Rattle.cdxj_places.specs.Pairs.{Pair, pair_cmp}
@@ -46,14 +46,10 @@ use Rattle.page_core.specs.Pages.{is_above}
 -- ---- nothing that is wanted stands below the start of a page
 
 then_not_above : (a b : Ordering) → is_gt a ≡ false → is_gt b ≡ false → is_gt (ordering_then a b) ≡ false
-then_not_above Less b h k = refl
-then_not_above Equal b h k = k
-then_not_above Greater b h k = h
+then_not_above a b h k = grind arith
 
 lt_reverse : (r : Ordering) → is_gt r ≡ false → is_lt (ordering_reverse r) ≡ false
-lt_reverse Less h = refl
-lt_reverse Equal h = refl
-lt_reverse Greater h = cc
+lt_reverse r h = grind arith
 
 -- a pair that isn't above that of a line
 not_low : (pair : Pair) (m : Member) → is_gt (pair_cmp pair (member_pair m)) ≡ false → is_low pair m ≡ false
@@ -71,8 +67,7 @@ not_above b h = grind arith
 
 least : (n : ℕ) (s : List ℕ) → length s ≡ n → All (λ b. 48 ≤ b) s → is_gt (slice_cmp nat_cmp (zeros n) s) ≡ false
 unfolding zeros
-least zero [] e h = refl
-least zero (b ∷ s) e h = absurd (omega arith)
+least zero s e h = grind arith
 least (suc n) [] e h = absurd (omega arith)
 least (suc n) (b ∷ s) e h =
     then_not_above (nat_cmp 48 b) (slice_cmp nat_cmp (zeros n) s) (not_above b (All-head (λ b. 48 ≤ b) b s h))
@@ -84,8 +79,7 @@ stamp_not_below stamp h = grind (arith, least, eqb-true, and_parts, digit_least)
 
 later_not_low : (pair : Pair) (from : Option PlaceValue) (m : Member) → is_low pair m ≡ false
     → is_above member_place place_cmp from m ≡ true → is_low (later_pair pair from) m ≡ false
-later_not_low pair None m h k = h
-later_not_low pair (Some p) m h k = grind arith
+later_not_low pair from m h k = grind arith
 
 wanted_key : (q : QueryValue) (from : Option PlaceValue) (m : Member) → is_wanted q from m ≡ true
     → key_matches q.target m.values.key ≡ true
@@ -107,8 +101,7 @@ line_stamp limit t m h = pair_stamp h.0 m (entry_pair_is limit h.0 m h.2)
   where
     some_pair : (b : Bool) (key stamp : List ℕ) (pair : Pair) → cond b (Some (key, stamp)) None ≡ Some pair → (b ≡ true)
         × (stamp ≡ pair.1)
-    some_pair true key stamp pair e = grind arith
-    some_pair false key stamp pair e = cc
+    some_pair b key stamp pair e = grind arith
 
     pair_stamp : (line : List ℕ) (m : Member) → pair_of line ≡ Some (member_pair m) → is_stamp m.values.stamp ≡ true
     pair_stamp line m e =
@@ -132,8 +125,7 @@ index_lines : (limit : ℕ) (t : List ℕ) (ms : List Member) → IsIndex limit 
 index_lines limit t ms run = grind (arith, entries_are)
 
 and_true : (a b : Bool) → b ≡ true → (a && b) ≡ a
-and_true true b h = h
-and_true false b h = refl
+and_true a b h = grind arith
 
 -- every line has a stamp
 stamped : (f : Member → Bool) (xs : List Member) → AllByRecursion (λ m. is_stamp m.values.stamp ≡ true) xs
@@ -143,8 +135,7 @@ stamped f (x ∷ xs) h = grind (arith, and_true, stamped f xs h.1)
 
 index_stamps : (texts : List (List ℕ)) (indexes : List (List Member)) → AllZip (IsIndex LINE_LIMIT) texts indexes
     → AllByRecursion (λ m. is_stamp m.values.stamp ≡ true) (all_lines indexes)
-index_stamps [] [] are = tt
-index_stamps [] (i ∷ is) are = absurd are
+index_stamps [] indexes are = grind arith
 index_stamps (t ∷ ts) [] are = absurd are
 index_stamps (t ∷ ts) (i ∷ is) are =
     each_join (λ m. is_stamp m.values.stamp ≡ true) i (all_lines is)
@@ -154,8 +145,7 @@ index_stamps (t ∷ ts) (i ∷ is) are =
 -- a line of sources that tell their bytes has one
 known_stamp : (told : List (Option (List ℕ))) (texts : List (List ℕ)) (m : Member) → Known told texts
     → IsLineOf LINE_LIMIT told m → is_stamp m.values.stamp ≡ true
-known_stamp [] [] m k h = absurd h
-known_stamp [] (t ∷ ts) m k h = absurd k
+known_stamp [] texts m k h = grind arith
 known_stamp (o ∷ os) [] m k h = absurd k
 known_stamp (o ∷ os) (t ∷ ts) m k h = elim (subst (λ o. IsLineOf LINE_LIMIT (o ∷ os) m) k.0 h) [
   | inl here ↦ line_stamp LINE_LIMIT t m here

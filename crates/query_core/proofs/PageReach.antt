@@ -17,7 +17,7 @@ use Rattle.cdxj_core.specs.Indexes.{IsIndex}
 use Rattle.merge_core.specs.Collections.{Known, OverIndexes, collection, all_lines}
 use Rattle.std.specs.List.{AllZip, sum}
 use Rattle.devices.specs.Device.{Grows}
-use Rattle.page_writers.specs.PageWriting.{captures_over, page_over}
+use Rattle.page_writers.specs.PageWriting.{page_over}
 use Rattle.query_core.specs.Passes.{AreAtMost, AreFirst, GaveFor}
 use Rattle.page_writers.specs.QueryPages.{form_of, query_page}
 use Rattle.query_core.specs.Reach.{captures_text, GaveInReach, WroteFirst}
@@ -37,15 +37,12 @@ none_follows (Some (suc n)) = refl
 -- captures that don't pass the page are within its limit
 pub within_page : (limit : Option ℕ) (c : List Member) → (limit ≡ Some 0 → ⊥) → is_some (page limit c).next ≡ false
     → AreAtMost limit c
-within_page None c some none = tt
-within_page (Some zero) c some none = absurd (some refl)
-within_page (Some (suc n)) c some none = next_none (suc n) c (omega arith) none
+within_page limit c some none = grind (arith, next_none)
 
 -- a page has at least the captures that don't pass it
 has_all : (limit : Option ℕ) (c tail : List Member) → AreAtMost limit c
     → length c ≤ length (page limit (c ++ tail)).members
-has_all None c tail most = omega (arith, length-append c tail)
-has_all (Some n) c tail most = grind (arith, length-take, length-append)
+has_all limit c tail most = grind (arith, length-append, length-take)
 
 -- where a page is written at least so far
 front_written : (form : FormValue) (ms : List Member) (old middle new : Option (List ℕ))
@@ -102,8 +99,7 @@ page_not_reached text extent gave q texts indexes old new sources known are grow
 -- where no capture follows the page, all lines were read
 pub all_read : (all more shown : Bool) (found : Option PlaceValue) → more ≡ is_some found → shown ≡ is_some found
     → (all ≡ false → more ≡ true) → not shown ≡ true → all ≡ true
-all_read true more shown found a b enough e = refl
-all_read false more shown found a b enough e = grind arith
+all_read all more shown found a b enough e = grind arith
 
 -- ---- a page has no more captures than lines were read
 
@@ -115,10 +111,6 @@ kept_fewer : (same : PlaceValue → PlaceValue → Bool) (p : Option PlaceValue)
     → length (kept member_place same p ms) ≤ length ms
 kept_fewer same p [] = omega arith
 kept_fewer same p (m ∷ ms) = grind (arith, kept_fewer same (Some (member_place m)) ms)
-
-captures_fewer : (q : QueryValue) (from : Option PlaceValue) (lines : List Member)
-    → length (captures_over q from lines) ≤ length lines
-captures_fewer q from lines = grind (arith, kept_fewer, filter_fewer)
 
 put_fewer : (m : Member) (ms : List Member) → length (put member_place place_cmp m ms) ≤ length (m ∷ ms)
 put_fewer m [] = omega arith
@@ -132,12 +124,8 @@ all_count : (parts : List (List Member)) → length (all_lines parts) ≡ sum (m
 all_count parts =
     length-flat_map (λ (ms : List Member). ms) parts ∙ sym (sum-map (λ (ms : List Member). length ms) parts)
 
-over_fewer : (q : QueryValue) (from : Option PlaceValue) (limit : Option ℕ) (lines : List Member)
-    → length (page_over q from limit lines).members ≤ length lines
-over_fewer q from None lines = captures_fewer q from lines
-over_fewer q from (Some n) lines = grind (arith, captures_fewer, length-take)
-
 pub page_fewer : (q : QueryValue) (parts : List (List Member)) (given lines : ℕ) → given
     ≡ min (length (query_page q (collection parts)).members) (2 ^ 64 - 1)
     → lines ≡ min (sum (map (λ (ms : List Member). length ms) parts)) (2 ^ 64 - 1) → given ≤ lines
-page_fewer q parts given lines g l = grind (arith, asked_is, over_fewer, rising_fewer, all_count)
+page_fewer q parts given lines g l =
+    grind (arith, asked_is, kept_fewer, filter_fewer, length-take, rising_fewer, all_count)

@@ -1,9 +1,8 @@
 -- What was read of indexes, beside the reach of a page.
 use Rattle.std.proofs.Common.{◌≡◌, ℕ, zero, suc, ◌≤◌, List, [], ◌∷◌, ◌++◌, length, map, filter, zip, Bool, true, false}
-use Rattle.std.proofs.Common.{not, ◌&&◌, Option, None, Some, refl, sym, ap, ◌∙◌, subst, arith, min, ◌-◌, ◌^◌}
-use Rattle.std.proofs.Common.{append_assoc, append-nil, Ordering, Less, Equal, Greater, nat_cmp, is_gt, is_lt}
+use Rattle.std.proofs.Common.{not, ◌&&◌, Option, Some, refl, sym, ap, ◌∙◌, subst, arith, min, ◌-◌, ◌^◌}
+use Rattle.std.proofs.Common.{append_assoc, append-nil, Ordering, Equal, nat_cmp, is_gt, is_lt}
 use Rattle.std.specs.List.{AllByRecursion, sum, AllZip}
-use Rattle.std.specs.Ordering.{ordering_then, ordering_reverse}
 use Rattle.std.specs.Cmp.Lexicographic.{slice_cmp}
 use Rattle.std.specs.FinMap.{slice_cmp-IsAntisymmetric}
 use Rattle.std.proofs.lemmas.Slice.Zip.{AllZip-long}
@@ -23,7 +22,6 @@ use Rattle.query_text.specs.Queries.{QueryValue}
 use Rattle.query_text.specs.Targets.{TargetValue}
 use Rattle.query_text.specs.Matching.{begins, kind_covers, covers, is_past}
 use Rattle.query_text.specs.declared.target.MatchKind.{MatchKind}
-use Rattle.query_text.specs.declared.target.MatchKind.TheVariants.{Exact, Prefix, Host, Domain}
 use Rattle.page_core.proofs.PageLaws.{each_kept}
 use Rattle.merge_core.specs.declared.feed.Feed.{Feed}
 use Rattle.merge_core.specs.PairOrders.{Alike, Below, IsAbove, IsUpto, Upto, is_low}
@@ -43,8 +41,8 @@ use Rattle.merge_core.proofs.SpendLemmas.{are_read_to}
 use Rattle.merge_core.proofs.WholeLemmas.{texts_kept}
 use Rattle.query_text.proofs.RangeLaw.{past_upward}
 use Rattle.query_core.proofs.AskedLemmas.{captures, wanted_within}
-use Rattle.page_writers.specs.PageWriting.{is_wanted, captures_over, place_before}
-use Rattle.query_core.specs.Reach.{pair_after, follower, is_within, in_reach}
+use Rattle.page_writers.specs.PageWriting.{is_wanted, place_before}
+use Rattle.query_core.specs.Reach.{pair_after, is_within, in_reach}
 use Rattle.query_core.specs.Passes.{AreAtMost, GaveFor, IsOfParts, ReadFor, Took}
 use Rattle.query_core.specs.Starts.{later_pair, start_pair}
 use Rattle.page_writers.proofs.CaptureLemmas.{kept_after, captures_append, captures_split}
@@ -53,27 +51,16 @@ use Rattle.query_core.proofs.PageOfIndexes.{wanted_whole}
 
 -- ---- the range
 
-first_not_less : (a b : Ordering) → is_lt (ordering_then a b) ≡ false → is_lt a ≡ false
-first_not_less Less b h = h
-first_not_less Equal b h = refl
-first_not_less Greater b h = refl
-
 begins_itself : (text : List ℕ) → begins text text ≡ true
 begins_itself [] = refl
 begins_itself (b ∷ text) = rw (eq-eqb b b refl, begins_itself text) refl
 
 covers_itself : (kind : MatchKind) (text : List ℕ) → kind_covers kind text text ≡ true
-covers_itself Exact text = (bytes_eq-Decides text text).1 refl
-covers_itself Prefix text = begins_itself text
-covers_itself Host text = begins_itself text
-covers_itself Domain text = begins_itself text
+covers_itself kind text = grind (arith, bytes_eq-Decides, begins_itself)
 
 covered_by : (b : Bool) (o : Ordering) → (is_gt o && not b) ≡ false → is_lt o ≡ false → (o ≡ Equal → b ≡ true)
     → b ≡ true
-covered_by true o past low met = refl
-covered_by false Less past low met = cc
-covered_by false Equal past low met = met refl
-covered_by false Greater past low met = cc
+covered_by b o past low met = grind arith
 
 -- a key that isn't past the target, and isn't below it
 covered_where_met : (t : TargetValue) (key : List ℕ) → is_past t key ≡ false → is_lt (slice_cmp nat_cmp key t.text)
@@ -83,9 +70,7 @@ covered_where_met t key past low = covered_by (covers t key) (slice_cmp nat_cmp 
     ap (covers t) same ∙ covers_itself t.kind t.text)
 
 turned : (p q : Pair) (o : Ordering) → pair_cmp p q ≡ o → is_gt o ≡ true → Below q p
-turned p q Less f h = cc
-turned p q Equal f h = cc
-turned p q Greater f h = pair_cmp_total.antisymm q p ∙ ap ordering_reverse f
+turned p q o f h = grind (arith, pair_cmp_total)
 
 -- what isn't below a pair that is above this one isn't below this one either
 not_low_above : (p q : Pair) (m : Member) → is_gt (pair_cmp p q) ≡ true → is_low p m ≡ false → is_low q m ≡ false
@@ -97,31 +82,22 @@ not_low_above p q m e k =
 
 not_low_later : (pair : Pair) (from : Option PlaceValue) (m : Member) → is_low (later_pair pair from) m ≡ false
     → is_low pair m ≡ false
-not_low_later pair None m h = h
-not_low_later pair (Some p) m h = grind (arith, is_gt, not_low_above)
+not_low_later pair from m h = grind (arith, is_gt, not_low_above)
 
 -- a line of the range that isn't below the start is covered by the target
 pub covered_from_start : (q : QueryValue) (from : Option PlaceValue) (m : Member) → is_past q.target m.values.key
     ≡ false → is_low (start_pair q from) m ≡ false → covers q.target m.values.key ≡ true
-covered_from_start q from m past low = grind (arith, covered_where_met, first_not_less, nat_cmp, not_low_later)
+covered_from_start q from m past low = grind (arith, covered_where_met, nat_cmp, not_low_later)
 
 -- ---- the line that follows a page
 
 past_front : (n : ℕ) (c vs : List Member) (x : Pair) → length c ≤ n → AllByRecursion (λ v. Upto x (member_pair v)) vs
     → is_within (pair_after n (c ++ vs)) x ≡ true
-past_front zero [] [] x h k = refl
-past_front zero [] (v ∷ vs) x h k = ap not k.0
+past_front zero [] vs x h k = grind (arith, not)
 past_front (suc n) [] [] x h k = refl
 past_front (suc n) [] (v ∷ vs) x h k = past_front n [] vs x (omega arith) k.1
 past_front zero (c ∷ cs) vs x h k = absurd (omega arith)
 past_front (suc n) (c ∷ cs) vs x h k = past_front n cs vs x (omega arith) k
-
--- these captures don't pass the limit, and what is wanted beside them isn't below a pair
-pub within_follower : (q : QueryValue) (from : Option PlaceValue) (limit : Option ℕ) (lines c vs : List Member)
-    → captures_over q from lines ≡ c ++ vs → AreAtMost limit c
-    → (x : Pair) → AllByRecursion (λ v. Upto x (member_pair v)) vs → is_within (follower q from limit lines) x ≡ true
-within_follower q from None lines c vs split most x k = refl
-within_follower q from (Some n) lines c vs split most x k = grind (arith, past_front)
 
 firsts : {X Y : Type 0} (xs : List X) (ys : List Y) → length (zip xs ys) ≡ length xs
     → map (λ (x : X × Y). x.0) (zip xs ys) ≡ xs
@@ -130,13 +106,6 @@ firsts (x ∷ xs) [] h = absurd (omega arith)
 firsts (x ∷ xs) (y ∷ ys) h = ap (λ l. x ∷ l) (firsts xs ys (omega arith))
 
 -- ---- lines that were read
-
-pub reach_passes : (q : QueryValue) (from : Option PlaceValue) (limit : Option ℕ) (lines : List Member)
-    (b : Option Pair) → ((m : Member) → IsUpto b (member_pair m)
-    → is_within (follower q from limit lines) (member_pair m) ≡ true)
-    → (m : Member) → is_past q.target m.values.key ≡ false → is_low (start_pair q from) m ≡ false
-    → IsUpto b (member_pair m) → in_reach q from limit lines m ≡ true
-reach_passes q from limit lines b bound m past low upto = grind (arith, both, covered_from_start)
 
 module _ (q : QueryValue) (indexes : List (List Member)) where
   -- what is wanted, cut behind the captures of these lines; nothing up to the bound stands above those behind the cut
@@ -148,13 +117,9 @@ module _ (q : QueryValue) (indexes : List (List Member)) where
 
   module _ (bound : Option Pair) (earlier : List Member) (c : Cut bound earlier) (limit : Option ℕ)
       (most : AreAtMost limit (captures q earlier)) where
-    in_bound : (m : Member) → IsUpto bound (member_pair m)
-        → is_within (follower q q.resume limit (collection indexes)) (member_pair m) ≡ true
-    in_bound m upto = grind (arith, within_follower)
-
     passes : (m : Member) → is_past q.target m.values.key ≡ false → is_low (start_pair q q.resume) m ≡ false
         → IsUpto bound (member_pair m) → in_reach q q.resume limit (collection indexes) m ≡ true
-    passes = grind (arith, reach_passes, in_bound)
+    passes = grind (arith, both, covered_from_start, past_front)
 
 module _ {S : Type 0} {text : S → Option (List ℕ)} {extent gave : S → ℕ} {q : QueryValue} {olds : List S}
     (r : Reading text extent gave q olds) where
@@ -290,10 +255,7 @@ pub within_opening : {S : Type 0} (text : S → Option (List ℕ)) (extent gave 
     → AllZip (IsIndex LINE_LIMIT) texts indexes
     → AllZip (λ x y. OpenedWithin (text x) (extent x) (gave x) (gave y)) olds news
     → AllGaveWithin extent gave test texts indexes olds news
-within_opening text extent gave test [] [] [] [] known are opened = tt
-within_opening text extent gave test [] [] [] (y ∷ ys) known are opened = absurd opened
-within_opening text extent gave test [] [] (x ∷ xs) ys known are opened = absurd known
-within_opening text extent gave test [] (i ∷ is) xs ys known are opened = absurd are
+within_opening text extent gave test [] indexes xs ys known are opened = grind arith
 within_opening text extent gave test (t ∷ ts) [] xs ys known are opened = absurd are
 within_opening text extent gave test (t ∷ ts) (i ∷ is) [] ys known are opened = absurd known
 within_opening text extent gave test (t ∷ ts) (i ∷ is) (x ∷ xs) [] known are opened = absurd opened

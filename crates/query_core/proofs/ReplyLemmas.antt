@@ -2,7 +2,7 @@
 use Rattle.std.proofs.Common.{◌≡◌, ℕ, ◌+◌, ◌-◌, ◌^◌, ◌<◌, ◌≤◌, List, [], ◌∷◌, ◌++◌, map, length, length-append}
 use Rattle.std.proofs.Common.{length-take, take, refl, sym, ap, ◌∙◌, subst, arith, cond, Bool, true, false, Option}
 use Rattle.std.proofs.Common.{Some, None, append_assoc, append-nil, lt-ltb, ltb-false, nat_lt, slice_index, ltb-true}
-use Rattle.std.specs.Prelude.{flat_map, codes, IsErrAnd, MatchBool, Result, Ok, Err}
+use Rattle.std.specs.Prelude.{flat_map, codes, IsErrAnd, MatchBool, Result}
 use Rattle.std.specs.List.{AllZip}
 use Rattle.std.specs.Str.{is_utf8}
 use Rattle.std.proofs.lemmas.List.{length-map, map-append, take_all}
@@ -23,15 +23,13 @@ use Rattle.query_core.specs.Conversations.{RepliedSoFar, RepliedToAll, RepliedTo
 
 zip_more : {X Y : Type 0} (P : X → Y → Type 0) (xs : List X) (ys : List Y) (x : X) (y : Y) → AllZip P xs ys → P x y
     → AllZip P (xs ++ x ∷ []) (ys ++ y ∷ [])
-zip_more P [] [] x y each p = (p, tt)
-zip_more P [] (v ∷ ys) x y each p = absurd each
+zip_more P [] ys x y each p = grind arith
 zip_more P (u ∷ xs) [] x y each p = absurd each
 zip_more P (u ∷ xs) (v ∷ ys) x y each p = (each.0, zip_more P xs ys x y each.1 p)
 
 zip_map : {X Y Z : Type 0} (P : Y → Z → Type 0) (f : X → Y) (xs : List X) (zs : List Z)
     → AllZip (λ x z. P (f x) z) xs zs → AllZip P (map f xs) zs
-zip_map P f [] [] each = tt
-zip_map P f [] (z ∷ zs) each = absurd each
+zip_map P f [] zs each = grind arith
 zip_map P f (x ∷ xs) [] each = absurd each
 zip_map P f (x ∷ xs) (z ∷ zs) each = (each.0, zip_map P f xs zs each.1)
 
@@ -44,8 +42,7 @@ joined-more texts text = grind (arith, flat_map-append, append-nil)
 -- ---- what is held of a line is enough
 
 shorter : (t : Bool) (l : List ℕ) → length l ≤ length (cond t (take (length l - 1) l) l) + 1
-shorter true l = omega (arith, length-take (length l - 1) l)
-shorter false l = omega arith
+shorter t l = grind (arith, length-take)
 
 module _ (limit : ℕ) (IsReply : List ℕ → List ℕ → Type 0) where
   abbrev Reply : List ℕ → List ℕ → Type 0
@@ -72,8 +69,7 @@ module _ (limit : ℕ) (IsReply : List ℕ → List ℕ → Type 0) where
 
   held_by : (seen reply : List ℕ) (b : Bool) → nat_lt (limit + 2) (length seen) ≡ b
       → Reply (take (limit + 2) seen) reply → Reply seen reply
-  held_by seen reply true e h = grind (arith, ltb-true, length-take, long_refused, refused_long)
-  held_by seen reply false e h = grind (arith, take_all, ltb-false)
+  held_by seen reply b e h = grind (arith, ltb-true, length-take, long_refused, refused_long, take_all, ltb-false)
 
   held : (line seen text : List ℕ) → line ≡ take (limit + 2) seen → Marked line text → Marked seen text
   held line seen text is marked = grind (arith, held_by, nat_lt)
@@ -204,8 +200,7 @@ module _ (limit : ℕ) (IsReply : List ℕ → List ℕ → Type 0) (input now a
 pub converses_err : (limit : ℕ) (IsReply : List ℕ → List ℕ → Type 0) (Q : AnswerFault → Type 0)
     (r : Result ℕ AnswerFault) (input old new : Option (List ℕ)) → IsErrAnd r Q
     → RepliedToFirst limit IsReply input old new → Converses limit IsReply r input old new
-converses_err limit IsReply Q (Ok x) input old new h p = absurd h
-converses_err limit IsReply Q (Err e) input old new h p = p
+converses_err limit IsReply Q r input old new h p = grind arith
 
 -- ---- where each text has one reply
 
@@ -218,15 +213,13 @@ module _ (limit : ℕ) (reply : List ℕ → List ℕ) where
 
   texts_are : (lines texts : List (List ℕ)) → AllZip (IsMarkedReply limit Is) lines texts → joined texts
       ≡ flat_map (marked_reply limit reply) lines
-  texts_are [] [] each = refl
-  texts_are [] (text ∷ texts) each = absurd each
+  texts_are [] texts each = grind arith
   texts_are (line ∷ lines) [] each = absurd each
   texts_are (line ∷ lines) (text ∷ texts) (m, each) = grind (arith, line_is, texts_are lines texts each)
 
   pub one_reply : (input : Option (List ℕ)) (count : ℕ) (old new : Option (List ℕ))
       → RepliedToAll limit Is input count old new → Replied limit reply input count old new
-  one_reply None count old new h = tt
-  one_reply (Some input) count old new (short, counted, texts, each, written) = grind (arith, texts_are)
+  one_reply input count old new h = grind (arith, texts_are)
 
   pub one_reply_part : (input old new : Option (List ℕ)) → RepliedToFirst limit Is input old new
       → RepliedInPart limit reply input old new

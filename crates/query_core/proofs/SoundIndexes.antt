@@ -88,8 +88,7 @@ module _ (limit : ℕ) where
 
   index_at : (tolds : List (Option (List ℕ))) (texts : List (List ℕ)) (indexes : List (List Member)) → Known tolds texts
       → AllZip (IsIndex limit) texts indexes → (i : ℕ) → i < length tolds → ToldIndex (get_or tolds i None)
-  index_at [] [] indexes known are i inside = absurd (omega (arith, inside))
-  index_at [] (t ∷ texts) indexes known are i inside = absurd known
+  index_at [] texts indexes known are i inside = grind arith
   index_at (told ∷ tolds) [] indexes known are i inside = absurd known
   index_at (told ∷ tolds) (t ∷ texts) [] known are i inside = absurd are
   index_at (told ∷ tolds) (t ∷ texts) (ms ∷ indexes) known are zero inside =

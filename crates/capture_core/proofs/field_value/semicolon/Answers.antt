@@ -1,4 +1,4 @@
-use Rattle.std.proofs.Common.{arith, ◌<◌, length, Option, None, Some, IfSome, ℕ, List}
+use Rattle.std.proofs.Common.{arith, ◌<◌, length, Option, IfSome, ℕ, List}
 use Rattle.memchr.specs.Find.{IsFirstByte, is_byte}
 use Rattle.cdxj_places.proofs.Found.{IsFirstByte_position}
 use Rattle.warc_head.proofs.FirstPlace.{first_place}
@@ -7,8 +7,7 @@ use Rattle.capture_core.proofs.field_value.semicolon.Goals as goal
 
 within : (value : List ℕ) (r : Option ℕ) → IsFirstByte (is_byte semicolon) value r
     → IfSome r (λ end. end < length value)
-within value None h = tt
-within value (Some end) h = h.0.high
+within value r h = grind arith
 
 pub returns-clause-place : goal.returns-clause-place
 returns-clause-place c =

@@ -1,4 +1,4 @@
-use Rattle.std.proofs.Common.{◌+◌, arith}
+use Rattle.std.proofs.Common.{arith}
 use Rattle.std.proofs.lemmas.List.{take_all}
 use Rattle.cdxj_places.proofs.Found.{first_byte_at, first_byte_none}
 use Rattle.capture_core.proofs.held_line.first_line.Goals as goal

@@ -1,4 +1,4 @@
-use Rattle.std.proofs.Common.{◌∙◌, ◌+◌, ◌-◌, take, drop, length-drop, sym, ap, arith}
+use Rattle.std.proofs.Common.{◌∙◌, take, drop, length-drop, sym, ap, arith}
 use Rattle.std.proofs.lemmas.List.{take_all}
 use Rattle.std.specs.List.{after_last}
 use Rattle.capture_core.specs.Spelling.{is_quote}

@@ -1,4 +1,4 @@
-use Rattle.std.proofs.Common.{arith, ap, ◌≡◌, ◌∙◌, true, []}
+use Rattle.std.proofs.Common.{arith, ap, ◌≡◌, true, []}
 use Rattle.clap.specs.Words.{App, Shape, app_of, with_subcommand}
 use Rattle.command_line.specs.Clap.{program}
 use Rattle.command_line.proofs.command.command_line.Goals as goal

@@ -1,12 +1,9 @@
-use Rattle.std.proofs.Common.{◌≡◌, ◌∙◌, ◌||◌, ap₂, arith}
+use Rattle.std.proofs.Common.{◌∙◌, ◌||◌, ap₂, arith}
 use Rattle.std.proofs.lemmas.List.{take_all}
 use Rattle.clap.specs.Words.{with_rule}
 use Rattle.command_line.specs.Arguments.{rule_for}
 use Rattle.command_line.proofs.CommandArguments.{app_with, one_more}
 use Rattle.command_line.proofs.command.with_command.Goals as goal
-
-pub loop-argument-init : goal.loop-argument-init
-loop-argument-init c = grind arith
 
 pub loop-argument-preserved : goal.loop-argument-preserved
 loop-argument-preserved c =

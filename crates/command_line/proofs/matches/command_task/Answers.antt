@@ -1,4 +1,4 @@
-use Rattle.std.proofs.Common.{arith, ◌≡◌, Bool, true, false, List, ℕ, bytes_eq, refl}
+use Rattle.std.proofs.Common.{arith, ◌≡◌, Bool, false, List, ℕ, bytes_eq, refl}
 use Rattle.std.proofs.lemmas.Slice.Eq.{bytes_eq-Decides}
 use Rattle.command_line.proofs.matches.command_task.Goals as goal
 
@@ -6,8 +6,7 @@ other : (name word : List ℕ) → (name ≡ word → ⊥) → bytes_eq word nam
 other name word differ = go (bytes_eq word name) refl
   where
     go : (b : Bool) → bytes_eq word name ≡ b → b ≡ false
-    go false e = refl
-    go true e = grind (arith, bytes_eq-Decides)
+    go b e = grind (arith, bytes_eq-Decides)
 
 pub returns-in_default : goal.returns-in_default
 returns-in_default c =

@@ -1,4 +1,4 @@
-use Rattle.std.proofs.Common.{arith, refl, ◌≡◌, ◌∙◌, true, Some, None, [], ◌∷◌, String, string_bytes, List, Option}
+use Rattle.std.proofs.Common.{arith, refl, ◌≡◌, true, Some, None, [], ◌∷◌, String, string_bytes, List, Option}
 use Rattle.std.proofs.Common.{unwrap_or, slice_get, Bor}
 use Rattle.std.specs.Global.{Global}
 use Rattle.std.specs.Option.{IfSome, option_copied}

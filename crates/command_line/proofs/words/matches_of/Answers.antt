@@ -17,8 +17,7 @@ both (Err e) P Q S R f p q = p
 
 error : {T E : Type 0} (r : Result T E) (Q : T → Type 0) (R S : E → Type 0) → ((e : E) → R e → S e) → MatchResult r Q R
     → IfErr r S
-error (Ok x) Q R S f m = tt
-error (Err e) Q R S f m = f e m
+error r Q R S f m = grind arith
 
 pub returns-clause-matches : goal.returns-clause-matches
 returns-clause-matches c =

@@ -1,4 +1,4 @@
-use Rattle.std.proofs.Common.{arith, ◌≡◌, Option, slice_get, subst, ap, ◌∙◌}
+use Rattle.std.proofs.Common.{arith, Option, slice_get, subst, ap, ◌∙◌}
 use Rattle.std.specs.List.{filter_map}
 use Rattle.std.proofs.lemmas.List.{length-map}
 use Rattle.devices.proofs.WritingLemmas.{wrote_nothing}

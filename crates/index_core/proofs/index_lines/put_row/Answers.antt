@@ -1,4 +1,4 @@
-use Rattle.std.proofs.Common.{arith, ◌∙◌, [], append-nil, subst}
+use Rattle.std.proofs.Common.{arith, [], append-nil, subst}
 use Rattle.std.specs.Io.KnownBytes.{Appends}
 use Rattle.std.specs.List.{cons_option}
 use Rattle.devices.proofs.DeviceLemmas.{Appends-none}

@@ -152,12 +152,6 @@ returns-clause-merged g c = λ texts known.
       count = rw (← all) w.1;
     }
 
-pub returns-in_err-opened-clause-failures : goal.returns-in_err-opened-clause-failures
-returns-in_err-opened-clause-failures g c = grind arith
-
-pub returns-in_err-merge-clause-failures : goal.returns-in_err-merge-clause-failures
-returns-in_err-merge-clause-failures g c = grind arith
-
 pub returns-clause-held : goal.returns-clause-held
 returns-clause-held g c = λ texts indexes known are most share.
     let opened = c.in_ok-opened.ensures in

@@ -243,12 +243,3 @@ returns-in_err-more-clause-halted g c =
       least = (grouped g here).least;
       read = (let now = reached g here in grind (arith, are_read_to));
     })
-
-pub returns-clause-passed : goal.returns-clause-passed
-returns-clause-passed g c = grind arith
-
-pub returns-in_err-first-clause-failures : goal.returns-in_err-first-clause-failures
-returns-in_err-first-clause-failures g c = grind arith
-
-pub returns-in_err-more-clause-failures : goal.returns-in_err-more-clause-failures
-returns-in_err-more-clause-failures g c = grind arith

@@ -1,4 +1,4 @@
-use Rattle.std.proofs.Common.{◌≡◌, ◌+◌, ℕ, Box, Global, Option, None, Some, option_map, refl, ◌∙◌, arith}
+use Rattle.std.proofs.Common.{◌≡◌, ◌+◌, ℕ, Box, Global, Option, Some, option_map, ◌∙◌, arith}
 use Rattle.std.specs.Prelude.{MatchOption}
 use Rattle.std.proofs.lemmas.Result.{err_from_is_err_and}
 use Rattle.cdxj_core.specs.declared.limit.TheConstants.{LINE_LIMIT}
@@ -56,13 +56,11 @@ loop-previous-preserved g c =
 
 counted : (found : Option (Box Line Global)) (n count : ℕ) → MatchOption found (n ≡ count) (λ _. n ≡ count + 1)
     → MatchOption (value found) (n ≡ count) (λ _. n ≡ count + 1)
-counted None n count h = h
-counted (Some b) n count h = h
+counted found n count h = grind arith
 
 not_some : (found : Option (Box Line Global)) → ((b : Box Line Global) → found ≡ Some b → ⊥) → (m : Member)
     → value found ≡ Some m → ⊥
-not_some None h m e = cc
-not_some (Some b) h m e = h b refl
+not_some found h m e = grind arith
 
 pub returns-clause-checked : goal.returns-clause-checked
 returns-clause-checked g c =

@@ -9,7 +9,7 @@ use Rattle.query_text.specs.Matching.{matches}
 use Rattle.page_core.proofs.PageLaws.{rises_filter}
 use Rattle.merge_core.specs.Collections.{all_lines, collection}
 use Rattle.page_core.specs.Pages.{kept}
-use Rattle.query_core.specs.QueryLaws.{AllAreKept, SelectedAreFirst}
+use Rattle.query_core.specs.QueryLaws.{SelectedAreFirst}
 use Rattle.query_core.proofs.laws.pages_are_selected.Goals as goal
 
 pub returns-clause-rise : goal.returns-clause-rise
@@ -31,11 +31,8 @@ kept_all place [] = refl
 kept_all None (m ∷ lines) = ap (λ l. m ∷ l) (kept_all (Some (member_place m)) lines)
 kept_all (Some p) (m ∷ lines) = ap (λ l. m ∷ l) (kept_all (Some (member_place m)) lines)
 
-all_are_kept : AllAreKept
-all_are_kept lines place = grind (arith, kept_all)
-
 pub returns-clause-members : goal.returns-clause-members
 returns-clause-members c = selected_are_first
 
 pub returns-clause-plain : goal.returns-clause-plain
-returns-clause-plain c = all_are_kept
+returns-clause-plain c = grind (arith, kept_all)

@@ -112,8 +112,7 @@ returns-in_err-all-clause-halted g c =
 -- ---- a merge that came to its end, or to enough
 
 by_truth : (b : Bool) (X : Type 0) → (b ≡ true → X) → (b ≡ false → X) → X
-by_truth true X f g = f refl
-by_truth false X f g = g refl
+by_truth b X f g = grind arith
 
 pub returns-clause-took : goal.returns-clause-took
 returns-clause-took g c =

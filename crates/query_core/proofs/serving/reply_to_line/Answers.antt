@@ -2,14 +2,14 @@ use Rattle.std.proofs.Common.{arith, le-ltb}
 use Rattle.std.proofs.lemmas.Str.{IsUtf8-from_is_utf8, is_utf8-from_IsUtf8}
 use Rattle.std.proofs.lemmas.Bool.{false_from_ne_true}
 use Rattle.std.specs.Str.{is_utf8}
-use Rattle.query_core.proofs.LineReplies.{no_text_reply, text_reply, writes_some, writes_weaker}
+use Rattle.query_core.proofs.LineReplies.{no_text_reply, writes_some}
 use Rattle.query_core.proofs.serving.reply_to_line.Goals as goal
 
 pub returns-in-Ok-clause-text : goal.returns-in-Ok-clause-text
-returns-in-Ok-clause-text g c = grind (arith, le-ltb, writes_some, text_reply, is_utf8-from_IsUtf8)
+returns-in-Ok-clause-text g c = grind (arith, le-ltb, writes_some, is_utf8-from_IsUtf8)
 
 pub returns-in-Ok-clause-lines : goal.returns-in-Ok-clause-lines
-returns-in-Ok-clause-lines g c = grind (arith, le-ltb, writes_weaker, text_reply, is_utf8-from_IsUtf8)
+returns-in-Ok-clause-lines g c = grind (arith, le-ltb, is_utf8-from_IsUtf8)
 
 pub returns-in-Err-clause-text : goal.returns-in-Err-clause-text
 returns-in-Err-clause-text g c = λ texts indexes known are.

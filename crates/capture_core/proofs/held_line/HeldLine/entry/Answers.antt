@@ -1,4 +1,4 @@
-use Rattle.std.proofs.Common.{arith, ◌≡◌, ◌∙◌}
+use Rattle.std.proofs.Common.{arith}
 use Rattle.capture_core.proofs.held_line.HeldLine.entry.Goals as goal
 
 pub returns : goal.returns

@@ -1,4 +1,4 @@
-use Rattle.std.proofs.Common.{arith, ◌≤◌, subst, sym}
+use Rattle.std.proofs.Common.{arith, subst, sym}
 use Rattle.cdxj_core.specs.declared.limit.TheConstants.{LINE_LIMIT}
 use Rattle.cdxj_core.specs.Entries.{HasLine}
 use Rattle.cdxj_core.specs.EntryView.{entry_view}

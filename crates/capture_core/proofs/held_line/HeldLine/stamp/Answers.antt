@@ -1,10 +1,10 @@
-use Rattle.std.proofs.Common.{◌≡◌, ◌∙◌, ◌+◌, ◌-◌, arith}
+use Rattle.std.proofs.Common.{◌≡◌, arith}
 use Rattle.cdxj_core.specs.Entries.{line_text}
-use Rattle.capture_core.specs.Spelling.{first_line}
 use Rattle.capture_core.proofs.HeldLines.{held_good}
-use Rattle.capture_core.proofs.SpellingLemmas.{line_long, stamp_in}
+use Rattle.capture_core.proofs.SpellingLemmas.{stamp_in}
 use Rattle.capture_core.proofs.held_line.HeldLine.stamp.Goals.{After-first_line}
 use Rattle.capture_core.proofs.held_line.HeldLine.stamp.Goals as goal
+use Rattle.std.proofs.Common.{length-append}
 
 key : (c : After-first_line) → c.before_space-key_length.result.now ≡ c.args.self.now.key
 key c = grind arith
@@ -13,7 +13,7 @@ line : (c : After-first_line) → c.first_line.result.now ≡ line_text c.args.s
 line c = grind arith
 
 pub slice_bounds-result-end : goal.slice_bounds-result-end
-slice_bounds-result-end c = grind (arith, line_long, key, line)
+slice_bounds-result-end c = grind (arith, length-append, key, line)
 
 pub returns : goal.returns
 returns c = grind (arith, stamp_in, held_good)

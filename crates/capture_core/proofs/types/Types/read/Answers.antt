@@ -1,4 +1,4 @@
-use Rattle.std.proofs.Common.{arith, ◌∙◌}
+use Rattle.std.proofs.Common.{arith}
 use Rattle.capture_core.proofs.TypeNames.{some-type}
 use Rattle.capture_core.proofs.types.Types.read.Goals as goal
 

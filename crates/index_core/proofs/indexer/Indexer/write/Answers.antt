@@ -5,8 +5,5 @@ use Rattle.index_core.proofs.indexer.Indexer.write.Goals as goal
 pub returns-clause-index : goal.returns-clause-index
 returns-clause-index g c = grind (arith, index_in_places)
 
-pub returns-clause-sound : goal.returns-clause-sound
-returns-clause-sound g c = grind arith
-
 pub returns-clause-all : goal.returns-clause-all
 returns-clause-all g c = grind (arith, all_in_places)

@@ -1,4 +1,4 @@
-use Rattle.std.proofs.Common.{arith, ◌≡◌, false, [], ◌∷◌, ◌++◌, map, ◌∙◌}
+use Rattle.std.proofs.Common.{◌≡◌, false, [], ◌∷◌, ◌++◌, map, ◌∙◌}
 use Rattle.std.specs.String.{string_bytes}
 use Rattle.index_core.specs.Indexing.{is_among}
 use Rattle.index_core.proofs.NameLemmas.{new_goes_last}
@@ -17,6 +17,3 @@ returns-clause-ok c =
           ∙ (λ i. c.self.view_is i ++ text i ∷ []))
       | in-Err w ↦ rw w.result-is tt
     ]
-
-pub returns-clause-err : goal.returns-clause-err
-returns-clause-err c = grind arith

@@ -1,4 +1,4 @@
-use Rattle.std.proofs.Common.{arith, ◌∙◌}
+use Rattle.std.proofs.Common.{arith}
 use Rattle.index_core.proofs.NameLemmas.{among_texts}
 use Rattle.index_core.proofs.names.Names.contains.Goals as goal
 

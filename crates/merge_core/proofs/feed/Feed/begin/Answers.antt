@@ -23,12 +23,6 @@ returns-in-Some-clause-fed g c =
     } in
     fed_next read _ c.settle.ensures.next
 
-pub returns-in-None-clause-fed : goal.returns-in-None-clause-fed
-returns-in-None-clause-fed g c = grind arith
-
-pub returns-in_err-line-clause-fault : goal.returns-in_err-line-clause-fault
-returns-in_err-line-clause-fault g c = grind arith
-
 -- no line was read but the first
 reads : (g : Over) (c : After-next_line g) (t : List ℕ) → g.S.Source.text c.args.source.now ≡ Some t
     → ReadTo LINE_LIMIT (g.R.Range.past c.args.range.now) None t c.next_line.new.cursor
@@ -39,11 +33,5 @@ reads g c t e =
 pub returns-in_err-line-clause-reads : goal.returns-in_err-line-clause-reads
 returns-in_err-line-clause-reads g c = grind (arith, reads)
 
-pub returns-in-None-clause-reads : goal.returns-in-None-clause-reads
-returns-in-None-clause-reads g c = grind arith
-
 pub returns-in-Some-clause-reads : goal.returns-in-Some-clause-reads
 returns-in-Some-clause-reads g c = grind (arith, reads)
-
-pub returns-in_err-line-clause-failures : goal.returns-in_err-line-clause-failures
-returns-in_err-line-clause-failures g c = grind arith

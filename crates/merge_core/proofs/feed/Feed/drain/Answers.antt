@@ -137,9 +137,6 @@ loop-line-preserved g c =
           taken_more first _ _ _ h.0 _ _ _ m h.1 h.2 h.3 (more t (ok.text ∙ inv.text ∙ e)) pushed alike;
     }
 
-pub returns-clause-fed : goal.returns-clause-fed
-returns-clause-fed g c = grind arith
-
 pub returns-in_err-line-clause-fault : goal.returns-in_err-line-clause-fault
 returns-in_err-line-clause-fault g c = λ t e.
     if_err c.from_residual.result c.in_err-line.field-0.0 (NamesLine LINE_LIMIT t) c.from_residual.ensures.1
@@ -172,6 +169,3 @@ returns-clause-reads g c = grind (arith, reads)
 
 pub returns-in-Greater-clause-reads : goal.returns-in-Greater-clause-reads
 returns-in-Greater-clause-reads g c = grind (arith, reads)
-
-pub returns-in_err-line-clause-failures : goal.returns-in_err-line-clause-failures
-returns-in_err-line-clause-failures g c = grind arith

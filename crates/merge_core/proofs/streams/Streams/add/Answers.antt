@@ -7,9 +7,6 @@ use Rattle.merge_core.proofs.streams.Streams.add.Given.{Over}
 use Rattle.merge_core.proofs.streams.Streams.add.Goals.{After-begin}
 use Rattle.merge_core.proofs.streams.Streams.add.Goals as goal
 
-pub begin-requires-clause-fed : goal.begin-requires-clause-fed
-begin-requires-clause-fed g c = grind arith
-
 -- no line was read but the first
 spent : (g : Over) (c : After-begin g) (t : List ℕ) → g.S.Source.text c.args.source.now ≡ Some t
     → g.S.Source.gave c.begin.new.source + reach c.args.cursor
@@ -30,6 +27,3 @@ returns-clause-spent g c = grind (arith, spent)
 
 pub returns-in_err-let_wait-clause-spent : goal.returns-in_err-let_wait-clause-spent
 returns-in_err-let_wait-clause-spent g c = grind (arith, spent)
-
-pub returns-in_err-next-clause-failures : goal.returns-in_err-next-clause-failures
-returns-in_err-next-clause-failures g c = grind arith

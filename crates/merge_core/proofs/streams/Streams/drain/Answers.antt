@@ -9,7 +9,7 @@ use Rattle.line_queue.specs.PairOrders.{Upto}
 use Rattle.merge_core.specs.Gathering.{all_done, unread}
 use Rattle.merge_core.specs.Spending.{AreReadTo}
 use Rattle.merge_core.proofs.SpendLemmas.{are_read_to, read_on}
-use Rattle.merge_core.proofs.FailLemmas.{counts_reads, raised_by_feed}
+use Rattle.merge_core.proofs.FailLemmas.{raised_by_feed}
 use Rattle.merge_core.proofs.Many.{Move, moved_set, map_set_same, unread_set}
 use Rattle.merge_core.proofs.StreamLemmas.{due_fed, waited_ready, waited_length}
 use Rattle.merge_core.proofs.streams.Streams.drain.Given.{Over}
@@ -105,7 +105,7 @@ pub returns-in-Err-clause-failures : goal.returns-in-Err-clause-failures
 returns-in-Err-clause-failures g c = grind (arith, raised_by_feed)
 
 pub returns-in_err-let_wait-clause-failures : goal.returns-in_err-let_wait-clause-failures
-returns-in_err-let_wait-clause-failures g c = grind (arith, map_set_same, counts_reads)
+returns-in_err-let_wait-clause-failures g c = grind (arith, map_set_same)
 
 pub returns-clause-failures : goal.returns-clause-failures
 returns-clause-failures g c = grind (arith, map_set_same)

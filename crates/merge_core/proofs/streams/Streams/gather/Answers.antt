@@ -225,6 +225,3 @@ returns-in_err-push-clause-reads g c =
           (due_read LINE_LIMIT (g.R.Range.past c.args.range.now) g.S.Source.text g.S.Source.extent _ c.drain.new.sources
           c.drain.new.self.feeds.items (taken_line g at.After-push).source f (read_to g at.After-drain told low));
     })
-
-pub returns-in_err-drain-clause-failures : goal.returns-in_err-drain-clause-failures
-returns-in_err-drain-clause-failures g c = grind arith

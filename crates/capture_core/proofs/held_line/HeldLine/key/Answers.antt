@@ -1,5 +1,0 @@
-use Rattle.std.proofs.Common.{arith, ◌∙◌}
-use Rattle.capture_core.proofs.held_line.HeldLine.key.Goals as goal
-
-pub returns : goal.returns
-returns c = grind arith
