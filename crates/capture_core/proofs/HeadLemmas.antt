@@ -7,12 +7,12 @@ use Rattle.block_digests.proofs.DigestLemmas.{take_past}
 use Rattle.capture_core.specs.HttpHead.{FrontDecides, HasNoHead, OneHead}
 
 pub one_head : OneHead
-one_head bytes fields block None x4 a b = grind arith
+one_head bytes fields block None h a b = grind arith
 one_head bytes fields block (Some x) None a b = absurd (b x.0 x.1 a)
 one_head bytes fields block (Some x) (Some y) a b = grind (arith, response_unique block x.0 y.0 x.1 y.1 a.reads b.reads)
 
 pub front_decides : FrontDecides
-front_decides bytes fields block x3 h = grind (arith, take_past, common_steps)
+front_decides bytes fields block k h = grind (arith, take_past, common_steps)
 
 -- no head stands in no bytes
 pub no_head_in_nothing : (bytes fields : ℕ) (block : List ℕ) → length block ≡ 0 → HasNoHead bytes fields block

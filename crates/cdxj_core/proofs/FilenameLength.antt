@@ -72,7 +72,7 @@ module _ (n : ℕ) (p : Parse Json) (parses : Parses n (ShortJson n) p) where
 
 one_level : (n : ℕ) (a : Parse json.Items) (o : Parse json.Members) → Parses n Any a → Parses n (ShortStrings n) o
     → Parses n (ShortJson n) (value_with a o)
-one_level n a o p q x5 h = grind arith
+one_level n a o p q k h = grind arith
 
 parses_value : (n depth : ℕ) → Parses n (ShortJson n) (value depth)
 unfolding value

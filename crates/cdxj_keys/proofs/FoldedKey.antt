@@ -18,9 +18,6 @@ bytes_are_key (b ∷ bytes) h =
     ∙ (λ i. byte_is_key b (h 0 0 (grind (arith, common_steps))) i && bytes_are_key bytes
     (λ k d below. h (suc k) d (grind (arith, common_steps))) i)
 
-byte_is_filled : (b : ℕ) → nat_lt 0 (length (key_byte b)) ≡ true
-byte_is_filled b = grind (arith, common_steps)
-
 is_filled : (bytes : List ℕ) → 0 < length bytes → nat_lt 0 (length (folded bytes)) ≡ true
 is_filled [] h = absurd (omega arith)
 is_filled (b ∷ bytes) h = grind (arith, common_steps, key_byte, folded)

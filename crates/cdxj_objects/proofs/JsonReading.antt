@@ -10,15 +10,6 @@ use Rattle.serde_json.specs.Data.{Data, null, Members, put}
 use Rattle.serde_json.specs.Read.{number_of, of_json, of_items, of_members, converted}
 use Rattle.cdxj_objects.specs.FoundMembers.{number_data, member_data, value_read, members_passed}
 
--- what was read, or the value if nothing was
-abbrev pub value_or : {A : Type 0} → A → Option (A × List Token) → A
-value_or a None = a
-value_or a (Some p) = p.0
-
-abbrev pub rest_or : {A : Type 0} → Option (A × List Token) → List Token
-rest_or None = []
-rest_or (Some p) = p.1
-
 -- ---- a value, by its first token
 
 abbrev pub seen : Option (json.Json × List Token) → Option (Data × List Token)

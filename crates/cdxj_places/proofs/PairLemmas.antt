@@ -99,7 +99,7 @@ abbrev Decides : Ordering → Type 0
 Decides o = (a b c : Ordering) → ordering_then a b ≡ o → ordering_then a (ordering_then b c) ≡ o
 
 less : Decides Less
-less x0 b c e = grind arith
+less a b c e = grind arith
 
 module _ (p q : PlaceValue) where
   abbrev later : Ordering

@@ -130,7 +130,7 @@ plain_asked words u h = rw (u, h) refl
 pub matched : (task : Option Meaning) (kinds : Kinds) (met : Option (Text × List Row)) → Told task kinds met → kinds
     ≡ []
     → ok_or task Usage ≡ ok_or (matches_task met) Usage
-matched task kinds met x3 e = grind arith
+matched task kinds met h e = grind arith
 
 -- ---- the kinds of clap's errors
 
@@ -151,7 +151,7 @@ usage_kind (x ∷ xs) k h m = go (is_usage (refusal_for x)) refl h m (usage_kind
 pub refused : (task : Option Meaning) (kinds : Kinds) (met : Option (Text × List Row)) (k : ErrorKind)
     → Told task kinds met
     → (k ≡ kind.OutOfMemory) ⊎ IsAmong k kinds → IfSome (refusal_for k) (λ refusal. ok_or task Usage ≡ Err refusal)
-refused task kinds met k t x5 = grind (arith, usage_kind)
+refused task kinds met k t h = grind (arith, usage_kind)
 
 -- ---- a first word beside one that asks for help
 
@@ -193,4 +193,4 @@ help_kind kinds k e m = go (rw e at m)
 
 pub refused_help : (wanted : Refusal) (kinds : Kinds) (k : ErrorKind) → ToldHelp wanted kinds
     → (k ≡ kind.OutOfMemory) ⊎ IsAmong k kinds → IfSome (refusal_for k) (λ refusal. refusal ≡ wanted)
-refused_help wanted kinds k t x4 = grind (arith, help_kind, usage_kind)
+refused_help wanted kinds k t h = grind (arith, help_kind, usage_kind)

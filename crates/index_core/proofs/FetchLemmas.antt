@@ -55,11 +55,6 @@ module _ (limit : ℕ) where
 
   -- ---- what comes next
 
-  same_head : (h k : HeadView) (z : List ℕ) (r : Result (Unit {0} × List ℕ) Cause)
-      → ◌≡◌ {A = Result (Option HeadView × List ℕ) Cause} (r >>= λ closed. Ok (Some h, closed.1)) (Ok (Some k, z)) → h
-      ≡ k
-  same_head h k z r e = grind arith
-
   -- the head that was read is that of the record which begins these bytes
   record_head : (o : ℕ) (h k : HeadView) (bytes y z : List ℕ) → next_at limit o bytes ≡ Ok (Some h, y)
       → record_at limit o bytes ≡ Ok (Some k, z) → h ≡ k

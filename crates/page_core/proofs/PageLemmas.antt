@@ -18,7 +18,7 @@ flat_map-map f g (x ∷ xs) = ap (λ l. f (g x) ++ l) (flat_map-map f g xs)
 
 pub page_in_pieces : PageInPieces
 page_in_pieces (Text fields) members key = refl
-page_in_pieces x0 members key = grind (arith, flat_map-append, flat_map-map, append_assoc)
+page_in_pieces form members key = grind (arith, flat_map-append, flat_map-map, append_assoc)
 
 -- a capture more
 pub begun-more : (form : FormValue) (members : List Member) (m : Member) → begun form (members ++ m ∷ []) ≡ begun form

@@ -15,7 +15,6 @@ use Rattle.warc_core.specs.HeadText.{version_1_1, version_1_0, agrees, has_versi
 use Rattle.warc_core.specs.RecordText.{IsVersionLine, IsRecordHead}
 use Rattle.warc_core.proofs.ClosingLemmas.{closed-last}
 use Rattle.warc_core.proofs.HeadLemmas.{or_true, agrees-begins, closed-long}
-use Rattle.warc_core.proofs.HeadLemmas.{agrees-whole}
 
 -- a text that was found as a head, and read as these parts
 pub record IsFoundOf (limit : ℕ) (parts : HeadParts) (text : List ℕ) : Type 0 where
@@ -72,11 +71,6 @@ found-spelled limit raw p f h =
       is_head = grind (arith, body, last-empty, fields_spelled);
       says = r.1;
     }
-
--- a version line has ten bytes, and is one however it goes on
-version-found : (version more : List ℕ) → IsVersionLine version → (length version ≡ 10)
-    × (has_version (version ++ more) ≡ true)
-version-found version more x2 = grind (arith, agrees-whole)
 
 pub spelled-found : (limit : ℕ) (raw : List ℕ) (p : HeadParts) → IsRecordHead limit p raw → IsFoundOf limit p raw
 spelled-found limit raw p h =
