@@ -1,6 +1,7 @@
 -- An archive that was added to an indexer, or wasn't.
 use Rattle.std.proofs.Common.{◌≡◌, ◌↔◌, ℕ, Bool, true, false, List, [], ◌++◌, length, Option, Result, Ok, Err, IfOk}
 use Rattle.std.proofs.Common.{refl, ◌∙◌, arith, nat_lt, nat_le}
+use Rattle.std.proofs.lemmas.Bool.{cases_lt}
 use Rattle.warc_core.specs.Kind.{Kind}
 use Rattle.warc_core.specs.declared.next.TheConstants.{HEAD_LIMIT}
 use Rattle.cdxj_core.specs.declared.limit.TheConstants.{LINE_LIMIT}
@@ -14,24 +15,14 @@ use Rattle.index_core.specs.Indexing.{Held, IsName, is_among}
 use Rattle.scan_core.specs.Archives.{HasIndex, IsAcceptedAs, IsNewName, IsFaultOfArchive, HaveLines, index_members}
 
 is_name : (name : List ℕ) → ((IsName name → ⊥) → ⊥) → IsName name
-is_name name h = go (nat_lt 0 (length name)) refl (nat_le (length name) 255) refl
-  where
-    go : (a : Bool) → nat_lt 0 (length name) ≡ a → (b : Bool) → nat_le (length name) 255 ≡ b → IsName name
-    go true e true f = grind arith
-    go false e b f = grind arith
-    go a e false f = grind arith
+is_name name h = grind (arith, cases_lt 0 (length name), cases_lt 255 (length name))
 
 -- a name that is neither bad nor used
 pub is_new : (names : List (List ℕ)) (name : List ℕ) (r : Result ℕ IndexFault) → (r ≡ Err index.BadName)
     ↔ ¬ (IsName name) → (r ≡ Err index.DuplicateName) ↔ (IsName name × (is_among names name ≡ true))
     → (r ≡ Err index.BadName → ⊥) → (r ≡ Err index.DuplicateName → ⊥) → IsNewName names name
 is_new names name r bad duplicate not_bad not_duplicate =
-    let good = is_name name (λ k. not_bad (bad.1 k)) in
-    record { good = good; unused = go (is_among names name) refl (λ e. not_duplicate (duplicate.1 (good, e))) }
-  where
-    go : (b : Bool) → is_among names name ≡ b → (is_among names name ≡ true → ⊥) → is_among names name ≡ false
-    go true e unlike = absurd (unlike e)
-    go false e unlike = e
+    let good = is_name name (λ k. not_bad (bad.1 k)) in record { good = good; unused = grind arith }
 
 -- why an archive wasn't added is why it isn't indexed
 pub fault_of : (types : Kind → Bool) (names : List (List ℕ)) (name : List ℕ) (input : Option (List ℕ)) (old new : Held)
@@ -40,12 +31,7 @@ pub fault_of : (types : Kind → Bool) (names : List (List ℕ)) (name : List �
     → (◌≡◌ {A = Result ℕ IndexFault} (Err fault) (Err index.DuplicateName))
     ↔ (IsName name × (is_among names name ≡ true))
     → Adds types usual_limits HEAD_LIMIT name input old new (Err fault) → IsFaultOfArchive types names name input fault
-fault_of types names name input old new index.BadName bad duplicate adds = bad.0 refl
-fault_of types names name input old new index.DuplicateName bad duplicate adds = duplicate.0 refl
-fault_of types names name input old new index.Memory bad duplicate adds = grind arith
-fault_of types names name input old new (index.Capture fault) bad duplicate adds = grind arith
-fault_of types names name input old new index.Write bad duplicate adds = absurd adds
-fault_of types names name input old new index.NoRecord bad duplicate adds = absurd adds
+fault_of types names name input old new fault bad duplicate adds = grind arith
 
 -- the index of what an indexer without captures gained by an archive
 pub index_of_added : {I : Type 0} (text : I → List ℕ) (types : Kind → Bool) (names : List (List ℕ)) (name : List ℕ)
@@ -54,6 +40,4 @@ pub index_of_added : {I : Type 0} (text : I → List ℕ) (types : Kind → Bool
     → IsAcceptedAs types name input captures
     → HaveLines new.captures → IfOk r (λ index. IsIndex LINE_LIMIT (text index) (index_members new.captures))
     → IfOk r (λ index. HasIndex types names name input (text index))
-index_of_added text types names name input old new captures (Err fault) none fresh is accepted lines written = tt
-index_of_added text types names name input old new captures (Ok index) none fresh is accepted lines written =
-    grind arith
+index_of_added text types names name input old new captures r none fresh is accepted lines written = grind arith

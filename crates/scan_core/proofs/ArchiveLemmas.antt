@@ -3,7 +3,7 @@ use Rattle.std.proofs.lemmas.Grind.{common_steps}
 use Rattle.std.specs.List.{AllZip}
 use Rattle.std.proofs.Common.{◌≡◌, ℕ, zero, suc, ◌+◌, ◌<◌, List, [], ◌∷◌, ◌++◌, length, map, take, drop, get_or, set}
 use Rattle.std.proofs.Common.{Option, None, Err, refl, ap, Bool, ◌∙◌, arith, append_assoc, append-nil}
-use Rattle.std.proofs.lemmas.List.{take_more}
+use Rattle.std.proofs.lemmas.List.{take_more, length-map, get_or-map, map-set, set-get_or}
 use Rattle.warc_core.specs.Kind.{Kind}
 use Rattle.cdxj_core.specs.Entries.{EntryValue}
 use Rattle.cdxj_core.specs.Indexes.{IsIndex}
@@ -21,23 +21,16 @@ use Rattle.scan_core.specs.Scanning.{LeavesUnread}
 names_push : (earlier names : List (List ℕ)) (name : List ℕ) → AreNewNames earlier names
     → IsNewName (earlier ++ names) name → AreNewNames earlier (names ++ name ∷ [])
 names_push earlier [] name h k = grind (arith, append-nil)
-names_push earlier (n ∷ names) name h k = (
-  h.0,
-  names_push (earlier ++ n ∷ []) names name h.1
-      (grind (arith, append_assoc)),
-)
+names_push earlier (n ∷ names) name h k =
+    grind (arith, append_assoc, names_push (earlier ++ n ∷ []) names name h.1)
 
 accepted_push : (types : Kind → Bool) (names : List (List ℕ)) (inputs : List (Option (List ℕ)))
     (archives : List (List EntryValue)) (name : List ℕ) (input : Option (List ℕ)) (captures : List EntryValue)
     → AreAcceptedAs types names inputs archives → IsAcceptedAs types name input captures
     → AreAcceptedAs types (names ++ name ∷ []) (inputs ++ input ∷ []) (archives ++ captures ∷ [])
-accepted_push types [] [] [] name input captures h k = (k, tt)
-accepted_push types [] [] (c ∷ archives) name input captures h k = absurd h
-accepted_push types [] (i ∷ inputs) archives name input captures h k = absurd h
-accepted_push types (n ∷ names) [] archives name input captures h k = absurd h
-accepted_push types (n ∷ names) (i ∷ inputs) [] name input captures h k = absurd h
 accepted_push types (n ∷ names) (i ∷ inputs) (c ∷ archives) name input captures h k =
     (h.0, accepted_push types names inputs archives name input captures h.1 k)
+accepted_push types names inputs archives name input captures h k = grind arith
 
 -- one archive more
 pub indexed_push : (types : Kind → Bool) (names : List (List ℕ)) (inputs : List (Option (List ℕ)))
@@ -56,41 +49,24 @@ pub indexes_push : {I : Type 0} (limit : ℕ) (text : I → List ℕ) (indexes :
     → AllZip (IsIndex limit) (map text (indexes ++ index ∷ [])) (map index_members (archives ++ captures ∷ []))
 indexes_push limit text [] [] index captures h k = (k, tt)
 indexes_push limit text [] (c ∷ archives) index captures h k = absurd h
-indexes_push limit text (x ∷ indexes) [] index captures h k = absurd h
 indexes_push limit text (x ∷ indexes) (c ∷ archives) index captures h k =
     (h.0, indexes_push limit text indexes archives index captures h.1 k)
-
--- what a function shows of the i-th
-pub shown_at : {X Y : Type 0} (f : X → Y) (xs : List X) (i : ℕ) (x : X) (d : Y) → i < length xs → f (get_or xs i x)
-    ≡ get_or (map f xs) i d
-shown_at f [] i x d l = absurd (omega arith)
-shown_at f (y ∷ xs) zero x d l = refl
-shown_at f (y ∷ xs) (suc i) x d l = shown_at f xs i x d (omega arith)
-
-pub map_length : {X Y : Type 0} (f : X → Y) (xs : List X) → length (map f xs) ≡ length xs
-map_length f [] = refl
-map_length f (x ∷ xs) = ap suc (map_length f xs)
-
-pub map_replaced : {X Y : Type 0} (f : X → Y) (xs : List X) (i : ℕ) (x : X) → map f (set xs i x)
-    ≡ set (map f xs) i (f x)
-map_replaced f [] i x = refl
-map_replaced f (y ∷ xs) zero x = refl
-map_replaced f (y ∷ xs) (suc i) x = ap (λ ys. f y ∷ ys) (map_replaced f xs i x)
+indexes_push limit text indexes archives index captures h k = grind arith
 
 -- An archive x among archives of which those before the i-th were gone over
 module _ {X : Type 0} (types : Kind → Bool) (name : X → List ℕ) (input : X → Option (List ℕ)) (xs0 : List X) (i : ℕ)
     (d x : X) (inside : i < length xs0) (is : x ≡ get_or xs0 i d) where
   name_at : name x ≡ get_or (map name xs0) i []
-  name_at = grind (arith, shown_at)
+  name_at = grind (arith, get_or-map)
 
   input_at : input x ≡ get_or (map input xs0) i None
-  input_at = grind (arith, shown_at)
+  input_at = grind (arith, get_or-map)
 
   names_inside : i < length (map name xs0)
-  names_inside = let e = map_length name xs0 in omega arith
+  names_inside = grind (arith, length-map)
 
   inputs_inside : i < length (map input xs0)
-  inputs_inside = let e = map_length input xs0 in omega arith
+  inputs_inside = grind (arith, length-map)
 
   module _ (earlier : List (List ℕ)) (archives : List (List EntryValue)) (names_are : earlier ≡ take i (map name xs0))
       (before : AreIndexed types (take i (map name xs0)) (take i (map input xs0)) archives) where
@@ -118,21 +94,16 @@ pub counts_at : {X : Type 0} (count : X → ℕ) (xs0 xs : List X) (i : ℕ) (d 
     → CountsIndex {A = Unit {0}} (Err fault) (count x) (count y)
     → CountsAt i fault (map count xs0) (map count (set xs i y))
 counts_at count xs0 xs i d x y fault same inside is h = (
-  grind (arith, map_length),
+  grind (arith, length-map),
   count y,
-  grind (arith, map_replaced),
-  grind (arith, shown_at),
+  grind (arith, map-set),
+  grind (arith, get_or-map),
 )
 
 -- nothing from the i-th on changed, where the i-th didn't
 pub same_from : {X : Type 0} (old xs : List X) (i : ℕ) (d x y : X) → drop i xs ≡ drop i old → x ≡ get_or xs i d → y ≡ x
     → drop i (set xs i y) ≡ drop i old
-same_from old xs i d x y rest is same = ap (λ z. drop i (set xs i z)) same ∙ unchanged xs i d x is ∙ rest
-  where
-    unchanged : {X : Type 0} (us : List X) (k : ℕ) (b v : X) → v ≡ get_or us k b → drop k (set us k v) ≡ drop k us
-    unchanged [] k b v e = refl
-    unchanged (u ∷ us) zero b v e = ap (λ w. w ∷ us) e
-    unchanged (u ∷ us) (suc k) b v e = unchanged us k b v e
+same_from old xs i d x y rest is same = grind (arith, set-get_or)
 
 unread_after : {X : Type 0} (old xs : List X) (i : ℕ) (y : X) → drop i xs ≡ drop i old → drop (suc i) (set xs i y)
     ≡ drop (suc i) old
@@ -142,9 +113,4 @@ unread_after old xs i y rest = grind (arith, left_after old xs i y rest)
 pub unread_at : {X : Type 0} (old xs : List X) (i : ℕ) (d x y : X) (fault : IndexFault) → drop i xs ≡ drop i old → x
     ≡ get_or xs i d → (IsNameFault fault → y ≡ x)
     → LeavesUnread old (set xs i y) (Archive i fault)
-unread_at old xs i d x y index.BadName rest is same = same_from old xs i d x y rest is (same tt)
-unread_at old xs i d x y index.DuplicateName rest is same = same_from old xs i d x y rest is (same tt)
-unread_at old xs i d x y index.Memory rest is same = unread_after old xs i y rest
-unread_at old xs i d x y (index.Capture f) rest is same = unread_after old xs i y rest
-unread_at old xs i d x y index.Write rest is same = unread_after old xs i y rest
-unread_at old xs i d x y index.NoRecord rest is same = unread_after old xs i y rest
+unread_at old xs i d x y fault rest is same = grind (arith, same_from, unread_after)

@@ -9,7 +9,7 @@ use Rattle.cdxj_places.specs.Places.{place_cmp}
 use Rattle.cdxj_places.specs.Rising.{IsIn, IsFirst, Rises, choose, put, rising}
 use Rattle.cdxj_places.proofs.PlaceOrder.{place_cmp_total}
 use Rattle.cdxj_places.proofs.RisingAlike.{rising_referred}
-use Rattle.cdxj_places.proofs.RisingLaws.{each_rising, rises_rising, rising_members, rising_same}
+use Rattle.cdxj_places.proofs.RisingLaws.{each_at, each_rising, rises_rising, rising_members, rising_same}
 use Rattle.cdxj_core.specs.Entries.{EntryValue}
 use Rattle.cdxj_core.specs.Members.{entry_member, member_place}
 use Rattle.index_core.specs.Indexing.{in_places}
@@ -24,21 +24,7 @@ module _ {X P : Type 0} (place : X → P) (R : P → P → Ordering) (o : IsTota
 
   absent_put : (x y : X) (c : List X) → Absent x (put place R y c) → (R (place x) (place y) ≡ Equal → ⊥) × Absent x c
   absent_put x y [] h = (h.0, tt)
-  absent_put x y (z ∷ zs) h =
-      (elim (R (place y) (place z)) as (λ r. R (place y) (place z) ≡ r
-      → Absent x (choose r (y ∷ z ∷ zs) (y ∷ zs) (z ∷ put place R y zs)) → (R (place x) (place y) ≡ Equal → ⊥)
-      × Absent x (z ∷ zs)) [
-        | Less ↦ (λ e k. (k.0, k.1))
-        | Equal ↦ (λ e k. (
-          k.0,
-          (
-            (λ (q : R (place x) (place z) ≡ Equal). k.0 (o.congr (place x) (place z) (place y) q
-                ∙ tied_back o (place y) (place z) e)),
-            k.1,
-          ),
-        ))
-        | Greater ↦ (λ e k. let r = absent_put x y zs k.1 in (r.0, (k.0, r.1)))
-      ]) refl h
+  absent_put x y (z ∷ zs) h = grind (arith, o.congr, tied_back o, absent_put x y zs)
 
   absent_rising : (x : X) (us : List X) → Absent x (rising place R us) → Absent x us
   absent_rising x [] h = tt
@@ -48,32 +34,21 @@ module _ {X P : Type 0} (place : X → P) (R : P → P → Ordering) (o : IsTota
   first_of : (x : X) (us vs : List X) → IsFirst place R x (us ++ vs) → IsFirst place R x us
       ⊎ (Absent x us × IsFirst place R x vs)
   first_of x [] vs h = inr (tt, h)
-  first_of x (u ∷ us) vs h = elim h [
-    | inl e ↦ inl (inl e)
-    | inr w ↦ grind (arith, first_of x us vs w.1)
-  ]
+  first_of x (u ∷ us) vs h = grind (arith, first_of x us vs)
 
   of_first : (x : X) (us vs : List X) → IsFirst place R x us ⊎ (Absent x us × IsFirst place R x vs)
       → IsFirst place R x (us ++ vs)
   of_first x [] vs h = grind arith
-  of_first x (u ∷ us) vs h = elim h [
-    | inl f ↦ elim f [ inl e ↦ inl e | inr w ↦ inr (w.0, of_first x us vs (inl w.1)) ]
-    | inr v ↦ inr (v.0.0, of_first x us vs (inr (v.0.1, v.1)))
-  ]
+  of_first x (u ∷ us) vs h = grind (arith, of_first x us vs)
 
   in_list : (x : X) (us : List X) → IsFirst place R x us → IsIn x us
   in_list x [] h = h
-  in_list x (u ∷ us) h = elim h [ inl e ↦ inl e | inr w ↦ inr (in_list x us w.1) ]
+  in_list x (u ∷ us) h = grind (arith, in_list x us)
 
   -- of a rising list each is the first with its place
   is_first : (x : X) (us : List X) → Rises place R us → IsIn x us → IsFirst place R x us
   is_first x [] h i = i
-  is_first x (u ∷ us) h i = elim i [ inl e ↦ inl e | inr j ↦ inr (apart us h.0 j, is_first x us h.1 j) ]
-    where
-      apart : (ys : List X) → AllByRecursion (λ y. is_gt (R (place y) (place u)) ≡ true) ys → IsIn x ys
-          → R (place x) (place u) ≡ Equal → ⊥
-      apart [] a j q = absurd j
-      apart (y ∷ ys) a j q = elim j [ inl e ↦ grind arith | inr k ↦ apart ys a.1 k q ]
+  is_first x (u ∷ us) h i = grind (arith, each_at, is_first x us h.1)
 
   -- the first with their places of a list are those of its rising list
   first_risen : (x : X) (us : List X) → IsFirst place R x us → IsFirst place R x (rising place R us)
@@ -86,18 +61,17 @@ module _ {X P : Type 0} (place : X → P) (R : P → P → Ordering) (o : IsTota
   rising_left : (us vs : List X) → rising place R (rising place R us ++ vs) ≡ rising place R (us ++ vs)
   rising_left us vs =
       rising_same place R o (rising place R (rising place R us ++ vs)) (rising place R (us ++ vs))
-      (grind (arith, rises_rising)) (rises_rising place R o (us ++ vs)) (λ x. (
-        (λ i. (rising_members place R o x (us ++ vs)).1
-            (of_first x us vs (elim
-            (first_of x (rising place R us) vs ((rising_members place R o x (rising place R us ++ vs)).0 i)) [
-              | inl f ↦ inl (risen_first x us f)
-              | inr v ↦ inr (absent_rising x us v.0, v.1)
-            ]))),
-        (λ i. (rising_members place R o x (rising place R us ++ vs)).1
-            (of_first x (rising place R us) vs (elim (first_of x us vs ((rising_members place R o x (us ++ vs)).0 i)) [
-              | inl f ↦ inl (first_risen x us f)
-              | inr v ↦ inr (each_rising place R o _ us v.0, v.1)
-            ]))),
+      (grind (arith, rises_rising)) (rises_rising place R o (us ++ vs)) (λ x. grind (
+        arith,
+        rising_members,
+        of_first x us vs,
+        of_first x (rising place R us) vs,
+        first_of x us vs,
+        first_of x (rising place R us) vs,
+        first_risen,
+        risen_first,
+        absent_rising,
+        each_rising,
       ))
 
   rising_right : (xs us vs : List X) → rising place R us ≡ rising place R vs → rising place R (xs ++ us)

@@ -15,11 +15,6 @@ use Rattle.scan_core.specs.Captures.{all_captures}
 abbrev IsNamed : List ℕ → EntryValue → Type 0
 IsNamed name e = e.filename ≡ name
 
--- what isn't among more names isn't among fewer
-not_among : (names more : List (List ℕ)) (name : List ℕ) → is_among (names ++ more) name ≡ false → is_among names name
-    ≡ false
-not_among names more name h = grind (arith, among_more)
-
 -- a capture of that name is at another place than those of other names
 apart : (earlier : List (List ℕ)) (name : List ℕ) (e : EntryValue) → IsNamed name e → (others : List EntryValue)
     → AllByRecursion (λ o. is_among (earlier ++ name ∷ []) o.filename ≡ false) others
@@ -28,9 +23,7 @@ apart earlier name e named others h =
     each_weaker {B = λ o. place_cmp (entry_place e) (entry_place o) ≡ Equal → ⊥}
     (λ (o : EntryValue) (k : is_among (earlier ++ name ∷ []) o.filename ≡ false)
     (q : place_cmp (entry_place e) (entry_place o) ≡ Equal).
-    let same : e.filename
-    ≡ o.filename = ap (λ (p : PlaceValue). p.filename) (same_place (entry_place e) (entry_place o) q) in
-    true≢false (sym (among_last earlier name) ∙ ap (is_among (earlier ++ name ∷ [])) (sym named ∙ same) ∙ k)) others h
+    let same = same_place (entry_place e) (entry_place o) q in grind (arith, among_last)) others h
 
 own_join : (earlier : List (List ℕ)) (name : List ℕ) (captures others : List EntryValue)
     → AllByRecursion (IsNamed name) captures → HaveOwnPlaces captures
@@ -41,25 +34,14 @@ own_join earlier name (e ∷ captures) others named own new h =
     grind (arith, each_join, apart, own_join earlier name captures others named.1 own.1 new h)
 
 -- each capture of archives with new names has a place of its own, and a name that isn't an earlier one
-once_from : (types : Kind → Bool) (earlier names : List (List ℕ)) (inputs : List (Option (List ℕ)))
+pub once_from : (types : Kind → Bool) (earlier names : List (List ℕ)) (inputs : List (Option (List ℕ)))
     (archives : List (List EntryValue)) → AreNewNames earlier names → AreAcceptedAs types names inputs archives
     → AllByRecursion HaveLines archives
     → HaveOwnPlaces (all_captures archives)
     × AllByRecursion (λ e. is_among earlier e.filename ≡ false) (all_captures archives)
-once_from types earlier [] [] [] new accepted lines = (tt, tt)
-once_from types earlier [] [] (c ∷ archives) new accepted lines = absurd accepted
-once_from types earlier [] (i ∷ inputs) archives new accepted lines = absurd accepted
-once_from types earlier (name ∷ names) [] archives new accepted lines = absurd accepted
-once_from types earlier (name ∷ names) (i ∷ inputs) [] new accepted lines = absurd accepted
 once_from types earlier (name ∷ names) (i ∷ inputs) (captures ∷ archives) new accepted lines =
-    let named = accepted.0.0 in
     let rest = once_from types (earlier ++ name ∷ []) names inputs archives new.1 accepted.1 lines.1 in (
-      own_join earlier name captures (all_captures archives) named lines.0.places rest.1 rest.0,
-      grind (arith, each_join, each_weaker, not_among),
+      own_join earlier name captures (all_captures archives) accepted.0.0 lines.0.places rest.1 rest.0,
+      grind (arith, each_join, each_weaker, among_more),
     )
-
-pub once : (types : Kind → Bool) (names : List (List ℕ)) (inputs : List (Option (List ℕ)))
-    (archives : List (List EntryValue)) → AreNewNames [] names → AreAcceptedAs types names inputs archives
-    → AllByRecursion HaveLines archives
-    → HaveOwnPlaces (all_captures archives)
-once types names inputs archives new accepted lines = grind (arith, once_from)
+once_from types earlier names inputs archives new accepted lines = grind arith

@@ -17,7 +17,7 @@ use Rattle.query_core.specs.declared.merging.TheConstants.{SOURCES_LIMIT}
 use Rattle.query_core.specs.Paging.{are_sizes}
 use Rattle.query_core.specs.QueryLaws.{NoLineIsAtFault}
 use Rattle.query_core.specs.Refusals.{IsBeforeReading, Refuses, bad_sizes_or_too_many}
-use Rattle.scan_core.proofs.ArchiveLemmas.{map_length}
+use Rattle.std.proofs.lemmas.List.{length-map, get_or-set_same}
 use Rattle.scan_core.specs.Scanning.{IsPagesFault}
 
 -- sources in memory tell their bytes
@@ -32,7 +32,7 @@ known_texts text sources texts e = subst (Known (map (λ s. Some (text s)) sourc
 -- lists that show one list are of one length
 pub same_length : {X Y Z : Type 0} (f : X → Z) (g : Y → Z) (xs : List X) (ys : List Y) → map f xs ≡ map g ys → length xs
     ≡ length ys
-same_length f g xs ys e = grind (arith, map_length)
+same_length f g xs ys e = grind (arith, length-map)
 
 abbrev zeros : {S : Type 0} → List S → List ℕ
 zeros ss = map (λ s. 0) ss
@@ -42,15 +42,10 @@ zero_at [] i = refl
 zero_at (s ∷ ss) zero = refl
 zero_at (s ∷ ss) (suc i) = zero_at ss i
 
-pub put_at : (ns : List ℕ) (i n : ℕ) → i < length ns → get_or (set ns i n) i 0 ≡ n
-put_at [] i n l = absurd (omega arith)
-put_at (m ∷ ns) zero n l = refl
-put_at (m ∷ ns) (suc i) n l = put_at ns i n (omega arith)
-
 -- no count of 0 rises where all stay 0
 pub none_raised : {S : Type 0} (i : ℕ) (old new : List S) → RaisedAt i (zeros old) (zeros new) → ⊥
 none_raised i old new h =
-    grind (arith, zero_at new i, put_at (zeros old) i (next_count (get_or (zeros old) i 0)) h.0, zero_at)
+    grind (arith, zero_at new i, get_or-set_same (zeros old) i (next_count (get_or (zeros old) i 0)) 0 h.0, zero_at)
 
 -- pages over indexes meet no fault of a line or of a source
 pub pages_fault : {S : Type 0} → NoLineIsAtFault
@@ -59,24 +54,16 @@ pub pages_fault : {S : Type 0} → NoLineIsAtFault
     → IfErr r (IsAnswerFaultOf LINE_LIMIT tolds) → CountsAnswer r (zeros old) (zeros new) o o'
     → IfErr r (λ e. IsBeforeReading e → ⊥)
     → IfErr r IsPagesFault
-pages_fault law (Ok n) tolds texts members old new o o' known are f counts late = tt
-pages_fault law (Err answer.Memory) tolds texts members old new o o' known are f counts late = tt
 pages_fault law (Err (answer.Read i)) tolds texts members old new o o' known are f counts late = none_raised i old new
     counts.0
-pages_fault law (Err answer.Write) tolds texts members old new o o' known are f counts late = tt
 pages_fault law (Err (answer.BadLine i n)) tolds texts members old new o o' known are f counts late = law tolds
     (answer.BadLine i n) f texts members known are
 pages_fault law (Err (answer.OutOfOrder i n)) tolds texts members old new o o' known are f counts late = law tolds
     (answer.OutOfOrder i n) f texts members known are
-pages_fault law (Err answer.TooManySources) tolds texts members old new o o' known are f counts late = late tt
-pages_fault law (Err answer.BadSizes) tolds texts members old new o o' known are f counts late = late tt
-pages_fault law (Err answer.Input) tolds texts members old new o o' known are f counts late = counts
-
-few : (limit count : ℕ) → count ≤ limit → nat_lt limit count ≡ false
-few limit count h = grind (arith, nat_tests)
+pages_fault law r tolds texts members old new o o' known are f counts late = grind arith
 
 -- sizes and sources that are accepted are not refused
 pub not_refused : (r : Result ℕ AnswerFault) (sizes : List ℕ) (count : ℕ) (X : Type 0) → are_sizes sizes ≡ true
     → count ≤ SOURCES_LIMIT
     → Refuses (bad_sizes_or_too_many sizes count) r X → IfErr r (λ e. IsBeforeReading e → ⊥)
-not_refused r sizes count X sized h refused = grind arith
+not_refused r sizes count X sized h refused = grind (arith, nat_tests)

@@ -6,7 +6,7 @@ use Rattle.cdxj_core.specs.declared.limit.TheConstants.{LINE_LIMIT}
 use Rattle.cdxj_core.specs.Indexes.{IsIndex}
 use Rattle.devices.specs.Gathered.{gathered}
 use Rattle.scan_core.specs.Archives.{index_members}
-use Rattle.scan_core.proofs.ArchiveLemmas.{map_length}
+use Rattle.std.proofs.lemmas.List.{length-map}
 use Rattle.scan_core.specs.Scanning.{IsPagesFault}
 use Rattle.scan_core.proofs.ScanLemmas.{archive_fault, scanned_whole, scanned_part}
 use Rattle.scan_core.proofs.scanning.scan.Given.{Over}
@@ -20,7 +20,7 @@ refused g c = grind arith
 pub returns-clause-scanned : goal.returns-clause-scanned
 returns-clause-scanned g c =
     let found = c.in_ok-indexes.ensures.indexes in
-    let same = map_length (λ n. string_bytes n.name) c.args.inputs.now in
+    let same = length-map c.args.inputs.now (λ n. string_bytes n.name) in
     let are = subst (λ is. AllZip (IsIndex LINE_LIMIT) (map gathered is) (map index_members found.captures))
     (sym c.deref.ensures.value) found.are_indexes in
     scanned_whole (includes c.args.types) (map (λ n. string_bytes n.name) c.args.inputs.now)
@@ -34,7 +34,7 @@ returns-in_err-write_pages-clause-part g c =
     let p = err_from_is_err_and r.result r.ensures.1 in
     rw (p.1, p.2) (λ late.
     let found = c.in_ok-indexes.ensures.indexes in
-    let same = map_length (λ n. string_bytes n.name) c.args.inputs.now in
+    let same = length-map c.args.inputs.now (λ n. string_bytes n.name) in
     let are = subst (λ is. AllZip (IsIndex LINE_LIMIT) (map gathered is) (map index_members found.captures))
     (sym c.deref.ensures.value) found.are_indexes in
     scanned_part (includes c.args.types) (map (λ n. string_bytes n.name) c.args.inputs.now)
@@ -45,32 +45,5 @@ returns-in_err-write_pages-clause-part g c =
     found.indexed
     (c.in_err-write_pages.ensures.pages (map index_members found.captures) are (sym c.if-not-are_sizes.ensures.value)))
 
-pub returns-in_err-query-clause-fault : goal.returns-in_err-query-clause-fault
-returns-in_err-query-clause-fault g c = grind arith
-
-pub returns-in_err-query-clause-part : goal.returns-in_err-query-clause-part
-returns-in_err-query-clause-part g c = grind arith
-
-pub returns-in_err-query-clause-inputs : goal.returns-in_err-query-clause-inputs
-returns-in_err-query-clause-inputs g c = grind arith
-
-pub returns-in_err-query-clause-output : goal.returns-in_err-query-clause-output
-returns-in_err-query-clause-output g c = grind arith
-
 pub returns-in_err-indexes-clause-fault : goal.returns-in_err-indexes-clause-fault
-returns-in_err-indexes-clause-fault g c = grind (arith, map_length, err_from_is_err_and, archive_fault)
-
-pub returns-in_err-write_pages-clause-fault : goal.returns-in_err-write_pages-clause-fault
-returns-in_err-write_pages-clause-fault g c = grind arith
-
-pub returns-in_err-write_pages-clause-unwritten : goal.returns-in_err-write_pages-clause-unwritten
-returns-in_err-write_pages-clause-unwritten g c = grind arith
-
-pub returns-in_err-write_pages-clause-unread : goal.returns-in_err-write_pages-clause-unread
-returns-in_err-write_pages-clause-unread g c = grind arith
-
-pub returns-in_err-write_pages-clause-inputs : goal.returns-in_err-write_pages-clause-inputs
-returns-in_err-write_pages-clause-inputs g c = grind arith
-
-pub returns-in_err-write_pages-clause-output : goal.returns-in_err-write_pages-clause-output
-returns-in_err-write_pages-clause-output g c = grind arith
+returns-in_err-indexes-clause-fault g c = grind (arith, length-map, err_from_is_err_and, archive_fault)

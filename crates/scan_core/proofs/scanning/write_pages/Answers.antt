@@ -23,9 +23,6 @@ returns-clause-pages g c = grind (
       (grind arith),
 )
 
-pub returns-clause-failures : goal.returns-clause-failures
-returns-clause-failures g c = grind arith
-
 pub returns-clause-refusals : goal.returns-clause-refusals
 returns-clause-refusals g c = λ members are.
     let ok = c.pages.ensures in
