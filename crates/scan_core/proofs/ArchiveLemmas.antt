@@ -2,7 +2,7 @@
 use Rattle.std.proofs.lemmas.Grind.{common_steps}
 use Rattle.std.specs.List.{AllZip}
 use Rattle.std.proofs.Common.{◌≡◌, ℕ, zero, suc, ◌+◌, ◌<◌, List, [], ◌∷◌, ◌++◌, length, map, take, drop, get_or, set}
-use Rattle.std.proofs.Common.{Option, None, Err, refl, ap, Bool, ◌∙◌, arith, append_assoc, append-nil}
+use Rattle.std.proofs.Common.{length-append, Option, None, Err, refl, ap, Bool, ◌∙◌, arith, append_assoc, append-nil}
 use Rattle.std.proofs.lemmas.List.{take_more, length-map, get_or-map, map-set, set-get_or}
 use Rattle.warc_core.specs.Kind.{Kind}
 use Rattle.cdxj_core.specs.Entries.{EntryValue}
@@ -10,10 +10,16 @@ use Rattle.cdxj_core.specs.Indexes.{IsIndex}
 use Rattle.index_core.specs.declared.fault.IndexFault.{IndexFault}
 use Rattle.index_core.specs.declared.fault.IndexFault.TheVariants as index
 use Rattle.index_core.specs.Counting.{CountsIndex}
+use Rattle.index_core.specs.Indexing.{Held}
+use Rattle.capture_core.specs.declared.types.Types.{Types}
+use Rattle.capture_core.specs.Types.{includes}
+use Rattle.cdxj_core.specs.declared.limit.TheConstants.{LINE_LIMIT}
+use Rattle.merge_core.proofs.Many.{map_set_same}
 use Rattle.cdxj_places.proofs.RisingLaws.{each_join}
-use Rattle.merge_core.proofs.SpendLemmas.{left_after}
+use Rattle.merge_core.proofs.SpendLemmas.{left_here, left_after}
 use Rattle.scan_core.specs.declared.fault.ScanFault.TheVariants.{Archive}
-use Rattle.scan_core.specs.Archives.{IsNewName, AreNewNames, IsAcceptedAs, AreAcceptedAs, HaveLines, AreIndexed}
+use Rattle.scan_core.specs.Archives.{IsNewName, AreNewNames, IsAcceptedAs, AreAcceptedAs, HaveLines}
+use Rattle.scan_core.specs.Archives.{AreIndexed, HasIndex, HaveIndexes}
 use Rattle.scan_core.specs.Archives.{IsFaultOfArchive, IsFirstFault, IsNameFault, index_members}
 use Rattle.scan_core.specs.Failures.{CountsAt}
 use Rattle.scan_core.specs.Scanning.{LeavesUnread}
@@ -33,13 +39,11 @@ accepted_push types (n ∷ names) (i ∷ inputs) (c ∷ archives) name input cap
 accepted_push types names inputs archives name input captures h k = grind arith
 
 -- one archive more
-pub indexed_push : (types : Kind → Bool) (names : List (List ℕ)) (inputs : List (Option (List ℕ)))
-    (archives : List (List EntryValue)) (i : ℕ) (captures : List EntryValue) → i < length names → i < length inputs
-    → AreIndexed types (take i names) (take i inputs) archives → IsNewName (take i names) (get_or names i [])
-    → IsAcceptedAs types (get_or names i []) (get_or inputs i None) captures → HaveLines captures
-    → AreIndexed types (take (i + 1) names) (take (i + 1) inputs) (archives ++ captures ∷ [])
-indexed_push types names inputs archives i captures l m h new accepted lines =
-    grind (arith, common_steps, names_push, accepted_push, each_join)
+indexed_push : {types : Kind → Bool} {names : List (List ℕ)} {inputs : List (Option (List ℕ))}
+    {archives : List (List EntryValue)} {name : List ℕ} {captures : List EntryValue} (input : Option (List ℕ))
+    → AreIndexed types names inputs archives → IsNewName names name → IsAcceptedAs types name input captures
+    → HaveLines captures → AreIndexed types (names ++ name ∷ []) (inputs ++ input ∷ []) (archives ++ captures ∷ [])
+indexed_push input h new accepted lines = grind (arith, names_push, accepted_push, each_join)
 
 -- an index more
 pub indexes_push : {I : Type 0} (limit : ℕ) (text : I → List ℕ) (indexes : List I) (archives : List (List EntryValue))
@@ -53,64 +57,72 @@ indexes_push limit text (x ∷ indexes) (c ∷ archives) index captures h k =
     (h.0, indexes_push limit text indexes archives index captures h.1 k)
 indexes_push limit text indexes archives index captures h k = grind arith
 
--- An archive x among archives of which those before the i-th were gone over
-module _ {X : Type 0} (types : Kind → Bool) (name : X → List ℕ) (input : X → Option (List ℕ)) (xs0 : List X) (i : ℕ)
-    (d x : X) (inside : i < length xs0) (is : x ≡ get_or xs0 i d) where
-  name_at : name x ≡ get_or (map name xs0) i []
-  name_at = grind (arith, get_or-map)
+-- Of these archives, those before the i-th are indexed, and the others are as they were
+pub record Indexing {X I : Type 0} (name : X → List ℕ) (input : X → Option (List ℕ)) (count : X → ℕ)
+    (text : I → List ℕ) (types : Types) (old xs : List X) (i : ℕ) (indexer : Held) (indexes : List I) : Type 0 where
+  pub names : map name xs ≡ map name old
+  pub rest : drop i xs ≡ drop i old
+  pub failures : map count xs ≡ map count old
+  pub held : indexer ≡ record { types = types; names = take i (map name old); captures = [] }
+  pub number : length indexes ≡ i
+  pub indexed : HaveIndexes (includes types) (take i (map name old)) (take i (map input old)) (map text indexes)
 
-  input_at : input x ≡ get_or (map input xs0) i None
-  input_at = grind (arith, get_or-map)
+-- the i-th, and y, what it is after its turn
+module _ {X I : Type 0} {name : X → List ℕ} {input : X → Option (List ℕ)} {count : X → ℕ} {text : I → List ℕ}
+    {types : Types} {old xs : List X} {i : ℕ} {indexer : Held} {indexes : List I}
+    (so_far : Indexing name input count text types old xs i indexer indexes) (inside : i < length old) (d : X) where
+  shown_at : {Y : Type 0} (show : X → Y) (e : Y) → get_or (map show old) i e ≡ show (get_or xs i d)
+  shown_at show e = let here = left_here old xs i d so_far.rest in grind (arith, get_or-map)
 
-  names_inside : i < length (map name xs0)
-  names_inside = grind (arith, length-map)
+  -- it isn't indexed
+  pub first_fault : (fault : IndexFault)
+      → IsFaultOfArchive (includes indexer.types) indexer.names (name (get_or xs i d)) (input (get_or xs i d)) fault
+      → IsFirstFault (includes types) (map name old) (map input old) i fault
+  first_fault fault h = record {
+    inside = rw length-map inside;
+    captures = so_far.indexed.captures;
+    before = so_far.indexed.indexed;
+    refused = rw (shown_at name [], shown_at input None) (rw so_far.held at h);
+  }
 
-  inputs_inside : i < length (map input xs0)
-  inputs_inside = grind (arith, length-map)
+  -- its count alone changed, as its fault says
+  pub counts_at : (y : X) (fault : IndexFault) → CountsIndex {A = Unit {0}} (Err fault) (count (get_or xs i d)) (count y)
+      → CountsAt i fault (map count old) (map count (set xs i y))
+  counts_at y fault h = (
+    rw length-map inside,
+    count y,
+    map-set count xs i y ∙ ap (λ ns. set ns i (count y)) so_far.failures,
+    rw (shown_at count 0) h,
+  )
 
-  module _ (earlier : List (List ℕ)) (archives : List (List EntryValue)) (names_are : earlier ≡ take i (map name xs0))
-      (before : AreIndexed types (take i (map name xs0)) (take i (map input xs0)) archives) where
-    -- it isn't indexed
-    pub first_fault : (fault : IndexFault) → IsFaultOfArchive types earlier (name x) (input x) fault
-        → IsFirstFault types (map name xs0) (map input xs0) i fault
-    first_fault fault h = grind (arith, names_inside, name_at, input_at)
+  -- what its fault leaves unread
+  pub unread_at : (y : X) (fault : IndexFault) → (IsNameFault fault → y ≡ get_or xs i d)
+      → LeavesUnread old (set xs i y) (Archive i fault)
+  unread_at y fault same = let after = left_after old xs i y so_far.rest in grind (arith, set-get_or)
 
-    -- it is
-    pub one_more_indexed : (captures : List EntryValue) → IsNewName earlier (name x)
-        → IsAcceptedAs types (name x) (input x) captures → HaveLines captures
-        → AreIndexed types (take (i + 1) (map name xs0)) (take (i + 1) (map input xs0)) (archives ++ captures ∷ [])
-    one_more_indexed captures new accepted lines =
-        indexed_push types (map name xs0) (map input xs0) archives i captures names_inside inputs_inside before
-        (grind (arith, name_at)) (grind (arith, name_at, input_at)) lines
-
-  -- the names up to it
-  pub names_after : (earlier : List (List ℕ)) → earlier ≡ take i (map name xs0) → earlier ++ name x ∷ []
-      ≡ take (i + 1) (map name xs0)
-  names_after earlier e = grind (arith, name_at, take_more, names_inside)
-
--- the i-th changed alone, and its count as its fault says
-pub counts_at : {X : Type 0} (count : X → ℕ) (xs0 xs : List X) (i : ℕ) (d x y : X) (fault : IndexFault) → map count xs
-    ≡ map count xs0 → i < length xs0 → x ≡ get_or xs0 i d
-    → CountsIndex {A = Unit {0}} (Err fault) (count x) (count y)
-    → CountsAt i fault (map count xs0) (map count (set xs i y))
-counts_at count xs0 xs i d x y fault same inside is h = (
-  grind (arith, length-map),
-  count y,
-  grind (arith, map-set),
-  grind (arith, get_or-map),
-)
-
--- nothing from the i-th on changed, where the i-th didn't
-pub same_from : {X : Type 0} (old xs : List X) (i : ℕ) (d x y : X) → drop i xs ≡ drop i old → x ≡ get_or xs i d → y ≡ x
-    → drop i (set xs i y) ≡ drop i old
-same_from old xs i d x y rest is same = grind (arith, set-get_or)
-
-unread_after : {X : Type 0} (old xs : List X) (i : ℕ) (y : X) → drop i xs ≡ drop i old → drop (suc i) (set xs i y)
-    ≡ drop (suc i) old
-unread_after old xs i y rest = grind (arith, left_after old xs i y rest)
-
--- what a fault at the i-th leaves unread
-pub unread_at : {X : Type 0} (old xs : List X) (i : ℕ) (d x y : X) (fault : IndexFault) → drop i xs ≡ drop i old → x
-    ≡ get_or xs i d → (IsNameFault fault → y ≡ x)
-    → LeavesUnread old (set xs i y) (Archive i fault)
-unread_at old xs i d x y fault rest is same = grind (arith, same_from, unread_after)
+  -- it is indexed
+  pub one_more : (y : X) (index : I) (after : Held) (more : List I) → name y ≡ name (get_or xs i d)
+      → count y ≡ count (get_or xs i d)
+      → after ≡ record indexer { names = indexer.names ++ name (get_or xs i d) ∷ []; captures = [] }
+      → HasIndex (includes indexer.types) indexer.names (name (get_or xs i d)) (input (get_or xs i d)) (text index)
+      → more ≡ indexes ++ index ∷ [] → Indexing name input count text types old (set xs i y) (i + 1) after more
+  one_more y index after more same_name same_count is has pushed =
+      let found = rw so_far.held at has in
+      let names = take_more (map name old) i [] (rw length-map inside) in
+      let inputs = take_more (map input old) i None (rw length-map inside) in
+      let lt : i < length xs = omega (arith, simp length-map at (ap length so_far.names)) in
+      let before = so_far.indexed.captures in
+      record {
+        names = map_set_same name xs i d y lt same_name ∙ so_far.names;
+        rest = left_after old xs i y so_far.rest;
+        failures = map_set_same count xs i d y lt same_count ∙ so_far.failures;
+        held = rw (names, shown_at name []) (rw so_far.held at is);
+        number = grind (arith, length-append);
+        indexed = record {
+          captures = before ++ found.captures ∷ [];
+          indexed = rw (names, inputs, shown_at name [], shown_at input None)
+              (indexed_push _ so_far.indexed.indexed found.is_new found.accepted found.lines);
+          are_indexes = rw pushed (indexes_push LINE_LIMIT text indexes before index found.captures
+              so_far.indexed.are_indexes found.is_index);
+        };
+      }
