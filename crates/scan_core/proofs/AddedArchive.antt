@@ -14,15 +14,12 @@ use Rattle.index_core.specs.Adding.{Adds, with_archive}
 use Rattle.index_core.specs.Indexing.{Held, IsName, is_among}
 use Rattle.scan_core.specs.Archives.{HasIndex, IsAcceptedAs, IsNewName, IsFaultOfArchive, HaveLines, index_members}
 
-is_name : (name : List ℕ) → ((IsName name → ⊥) → ⊥) → IsName name
-is_name name h = grind (arith, cases_lt 0 (length name), cases_lt 255 (length name))
-
 -- a name that is neither bad nor used
-pub is_new : (names : List (List ℕ)) (name : List ℕ) (r : Result ℕ IndexFault) → (r ≡ Err index.BadName)
-    ↔ ¬ (IsName name) → (r ≡ Err index.DuplicateName) ↔ (IsName name × (is_among names name ≡ true))
-    → (r ≡ Err index.BadName → ⊥) → (r ≡ Err index.DuplicateName → ⊥) → IsNewName names name
-is_new names name r bad duplicate not_bad not_duplicate =
-    let good = is_name name (λ k. not_bad (bad.1 k)) in record { good = good; unused = grind arith }
+pub is_new : {names : List (List ℕ)} {name : List ℕ} {n : ℕ}
+    → (◌≡◌ {A = Result ℕ IndexFault} (Ok n) (Err index.BadName)) ↔ ¬ (IsName name)
+    → (◌≡◌ {A = Result ℕ IndexFault} (Ok n) (Err index.DuplicateName)) ↔ (IsName name × (is_among names name ≡ true))
+    → IsNewName names name
+is_new {name} bad duplicate = grind (arith, cases_lt 0 (length name), cases_lt 255 (length name))
 
 -- why an archive wasn't added is why it isn't indexed
 pub fault_of : (types : Kind → Bool) (names : List (List ℕ)) (name : List ℕ) (input : Option (List ℕ)) (old new : Held)

@@ -50,13 +50,6 @@ module _ {X P : Type 0} (place : X → P) (R : P → P → Ordering) (o : IsTota
   is_first x [] h i = i
   is_first x (u ∷ us) h i = grind (arith, each_at, is_first x us h.1)
 
-  -- the first with their places of a list are those of its rising list
-  first_risen : (x : X) (us : List X) → IsFirst place R x us → IsFirst place R x (rising place R us)
-  first_risen x us h = grind (arith, is_first, rises_rising, rising_members)
-
-  risen_first : (x : X) (us : List X) → IsFirst place R x (rising place R us) → IsFirst place R x us
-  risen_first x us h = grind (arith, rising_members, in_list)
-
   -- what rises already may stand in the stead of a list
   rising_left : (us vs : List X) → rising place R (rising place R us ++ vs) ≡ rising place R (us ++ vs)
   rising_left us vs =
@@ -68,8 +61,9 @@ module _ {X P : Type 0} (place : X → P) (R : P → P → Ordering) (o : IsTota
         of_first x (rising place R us) vs,
         first_of x us vs,
         first_of x (rising place R us) vs,
-        first_risen,
-        risen_first,
+        is_first,
+        rises_rising,
+        in_list,
         absent_rising,
         each_rising,
       ))

@@ -29,11 +29,6 @@ known_texts text sources texts e = subst (Known (map (λ s. Some (text s)) sourc
     known_own [] = tt
     known_own (s ∷ ss) = (refl, known_own ss)
 
--- lists that show one list are of one length
-pub same_length : {X Y Z : Type 0} (f : X → Z) (g : Y → Z) (xs : List X) (ys : List Y) → map f xs ≡ map g ys → length xs
-    ≡ length ys
-same_length f g xs ys e = grind (arith, length-map)
-
 abbrev zeros : {S : Type 0} → List S → List ℕ
 zeros ss = map (λ s. 0) ss
 
@@ -54,13 +49,9 @@ pub pages_fault : {S : Type 0} → NoLineIsAtFault
     → IfErr r (IsAnswerFaultOf LINE_LIMIT tolds) → CountsAnswer r (zeros old) (zeros new) o o'
     → IfErr r (λ e. IsBeforeReading e → ⊥)
     → IfErr r IsPagesFault
-pages_fault law (Err (answer.Read i)) tolds texts members old new o o' known are f counts late = none_raised i old new
-    counts.0
-pages_fault law (Err (answer.BadLine i n)) tolds texts members old new o o' known are f counts late = law tolds
-    (answer.BadLine i n) f texts members known are
-pages_fault law (Err (answer.OutOfOrder i n)) tolds texts members old new o o' known are f counts late = law tolds
-    (answer.OutOfOrder i n) f texts members known are
-pages_fault law r tolds texts members old new o o' known are f counts late = grind arith
+pages_fault law (Ok n) tolds texts members old new o o' known are f counts late = tt
+pages_fault law (Err fault) tolds texts members old new o o' known are f counts late =
+    let named = law tolds fault f texts members known are in grind (arith, none_raised)
 
 -- sizes and sources that are accepted are not refused
 pub not_refused : (r : Result ℕ AnswerFault) (sizes : List ℕ) (count : ℕ) (X : Type 0) → are_sizes sizes ≡ true

@@ -10,16 +10,11 @@ returns-in_err-add-clause-refused g c =
     let e = c.in_err-add.ensures in
     let p = err_from_is_err_and c.from_residual.result c.from_residual.ensures.1 in
     rw (p.1, p.2, ← c.as_str.ensures.value)
-    (fault_of (includes c.args.indexer.now.types) c.args.indexer.now.names c.as_str.result.now
-    (g.I.Input.remaining c.args.archive.now.input) c.args.indexer.now c.add.new.self c.in_err-add.field-0.0 e.bad
-    e.duplicate e.adds)
+    (fault_of _ _ _ _ c.args.indexer.now c.add.new.self c.in_err-add.field-0.0 e.bad e.duplicate e.adds)
 
 pub returns-clause-index : goal.returns-clause-index
 returns-clause-index g c =
     let e = c.in_ok-add.ensures in
-    let fresh = is_new c.args.indexer.now.names c.as_str.result.now (Ok c.in_ok-add.field-0) e.bad e.duplicate (λ k. cc)
-    (λ k. cc) in
-    rw (← c.as_str.ensures.value) (index_of_added gathered (includes c.args.indexer.now.types) c.args.indexer.now.names
-    c.as_str.result.now (g.I.Input.remaining c.args.archive.now.input) c.args.indexer.now c.add.new.self e.adds.0
-    c.index_of-index.result
-    c.requires fresh e.adds.1 (e.adds.2.1, e.adds.2.2) c.index_of-index.ensures.lines c.index_of-index.ensures.index)
+    rw (← c.as_str.ensures.value) (index_of_added gathered _ _ _ _ _ _ _ c.index_of-index.result c.requires
+    (is_new e.bad e.duplicate) e.adds.1 (e.adds.2.1, e.adds.2.2) c.index_of-index.ensures.lines
+    c.index_of-index.ensures.index)

@@ -19,31 +19,23 @@ refused g c = grind arith
 
 pub returns-clause-scanned : goal.returns-clause-scanned
 returns-clause-scanned g c =
-    let found = c.in_ok-indexes.ensures.indexes in
-    let same = length-map c.args.inputs.now (λ n. string_bytes n.name) in
-    let are = subst (λ is. AllZip (IsIndex LINE_LIMIT) (map gathered is) (map index_members found.captures))
-    (sym c.deref.ensures.value) found.are_indexes in
-    scanned_whole (includes c.args.types) (map (λ n. string_bytes n.name) c.args.inputs.now)
-    (map (λ n. g.I.Input.remaining n.input) c.args.inputs.now) c.args.sizes.now c.args.query.now c.in_ok-query.query
-    found.captures (g.O.Output.written c.args.out.now) (g.O.Output.written c.write_pages.new.out) (grind arith)
-    found.indexed c.in_ok-write_pages.field-0 (c.in_ok-write_pages.ensures.pages (map index_members found.captures) are)
+    scanned_whole (record {
+      sizes = sym c.if-not-are_sizes.ensures.value;
+      meaning = c.in_ok-query.ensures.value;
+      few = rw length-map (omega arith);
+    })
+    (rw (← c.deref.ensures.value) at c.in_ok-indexes.ensures.indexes) _ c.in_ok-write_pages.ensures.pages
 
 pub returns-in_err-write_pages-clause-part : goal.returns-in_err-write_pages-clause-part
 returns-in_err-write_pages-clause-part g c =
     let r = c.from_residual-in_err-write_pages in
     let p = err_from_is_err_and r.result r.ensures.1 in
-    rw (p.1, p.2) (λ late.
-    let found = c.in_ok-indexes.ensures.indexes in
-    let same = length-map c.args.inputs.now (λ n. string_bytes n.name) in
-    let are = subst (λ is. AllZip (IsIndex LINE_LIMIT) (map gathered is) (map index_members found.captures))
-    (sym c.deref.ensures.value) found.are_indexes in
-    scanned_part (includes c.args.types) (map (λ n. string_bytes n.name) c.args.inputs.now)
-    (map (λ n. g.I.Input.remaining n.input) c.args.inputs.now) c.args.sizes.now c.args.query.now c.in_ok-query.query
-    found.captures
-    (g.O.Output.written c.args.out.now) (g.O.Output.written c.write_pages.new.out)
-    (record { sizes = sym c.if-not-are_sizes.ensures.value; meaning = c.in_ok-query.ensures.value; few = omega arith })
-    found.indexed
-    (c.in_err-write_pages.ensures.pages (map index_members found.captures) are (sym c.if-not-are_sizes.ensures.value)))
+    rw (p.1, p.2) (λ late. scanned_part (record {
+      sizes = sym c.if-not-are_sizes.ensures.value;
+      meaning = c.in_ok-query.ensures.value;
+      few = rw length-map (omega arith);
+    })
+    (rw (← c.deref.ensures.value) at c.in_ok-indexes.ensures.indexes) c.in_err-write_pages.ensures.pages)
 
 pub returns-in_err-indexes-clause-fault : goal.returns-in_err-indexes-clause-fault
 returns-in_err-indexes-clause-fault g c = grind (arith, length-map, err_from_is_err_and, archive_fault)

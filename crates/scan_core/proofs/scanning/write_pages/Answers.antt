@@ -1,4 +1,5 @@
 use Rattle.std.proofs.Common.{◌≤◌, length, map, Some, ap, ◌∙◌, arith}
+use Rattle.std.proofs.lemmas.List.{length-map}
 use Rattle.devices.specs.Gathered.{gathered}
 use Rattle.devices.proofs.WritingLemmas.{wrote_nothing}
 use Rattle.merge_core.specs.Collections.{collection}
@@ -6,7 +7,7 @@ use Rattle.source_core.specs.Slices.{slice_text}
 use Rattle.query_text.specs.Collapses.{same_part}
 use Rattle.query_core.specs.declared.merging.TheConstants.{SOURCES_LIMIT}
 use Rattle.query_core.specs.QueryPages.{selected}
-use Rattle.scan_core.proofs.PageLemmas.{known_texts, not_refused, same_length, pages_fault}
+use Rattle.scan_core.proofs.PageLemmas.{known_texts, not_refused, pages_fault}
 use Rattle.scan_core.proofs.scanning.write_pages.Goals as goal
 
 pub returns-in_err-sources-clause-pages : goal.returns-in_err-sources-clause-pages
@@ -27,11 +28,8 @@ pub returns-clause-refusals : goal.returns-clause-refusals
 returns-clause-refusals g c = λ members are.
     let ok = c.pages.ensures in
     let texts = ap (map slice_text) c.deref_mut.ensures.value ∙ c.in_ok-sources.ensures in
-    let same = same_length slice_text gathered c.deref_mut.result.now c.args.indexes.now texts in
+    let same = simp length-map at (ap length texts) in
     let number : length c.deref_mut.result.now ≤ SOURCES_LIMIT = omega arith in
-    pages_fault c.indexes_have_no_line_at_fault.ensures c.pages.result
-    (map (λ s. Some (slice_text s)) c.deref_mut.result.now) (map gathered c.args.indexes.now) members
-    c.deref_mut.result.now c.pages.new.sources
-    (g.O.Output.failures c.args.out.now) (g.O.Output.failures c.pages.new.out)
-    (known_texts slice_text c.deref_mut.result.now (map gathered c.args.indexes.now) texts) are ok.fault ok.failures
+    pages_fault c.indexes_have_no_line_at_fault.ensures c.pages.result _ _ members c.deref_mut.result.now
+    c.pages.new.sources _ _ (known_texts _ _ _ texts) are ok.fault ok.failures
     (not_refused c.pages.result c.args.sizes.now (length c.deref_mut.result.now) _ c.requires.sizes number ok.refused)
