@@ -1,4 +1,3 @@
-pub mod AddedArchive
 pub mod ArchiveLemmas
 pub mod PageLemmas
 pub mod CollectionLemmas

@@ -7,16 +7,13 @@ use Rattle.cdxj_places.specs.Places.{PlaceValue, place_cmp}
 use Rattle.cdxj_places.proofs.PlaceOrder.{same_place}
 use Rattle.cdxj_places.proofs.RisingLaws.{each_join, each_weaker}
 use Rattle.cdxj_core.specs.Entries.{EntryValue, entry_place}
-use Rattle.index_core.specs.Indexing.{HaveOwnPlaces, is_among}
+use Rattle.index_core.specs.Indexing.{AreNamed, HaveOwnPlaces, is_among}
 use Rattle.index_core.proofs.SoundLemmas.{among_more, among_last}
 use Rattle.scan_core.specs.Archives.{AreNewNames, AreAcceptedAs, HaveLines}
 use Rattle.scan_core.specs.Captures.{all_captures}
 
-abbrev IsNamed : List ℕ → EntryValue → Type 0
-IsNamed name e = e.filename ≡ name
-
 -- a capture of that name is at another place than those of other names
-apart : (earlier : List (List ℕ)) (name : List ℕ) (e : EntryValue) → IsNamed name e → (others : List EntryValue)
+apart : (earlier : List (List ℕ)) (name : List ℕ) (e : EntryValue) → e.filename ≡ name → (others : List EntryValue)
     → AllByRecursion (λ o. is_among (earlier ++ name ∷ []) o.filename ≡ false) others
     → AllByRecursion (λ o. place_cmp (entry_place e) (entry_place o) ≡ Equal → ⊥) others
 apart earlier name e named others h =
@@ -26,7 +23,7 @@ apart earlier name e named others h =
     let same = same_place (entry_place e) (entry_place o) q in grind (arith, among_last)) others h
 
 own_join : (earlier : List (List ℕ)) (name : List ℕ) (captures others : List EntryValue)
-    → AllByRecursion (IsNamed name) captures → HaveOwnPlaces captures
+    → AreNamed name captures → HaveOwnPlaces captures
     → AllByRecursion (λ o. is_among (earlier ++ name ∷ []) o.filename ≡ false) others → HaveOwnPlaces others
     → HaveOwnPlaces (captures ++ others)
 own_join earlier name [] others named own new h = h

@@ -45,16 +45,11 @@ none_raised i old new h =
 -- pages over indexes meet no fault of a line or of a source
 pub pages_fault : {S : Type 0} → NoLineIsAtFault
     → (r : Result ℕ AnswerFault) (tolds : List (Option (List ℕ))) (texts : List (List ℕ)) (members : List (List Member))
-    (old new : List S) (o o' : ℕ) → Known tolds texts → AllZip (IsIndex LINE_LIMIT) texts members
+    (old new : List S) (o o' : ℕ) (sizes : List ℕ) (count : ℕ) (X : Type 0) → Known tolds texts
+    → AllZip (IsIndex LINE_LIMIT) texts members
     → IfErr r (IsAnswerFaultOf LINE_LIMIT tolds) → CountsAnswer r (zeros old) (zeros new) o o'
-    → IfErr r (λ e. IsBeforeReading e → ⊥)
+    → are_sizes sizes ≡ true → count ≤ SOURCES_LIMIT → Refuses (bad_sizes_or_too_many sizes count) r X
     → IfErr r IsPagesFault
-pages_fault law (Ok n) tolds texts members old new o o' known are f counts late = tt
-pages_fault law (Err fault) tolds texts members old new o o' known are f counts late =
-    let named = law tolds fault f texts members known are in grind (arith, none_raised)
-
--- sizes and sources that are accepted are not refused
-pub not_refused : (r : Result ℕ AnswerFault) (sizes : List ℕ) (count : ℕ) (X : Type 0) → are_sizes sizes ≡ true
-    → count ≤ SOURCES_LIMIT
-    → Refuses (bad_sizes_or_too_many sizes count) r X → IfErr r (λ e. IsBeforeReading e → ⊥)
-not_refused r sizes count X sized h refused = grind (arith, nat_tests)
+pages_fault law (Ok n) tolds texts members old new o o' sizes count X known are f counts sized h refused = tt
+pages_fault law (Err fault) tolds texts members old new o o' sizes count X known are f counts sized h refused =
+    let named = law tolds fault f texts members known are in grind (arith, none_raised, nat_tests)

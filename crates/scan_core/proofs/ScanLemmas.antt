@@ -9,9 +9,7 @@ use Rattle.merge_core.specs.Collections.{collection}
 use Rattle.query_text.specs.Queries.{QueryValue}
 use Rattle.query_core.specs.Paging.{are_sizes, WrotePages, WrotePagesInPart}
 use Rattle.scan_core.specs.Archives.{HaveIndexes, index_members}
-use Rattle.scan_core.specs.declared.fault.ScanFault.{ScanFault}
-use Rattle.scan_core.specs.declared.fault.ScanFault.TheVariants as scan
-use Rattle.scan_core.specs.Scanning.{IsArchiveFault, IsAsked, IsScanFault, Scanned, ScannedInPart}
+use Rattle.scan_core.specs.Scanning.{IsAsked, Scanned, ScannedInPart}
 use Rattle.scan_core.proofs.CollectionLemmas.{collected}
 use Rattle.scan_core.proofs.OnceLemmas.{once_from}
 
@@ -30,9 +28,3 @@ module _ {types : Kind → Bool} {names texts : List (List ℕ)} {inputs : List 
       → ScannedInPart types names inputs sizes text old new
   scanned_part w =
       let part = w (map index_members found.captures) found.are_indexes asked.sizes in grind (arith, collected)
-
--- the fault of an archive is one of the scan
-pub archive_fault : (types : Kind → Bool) (names : List (List ℕ)) (inputs : List (Option (List ℕ)))
-    (sizes text : List ℕ) (query : QueryValue) → IsAsked sizes text (length names) query → (fault : ScanFault)
-    → IsArchiveFault types names inputs fault → IsScanFault types names inputs sizes text fault
-archive_fault types names inputs sizes text query asked fault h = grind arith

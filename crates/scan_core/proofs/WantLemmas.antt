@@ -56,9 +56,6 @@ stayed zero (n ∷ counts) m may l same e = grind arith
 stayed (suc i) (n ∷ counts) m may l same e = stayed i counts m may.1 (omega arith) (cc) e
 stayed i [] m may l same e = absurd (omega arith)
 
-memory_cause : (c : Cause) → IsNoDamage c → (c ≡ causes.Read → ⊥) → c ≡ causes.Memory
-memory_cause c h n = grind arith
-
 -- ---- an archive's fault
 
 module _ (whole_is_not_refused : WholeIsNotRefused) (types : Kind → Bool) (names archives : List (List ℕ))
@@ -66,18 +63,13 @@ module _ (whole_is_not_refused : WholeIsNotRefused) (types : Kind → Bool) (nam
     (known : Known inputs archives)
     (whole : AllZip (IsAcceptedWhole types usual_limits HEAD_LIMIT) names archives) (inside : i < length names)
     (may : AllByRecursion MayRise counts) where
-  no_fault : (fault : CaptureFault)
-      → IfSome (get_or inputs i None) (λ archive. (captures : List EntryValue)
-      × IsAcceptedTo types usual_limits HEAD_LIMIT (get_or names i []) fault archive captures)
-      → IsNoFaultOfArchive fault
-  no_fault fault h =
-      let w = whole_at types names inputs archives i known whole inside in
-      let found = rw w.told at h in
-      whole_is_not_refused types usual_limits HEAD_LIMIT (get_or names i []) w.archive found.0 fault w.whole found.1
-
   archive_want : (fault : IndexFault) → IsFaultOfArchive types (take i names) (get_or names i []) (get_or inputs i None)
       fault → CountsAt i fault counts counts → IsWantOfMemory (Archive i fault)
-  archive_want (index.Capture f) h k = let no = no_fault f h.1 in grind (arith, memory_cause, stayed)
+  archive_want (index.Capture f) h k =
+      let w = whole_at types names inputs archives i known whole inside in
+      let found = rw w.told at h.1 in
+      let no = whole_is_not_refused types usual_limits HEAD_LIMIT (get_or names i []) w.archive found.0 f w.whole
+      found.1 in grind (arith, stayed)
   archive_want fault h k = let fresh = new_at [] names i new inside in grind arith
 
 pub only_memory : WholeIsNotRefused → OnlyMemoryIsWanting

@@ -8,34 +8,20 @@ use Rattle.devices.specs.Gathered.{gathered}
 use Rattle.scan_core.specs.Archives.{index_members}
 use Rattle.std.proofs.lemmas.List.{length-map}
 use Rattle.scan_core.specs.Scanning.{IsPagesFault}
-use Rattle.scan_core.proofs.ScanLemmas.{archive_fault, scanned_whole, scanned_part}
-use Rattle.scan_core.proofs.scanning.scan.Given.{Over}
-use Rattle.scan_core.proofs.scanning.scan.Goals.{In_err-write_pages}
+use Rattle.scan_core.proofs.ScanLemmas.{scanned_whole, scanned_part}
 use Rattle.scan_core.proofs.scanning.scan.Goals as goal
-
--- the pages couldn't be written for want of memory, or because the output failed
-refused : (g : Over) (c : In_err-write_pages g) → IsPagesFault c.in_err-write_pages.field-0.0
-refused g c = grind arith
 
 pub returns-clause-scanned : goal.returns-clause-scanned
 returns-clause-scanned g c =
-    scanned_whole (record {
-      sizes = sym c.if-not-are_sizes.ensures.value;
-      meaning = c.in_ok-query.ensures.value;
-      few = rw length-map (omega arith);
-    })
-    (rw (← c.deref.ensures.value) at c.in_ok-indexes.ensures.indexes) _ c.in_ok-write_pages.ensures.pages
+    scanned_whole (grind (arith, length-map)) (rw (← c.deref.ensures.value) at c.in_ok-indexes.ensures.indexes) _
+    c.in_ok-write_pages.ensures.pages
 
 pub returns-in_err-write_pages-clause-part : goal.returns-in_err-write_pages-clause-part
 returns-in_err-write_pages-clause-part g c =
     let r = c.from_residual-in_err-write_pages in
     let p = err_from_is_err_and r.result r.ensures.1 in
-    rw (p.1, p.2) (λ late. scanned_part (record {
-      sizes = sym c.if-not-are_sizes.ensures.value;
-      meaning = c.in_ok-query.ensures.value;
-      few = rw length-map (omega arith);
-    })
+    rw (p.1, p.2) (λ late. scanned_part {query = c.in_ok-query.query} (grind (arith, length-map))
     (rw (← c.deref.ensures.value) at c.in_ok-indexes.ensures.indexes) c.in_err-write_pages.ensures.pages)
 
 pub returns-in_err-indexes-clause-fault : goal.returns-in_err-indexes-clause-fault
-returns-in_err-indexes-clause-fault g c = grind (arith, length-map, err_from_is_err_and, archive_fault)
+returns-in_err-indexes-clause-fault g c = grind (arith, length-map, err_from_is_err_and)

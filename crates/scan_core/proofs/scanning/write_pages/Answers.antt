@@ -7,7 +7,7 @@ use Rattle.source_core.specs.Slices.{slice_text}
 use Rattle.query_text.specs.Collapses.{same_part}
 use Rattle.query_core.specs.declared.merging.TheConstants.{SOURCES_LIMIT}
 use Rattle.query_core.specs.QueryPages.{selected}
-use Rattle.scan_core.proofs.PageLemmas.{known_texts, not_refused, pages_fault}
+use Rattle.scan_core.proofs.PageLemmas.{known_texts, pages_fault}
 use Rattle.scan_core.proofs.scanning.write_pages.Goals as goal
 
 pub returns-in_err-sources-clause-pages : goal.returns-in_err-sources-clause-pages
@@ -31,5 +31,5 @@ returns-clause-refusals g c = λ members are.
     let same = simp length-map at (ap length texts) in
     let number : length c.deref_mut.result.now ≤ SOURCES_LIMIT = omega arith in
     pages_fault c.indexes_have_no_line_at_fault.ensures c.pages.result _ _ members c.deref_mut.result.now
-    c.pages.new.sources _ _ (known_texts _ _ _ texts) are ok.fault ok.failures
-    (not_refused c.pages.result c.args.sizes.now (length c.deref_mut.result.now) _ c.requires.sizes number ok.refused)
+    c.pages.new.sources _ _ c.args.sizes.now (length c.deref_mut.result.now) _ (known_texts _ _ _ texts) are ok.fault
+    ok.failures c.requires.sizes number ok.refused
