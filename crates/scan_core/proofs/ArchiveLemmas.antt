@@ -1,14 +1,12 @@
 -- Archives that are indexed one after another.
-use Rattle.std.proofs.lemmas.Grind.{common_steps}
 use Rattle.std.specs.List.{AllZip}
-use Rattle.std.proofs.Common.{◌≡◌, ℕ, zero, suc, ◌+◌, ◌<◌, List, [], ◌∷◌, ◌++◌, length, map, take, drop, get_or, set}
-use Rattle.std.proofs.Common.{length-append, Option, None, Err, refl, ap, Bool, ◌∙◌, arith, append_assoc, append-nil}
+use Rattle.std.proofs.Common.{◌≡◌, ℕ, ◌+◌, ◌<◌, List, [], ◌∷◌, ◌++◌, length, map, take, drop, get_or, set}
+use Rattle.std.proofs.Common.{length-append, Option, None, Err, ap, Bool, ◌∙◌, arith, append_assoc, append-nil}
 use Rattle.std.proofs.lemmas.List.{take_more, length-map, get_or-map, map-set, set-get_or}
 use Rattle.warc_core.specs.Kind.{Kind}
 use Rattle.cdxj_core.specs.Entries.{EntryValue}
 use Rattle.cdxj_core.specs.Indexes.{IsIndex}
 use Rattle.index_core.specs.declared.fault.IndexFault.{IndexFault}
-use Rattle.index_core.specs.declared.fault.IndexFault.TheVariants as index
 use Rattle.index_core.specs.Counting.{CountsIndex}
 use Rattle.index_core.specs.Indexing.{Held}
 use Rattle.capture_core.specs.declared.types.Types.{Types}
@@ -46,16 +44,14 @@ indexed_push : {types : Kind → Bool} {names : List (List ℕ)} {inputs : List 
 indexed_push input h new accepted lines = grind (arith, names_push, accepted_push, each_join)
 
 -- an index more
-pub indexes_push : {I : Type 0} (limit : ℕ) (text : I → List ℕ) (indexes : List I) (archives : List (List EntryValue))
-    (index : I) (captures : List EntryValue)
-    → AllZip (IsIndex limit) (map text indexes) (map index_members archives)
+indexes_push : {I : Type 0} (limit : ℕ) (text : I → List ℕ) (indexes : List I) (archives : List (List EntryValue))
+    (index : I) (captures : List EntryValue) → AllZip (IsIndex limit) (map text indexes) (map index_members archives)
     → IsIndex limit (text index) (index_members captures)
     → AllZip (IsIndex limit) (map text (indexes ++ index ∷ [])) (map index_members (archives ++ captures ∷ []))
 indexes_push limit text [] [] index captures h k = (k, tt)
-indexes_push limit text [] (c ∷ archives) index captures h k = absurd h
 indexes_push limit text (x ∷ indexes) (c ∷ archives) index captures h k =
     (h.0, indexes_push limit text indexes archives index captures h.1 k)
-indexes_push limit text indexes archives index captures h k = grind arith
+indexes_push limit text indexes archives index captures h k = absurd h
 
 -- Of these archives, those before the i-th are indexed, and the others are as they were
 pub record Indexing {X I : Type 0} (name : X → List ℕ) (input : X → Option (List ℕ)) (count : X → ℕ)

@@ -1,12 +1,11 @@
 -- The collection of several indexes is that of all captures.
-use Rattle.std.proofs.Common.{arith, ◌≡◌, List, [], ◌∷◌, ◌++◌, map, ◌⊎◌, inl, inr, refl, ap, ◌∙◌, Ordering, Less, Equal}
-use Rattle.std.proofs.Common.{Greater, is_gt, true}
+use Rattle.std.proofs.Common.{arith, ◌≡◌, List, [], ◌∷◌, ◌++◌, map, ◌⊎◌, inr, refl, ap, Ordering, Equal}
 use Rattle.std.specs.List.{AllByRecursion, flat_map}
 use Rattle.std.specs.Cmp.{IsTotalOrder}
 use Rattle.std.proofs.lemmas.Cmp.{tied_back}
 use Rattle.std.proofs.lemmas.List.{map-append}
 use Rattle.cdxj_places.specs.Places.{place_cmp}
-use Rattle.cdxj_places.specs.Rising.{IsIn, IsFirst, Rises, choose, put, rising}
+use Rattle.cdxj_places.specs.Rising.{IsIn, IsFirst, Rises, put, rising}
 use Rattle.cdxj_places.proofs.PlaceOrder.{place_cmp_total}
 use Rattle.cdxj_places.proofs.RisingAlike.{rising_referred}
 use Rattle.cdxj_places.proofs.RisingLaws.{each_at, each_rising, rises_rising, rising_members, rising_same}

@@ -1,9 +1,8 @@
 -- Captures of archives of different names have different places.
-use Rattle.std.proofs.Common.{arith, ◌≡◌, ℕ, Bool, false, List, [], ◌∷◌, ◌++◌, Option, sym, ap, ◌∙◌, Equal}
+use Rattle.std.proofs.Common.{arith, ◌≡◌, ℕ, Bool, false, List, [], ◌∷◌, ◌++◌, Option, Equal}
 use Rattle.std.specs.List.{AllByRecursion}
-use Rattle.std.proofs.lemmas.Bool.{true≢false}
 use Rattle.warc_core.specs.Kind.{Kind}
-use Rattle.cdxj_places.specs.Places.{PlaceValue, place_cmp}
+use Rattle.cdxj_places.specs.Places.{place_cmp}
 use Rattle.cdxj_places.proofs.PlaceOrder.{same_place}
 use Rattle.cdxj_places.proofs.RisingLaws.{each_join, each_weaker}
 use Rattle.cdxj_core.specs.Entries.{EntryValue, entry_place}
@@ -16,11 +15,11 @@ use Rattle.scan_core.specs.Captures.{all_captures}
 apart : (earlier : List (List ℕ)) (name : List ℕ) (e : EntryValue) → e.filename ≡ name → (others : List EntryValue)
     → AllByRecursion (λ o. is_among (earlier ++ name ∷ []) o.filename ≡ false) others
     → AllByRecursion (λ o. place_cmp (entry_place e) (entry_place o) ≡ Equal → ⊥) others
-apart earlier name e named others h =
-    each_weaker {B = λ o. place_cmp (entry_place e) (entry_place o) ≡ Equal → ⊥}
-    (λ (o : EntryValue) (k : is_among (earlier ++ name ∷ []) o.filename ≡ false)
-    (q : place_cmp (entry_place e) (entry_place o) ≡ Equal).
-    let same = same_place (entry_place e) (entry_place o) q in grind (arith, among_last)) others h
+apart earlier name e named [] h = tt
+apart earlier name e named (o ∷ others) h = (
+  (λ q. let same = same_place (entry_place e) (entry_place o) q in grind (arith, among_last)),
+  apart earlier name e named others h.1,
+)
 
 own_join : (earlier : List (List ℕ)) (name : List ℕ) (captures others : List EntryValue)
     → AreNamed name captures → HaveOwnPlaces captures

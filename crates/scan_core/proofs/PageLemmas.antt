@@ -1,7 +1,7 @@
 -- Pages over indexes in memory.
 use Rattle.std.specs.List.{AllZip}
-use Rattle.std.proofs.Common.{◌≡◌, ℕ, zero, suc, ◌<◌, ◌≤◌, nat_lt, true, false, List, [], ◌∷◌, length, map, get_or, set}
-use Rattle.std.proofs.Common.{Option, Some, Result, Ok, Err, IfErr, if◌then◌else◌, refl, ◌∙◌, subst, arith}
+use Rattle.std.proofs.Common.{◌≡◌, ℕ, zero, suc, ◌≤◌, true, List, [], ◌∷◌, map, get_or}
+use Rattle.std.proofs.Common.{Option, Some, Result, Ok, Err, IfErr, refl, arith}
 use Rattle.std.proofs.lemmas.Bool.Decides.{nat_tests}
 use Rattle.cdxj_core.specs.declared.limit.TheConstants.{LINE_LIMIT}
 use Rattle.cdxj_core.specs.Indexes.{IsIndex}
@@ -10,20 +10,19 @@ use Rattle.devices.specs.Device.{next_count}
 use Rattle.merge_core.specs.Collections.{Known}
 use Rattle.merge_core.specs.Failures.{RaisedAt}
 use Rattle.query_core.specs.declared.fault.AnswerFault.{AnswerFault}
-use Rattle.query_core.specs.declared.fault.AnswerFault.TheVariants as answer
 use Rattle.query_core.specs.AnswerCounts.{CountsAnswer}
 use Rattle.query_core.specs.IndexFaults.{IsAnswerFaultOf}
 use Rattle.query_core.specs.declared.merging.TheConstants.{SOURCES_LIMIT}
 use Rattle.query_core.specs.Paging.{are_sizes}
 use Rattle.query_core.specs.QueryLaws.{NoLineIsAtFault}
-use Rattle.query_core.specs.Refusals.{IsBeforeReading, Refuses, bad_sizes_or_too_many}
-use Rattle.std.proofs.lemmas.List.{length-map, get_or-set_same}
+use Rattle.query_core.specs.Refusals.{Refuses, bad_sizes_or_too_many}
+use Rattle.std.proofs.lemmas.List.{get_or-set_same}
 use Rattle.scan_core.specs.Scanning.{IsPagesFault}
 
 -- sources in memory tell their bytes
 pub known_texts : {S : Type 0} (text : S → List ℕ) (sources : List S) (texts : List (List ℕ)) → map text sources ≡ texts
     → Known (map (λ s. Some (text s)) sources) texts
-known_texts text sources texts e = subst (Known (map (λ s. Some (text s)) sources)) e (known_own sources)
+known_texts text sources texts e = rw (← e) (known_own sources)
   where
     known_own : (ss : List _) → Known (map (λ s. Some (text s)) ss) (map text ss)
     known_own [] = tt

@@ -1,26 +1,17 @@
 -- A scan of which nothing is at fault is refused for want of memory.
 use Rattle.std.specs.List.{AllZip, AllByRecursion}
 use Rattle.std.proofs.Common.{◌≡◌, ℕ, zero, suc, ◌<◌, Bool, List, [], ◌∷◌, ◌++◌, length, take, get_or, set, Option}
-use Rattle.std.proofs.Common.{None, Some, IfSome, refl, sym, ◌∙◌, subst, arith, append_assoc, append-nil}
-use Rattle.std.proofs.lemmas.Bool.{true≢false}
+use Rattle.std.proofs.Common.{None, Some, arith, append_assoc, append-nil}
 use Rattle.warc_core.specs.Kind.{Kind}
-use Rattle.warc_core.specs.declared.fault.Cause.{Cause}
-use Rattle.warc_core.specs.declared.fault.Cause.TheVariants as causes
 use Rattle.warc_core.specs.declared.next.TheConstants.{HEAD_LIMIT}
 use Rattle.devices.specs.Device.{next_count}
-use Rattle.capture_core.specs.declared.fault.CaptureFault.{CaptureFault}
-use Rattle.capture_core.specs.declared.fault.CaptureFault.TheVariants as capture
 use Rattle.capture_core.specs.CaptureAnswer.{usual_limits}
-use Rattle.cdxj_core.specs.Entries.{EntryValue}
 use Rattle.index_core.specs.declared.fault.IndexFault.{IndexFault}
 use Rattle.index_core.specs.declared.fault.IndexFault.TheVariants as index
-use Rattle.index_core.specs.Accepted.{IsAcceptedWhole, IsAcceptedTo}
-use Rattle.index_core.specs.Laws.{IsNoFaultOfArchive, WholeIsNotRefused}
-use Rattle.index_core.specs.Report.{IsNoDamage}
+use Rattle.index_core.specs.Accepted.{IsAcceptedWhole}
+use Rattle.index_core.specs.Laws.{WholeIsNotRefused}
 use Rattle.merge_core.specs.Collections.{Known}
-use Rattle.query_text.specs.declared.fault.QueryFault.TheVariants as refusal
-use Rattle.query_core.specs.declared.fault.AnswerFault.TheVariants as answer
-use Rattle.scan_core.specs.declared.fault.ScanFault.TheVariants.{Query, Archive, Answer}
+use Rattle.scan_core.specs.declared.fault.ScanFault.TheVariants.{Archive}
 use Rattle.scan_core.specs.Archives.{IsNewName, AreNewNames, IsFaultOfArchive}
 use Rattle.scan_core.specs.Failures.{CountsAt}
 use Rattle.scan_core.specs.Laws.{IsWantOfMemory, MayRise, OnlyMemoryIsWanting}

@@ -43,8 +43,7 @@ returns-in-Err-push-clause-names g c = grind (arith, map_set_same)
 
 pub returns-in-Err-push-clause-refused : goal.returns-in-Err-push-clause-refused
 returns-in-Err-push-clause-refused g c =
-    first_fault c.loop-i.invariant (omega arith) c.index-inputs-i.result Memory
-    c.in-Ok.ensures.index.is_new
+    first_fault c.loop-i.invariant (omega arith) c.index-inputs-i.result Memory c.in-Ok.ensures.index.is_new
 
 pub returns-in-Err-push-clause-unread : goal.returns-in-Err-push-clause-unread
 returns-in-Err-push-clause-unread g c =

@@ -1,13 +1,6 @@
-use Rattle.std.specs.List.{AllZip}
-use Rattle.std.proofs.Common.{◌≡◌, map, sym, subst, arith, string_bytes}
+use Rattle.std.proofs.Common.{arith}
 use Rattle.std.proofs.lemmas.Result.{err_from_is_err_and}
-use Rattle.capture_core.specs.Types.{includes}
-use Rattle.cdxj_core.specs.declared.limit.TheConstants.{LINE_LIMIT}
-use Rattle.cdxj_core.specs.Indexes.{IsIndex}
-use Rattle.devices.specs.Gathered.{gathered}
-use Rattle.scan_core.specs.Archives.{index_members}
 use Rattle.std.proofs.lemmas.List.{length-map}
-use Rattle.scan_core.specs.Scanning.{IsPagesFault}
 use Rattle.scan_core.proofs.ScanLemmas.{scanned_whole, scanned_part}
 use Rattle.scan_core.proofs.scanning.scan.Goals as goal
 

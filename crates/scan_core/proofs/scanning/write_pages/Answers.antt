@@ -1,4 +1,4 @@
-use Rattle.std.proofs.Common.{◌≤◌, length, map, Some, ap, ◌∙◌, arith}
+use Rattle.std.proofs.Common.{◌≤◌, length, map, ap, ◌∙◌, arith}
 use Rattle.std.proofs.lemmas.List.{length-map}
 use Rattle.devices.specs.Gathered.{gathered}
 use Rattle.devices.proofs.WritingLemmas.{wrote_nothing}
