@@ -16,9 +16,8 @@ use Rattle.merge_core.proofs.Many.{map_set_same}
 use Rattle.cdxj_places.proofs.RisingLaws.{each_join}
 use Rattle.merge_core.proofs.SpendLemmas.{left_here, left_after}
 use Rattle.scan_core.specs.declared.fault.ScanFault.TheVariants.{Archive}
-use Rattle.scan_core.specs.Archives.{IsNewName, AreNewNames, IsAcceptedAs, AreAcceptedAs, HaveLines}
-use Rattle.scan_core.specs.Archives.{AreIndexed, HasIndex, HaveIndexes}
-use Rattle.scan_core.specs.Archives.{IsFaultOfArchive, IsFirstFault, IsNameFault, index_members}
+use Rattle.scan_core.specs.Archives.{IsNewName, AreNewNames, IsAcceptedAs, AreAcceptedAs, HaveLines, AreIndexed}
+use Rattle.scan_core.specs.Archives.{HasIndex, HaveIndexes, IsFaultOfArchive, IsFirstFault, IsNameFault, index_members}
 use Rattle.scan_core.specs.Failures.{CountsAt}
 use Rattle.scan_core.specs.Scanning.{LeavesUnread}
 
@@ -82,7 +81,8 @@ module _ {X I : Type 0} {name : X → List ℕ} {input : X → Option (List ℕ)
   }
 
   -- its count alone changed, as its fault says
-  pub counts_at : (y : X) (fault : IndexFault) → CountsIndex {A = Unit {0}} (Err fault) (count (get_or xs i d)) (count y)
+  pub counts_at : (y : X) (fault : IndexFault)
+      → CountsIndex {A = Unit {0}} (Err fault) (count (get_or xs i d)) (count y)
       → CountsAt i fault (map count old) (map count (set xs i y))
   counts_at y fault h = (
     rw length-map inside,

@@ -1,4 +1,5 @@
 use Rattle.std.proofs.Common.{[], length, refl, ap, arith, string_bytes}
+use Rattle.std.proofs.lemmas.List.{length-map, take_all}
 use Rattle.index_core.specs.declared.fault.IndexFault.TheVariants.{Memory}
 use Rattle.merge_core.proofs.Many.{map_set_same}
 use Rattle.scan_core.proofs.ArchiveLemmas.{first_fault, counts_at, unread_at, one_more}
@@ -47,8 +48,14 @@ returns-in-Err-push-clause-refused g c =
 
 pub returns-in-Err-push-clause-unread : goal.returns-in-Err-push-clause-unread
 returns-in-Err-push-clause-unread g c =
-    unread_at c.loop-i.invariant (omega arith) c.index-inputs-i.result c.index_archive.new.archive Memory (λ n. absurd n)
+    unread_at c.loop-i.invariant (omega arith) c.index-inputs-i.result c.index_archive.new.archive Memory
+    (λ n. absurd n)
 
 pub returns-in-Err-push-clause-failures : goal.returns-in-Err-push-clause-failures
 returns-in-Err-push-clause-failures g c =
     counts_at c.loop-i.invariant (omega arith) _ _ Memory c.in-Ok.ensures.failures
+
+-- ---- all are indexed
+
+pub returns-clause-indexes : goal.returns-clause-indexes
+returns-clause-indexes g c = grind (arith, take_all, length-map)

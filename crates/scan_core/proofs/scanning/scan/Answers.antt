@@ -18,3 +18,12 @@ returns-in_err-write_pages-clause-part g c =
 
 pub returns-in_err-indexes-clause-fault : goal.returns-in_err-indexes-clause-fault
 returns-in_err-indexes-clause-fault g c = grind (arith, length-map, err_from_is_err_and)
+
+pub returns-in_err-write_pages-clause-fault : goal.returns-in_err-write_pages-clause-fault
+returns-in_err-write_pages-clause-fault g c = grind arith
+
+pub returns-in_err-write_pages-clause-unwritten : goal.returns-in_err-write_pages-clause-unwritten
+returns-in_err-write_pages-clause-unwritten g c = grind arith
+
+pub returns-in_err-write_pages-clause-unread : goal.returns-in_err-write_pages-clause-unread
+returns-in_err-write_pages-clause-unread g c = grind arith
