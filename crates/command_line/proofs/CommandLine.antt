@@ -1,5 +1,5 @@
 -- What clap answers to the words of a command line.
-use Rattle.std.proofs.Common.{arith, refl, ◌≡◌, ◌<◌, ◌^◌, ◌&&◌, ◌⊎◌, List, [], ◌∷◌, Option, Some, None, Bool, true}
+use Rattle.std.proofs.Common.{arith, refl, ◌≡◌, ◌<◌, ◌^◌, ◌&&◌, ◌⊎◌, List, [], ◌∷◌, ◌++◌, Option, Some, None, Bool, true}
 use Rattle.std.proofs.Common.{false, codes, length, ap, ap₂, ◌∙◌, inl, inr, find, Err}
 use Rattle.std.specs.List.{list_any, list_all}
 use Rattle.std.specs.Option.{IfSome, ok_or}
@@ -16,9 +16,8 @@ use Rattle.command_line.specs.Clap.{warcdx, matches_task, refusal_for}
 use Rattle.command_line.proofs.PlainWords.{IsPlain, AllPlain, plain_word}
 use Rattle.command_line.proofs.OtherWords.{choice, typed_command, types_option}
 use Rattle.command_line.proofs.OperandWalk.{fits, is_usage, are_usage}
-use Rattle.command_line.proofs.Operands.{rows_of, values, reads, unfit_task, level_fits, level_unfit, level_help}
-use Rattle.command_line.proofs.TypedOperands.{typed_rows, typed_values, typed_reads, typed_unfit_task, typed_fits}
-use Rattle.command_line.proofs.TypedOperands.{typed_unfit, without_text}
+use Rattle.command_line.proofs.Operands.{choice_words, MayChoose, rows_of, values, reads, unfit_task, level_fits}
+use Rattle.command_line.proofs.Operands.{level_unfit, level_help, without_text}
 use Rattle.command_line.proofs.CommandName.{is_named, same_name, given, below, unknown, top_help}
 
 -- ---- words without options
@@ -38,18 +37,21 @@ told_as : (a b : Option Meaning) (kinds : Kinds) (met : Option (Text × List Row
     → Told a kinds met
 told_as a b kinds met e t = rw e t
 
-operands_told : (word : Text) (form : Form) (rest : List Text) → find (is_named word) commands ≡ Some (word, form)
-    → AllPlain rest → length rest < 2 ^ 64
+-- the operands of a command, after `--types` and its text where it takes them
+operands_told : (word : Text) (form : Form) (choice : Option Text) (rest : List Text)
+    → find (is_named word) commands ≡ Some (word, form) → MayChoose form choice → AllPlain rest → length rest < 2 ^ 64
     → (b : Bool) → fits form rest ≡ b
-    → Told (operands_task form rest) (fault_of warcdx (word ∷ rest)) (subcommand_of warcdx (word ∷ rest))
-operands_told word form rest e p short true f = inl (
-  below word form commands rest e ∙ level_fits word form rest f p short,
-  ap matches_task (given word form commands rest (rows_of form rest) e (values form rest f p))
-      ∙ rw e (reads form rest f p),
+    → Told (operands_task form (choice_words choice ++ rest)) (fault_of warcdx (word ∷ choice_words choice ++ rest))
+    (subcommand_of warcdx (word ∷ choice_words choice ++ rest))
+operands_told word form choice rest e m p short true f = inl (
+  below word form commands (choice_words choice ++ rest) e ∙ level_fits word form choice rest m f p short,
+  ap matches_task (given word form commands (choice_words choice ++ rest) (rows_of form choice rest) e
+      (values form choice rest m f p))
+      ∙ rw e (reads form choice rest m f p),
 )
-operands_told word form rest e p short false f = inr (
-  ap are_usage (below word form commands rest e) ∙ level_unfit word form rest f p,
-  unfit_task form rest f p,
+operands_told word form choice rest e m p short false f = inr (
+  ap are_usage (below word form commands (choice_words choice ++ rest) e) ∙ level_unfit word form choice rest m f p,
+  unfit_task form choice rest m f p,
 )
 
 first_told : (word : Text) (rest : List Text) → IsPlain word → AllPlain rest → length rest < 2 ^ 64
@@ -58,27 +60,7 @@ first_told word rest q p short None n = inr (unknown word commands rest n q, rw 
 first_told word rest q p short (Some c) n = told_as (task_of (word ∷ rest)) (operands_task c.1 rest)
     (fault_of warcdx (word ∷ rest))
     (subcommand_of warcdx (word ∷ rest)) (rw n refl)
-    (operands_told word c.1 rest (same_name word commands c n) p short (fits c.1 rest) refl)
-
--- `--types` and its text, directly after a command that takes types
-abbrev choosing : Text → List Text → List Text
-choosing text rest = codes "--types" ∷ text ∷ rest
-
-chosen_told : (word : Text) (form : Form) (text : Text) (rest : List Text) → find (is_named word) commands
-    ≡ Some (word, form) → takes_types form ≡ true
-    → IsPlain text → AllPlain rest → length rest < 2 ^ 64 → (b : Bool) → fits form rest ≡ b
-    → Told (operands_task form (choosing text rest)) (fault_of warcdx (word ∷ choosing text rest))
-    (subcommand_of warcdx (word ∷ choosing text rest))
-chosen_told word form text rest e t q p short true f = inl (
-  below word form commands (choosing text rest) e ∙ typed_fits word form (Some text) rest t f q p short,
-  ap matches_task (given word form commands (choosing text rest) (typed_rows form (Some text) rest) e
-      (typed_values form (Some text) rest t f q p))
-      ∙ rw e (typed_reads form (Some text) rest t f q p),
-)
-chosen_told word form text rest e t q p short false f = inr (
-  ap are_usage (below word form commands (choosing text rest) e) ∙ typed_unfit word form (Some text) rest t f q p,
-  typed_unfit_task form (Some text) rest t f q p,
-)
+    (operands_told word c.1 None rest (same_name word commands c n) tt p short (fits c.1 rest) refl)
 
 no_text_task : (form : Form) → takes_types form ≡ true → operands_task form (codes "--types" ∷ []) ≡ None
 no_text_task form t = grind arith
@@ -92,8 +74,8 @@ types_told word form [] e t p short = inr (
   ap are_usage (below word form commands (codes "--types" ∷ []) e) ∙ without_text word form t,
   no_text_task form t,
 )
-types_told word form (text ∷ rest) e t p short = chosen_told word form text rest e t p.0 p.1 (omega (arith, short))
-    (fits form rest) refl
+types_told word form (text ∷ rest) e t p short =
+    operands_told word form (Some text) rest e (t, p.0) p.1 (omega (arith, short)) (fits form rest) refl
 
 tells_as : (a b : List Text) → a ≡ b → Tells b → Tells a
 tells_as a b e t = rw e t

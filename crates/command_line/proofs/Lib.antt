@@ -3,7 +3,6 @@ pub mod SizeDigits
 pub mod PlainWords
 pub mod OtherWords
 pub mod OperandWalk
-pub mod TypedOperands
 pub mod Operands
 pub mod CommandName
 pub mod CommandLine

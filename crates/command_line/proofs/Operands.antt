@@ -1,23 +1,73 @@
--- What clap makes of the operands after a command's name.
-use Rattle.std.proofs.Common.{arith, refl, ℕ, ◌≡◌, ◌<◌, ◌^◌, List, [], ◌∷◌, ◌++◌, Some, None, true, false, codes}
-use Rattle.std.proofs.Common.{length, ap, ◌∙◌, fold}
+-- What clap makes of the words after a command's name.
+use Rattle.std.proofs.Common.{arith, refl, ℕ, ◌≡◌, ◌<◌, ◌^◌, List, [], ◌∷◌, ◌++◌, Some, None, Bool, true, false, codes}
+use Rattle.std.proofs.Common.{bytes_eq, length, ap, sym, ◌∙◌, fold, Option, option_map, option_and_then}
+use Rattle.std.proofs.lemmas.Slice.Eq.{bytes_eq-Decides}
 use Rattle.std.specs.Char.{encode_utf8}
 use Rattle.std.specs.Str.{chars}
 use Rattle.clap.specs.Words.{Row}
+use Rattle.clap.specs.Lexer.{long_of}
 use Rattle.clap.specs.Walk.{Walk, walked, walk, walk_from, nothing_held, idle, finished}
 use Rattle.clap.specs.Faults.{flags_fault, walk_fault, defaults_fault, level_fault}
 use Rattle.clap.specs.declared.error.kind.ErrorKind.TheVariants as kind
+use Rattle.capture_core.specs.Types.{usual_types}
 use Rattle.command_line.specs.Words.{Text, asks_for_help}
-use Rattle.command_line.specs.Commands.{Meaning, Form, Names as OfNames, Query as OfQuery, Sizes as OfSizes}
-use Rattle.command_line.specs.Commands.{Offset as OfOffset, Typed as OfTyped, TypedSizes as OfTypedSizes, takes_types}
-use Rattle.command_line.specs.Commands.{operands_task}
+use Rattle.command_line.specs.Commands.{Form, Names as OfNames, Query as OfQuery, Sizes as OfSizes, Offset as OfOffset}
+use Rattle.command_line.specs.Commands.{Typed as OfTyped, TypedSizes as OfTypedSizes, takes_types, chooses_types}
+use Rattle.command_line.specs.Commands.{typed_operands, operands_task}
 use Rattle.command_line.specs.Clap.{values_task}
 use Rattle.command_line.proofs.PlainWords.{IsPlain, AllPlain, help_word}
 use Rattle.command_line.proofs.OperandWalk.{shaped, rules_of, fits, row, after, walk_on, walk_clear, query_row}
 use Rattle.command_line.proofs.OperandWalk.{sizes_rows, in_range, any_text, are_usage}
-use Rattle.command_line.proofs.TypedOperands.{typed_fits, typed_unfit, typed_rows, typed_values}
 
--- ---- the walk over plain words
+-- ---- a choice of types
+
+-- `--types` and its text, or nothing
+abbrev pub choice_words : Option Text → List Text
+choice_words None = []
+choice_words (Some text) = codes "--types" ∷ text ∷ []
+
+abbrev choice_rows : Option Text → List Row
+choice_rows None = []
+choice_rows (Some text) = row (codes "types") (text ∷ []) ∷ []
+
+-- the command takes the choice, and the text is no option
+abbrev pub MayChoose : Form → Option Text → Type 0
+MayChoose form None = Unit {0}
+MayChoose form (Some text) = (takes_types form ≡ true) × IsPlain text
+
+-- before the operands
+abbrev start : Option Text → Walk
+start None = walk_from nothing_held
+start (Some text) = walk_from (record { rows = []; pending = Some (codes "types", text ∷ []); skip = 0 })
+
+begun : (form : Form) (choice : Option Text) (words : List Text) → MayChoose form choice
+    → walk (rules_of form) [] nothing_held (choice_words choice ++ words)
+    ≡ fold (walked (rules_of form) []) (start choice) words
+unfolding walked
+begun form None words m = refl
+begun form (Some text) words m = grind (arith, fold)
+
+begun_clear : (name : Text) (form : Form) (choice : Option Text) (words : List Text) → MayChoose form choice
+    → walk_fault (shaped (name, form)) [] (walk_from nothing_held) (choice_words choice ++ words)
+    ≡ walk_fault (shaped (name, form)) [] (start choice) words
+unfolding walk_fault walked
+begun_clear name form None words m = refl
+begun_clear name form (Some text) words m = grind arith
+
+-- ---- operands that fit
+
+-- the rows of what stands before the names
+abbrev operand_rows : Form → List Text → List Row
+operand_rows (OfQuery make) (a ∷ more) = query_row a
+operand_rows (OfSizes make) (a ∷ b ∷ more) = sizes_rows a b
+operand_rows (OfTypedSizes make) (a ∷ b ∷ more) = sizes_rows a b
+operand_rows form words = []
+
+abbrev names_among : Form → List Text → List Text
+names_among (OfQuery make) (a ∷ more) = more
+names_among (OfSizes make) (a ∷ b ∷ more) = more
+names_among (OfTypedSizes make) (a ∷ b ∷ more) = more
+names_among form words = words
 
 -- after an offset and a name
 abbrev after_offset : Text → Text → Walk
@@ -29,146 +79,97 @@ after_offset offset name = record {
   stopped = None;
 }
 
-abbrev end_of : Form → List Text → Walk
-end_of (OfNames make) words = after (OfNames make) [] words
-end_of (OfQuery make) (a ∷ more) = after (OfQuery make) (query_row a) more
-end_of (OfSizes make) (a ∷ b ∷ more) = after (OfSizes make) (sizes_rows a b) more
-end_of (OfOffset make) (a ∷ b ∷ more) = after_offset a b
-end_of _ _ = walk_from nothing_held
+abbrev end_of : Form → Option Text → List Text → Walk
+end_of (OfOffset make) choice (a ∷ b ∷ more) = after_offset a b
+end_of form choice words = after form (choice_rows choice ++ operand_rows form words) (names_among form words)
 
-first_in : (make : List Text → Meaning) (a : Text) → IsPlain a
-    → walked (rules_of (OfNames make)) [] (walk_from nothing_held) a ≡ after (OfNames make) [] (a ∷ [])
+operands_in : (form : Form) (choice : Option Text) (words : List Text) → MayChoose form choice → fits form words ≡ true
+    → AllPlain words → fold (walked (rules_of form) []) (start choice) words ≡ end_of form choice words
 unfolding walked
-first_in make a p = grind arith
+operands_in (OfNames make) None (a ∷ more) m f p =
+    let rest = walk_on (OfNames make) [] (a ∷ []) more refl p.1 in grind arith
+operands_in (OfQuery make) None (a ∷ b ∷ more) m f p =
+    let rest = walk_on (OfQuery make) (query_row a) (b ∷ []) more refl p.1.1 in grind arith
+operands_in (OfSizes make) None (a ∷ b ∷ c ∷ more) m f p =
+    let rest = walk_on (OfSizes make) (sizes_rows a b) (c ∷ []) more refl p.1.1.1 in grind arith
+operands_in (OfOffset make) None (a ∷ b ∷ []) m f p = grind arith
+operands_in (OfTyped make) choice (a ∷ more) m f p =
+    let rest = walk_on (OfTyped make) (choice_rows choice) (a ∷ []) more refl p.1 in grind arith
+operands_in (OfTypedSizes make) None (a ∷ b ∷ c ∷ more) m f p =
+    let rest = walk_on (OfTypedSizes make) (sizes_rows a b) (c ∷ []) more refl p.1.1.1 in grind arith
+operands_in (OfTypedSizes make) (Some text) (a ∷ b ∷ c ∷ more) m f p =
+    let rest = walk_on (OfTypedSizes make) (choice_rows (Some text) ++ sizes_rows a b) (c ∷ []) more refl p.1.1.1 in
+    grind arith
+operands_in _ _ _ m f p = cc
 
-two_in : (make : Text → List Text → Meaning) (a b : Text) → IsPlain a → IsPlain b
-    → walk (rules_of (OfQuery make)) [] nothing_held (a ∷ b ∷ []) ≡ after (OfQuery make) (query_row a) (b ∷ [])
-unfolding walked
-two_in make a b p q = grind arith
+ends : (form : Form) (choice : Option Text) (words : List Text) → MayChoose form choice → fits form words ≡ true
+    → AllPlain words → walk (rules_of form) [] nothing_held (choice_words choice ++ words) ≡ end_of form choice words
+ends form choice words m f p = begun form choice words m ∙ operands_in form choice words m f p
 
-three_in : (make : List ℕ → Text → List Text → Meaning) (a b c : Text) → IsPlain a → IsPlain b → IsPlain c
-    → walk (rules_of (OfSizes make)) [] nothing_held (a ∷ b ∷ c ∷ []) ≡ after (OfSizes make) (sizes_rows a b) (c ∷ [])
-unfolding walked
-three_in make a b c p q r = grind arith
-
-both_in : (make : ℕ → Text → Meaning) (a b : Text) → IsPlain a → IsPlain b
-    → walk (rules_of (OfOffset make)) [] nothing_held (a ∷ b ∷ []) ≡ after_offset a b
-unfolding walked
-both_in make a b p q = grind arith
-
-ends : (form : Form) (words : List Text) → takes_types form ≡ false → fits form words ≡ true → AllPlain words
-    → walk (rules_of form) [] nothing_held words ≡ end_of form words
-ends (OfNames make) (a ∷ more) u f p =
-    ap (λ w. fold (walked (rules_of (OfNames make)) []) w more) (first_in make a p.0)
-    ∙ walk_on (OfNames make) [] (a ∷ []) more refl p.1
-ends (OfQuery make) (a ∷ b ∷ more) u f p =
-    ap (λ w. fold (walked (rules_of (OfQuery make)) []) w more) (two_in make a b p.0 p.1.0)
-    ∙ walk_on (OfQuery make) (query_row a) (b ∷ []) more refl p.1.1
-ends (OfSizes make) (a ∷ b ∷ c ∷ more) u f p =
-    ap (λ w. fold (walked (rules_of (OfSizes make)) []) w more) (three_in make a b c p.0 p.1.0 p.1.1.0)
-    ∙ walk_on (OfSizes make) (sizes_rows a b) (c ∷ []) more refl p.1.1.1
-ends (OfOffset make) (a ∷ b ∷ []) u f p = both_in make a b p.0 p.1.0
-ends _ _ u f p = cc
-
--- ---- no fault in plain words
-
-first_clear : (name : Text) (make : List Text → Meaning) (a : Text) (more : List Text) → IsPlain a
-    → walk_fault (shaped (name, OfNames make)) [] (walk_from nothing_held) (a ∷ more)
-    ≡ walk_fault (shaped (name, OfNames make)) [] (after (OfNames make) [] (a ∷ [])) more
+operands_clear : (name : Text) (form : Form) (choice : Option Text) (words : List Text) → MayChoose form choice
+    → fits form words ≡ true → AllPlain words → walk_fault (shaped (name, form)) [] (start choice) words ≡ []
 unfolding walk_fault walked
-first_clear name make a more p = grind arith
+operands_clear name (OfNames make) None (a ∷ more) m f p =
+    let rest = walk_clear name (OfNames make) [] (a ∷ []) more refl p.1 in grind arith
+operands_clear name (OfQuery make) None (a ∷ b ∷ more) m f p =
+    let rest = walk_clear name (OfQuery make) (query_row a) (b ∷ []) more refl p.1.1 in grind arith
+operands_clear name (OfSizes make) None (a ∷ b ∷ c ∷ more) m f p =
+    let rest = walk_clear name (OfSizes make) (sizes_rows a b) (c ∷ []) more refl p.1.1.1 in grind arith
+operands_clear name (OfOffset make) None (a ∷ b ∷ []) m f p = grind arith
+operands_clear name (OfTyped make) choice (a ∷ more) m f p =
+    let rest = walk_clear name (OfTyped make) (choice_rows choice) (a ∷ []) more refl p.1 in grind arith
+operands_clear name (OfTypedSizes make) None (a ∷ b ∷ c ∷ more) m f p =
+    let rest = walk_clear name (OfTypedSizes make) (sizes_rows a b) (c ∷ []) more refl p.1.1.1 in grind arith
+operands_clear name (OfTypedSizes make) (Some text) (a ∷ b ∷ c ∷ more) m f p =
+    let rest = walk_clear name (OfTypedSizes make) (choice_rows (Some text) ++ sizes_rows a b) (c ∷ []) more refl
+        p.1.1.1 in
+    grind arith
+operands_clear _ _ _ _ m f p = cc
 
-two_clear : (name : Text) (make : Text → List Text → Meaning) (a b : Text) (more : List Text) → IsPlain a → IsPlain b
-    → walk_fault (shaped (name, OfQuery make)) [] (walk_from nothing_held) (a ∷ b ∷ more)
-    ≡ walk_fault (shaped (name, OfQuery make)) [] (after (OfQuery make) (query_row a) (b ∷ [])) more
-unfolding walk_fault walked
-two_clear name make a b more p q = grind arith
-
-three_clear : (name : Text) (make : List ℕ → Text → List Text → Meaning) (a b c : Text) (more : List Text) → IsPlain a
-    → IsPlain b → IsPlain c
-    → walk_fault (shaped (name, OfSizes make)) [] (walk_from nothing_held) (a ∷ b ∷ c ∷ more)
-    ≡ walk_fault (shaped (name, OfSizes make)) [] (after (OfSizes make) (sizes_rows a b) (c ∷ [])) more
-unfolding walk_fault walked
-three_clear name make a b c more p q r = grind arith
-
-both_clear : (name : Text) (make : ℕ → Text → Meaning) (a b : Text) → IsPlain a → IsPlain b
-    → walk_fault (shaped (name, OfOffset make)) [] (walk_from nothing_held) (a ∷ b ∷ []) ≡ []
-unfolding walk_fault walked
-both_clear name make a b p q = grind arith
-
-clear : (name : Text) (form : Form) (words : List Text) → takes_types form ≡ false → fits form words ≡ true
-    → AllPlain words
-    → walk_fault (shaped (name, form)) [] (walk_from nothing_held) words ≡ []
-clear name (OfNames make) (a ∷ more) u f p = first_clear name make a more p.0
-    ∙ walk_clear name (OfNames make) [] (a ∷ []) more refl p.1
-clear name (OfQuery make) (a ∷ b ∷ more) u f p =
-    two_clear name make a b more p.0 p.1.0 ∙ walk_clear name (OfQuery make) (query_row a) (b ∷ []) more refl p.1.1
-clear name (OfSizes make) (a ∷ b ∷ c ∷ more) u f p =
-    three_clear name make a b c more p.0 p.1.0 p.1.1.0
-    ∙ walk_clear name (OfSizes make) (sizes_rows a b) (c ∷ []) more refl p.1.1.1
-clear name (OfOffset make) (a ∷ b ∷ []) u f p = both_clear name make a b p.0 p.1.0
-clear _ _ _ u f p = cc
+clear : (name : Text) (form : Form) (choice : Option Text) (words : List Text) → MayChoose form choice
+    → fits form words ≡ true → AllPlain words
+    → walk_fault (shaped (name, form)) [] (walk_from nothing_held) (choice_words choice ++ words) ≡ []
+clear name form choice words m f p = begun_clear name form choice words m ∙ operands_clear name form choice words m f p
 
 -- ---- a command's fault
 
-pub level_fits : (name : Text) (form : Form) (words : List Text) → fits form words ≡ true → AllPlain words
-    → length words < 2 ^ 64
-    → level_fault (shaped (name, form)) [] nothing_held words false [] ≡ []
+pub level_fits : (name : Text) (form : Form) (choice : Option Text) (words : List Text) → MayChoose form choice
+    → fits form words ≡ true → AllPlain words → length words < 2 ^ 64
+    → level_fault (shaped (name, form)) [] nothing_held (choice_words choice ++ words) false [] ≡ []
 unfolding defaults_fault
-level_fits name (OfNames make) (a ∷ more) f p short =
-    rw (
-      ends (OfNames make) (a ∷ more) refl f p,
-      clear name (OfNames make) (a ∷ more) refl f p,
-      in_range (a ∷ more) (omega arith) short,
-      any_text more,
-    ) refl
-level_fits name (OfQuery make) (a ∷ b ∷ more) f p short =
-    rw (
-      ends (OfQuery make) (a ∷ b ∷ more) refl f p,
-      clear name (OfQuery make) (a ∷ b ∷ more) refl f p,
-      in_range (b ∷ more) (omega arith) (omega (arith, short)),
-      any_text more,
-    ) refl
-level_fits name (OfSizes make) (a ∷ b ∷ c ∷ more) f p short =
-    rw (
-      ends (OfSizes make) (a ∷ b ∷ c ∷ more) refl f p,
-      clear name (OfSizes make) (a ∷ b ∷ c ∷ more) refl f p,
-      in_range (c ∷ more) (omega arith) (omega (arith, short)),
-      any_text more,
-    ) refl
-level_fits name (OfOffset make) (a ∷ b ∷ []) f p short =
-    rw (ends (OfOffset make) (a ∷ b ∷ []) refl f p, clear name (OfOffset make) (a ∷ b ∷ []) refl f p) refl
-level_fits name (OfTyped make) (a ∷ more) f p short = typed_fits name (OfTyped make) None (a ∷ more) refl f tt p short
-level_fits name (OfTypedSizes make) (a ∷ b ∷ c ∷ more) f p short =
-    typed_fits name (OfTypedSizes make) None (a ∷ b ∷ c ∷ more) refl f tt p short
-level_fits _ _ _ f p short = cc
+level_fits name form choice words m f p short = grind (arith, ends, clear, in_range, any_text)
 
-pub level_unfit : (name : Text) (form : Form) (words : List Text) → fits form words ≡ false → AllPlain words
-    → are_usage (level_fault (shaped (name, form)) [] nothing_held words false []) ≡ true
+pub level_unfit : (name : Text) (form : Form) (choice : Option Text) (words : List Text) → MayChoose form choice
+    → fits form words ≡ false → AllPlain words
+    → are_usage (level_fault (shaped (name, form)) [] nothing_held (choice_words choice ++ words) false []) ≡ true
 unfolding walk_fault walked defaults_fault
-level_unfit name (OfNames make) [] f p = refl
-level_unfit name (OfQuery make) words f p = grind arith
-level_unfit name (OfSizes make) [] f p = refl
-level_unfit name (OfSizes make) (a ∷ []) f p = rw (p.0.dashes, p.0.long, p.0.short) refl
-level_unfit name (OfSizes make) (a ∷ b ∷ []) f p =
-    rw (p.0.dashes, p.0.long, p.0.short, p.1.0.dashes, p.1.0.long, p.1.0.short) refl
-level_unfit name (OfOffset make) [] f p = refl
-level_unfit name (OfOffset make) (a ∷ []) f p = rw (p.0.dashes, p.0.long, p.0.short) refl
-level_unfit name (OfOffset make) (a ∷ b ∷ c ∷ more) f p =
-    rw (
-      p.0.dashes,
-      p.0.long,
-      p.0.short,
-      p.1.0.dashes,
-      p.1.0.long,
-      p.1.0.short,
-      p.1.1.0.dashes,
-      p.1.1.0.long,
-      p.1.1.0.short,
-    ) refl
-level_unfit name (OfTyped make) words f p = typed_unfit name (OfTyped make) None words refl f tt p
-level_unfit name (OfTypedSizes make) words f p = typed_unfit name (OfTypedSizes make) None words refl f tt p
-level_unfit _ _ _ f p = cc
+level_unfit name (OfNames make) None [] m f p = refl
+level_unfit name (OfQuery make) None words m f p = grind arith
+level_unfit name (OfSizes make) None [] m f p = refl
+level_unfit name (OfSizes make) None (a ∷ []) m f (p, e) = rw (p.dashes, p.long, p.short) refl
+level_unfit name (OfSizes make) None (a ∷ b ∷ []) m f (p, (q, e)) =
+    rw (p.dashes, p.long, p.short, q.dashes, q.long, q.short) refl
+level_unfit name (OfOffset make) None [] m f p = refl
+level_unfit name (OfOffset make) None (a ∷ []) m f (p, e) = rw (p.dashes, p.long, p.short) refl
+level_unfit name (OfOffset make) None (a ∷ b ∷ c ∷ more) m f (p, (q, (r, e))) =
+    rw (p.dashes, p.long, p.short, q.dashes, q.long, q.short, r.dashes, r.long, r.short) refl
+level_unfit name (OfTyped make) choice [] m f p = grind arith
+level_unfit name (OfTypedSizes make) None [] m f p = refl
+level_unfit name (OfTypedSizes make) None (a ∷ []) m f (p, e) = rw (p.dashes, p.long, p.short) refl
+level_unfit name (OfTypedSizes make) None (a ∷ b ∷ []) m f (p, (q, e)) =
+    rw (p.dashes, p.long, p.short, q.dashes, q.long, q.short) refl
+level_unfit name (OfTypedSizes make) (Some text) [] (t, c) f p = rw (c.dashes, c.long, c.short) refl
+level_unfit name (OfTypedSizes make) (Some text) (a ∷ []) (t, c) f (p, e) =
+    rw (c.dashes, c.long, c.short, p.dashes, p.long, p.short) refl
+level_unfit name (OfTypedSizes make) (Some text) (a ∷ b ∷ []) (t, c) f (p, (q, e)) =
+    rw (c.dashes, c.long, c.short, p.dashes, p.long, p.short, q.dashes, q.long, q.short) refl
+level_unfit _ _ _ _ m f p = cc
+
+-- `--types` alone
+pub without_text : (name : Text) (form : Form) → takes_types form ≡ true
+    → are_usage (level_fault (shaped (name, form)) [] nothing_held (codes "--types" ∷ []) false []) ≡ true
+unfolding walk_fault walked defaults_fault
+without_text name form t = grind arith
 
 -- a command with a word that asks for help
 pub level_help : (name : Text) (form : Form) (help : Text) → asks_for_help help ≡ true
@@ -178,35 +179,49 @@ level_help name form help h = grind (arith, help_word)
 
 -- ---- the values of a command
 
-abbrev pub rows_of : Form → List Text → List Row
-rows_of (OfNames make) words = row (codes "names") words ∷ []
-rows_of (OfQuery make) (a ∷ more) = query_row a ++ row (codes "names") more ∷ []
-rows_of (OfSizes make) (a ∷ b ∷ more) = sizes_rows a b ++ row (codes "names") more ∷ []
-rows_of (OfOffset make) (a ∷ more) = row (codes "offset") (a ∷ []) ∷ row (codes "name") more ∷ []
-rows_of (OfTyped make) words = typed_rows (OfTyped make) None words
-rows_of (OfTypedSizes make) words = typed_rows (OfTypedSizes make) None words
-rows_of _ _ = []
+abbrev pub rows_of : Form → Option Text → List Text → List Row
+rows_of (OfOffset make) choice (a ∷ more) = row (codes "offset") (a ∷ []) ∷ row (codes "name") more ∷ []
+rows_of form choice words =
+    choice_rows choice ++ operand_rows form words ++ row (codes "names") (names_among form words) ∷ []
 
-pub values : (form : Form) (words : List Text) → fits form words ≡ true → AllPlain words
-    → finished (rules_of form) (walk (rules_of form) [] nothing_held words).held ≡ rows_of form words
-values (OfNames make) (a ∷ more) f p = rw (ends (OfNames make) (a ∷ more) refl f p) refl
-values (OfQuery make) (a ∷ b ∷ more) f p = rw (ends (OfQuery make) (a ∷ b ∷ more) refl f p) refl
-values (OfSizes make) (a ∷ b ∷ c ∷ more) f p = rw (ends (OfSizes make) (a ∷ b ∷ c ∷ more) refl f p) refl
-values (OfOffset make) (a ∷ b ∷ []) f p = rw (ends (OfOffset make) (a ∷ b ∷ []) refl f p) refl
-values (OfTyped make) (a ∷ more) f p = typed_values (OfTyped make) None (a ∷ more) refl f tt p
-values (OfTypedSizes make) (a ∷ b ∷ c ∷ more) f p = typed_values (OfTypedSizes make) None (a ∷ b ∷ c ∷ more) refl f tt p
-values _ _ f p = cc
+pub values : (form : Form) (choice : Option Text) (words : List Text) → MayChoose form choice → fits form words ≡ true
+    → AllPlain words
+    → finished (rules_of form) (walk (rules_of form) [] nothing_held (choice_words choice ++ words)).held
+    ≡ rows_of form choice words
+values form choice words m f p = grind (arith, ends)
 
-pub reads : (form : Form) (words : List Text) → fits form words ≡ true → AllPlain words
-    → values_task form (rows_of form words) ≡ operands_task form words
-reads (OfNames make) (a ∷ more) f p = refl
-reads (OfQuery make) (a ∷ b ∷ more) f p = refl
-reads (OfSizes make) (a ∷ b ∷ c ∷ more) f p = grind arith
-reads (OfOffset make) (a ∷ b ∷ []) f p = refl
-reads (OfTyped make) (a ∷ more) f p = grind arith
-reads (OfTypedSizes make) (a ∷ b ∷ c ∷ more) f p = grind arith
-reads _ _ f p = cc
+-- ---- the task
 
-pub unfit_task : (form : Form) (words : List Text) → fits form words ≡ false → AllPlain words → operands_task form words
-    ≡ None
-unfit_task form words f p = grind arith
+pub in_turn : {A B C : Type 0} (o : Option A) (f : A → B) (g : B → C) → option_map g (option_map f o)
+    ≡ option_map (λ x. g (f x)) o
+in_turn o f g = grind arith
+
+-- two ways to go on from a value agree
+alike : {A B C : Type 0} (o : Option A) (f : A → Option C) (g : A → B) (h : B → Option C) → ((x : A) → f x ≡ h (g x))
+    → option_and_then f o ≡ option_and_then h (option_map g o)
+alike o f g h e = grind arith
+
+nowhere : {A B C : Type 0} (o : Option A) (g : A → B) (h : B → Option C) → ((x : A) → h (g x) ≡ None)
+    → option_and_then h (option_map g o) ≡ None
+nowhere o g h e = grind arith
+
+no_choice : (word : Text) → IsPlain word → chooses_types word ≡ false
+no_choice word p = go (bytes_eq word (codes "--types")) refl
+  where
+    go : (b : Bool) → bytes_eq word (codes "--types") ≡ b → b ≡ false
+    go false e = refl
+    go true e = let long : long_of (codes "--types")
+        ≡ None = ap long_of (sym ((bytes_eq-Decides word (codes "--types")).0 e)) ∙ p.long in cc
+
+-- plain words are all operands, of the usual types
+usual : (words : List Text) → AllPlain words → typed_operands words ≡ Some (usual_types, words)
+usual words p = grind (arith, no_choice)
+
+pub reads : (form : Form) (choice : Option Text) (words : List Text) → MayChoose form choice → fits form words ≡ true
+    → AllPlain words → values_task form (rows_of form choice words) ≡ operands_task form (choice_words choice ++ words)
+reads form choice words m f p = grind (arith, usual, alike, in_turn)
+
+-- operands that don't fit have no task, whatever the types
+pub unfit_task : (form : Form) (choice : Option Text) (words : List Text) → MayChoose form choice
+    → fits form words ≡ false → AllPlain words → operands_task form (choice_words choice ++ words) ≡ None
+unfit_task form choice words m f p = grind (arith, nowhere, usual)
