@@ -107,7 +107,7 @@ tells words p short = grind (arith, first_told, two_told)
 pub plain_asked : (words : List Text) → list_any is_unknown_option (other_words words) ≡ false
     → list_any asks_for_help (other_words words) ≡ false
     → asked words ≡ ok_or (task_of words) Usage
-plain_asked words u h = rw (u, h) refl
+plain_asked words u h = grind arith
 
 pub matched : (task : Option Meaning) (kinds : Kinds) (met : Option (Text × List Row)) → Told task kinds met → kinds
     ≡ []
@@ -120,15 +120,7 @@ usage_kind : (kinds : Kinds) (k : ErrorKind) → list_all (λ kind. is_usage (re
     → IsAmong k kinds
     → refusal_for k ≡ Some Usage
 usage_kind [] k h m = absurd m
-usage_kind (x ∷ xs) k h m = go (is_usage (refusal_for x)) refl h m (usage_kind xs k)
-  where
-    go : (b : Bool) → is_usage (refusal_for x) ≡ b → (b && list_all (λ kind. is_usage (refusal_for kind)) xs) ≡ true
-        → (k ≡ x) ⊎ IsAmong k xs
-        → (list_all (λ kind. is_usage (refusal_for kind)) xs ≡ true → IsAmong k xs → refusal_for k ≡ Some Usage)
-        → refusal_for k ≡ Some Usage
-    go false e f n rest = cc
-    go true e f (inl same) rest = grind arith
-    go true e f (inr later) rest = rest f later
+usage_kind (x ∷ xs) k h m = grind (arith, usage_kind xs k)
 
 pub refused : (task : Option Meaning) (kinds : Kinds) (met : Option (Text × List Row)) (k : ErrorKind)
     → Told task kinds met
@@ -165,14 +157,6 @@ tells_help first help u h = go (asks_for_help first) refl
 pub never_taken : (wanted : Refusal) (kinds : Kinds) → ToldHelp wanted kinds → kinds ≡ [] → ⊥
 never_taken wanted kinds t e = grind arith
 
-help_kind : (kinds : Kinds) (k : ErrorKind) → kinds ≡ kind.DisplayHelp ∷ [] → IsAmong k kinds → refusal_for k
-    ≡ Some Help
-help_kind kinds k e m = go (rw e at m)
-  where
-    go : IsAmong k (kind.DisplayHelp ∷ []) → refusal_for k ≡ Some Help
-    go (inl same) = ap refusal_for same
-    go (inr none) = absurd none
-
 pub refused_help : (wanted : Refusal) (kinds : Kinds) (k : ErrorKind) → ToldHelp wanted kinds
     → (k ≡ kind.OutOfMemory) ⊎ IsAmong k kinds → IfSome (refusal_for k) (λ refusal. refusal ≡ wanted)
-refused_help wanted kinds k t h = grind (arith, help_kind, usage_kind)
+refused_help wanted kinds k t h = grind (arith, usage_kind)

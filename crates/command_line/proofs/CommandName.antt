@@ -34,39 +34,18 @@ is_named word c = bytes_eq c.0 word
 met_in : (word : Text) (cs : List (Text × Form))
     → find (answers_to word) (names_of (app_for cs)) ≡ option_map (λ c. label_of (shaped c)) (find (is_named word) cs)
 met_in word [] = refl
-met_in word (c ∷ cs) = go (bytes_eq c.0 word) refl (met_in word cs)
-  where
-    go : (b : Bool) → bytes_eq c.0 word ≡ b
-        → find (answers_to word) (names_of (app_for cs))
-        ≡ option_map (λ c. label_of (shaped c)) (find (is_named word) cs)
-        → find (answers_to word) (names_of (app_for (c ∷ cs)))
-        ≡ option_map (λ c. label_of (shaped c)) (find (is_named word) (c ∷ cs))
-    go true e h = rw e refl
-    go false e h = rw e h
+met_in word (c ∷ cs) = grind (arith, met_in word cs)
 
 shape_in : (word : Text) (cs : List (Text × Form))
     → find (λ s. answers_to word (label_of s)) (app_for cs).subs ≡ option_map shaped (find (is_named word) cs)
 shape_in word [] = refl
-shape_in word (c ∷ cs) = go (bytes_eq c.0 word) refl (shape_in word cs)
-  where
-    go : (b : Bool) → bytes_eq c.0 word ≡ b
-        → find (λ s. answers_to word (label_of s)) (app_for cs).subs ≡ option_map shaped (find (is_named word) cs)
-        → find (λ s. answers_to word (label_of s)) (app_for (c ∷ cs)).subs
-        ≡ option_map shaped (find (is_named word) (c ∷ cs))
-    go true e h = rw e refl
-    go false e h = rw e h
+shape_in word (c ∷ cs) = grind (arith, shape_in word cs)
 
 -- what is found has the name that was asked for
 pub same_name : (word : Text) (cs : List (Text × Form)) (c : Text × Form) → find (is_named word) cs ≡ Some c
     → find (is_named word) cs ≡ Some (word, c.1)
 same_name word [] c h = cc
-same_name word (d ∷ cs) c h = go (bytes_eq d.0 word) refl h (same_name word cs c)
-  where
-    go : (b : Bool) → bytes_eq d.0 word ≡ b → find (is_named word) (d ∷ cs) ≡ Some c
-        → (find (is_named word) cs ≡ Some c → find (is_named word) cs ≡ Some (word, c.1))
-        → find (is_named word) (d ∷ cs) ≡ Some (word, c.1)
-    go true e h k = grind (arith, bytes_eq-Decides)
-    go false e h k = grind arith
+same_name word (d ∷ cs) c h = grind (arith, bytes_eq-Decides, same_name word cs c)
 
 -- ---- the walk: the name is met, and the words after it are the command's
 

@@ -104,7 +104,7 @@ operands_in _ _ _ m f p = cc
 
 ends : (form : Form) (choice : Option Text) (words : List Text) → MayChoose form choice → fits form words ≡ true
     → AllPlain words → walk (rules_of form) [] nothing_held (choice_words choice ++ words) ≡ end_of form choice words
-ends form choice words m f p = begun form choice words m ∙ operands_in form choice words m f p
+ends form choice words m f p = grind (arith, begun, operands_in)
 
 operands_clear : (name : Text) (form : Form) (choice : Option Text) (words : List Text) → MayChoose form choice
     → fits form words ≡ true → AllPlain words → walk_fault (shaped (name, form)) [] (start choice) words ≡ []
@@ -206,12 +206,7 @@ nowhere : {A B C : Type 0} (o : Option A) (g : A → B) (h : B → Option C) →
 nowhere o g h e = grind arith
 
 no_choice : (word : Text) → IsPlain word → chooses_types word ≡ false
-no_choice word p = go (bytes_eq word (codes "--types")) refl
-  where
-    go : (b : Bool) → bytes_eq word (codes "--types") ≡ b → b ≡ false
-    go false e = refl
-    go true e = let long : long_of (codes "--types")
-        ≡ None = ap long_of (sym ((bytes_eq-Decides word (codes "--types")).0 e)) ∙ p.long in cc
+no_choice word p = grind (arith, bytes_eq-Decides)
 
 -- plain words are all operands, of the usual types
 usual : (words : List Text) → AllPlain words → typed_operands words ≡ Some (usual_types, words)
