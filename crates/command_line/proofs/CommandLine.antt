@@ -1,6 +1,6 @@
 -- What clap answers to the words of a command line.
-use Rattle.std.proofs.Common.{arith, refl, ◌≡◌, ◌<◌, ◌^◌, ◌&&◌, ◌⊎◌, List, [], ◌∷◌, ◌++◌, Option, Some, None, Bool, true}
-use Rattle.std.proofs.Common.{false, codes, length, ap, ap₂, ◌∙◌, inl, inr, find, Err}
+use Rattle.std.proofs.Common.{arith, refl, ◌≡◌, ◌<◌, ◌^◌, ◌⊎◌, List, [], ◌∷◌, ◌++◌, Option, Some, None, Bool, true}
+use Rattle.std.proofs.Common.{false, codes, length, ap, ◌∙◌, inl, inr, find, Err}
 use Rattle.std.specs.List.{list_any, list_all}
 use Rattle.std.specs.Option.{IfSome, ok_or}
 use Rattle.clap.specs.Words.{Row, subcommand_of, fault_of, IsAmong}
@@ -33,10 +33,6 @@ no_words : Tells []
 unfolding walk_fault defaults_fault
 no_words = inl (refl, refl)
 
-told_as : (a b : Option Meaning) (kinds : Kinds) (met : Option (Text × List Row)) → a ≡ b → Told b kinds met
-    → Told a kinds met
-told_as a b kinds met e t = rw e t
-
 -- the operands of a command, after `--types` and its text where it takes them
 operands_told : (word : Text) (form : Form) (choice : Option Text) (rest : List Text)
     → find (is_named word) commands ≡ Some (word, form) → MayChoose form choice → AllPlain rest → length rest < 2 ^ 64
@@ -57,46 +53,33 @@ operands_told word form choice rest e m p short false f = inr (
 first_told : (word : Text) (rest : List Text) → IsPlain word → AllPlain rest → length rest < 2 ^ 64
     → (o : Option (Text × Form)) → command_of word ≡ o → Tells (word ∷ rest)
 first_told word rest q p short None n = inr (unknown word commands rest n q, rw n refl)
-first_told word rest q p short (Some c) n = told_as (task_of (word ∷ rest)) (operands_task c.1 rest)
-    (fault_of warcdx (word ∷ rest))
-    (subcommand_of warcdx (word ∷ rest)) (rw n refl)
-    (operands_told word c.1 None rest (same_name word commands c n) tt p short (fits c.1 rest) refl)
-
-no_text_task : (form : Form) → takes_types form ≡ true → operands_task form (codes "--types" ∷ []) ≡ None
-no_text_task form t = grind arith
+first_told word rest q p short (Some c) n =
+    rw n (operands_told word c.1 None rest (same_name word commands c n) tt p short _ refl)
 
 types_told : (word : Text) (form : Form) (rest : List Text) → find (is_named word) commands ≡ Some (word, form)
     → takes_types form ≡ true
     → AllPlain rest → length rest < 2 ^ 64
     → Told (operands_task form (codes "--types" ∷ rest)) (fault_of warcdx (word ∷ codes "--types" ∷ rest))
     (subcommand_of warcdx (word ∷ codes "--types" ∷ rest))
-types_told word form [] e t p short = inr (
-  ap are_usage (below word form commands (codes "--types" ∷ []) e) ∙ without_text word form t,
-  no_text_task form t,
-)
+types_told word form [] e t p short =
+    inr (ap are_usage (below word form commands (codes "--types" ∷ []) e) ∙ without_text word form t, grind arith)
 types_told word form (text ∷ rest) e t p short =
-    operands_told word form (Some text) rest e (t, p.0) p.1 (omega (arith, short)) (fits form rest) refl
-
-tells_as : (a b : List Text) → a ≡ b → Tells b → Tells a
-tells_as a b e t = rw e t
+    operands_told word form (Some text) rest e (t, p.0) p.1 (omega arith) _ refl
 
 typed_told : (word option : Text) (rest : List Text) → is_typed_command word ≡ true → chooses_types option ≡ true
     → AllPlain rest → length rest < 2 ^ 64
     → Tells (word ∷ option ∷ rest)
 typed_told word option rest n o p short = elim (typed_command word n) [
-  | inl e ↦ tells_as _ _ (ap₂ (λ (a b : Text). a ∷ b ∷ rest) e (types_option option o))
-      (types_told (codes "index") (Typed ToIndex) rest refl refl p short)
-  | inr e ↦ tells_as _ _ (ap₂ (λ (a b : Text). a ∷ b ∷ rest) e (types_option option o))
-      (types_told (codes "scan") (TypedSizes ToScan) rest refl refl p short)
+  | inl e ↦ rw (e, types_option option o) (types_told (codes "index") (Typed ToIndex) rest refl refl p short)
+  | inr e ↦ rw (e, types_option option o) (types_told (codes "scan") (TypedSizes ToScan) rest refl refl p short)
 ]
 
 two_told : (word option : Text) (rest : List Text) → AllPlain (other_words (word ∷ option ∷ rest))
     → length (option ∷ rest) < 2 ^ 64
     → Tells (word ∷ option ∷ rest)
 two_told word option rest p short = elim (choice word option rest) [
-  | inl c ↦ typed_told word option rest c.takes c.chooses (rw c.others at p) (omega (arith, short))
-  | inr e ↦ let q : AllPlain (word ∷ option ∷ rest) = rw e at p in first_told word (option ∷ rest) q.0 q.1 short
-      (command_of word) refl
+  | inl c ↦ typed_told word option rest c.takes c.chooses (rw c.others at p) (omega arith)
+  | inr e ↦ let q = rw e at p in first_told word (option ∷ rest) q.0 q.1 short _ refl
 ]
 
 pub tells : (words : List Text) → AllPlain (other_words words) → length words < 2 ^ 64 → Tells words
@@ -140,10 +123,9 @@ command_help : (first help : Text) → is_unknown_option first ≡ false → ask
     ≡ true
     → (o : Option (Text × Form)) → command_of first ≡ o
     → ToldHelp (help_or_usage (first ∷ [])) (fault_of warcdx (first ∷ help ∷ []))
-command_help first help u n h None e = help_told_as _ Usage _ (rw (n, e) refl)
-    (unknown first commands (help ∷ []) e (plain_word first u n))
-command_help first help u n h (Some c) e = help_told_as _ Help _ (rw (n, e) refl)
-    (below first c.1 commands (help ∷ []) (same_name first commands c e) ∙ level_help first c.1 help h)
+command_help first help u n h None e = rw (n, e) (unknown first commands (help ∷ []) e (plain_word first u n))
+command_help first help u n h (Some c) e =
+    rw (n, e) (below first c.1 commands (help ∷ []) (same_name first commands c e) ∙ level_help first c.1 help h)
 
 pub tells_help : (first help : Text) → is_unknown_option first ≡ false → asks_for_help help ≡ true
     → ToldHelp (help_or_usage (first ∷ [])) (fault_of warcdx (first ∷ help ∷ []))

@@ -1,5 +1,5 @@
 -- What clap makes of a command's name, and of the words after it.
-use Rattle.std.proofs.Common.{arith, rules, refl, ◌≡◌, ◌&&◌, List, [], ◌∷◌, ◌++◌, Some, None, Bool, true, false}
+use Rattle.std.proofs.Common.{arith, rules, refl, ◌≡◌, List, [], ◌∷◌, ◌++◌, Some, None, Bool, true, false}
 use Rattle.std.proofs.Common.{bytes_eq, ap, ◌∙◌, append_assoc, fold, map, option_map, find}
 use Rattle.std.proofs.lemmas.Slice.Eq.{bytes_eq-Decides}
 use Rattle.std.specs.Char.{encode_utf8}
@@ -71,7 +71,7 @@ all_more names name before (word ∷ words) =
 stops : (word : Text) (form : Form) (cs : List (Text × Form)) (rest : List Text) → find (is_named word) cs
     ≡ Some (word, form)
     → walk head.rules (names_of (app_for cs)) nothing_held (word ∷ rest) ≡ stopped_at word rest
-stops word form cs rest e = grind (arith, fold, met, all_more)
+stops word form cs rest e = grind (arith, met, all_more)
 
 pub given : (word : Text) (form : Form) (cs : List (Text × Form)) (rest : List Text) (rows : List Row)
     → find (is_named word) cs ≡ Some (word, form)
@@ -95,17 +95,13 @@ all_clear names name before [] = unfold walk_fault in refl
 all_clear names name before (word ∷ words) =
     grind (arith, one_more_clear, one_more, all_clear names name (before ++ word ∷ []) words)
 
-never : (b : Bool) → (b && false) ≡ false
-never false = refl
-never true = refl
-
 name_clear : (word : Text) (form : Form) (cs : List (Text × Form)) (words : List Text) → find (is_named word) cs
     ≡ Some (word, form)
     → walk_fault head (names_of (app_for cs)) (walk_from nothing_held) (word ∷ words)
     ≡ walk_fault head (names_of (app_for cs)) (walked head.rules (names_of (app_for cs)) (walk_from nothing_held) word)
     words
 unfolding walk_fault
-name_clear word form cs words e = grind (arith, met_in, never, bytes_eq)
+name_clear word form cs words e = grind (arith, met_in)
 
 above_clear : (word : Text) (form : Form) (cs : List (Text × Form)) (rest : List Text) → find (is_named word) cs
     ≡ Some (word, form)
@@ -122,8 +118,7 @@ pub below : (word : Text) (form : Form) (cs : List (Text × Form)) (rest : List 
     ≡ level_fault (shaped (word, form)) [] nothing_held rest false []
 unfolding defaults_fault
 below word form cs rest e =
-    rw (stops word form cs rest e, shape_in word cs, e, above_clear word form cs rest e)
-    (or_nothing (level_fault (shaped (word, form)) [] nothing_held rest false []))
+    rw (stops word form cs rest e, shape_in word cs, e, above_clear word form cs rest e) (or_nothing _)
 
 pub unknown : (word : Text) (cs : List (Text × Form)) (rest : List Text) → find (is_named word) cs ≡ None → IsPlain word
     → are_usage (built_fault (app_for cs) nothing_held (word ∷ rest)) ≡ true

@@ -67,12 +67,7 @@ after form rows words = record {
 next : (form : Form) (rows : List Row) (before : List Text) (word : Text) → takes_names form ≡ true → IsPlain word
     → walked (rules_of form) [] (after form rows before) word ≡ after form rows (before ++ word ∷ [])
 unfolding walked
-next (OfNames make) rows before word t p = grind arith
-next (OfQuery make) rows before word t p = grind arith
-next (OfSizes make) rows before word t p = grind arith
-next (OfTyped make) rows before word t p = grind arith
-next (OfTypedSizes make) rows before word t p = grind arith
-next (OfOffset make) rows before word t p = cc
+next form rows before word t p = grind arith
 
 pub walk_on : (form : Form) (rows : List Row) (before words : List Text) → takes_names form ≡ true → AllPlain words
     → fold (walked (rules_of form) []) (after form rows before) words ≡ after form rows (before ++ words)

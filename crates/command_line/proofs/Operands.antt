@@ -1,11 +1,10 @@
 -- What clap makes of the words after a command's name.
-use Rattle.std.proofs.Common.{arith, refl, ℕ, ◌≡◌, ◌<◌, ◌^◌, List, [], ◌∷◌, ◌++◌, Some, None, Bool, true, false, codes}
-use Rattle.std.proofs.Common.{bytes_eq, length, ap, sym, ◌∙◌, fold, Option, option_map, option_and_then}
+use Rattle.std.proofs.Common.{arith, refl, ◌≡◌, ◌<◌, ◌^◌, List, [], ◌∷◌, ◌++◌, Some, None, true, false, codes}
+use Rattle.std.proofs.Common.{length, ◌∙◌, fold, Option, option_map, option_and_then}
 use Rattle.std.proofs.lemmas.Slice.Eq.{bytes_eq-Decides}
 use Rattle.std.specs.Char.{encode_utf8}
 use Rattle.std.specs.Str.{chars}
 use Rattle.clap.specs.Words.{Row}
-use Rattle.clap.specs.Lexer.{long_of}
 use Rattle.clap.specs.Walk.{Walk, walked, walk, walk_from, nothing_held, idle, finished}
 use Rattle.clap.specs.Faults.{flags_fault, walk_fault, defaults_fault, level_fault}
 use Rattle.clap.specs.declared.error.kind.ErrorKind.TheVariants as kind
@@ -44,15 +43,13 @@ begun : (form : Form) (choice : Option Text) (words : List Text) → MayChoose f
     → walk (rules_of form) [] nothing_held (choice_words choice ++ words)
     ≡ fold (walked (rules_of form) []) (start choice) words
 unfolding walked
-begun form None words m = refl
-begun form (Some text) words m = grind (arith, fold)
+begun form choice words m = grind arith
 
 begun_clear : (name : Text) (form : Form) (choice : Option Text) (words : List Text) → MayChoose form choice
     → walk_fault (shaped (name, form)) [] (walk_from nothing_held) (choice_words choice ++ words)
     ≡ walk_fault (shaped (name, form)) [] (start choice) words
 unfolding walk_fault walked
-begun_clear name form None words m = refl
-begun_clear name form (Some text) words m = grind arith
+begun_clear name form choice words m = grind arith
 
 -- ---- operands that fit
 
@@ -122,7 +119,7 @@ operands_clear name (OfTypedSizes make) None (a ∷ b ∷ c ∷ more) m f p =
     let rest = walk_clear name (OfTypedSizes make) (sizes_rows a b) (c ∷ []) more refl p.1.1.1 in grind arith
 operands_clear name (OfTypedSizes make) (Some text) (a ∷ b ∷ c ∷ more) m f p =
     let rest = walk_clear name (OfTypedSizes make) (choice_rows (Some text) ++ sizes_rows a b) (c ∷ []) more refl
-        p.1.1.1 in
+    p.1.1.1 in
     grind arith
 operands_clear _ _ _ _ m f p = cc
 

@@ -1,5 +1,5 @@
 -- A choice of types, and the words beside it.
-use Rattle.std.proofs.Common.{arith, refl, ◌≡◌, ◌⊎◌, inl, inr, ◌||◌, List, ◌∷◌, Bool, true, false, codes, bytes_eq}
+use Rattle.std.proofs.Common.{arith, ◌≡◌, ◌⊎◌, List, ◌∷◌, true, codes}
 use Rattle.std.proofs.lemmas.Slice.Eq.{bytes_eq-Decides}
 use Rattle.command_line.specs.Words.{Text}
 use Rattle.command_line.specs.Commands.{is_typed_command, chooses_types, other_words}
@@ -20,7 +20,3 @@ pub record IsChoice (word option : Text) (rest : List Text) : Type 0 where
 pub choice : (word option : Text) (rest : List Text) → IsChoice word option rest
     ⊎ (other_words (word ∷ option ∷ rest) ≡ word ∷ option ∷ rest)
 choice word option rest = grind arith
-
-first_false : (a b : Bool) → (a || b) ≡ false → (a || false) ≡ false
-first_false false b h = refl
-first_false true b h = cc

@@ -1,5 +1,5 @@
 -- How clap reads a word by itself.
-use Rattle.std.proofs.Common.{arith, refl, ◌≡◌, ◌⊎◌, inl, inr, ◌||◌, ◌==◌, List, [], ◌∷◌, None, Bool, true, false}
+use Rattle.std.proofs.Common.{arith, ◌≡◌, ◌⊎◌, List, [], ◌∷◌, None, true, false}
 use Rattle.std.proofs.Common.{codes, bytes_eq}
 use Rattle.std.specs.List.{list_any}
 use Rattle.std.proofs.lemmas.Slice.Eq.{bytes_eq-Decides}
