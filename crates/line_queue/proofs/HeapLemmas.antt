@@ -13,9 +13,8 @@ use Rattle.line_queue.specs.WaitingLines.{WaitingLine, is_of, waits_of}
 
 pub each_get : {X : Type 0} (P : X → Type 0) (xs : List X) (i : ℕ) (d : X) → AllByRecursion P xs → i < length xs
     → P (get_or xs i d)
-each_get P [] i d h l = absurd (omega arith)
-each_get P (x ∷ xs) zero d h l = h.0
 each_get P (x ∷ xs) (suc i) d h l = each_get P xs i d h.1 (omega arith)
+each_get P xs i d h l = grind arith
 
 pub each_of : {X : Type 0} (P : X → Type 0) (xs : List X) → All P xs → AllByRecursion P xs
 each_of P [] h = tt

@@ -28,8 +28,6 @@ module _ (same : PlaceValue → PlaceValue → Bool) (l : List Member) (rises : 
   -- captures that are cut are the pages of a chain
   pub cut_chain : (p : Option PlaceValue) (sizes : List ℕ) (pages : Pages) → AllPositive sizes
       → AreCut sizes pages (shown p) → IsChain member_place place_cmp same l p sizes pages
-  cut_chain p sizes [] z h = absurd h
-  cut_chain p sizes (page ∷ []) z h = grind (arith, take_all, next_short)
   cut_chain p sizes (page ∷ other ∷ rest) z h =
       let n = first_size sizes in
       let r = ends_at n (shown p) (first_positive sizes z) (omega (arith, h.1)) in
@@ -43,6 +41,7 @@ module _ (same : PlaceValue → PlaceValue → Bool) (l : List Member) (rises : 
       ∙ collapse_resumes member_place place_cmp same place_cmp_total l p s.0 rises s.1 ∙ s.4 in
       let chain = cut_chain (Some place) (later_sizes sizes) (other ∷ rest) (later_positive sizes z) (rw over h.2) in
       (grind arith, rw (ap (λ (g : Page Member PlaceValue). g.next) h.0, last) chain)
+  cut_chain p sizes pages z h = grind (arith, take_all, next_short)
 
 module _ (q : QueryValue) (sizes : List ℕ) (positive : AllPositive sizes) (lines : List Member)
     (rise : Rises member_place place_cmp lines) where

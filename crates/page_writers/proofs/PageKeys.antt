@@ -35,8 +35,6 @@ module _ (same : PlaceValue → PlaceValue → Bool) (l : List Member) where
   pub keys_but_last : (p : Option PlaceValue) (sizes : List ℕ) (pages : List (Page Member PlaceValue))
       → AllByRecursion HasReadKey pages
       → IsChain member_place place_cmp same l p sizes pages → KeysButLast pages
-  keys_but_last p sizes [] keyed h = tt
-  keys_but_last p sizes (page ∷ []) keyed h = tt
   keys_but_last p sizes (page ∷ other ∷ more) keyed h =
       (elim page.next as (λ v. page.next ≡ v
       → MatchOption v (other ∷ more ≡ [])
@@ -49,6 +47,7 @@ module _ (same : PlaceValue → PlaceValue → Bool) (l : List Member) where
               (later_sizes sizes) (other ∷ more) keyed.1 k,
         ))
       ]) refl h.1
+  keys_but_last p sizes pages keyed h = grind arith
 
 -- ---- where nothing is left
 

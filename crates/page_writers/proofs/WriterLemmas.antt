@@ -36,26 +36,21 @@ pub record EndsAt (n : ℕ) (c : List Member) : Type 0 where
   pub place : place_at n c ≡ Some (member_place last)
 
 pub ends_at : (n : ℕ) (c : List Member) → 0 < n → n ≤ length c → EndsAt n c
-ends_at zero c z h = absurd (omega arith)
-ends_at (suc n) [] z h = absurd (omega arith)
 ends_at (suc zero) (x ∷ xs) z h = record { before = []; last = x; taken = refl; place = refl }
 ends_at (suc (suc n)) (x ∷ xs) z h =
     let r = ends_at (suc n) xs (omega arith) (omega arith) in
     record { before = x ∷ r.before; last = r.last; taken = ap (λ us. x ∷ us) r.taken; place = r.place }
+ends_at n c z h = grind arith
 
 -- where one more follows
 pub next_place : (n : ℕ) (c : List Member) → n < length c → next n c ≡ place_at n c
-next_place zero c h = refl
-next_place (suc n) [] h = absurd (omega arith)
-next_place (suc zero) c h = grind arith
 next_place (suc (suc n)) (x ∷ xs) h = next_place (suc n) xs (omega arith)
+next_place n c h = grind arith
 
 -- where none does
 pub next_short : (n : ℕ) (c : List Member) → length c ≤ n → next n c ≡ None
-next_short zero c h = refl
-next_short (suc n) [] h = refl
-next_short (suc zero) c h = grind arith
 next_short (suc (suc n)) (x ∷ xs) h = next_short (suc n) xs (omega arith)
+next_short n c h = grind arith
 
 pub next_some : (n : ℕ) (c : List Member) → is_some (next n c) ≡ true → n < length c
 next_some n c h = grind (arith, next_short, cases_lt n (length c))
@@ -67,20 +62,16 @@ next_none n c z h = elim (cases_lt n (length c)) as (λ _. length c ≤ n) [
 ]
 
 place_same : (n : ℕ) (c vs : List Member) → n ≤ length c → place_at n (c ++ vs) ≡ place_at n c
-place_same zero c vs h = refl
-place_same (suc n) [] vs h = absurd (omega arith)
-place_same (suc zero) (x ∷ xs) vs h = refl
 place_same (suc (suc n)) (x ∷ xs) vs h = place_same (suc n) xs vs (omega arith)
+place_same n c vs h = grind arith
 
 -- what follows more than n changes nothing
 next_same : (n : ℕ) (c vs : List Member) → n < length c → next n (c ++ vs) ≡ next n c
 next_same n c vs h = grind (arith, next_place, place_same, length-append)
 
 place_short : (n : ℕ) (c : List Member) → length c < n → place_at n c ≡ None
-place_short zero c h = absurd (omega arith)
-place_short (suc n) [] h = refl
-place_short (suc zero) (x ∷ xs) h = absurd (omega arith)
 place_short (suc (suc n)) (x ∷ xs) h = place_short (suc n) xs (omega arith)
+place_short n c h = grind arith
 
 place_last : (n : ℕ) (c : List Member) (m : Member) → n ≡ suc (length c) → place_at n (c ++ m ∷ [])
     ≡ Some (member_place m)
