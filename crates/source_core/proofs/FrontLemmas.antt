@@ -43,8 +43,7 @@ goes_first t offset (x ∷ u) b h =
 
 reads_first : (t : List ℕ) (offset : ℕ) (front : List ℕ) (ends : Bool) → ReadsOn t offset front ends → 0 < length front
     → FirstIs (drop offset t) front
-reads_first t offset front true r h = grind (arith, append-nil front)
-reads_first t offset front false r h = goes_first t offset front r h
+reads_first t offset front ends r h = grind (arith, append-nil front, goes_first)
 
 take-append : (n : ℕ) (x y : List ℕ) → length x ≤ n → take n (x ++ y) ≡ x ++ take (n - length x) y
 take-append n x y h =

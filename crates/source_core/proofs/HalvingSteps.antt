@@ -17,9 +17,7 @@ use Rattle.source_core.proofs.SortedCuts.{begins_there, cut_there, lines_are_sho
 -- while offsets are left, so are steps
 pub steps_left : (limit : ℕ) (start : Pair) (text : Option (List ℕ)) (extent : ℕ) (s : Span)
     → Halved limit start text extent s → s.low < s.high → s.probes + 1 ≤ digits extent
-steps_left limit start text extent s h some =
-    let w = half_step (s.high - s.low) h.left.0 h.left.2 (omega arith) in
-    omega (arith, h.left.1)
+steps_left limit start text extent s h some = grind (arith, half_step)
 
 module _ (limit : ℕ) (start : Pair) (text : Option (List ℕ)) (extent : ℕ) (s : Span)
     (h : Halved limit start text extent s) (some : s.low < s.high) (middle : ℕ)

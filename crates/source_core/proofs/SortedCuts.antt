@@ -82,9 +82,8 @@ module _ (limit : ℕ) (start : Pair) where
 
   each : (ls : List (List ℕ)) (ms : List Member) → map (line_entry limit) ls ≡ map Some ms → Entries ls ms
   each [] [] h = none
-  each [] (m ∷ ms) h = absurd (cc)
-  each (l ∷ ls) [] h = absurd (cc)
   each (l ∷ ls) (m ∷ ms) h = one (cc) (each ls ms (cc))
+  each _ _ h = absurd (cc)
 
   entries_short : {ls : List (List ℕ)} {ms : List Member} → Entries ls ms → longest ls ≤ limit
   entries_short none = omega arith
