@@ -46,9 +46,7 @@ reads_first : (t : List ℕ) (offset : ℕ) (front : List ℕ) (ends : Bool) →
 reads_first t offset front ends r h = grind (arith, append-nil front, goes_first)
 
 take-append : (n : ℕ) (x y : List ℕ) → length x ≤ n → take n (x ++ y) ≡ x ++ take (n - length x) y
-take-append n x y h =
-    let e : n ≡ length x + (n - length x) = omega arith in
-    ap (λ k. take k (x ++ y)) e ∙ take-append-add x y (n - length x)
+take-append n x y h = grind (arith, take-append-add x y (n - length x))
 
 -- ---- the answers of a test
 

@@ -29,21 +29,14 @@ module _ (limit : ℕ) (start : Pair) (text : Option (List ℕ)) (extent : ℕ) 
       → Halved limit start text extent (record { low = s.low; high = middle; line = line; probes = probes })
   halves line there hidden told =
       let w = half_step (s.high - s.low) h.left.0 h.left.2 (omega arith) in
-      record {
-        ordered = omega arith;
-        within = omega (arith, h.within);
-        inside = there;
-        some = hidden;
-        left = (w.0, omega (arith, h.left.1, w.1), omega arith);
-        told = told;
-      }
+      grind arith
 
   -- the line that begins there isn't below the pair
   pub halves_down : (offset : ℕ) → offset ≤ extent
       → ((t : List ℕ) → text ≡ Some t → (drop offset t ≡ from_line middle t)
       × (stops (line_below limit start) middle t ≡ true))
       → Halved limit start text extent (record { low = s.low; high = middle; line = Some offset; probes = probes })
-  halves_down offset inside told = halves (Some offset) inside tt (λ t e. let d = h.told t e in grind arith)
+  halves_down offset inside told = halves (Some offset) inside tt (λ t e. grind (arith, h.told t e))
 
   -- it is below the pair
   pub halves_up : (offset : ℕ) → middle ≤ offset → offset < s.high
@@ -65,7 +58,7 @@ module _ (limit : ℕ) (start : Pair) (text : Option (List ℕ)) (extent : ℕ) 
   -- none begins in the upper half
   pub halves_none : 0 < middle → ((t : List ℕ) → text ≡ Some t → from_line s.high t ≡ from_line middle t)
       → Halved limit start text extent (record { low = s.low; high = middle; line = s.line; probes = probes })
-  halves_none later told = halves s.line h.inside (none_so s.line _ later) (λ t e. let d = h.told t e in grind arith)
+  halves_none later told = halves s.line h.inside (grind arith) (λ t e. grind (arith, h.told t e))
 
 -- before the first step
 pub halves_none_yet : (limit : ℕ) (start : Pair) (text : Option (List ℕ)) (extent : ℕ)

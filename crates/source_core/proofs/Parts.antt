@@ -54,7 +54,7 @@ no_more t at0 at (b ∷ u) e l h = absurd (omega arith)
 -- one line more was given
 pub given_more : {X : Type 0} (all now later : List X) (l : X) (n : ℕ) → now ≡ drop n all → now ≡ l ∷ later → later
     ≡ drop (n + 1) all
-given_more all now later l n e f = sym (ap (drop 1) (sym e ∙ f)) ∙ drop-drop 1 n all
+given_more all now later l n e f = grind (arith, drop-drop 1 n all)
 
 -- n bytes of those held were given out
 pub given_out : (text : Option (List ℕ)) (extent at n : ℕ) (held : List ℕ) → AreBytesAt text extent at held

@@ -46,10 +46,9 @@ returns-in-Some-clause-gave g c = grind (arith, gap)
 
 pub returns-clause-gave : goal.returns-clause-gave
 returns-clause-gave g c = λ t e.
-    let inv = c.loop-at.invariant in
-    let told = inv.told t e in
-    let m = gap_most t c.args.from c.loop-at.at (omega arith) (omega (arith, told.0, inv.within)) inv.low told.1 in
-    omega (arith, inv.gave, m)
+    let told = c.loop-at.invariant.told t e in
+    let most = gap_most t c.args.from c.loop-at.at (omega arith) (omega (arith, told.0)) (omega arith) told.1 in
+    omega arith
 
 pub returns-in-Some-clause-line : goal.returns-in-Some-clause-line
 returns-in-Some-clause-line g c = λ t e.
