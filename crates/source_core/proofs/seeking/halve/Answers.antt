@@ -12,8 +12,7 @@ returns-in-Some-clause-halved g c =
     let is = c.in-Some.is in
     let within = rw is at ok.within in
     rw (ok.text, ok.extent) (halves_down _ _ _ _ _ c.requires.halved c.requires.some _ refl _ refl _
-    (omega (arith, within, c.requires.halved.within, c.min.ensures))
-    (λ t e. (rw is at (ok.line t e), sym (rw is at (ok.stops t e)) ∙ c.if-probed.true)))
+    (omega (arith, within)) (λ t e. (rw is at (ok.line t e), sym (rw is at (ok.stops t e)) ∙ c.if-probed.true)))
 
 pub returns-in-Some-2-clause-halved : goal.returns-in-Some-2-clause-halved
 returns-in-Some-2-clause-halved g c =

@@ -1,6 +1,6 @@
 use Rattle.std.proofs.lemmas.Grind.{common_steps}
 use Rattle.std.proofs.Common.{rules, arith, ◌≡◌, ◌+◌, ◌-◌, ◌≤◌, ◌++◌, List, ℕ, Some, length, take, drop}
-use Rattle.std.proofs.Common.{◌∙◌, length-append, length-take, length-drop}
+use Rattle.std.proofs.Common.{length-append, length-take, length-drop}
 use Rattle.source_core.specs.LineParts.{PartOf, NoFeed}
 use Rattle.source_core.specs.Windows.{AreBytesAt, held_from}
 use Rattle.source_core.proofs.Parts.{ended, goes_on, cut_short, given_more, given_out}
@@ -56,10 +56,9 @@ pub returns-then-length-len-clause-long : goal.returns-then-length-len-clause-lo
 returns-then-length-len-clause-long g c = λ t e _.
     let here = (goal.at.returns-then-length-len-clause-long g c).After-line_part-length in
     let told = c.loop-self.invariant.told t e in
-    let n = c.line_part-length.result.0 in
-    let within = inside g here in
-    let first = first_at_least t (held g here) _ _ n _ _ (bytes g here t e) within told.1 told.2 _ (part g here) in
-    omega (arith, length-append {A = ℕ}, length-take {A = ℕ}, first)
+    let first = first_at_least t (held g here) _ _ _ _ _ (bytes g here t e) (inside g here) told.1 told.2 _
+    (part g here) in
+    grind (arith, length-append, length-take, inside)
 
 pub returns-then-ends-clause-given : goal.returns-then-ends-clause-given
 returns-then-ends-clause-given g c = grind (arith, ended, inside, part, grown)
@@ -77,37 +76,28 @@ returns-then-ends-clause-most g c = grind (arith, common_steps, returns-then-end
 pub returns-then-ends-clause-gave : goal.returns-then-ends-clause-gave
 returns-then-ends-clause-gave g c =
     let here = (goal.at.returns-then-ends-clause-gave g c).After-line_part-length in
-    omega (arith, c.in_ok-hold.ensures.gave, c.loop-self.invariant.gave, left g here, inside g here)
+    let rest = left g here in
+    let within = inside g here in
+    omega arith
 
 pub loop-self-preserved : goal.loop-self-preserved
 loop-self-preserved g c =
     let inv = c.loop-self.invariant in
     let ok = c.in_ok-hold.ensures in
-    let n = c.line_part-length.result.0 in
-    let line = c.extend_from_slice.new.self.items in
     let here = (goal.at.loop-self-preserved g c).After-line_part-length in
     let then = (goal.at.loop-self-preserved g c).In_ok-extend_from_slice in
-    let at : c.loop-self.self-inside.at + n ≡ c.args.self.now.at + length line = omega (arith, inv.at, longer g then) in
+    let long = longer g then in
+    let rest = left g here in
+    let within = inside g here in
+    let stands = behind g here in
     let told : (t : List ℕ) → g.S.Source.text c.args.source.now ≡ Some t → (length t ≡ c.size-size.result)
-    × (drop c.args.self.now.at t ≡ line ++ drop (c.loop-self.self-inside.at + n) t) × NoFeed line = λ t e.
+    × (drop c.args.self.now.at t ≡ c.extend_from_slice.new.self.items ++ drop
+    (c.loop-self.self-inside.at + c.line_part-length.result.0) t) × NoFeed c.extend_from_slice.new.self.items = λ t e.
     let was = inv.told t e in
-    let r = goes_on t (held g here) _ _ n (bytes g here t e) (inside g here) _ _ was.1 was.2
+    let r = goes_on t (held g here) _ _ _ (bytes g here t e) within _ _ was.1 was.2
     (rw c.if-ends.false at (part g here))
     in (was.0, rw (grown g then) r.0, rw (grown g then) r.1) in
-    record {
-      text = ok.text ∙ inv.text;
-      extent = ok.extent ∙ inv.extent;
-      failures = ok.failures ∙ inv.failures;
-      gave = omega (arith, ok.gave, inv.gave, left g here, inside g here);
-      size = inv.size;
-      filled = behind g here;
-      start = inv.start;
-      count = inv.count;
-      at = at;
-      short = omega (arith, inv.short, longer g then, c.len.ensures, c.if-length-len.false);
-      told = told;
-      most = λ t e. part_of_first t _ _ _ (told t e).1 (told t e).2 at;
-    }
+    grind (arith, part_of_first)
 
 pub returns-clause-given : goal.returns-clause-given
 returns-clause-given g c = grind (arith, cut_short)
