@@ -62,8 +62,7 @@ module _ (types : Kind → Bool) (limits : Limits) (limit : ℕ) (name : List �
       → IsCaptured types limits limit name archive h captured
       → AreCaptured types limits limit name archive (heads ++ h ∷ []) (captures ++ option_to_list captured)
   captured_more archive [] captures h captured w k = grind arith
-  captured_more archive (g ∷ heads) captures h captured w k =
-      grind (arith, option_to_list, append_assoc, captured_more archive heads w.1 h captured w.3 k)
+  captured_more archive (g ∷ heads) captures h captured w k = grind (arith, append_assoc, captured_more archive heads w.1 h captured w.3 k)
 
   fits_line : (h : HeadView) (captured : Option EntryValue) → IfSome captured (IsEntryOf h name limits.line)
       → IfSome captured (λ e. length (line_text e) ≤ limits.line)
@@ -73,17 +72,14 @@ module _ (types : Kind → Bool) (limits : Limits) (limit : ℕ) (name : List �
       (captured : Option EntryValue) (new : ReaderView) → AddedSoFar left now o gained
       → TakesRecord types limits limit name o h captured new now after
       → AddedSoFar left after (o + record_length h) (gained ++ option_to_list captured)
-  AddedSoFar-more None now after o gained h captured new s t = tt
-  AddedSoFar-more (Some archive) None after o gained h captured new s t = absurd s
-  AddedSoFar-more (Some archive) (Some z) None o gained h captured new s t = absurd t.bytes
   AddedSoFar-more (Some archive) (Some z) (Some y) o gained h captured new s t =
       let f = walk-front limit 0 archive s.0 o z s.1 in
-      let there : drop h.start archive ≡ z = ap (λ n. drop n archive) t.begins.start_is
-      ∙ behind archive f.0 z o f.1 f.2 in (
+      let there : drop h.start archive ≡ z = grind (arith, behind) in (
         s.0 ++ h ∷ [],
         Walks-more limit 0 archive s.0 o z h y s.1 t.bytes,
         grind (arith, captured_more, fits_line),
       )
+  AddedSoFar-more left now after o gained h captured new s t = grind arith
 
   pub AddedSoFar-end : (left now after : Option (List ℕ)) (o : ℕ) (gained : List EntryValue)
       → AddedSoFar left now o gained → Reads (record_at limit o) (Ok None) now after

@@ -41,36 +41,17 @@ consumes_head raw known = grind arith
 -- all that was taken was written
 pub wrote_all : (a : List ℕ) (known known' old new : Option (List ℕ)) → Consumes known known' a → Appends old new a
     → WroteFront (length a) known old new
-wrote_all a known known' old new c k =
-    record { front = a; most = omega arith; begins = front_there known known' a c; grown = k }
+wrote_all a known known' old new c k = grind (arith, front_there)
 
 -- a prefix of what was taken was written
 pub wrote_part : (a : List ℕ) (known known' old new : Option (List ℕ)) → Consumes known known' a
     → AppendsPrefix old new a → WroteFront (length a) known old new
-wrote_part a None known' old new c p =
-    record {
-      front = p.1.front;
-      most = omega (arith, ap length p.1.whole, length-append p.1.front p.0);
-      begins = tt;
-      grown = p.1.grown;
-    }
-wrote_part a (Some z) None old new c p = absurd c
-wrote_part a (Some z) (Some w) old new c p = record {
-  front = p.1.front;
-  most = omega (arith, ap length p.1.whole, length-append p.1.front p.0);
-  begins = grind (arith, append_assoc);
-  grown = p.1.grown;
-}
+wrote_part a known known' old new c p = grind (arith, length-append, append_assoc)
 
 -- a front behind what was written before
 pub wrote_behind : (n : ℕ) (a : List ℕ) (known known' old mid new : Option (List ℕ)) → Consumes known known' a
     → Appends old mid a → WroteFront n known' mid new → WroteFront (length a + n) known old new
-wrote_behind n a known known' old mid new c k w = record {
-  front = a ++ w.front;
-  most = grind (arith, length-append);
-  begins = grind (arith, begins_behind);
-  grown = Appends-join old mid new a w.front k w.grown;
-}
+wrote_behind n a known known' old mid new c k w = grind (arith, length-append, begins_behind, Appends-join)
 
 pub wrote_within : (n m : ℕ) (known old new : Option (List ℕ)) → n ≤ m → WroteFront n known old new
     → WroteFront m known old new
@@ -89,13 +70,7 @@ pub record Copying (left len rest : ℕ) (old now : ReaderView) (before mid writ
 
 pub Copying-start : (left len : ℕ) (old : ReaderView) (before written : Option (List ℕ)) → old.phase ≡ Open left len
     → Copying left len left old old before before written written
-Copying-start left len old before written e = record {
-  taken = [];
-  whole = omega arith;
-  given = Consumes-none _;
-  stands = record { offset_is = refl; phase_is = e };
-  grown = Appends-none written;
-}
+Copying-start left len old before written e = grind (arith, Consumes-none, Appends-none)
 
 module _ (left len rest : ℕ) (old now next : ReaderView) (before mid after w v u : Option (List ℕ))
     (d : Copying left len rest old now before mid w v) where

@@ -27,10 +27,8 @@ use Rattle.index_core.proofs.VerdictLemmas.{behind}
 module _ (limit : ℕ) where
   pub WalkedTo-more : (o : ℕ) (left now after : Option (List ℕ)) (h : HeadView) → WalkedTo limit o left now
       → Reads (record_at limit o) (Ok (Some h)) now after → WalkedTo limit (o + record_length h) left after
-  WalkedTo-more o None now after h s r = tt
-  WalkedTo-more o (Some archive) None after h s r = absurd s
-  WalkedTo-more o (Some archive) (Some z) None h s r = absurd r
   WalkedTo-more o (Some archive) (Some z) (Some y) h s r = (s.0 ++ h ∷ [], Walks-more limit 0 archive s.0 o z h y s.1 r)
+  WalkedTo-more o left now after h s r = grind arith
 
   -- the walk went past the offset
   pub went_past : (o : ℕ) (left now after : Option (List ℕ)) (offset : ℕ) (h : HeadView) → WalkedTo limit o left now
@@ -42,11 +40,9 @@ module _ (limit : ℕ) where
   pub ends_before : (o : ℕ) (left now after : Option (List ℕ)) (offset : ℕ) → WalkedTo limit o left now
       → Reads (record_at limit o) (Ok None) now after → o ≤ offset
       → IfSome left (λ archive. IsInRecord limit archive offset ⊎ IsBehindRecords limit archive offset)
-  ends_before o None now after offset s r l = tt
-  ends_before o (Some archive) None after offset s r l = absurd s
-  ends_before o (Some archive) (Some z) None offset s r l = absurd r
   ends_before o (Some archive) (Some z) (Some y) offset s r l = inr
       (s.0, record { end = o; walks = subst (Walks limit 0 archive s.0 o) (none_at_end limit o z y r) s.1 }, l)
+  ends_before o left now after offset s r l = grind arith
 
   stops : (archive : List ℕ) (offset : ℕ) (f : Fault) (heads : List HeadView) (z : List ℕ)
       → Walks limit 0 archive heads f.offset z → IsFoundIn f.cause (record_at limit f.offset z) → f.offset ≤ offset
@@ -65,13 +61,12 @@ module _ (limit : ℕ) where
   goes_on : (o : ℕ) (h : HeadView) (bytes y front more : List ℕ) (r : Result (Option HeadView × List ℕ) Cause)
       → next_at limit o bytes ≡ Ok (Some h, y) → bytes ≡ front ++ more → length front ≤ record_length h
       → record_at limit o bytes ≡ r → (tail : List ℕ) × (most_written r bytes ≡ front ++ tail)
-  goes_on o h bytes y front more (Err c) n e l r = (more, e)
-  goes_on o h bytes y front more (Ok (None, z)) n e l r = (more, e)
   goes_on o h bytes y front more (Ok (Some k, z)) n e l r =
       let same = record_head o h k bytes y z n r in (
         take (record_length h - length front) more,
         grind (arith, take_past),
       )
+  goes_on o h bytes y front more r n e l f = (more, grind arith)
 
   front_written : (o : ℕ) (h : HeadView) (bytes y front more : List ℕ) (w u : Option (List ℕ)) → next_at limit o bytes
       ≡ Ok (Some h, y) → bytes ≡ front ++ more → length front ≤ record_length h → Appends w u front
@@ -83,25 +78,11 @@ module _ (limit : ℕ) where
   pub next_copied : (o : ℕ) (h : HeadView) (r : Result ℕ IndexFault) (before mid after w u : Option (List ℕ))
       → Reads (next_at limit o) (Ok (Some h)) before mid → h.start ≡ o → CopiesRecord h r mid after w u
       → CopiesNext limit o r before w u
-  next_copied o h (Err faults.Memory) before mid after w u n e c = absurd c.ends
-  next_copied o h (Err faults.BadName) before mid after w u n e c = absurd c.ends
-  next_copied o h (Err faults.DuplicateName) before mid after w u n e c = absurd c.ends
-  next_copied o h (Err faults.NoRecord) before mid after w u n e c = absurd c.ends
-  next_copied o h (Err (faults.Capture (LineTooLong p))) before mid after w u n e c = absurd c.ends
-  next_copied o h (Err (faults.Capture (KeyTooLong p))) before mid after w u n e c = absurd c.ends
-  next_copied o h (Err (faults.Capture (Archive f))) None mid after w u n e c = (c.ends.0 ∙ e, tt)
-  next_copied o h (Err (faults.Capture (Archive f))) (Some z) None after w u n e c = absurd n
   next_copied o h (Err (faults.Capture (Archive f))) (Some z) (Some y) after w u n e c =
       let b = (next-spelled limit o z y h n).0 ∙ c.wrote.begins.1 in (
         c.ends.0 ∙ e,
         (record-unclosed limit o (Some z) (Some y) after h f.cause n c.ends.1, grind (arith, front_written)),
       )
-  next_copied o h (Err faults.Write) None mid after w u n e c = tt
-  next_copied o h (Err faults.Write) (Some z) None after w u n e c = absurd n
-  next_copied o h (Err faults.Write) (Some z) (Some y) after w u n e c = grind (arith, front_written, next-spelled)
-  next_copied o h (Ok l) None mid after w u n e c = grind arith
-  next_copied o h (Ok l) (Some z) None after w u n e c = absurd n
-  next_copied o h (Ok l) (Some z) (Some y) None w u n e c = absurd c.ends.2
   next_copied o h (Ok l) (Some z) (Some y) (Some x) w u n e c =
       let b = (next-spelled limit o z y h n).0 ∙ c.wrote.begins.1 in (
         c.wrote.front,
@@ -109,6 +90,7 @@ module _ (limit : ℕ) where
         c.wrote.grown,
         (h, x, record-whole limit o (Some z) (Some y) (Some x) h n c.ends.2, grind (arith, front_of)),
       )
+  next_copied o h r before mid after w u n e c = grind (arith, front_written, next-spelled)
 
   -- no record came next
   pub next_none : (o : ℕ) (before after : Option (List ℕ)) → Reads (next_at limit o) (Ok None) before after
@@ -134,23 +116,6 @@ module _ (limit : ℕ) where
 
   pub fetched : (o : ℕ) (r : Result ℕ IndexFault) (left known w u : Option (List ℕ)) → WalkedTo limit o left known
       → CopiesNext limit o r known w u → Fetches limit o left r w u
-  fetched o (Err faults.Memory) left known w u s c = absurd c
-  fetched o (Err faults.BadName) left known w u s c = absurd c
-  fetched o (Err faults.DuplicateName) left known w u s c = absurd c
-  fetched o (Err (faults.Capture (LineTooLong p))) left known w u s c = absurd c
-  fetched o (Err (faults.Capture (KeyTooLong p))) left known w u s c = absurd c
-  fetched o (Err faults.NoRecord) None known w u s c = tt
-  fetched o (Err faults.NoRecord) (Some archive) None w u s c = absurd s
   fetched o (Err faults.NoRecord) (Some archive) (Some z) w u s c = inr
       (s.0, record { end = o; walks = subst (Walks limit 0 archive s.0 o) c s.1 }, omega arith)
-  fetched o (Err faults.Write) None known w u s c = tt
-  fetched o (Err faults.Write) (Some archive) None w u s c = absurd s
-  fetched o (Err faults.Write) (Some archive) (Some z) w u s c = ((s.0, z, s.1), prefix_there archive s.0 o z w u s.1 c)
-  fetched o (Err (faults.Capture (Archive f))) None known w u s c = grind arith
-  fetched o (Err (faults.Capture (Archive f))) (Some archive) None w u s c = absurd s
-  fetched o (Err (faults.Capture (Archive f))) (Some archive) (Some z) w u s c =
-      let at = c.0 in
-      let low : f.offset ≤ o = omega (arith, at) in (low, (grind arith, prefix_there archive s.0 o z w u s.1 c.1.1))
-  fetched o (Ok n) None known w u s c = (c.0, c.1, c.2, tt)
-  fetched o (Ok n) (Some archive) None w u s c = absurd s
-  fetched o (Ok n) (Some archive) (Some z) w u s c = grind (arith, from_offset)
+  fetched o r left known w u s c = grind (arith, prefix_there, from_offset)

@@ -25,7 +25,7 @@ module _ {A X : Type 0} (head : X → HeadView) (line : X → List ℕ) (tally :
   follow_push : (from : ℕ) (items : List X) (to : ℕ) (x : X) → Follow head from items to → RecordBeginsAt to (head x)
       → Follow head from (items ++ x ∷ []) (to + record_length (head x))
   follow_push from [] to x h b = grind arith
-  follow_push from (y ∷ items) to x h b = (h.0, follow_push (from + record_length (head y)) items to x h.1 b)
+  follow_push from (y ∷ items) to x h b = grind (arith, follow_push (from + record_length (head y)) items to x h.1 b)
 
   one_line : (items : List X) (x : X) → flat_map line (items ++ x ∷ []) ≡ flat_map line items ++ line x
   one_line items x = grind (arith, flat_map-append, append-nil)
@@ -37,12 +37,7 @@ module _ {A X : Type 0} (head : X → HeadView) (line : X → List ℕ) (tally :
       → Followed offset old before now → RecordBeginsAt offset (head x)
       → ((items : List X) → old ≡ tally items → new ≡ tally (items ++ x ∷ [])) → Appends now after (line x)
       → Followed (offset + record_length (head x)) new before after
-  followed-more offset old new x before now after s b counts a = record {
-    items = s.items ++ x ∷ [];
-    follow = follow_push 0 s.items offset x s.follow b;
-    answer_is = counts s.items s.answer_is;
-    text = subst (Appends before after) (sym (one_line s.items x)) (Appends-join before now after _ _ s.text a);
-  }
+  followed-more offset old new x before now after s b counts a = grind (arith, follow_push, one_line, Appends-join)
 
   -- the output failed in the line of a record
   pub followed-stopped : (offset : ℕ) (answer : A) (x : X) (before now after : Option (List ℕ))
@@ -63,23 +58,13 @@ module _ {A X : Type 0} (head : X → HeadView) (line : X → List ℕ) (tally :
       (before now after : Option (List ℕ)) (k k' : ℕ) → Followed offset answer before now → fault.offset ≡ offset
       → WritesFault fault given now after k k'
       → ReportsRecords head line tally (Err given) before after
-  followed-fault fault faults.Memory offset answer before now after k k' s e h = h
-  followed-fault fault faults.BadName offset answer before now after k k' s e h = h
-  followed-fault fault faults.DuplicateName offset answer before now after k k' s e h = h
-  followed-fault fault faults.NoRecord offset answer before now after k k' s e h = h
-  followed-fault fault (faults.Capture (LineTooLong g)) offset answer before now after k k' s e h = h
-  followed-fault fault (faults.Capture (KeyTooLong g)) offset answer before now after k k' s e h = h
   followed-fault fault (faults.Capture (Archive f)) offset answer before now after k k' s e h =
-      subst (λ g. (items : List X) × Follow head 0 items g.offset
-      × Appends before after (flat_map line items ++ fault_line g)) (sym h.0) (
-        s.items,
-        subst (Follow head 0 s.items) (sym e) s.follow,
-        Appends-join before now after _ _ s.text h.1,
-      )
+      rw h.0 (s.items, rw e s.follow, Appends-join before now after _ _ s.text h.1)
   followed-fault fault faults.Write offset answer before now after k k' s e h = (
     s.items,
     fault,
-    grind arith,
-    subst (λ t. AppendsPrefix before after (flat_map line s.items ++ t)) (append-nil (fault_line fault))
+    rw e s.follow,
+    rw (← append-nil (fault_line fault))
         (AppendsPrefix-behind before now after (flat_map line s.items) (fault_line fault) [] s.text h.0),
   )
+  followed-fault fault given offset answer before now after k k' s e h = grind arith

@@ -16,25 +16,15 @@ use Rattle.index_core.specs.Verifying.{verified_in, verified_of}
 use Rattle.index_core.specs.declared.verified.Verified.{Verified}
 use Rattle.index_core.proofs.ReportLemmas.{IsLine, CountsOn, SoFar}
 
-judged : (judge : List ℕ → Verdict) (n : ℕ) (z w : List ℕ) (v : Verdict) (r : Result (Unit {0} × List ℕ) Cause)
-    → after_record n z ≡ r → (◌>>=◌ {B = Verdict × List ℕ} r (λ rest. Ok (judge (take n z), rest.1))) ≡ Ok (v, w)
-    → (after_record n z ≡ Ok (tt, w)) × (v ≡ judge (take n z))
-judged judge n z w v (Err c) e h = cc
-judged judge n z w v (Ok (u, rest)) e h = grind arith
-
 judged_record : (judge : List ℕ → Verdict) (n : ℕ) (z w : List ℕ) (v : Verdict) → judge_record judge n z ≡ Ok (v, w)
     → (after_record n z ≡ Ok (tt, w)) × (v ≡ judge (take n z))
 unfolding judge_record
 judged_record judge n z w v h = grind arith
 
-refused : (judge : List ℕ → Verdict) (n : ℕ) (z : List ℕ) (c : Cause) (r : Result (Unit {0} × List ℕ) Cause)
-    → (◌>>=◌ {B = Verdict × List ℕ} r (λ rest. Ok (judge (take n z), rest.1))) ≡ Err c → r ≡ Err c
-refused judge n z c r h = grind arith
-
 refused_record : (judge : List ℕ → Verdict) (n : ℕ) (z : List ℕ) (c : Cause) → judge_record judge n z ≡ Err c
     → after_record n z ≡ Err c
 unfolding judge_record
-refused_record judge n z c h = refused judge n z c (after_record n z) h
+refused_record judge n z c h = grind arith
 
 -- a judged record was read
 pub judged_reads : (judge : List ℕ → Verdict) (n : ℕ) (v : Verdict) (before after : Option (List ℕ))
@@ -43,20 +33,17 @@ judged_reads judge n v before after h = grind (arith, judged_record)
 
 pub judged_met : (judge : List ℕ → Verdict) (n : ℕ) (c : Cause) (before after : Option (List ℕ))
     → Reads (judge_record judge n) (Err c) before after → Reads (after_record n) (Err c) before after
-judged_met judge n c None after h = tt
-judged_met judge n c (Some z) after h = grind (arith, refused_record)
+judged_met judge n c before after h = grind (arith, refused_record)
 
 -- the verdict on a record that begins the bytes
 pub judged_verdict : (limit start : ℕ) (h : HeadView) (v : Verdict) (before mid after : Option (List ℕ))
     → Reads (next_at limit start) (Ok (Some h)) before mid
     → Reads (judge_record (verdict_on h) h.parts.length) (Ok v) mid after
     → IfSome before (λ bytes. v ≡ verdict_on h (block_at h bytes))
-judged_verdict limit start h v None mid after r j = tt
-judged_verdict limit start h v (Some z) None after r j = absurd r
-judged_verdict limit start h v (Some z) (Some y) None r j = absurd j
 judged_verdict limit start h v (Some z) (Some y) (Some w) r j =
     let spelled = next-spelled limit start z y h r in
     grind (arith, drop-append_seam, judged_record)
+judged_verdict limit start h v before mid after r j = grind arith
 
 -- what stands behind the first records of an archive
 pub behind : (archive front z : List ℕ) (o : ℕ) → archive ≡ front ++ z → o ≡ 0 + length front → drop o archive ≡ z
