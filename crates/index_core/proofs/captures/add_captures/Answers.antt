@@ -14,22 +14,8 @@ use Rattle.index_core.proofs.captures.add_captures.Goals as goal
 pub returns-in-Ok-None-clause-gains : goal.returns-in-Ok-None-clause-gains
 returns-in-Ok-None-clause-gains g c =
     let e = rw c.in-Ok-None.field-0-is at c.in-Ok-None.ensures in
-    let s = c.loop-captures.invariant.gains in (
-      s.0,
-      s.1,
-      (
-        omega (
-          arith,
-          c.len.ensures,
-          c.loop-captures.invariant.held,
-          ap length s.1,
-          length-append c.args.captures.now.items s.0,
-        ),
-        s.3,
-        AddedSoFar-end (includes c.args.types) usual_limits HEAD_LIMIT c.args.name.now _
-            _ _ c.loop-captures.reader.offset s.0 s.2 e.takes,
-      ),
-    )
+    let s = c.loop-captures.invariant.gains in
+    (s.0, s.1, grind (arith, length-append, AddedSoFar-end))
 
 pub returns-in_err-reader-clause-gains : goal.returns-in_err-reader-clause-gains
 returns-in_err-reader-clause-gains g c =
@@ -42,8 +28,8 @@ returns-in-Err-clause-gains g c =
       i.1,
       (
         i.3,
-        AddedSoFar-refused (includes c.args.types) usual_limits HEAD_LIMIT c.args.name.now _ _
-            c.loop-captures.reader.offset i.0 c.in-Err.fault i.2 c.in-Err.ensures.takes,
+        AddedSoFar-refused (includes c.args.types) usual_limits HEAD_LIMIT c.args.name.now _ _ _ i.0 _ i.2
+            c.in-Err.ensures.takes,
       ),
     )
 
@@ -57,20 +43,17 @@ loop-captures-preserved g c =
     record {
       held = i.held;
       phase = t.stands.phase_is;
-      within = rw t.stands.offset_is t.begins.fits;
+      within = grind arith;
       gains = (
         i.gains.0 ++ more,
-        c.in-Ok.ensures.ok ∙ (ap (λ (xs : List EntryValue). xs ++ more) i.gains.1
-            ∙ append_assoc c.args.captures.now.items i.gains.0 more),
+        grind (arith, append_assoc),
         rw t.stands.offset_is (AddedSoFar-more (includes c.args.types) usual_limits HEAD_LIMIT c.args.name.now _ _ _ o
             i.gains.0 c.in-Ok-Some.head c.in-Ok-Some.captured _ i.gains.2 t),
-        named_step LINE_LIMIT c.args.name.now c.in-Ok-Some.head i.gains.0 c.in-Ok-Some.captured t.entry i.gains.3,
+        grind (arith, named_step),
       );
-      before = subst (StandBefore c.args.name.now c.next_capture.new.reader.offset) (sym c.in-Ok.ensures.ok)
-          (before_step c.args.name.now LINE_LIMIT o c.next_capture.new.reader.offset c.in-Ok-Some.head _
-          c.in-Ok-Some.captured (rw t.stands.offset_is (omega arith)) t.begins.start_is t.entry i.before);
-      sound = λ names used s. subst (AreSound LINE_LIMIT names) (sym c.in-Ok.ensures.ok)
-          (sound_step LINE_LIMIT names c.args.name.now o c.in-Ok-Some.head _ c.in-Ok-Some.captured used
-          t.begins.start_is t.entry i.before (i.sound names used s));
+      before = rw c.in-Ok.ensures.ok (before_step c.args.name.now LINE_LIMIT o c.next_capture.new.reader.offset
+          c.in-Ok-Some.head _ c.in-Ok-Some.captured (grind arith) t.begins.start_is t.entry i.before);
+      sound = λ names used s. rw c.in-Ok.ensures.ok (sound_step LINE_LIMIT names c.args.name.now o c.in-Ok-Some.head _
+          c.in-Ok-Some.captured used t.begins.start_is t.entry i.before (i.sound names used s));
       reads = e.failures ∙ i.reads;
     }

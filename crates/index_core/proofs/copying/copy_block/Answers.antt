@@ -11,15 +11,7 @@ use Rattle.index_core.proofs.CopyLemmas.{Copying-start, Copying-more, Copying-cu
 use Rattle.index_core.proofs.copying.copy_block.Goals as goal
 
 pub loop-count-init : goal.loop-count-init
-loop-count-init g c = record {
-  left = c.requires.0;
-  len = c.requires.1;
-  rest = c.requires.0;
-  opened = c.requires.2;
-  copying = Copying-start _ _ _ _ _ c.requires.2;
-  reads = refl;
-  writes = refl;
-}
+loop-count-init g c = grind (arith, Copying-start)
 
 pub returns-then-count-eq0-clause-copies : goal.returns-then-count-eq0-clause-copies
 returns-then-count-eq0-clause-copies g c left len e =
@@ -40,7 +32,7 @@ pub returns-then-count-eq0-clause-reads : goal.returns-then-count-eq0-clause-rea
 returns-then-count-eq0-clause-reads g c =
     let i = c.loop-count.invariant in
     let b = c.in_ok-count.ensures.open i.rest i.len i.copying.stands.phase_is in
-    b.failures ∙ i.reads
+    grind arith
 
 pub slice_bounds-piece-end : goal.slice_bounds-piece-end
 slice_bounds-piece-end g c =
@@ -62,16 +54,9 @@ pub loop-count-preserved : goal.loop-count-preserved
 loop-count-preserved g c =
     let i = c.loop-count.invariant in
     let b = c.in_ok-count.ensures.open i.rest i.len i.copying.stands.phase_is in
-    record {
-      left = i.left;
-      len = i.len;
-      rest = i.rest - c.in_ok-count.count;
-      opened = i.opened;
-      copying = Copying-more i.left i.len i.rest _ _ _ _ _ _ _ _ _ i.copying c.in_ok-count.count c.block.new.piece _ _ b
-          c.in_ok-put_bytes.ensures.bytes;
-      reads = b.failures ∙ i.reads;
-      writes = grind arith;
-    }
+    let copying = Copying-more i.left i.len i.rest _ _ _ _ _ _ _ _ _ i.copying c.in_ok-count.count c.block.new.piece _ _
+    b c.in_ok-put_bytes.ensures.bytes in
+    grind arith
 
 pub returns-in_err-put_bytes-clause-copies : goal.returns-in_err-put_bytes-clause-copies
 returns-in_err-put_bytes-clause-copies g c left len e =

@@ -18,21 +18,19 @@ returns-in_err-copy_block-clause-copies g c =
 
 pub returns-in_err-length-clause-copies : goal.returns-in_err-length-clause-copies
 returns-in_err-length-clause-copies g c =
-    let p = err_from_is_err_and c.from_residual-in_err-length.result c.from_residual-in_err-length.ensures.1 in
     let h = c.args.head.now in
     let head = rw c.raw.ensures.value at c.in_ok-put_bytes.ensures.bytes in
     let block = c.in_ok-copy_block.ensures.copies h.parts.length (record_length h) c.requires.phase_is in
-    rw (p.1, p.2) (finish_cut h _ _ _ _ _ _ _ c.requires.offset_is head block _ _ _ _ c.in_err-length.field-0.0
-    (c.in_err-length.ensures.open 0 (record_length h) block.ends.2.phase_is))
+    let cut = finish_cut h _ _ _ _ _ _ _ c.requires.offset_is head block _ _ _ _ c.in_err-length.field-0.0
+    (c.in_err-length.ensures.open 0 (record_length h) block.ends.2.phase_is) in
+    grind (arith, err_from_is_err_and)
 
 pub returns-in_err-length-clause-reads : goal.returns-in_err-length-clause-reads
 returns-in_err-length-clause-reads g c =
-    let p = err_from_is_err_and c.from_residual-in_err-length.result c.from_residual-in_err-length.ensures.1 in
     let h = c.args.head.now in
     let block = c.in_ok-copy_block.ensures.copies h.parts.length (record_length h) c.requires.phase_is in
-    rw (p.1, p.2) (subst (λ k. CountsRead {A = Unit {0}} (Err c.in_err-length.field-0.0.cause) k
-    (g.I.Input.failures c.finish.new.input)) c.in_ok-copy_block.ensures.reads
-    (c.in_err-length.ensures.open 0 (record_length h) block.ends.2.phase_is).failures)
+    let finish = c.in_err-length.ensures.open 0 (record_length h) block.ends.2.phase_is in
+    grind (arith, err_from_is_err_and)
 
 pub returns-in_err-put_bytes-2-clause-copies : goal.returns-in_err-put_bytes-2-clause-copies
 returns-in_err-put_bytes-2-clause-copies g c =
@@ -48,13 +46,10 @@ returns-in_err-put_bytes-2-clause-copies g c =
 
 pub returns-in_err-put_bytes-2-clause-reads : goal.returns-in_err-put_bytes-2-clause-reads
 returns-in_err-put_bytes-2-clause-reads g c =
-    let p = err_from_is_err_and c.from_residual-in_err-put_bytes-2.result
-    c.from_residual-in_err-put_bytes-2.ensures.1 in
     let h = c.args.head.now in
     let block = c.in_ok-copy_block.ensures.copies h.parts.length (record_length h) c.requires.phase_is in
-    rw (p.1, p.2, c.in_err-put_bytes-2.ensures.refusal)
-    ((c.in_ok-length.ensures.open 0 (record_length h) block.ends.2.phase_is).failures
-    ∙ c.in_ok-copy_block.ensures.reads)
+    let finish = c.in_ok-length.ensures.open 0 (record_length h) block.ends.2.phase_is in
+    grind (arith, err_from_is_err_and)
 
 pub returns-clause-copies : goal.returns-clause-copies
 returns-clause-copies g c =
@@ -68,4 +63,5 @@ pub returns-clause-reads : goal.returns-clause-reads
 returns-clause-reads g c =
     let h = c.args.head.now in
     let block = c.in_ok-copy_block.ensures.copies h.parts.length (record_length h) c.requires.phase_is in
-    (c.in_ok-length.ensures.open 0 (record_length h) block.ends.2.phase_is).failures ∙ c.in_ok-copy_block.ensures.reads
+    let finish = c.in_ok-length.ensures.open 0 (record_length h) block.ends.2.phase_is in
+    grind arith

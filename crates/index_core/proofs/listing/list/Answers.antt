@@ -25,14 +25,7 @@ returns-in-Err-clause-lists g c =
     }
 
 pub returns-in-Ok-None-clause-lists : goal.returns-in-Ok-None-clause-lists
-returns-in-Ok-None-clause-lists g c =
-    let e = rw c.in-Ok-None.field-0-is at c.in-Ok-None.ensures in
-    let i = c.loop-reader.invariant in
-    record {
-      report = SoFar-end HEAD_LIMIT listing_line record_count _ _ _ c.loop-reader.reader.offset c.loop-reader.count _ _
-          i.lines e.bytes;
-      records = grind arith;
-    }
+returns-in-Ok-None-clause-lists g c = grind (arith, SoFar-end)
 
 pub returns-in_err-put_line-in-Ok-Some-clause-lists : goal.returns-in_err-put_line-in-Ok-Some-clause-lists
 returns-in_err-put_line-in-Ok-Some-clause-lists g c =

@@ -30,14 +30,7 @@ returns-in-Err-clause-verifies g c =
     }
 
 pub returns-in-Ok-None-clause-verifies : goal.returns-in-Ok-None-clause-verifies
-returns-in-Ok-None-clause-verifies g c =
-    let e = rw c.in-Ok-None.field-0-is at c.in-Ok-None.ensures in
-    let now = so_far c.loop-reader.records c.loop-reader.differing in
-    record {
-      report = SoFar-end HEAD_LIMIT verification_line verified_in _ _ _ c.loop-reader.reader.offset now _ _
-          c.loop-reader.invariant.lines e.bytes;
-      records = grind arith;
-    }
+returns-in-Ok-None-clause-verifies g c = grind (arith, SoFar-end)
 
 pub returns-in_err-put_line-in-Ok-Some-clause-verifies : goal.returns-in_err-put_line-in-Ok-Some-clause-verifies
 returns-in_err-put_line-in-Ok-Some-clause-verifies g c =
@@ -60,31 +53,19 @@ returns-in_err-put_line-in-Ok-Some-clause-verifies g c =
 pub loop-reader-preserved : goal.loop-reader-preserved
 loop-reader-preserved g c =
     let e = rw c.in-Ok-Some.field-0-is at c.in-Ok-Some.ensures in
-    let known = verdict_known HEAD_LIMIT verified_in _ _ c.loop-reader.reader.offset
-    (so_far c.loop-reader.records c.loop-reader.differing) _ _ c.in-Ok-Some.head c.in-Ok-Some.verdict
-    c.loop-reader.invariant.lines e.begins.start_is (e.verdict c.in-Ok-Some.head c.in-Ok-Some.verdict refl) in
-    record {
-      phase = e.state.phase_is;
-      within = rw e.state.offset_is e.begins.fits;
-      fewer = rw e.state.offset_is (omega arith);
-      among = (let low = c.loop-reader.invariant.among in omega
-          (arith, low, c.differing_by-differing.ensures, one_at_most c.in-Ok-Some.verdict));
-      lines = rw (e.state.offset_is, c.differing_by-differing.ensures)
-          (SoFar-more HEAD_LIMIT verification_line verified_in _ _ _ c.loop-reader.reader.offset
-          (so_far c.loop-reader.records c.loop-reader.differing) _ c.in-Ok-Some.head _ _ _ _
-          c.loop-reader.invariant.lines e.bytes (is_line _ c.in-Ok-Some.head c.in-Ok-Some.verdict known)
-          (one_verdict _ c.in-Ok-Some.head c.in-Ok-Some.verdict c.loop-reader.records c.loop-reader.differing known)
-          (rw (c.verdict_line.ensures, c.start.ensures) at c.in_ok-put_line-in-Ok-Some.ensures.line));
-      records = rw (e.state.offset_is, c.differing_by-differing.ensures)
-          (followed-more (λ j. j.0) judged_line verified_of c.loop-reader.reader.offset
-          (so_far c.loop-reader.records c.loop-reader.differing) _ (c.in-Ok-Some.head, c.in-Ok-Some.verdict) _ _ _
-          c.loop-reader.invariant.records e.begins
-          (λ judged k. one_judged judged (c.in-Ok-Some.head, c.in-Ok-Some.verdict) c.loop-reader.records
-          c.loop-reader.differing k)
-          (rw (c.verdict_line.ensures, c.start.ensures) at c.in_ok-put_line-in-Ok-Some.ensures.line));
-      reads = e.failures ∙ c.loop-reader.invariant.reads;
-      writes = c.in_ok-put_line-in-Ok-Some.ensures.failures ∙ c.loop-reader.invariant.writes;
-    }
+    let i = c.loop-reader.invariant in
+    let old = so_far c.loop-reader.records c.loop-reader.differing in
+    let known = verdict_known HEAD_LIMIT verified_in _ _ c.loop-reader.reader.offset old _ _ c.in-Ok-Some.head
+    c.in-Ok-Some.verdict i.lines e.begins.start_is (e.verdict c.in-Ok-Some.head c.in-Ok-Some.verdict refl) in
+    let line = rw (c.verdict_line.ensures, c.start.ensures) at c.in_ok-put_line-in-Ok-Some.ensures.line in
+    let lines = SoFar-more HEAD_LIMIT verification_line verified_in _ _ _ c.loop-reader.reader.offset old _
+    c.in-Ok-Some.head _ _ _ _ i.lines e.bytes (is_line _ c.in-Ok-Some.head c.in-Ok-Some.verdict known)
+    (one_verdict _ c.in-Ok-Some.head c.in-Ok-Some.verdict c.loop-reader.records c.loop-reader.differing known) line in
+    let records = followed-more (λ j. j.0) judged_line verified_of c.loop-reader.reader.offset old _
+    (c.in-Ok-Some.head, c.in-Ok-Some.verdict) _ _ _ i.records e.begins
+    (λ judged k. one_judged judged (c.in-Ok-Some.head, c.in-Ok-Some.verdict) c.loop-reader.records
+    c.loop-reader.differing k) line in
+    grind (arith, one_at_most)
 
 pub returns-in-Err-next_verdict-clause-verifies : goal.returns-in-Err-next_verdict-clause-verifies
 returns-in-Err-next_verdict-clause-verifies g c =

@@ -23,26 +23,8 @@ pub returns-in_err-add_captures-clause-adds : goal.returns-in_err-add_captures-c
 returns-in_err-add_captures-clause-adds g c =
     let p = err_from_is_err_and c.from_residual.result c.from_residual.ensures.1 in
     let gains = c.in_err-add_captures.ensures.gains in
-    let old = c.self.inside in
-    rw (p.1, p.2)
-    (subst (λ (held : Held). (captures : List EntryValue)
-    × (◌≡◌ {A = Held} (record {
-      types = old.types;
-      names = c.add.new.self;
-      captures = c.add_captures.new.captures.items;
-    }) (with_archive c.args.name.now captures held))
-    × Gains (includes held.types) usual_limits HEAD_LIMIT c.args.name.now (g.I.Input.remaining c.args.input.now)
-    captures (Err c.in_err-add_captures.field-0.0))
-    c.self.view_is (gains.0, held_more old.types _ _ _ _ gains.0 c.args.name.now c.in-Ok.ensures.ok gains.1, gains.2))
+    rw (p.1, p.2, ← c.self.view_is)
+    (gains.0, held_more c.self.inside.types _ _ _ _ gains.0 c.args.name.now c.in-Ok.ensures.ok gains.1, gains.2)
 
 pub returns-clause-adds : goal.returns-clause-adds
-returns-clause-adds g c =
-    let old = c.self.inside in
-    subst (λ (held : Held). (captures : List EntryValue)
-    × (◌≡◌ {A = Held} (record {
-      types = old.types;
-      names = c.add.new.self;
-      captures = c.add_captures.new.captures.items;
-    }) (with_archive c.args.name.now captures held))
-    × Gains (includes held.types) usual_limits HEAD_LIMIT c.args.name.now (g.I.Input.remaining c.args.input.now)
-    captures (Ok c.in_ok-add_captures.field-0)) c.self.view_is (grind arith)
+returns-clause-adds g c = rw (← c.self.view_is) (grind arith)
