@@ -1,6 +1,6 @@
 -- The copying of a record, piece by piece.
-use Rattle.std.proofs.Common.{◌≡◌, ◌∙◌, ℕ, ◌+◌, ◌-◌, ◌≤◌, List, [], ◌++◌, Option, None, Some, Result, Ok, Err, IfSome}
-use Rattle.std.proofs.Common.{length, take, sym, ap, refl, subst, append_assoc, length-append, arith}
+use Rattle.std.proofs.Common.{◌≡◌, ◌∙◌, ℕ, ◌+◌, ◌-◌, ◌≤◌, List, ◌++◌, Option, Result, Ok, Err, IfSome}
+use Rattle.std.proofs.Common.{length, take, sym, refl, subst, append_assoc, length-append, arith}
 use Rattle.std.proofs.lemmas.List.{length-take-le}
 use Rattle.std.specs.Io.KnownBytes.{Appends, Consumes, prepend_known}
 use Rattle.warc_core.specs.declared.fault.Cause.{Cause}
@@ -128,13 +128,7 @@ pub Copying-end : (left len rest : ℕ) (old now : ReaderView) (before mid w v :
 Copying-end left len rest old now before mid w v e d =
     let whole = d.whole in
     record {
-      wrote = record {
-        front = d.taken;
-        most = omega (arith, whole);
-        begins = front_there _ _ d.taken d.given;
-        grown =
-            d.grown;
-      };
+      wrote = record { front = d.taken; most = omega arith; begins = front_there _ _ d.taken d.given; grown = d.grown };
       ends = grind arith;
     }
 
@@ -157,12 +151,11 @@ module _ (h : HeadView) (w v : Option (List ℕ)) where
   -- the output failed in the head
   pub head_cut : (fault : IndexFault) (before after : Option (List ℕ)) → fault ≡ faults.Write → AppendsPrefix w v h.raw
       → CopiesRecord h (Err fault) before after w v
-  head_cut faults.Write before after e p = record {
+  head_cut fault before after e p = rw e (record {
     wrote = wrote_within (length h.raw) (record_length h) _ w v (omega arith)
         (wrote_part h.raw _ before w v (consumes_head h.raw before) p);
     ends = tt;
-  }
-  head_cut fault before after e p = absurd (cc)
+  })
 
   module _ (u : Option (List ℕ)) (old mid : ReaderView) (before between : Option (List ℕ)) (unread : old.offset
       ≡ h.start) (head : Appends w v h.raw) where
@@ -190,17 +183,16 @@ module _ (h : HeadView) (w v : Option (List ℕ)) where
         -- the output failed in the closing
         pub closing_cut : (fault : IndexFault) → fault ≡ faults.Write → AppendsPrefix u x closing
             → CopiesRecord h (Err fault) (prepend_known old.held before) (prepend_known new.held after) w x
-        closing_cut faults.Write e p =
+        closing_cut fault e p =
             let front = block.wrote.front in
             let long = block.ends.0 in
-            record {
+            rw e (record {
               wrote = wrote_within (length h.raw + (length front + 4)) (record_length h) _ w x (omega (arith, long))
                   (wrote_behind (length front + 4) h.raw _ _ w v x (consumes_head h.raw _) head
                   (wrote_behind 4 front _ _ v u x block.ends.1 block.wrote.grown
                   (wrote_part closing _ _ u x (closing_taken _ _ s.bytes) p)));
               ends = tt;
-            }
-        closing_cut fault e p = absurd (cc)
+            })
 
         -- the whole record was copied
         pub record_copied : Appends u x closing

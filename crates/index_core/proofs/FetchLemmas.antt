@@ -7,13 +7,13 @@ use Rattle.warc_core.specs.declared.fault.Fault.{Fault}
 use Rattle.devices.specs.Device.{AppendsPrefix}
 use Rattle.warc_core.specs.HeadView.{HeadView, record_length}
 use Rattle.warc_core.specs.Next.{next_at}
-use Rattle.warc_core.specs.Reading.{◌>>=◌, Reads, IsFoundIn}
+use Rattle.warc_core.specs.Reading.{Reads, IsFoundIn}
 use Rattle.warc_core.specs.Walk.{record_at, Walks}
 use Rattle.warc_core.proofs.ArchiveLemmas.{walk-front, next-spelled}
 use Rattle.warc_core.proofs.ReadingLemmas.{front_of}
 use Rattle.warc_core.proofs.WalkLemmas.{Walks-more, none_at_end, record-stopped, record-end, record-unclosed}
 use Rattle.warc_core.proofs.WalkLemmas.{record-whole}
-use Rattle.capture_core.specs.declared.fault.CaptureFault.TheVariants.{Archive, LineTooLong, KeyTooLong}
+use Rattle.capture_core.specs.declared.fault.CaptureFault.TheVariants.{Archive}
 use Rattle.block_digests.proofs.DigestLemmas.{take_past}
 use Rattle.index_core.specs.declared.fault.IndexFault.{IndexFault}
 use Rattle.index_core.specs.declared.fault.IndexFault.TheVariants as faults

@@ -1,5 +1,5 @@
 -- Lines of records that follow one another, one record further, at the end and at a fault.
-use Rattle.std.proofs.Common.{arith, ◌≡◌, ℕ, ◌+◌, List, [], ◌∷◌, ◌++◌, Option, Err, sym, refl, subst, append-nil}
+use Rattle.std.proofs.Common.{arith, ◌≡◌, ℕ, ◌+◌, List, [], ◌∷◌, ◌++◌, Option, Err, refl, subst, append-nil}
 use Rattle.std.proofs.Common.{append_assoc}
 use Rattle.std.proofs.lemmas.List.Concat.{flat_map-append}
 use Rattle.std.specs.List.{flat_map}
@@ -9,7 +9,7 @@ use Rattle.devices.proofs.DeviceLemmas.{Appends-none, Appends-join, AppendsPrefi
 use Rattle.warc_core.specs.declared.fault.Cause.TheVariants as causes
 use Rattle.warc_core.specs.declared.fault.Fault.{Fault}
 use Rattle.warc_core.specs.HeadView.{HeadView, RecordBeginsAt, record_length}
-use Rattle.capture_core.specs.declared.fault.CaptureFault.TheVariants.{Archive, LineTooLong, KeyTooLong}
+use Rattle.capture_core.specs.declared.fault.CaptureFault.TheVariants.{Archive}
 use Rattle.index_core.specs.declared.fault.IndexFault.{IndexFault}
 use Rattle.index_core.specs.declared.fault.IndexFault.TheVariants as faults
 use Rattle.index_core.specs.Report.{Follow, ReportsRecords, WritesFault, fault_line}

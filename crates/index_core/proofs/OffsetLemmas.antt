@@ -53,14 +53,14 @@ module _ (limit : ℕ) where
   -- a walk from a record ends behind it, or there
   goes_behind : (o p : ℕ) (r y t : List ℕ) (h : HeadView) (more : List HeadView) → record_at limit o r ≡ Ok (Some h, y)
       → (p ≡ o → t ≡ r → ⊥) → Walks limit o r more p t → o + record_length h ≤ p
-  goes_behind o p r y t h [] a n w = absurd (n w.0 w.1)
+  goes_behind o p r y t h [] a n w = grind arith
   goes_behind o p r y t h (k ∷ more) a n w = grind (arith, one_record, walk-front)
 
   -- no walk goes on from where no record stands
   goes_nowhere : (o p : ℕ) (r t : List ℕ) (more : List HeadView) → Ends limit p t → Walks limit p t more o r → (p ≡ o)
       × (t ≡ r)
-  goes_nowhere o p r t [] n w = (sym w.0, sym w.1)
-  goes_nowhere o p r t (k ∷ more) n w = absurd (n k w.0 w.1)
+  goes_nowhere o p r t [] n w = grind arith
+  goes_nowhere o p r t (k ∷ more) n w = grind arith
 
   module _ (archive : List ℕ) (o p : ℕ) (h : HeadView) (gs : List HeadView) (t : List ℕ)
       (a : IsRecordOf limit archive o h) (w : Walks limit 0 archive gs p t) where
@@ -91,10 +91,10 @@ module _ (limit : ℕ) where
 
     text_or_none : (a : List ℕ) → IsTextAt limit archive offset a → IsInRecord limit archive offset
         ⊎ IsBehindRecords limit archive offset → ⊥
-    text_or_none a x (inl n) = let l = behind_record archive n.0 offset n.1 x.1.before x.1.bytes n.2 x.1.walks n.3 in
-        omega (arith, l, n.4)
-    text_or_none a x (inr n) = let l = before_end archive offset n.1.end x.0 n.0 [] x.1 n.1.walks
-        (ends_empty n.1.end) in omega (arith, l, n.2)
+    text_or_none a x (inl n) =
+        let behind = behind_record archive n.0 offset n.1 x.1.before x.1.bytes n.2 x.1.walks n.3 in grind arith
+    text_or_none a x (inr n) =
+        let behind = before_end archive offset n.1.end x.0 n.0 [] x.1 n.1.walks (ends_empty n.1.end) in grind arith
 
     text_or_damage : (a : List ℕ) (f : Fault) → IsTextAt limit archive offset a → IsDamagedBy limit archive offset f → ⊥
     text_or_damage a f x d = let l = before_end archive offset f.offset x.0 d.0 d.1.rest x.1 d.1.walks
@@ -145,11 +145,9 @@ covering : (limit start : ℕ) (bytes : List ℕ) (heads : List HeadView) (end :
 covering limit start bytes [] end rest offset w l m = grind arith
 covering limit start bytes (h ∷ heads) end rest offset w l m =
     elim (which (nat_lt offset (start + record_length h))) [
-      | inl t ↦ (let less : offset < start + record_length h = grind (arith, nat_tests) in
-          ([], start, bytes, h, w.0, (refl, refl), w.1, l, less))
+      | inl t ↦ ([], start, bytes, h, w.0, (refl, refl), w.1, l, grind (arith, nat_tests))
       | inr f ↦ (
-          let more : start + record_length h ≤ offset = grind (arith, nat_tests) in
-          let c = covering limit (start + record_length h) w.0 heads end rest offset w.2 more m in
+          let c = covering limit (start + record_length h) w.0 heads end rest offset w.2 (grind (arith, nat_tests)) m in
           (h ∷ c.0, c.1, c.2, c.3, c.4, (w.0, w.1, c.5), c.6, c.7, c.8))
     ]
 
@@ -161,19 +159,13 @@ covered limit offset archive c =
     elim (which (nat_lt c.1 offset)) [
       | inl t ↦ (let less : c.1 < offset = grind (arith, nat_tests) in (
         Err faults.NoRecord,
-        inl
-            (c.1, c.3, record { before = c.0; bytes = c.2; rest = c.4; walks = c.5; whole = c.6 }, less, c.8),
+        inl (c.1, c.3, record { before = c.0; bytes = c.2; rest = c.4; walks = c.5; whole = c.6 }, less, c.8),
       ))
       | inr f ↦ (
           let low = c.7 in
           let same : c.1 ≡ offset = grind (arith, nat_tests, low) in (
             Ok (take (record_length c.3) (drop offset archive)),
-            (
-              c.3,
-              subst (λ o. IsRecordOf limit archive o c.3) same
-                  (record { before = c.0; bytes = c.2; rest = c.4; walks = c.5; whole = c.6 }),
-              refl,
-            ),
+            (c.3, rw (← same) (record { before = c.0; bytes = c.2; rest = c.4; walks = c.5; whole = c.6 }), refl),
           ))
     ]
 
@@ -187,12 +179,14 @@ some_stands limit offset archive =
       | inl a ↦ (elim (which (nat_lt offset a.1.end)) [
         | inl t ↦ covered limit offset archive
             (covering limit 0 archive a.0 a.1.end [] offset a.1.walks (omega arith) (grind (arith, nat_tests)))
-        | inr f ↦ (let l : a.1.end ≤ offset = grind (arith, nat_tests) in (Err faults.NoRecord, inr (a.0, a.1, l)))
+        | inr f ↦ (Err faults.NoRecord, inr (a.0, a.1, grind (arith, nat_tests)))
       ])
       | inr d ↦ (elim (which (nat_lt offset d.1)) [
         | inl t ↦ covered limit offset archive
             (covering limit 0 archive d.0 d.1 d.3.rest offset d.3.walks (omega arith) (grind (arith, nat_tests)))
-        | inr f ↦ (let l : d.1 ≤ offset = grind (arith, nat_tests) in
-            (Err (faults.Capture (Archive (record { offset = d.1; cause = d.2 }))), (d.0, d.3, l)))
+        | inr f ↦ (
+          Err (faults.Capture (Archive (record { offset = d.1; cause = d.2 }))),
+          (d.0, d.3, grind (arith, nat_tests)),
+        )
       ])
     ]

@@ -1,5 +1,5 @@
 -- An archive has one list of captures.
-use Rattle.std.proofs.Common.{◌≡◌, ◌∙◌, ℕ, ◌+◌, Bool, List, [], ◌∷◌, Some, option_to_list, sym, refl, arith}
+use Rattle.std.proofs.Common.{◌≡◌, ◌∙◌, ℕ, ◌+◌, Bool, List, [], ◌∷◌, Some, sym, refl, arith}
 use Rattle.warc_core.specs.Kind.{Kind}
 use Rattle.warc_core.specs.HeadView.{HeadView, record_length}
 use Rattle.warc_core.specs.Walk.{Walks}
@@ -30,9 +30,9 @@ same_heads limit start bytes (h ∷ hs) (g ∷ gs) o r t v w =
 captured_once : (types : Kind → Bool) (limits : Limits) (limit : ℕ) (name archive : List ℕ) (heads : List HeadView)
     (a b : List EntryValue) → AreCaptured types limits limit name archive heads a
     → AreCaptured types limits limit name archive heads b → a ≡ b
-captured_once types limits limit name archive [] a b v w = v ∙ sym w
+captured_once types limits limit name archive [] a b v w = grind arith
 captured_once types limits limit name archive (h ∷ heads) a b v w =
-    grind (arith, one_capture, option_to_list, captured_once types limits limit name archive heads v.1 w.1 v.3 w.3)
+    grind (arith, one_capture, captured_once types limits limit name archive heads v.1 w.1 v.3 w.3)
 
 pub one_indexed : OneIndexed
 one_indexed types limits limit name archive a b v w =

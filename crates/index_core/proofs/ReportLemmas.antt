@@ -1,6 +1,6 @@
 -- The lines of a report, one record further, and at the end.
 use Rattle.std.proofs.Common.{arith, ◌≡◌, ◌∙◌, ℕ, ◌+◌, List, [], ◌∷◌, ◌++◌, inl, inr, Option, None, Some, Result}
-use Rattle.std.proofs.Common.{Ok, Err, sym, ap, refl, subst, append-nil, append_assoc}
+use Rattle.std.proofs.Common.{Ok, Err, sym, ap, refl, append-nil, append_assoc}
 use Rattle.std.proofs.lemmas.List.Concat.{flat_map-append}
 use Rattle.std.specs.Bool.{⊤}
 use Rattle.std.specs.Io.KnownBytes.{Appends, prepend_known}
@@ -94,34 +94,25 @@ module _ (limit : ℕ) (line : RecordLine) where
     SoFar-cut : (left now after : Option (List ℕ)) (o : ℕ) (x : A) (f : Fault) (w v u : Option (List ℕ))
         → SoFar limit line tally left now o x w v → Reads (record_at limit o) (Err f.cause) now after → f.offset ≡ o
         → AppendsPrefix v u (fault_line f) → ReportedInPart limit line left w u
-    SoFar-cut None now after o x f w v u s r e a = tt
-    SoFar-cut (Some archive) None after o x f w v u s r e a = absurd s
-    SoFar-cut (Some archive) (Some z) after o x f w v u s r e a = (
-      report_lines line archive s.0 ++ fault_line f,
-      grind arith,
-      subst (λ t. AppendsPrefix w u (report_lines line archive s.0 ++ t)) (append-nil (fault_line f))
-          (AppendsPrefix-behind w v u (report_lines line archive s.0) (fault_line f) [] s.3 a),
-    )
+    SoFar-cut (Some archive) (Some z) after o x f w v u s r e a =
+        let behind = AppendsPrefix-behind w v u (report_lines line archive s.0) (fault_line f) [] s.3 a in
+        (report_lines line archive s.0 ++ fault_line f, grind arith, grind (arith, append-nil))
+    SoFar-cut left now after o x f w v u s r e a = grind arith
 
     -- the output failed in the line of a record
     pub SoFar-stopped : (left now after : Option (List ℕ)) (o : ℕ) (x : A) (h : HeadView) (text : List ℕ)
         (w v u : Option (List ℕ)) → SoFar limit line tally left now o x w v
         → Reads (record_at limit o) (Ok (Some h)) now after → IsLine line left h text → AppendsPrefix v u text
         → ReportedInPart limit line left w u
-    SoFar-stopped None now after o x h text w v u s r l a = tt
-    SoFar-stopped (Some archive) None after o x h text w v u s r l a = absurd s
-    SoFar-stopped (Some archive) (Some z) None o x h text w v u s r l a = absurd r
     SoFar-stopped (Some archive) (Some z) (Some y) o x h text w v u s r l a =
         let t = report_behind archive (s.0 ++ h ∷ []) (o + record_length h) y
-        (Walks-more limit 0 archive s.0 o z h y s.1 r) in
-        let e : report_lines line archive (s.0 ++ h ∷ []) ++ t.0
-        ≡ report_lines line archive s.0 ++ (line archive h ++ t.0) =
-        grind (arith, one_more, append_assoc) in (
+        (Walks-more limit 0 archive s.0 o z h y s.1 r) in (
           report_lines line archive s.0 ++ (line archive h ++ t.0),
-          inl (subst (IsReport limit line archive) e t.1),
+          grind (arith, one_more, append_assoc),
           AppendsPrefix-behind w v u (report_lines line archive s.0) (line archive h) t.0 s.3
-              (subst (AppendsPrefix v u) (l archive refl) a),
+              (rw (l archive refl) at a),
         )
+    SoFar-stopped left now after o x h text w v u s r l a = grind arith
 
     -- what the writing of a fault's line leaves
     pub fault_reported : (fault : Fault) (given : IndexFault) (left now after : Option (List ℕ)) (o : ℕ) (x : A)

@@ -1,12 +1,12 @@
 -- What a verification says of a record, and what it counts.
-use Rattle.std.proofs.Common.{◌≡◌, ◌∙◌, ℕ, ◌+◌, ◌≤◌, List, [], ◌∷◌, ◌++◌, Option, None, Some, Result, Ok, Err, IfSome}
+use Rattle.std.proofs.Common.{◌≡◌, ◌∙◌, ℕ, ◌+◌, ◌≤◌, List, [], ◌∷◌, ◌++◌, Option, Some, Ok, Err, IfSome}
 use Rattle.std.proofs.Common.{length, take, drop, ap, length-append, arith}
 use Rattle.std.proofs.lemmas.List.Sums.{sum_by-append}
 use Rattle.std.proofs.Math.Seq.{drop-append_seam}
 use Rattle.warc_core.specs.declared.fault.Cause.{Cause}
 use Rattle.warc_core.specs.HeadView.{HeadView, block_at}
 use Rattle.warc_core.specs.Next.{next_at}
-use Rattle.warc_core.specs.Reading.{◌>>=◌, Reads}
+use Rattle.warc_core.specs.Reading.{Reads}
 use Rattle.warc_core.specs.Record.{after_record}
 use Rattle.warc_core.proofs.ArchiveLemmas.{walk-front, next-spelled}
 use Rattle.block_digests.specs.declared.verdict.Verdict.{Verdict}

@@ -1,12 +1,9 @@
-use Rattle.std.proofs.Common.{◌∙◌, ◌++◌, [], append-nil, List, length, length-append, option_to_list, ap, sym, subst}
+use Rattle.std.proofs.Common.{◌∙◌, ◌++◌, [], append-nil, length-append, option_to_list, sym}
 use Rattle.std.proofs.Common.{append_assoc, arith}
 use Rattle.warc_core.specs.declared.next.TheConstants.{HEAD_LIMIT}
 use Rattle.cdxj_core.specs.declared.limit.TheConstants.{LINE_LIMIT}
-use Rattle.cdxj_core.specs.Entries.{EntryValue}
 use Rattle.capture_core.specs.Types.{includes}
 use Rattle.capture_core.specs.CaptureAnswer.{usual_limits}
-use Rattle.index_core.specs.Indexing.{AreSound}
-use Rattle.index_core.specs.Captures.{StandBefore}
 use Rattle.index_core.proofs.AddingLemmas.{AddedSoFar-more, AddedSoFar-end, AddedSoFar-refused}
 use Rattle.index_core.proofs.SoundLemmas.{before_step, named_step, sound_step}
 use Rattle.index_core.proofs.captures.add_captures.Goals as goal

@@ -1,7 +1,6 @@
-use Rattle.std.proofs.Common.{arith, ◌∙◌, Err, subst}
+use Rattle.std.proofs.Common.{arith}
 use Rattle.std.proofs.lemmas.Result.{err_from_is_err_and}
 use Rattle.warc_core.specs.HeadView.{record_length}
-use Rattle.warc_core.specs.Answers.{CountsRead}
 use Rattle.index_core.proofs.CopyLemmas.{head_cut, block_cut, finish_cut, closing_cut, record_copied}
 use Rattle.index_core.proofs.copying.copy_record.Goals as goal
 

@@ -1,4 +1,4 @@
-use Rattle.std.proofs.Common.{ℕ, ◌∙◌, [], ap, arith, refl}
+use Rattle.std.proofs.Common.{ℕ, [], ap, arith, refl}
 use Rattle.std.proofs.lemmas.Result.{err_from_is_err_and}
 use Rattle.std.specs.Io.KnownBytes.{prepend_known}
 use Rattle.warc_core.specs.declared.next.TheConstants.{HEAD_LIMIT}

@@ -1,11 +1,5 @@
-use Rattle.std.proofs.Common.{arith, ◌≡◌, List, Ok, Err, subst}
+use Rattle.std.proofs.Common.{arith}
 use Rattle.std.proofs.lemmas.Result.{err_from_is_err_and}
-use Rattle.warc_core.specs.declared.next.TheConstants.{HEAD_LIMIT}
-use Rattle.cdxj_core.specs.Entries.{EntryValue}
-use Rattle.capture_core.specs.Types.{includes}
-use Rattle.capture_core.specs.CaptureAnswer.{usual_limits}
-use Rattle.index_core.specs.Adding.{Gains, with_archive}
-use Rattle.index_core.specs.Indexing.{Held}
 use Rattle.index_core.proofs.AddingLemmas.{held_more}
 use Rattle.index_core.proofs.SoundLemmas.{is_among_kept, sound_under}
 use Rattle.index_core.proofs.indexer.Indexer.add.Goals as goal
