@@ -62,7 +62,8 @@ module _ (types : Kind → Bool) (limits : Limits) (limit : ℕ) (name : List �
       → IsCaptured types limits limit name archive h captured
       → AreCaptured types limits limit name archive (heads ++ h ∷ []) (captures ++ option_to_list captured)
   captured_more archive [] captures h captured w k = grind arith
-  captured_more archive (g ∷ heads) captures h captured w k = grind (arith, append_assoc, captured_more archive heads w.1 h captured w.3 k)
+  captured_more archive (g ∷ heads) captures h captured w k =
+      grind (arith, append_assoc, captured_more archive heads w.1 h captured w.3 k)
 
   fits_line : (h : HeadView) (captured : Option EntryValue) → IfSome captured (IsEntryOf h name limits.line)
       → IfSome captured (λ e. length (line_text e) ≤ limits.line)
