@@ -84,7 +84,7 @@ module _ (limits : Limits) (h : HeadView) (name url front payload bytes digest :
       let block : take h.parts.length (front ++ bytes) ≡ front
       ++ more = take_past h.parts.length front bytes p.within in
       let few : length more ≤ h.parts.length - length front = grind (arith, length-take) in
-      grind (arith, same-response, payload-behind)
+      grind (arith)
 
   -- what the entry answers is the capture
   pub capture-known : PartsBlock limits h front response payload → digest ≡ digest_of h (payload ++ more)

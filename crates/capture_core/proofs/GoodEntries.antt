@@ -24,7 +24,7 @@ text_is_filled value h = go (is_utf8 value)
 
 content_is_filled : (h : HeadView) (response : Option ResponseValue) → 0 < length (content_of h response)
 unfolding content_of
-content_is_filled h (Some response) = grind (arith, common_steps)
+content_is_filled h (Some response) = grind (arith)
 content_is_filled h None = go (is_marked h)
   where
     go : (marked : Bool) → 0 < length (cond marked (45 ∷ []) (media_of (field (codes "Content-Type") h)))
@@ -35,4 +35,4 @@ pub mime_is_filled : (h : HeadView) (response : Option ResponseValue) → 0 < le
 mime_is_filled h response = grind (arith, content_is_filled)
 
 pub stamp_is : (stamp : List ℕ) → length stamp ≡ 14 → all_digits stamp ≡ true → is_stamp stamp ≡ true
-stamp_is stamp size digits = grind (arith, common_steps)
+stamp_is stamp size digits = grind (arith)

@@ -44,9 +44,9 @@ module _ (e : EntryValue) (has : HasLine LINE_LIMIT e) (rest : List ℕ) where
 pub holds_line : (e : EntryValue) (line name bytes : List ℕ) → HasLine LINE_LIMIT e → line ≡ line_text e
     → name ≡ e.filename → KeepsName line name bytes → HoldsLine e bytes e.offset
 holds_line e line name bytes has is named (inl k) =
-    grind (arith, append-nil (line_text e), line_first, key_first, cond-false, le-ltb)
+    grind (arith, append-nil (line_text e), line_first, key_first)
 holds_line e line name bytes has is named (inr k) =
-    grind (arith, line_first, length-append, key_first, cond-true, lt-ltb, drop-append_seam)
+    grind (arith, line_first, length-append, key_first, lt-ltb, drop-append_seam)
 
 -- ---- the last quote
 
@@ -60,5 +60,5 @@ pub no_quote : (text : List ℕ) → IsLastByte (is_byte 34) text None
     → length text - suffix_len (λ x. not (is_quote x)) text ≡ 0
 no_quote text none =
     let e = suffix_len_is (λ x. not (is_quote x)) text 0 0 (omega arith)
-    (λ i low high. ap not (false_from_ne_true _ (none i (omega arith) high))) (λ h. absurd (omega arith)) in
+    (grind (arith)) (λ h. absurd (omega arith)) in
     omega (arith, e)

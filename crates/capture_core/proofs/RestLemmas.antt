@@ -38,8 +38,7 @@ module _ (indexed : Indexed) (first front : List ℕ) (old mid : ReaderView) (be
       record {
         reads = rest-behind _ _ indexed.head.now _ _ _ _ _ _ _ _ _ _
             (grind (arith, goes-on-to)) fills.2.failures rest.reads;
-        capture = capture-behind-first (Some indexed.url.now) usual_limits indexed.head.now indexed.name.now first
-            fills.0 front _ _ r fills.1 fills.2.given rest.capture;
+        capture = grind (arith, capture-behind-first);
         entry = rest.entry;
       }
 

@@ -14,7 +14,7 @@ returns-clause-place c =
     let value = c.args.value.now in
     let first = first_place (is_byte semicolon) value c.memchr_iter.result c.next.new.self c.next.result
     c.memchr_iter.ensures.value c.next.ensures.steps in
-    IsFirstByte_position (is_byte semicolon) value c.next.result first
+    grind (arith, IsFirstByte_position)
 
 pub returns-clause-within : goal.returns-clause-within
 returns-clause-within c = grind (arith, first_place, within)

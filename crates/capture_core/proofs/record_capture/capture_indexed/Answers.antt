@@ -48,7 +48,7 @@ steps-init g c =
 pub returns-in-Some : goal.returns-in-Some
 returns-in-Some g c =
     let bytes = c.in-Some.ensures.bytes ∙ ap (take c.steps.filled) c.deref.ensures.value in
-    c.steps.invariant.rest _ _ _ _ (rw bytes at c.capture_parted.ensures)
+    c.steps.invariant.rest _ _ _ _ (grind arith)
 
 pub returns-in-Err-make_room : goal.returns-in-Err-make_room
 returns-in-Err-make_room g c = c.steps.invariant.rest _ _ _ _ (grind arith)

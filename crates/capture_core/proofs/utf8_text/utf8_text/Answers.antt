@@ -13,6 +13,4 @@ returns-in-Ok c = grind (arith, is_utf8-from_IsUtf8)
 pub returns-in-Err : goal.returns-in-Err
 unfolding utf8_text
 returns-in-Err c =
-    let broken = false_from_ne_true (is_utf8 c.args.value.now)
-    (λ e. c.in-Err.ensures.cases.0 (IsUtf8-from_is_utf8 _ e)) in
-    grind (arith, common_steps)
+    grind (arith, IsUtf8-from_is_utf8, common_steps)

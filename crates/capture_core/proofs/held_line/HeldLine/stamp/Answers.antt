@@ -16,4 +16,4 @@ pub slice_bounds-result-end : goal.slice_bounds-result-end
 slice_bounds-result-end c = grind (arith, length-append, key, line)
 
 pub returns : goal.returns
-returns c = grind (arith, stamp_in, held_good)
+returns c = grind (arith, stamp_in)
