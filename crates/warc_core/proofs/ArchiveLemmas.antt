@@ -27,10 +27,9 @@ end_of start (h ∷ heads) = end_of (start + record_length h) heads
 -- what is spelled is walked
 pub spelled-walk : (limit start : ℕ) (heads : List HeadView) (texts : List (List ℕ)) (rest : List ℕ)
     → AreTexts limit start heads texts → Walks limit start (concat texts ++ rest) heads (end_of start heads) rest
-spelled-walk limit start [] texts rest a = grind arith
-spelled-walk limit start (h ∷ heads) [] rest a = absurd a
 spelled-walk limit start (h ∷ heads) (text ∷ texts) rest a =
     grind (arith, append_assoc, spelled-read, spelled-walk limit (start + record_length h) heads texts rest a.2)
+spelled-walk limit start heads texts rest a = grind arith
 
 -- no record begins where damage does
 pub no-record : NoRecordAtDamage

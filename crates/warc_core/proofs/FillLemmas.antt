@@ -26,10 +26,9 @@ Consumes-join before mid after a b h k = grind (arith, append_assoc)
 pub found-behind : (c : Cause) (left n : ℕ) (piece : List ℕ) (before mid : Option (List ℕ)) → length piece ≡ n
     → n ≤ left → Consumes before mid piece → IsFoundAt (after_block (left - n)) c mid
     → IsFoundAt (after_block left) c before
-found-behind c left n piece None mid l h k f = tt
-found-behind c left n piece (Some z) None l h k f = absurd k
 found-behind c left n piece (Some z) (Some w) l h k f =
     grind (arith, drop_all n piece (omega arith), after_block-part left n piece w h (omega arith))
+found-behind c left n piece before mid l h k f = grind arith
 
 -- the first n bytes of what was written at the place a
 pub take-written : (a k n : ℕ) (xs ys : List ℕ) → a ≤ length xs → n ≤ length ys → take (a + n) (put_mid a k xs ys)

@@ -20,9 +20,8 @@ which b = grind arith
 
 -- a text that disagrees does so however it goes on
 pub agrees-longer : (xs more ys : List ℕ) → agrees xs ys ≡ false → agrees (xs ++ more) ys ≡ false
-agrees-longer [] more ys h = grind arith
-agrees-longer (x ∷ xs) more [] h = grind arith
 agrees-longer (x ∷ xs) more (y ∷ ys) h = grind (arith, agrees-longer xs more ys)
+agrees-longer xs more ys h = grind arith
 
 agrees-nil : (xs : List ℕ) → agrees xs [] ≡ true
 agrees-nil [] = refl
@@ -38,18 +37,16 @@ begins_1_0 text rest e = grind (arith, agrees-nil)
 -- a text that agrees to the other's end does so however it goes on
 pub agrees-whole : (xs more ys : List ℕ) → agrees xs ys ≡ true → length ys ≤ length xs → agrees (xs ++ more) ys ≡ true
 agrees-whole [] more [] h l = agrees-nil more
-agrees-whole [] more (y ∷ ys) h l = absurd (omega arith)
-agrees-whole (x ∷ xs) more [] h l = refl
 agrees-whole (x ∷ xs) more (y ∷ ys) h l = and_keeps_true (x == y) (agrees xs ys) (agrees (xs ++ more) ys)
     (λ t. agrees-whole xs more ys t (omega arith)) h
+agrees-whole xs more ys h l = grind arith
 
 -- a text that agrees and is no longer is a front of the other
 pub agrees-front : (xs ys : List ℕ) → agrees xs ys ≡ true → length xs ≤ length ys → xs ≡ take (length xs) ys
-agrees-front [] ys h l = refl
-agrees-front (x ∷ xs) [] h l = absurd (omega arith)
 agrees-front (x ∷ xs) (y ∷ ys) h l =
     let p = and_both (x == y) (agrees xs ys) h in
     grind (arith, agrees-front xs ys p.1 (omega arith))
+agrees-front xs ys h l = grind arith
 
 -- a text that agrees and is as long begins with the other
 pub agrees-begins : (xs ys : List ℕ) → agrees xs ys ≡ true → length ys ≤ length xs → (more : List ℕ) × (xs ≡ ys ++ more)

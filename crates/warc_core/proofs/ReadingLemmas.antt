@@ -56,10 +56,9 @@ nil_of (x ∷ xs) h = absurd (omega arith)
 -- what was given out of what is held
 pub gave : (before left : Option (List ℕ)) (b : List ℕ) (count : ℕ) (out : List ℕ) → Keeps before (prepend_known b left)
     → out ≡ take count b → Consumes before (prepend_known (drop count b) left) out
-gave None left b count out h e = tt
-gave (Some z) None b count out h e = h
 gave (Some z) (Some v) b count out h e =
     grind (arith, take-append-drop count b, append_assoc (take count b) (drop count b) v)
+gave before left b count out h e = grind arith
 
 pub at_end : (count : ℕ) (b : List ℕ) (left : Option (List ℕ)) → b ≡ [] → IsAtEnd left
     → IsAtEnd (prepend_known (drop count b) left)

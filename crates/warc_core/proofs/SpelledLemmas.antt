@@ -221,14 +221,13 @@ Outcome limit start bytes = (heads : List HeadView) × (end : ℕ) × (rest : Li
 outcome-of : (limit start n : ℕ) (bytes : List ℕ) → length bytes ≤ suc n
     → ((start : ℕ) (later : List ℕ) → length later ≤ n → Outcome limit start later)
     → (r : Result (Option HeadView × List ℕ) Cause) → record_at limit start bytes ≡ r → Outcome limit start bytes
-outcome-of limit start n bytes l more (Err c) e = grind arith
-outcome-of limit start n bytes l more (Ok (None, rest)) e = grind (arith, none_at_end)
 outcome-of limit start n bytes l more (Ok (Some h, rest)) e =
     let p = read-spelled limit start bytes rest h e in
     let len : length bytes ≡ length p.1 + length rest = ap length p.3 ∙ length-append p.1 rest in
     let four : length p.1 ≡ length h.raw + (length p.0 + 4) = grind (arith, length-append) in
     let o = more (start + record_length h) rest (omega (arith, len, four, l)) in
     (h ∷ o.0, o.1, o.2, (rest, e, o.3), o.4)
+outcome-of limit start n bytes l more r e = grind (arith, none_at_end)
 
 outcome : (limit n start : ℕ) (bytes : List ℕ) → length bytes ≤ n → Outcome limit start bytes
 outcome limit zero start bytes l = grind (arith, nil_of)

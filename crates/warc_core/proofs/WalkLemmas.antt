@@ -49,12 +49,11 @@ not_both limit start bytes (h ∷ hs) (g ∷ gs) o p c rest v w e =
 pub walk-extends : (limit start : ℕ) (bytes : List ℕ) (hs gs : List HeadView) (o p : ℕ) (r t : List ℕ)
     → Walks limit start bytes hs o r → Walks limit start bytes gs p t → (t ≡ [])
     ⊎ ((c : Cause) × (record_at limit p t ≡ Err c)) → (more : List HeadView) × (gs ≡ hs ++ more)
-walk-extends limit start bytes [] gs o p r t v w e = (gs, refl)
-walk-extends limit start bytes (h ∷ hs) [] o p r t v w x11 = grind (arith, at_the_end)
 walk-extends limit start bytes (h ∷ hs) (g ∷ gs) o p r t v w e =
     let f = one_step limit start bytes h g v.0 w.0 v.1 w.1 in
     let x : Walks limit (start + record_length h) v.0 gs p t = rw (f.0, f.1) w.2 in
     grind (arith, walk-extends limit (start + record_length h) v.0 hs gs o p r t v.2 x e)
+walk-extends limit start bytes hs gs o p r t v w e = grind (arith, at_the_end)
 
 -- two walks to damage are one
 pub one_fault : (limit start : ℕ) (bytes : List ℕ) (hs gs : List HeadView) (o p : ℕ) (c d : Cause) (r s : List ℕ)
