@@ -32,9 +32,8 @@ abbrev zeros : {S : Type 0} → List S → List ℕ
 zeros ss = map (λ s. 0) ss
 
 zero_at : {S : Type 0} (ss : List S) (i : ℕ) → get_or (zeros ss) i 0 ≡ 0
-zero_at [] i = refl
-zero_at (s ∷ ss) zero = refl
 zero_at (s ∷ ss) (suc i) = zero_at ss i
+zero_at ss i = grind arith
 
 -- no count of 0 rises where all stay 0
 pub none_raised : {S : Type 0} (i : ℕ) (old new : List S) → RaisedAt i (zeros old) (zeros new) → ⊥

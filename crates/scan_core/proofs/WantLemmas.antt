@@ -20,10 +20,9 @@ use Rattle.scan_core.specs.Laws.{IsWantOfMemory, MayRise, OnlyMemoryIsWanting}
 
 new_at : (earlier names : List (List ℕ)) (i : ℕ) → AreNewNames earlier names → i < length names
     → IsNewName (earlier ++ take i names) (get_or names i [])
-new_at earlier [] i h l = absurd (omega arith)
-new_at earlier (n ∷ names) zero h l = grind (arith, append-nil)
 new_at earlier (n ∷ names) (suc i) h l =
     grind (arith, append_assoc, new_at (earlier ++ n ∷ []) names i h.1 (omega arith))
+new_at earlier names i h l = grind (arith, append-nil)
 
 -- the archive with this number is told, and accepted whole
 record ToldWhole (types : Kind → Bool) (name : List ℕ) (input : Option (List ℕ)) : Type 0 where
@@ -64,6 +63,4 @@ module _ (whole_is_not_refused : WholeIsNotRefused) (types : Kind → Bool) (nam
   archive_want fault h k = let fresh = new_at [] names i new inside in grind arith
 
 pub only_memory : WholeIsNotRefused → OnlyMemoryIsWanting
-only_memory law types names archives inputs sizes text (Archive i fault) counts count s known h may k may' k' =
-    grind (arith, archive_want)
-only_memory law types names archives inputs sizes text fault counts count s known h may k may' k' = grind arith
+only_memory law types names archives inputs sizes text fault counts count s known h may k may' k' = grind (arith, archive_want)
