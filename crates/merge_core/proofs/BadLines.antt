@@ -40,13 +40,12 @@ last_line : (limit : ℕ) (ls : List (List ℕ)) (before : List Member) (last : 
     ≡ map Some (before ++ last ∷ [])
     → (us : List (List ℕ)) × (line : List ℕ) × (ls ≡ us ++ line ∷ []) × (line_entry limit line ≡ Some last)
 last_line limit [] [] last e = absurd (cc)
-last_line limit [] (m ∷ before) last e = absurd (cc)
-last_line limit (l ∷ []) [] last e = ([], l, refl, let q : line_entry limit l ≡ Some last = cc in q)
-last_line limit (l ∷ k ∷ ls) [] last e = absurd (cc)
 last_line limit (l ∷ ls) (m ∷ before) last e =
     let rest = last_line limit ls before last (let q : map (line_entry limit) ls
     ≡ map Some (before ++ last ∷ []) = cc in q) in
     (l ∷ rest.0, rest.1, ap (λ us. l ∷ us) rest.2, rest.3)
+last_line limit (l ∷ []) [] last e = ([], l, refl, let q : line_entry limit l ≡ Some last = cc in q)
+last_line limit ls before last e = absurd (cc)
 
 module _ {limit : ℕ} {past : List ℕ → Bool} {t : List ℕ} {extent : ℕ} {f : Feed}
     (fed : Fed limit past (Some t) extent f []) where

@@ -43,11 +43,10 @@ row_most limit l m e =
 
 rows_most : (limit : ℕ) (ls : List (List ℕ)) (ms : List Member) → map (line_entry limit) ls ≡ map Some ms
     → bytes_of ls ≤ length (lines_text ms)
-rows_most limit [] ms e = omega arith
-rows_most limit (l ∷ ls) [] e = cc
 rows_most limit (l ∷ ls) (m ∷ ms) e =
     let rest : map (line_entry limit) ls ≡ map Some ms = cc in
     grind (arith, row_most, bytes_cons, length-append, rows_most limit ls ms rest)
+rows_most limit ls ms e = grind arith
 
 -- of equal lists of entries, the one is a front
 front_of : (us : List Member) (zs : List (Option Member)) (vs : List Member) → map Some us ++ zs ≡ map Some vs
@@ -83,10 +82,8 @@ module _ (limit : ℕ) (past : List ℕ → Bool) (start : Pair) (b : Option Pai
     -- sources that tell their bytes, beside their feeds
     pub tell_both : (ss : List S) (fs : List Feed) (texts : List (List ℕ)) → length ss ≡ length fs
         → Known (map text ss) texts → AllZip (λ (t : List ℕ) (x : S × Feed). text x.0 ≡ Some t) texts (zip ss fs)
-    tell_both [] fs texts same known = grind arith
-    tell_both (s ∷ ss) [] ts same known = absurd (omega arith)
-    tell_both (s ∷ ss) (f ∷ fs) [] same known = absurd known
     tell_both (s ∷ ss) (f ∷ fs) (t ∷ ts) same known = (known.0, tell_both ss fs ts (omega arith) known.1)
+    tell_both ss fs ts same known = grind arith
 
     -- What sources gave from before they were opened, when they were read up to the bound
     pub gave_most : (ss0 : List S) (xs1 xs : List (S × Feed)) (texts : List (List ℕ)) (indexes : List (List Member))
@@ -97,15 +94,10 @@ module _ (limit : ℕ) (past : List ℕ → Bool) (start : Pair) (b : Option Pai
         → AllByRecursion (λ x. IsCutAt limit start (text x.0) x.1.cursor) xs1
         → AllByRecursion (λ x. (t : List ℕ) → text x.0 ≡ Some t → ReadTo limit past b t x.1.cursor) xs
         → AllGaveWithin extent gave test texts indexes ss0 (map (λ x. x.0) xs)
-    gave_most [] [] xs ts is known tells are came moved cut reads = grind arith
-    gave_most [] (y ∷ ys) xs ts is known tells are came moved cut reads = absurd came
-    gave_most (s ∷ ss) [] xs ts is known tells are came moved cut reads = absurd came
-    gave_most (s ∷ ss) (y ∷ ys) [] ts is known tells are came moved cut reads = absurd moved
-    gave_most (s ∷ ss) (y ∷ ys) (x ∷ xs) [] is known tells are came moved cut reads = absurd known
-    gave_most (s ∷ ss) (y ∷ ys) (x ∷ xs) (t ∷ ts) [] known tells are came moved cut reads = absurd are
     gave_most (s ∷ ss) (y ∷ ys) (x ∷ xs) (t ∷ ts) (i ∷ is) known tells are came moved cut reads =
         let m = moved.0 in
         let r = reads.0 t (m.text_kept ∙ tells.0) in
         let from = m.start_kept in
         let here = source_bytes t i x.1.cursor are.0 (rw from (cut.0 t i tells.0 are.0)) r in
         grind (arith, gave_most ss ys xs ts is known.1 tells.1 are.1 came.1 moved.1 cut.1 reads.1)
+    gave_most ss ys xs ts is known tells are came moved cut reads = grind arith

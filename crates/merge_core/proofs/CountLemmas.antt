@@ -1,5 +1,5 @@
 -- How many lines were read of indexes.
-use Rattle.std.proofs.lemmas.List.{take-map, length-map}
+use Rattle.std.proofs.lemmas.List.{take-map, length-map, nil_from_length}
 use Rattle.std.specs.List.{AllZip, AllByRecursion, sum}
 use Rattle.std.proofs.Common.{◌≡◌, ℕ, ◌+◌, ◌-◌, ◌≤◌, List, [], ◌∷◌, length, drop, map, filter, zip, Bool, true}
 use Rattle.std.proofs.Common.{false, Option, Some, refl, ap, arith, length-append, length-take}
@@ -62,11 +62,6 @@ module _ (limit : ℕ) (past : List ℕ → Bool) (start : Pair) (b : Option Pai
         → AreFed limit past text extent n ss fs ws
         → AllByRecursion (λ m. IsUpto b (member_pair m)) (all_done limit text ss fs)
         → sum (map (λ (f : Feed). f.cursor.count) fs) ≤ length (filter test (all_lines indexes)) + length indexes
-    lines_most n [] [] texts indexes same known are cut fed upto = omega arith
-    lines_most n [] (f ∷ fs) texts indexes same known are cut fed upto = absurd (omega arith)
-    lines_most n (s ∷ ss) [] texts indexes same known are cut fed upto = absurd (omega arith)
-    lines_most n (s ∷ ss) (f ∷ fs) [] indexes same known are cut fed upto = absurd known
-    lines_most n (s ∷ ss) (f ∷ fs) (t ∷ ts) [] same known are cut fed upto = absurd are
     lines_most n (s ∷ ss) (f ∷ fs) (t ∷ ts) (i ∷ is) same known are cut fed upto =
         let parts = each_cut (λ m. IsUpto b (member_pair m)) (done limit (text_or (text s)) f)
         (all_done limit text ss fs) upto in
@@ -78,3 +73,4 @@ module _ (limit : ℕ) (past : List ℕ → Bool) (start : Pair) (b : Option Pai
           ap length (filter-append test i (all_lines is)),
           length-append (filter test i) (filter test (all_lines is)),
         )
+    lines_most n ss fs ts is same known are cut fed upto = grind (arith, nil_from_length)

@@ -1,5 +1,5 @@
 -- What one line more makes of a feed.
-use Rattle.std.proofs.lemmas.List.{map-append}
+use Rattle.std.proofs.lemmas.List.{map-append, take-map, take-take}
 use Rattle.std.proofs.Common.{true, ◌⊎◌}
 use Rattle.std.proofs.Common.{◌≡◌, Ordering, Equal, ℕ, zero, suc, ◌+◌, ◌-◌, ◌≤◌, List, [], ◌∷◌, ◌++◌}
 use Rattle.std.proofs.Common.{length, refl, ap, ◌∙◌, arith, Bool, false, Option, Some, None}
@@ -35,9 +35,8 @@ no_entry limit line o e h = grind (arith, entry_is_short)
 
 take_suc_at : {X : Type 0} (n : ℕ) (all : List X) (x : X) (rest : List X) → drop n all ≡ x ∷ rest → take (suc n) all
     ≡ take n all ++ x ∷ []
-take_suc_at zero all x rest e = grind arith
-take_suc_at (suc n) [] x rest e = cc
 take_suc_at (suc n) (y ∷ ys) x rest e = ap (λ u. y ∷ u) (take_suc_at n ys x rest e)
+take_suc_at n all x rest e = grind arith
 
 pub take_next : {X : Type 0} (n : ℕ) (all : List X) (x : X) (rest : List X) → drop n all ≡ x ∷ rest → take (n + 1) all
     ≡ take n all ++ x ∷ []
@@ -56,16 +55,12 @@ after_taken {X = X} n xs x e = suc_taken n xs (ap (λ k. take k xs) (let q : suc
   where
     suc_taken : (k : ℕ) (us : List X) → take (suc k) us ≡ take k us ++ x ∷ [] → (after : List X)
         × (drop k us ≡ x ∷ after)
-    suc_taken zero us e = grind arith
-    suc_taken (suc k) [] e = absurd (cc)
     suc_taken (suc k) (u ∷ us) e = suc_taken k us (grind arith)
+    suc_taken k us e = grind arith
 
 pub take_map : {X Y : Type 0} (f : X → Y) (k n : ℕ) (xs : List X) → k ≤ n → take k (map f (take n xs))
     ≡ map f (take k xs)
-take_map f zero n xs h = refl
-take_map f (suc k) zero xs h = absurd (omega arith)
-take_map f (suc k) (suc n) [] h = refl
-take_map f (suc k) (suc n) (x ∷ xs) h = ap (λ l. f x ∷ l) (take_map f k n xs (omega arith))
+take_map f k n xs h = grind (arith, take-map, take-take)
 
 pub falls_push : (xs : List Member) (y : Member) → NeverFalls member_pair pair_cmp xs
     → AllByRecursion (λ m. Upto (member_pair m) (member_pair y)) xs → NeverFalls member_pair pair_cmp (xs ++ y ∷ [])

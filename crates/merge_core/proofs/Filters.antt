@@ -50,9 +50,8 @@ pub filter_back : {X : Type 0} (f : X → Bool) (us vs : List X) → length (fil
 filter_back f us vs = grind (arith, filter-append, length-append)
 
 pub each_take : {X : Type 0} (A : X → Type 0) (n : ℕ) (xs : List X) → AllByRecursion A xs → AllByRecursion A (take n xs)
-each_take A zero xs h = tt
-each_take A (suc n) [] h = tt
 each_take A (suc n) (x ∷ xs) h = (h.0, each_take A n xs h.1)
+each_take A n xs h = tt
 
 pub each_both : {X : Type 0} (A B : X → Type 0) (xs : List X) → AllByRecursion A xs → AllByRecursion B xs
     → AllByRecursion (λ x. A x × B x) xs

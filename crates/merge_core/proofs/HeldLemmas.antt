@@ -69,10 +69,6 @@ module _ (limit : ℕ) (past : List ℕ → Bool) {S : Type 0} (text : S → Opt
       → AllZip (IsIndex limit) texts indexes
       → AreFed limit past text extent n ss fs ws
       → length (filter test (all_done limit text ss fs)) ≤ length (filter test (all_lines indexes))
-  all_fewer n [] fs ws texts indexes test e known are fed = omega arith
-  all_fewer n (s ∷ ss) [] ws texts indexes test e known are fed = absurd (omega arith)
-  all_fewer n (s ∷ ss) (f ∷ fs) ws [] indexes test e known are fed = absurd known
-  all_fewer n (s ∷ ss) (f ∷ fs) ws (t ∷ ts) [] test e known are fed = absurd are
   all_fewer n (s ∷ ss) (f ∷ fs) ws (t ∷ ts) (i ∷ is) test e known are fed =
       let here = done_fewer test (rw known.0 at fed.0) are.0 in
       grind (
@@ -82,6 +78,7 @@ module _ (limit : ℕ) (past : List ℕ → Bool) {S : Type 0} (text : S → Opt
         all_fewer (n + 1) ss fs ws ts is test (omega arith) known.1 are.1
             fed.1,
       )
+  all_fewer n ss fs ws ts is test e known are fed = grind arith
 
 at_pair : (pair : Pair) (m : Member) → Upto (member_pair m) pair → not (is_low pair m) ≡ true → is_at pair m ≡ true
 at_pair pair m u = at_order (pair_cmp (member_pair m) pair) u

@@ -41,9 +41,6 @@ module _ (limit : ℕ) (past : List ℕ → Bool) (upward : IsUpward past) (upto
       → AllByRecursion (λ m. upto m ≡ true) (all_done limit text ss fs)
       → filter (is_read limit past upward upto) (all_lines highs)
       ≡ filter (stays limit past upward) (all_done limit text ss fs)
-  all_read n [] fs highs same told runs fed settled each = grind arith
-  all_read n (s ∷ ss) [] highs same told runs fed settled each = absurd (omega arith)
-  all_read n (s ∷ ss) (f ∷ fs) [] same told runs fed settled each = absurd runs
   all_read n (s ∷ ss) (f ∷ fs) (i ∷ is) same told runs fed settled each =
       let t = text_or (text s) in
       let is_text = is_told (text s) told.0 in
@@ -54,6 +51,7 @@ module _ (limit : ℕ) (past : List ℕ → Bool) (upward : IsUpward past) (upto
       filter-append (is_read limit past upward upto) i (all_lines is)
       ∙ ap₂ (λ u v. u ++ v) here (all_read (n + 1) ss fs is (omega arith) told.1 runs.1 fed.1 settled.1 parts.1)
       ∙ sym (filter-append (stays limit past upward) first others)
+  all_read n ss fs highs same told runs fed settled each = grind arith
 
 -- ---- where a merge of indexes came to
 

@@ -59,18 +59,19 @@ module _ (wanted test : Member → Bool) (passes : (m : Member) → wanted m ≡
       → filter wanted (rising member_place place_cmp xs) ≡ []
   none_wanted xs h = grind (arith, filter_none, each_weaker, each_rising, place_cmp_total)
 
+wanted_parts : (wanted low : Member → Bool) → IsLower member_place place_cmp low → (xs : List Member)
+    → filter wanted (rising member_place place_cmp xs)
+    ≡ filter wanted (rising member_place place_cmp (filter low xs))
+    ++ filter wanted (rising member_place place_cmp (filter (λ m. not (low m)) xs))
+wanted_parts wanted low lower xs = ap (filter wanted) (rising_split member_place place_cmp place_cmp_total low lower xs)
+    ∙ filter-append wanted _ _
+
 -- the first lines
 pub wanted_low : (wanted low : Member → Bool) → IsLower member_place place_cmp low
     → ((m : Member) → wanted m ≡ true → low m ≡ true)
     → (xs : List Member) → filter wanted (rising member_place place_cmp xs)
     ≡ filter wanted (rising member_place place_cmp (filter low xs))
-wanted_low wanted low lower passes xs =
-    ap (filter wanted) (grind (arith, rising_split, place_cmp_total))
-    ∙ filter-append wanted (rising member_place place_cmp (filter low xs))
-    (rising member_place place_cmp (filter (λ m. not (low m)) xs))
-    ∙ ap (λ l. filter wanted (rising member_place place_cmp (filter low xs)) ++ l)
-    (grind (arith, none_wanted, filter_out))
-    ∙ append-nil (filter wanted (rising member_place place_cmp (filter low xs)))
+wanted_low wanted low lower passes xs = grind (arith, wanted_parts wanted low lower xs, none_wanted, filter_out, append-nil)
 
 -- the last lines
 pub wanted_high : (wanted low : Member → Bool) → IsLower member_place place_cmp low
@@ -78,27 +79,21 @@ pub wanted_high : (wanted low : Member → Bool) → IsLower member_place place_
     → (xs : List Member) → filter wanted (rising member_place place_cmp xs)
     ≡ filter wanted (rising member_place place_cmp (filter (λ m. not (low m)) xs))
 wanted_high wanted low lower passes xs =
-    ap (filter wanted) (rising_split member_place place_cmp place_cmp_total low lower xs)
-    ∙ filter-append wanted (rising member_place place_cmp (filter low xs))
-    (rising member_place place_cmp (filter (λ m. not (low m)) xs))
-    ∙ ap (λ l. l ++ filter wanted (rising member_place place_cmp (filter (λ m. not (low m)) xs)))
-    (none_wanted wanted (λ m. not (low m)) (λ m h. ap not (passes m h)) (filter low xs)
-    (each_weaker (λ (m : Member) (e : low m ≡ true). ap not e) (filter low xs) (filter_in xs)))
+    grind (arith, wanted_parts wanted low lower xs, filter_none, each_rising, place_cmp_total, not_low xs)
   where
-    filter_in : (us : List Member) → AllByRecursion (λ m. low m ≡ true) (filter low us)
-    filter_in [] = tt
-    filter_in (u ∷ us) = grind (arith, filter_in us)
+    not_low : (us : List Member) → AllByRecursion (λ m. wanted m ≡ false) (filter low us)
+    not_low [] = tt
+    not_low (u ∷ us) = grind (arith, not_low us, passes u)
 
 -- ---- one source
 
 pub members_are : (limit : ℕ) (ls : List (List ℕ)) (ms : List Member) → map (line_entry limit) ls ≡ map Some ms
     → map (member_of limit) ls ≡ ms
 members_are limit [] [] e = refl
-members_are limit [] (m ∷ ms) e = cc
-members_are limit (l ∷ ls) [] e = cc
 members_are limit (l ∷ ls) (m ∷ ms) e =
     let rest : map (line_entry limit) ls ≡ map Some ms = cc in
     grind (arith, members_are limit ls ms rest)
+members_are limit ls ms e = cc
 
 module _ (limit : ℕ) (past : List ℕ → Bool) (upward : IsUpward past) where
   -- the key doesn't lie past the range

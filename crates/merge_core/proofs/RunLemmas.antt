@@ -2,7 +2,7 @@
 use Rattle.std.specs.List.{AllZip, AllByRecursion, sum}
 use Rattle.std.proofs.Common.{◌≡◌, ◌⊎◌, ℕ, ◌+◌, List, [], ◌∷◌, ◌++◌, length, drop, map, filter, Bool, true}
 use Rattle.std.proofs.Common.{not, Option, Some, refl, ap, arith, take-append-drop, append_assoc}
-use Rattle.std.proofs.lemmas.List.{length-map}
+use Rattle.std.proofs.lemmas.List.{length-map, nil_from_length}
 use Rattle.std.proofs.lemmas.List.Elements.{filter-append}
 use Rattle.std.proofs.lemmas.List.Sums.{sum_by-cons}
 use Rattle.cdxj_places.specs.Pairs.{Pair}
@@ -55,24 +55,17 @@ module _ (limit : ℕ) (past : List ℕ → Bool) {S : Type 0} (text : S → Opt
   pub parts_are : (n : ℕ) (ss : List S) (fs : List Feed) (texts : List (List ℕ)) (whole : Bool) → length ss ≡ length fs
       → Known (map text ss) texts → AreFed limit past text extent n ss fs ws → AreSettled fs
       → (whole ≡ true → ws ≡ []) → AllZip (IsPart limit past whole) texts (parts limit text ss fs)
-  parts_are n [] [] [] whole same known fed settled none = tt
-  parts_are n [] fs (t ∷ ts) whole same known fed settled none = absurd known
-  parts_are n [] (f ∷ fs) [] whole same known fed settled none = absurd (omega arith)
-  parts_are n (s ∷ ss) [] texts whole same known fed settled none = absurd (omega arith)
-  parts_are n (s ∷ ss) (f ∷ fs) [] whole same known fed settled none = absurd known
   parts_are n (s ∷ ss) (f ∷ fs) (t ∷ ts) whole same known fed settled none = (
     rw known.0 (part_is limit past whole (rw known.0 at fed.0) settled.0 (λ e. ap (waits_of n) (none e))),
     parts_are (n + 1) ss fs ts whole (omega arith) known.1 fed.1 settled.1 none,
   )
+  parts_are n ss fs ts whole same known fed settled none = grind arith
 
   -- they have as many lines as were counted
   pub parts_count : (n : ℕ) (ss : List S) (fs : List Feed) → length ss ≡ length fs → AreTold text ss
       → AreFed limit past text extent n ss fs ws
       → sum (map (λ (f : Feed). f.cursor.count) fs)
       ≡ sum (map (λ (ms : List Member). length ms) (parts limit text ss fs))
-  parts_count n [] [] same told fed = refl
-  parts_count n [] (f ∷ fs) same told fed = absurd (omega arith)
-  parts_count n (s ∷ ss) [] same told fed = absurd (omega arith)
   parts_count n (s ∷ ss) (f ∷ fs) same told fed =
       let t = text_or (text s) in
       let many = (fed.0.told t (is_told (text s) told.0)).as_many in
@@ -82,6 +75,7 @@ module _ (limit : ℕ) (past : List ℕ → Bool) {S : Type 0} (text : S → Opt
       let b = sum_by-cons (λ (k : ℕ). k) (length (given limit t f.cursor))
       (map (λ (ms : List Member). length ms) (parts limit text ss fs)) in
       omega arith
+  parts_count n ss fs same told fed = grind (arith, nil_from_length)
 
   module _ (upward : IsUpward past) (upto : Member → Bool)
       (late : AllByRecursion (λ (w : WaitingLine). IsLate limit past upward upto w.member) ws) where
@@ -90,8 +84,6 @@ module _ (limit : ℕ) (past : List ℕ → Bool) {S : Type 0} (text : S → Opt
         → AllByRecursion (λ m. upto m ≡ true) (all_done limit text ss fs)
         → filter (is_read limit past upward upto) (all_lines (parts limit text ss fs))
         ≡ filter (stays limit past upward) (all_done limit text ss fs)
-    parts_read n [] fs same told fed settled each = refl
-    parts_read n (s ∷ ss) [] same told fed settled each = absurd (omega arith)
     parts_read n (s ∷ ss) (f ∷ fs) same told fed settled each =
         let t = text_or (text s) in
         let first = done limit t f in
@@ -107,6 +99,7 @@ module _ (limit : ℕ) (past : List ℕ → Bool) {S : Type 0} (text : S → Opt
           parts_read (n + 1) ss fs (omega arith) told.1 fed.1 settled.1
               cut.1,
         )
+    parts_read n ss fs same told fed settled each = grind arith
 
 -- ---- where a merge came to
 

@@ -1,6 +1,6 @@
 -- The lines that were taken of sources are lines of theirs.
 use Rattle.std.proofs.Common.{◌≡◌, ◌⊎◌, inl, inr, ℕ, zero, suc, ◌+◌, ◌-◌, List, [], ◌∷◌, ◌++◌, length, take}
-use Rattle.std.proofs.Common.{drop, map, zip, Bool, true, Option, None, Some, refl, sym, ◌∙◌}
+use Rattle.std.proofs.Common.{arith, drop, map, zip, Bool, true, Option, None, Some, refl, sym, ◌∙◌}
 use Rattle.std.proofs.lemmas.Slice.Zip.{AllZip-long}
 use Rattle.std.specs.List.{AllByRecursion}
 use Rattle.std.specs.Option.{is_some}
@@ -22,10 +22,9 @@ use Rattle.merge_core.proofs.Many.{Move, is_told, told_moved, length_zip}
 use Rattle.merge_core.proofs.WholeLemmas.{texts_kept}
 
 in_take : {X : Type 0} (x : X) (n : ℕ) (xs : List X) → IsIn x (take n xs) → IsIn x xs
-in_take x zero xs h = absurd h
-in_take x (suc n) [] h = absurd h
 in_take x (suc n) (y ∷ ys) (inl e) = inl e
 in_take x (suc n) (y ∷ ys) (inr h) = inr (in_take x n ys h)
+in_take x n ys h = absurd h
 
 in_later : {X : Type 0} (x : X) (us vs : List X) → IsIn x vs → IsIn x (us ++ vs)
 in_later x [] vs h = h
@@ -67,28 +66,22 @@ module _ (limit : ℕ) where
     all_lines_of : (past : List ℕ → Bool) (n : ℕ) (ss : List S) (fs : List Feed) (ws : List WaitingLine)
         → AreTold text ss → AreFed limit past text extent n ss fs ws
         → AllByRecursion (IsLineOf limit (map text ss)) (all_done limit text ss fs)
-    all_lines_of past n [] fs ws told fed = tt
-    all_lines_of past n (s ∷ ss) [] ws told fed = tt
     all_lines_of past n (s ∷ ss) (f ∷ fs) ws told fed =
-        let t = text_or (text s) in
-        each_join (IsLineOf limit (map text (s ∷ ss))) (done limit t f) (all_done limit text ss fs)
-        (each_weaker (λ (m : Member) (h : IsLineIn limit t m). first_source (text s) (map text ss) m h) (done limit t f)
-        (done_lines (rw (is_told (text s) told.0) at fed.0)))
-        (each_weaker (λ (m : Member) (h : IsLineOf limit (map text ss) m). later_source (text s) (map text ss) m h)
-        (all_done limit text ss fs) (all_lines_of past (n + 1) ss fs ws told.1 fed.1))
+        let others = all_lines_of past (n + 1) ss fs ws told.1 fed.1 in
+        let here = done_lines (rw (is_told (text s) told.0) at fed.0) in
+        grind (arith, each_join, each_weaker, first_source, later_source)
+    all_lines_of past n ss fs ws told fed = tt
 
     -- all sources tell their bytes, or one doesn't
     told_or : (ss : List S) → AreTold text ss ⊎ ((m : Member) → HasEntry limit m → IsLineOf limit (map text ss) m)
     told_or [] = inl tt
-    told_or (s ∷ ss) = elim (told_or ss) [
-      | inl h ↦ elim (one (text s)) [ inl e ↦ inl (e, h) | inr f ↦ inr f ]
-      | inr f ↦ inr (λ m e. later_source (text s) (map text ss) m (f m e))
-    ]
+    told_or (s ∷ ss) = more (text s) (told_or ss)
       where
-        one : (o : Option (List ℕ)) → (is_some o ≡ true)
-            ⊎ ((m : Member) → HasEntry limit m → IsLineOf limit (o ∷ map text ss) m)
-        one None = inr (λ m e. inl e)
-        one (Some t) = inl refl
+        more : (o : Option (List ℕ)) → AreTold text ss ⊎ ((m : Member) → HasEntry limit m → IsLineOf limit (map text ss) m)
+            → ((is_some o ≡ true) × AreTold text ss) ⊎ ((m : Member) → HasEntry limit m → IsLineOf limit (o ∷ map text ss) m)
+        more None h = inr (λ m e. inl e)
+        more (Some t) (inl h) = inl (refl, h)
+        more (Some t) (inr f) = inr (λ m e. inr (f m e))
 
     -- what was taken are lines of the sources
     pub taken_lines : (past : List ℕ → Bool) (gave : S → ℕ) (ss0 : List S) (fs0 : List Feed) (ss : List S)

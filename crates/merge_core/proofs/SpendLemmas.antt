@@ -1,9 +1,10 @@
 -- How far sources were read.
+use Rattle.std.proofs.lemmas.Grind.{drop_more_same}
 use Rattle.std.proofs.lemmas.List.{take-map}
 use Rattle.std.specs.List.{AllZip, AllByRecursion}
 use Rattle.std.proofs.Common.{◌≡◌, ℕ, zero, suc, ◌+◌, ◌-◌, ◌*◌, ◌≤◌, List, [], ◌∷◌, ◌++◌, length, take, drop, map}
 use Rattle.std.proofs.Common.{flat_map, get_or, set, Bool, false, Option, None, Some, refl, sym, ap, ◌∙◌, arith}
-use Rattle.std.proofs.Common.{append_assoc, append-nil, take-append-drop, length-append, length-drop, drop-drop}
+use Rattle.std.proofs.Common.{append_assoc, append-nil, take-append-drop, length-append, length-drop}
 use Rattle.std.proofs.Common.{drop-set-lt, get_or-drop}
 use Rattle.std.proofs.lemmas.List.Concat.{flat_map-append}
 use Rattle.cdxj_places.specs.Pairs.{Pair}
@@ -24,20 +25,17 @@ use Rattle.merge_core.proofs.GroupLemmas.{each_cut}
 use Rattle.merge_core.proofs.Many.{zip_set, each_replaced}
 
 longest_later : (k : ℕ) (ls : List (List ℕ)) → longest (drop k ls) ≤ longest ls
-longest_later zero ls = omega arith
-longest_later (suc k) [] = omega arith
 longest_later (suc k) (l ∷ ls) = let h = longest_later k ls in omega arith
+longest_later k ls = omega arith
 
 longest_front : (k : ℕ) (ls : List (List ℕ)) → longest (take k ls) ≤ longest ls
-longest_front zero ls = omega arith
-longest_front (suc k) [] = omega arith
 longest_front (suc k) (l ∷ ls) = let h = longest_front k ls in omega arith
+longest_front k ls = omega arith
 
 -- one line at most
 one_line : (ls : List (List ℕ)) → length ls ≤ 1 → bytes_of ls ≤ longest ls
-one_line [] h = omega arith
 one_line (l ∷ []) h = omega (arith, ap length (append-nil l))
-one_line (l ∷ k ∷ ls) h = absurd (omega arith)
+one_line ls h = omega arith
 
 module _ {limit : ℕ} {past : List ℕ → Bool} {t : List ℕ} {extent : ℕ} {f : Feed} {ws : List Member} {b : Option Pair}
     {new : CursorState} (fed : Fed limit past (Some t) extent f ws)
@@ -56,14 +54,11 @@ module _ {limit : ℕ} {past : List ℕ → Bool} {t : List ℕ} {extent : ℕ} 
       record {
         read = front;
         rest = back ++ drop f.cursor.count from;
-        cut = ap (λ s. lines (drop s t)) start ∙ sym (take-append-drop f.cursor.count from)
-            ∙ ap (λ ls. ls ++ drop f.cursor.count from) (sym (take-append-drop k all))
-            ∙ append_assoc front back (drop f.cursor.count from);
+        cut = rw (start, ← append_assoc, take-append-drop, take-append-drop);
         members = done limit t f;
         entries = sym (take-map (line_entry limit) k all) ∙ ap (take k) told.run.entries
             ∙ take-map Some k (given limit t f.cursor);
-        within = each_both (λ (m : Member). past m.values.key ≡ false) (λ m. IsUpto b (member_pair m)) (done limit t f)
-            told.within upto;
+        within = grind (arith, each_both);
         most = omega (
           arith,
           told.stood,
@@ -85,14 +80,13 @@ module _ (limit : ℕ) (past : List ℕ → Bool) where
     pub are_read_to : (n : ℕ) (ss : List S) (fs : List Feed) (ws : List WaitingLine)
         → AreFed limit past text extent n ss fs ws
         → AllByRecursion (λ m. IsUpto b (member_pair m)) (all_done limit text ss fs) → AreReadTo limit past text b ss fs
-    are_read_to n [] fs ws fed upto = tt
-    are_read_to n (s ∷ ss) [] ws fed upto = tt
     are_read_to n (s ∷ ss) (f ∷ fs) ws fed upto =
         let parts = each_cut (λ m. IsUpto b (member_pair m)) (done limit (text_or (text s)) f)
         (all_done limit text ss fs) upto in (
           λ t e. read_to (rw e at fed.0) (grind arith) refl (omega arith) fed.0.stands.filled.most,
           are_read_to (n + 1) ss fs ws fed.1 parts.1,
         )
+    are_read_to n ss fs ws fed upto = tt
 
     -- one of them was read on
     pub read_on : (ss : List S) (fs : List Feed) (i : ℕ) (s : S) (f : Feed) → AreReadTo limit past text b ss fs
@@ -103,10 +97,8 @@ module _ (limit : ℕ) (past : List ℕ → Bool) where
     -- the next line of one of them is to be read
     pub due_read : (ss : List S) (fs : List Feed) (i : ℕ) (d : Feed) → AreReadTo limit past text b ss fs
         → AreReadTo limit past text b ss (set fs i (due (get_or fs i d)))
-    due_read [] fs i d h = tt
-    due_read (s ∷ ss) [] i d h = grind arith
-    due_read (s ∷ ss) (f ∷ fs) zero d h = h
     due_read (s ∷ ss) (f ∷ fs) (suc i) d h = (h.0, due_read ss fs i d h.1)
+    due_read ss fs i d h = grind arith
 
 -- ---- the opening of sources
 
@@ -132,10 +124,8 @@ opened_none text extent gave (s ∷ ss) = ((λ t e. omega arith), opened_none te
 
 pub two_put : {X Y : Type 0} (R : X → Y → Type 0) (xs : List X) (ys : List Y) (i : ℕ) (d : X) (y : Y) → AllZip R xs ys
     → R (get_or xs i d) y → AllZip R xs (set ys i y)
-two_put R [] ys i d y h r = grind arith
-two_put R (x ∷ xs) [] i d y h r = absurd h
-two_put R (x ∷ xs) (z ∷ ys) zero d y h r = (r, h.1)
 two_put R (x ∷ xs) (z ∷ ys) (suc i) d y h r = (h.0, two_put R xs ys i d y h.1 r)
+two_put R xs ys i d y h r = grind arith
 
 -- what is left of a list that was gone over up to an index
 pub left_here : {X : Type 0} (old xs : List X) (i : ℕ) (d : X) → drop i xs ≡ drop i old → get_or xs i d ≡ get_or old i d
@@ -146,5 +136,4 @@ left_here {X = X} old xs i d e = sym (first xs) ∙ ap (λ l. get_or l 0 d) e �
 
 pub left_after : {X : Type 0} (old xs : List X) (i : ℕ) (y : X) → drop i xs ≡ drop i old → drop (i + 1) (set xs i y)
     ≡ drop (i + 1) old
-left_after old xs i y e = drop-set-lt (i + 1) xs i y (omega arith) ∙ sym (drop-drop 1 i xs) ∙ ap (drop 1) e
-    ∙ drop-drop 1 i old
+left_after old xs i y e = grind (arith, drop-set-lt, drop_more_same)
