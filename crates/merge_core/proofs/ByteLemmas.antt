@@ -62,20 +62,20 @@ front_of (u ∷ us) zs (v ∷ vs) e =
 module _ (limit : ℕ) (past : List ℕ → Bool) (start : Pair) (b : Option Pair) (test : Member → Bool)
     (passes : (m : Member) → past m.values.key ≡ false → is_low start m ≡ false → IsUpto b (member_pair m) → test m
     ≡ true) where
+  each_passes : (ms : List Member) → AllByRecursion (λ m. (past m.values.key ≡ false) × IsUpto b (member_pair m)) ms
+      → AllByRecursion (λ m. is_low start m ≡ false) ms → AllByRecursion (λ m. test m ≡ true) ms
+  each_passes [] within not_low = tt
+  each_passes (m ∷ ms) within not_low =
+      (passes m within.0.0 not_low.0 within.0.1, each_passes ms within.1 not_low.1)
+
   source_bytes : (t : List ℕ) (ms : List Member) (c : CursorState) → IsIndex limit t ms → IsCut start t ms c.start
       → (r : ReadTo limit past b t c) → bytes_of r.read ≤ length (lines_text (filter test ms))
   source_bytes t ms c index cut r =
       let run = run_after limit start t ms c.start index cut in
-      let both : map Some r.members ++ map (line_entry limit) r.rest ≡ map Some cut.high =
-      ap (λ l. l ++ map (line_entry limit) r.rest) (sym r.entries) ∙ sym (map-append (line_entry limit) r.read r.rest)
-      ∙ ap (map (line_entry limit)) (sym r.cut) ∙ run.0.entries in
+      let both : map Some r.members ++ map (line_entry limit) r.rest ≡ map Some cut.high = grind (arith, map-append) in
       let tail = front_of r.members (map (line_entry limit) r.rest) cut.high both in
       let not_low = (each_cut (λ m. is_low start m ≡ false) r.members tail.0 (rw (← tail.1) cut.none_below)).0 in
-      let all_pass : AllByRecursion (λ m. test m ≡ true) r.members =
-      each_weaker (λ (m : Member) (h : ((past m.values.key ≡ false) × IsUpto b (member_pair m))
-      × (is_low start m ≡ false)). passes m h.0.0 h.1 h.0.1) r.members
-      (each_both (λ m. (past m.values.key ≡ false) × IsUpto b (member_pair m)) (λ m. is_low start m ≡ false) r.members
-      r.within not_low) in
+      let all_pass = each_passes r.members r.within not_low in
       grind (arith, filter-append, filter_all, rows_most, text_append)
 
   module _ {S : Type 0} (text : S → Option (List ℕ)) (extent gave : S → ℕ) where

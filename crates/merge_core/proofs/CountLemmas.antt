@@ -1,29 +1,119 @@
--- How many lines were read of indexes.
-use Rattle.std.proofs.lemmas.List.{take-map, length-map, nil_from_length}
+-- How many lines were read of indexes, and are held at once.
+use Rattle.std.proofs.lemmas.List.{take-map, length-map, map-append, nil_from_length}
 use Rattle.std.specs.List.{AllZip, AllByRecursion, sum}
-use Rattle.std.proofs.Common.{◌≡◌, ℕ, ◌+◌, ◌-◌, ◌≤◌, List, [], ◌∷◌, length, drop, map, filter, zip, Bool, true}
-use Rattle.std.proofs.Common.{false, Option, Some, refl, ap, arith, length-append, length-take}
+use Rattle.std.proofs.Common.{◌≡◌, ℕ, zero, suc, ◌+◌, ◌<◌, ◌≤◌, List, [], ◌∷◌, ◌++◌, length, take, drop, map, filter, Bool}
+use Rattle.std.proofs.Common.{true, false, not, Option, Some, refl, sym, ap, ◌∙◌, arith, length-append, Ordering, is_gt}
+use Rattle.std.proofs.Common.{is_lt, is_eq, ◌-◌, zip, length-take}
+use Rattle.merge_core.proofs.Filters.{each_filter, filter_split, filter_fewer, filter_weaker, filter_front, filter_back}
 use Rattle.merge_core.proofs.Filters.{each_take, each_both}
 use Rattle.std.proofs.lemmas.List.Elements.{filter-append}
-use Rattle.std.proofs.lemmas.List.Sums.{sum_by-cons}
-use Rattle.cdxj_places.specs.Pairs.{Pair}
+use Rattle.cdxj_places.specs.Pairs.{Pair, pair_cmp}
 use Rattle.cdxj_places.specs.TextLines.{lines}
 use Rattle.cdxj_places.proofs.RisingLaws.{each_weaker}
 use Rattle.cdxj_core.specs.Indexes.{IsIndex}
 use Rattle.cdxj_core.specs.Members.{Member, member_pair}
+use Rattle.merge_core.specs.declared.feed.Feed.{Feed}
+use Rattle.line_queue.specs.PairOrders.{Upto, is_low, IsUpto}
+use Rattle.line_queue.specs.WaitingLines.{WaitingLine, is_of, waits_of}
+use Rattle.merge_core.specs.Collections.{Known, OverIndexes, all_lines}
+use Rattle.merge_core.specs.Counts.{is_at, ShareAtMost}
+use Rattle.merge_core.specs.Feeds.{Fed, AreFed, member_of, given, done, held}
+use Rattle.merge_core.specs.Gathering.{Grouped, all_done, text_or}
+use Rattle.merge_core.specs.Reached.{Reached}
+use Rattle.merge_core.proofs.MergeLemmas.{gathered_now}
+use Rattle.merge_core.proofs.ReadLines.{members_are}
+use Rattle.merge_core.proofs.StreamLemmas.{few_wait}
+use Rattle.merge_core.proofs.WholeLemmas.{told_known, texts_kept}
+use Rattle.std.proofs.lemmas.List.Sums.{sum_by-cons}
+use Rattle.std.proofs.lemmas.List.Filters.{length-filter_both}
 use Rattle.source_core.specs.Search.{IsCut}
 use Rattle.merge_core.specs.declared.feed.Progress.{Progress}
-use Rattle.merge_core.specs.declared.feed.Feed.{Feed}
-use Rattle.line_queue.specs.PairOrders.{IsUpto, is_low}
-use Rattle.line_queue.specs.WaitingLines.{WaitingLine}
-use Rattle.merge_core.specs.Collections.{Known, all_lines}
-use Rattle.merge_core.specs.Feeds.{AreFed, Fed, done, given, held, member_of}
-use Rattle.merge_core.specs.Gathering.{text_or, all_done}
 use Rattle.merge_core.specs.Openings.{IsCutAt}
 use Rattle.merge_core.proofs.GroupLemmas.{each_cut, filter_all}
-use Rattle.merge_core.proofs.HeldLemmas.{done_fewer}
-use Rattle.merge_core.proofs.ReadLines.{members_are}
 use Rattle.merge_core.proofs.StartLemmas.{run_after}
+
+-- ---- the lines that wait: one of each source at most
+
+few_of : (n : ℕ) (ws : List WaitingLine) → AllByRecursion (λ (w : WaitingLine). w.source < n) ws
+    → ((i : ℕ) → i < n → length (waits_of i ws) ≤ 1) → length ws ≤ n
+few_of zero [] placed few = omega arith
+few_of zero (w ∷ ws) placed few = grind arith
+few_of (suc n) ws placed few =
+    let others = filter (λ w. not (is_of n w)) ws in
+    let split = length-filter_both (is_of n) (λ w. not (is_of n w)) (λ w. refl) ws in
+    let one = few n (omega arith) in
+    let same = length-map (filter (is_of n) ws) (λ (w : WaitingLine). w.member) in
+    let fewer = few_of n others
+    (each_weaker (λ (w : WaitingLine) (h : (w.source < suc n) × (not (is_of n w) ≡ true)). before w h) others
+    (each_filter (λ (w : WaitingLine). w.source < suc n) (λ w. not (is_of n w)) ws placed))
+    (λ i l. let k = few i (omega arith) in grind (arith, length-map, filter_fewer)) in
+    omega arith
+  where
+    before : (w : WaitingLine) → (w.source < suc n) × (not (is_of n w) ≡ true) → w.source < n
+    before w h = grind arith
+
+-- ---- the lines of a group
+
+-- what is done of an index is among its lines
+pub done_fewer : {limit : ℕ} {past : List ℕ → Bool} {t : List ℕ} {extent : ℕ} {f : Feed} {ws ms : List Member}
+    (test : Member → Bool) → Fed limit past (Some t) extent f ws → IsIndex limit t ms
+    → length (filter test (done limit t f)) ≤ length (filter test ms)
+done_fewer {limit = limit} {t = t} {f = f} {ms = ms} test fed index =
+    let told = fed.told t refl in
+    let from = lines (drop f.cursor.start t) in
+    let whole : ms ≡ map (member_of limit) told.begins.0 ++ map (member_of limit) from =
+    sym (members_are limit (lines t) ms index.entries) ∙ ap (map (member_of limit)) told.begins.1.0
+    ∙ map-append (member_of limit) told.begins.0 from in
+    let read : given limit t f.cursor ≡ take f.cursor.count (map (member_of limit) from) =
+    sym (take-map (member_of limit) f.cursor.count from) in
+    grind (arith, filter_front, filter_back)
+
+module _ (limit : ℕ) (past : List ℕ → Bool) {S : Type 0} (text : S → Option (List ℕ)) (extent : S → ℕ) where
+  all_fewer : (n : ℕ) (ss : List S) (fs : List Feed) (ws : List WaitingLine) (texts : List (List ℕ))
+      (indexes : List (List Member)) (test : Member → Bool) → length ss ≡ length fs → Known (map text ss) texts
+      → AllZip (IsIndex limit) texts indexes
+      → AreFed limit past text extent n ss fs ws
+      → length (filter test (all_done limit text ss fs)) ≤ length (filter test (all_lines indexes))
+  all_fewer n (s ∷ ss) (f ∷ fs) ws (t ∷ ts) (i ∷ is) test e known are fed =
+      let here = done_fewer test (rw known.0 at fed.0) are.0 in
+      grind (
+        arith,
+        filter-append,
+        length-append,
+        all_fewer (n + 1) ss fs ws ts is test (omega arith) known.1 are.1
+            fed.1,
+      )
+  all_fewer n ss fs ws ts is test e known are fed = grind arith
+
+at_pair : (pair : Pair) (m : Member) → Upto (member_pair m) pair → not (is_low pair m) ≡ true → is_at pair m ≡ true
+at_pair pair m u = at_order (pair_cmp (member_pair m) pair) u
+  where
+    at_order : (r : Ordering) → is_gt r ≡ false → not (is_lt r) ≡ true → is_eq r ≡ true
+    at_order r g h = grind arith
+
+module _ {S : Type 0} {limit : ℕ} {text : S → Option (List ℕ)} {past : List ℕ → Bool} {extent gave : S → ℕ}
+    {old ss0 ss : List S} {old_fs fs0 fs : List Feed} {ws0 ws : List WaitingLine} {b c : Option Pair} {pair : Pair}
+    {taken more group : List Member} (was : Reached limit text past extent gave old old_fs ss0 fs0 ws0 b taken)
+    (grouped : Grouped limit text extent ss0 fs0 ws0 ss fs ws pair group)
+    (now : Reached limit text past extent gave old old_fs ss fs ws c more) (long : length ss ≡ length old)
+    (same : length old ≡ length old_fs) where
+  -- the lines that wait and the group are one line of each source, and as many as share a pair
+  pub held_most : OverIndexes limit (map text old) (λ texts indexes. (most : ℕ) → ShareAtMost most (all_lines indexes)
+      → length ws + length group ≤ length old + most)
+  held_most texts indexes known are most share =
+      let known_now = rw (← texts_kept text extent gave old ss old_fs fs same long now.moved) at known in
+      let gathered = gathered_now was grouped (told_known text old texts known) in
+      let all = all_done limit text ss fs in
+      let here = filter_weaker (λ m. not (is_low pair m)) (is_at pair) all
+      (each_weaker (λ (m : Member) (u : Upto (member_pair m) pair). at_pair pair m u) all gathered.upto) in
+      let there = all_fewer limit past text extent 0 ss fs ws texts indexes (is_at pair) now.ready.same known_now are
+      now.ready.fed in
+      let few = few_of (length ss) ws (rw (← now.ready.same) at now.ready.placed) (few_wait now.ready) in
+      let few_group : length group ≤ most = omega (arith, ap length gathered.taken) in
+      omega arith
+
+
+-- ---- the lines that were read
 
 pub one_held : (p : Progress) → held p ≤ 1
 one_held p = grind arith
@@ -33,6 +123,13 @@ one_held p = grind arith
 module _ (limit : ℕ) (past : List ℕ → Bool) (start : Pair) (b : Option Pair) (test : Member → Bool)
     (passes : (m : Member) → past m.values.key ≡ false → is_low start m ≡ false → IsUpto b (member_pair m) → test m
     ≡ true) where
+  each_passes : (ms : List Member) → AllByRecursion (λ m. past m.values.key ≡ false) ms
+      → AllByRecursion (λ m. is_low start m ≡ false) ms → AllByRecursion (λ m. IsUpto b (member_pair m)) ms
+      → AllByRecursion (λ m. test m ≡ true) ms
+  each_passes [] within not_low upto = tt
+  each_passes (m ∷ ms) within not_low upto =
+      (passes m within.0 not_low.0 upto.0, each_passes ms within.1 not_low.1 upto.1)
+
   source_most : {t : List ℕ} {extent : ℕ} {f : Feed} {ws ms : List Member} → Fed limit past (Some t) extent f ws
       → IsIndex limit t ms → IsCut start t ms f.cursor.start
       → AllByRecursion (λ m. IsUpto b (member_pair m)) (done limit t f) → f.cursor.count ≤ length (filter test ms) + 1
@@ -44,13 +141,7 @@ module _ (limit : ℕ) (past : List ℕ → Bool) (start : Pair) (b : Option Pai
       let not_low = each_take (λ m. is_low start m ≡ false) (f.cursor.count - held f.progress) (given limit t f.cursor)
       (rw (← take-map (member_of limit) f.cursor.count from) (each_take (λ m. is_low start m ≡ false) f.cursor.count
       (map (member_of limit) from) (rw high cut.none_below))) in
-      let all_pass : AllByRecursion (λ m. test m ≡ true) (done limit t f) =
-      each_weaker (λ (m : Member) (h : ((past m.values.key ≡ false) × (is_low start m ≡ false))
-      × IsUpto b (member_pair m)). passes m h.0.0 h.0.1 h.1) (done limit t f)
-      (each_both (λ m. (past m.values.key ≡ false) × (is_low start m ≡ false)) (λ m. IsUpto b (member_pair m))
-      (done limit t f)
-      (each_both (λ (m : Member). past m.values.key ≡ false) (λ m. is_low start m ≡ false) (done limit t f) told.within
-      not_low) upto) in
+      let all_pass = each_passes (done limit t f) told.within not_low upto in
       let fewer = done_fewer test fed index in
       grind (arith, one_held, length-map, filter_all, length-take)
 

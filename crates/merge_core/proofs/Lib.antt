@@ -1,7 +1,6 @@
 pub mod PairOrder
 pub mod Filters
 pub mod FeedLemmas
-pub mod BadLines
 pub mod StreamLemmas
 pub mod Many
 pub mod FailLemmas
@@ -20,4 +19,3 @@ pub mod CountLemmas
 pub mod SourceLemmas
 pub mod SpendLemmas
 pub mod ByteLemmas
-pub mod HeldLemmas

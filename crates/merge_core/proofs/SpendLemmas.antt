@@ -37,14 +37,14 @@ one_line : (ls : List (List ℕ)) → length ls ≤ 1 → bytes_of ls ≤ longes
 one_line (l ∷ []) h = omega (arith, ap length (append-nil l))
 one_line ls h = omega arith
 
-module _ {limit : ℕ} {past : List ℕ → Bool} {t : List ℕ} {extent : ℕ} {f : Feed} {ws : List Member} {b : Option Pair}
-    {new : CursorState} (fed : Fed limit past (Some t) extent f ws)
+module _ {limit : ℕ} {past : List ℕ → Bool} {text : Option (List ℕ)} {t : List ℕ} {extent : ℕ} {f : Feed}
+    {ws : List Member} {b : Option Pair} {new : CursorState} (fed : Fed limit past text extent f ws) (is : text ≡ Some t)
     (upto : AllByRecursion (λ m. IsUpto b (member_pair m)) (done limit t f)) where
   -- a cursor that passed one line more at most than those that the feed gave
   pub read_to : new.start ≡ f.cursor.start → new.at ≤ f.cursor.at + first_length (lines (drop f.cursor.at t))
       → length new.ahead ≤ 8192 → ReadTo limit past b t new
   read_to start near ahead =
-      let told = fed.told t refl in
+      let told = fed.told t is in
       let from = lines (drop f.cursor.start t) in
       let all = read_lines t f.cursor in
       let k = f.cursor.count - held f.progress in
@@ -83,7 +83,7 @@ module _ (limit : ℕ) (past : List ℕ → Bool) where
     are_read_to n (s ∷ ss) (f ∷ fs) ws fed upto =
         let parts = each_cut (λ m. IsUpto b (member_pair m)) (done limit (text_or (text s)) f)
         (all_done limit text ss fs) upto in (
-          λ t e. read_to (rw e at fed.0) (grind arith) refl (omega arith) fed.0.stands.filled.most,
+          λ t e. read_to fed.0 e (grind arith) refl (omega arith) fed.0.stands.filled.most,
           are_read_to (n + 1) ss fs ws fed.1 parts.1,
         )
     are_read_to n ss fs ws fed upto = tt

@@ -19,7 +19,7 @@ use Rattle.merge_core.specs.SourceLines.{HasEntry}
 use Rattle.merge_core.proofs.WholeLemmas.{texts_kept}
 use Rattle.merge_core.proofs.FailLemmas.{if_err}
 use Rattle.merge_core.proofs.Many.{Move, moved_trans, moved_still, told_moved}
-use Rattle.merge_core.proofs.HeldLemmas.{held_most}
+use Rattle.merge_core.proofs.CountLemmas.{held_most}
 use Rattle.merge_core.proofs.MergeLemmas.{above_none, below_next, handed_none, reached_next, on_err}
 use Rattle.devices.proofs.DeviceLemmas.{grows_not}
 use Rattle.merge_core.proofs.merging.merge.Given.{Over}

@@ -28,7 +28,7 @@ reads : (g : Over) (c : After-next_line g) (t : List ℕ) → g.S.Source.text c.
     → ReadTo LINE_LIMIT (g.R.Range.past c.args.range.now) None t c.next_line.new.cursor
 reads g c t e =
     let next = c.next_line.ensures in
-    read_to (rw e at c.requires.fed) (grind arith) next.start (next.most t e) next.ahead
+    read_to c.requires.fed e (grind arith) next.start (next.most t e) next.ahead
 
 pub returns-in_err-line-clause-reads : goal.returns-in_err-line-clause-reads
 returns-in_err-line-clause-reads g c = grind (arith, reads)

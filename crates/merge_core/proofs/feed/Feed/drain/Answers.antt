@@ -1,6 +1,5 @@
 use Rattle.std.proofs.lemmas.List.{map-append}
-use Rattle.std.proofs.Common.{◌≡◌, ℕ, List, Some, ◌∷◌, ◌++◌, [], Box, Global, map}
-use Rattle.std.proofs.Common.{refl, sym, ap, ◌∙◌, arith, append_assoc}
+use Rattle.std.proofs.Common.{◌≡◌, ℕ, List, Some, [], ◌∷◌, ◌++◌, Box, Global, map, refl, sym, ap, ◌∙◌, arith, append_assoc}
 use Rattle.std.specs.List.{AllByRecursion}
 use Rattle.std.specs.Ordering.{ordering_reverse}
 use Rattle.cdxj_core.specs.declared.limit.TheConstants.{LINE_LIMIT}
@@ -14,12 +13,11 @@ use Rattle.merge_core.specs.Feeds.{Fed, done}
 use Rattle.merge_core.specs.LineFaults.{NamesLine}
 use Rattle.merge_core.specs.Spending.{ReadTo}
 use Rattle.merge_core.proofs.SpendLemmas.{read_to}
-use Rattle.merge_core.proofs.BadLines.{bad_named, order_named}
+use Rattle.merge_core.proofs.FeedLemmas.{bad_named, order_named, LineRead, same_stays, fed_next, done_next, fed_taken}
+use Rattle.merge_core.proofs.FeedLemmas.{done_taken}
 use Rattle.merge_core.proofs.FailLemmas.{if_err}
 use Rattle.line_queue.proofs.PairOrder.{below_upto, same_upto, same_from, upto_upto}
 use Rattle.cdxj_places.proofs.RisingLaws.{each_join, each_weaker}
-use Rattle.merge_core.proofs.FeedLemmas.{LineRead, same_stays, fed_next, done_next, fed_taken}
-use Rattle.merge_core.proofs.FeedLemmas.{done_taken}
 use Rattle.merge_core.proofs.feed.Feed.drain.Given.{Over}
 use Rattle.merge_core.proofs.feed.Feed.drain.Goals.{After-next_line, In-Greater, In-Some}
 use Rattle.merge_core.proofs.feed.Feed.drain.Goals as goal
@@ -27,16 +25,8 @@ use Rattle.merge_core.proofs.feed.Feed.drain.Goals as goal
 -- a line that is above the first one
 above : (g : Over) (c : In-Greater g) → Below (member_pair c.args.first.now) (member_pair c.in-Some.line.value)
 above g c =
-    let first = member_pair c.args.first.now in
-    pair_cmp_total.antisymm first (member_pair c.in-Some.line.value)
-    ∙ ap (λ k. ordering_reverse (pair_cmp (member_pair k) first)) (sym c.deref.ensures)
-    ∙ ap ordering_reverse (sym c.compare_pairs.ensures ∙ c.in-Greater.is)
-
--- the source's text is what it was
-told : (g : Over) (c : After-next_line g) (t : List ℕ) → g.S.Source.text c.args.source.now ≡ Some t
-    → Fed LINE_LIMIT (g.R.Range.past c.args.range.now) (Some t) (g.S.Source.extent c.loop-line.source) c.loop-line.self
-    []
-told g c t e = grind arith
+    pair_cmp_total.antisymm (member_pair c.args.first.now) (member_pair c.in-Some.line.value)
+    ∙ ap ordering_reverse (grind arith)
 
 -- no line was read beyond the next one
 reads : (g : Over) (c : After-next_line g) (t : List ℕ) → g.S.Source.text c.args.source.now ≡ Some t
@@ -44,7 +34,7 @@ reads : (g : Over) (c : After-next_line g) (t : List ℕ) → g.S.Source.text c.
 reads g c t e =
     let inv = c.loop-line.invariant in
     let next = c.next_line.ensures in
-    read_to (told g c t e) (inv.low t e) next.start (next.most t (inv.text ∙ e)) next.ahead
+    read_to inv.fed (inv.text ∙ e) (inv.low t e) next.start (next.most t (inv.text ∙ e)) next.ahead
 
 pub returns-in-Greater-clause-later : goal.returns-in-Greater-clause-later
 returns-in-Greater-clause-later g c =
@@ -71,10 +61,10 @@ was_read g c f is up = record {
   start = grind arith;
   count = grind arith;
   near = grind arith;
-  next = λ t e. rw is (rw c.in-Some.is at (c.in_ok-line.ensures.given t (sym c.in_ok-line.ensures.text ∙ e)));
+  next = λ t e. rw is (rw c.in-Some.is at (c.in_ok-line.ensures.given t (cc)));
   low = λ t e. each_weaker (λ (k : Member) (q : Upto (member_pair k) (member_pair c.args.first.now)).
       upto_upto (member_pair k) (member_pair c.args.first.now) (member_pair c.in-Some.line.value) q up) _
-      (c.loop-line.invariant.low t (sym c.loop-line.invariant.text ∙ sym c.in_ok-line.ensures.text ∙ e));
+      (c.loop-line.invariant.low t (cc));
 }
 
 pub returns-in-Greater-clause-fed : goal.returns-in-Greater-clause-fed
@@ -101,47 +91,36 @@ loop-line-preserved g c =
     let first = member_pair c.args.first.now in
     let line = c.in-Some.line in
     let m = line.value in
-    let alike : Alike (member_pair m) first = ap (λ k. pair_cmp (member_pair k) first) (sym c.deref.ensures)
-    ∙ sym c.compare_pairs.ensures ∙ c.in-Equal.is in
+    let alike : Alike (member_pair m) first = grind arith in
     let f : Feed = record { cursor = c.next_line.new.cursor; progress = c.loop-line.self.progress } in
     let pushed : map (λ (b : Box Line Global). b.value) c.push.new.self.items
-    ≡ map (λ (b : Box Line Global). b.value) c.loop-line.rest.items ++ m ∷ [] =
-    ap (map (λ (b : Box Line Global). b.value)) c.in_ok-push-in-Equal.ensures.items
-    ∙ map-append (λ (b : Box Line Global). b.value) c.loop-line.rest.items (line ∷ []) in
+    ≡ map (λ (b : Box Line Global). b.value) c.loop-line.rest.items ++ m ∷ [] = grind (arith, map-append) in
     let up = same_from (member_pair m) first alike in
     let read = was_read g (goal.at.loop-line-preserved g c).In-Some f refl up in
     let more = done_taken read inv.due in
     record {
-      text = ok.text ∙ inv.text;
-      extent = ok.extent ∙ inv.extent;
-      failures = ok.failures ∙ inv.failures;
-      gave = omega (arith, ok.gave, inv.gave);
-      start = ok.start ∙ inv.start;
+      text = cc;
+      extent = cc;
+      failures = cc;
+      gave = omega arith;
+      start = cc;
       there = grind arith;
       fed = fed_taken read inv.due
           (λ t e. same_stays (g.R.Range.past c.args.range.now) first m (done LINE_LIMIT t c.loop-line.self)
-          (inv.fed.told t (sym ok.text ∙ e)).within (inv.low t (sym inv.text ∙ sym ok.text ∙ e))
-          (inv.last t (sym inv.text ∙ sym ok.text ∙ e)) alike);
+          (inv.fed.told t (cc)).within (inv.low t (cc)) (inv.last t (cc)) alike);
       due = inv.due;
       begin = c.at-begin-in-Some.ensures;
-      last = λ t e. (
-        done LINE_LIMIT t c.loop-line.self,
-        m,
-        more t (ok.text ∙ inv.text ∙ e),
-        up,
-      );
+      last = λ t e. (done LINE_LIMIT t c.loop-line.self, m, more t (cc), up);
       low = grind (arith, each_join, same_upto);
-      each = λ h. rw pushed (each_join (λ k. Alike (member_pair k) first) _ (m ∷ []) (inv.each h) (alike, tt));
+      each = grind (arith, each_join);
       taken = λ t e.
-          let h = inv.taken t e in
-          taken_more first _ _ _ h.0 _ _ _ m h.1 h.2 h.3 (more t (ok.text ∙ inv.text ∙ e)) pushed alike;
+          let h = inv.taken t e in let next = more t (cc) in grind (arith, append_assoc, each_join);
     }
 
 pub returns-in_err-line-clause-fault : goal.returns-in_err-line-clause-fault
 returns-in_err-line-clause-fault g c = λ t e.
-    if_err c.from_residual.result c.in_err-line.field-0.0 (NamesLine LINE_LIMIT t) c.from_residual.ensures.1
-    (bad_named (told g (goal.at.returns-in_err-line-clause-fault g c).After-next_line t e) c.in_err-line.field-0.0
-    (c.in_err-line.ensures.fault t (c.loop-line.invariant.text ∙ e)))
+    let fed = rw (c.loop-line.invariant.text ∙ e) at c.loop-line.invariant.fed in
+    grind (arith, if_err, bad_named fed)
 
 pub returns-in-Less-clause-fault : goal.returns-in-Less-clause-fault
 returns-in-Less-clause-fault g c = λ t e.
@@ -149,11 +128,10 @@ returns-in-Less-clause-fault g c = λ t e.
     let ok = c.in_ok-line.ensures in
     let first = member_pair c.args.first.now in
     let m = c.in-Some.line.value in
-    let below : Below (member_pair m) first = ap (λ k. pair_cmp (member_pair k) first) (sym c.deref.ensures)
-    ∙ sym c.compare_pairs.ensures ∙ c.in-Less.is in
-    rw (← inv.begin) at (order_named (told g (goal.at.returns-in-Less-clause-fault g c).After-next_line t e) first
+    let below : Below (member_pair m) first = grind arith in
+    rw (← inv.begin) at (order_named (rw (inv.text ∙ e) at inv.fed) first
     c.next_line.new.cursor m inv.due (inv.last t e) ok.start (rw c.in-Some.is at ok.count)
-    (rw c.in-Some.is at (ok.given t (inv.text ∙ e))) below)
+    (rw c.in-Some.is at (ok.given t (cc))) below)
 
 pub returns-in_err-line-clause-reads : goal.returns-in_err-line-clause-reads
 returns-in_err-line-clause-reads g c = grind (arith, reads)

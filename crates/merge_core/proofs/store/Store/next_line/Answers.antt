@@ -1,7 +1,6 @@
 use Rattle.std.proofs.Common.{arith, ◌≡◌, ◌∷◌, ℕ, List, Some, drop, sym, ap, ◌∙◌}
 use Rattle.cdxj_places.specs.TextLines.{lines}
-use Rattle.merge_core.proofs.BadLines.{first_long}
-use Rattle.merge_core.proofs.FeedLemmas.{one_more}
+use Rattle.merge_core.proofs.FeedLemmas.{first_long, one_more}
 use Rattle.merge_core.proofs.store.Store.next_line.Given.{Over}
 use Rattle.merge_core.proofs.store.Store.next_line.Goals.{After-line_of, After-pass_line}
 use Rattle.merge_core.proofs.store.Store.next_line.Goals as goal
