@@ -1,12 +1,11 @@
 -- How many bytes indexes gave.
 use Rattle.std.specs.List.{AllZip, AllByRecursion}
 use Rattle.std.proofs.Common.{◌≡◌, ℕ, ◌+◌, ◌-◌, ◌≤◌, List, [], ◌∷◌, ◌++◌, length, take, map, filter, zip, Bool, true}
-use Rattle.std.proofs.Common.{false, cond, Option, Some, refl, sym, ap, ◌∙◌, arith, length-append, length-take}
+use Rattle.std.proofs.Common.{false, cond, Option, Some, refl, ap, ◌∙◌, arith, length-append, length-take}
 use Rattle.std.proofs.lemmas.List.{map-append}
 use Rattle.std.proofs.lemmas.List.Concat.{flat_map-append}
 use Rattle.std.proofs.lemmas.List.Elements.{filter-append}
 use Rattle.cdxj_places.specs.Pairs.{Pair}
-use Rattle.cdxj_places.proofs.RisingLaws.{each_weaker}
 use Rattle.cdxj_core.specs.Indexes.{IsIndex}
 use Rattle.cdxj_core.specs.Lines.{body_of}
 use Rattle.cdxj_core.specs.Members.{Member, line_row, member_pair, line_entry}
@@ -20,7 +19,6 @@ use Rattle.merge_core.specs.Feeds.{bytes_of}
 use Rattle.merge_core.specs.Openings.{IsCutAt}
 use Rattle.merge_core.specs.Spending.{ReadTo, CameWithin, AllGaveWithin}
 use Rattle.merge_core.specs.Written.{lines_text}
-use Rattle.merge_core.proofs.Filters.{each_both}
 use Rattle.merge_core.proofs.GroupLemmas.{each_cut, filter_all}
 use Rattle.merge_core.proofs.Many.{Move}
 use Rattle.merge_core.proofs.StartLemmas.{run_after}

@@ -1,13 +1,12 @@
 -- How many lines were read of indexes, and are held at once.
 use Rattle.std.proofs.lemmas.List.{take-map, length-map, map-append, nil_from_length}
 use Rattle.std.specs.List.{AllZip, AllByRecursion, sum}
-use Rattle.std.proofs.Common.{◌≡◌, ℕ, zero, suc, ◌+◌, ◌<◌, ◌≤◌, List, [], ◌∷◌, ◌++◌, length, take, drop, map, filter, Bool}
-use Rattle.std.proofs.Common.{true, false, not, Option, Some, refl, sym, ap, ◌∙◌, arith, length-append, Ordering, is_gt}
-use Rattle.std.proofs.Common.{is_lt, is_eq, ◌-◌, zip, length-take}
-use Rattle.merge_core.proofs.Filters.{each_filter, filter_split, filter_fewer, filter_weaker, filter_front, filter_back}
-use Rattle.merge_core.proofs.Filters.{each_take, each_both}
+use Rattle.std.proofs.Common.{◌≡◌, ℕ, zero, suc, ◌+◌, ◌<◌, ◌≤◌, List, [], ◌∷◌, ◌++◌, length, take, drop, map, filter}
+use Rattle.std.proofs.Common.{Bool, true, false, not, Option, Some, refl, sym, ap, ◌∙◌, arith, length-append, ◌-◌, zip}
+use Rattle.std.proofs.Common.{length-take}
+use Rattle.merge_core.proofs.Filters.{filter_fewer, filter_weaker, filter_front, filter_back, each_take}
 use Rattle.std.proofs.lemmas.List.Elements.{filter-append}
-use Rattle.cdxj_places.specs.Pairs.{Pair, pair_cmp}
+use Rattle.cdxj_places.specs.Pairs.{Pair}
 use Rattle.cdxj_places.specs.TextLines.{lines}
 use Rattle.cdxj_places.proofs.RisingLaws.{each_weaker}
 use Rattle.cdxj_core.specs.Indexes.{IsIndex}
@@ -34,6 +33,11 @@ use Rattle.merge_core.proofs.StartLemmas.{run_after}
 
 -- ---- the lines that wait: one of each source at most
 
+others_before : (n : ℕ) (ws : List WaitingLine) → AllByRecursion (λ (w : WaitingLine). w.source < suc n) ws
+    → AllByRecursion (λ (w : WaitingLine). w.source < n) (filter (λ w. not (is_of n w)) ws)
+others_before n [] placed = tt
+others_before n (w ∷ ws) placed = grind (arith, others_before n ws placed.1)
+
 few_of : (n : ℕ) (ws : List WaitingLine) → AllByRecursion (λ (w : WaitingLine). w.source < n) ws
     → ((i : ℕ) → i < n → length (waits_of i ws) ≤ 1) → length ws ≤ n
 few_of zero [] placed few = omega arith
@@ -42,15 +46,9 @@ few_of (suc n) ws placed few =
     let others = filter (λ w. not (is_of n w)) ws in
     let split = length-filter_both (is_of n) (λ w. not (is_of n w)) (λ w. refl) ws in
     let one = few n (omega arith) in
-    let same = length-map (filter (is_of n) ws) (λ (w : WaitingLine). w.member) in
-    let fewer = few_of n others
-    (each_weaker (λ (w : WaitingLine) (h : (w.source < suc n) × (not (is_of n w) ≡ true)). before w h) others
-    (each_filter (λ (w : WaitingLine). w.source < suc n) (λ w. not (is_of n w)) ws placed))
+    let fewer = few_of n others (others_before n ws placed)
     (λ i l. let k = few i (omega arith) in grind (arith, length-map, filter_fewer)) in
-    omega arith
-  where
-    before : (w : WaitingLine) → (w.source < suc n) × (not (is_of n w) ≡ true) → w.source < n
-    before w h = grind arith
+    grind (arith, length-map)
 
 -- ---- the lines of a group
 
@@ -76,20 +74,12 @@ module _ (limit : ℕ) (past : List ℕ → Bool) {S : Type 0} (text : S → Opt
       → length (filter test (all_done limit text ss fs)) ≤ length (filter test (all_lines indexes))
   all_fewer n (s ∷ ss) (f ∷ fs) ws (t ∷ ts) (i ∷ is) test e known are fed =
       let here = done_fewer test (rw known.0 at fed.0) are.0 in
-      grind (
-        arith,
-        filter-append,
-        length-append,
-        all_fewer (n + 1) ss fs ws ts is test (omega arith) known.1 are.1
-            fed.1,
-      )
+      let rest = all_fewer (n + 1) ss fs ws ts is test (omega arith) known.1 are.1 fed.1 in
+      grind (arith, filter-append, length-append)
   all_fewer n ss fs ws ts is test e known are fed = grind arith
 
 at_pair : (pair : Pair) (m : Member) → Upto (member_pair m) pair → not (is_low pair m) ≡ true → is_at pair m ≡ true
-at_pair pair m u = at_order (pair_cmp (member_pair m) pair) u
-  where
-    at_order : (r : Ordering) → is_gt r ≡ false → not (is_lt r) ≡ true → is_eq r ≡ true
-    at_order r g h = grind arith
+at_pair pair m u = grind arith
 
 module _ {S : Type 0} {limit : ℕ} {text : S → Option (List ℕ)} {past : List ℕ → Bool} {extent gave : S → ℕ}
     {old ss0 ss : List S} {old_fs fs0 fs : List Feed} {ws0 ws : List WaitingLine} {b c : Option Pair} {pair : Pair}
@@ -103,15 +93,13 @@ module _ {S : Type 0} {limit : ℕ} {text : S → Option (List ℕ)} {past : Lis
   held_most texts indexes known are most share =
       let known_now = rw (← texts_kept text extent gave old ss old_fs fs same long now.moved) at known in
       let gathered = gathered_now was grouped (told_known text old texts known) in
-      let all = all_done limit text ss fs in
-      let here = filter_weaker (λ m. not (is_low pair m)) (is_at pair) all
-      (each_weaker (λ (m : Member) (u : Upto (member_pair m) pair). at_pair pair m u) all gathered.upto) in
+      let here = filter_weaker (λ m. not (is_low pair m)) (is_at pair) (all_done limit text ss fs)
+      (each_weaker (at_pair pair) _ gathered.upto) in
       let there = all_fewer limit past text extent 0 ss fs ws texts indexes (is_at pair) now.ready.same known_now are
       now.ready.fed in
       let few = few_of (length ss) ws (rw (← now.ready.same) at now.ready.placed) (few_wait now.ready) in
-      let few_group : length group ≤ most = omega (arith, ap length gathered.taken) in
-      omega arith
-
+      let taken = ap length gathered.taken in
+      grind arith
 
 -- ---- the lines that were read
 

@@ -1,8 +1,8 @@
 -- What one line more makes of a feed.
 use Rattle.std.proofs.lemmas.List.{map-append, take-map, take-take, drop_all}
-use Rattle.std.proofs.Common.{true, ◌⊎◌, ◌≡◌, Ordering, Equal, ℕ, suc, ◌+◌, ◌-◌, ◌≤◌, List, [], ◌∷◌, ◌++◌, length, refl, ap}
-use Rattle.std.proofs.Common.{◌∙◌, arith, Bool, false, Option, Some, None, take, drop, map, append-nil, length-append}
-use Rattle.std.proofs.Common.{◌<◌, cond, sym, ap₂, length-take, append_assoc, take-append-drop, is_gt}
+use Rattle.std.proofs.Common.{true, ◌⊎◌, ◌≡◌, Ordering, Equal, ℕ, suc, ◌+◌, ◌-◌, ◌≤◌, List, [], ◌∷◌, ◌++◌, length, refl}
+use Rattle.std.proofs.Common.{ap, ◌∙◌, arith, Bool, false, Option, Some, None, take, drop, map, append-nil}
+use Rattle.std.proofs.Common.{length-append, ◌<◌, cond, sym, ap₂, length-take, append_assoc, take-append-drop, is_gt}
 use Rattle.std.specs.List.{AllByRecursion}
 use Rattle.std.specs.Ordering.{nat_cmp, ordering_then, ordering_reverse}
 use Rattle.std.specs.Cmp.Lexicographic.{slice_cmp}
@@ -208,7 +208,6 @@ module _ {limit : ℕ} {past : List ℕ → Bool} {text : Option (List ℕ)} {ex
       head = grind (arith, done_due);
     };
   }
-
 
 -- ---- lines at fault, by where the cursor stands
 

@@ -1,6 +1,6 @@
 -- Lists that are filtered, and what holds of each of a list.
-use Rattle.std.proofs.Common.{◌≡◌, ℕ, zero, suc, ◌+◌, ◌≤◌, List, [], ◌∷◌, ◌++◌, length, take, drop, filter, Bool, true}
-use Rattle.std.proofs.Common.{false, not, refl, ap, arith, length-append, take-append-drop}
+use Rattle.std.proofs.Common.{◌≡◌, ℕ, suc, ◌+◌, ◌≤◌, List, [], ◌∷◌, ◌++◌, length, take, drop, filter, Bool, true, false}
+use Rattle.std.proofs.Common.{not, refl, ap, arith, length-append, take-append-drop}
 use Rattle.std.specs.List.{AllByRecursion}
 use Rattle.std.proofs.lemmas.Bool.{cond-true}
 use Rattle.std.proofs.lemmas.List.Elements.{filter-append}
@@ -22,11 +22,6 @@ pub filter_out : {X : Type 0} (f : X → Bool) (xs : List X)
 filter_out f [] = tt
 filter_out f (x ∷ xs) = grind (arith, filter_out f xs)
 
-pub filter_split : {X : Type 0} (f : X → Bool) (xs : List X) → length xs
-    ≡ length (filter f xs) + length (filter (λ x. not (f x)) xs)
-filter_split f [] = refl
-filter_split f (x ∷ xs) = grind (arith, filter_split f xs)
-
 pub filter_fewer : {X : Type 0} (f g : X → Bool) (xs : List X) → length (filter g (filter f xs)) ≤ length (filter g xs)
 filter_fewer f g [] = omega arith
 filter_fewer f g (x ∷ xs) = grind (arith, filter_fewer f g xs)
@@ -38,13 +33,7 @@ filter_weaker f g (x ∷ xs) h = grind (arith, cond-true, filter_weaker f g xs h
 
 pub filter_front : {X : Type 0} (f : X → Bool) (n : ℕ) (xs : List X)
     → length (filter f (take n xs)) ≤ length (filter f xs)
-filter_front f n xs =
-    omega (
-      arith,
-      ap (λ l. length (filter f l)) (take-append-drop n xs),
-      ap length (filter-append f (take n xs) (drop n xs)),
-      length-append (filter f (take n xs)) (filter f (drop n xs)),
-    )
+filter_front f n xs = let whole = take-append-drop n xs in grind (arith, filter-append f (take n xs), length-append)
 
 pub filter_back : {X : Type 0} (f : X → Bool) (us vs : List X) → length (filter f vs) ≤ length (filter f (us ++ vs))
 filter_back f us vs = grind (arith, filter-append, length-append)

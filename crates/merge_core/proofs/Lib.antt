@@ -7,7 +7,6 @@ pub mod FailLemmas
 pub mod GroupLemmas
 pub mod GatherSteps
 pub mod MergeLemmas
-pub mod WrittenLemmas
 pub mod OpenLemmas
 pub mod WholeLemmas
 pub mod ReadLines

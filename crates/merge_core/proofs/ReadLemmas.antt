@@ -1,7 +1,7 @@
 -- What was taken of sources that are indexes, beside all of their collection.
 use Rattle.std.specs.List.{AllZip, AllByRecursion}
 use Rattle.std.proofs.Common.{◌≡◌, ℕ, ◌+◌, List, [], ◌∷◌, ◌++◌, length, map, filter, zip, Bool, true, false, not}
-use Rattle.std.proofs.Common.{Option, sym, ap, ap₂, ◌∙◌, arith}
+use Rattle.std.proofs.Common.{Option, Some, sym, ap, ap₂, ◌∙◌, arith}
 use Rattle.std.proofs.lemmas.List.Elements.{filter-append}
 use Rattle.cdxj_places.specs.Pairs.{Pair}
 use Rattle.cdxj_places.specs.Places.{place_cmp}
@@ -13,7 +13,7 @@ use Rattle.merge_core.specs.declared.feed.Feed.{Feed}
 use Rattle.line_queue.specs.PairOrders.{IsAbove, Upto, is_low}
 use Rattle.line_queue.specs.WaitingLines.{WaitingLine, waiting_pair, waits_of}
 use Rattle.merge_core.specs.Collections.{Known, all_lines, collection}
-use Rattle.merge_core.specs.Feeds.{AreFed, AreSettled, done}
+use Rattle.merge_core.specs.Feeds.{AreFed, AreSettled, IsSettled, Fed, done}
 use Rattle.merge_core.specs.Gathering.{AreTold, text_or, all_done}
 use Rattle.merge_core.specs.Openings.{IsCutAt}
 use Rattle.merge_core.specs.Reached.{Reached}
@@ -35,23 +35,26 @@ module _ (limit : ℕ) (past : List ℕ → Bool) (upward : IsUpward past) (upto
   pub late_of : (n : ℕ) → AllByRecursion (IsLate limit past upward upto) (waits_of n ws)
   late_of n = grind (arith, each_waits, each_weaker)
 
-  all_read : (n : ℕ) (ss : List S) (fs : List Feed) (highs : List (List Member)) → length ss ≡ length fs
-      → AreTold text ss → AllZip (RunsFrom limit text) (zip ss fs) highs
-      → AreFed limit past text extent n ss fs ws → AreSettled fs
+  -- sources of which lines are known, by how the lines of one are read
+  pub all_read : (Lines : S × Feed → List Member → Type 0)
+      → ((s : S) (f : Feed) (own : List Member) → Fed limit past (Some (text_or (text s))) (extent s) f own
+      → IsSettled f → AllByRecursion (IsLate limit past upward upto) own
+      → AllByRecursion (λ m. upto m ≡ true) (done limit (text_or (text s)) f) → text s ≡ Some (text_or (text s))
+      → (ms : List Member) → Lines (s, f) ms
+      → filter (is_read limit past upward upto) ms ≡ filter (stays limit past upward) (done limit (text_or (text s)) f))
+      → (n : ℕ) (ss : List S) (fs : List Feed) (highs : List (List Member)) → length ss ≡ length fs
+      → AreTold text ss → AllZip Lines (zip ss fs) highs → AreFed limit past text extent n ss fs ws → AreSettled fs
       → AllByRecursion (λ m. upto m ≡ true) (all_done limit text ss fs)
       → filter (is_read limit past upward upto) (all_lines highs)
       ≡ filter (stays limit past upward) (all_done limit text ss fs)
-  all_read n (s ∷ ss) (f ∷ fs) (i ∷ is) same told runs fed settled each =
-      let t = text_or (text s) in
+  all_read Lines one n (s ∷ ss) (f ∷ fs) (i ∷ is) same told known fed settled each =
       let is_text = is_told (text s) told.0 in
-      let first = done limit t f in
-      let others = all_done limit text ss fs in
-      let parts = each_cut (λ m. upto m ≡ true) first others each in
-      let here = fed_read upward upto (rw is_text at fed.0) settled.0 (late_of n) parts.0 i (runs.0 t is_text) in
+      let cut = each_cut (λ m. upto m ≡ true) (done limit (text_or (text s)) f) (all_done limit text ss fs) each in
       filter-append (is_read limit past upward upto) i (all_lines is)
-      ∙ ap₂ (λ u v. u ++ v) here (all_read (n + 1) ss fs is (omega arith) told.1 runs.1 fed.1 settled.1 parts.1)
-      ∙ sym (filter-append (stays limit past upward) first others)
-  all_read n ss fs highs same told runs fed settled each = grind arith
+      ∙ ap₂ (λ u v. u ++ v) (one s f (waits_of n ws) (rw is_text at fed.0) settled.0 (late_of n) cut.0 is_text i known.0)
+      (all_read Lines one (n + 1) ss fs is (omega arith) told.1 known.1 fed.1 settled.1 cut.1)
+      ∙ sym (filter-append (stays limit past upward) (done limit (text_or (text s)) f) (all_done limit text ss fs))
+  all_read Lines one n ss fs highs same told known fed settled each = grind arith
 
 -- ---- where a merge of indexes came to
 
@@ -73,7 +76,10 @@ module _ {S : Type 0} (text : S → Option (List ℕ)) (extent gave : S → ℕ)
     above = reached.above;
     done = all_done limit text ss fs;
     handed = grind (arith, told_known);
-    read = λ upto late each. grind (arith, all_read, told_now, runs_kept);
+    read = λ upto late each. all_read limit past upward upto text extent ws late (RunsFrom limit text)
+        (λ s f own fed settled late each is ms run. fed_read upward upto fed settled late each ms (run _ is)) 0 ss fs highs
+        reached.ready.same told_now (runs_kept limit text extent gave (zip ss0 fs0) (zip ss fs) highs reached.moved runs)
+        reached.ready.fed reached.settled each;
   }
 
   -- sources that are read from where the search for this pair ended, below which nothing is wanted

@@ -1,9 +1,8 @@
 -- What was taken of sources of any bytes, beside the lines that were read of them.
-use Rattle.std.specs.List.{AllZip, AllByRecursion, sum}
-use Rattle.std.proofs.Common.{◌≡◌, ◌⊎◌, ℕ, ◌+◌, List, [], ◌∷◌, ◌++◌, length, drop, map, filter, Bool, true}
-use Rattle.std.proofs.Common.{not, Option, Some, refl, ap, arith, take-append-drop, append_assoc}
+use Rattle.std.specs.List.{AllZip, sum}
+use Rattle.std.proofs.Common.{◌≡◌, ◌⊎◌, ℕ, ◌+◌, List, [], ◌∷◌, ◌++◌, length, drop, map, filter, zip, Bool, true, not}
+use Rattle.std.proofs.Common.{Option, Some, refl, ap, arith, take-append-drop, append_assoc}
 use Rattle.std.proofs.lemmas.List.{length-map, nil_from_length}
-use Rattle.std.proofs.lemmas.List.Elements.{filter-append}
 use Rattle.std.proofs.lemmas.List.Sums.{sum_by-cons}
 use Rattle.cdxj_places.specs.Pairs.{Pair}
 use Rattle.cdxj_places.specs.TextLines.{lines}
@@ -18,10 +17,9 @@ use Rattle.merge_core.specs.Feeds.{read_lines}
 use Rattle.merge_core.specs.Gathering.{AreTold, text_or, all_done}
 use Rattle.merge_core.specs.Reached.{Reached}
 use Rattle.merge_core.specs.Runs.{IsPart, parts}
-use Rattle.merge_core.proofs.GroupLemmas.{each_cut}
 use Rattle.merge_core.proofs.Many.{is_told, told_moved}
-use Rattle.merge_core.proofs.ReadLines.{IsUpward, stays, is_read, IsLate, given_read}
-use Rattle.merge_core.proofs.ReadLemmas.{late_of}
+use Rattle.merge_core.proofs.ReadLines.{IsUpward, given_read}
+use Rattle.merge_core.proofs.ReadLemmas.{all_read}
 use Rattle.merge_core.proofs.TakenLemmas.{TakenFirst, Took, taken_first, taken_whole}
 
 -- ---- one source
@@ -77,29 +75,12 @@ module _ (limit : ℕ) (past : List ℕ → Bool) {S : Type 0} (text : S → Opt
       omega arith
   parts_count n ss fs same told fed = grind (arith, nil_from_length)
 
-  module _ (upward : IsUpward past) (upto : Member → Bool)
-      (late : AllByRecursion (λ (w : WaitingLine). IsLate limit past upward upto w.member) ws) where
-    parts_read : (n : ℕ) (ss : List S) (fs : List Feed) → length ss ≡ length fs → AreTold text ss
-        → AreFed limit past text extent n ss fs ws → AreSettled fs
-        → AllByRecursion (λ m. upto m ≡ true) (all_done limit text ss fs)
-        → filter (is_read limit past upward upto) (all_lines (parts limit text ss fs))
-        ≡ filter (stays limit past upward) (all_done limit text ss fs)
-    parts_read n (s ∷ ss) (f ∷ fs) same told fed settled each =
-        let t = text_or (text s) in
-        let first = done limit t f in
-        let others = all_done limit text ss fs in
-        let cut = each_cut (λ m. upto m ≡ true) first others each in
-        let here = given_read upward upto (rw (is_told (text s) told.0) at fed.0) settled.0
-        (late_of limit past upward upto text extent ws late n) cut.0 in
-        grind (
-          arith,
-          filter-append,
-          is_read,
-          stays,
-          parts_read (n + 1) ss fs (omega arith) told.1 fed.1 settled.1
-              cut.1,
-        )
-    parts_read n ss fs same told fed settled each = grind arith
+-- the lines that were read of each source
+given_of : {S : Type 0} (limit : ℕ) (text : S → Option (List ℕ)) (xs : List (S × Feed))
+    → AllZip (λ x ms. ms ≡ given limit (text_or (text x.0)) x.1.cursor) xs
+    (map (λ x. given limit (text_or (text x.0)) x.1.cursor) xs)
+given_of limit text [] = tt
+given_of limit text (x ∷ xs) = (refl, given_of limit text xs)
 
 -- ---- where a merge came to
 
@@ -117,7 +98,11 @@ module _ {S : Type 0} (text : S → Option (List ℕ)) (extent gave : S → ℕ)
     above = reached.above;
     done = all_done limit text ss fs;
     handed = reached.handed.told told;
-    read = λ upto late each. grind (arith, parts_read, told_now);
+    read = λ upto late each. all_read limit past upward upto text extent ws late
+        (λ x ms. ms ≡ given limit (text_or (text x.0)) x.1.cursor)
+        (λ s f own fed settled late each is ms e. rw e (given_read upward upto fed settled late each)) 0 ss fs
+        (parts limit text ss fs) reached.ready.same told_now (given_of limit text (zip ss fs)) reached.ready.fed
+        reached.settled each;
   }
 
   -- what was taken is a front of what is wanted of the lines that were read

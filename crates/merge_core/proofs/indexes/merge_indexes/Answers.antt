@@ -6,7 +6,7 @@ use Rattle.std.proofs.lemmas.Result.{err_from_is_err_and}
 use Rattle.std.proofs.lemmas.Bool.{true≢false, cases_Bool}
 use Rattle.std.proofs.lemmas.List.Concat.{flat_map-append}
 use Rattle.cdxj_core.specs.declared.limit.TheConstants.{LINE_LIMIT}
-use Rattle.cdxj_core.specs.Members.{Member, line_row, member_pair, member_place}
+use Rattle.cdxj_core.specs.Members.{Member, member_pair, member_place}
 use Rattle.cdxj_places.specs.Pairs.{Pair}
 use Rattle.cdxj_places.specs.Places.{place_cmp}
 use Rattle.cdxj_places.specs.Rising.{rising}
@@ -49,14 +49,11 @@ front : (g : Over) (c : After-merge g) {ss : List g.row.S.Denot} {fs : List Feed
     (λ texts indexes. AppendsPrefix old new (lines_text (collection indexes)))
 front g c {ss} {fs} {ws} {b} {taken} reached old new p texts indexes known are =
     let opened = c.in_ok-opened.ensures in
-    let first = sought_first g.S.Source.text g.S.Source.extent g.S.Source.gave LINE_LIMIT never
-    (λ key later e h. absurd (true≢false (sym e))) c.open_at.new.sources c.in_ok-opened.opened.streams.feeds.items ss fs
-    ws b taken opened.ready.same reached texts indexes (rw (← opened.text) at known) are
-    (λ m. true) (λ m e. refl) ([], []) opened.cut
+    let first = sought_first _ _ _ _ _ (λ key later e h. absurd (true≢false (sym e))) _ _ _ _ _ _ _ opened.ready.same
+    reached texts indexes (rw (← opened.text) at known) are (λ m. true) (λ m e. refl) ([], []) opened.cut
     (λ m e. none_below_least (member_pair m).0 (member_pair m).1) in
     let whole : collection indexes ≡ taken ++ first.0 = grind (arith, filter_every) in
-    rw (ap lines_text whole ∙ flat_map-append line_row taken first.0) (prefix_longer old new (lines_text taken)
-    (lines_text first.0) p)
+    rw (whole, flat_map-append) (prefix_longer old new _ _ p)
 
 -- and of any sources, it is lines of theirs
 lines : (g : Over) (c : After-merge g) {ss : List g.row.S.Denot} {fs : List Feed} {ws : List WaitingLine}
@@ -128,39 +125,30 @@ returns-clause-kept g c = kept g (goal.at.returns-clause-kept g c).After-merge
 
 pub returns-clause-merged : goal.returns-clause-merged
 returns-clause-merged g c = λ texts known.
-    let text = g.S.Source.text in let extent = g.S.Source.extent in let gave = g.S.Source.gave in
-    let ss1 = c.open_at.new.sources in let fs1 = c.in_ok-opened.opened.streams.feeds.items in
-    let ss2 = c.merge.new.sources in let fs2 = c.merge.new.streams.feeds.items in
+    let at = goal.at.returns-clause-merged g c in
+    let text = g.S.Source.text in let extent = g.S.Source.extent in
+    let sources = c.merge.new.sources in let feeds = c.merge.new.streams.feeds.items in
     let opened = c.in_ok-opened.ensures in
     let passed = c.in_ok-merge.ensures.passed in
     let reached = passed.so_far.reached in
     let empty : c.merge.new.streams.waiting ≡ [] = grind (arith, cases_Bool) in
-    let moved = c.merge.ensures.moved in
-    let known1 = rw (← opened.text) at known in
-    let kept = texts_kept text extent gave ss1 ss2 fs1 fs2 opened.ready.same (omega arith) moved in
-    let starts = starts_kept text extent gave ss1 ss2 fs1 fs2 opened.ready.same reached.ready.same moved
+    let starts = starts_kept _ _ _ _ _ _ _ opened.ready.same reached.ready.same c.merge.ensures.moved
     (opened.start refl refl) in
-    let all : passed.so_far.taken ≡ collection (its_lines LINE_LIMIT never (λ key. refl) text extent ss2 fs2) =
-    (reached.handed.told (told_known text ss1 texts known1)).0
-    ∙ ap (rising member_place place_cmp) (all_lines_are LINE_LIMIT never (λ key. refl) text extent ss2 fs2) in
-    let w = wrote g (goal.at.returns-clause-merged g c).In_ok-merge in
+    let all : passed.so_far.taken ≡ collection (its_lines LINE_LIMIT never (λ key. refl) text extent sources feeds) =
+    (reached.handed.told (told_known _ _ texts (rw (← opened.text) at known))).0
+    ∙ ap (rising member_place place_cmp) (all_lines_are LINE_LIMIT never (λ key. refl) text extent sources feeds) in
     record {
-      indexes = its_lines LINE_LIMIT never (λ key. refl) text extent ss2 fs2;
-      are = are_read LINE_LIMIT never (λ key. refl) text extent 0 ss2 fs2 texts reached.ready.same
-          (rw (← kept) at known1) starts reached.settled (rw empty at reached.ready.fed);
-      text = rw (← all) w.0;
-      count = rw (← all) w.1;
+      indexes = its_lines LINE_LIMIT never (λ key. refl) text extent sources feeds;
+      are = are_read LINE_LIMIT never (λ key. refl) text extent 0 sources feeds texts reached.ready.same
+          (rw (← (kept g at.After-merge).0) at known) starts reached.settled (rw empty at reached.ready.fed);
+      text = rw (← all) (wrote g at.In_ok-merge).0;
+      count = rw (← all) (wrote g at.In_ok-merge).1;
     }
 
 pub returns-clause-held : goal.returns-clause-held
 returns-clause-held g c = λ texts indexes known are most share.
     let opened = c.in_ok-opened.ensures in
-    let known1 = rw (← opened.text) at known in
-    let few = c.merge.ensures.held texts indexes known1 are most share (omega (arith, opened.held)) in
-    omega (
-      arith,
-      few,
-      ap length opened.extent,
-      length-map c.open_at.new.sources g.S.Source.extent,
-      length-map c.args.sources.now g.S.Source.extent,
-    )
+    let few = c.merge.ensures.held texts indexes (rw (← opened.text) at known) are most share
+    (omega (arith, opened.held)) in
+    let same = ap length opened.extent in
+    grind (arith, length-map)

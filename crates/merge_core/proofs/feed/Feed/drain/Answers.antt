@@ -1,16 +1,12 @@
 use Rattle.std.proofs.lemmas.List.{map-append}
-use Rattle.std.proofs.Common.{◌≡◌, ℕ, List, Some, [], ◌∷◌, ◌++◌, Box, Global, map, refl, sym, ap, ◌∙◌, arith, append_assoc}
-use Rattle.std.specs.List.{AllByRecursion}
-use Rattle.std.specs.Ordering.{ordering_reverse}
+use Rattle.std.proofs.Common.{◌≡◌, ℕ, List, Some, [], ◌∷◌, ◌++◌, Box, Global, map, refl, ◌∙◌, arith, append_assoc}
 use Rattle.cdxj_core.specs.declared.limit.TheConstants.{LINE_LIMIT}
 use Rattle.cdxj_core.specs.declared.line.Line.{Line}
 use Rattle.cdxj_core.specs.Members.{Member, member_pair}
-use Rattle.cdxj_places.specs.Pairs.{Pair, pair_cmp}
 use Rattle.cdxj_places.proofs.PairLemmas.{pair_cmp_total}
 use Rattle.merge_core.specs.declared.feed.Feed.{Feed}
 use Rattle.line_queue.specs.PairOrders.{Alike, Below, Upto}
-use Rattle.merge_core.specs.Feeds.{Fed, done}
-use Rattle.merge_core.specs.LineFaults.{NamesLine}
+use Rattle.merge_core.specs.Feeds.{done}
 use Rattle.merge_core.specs.Spending.{ReadTo}
 use Rattle.merge_core.proofs.SpendLemmas.{read_to}
 use Rattle.merge_core.proofs.FeedLemmas.{bad_named, order_named, LineRead, same_stays, fed_next, done_next, fed_taken}
@@ -25,8 +21,8 @@ use Rattle.merge_core.proofs.feed.Feed.drain.Goals as goal
 -- a line that is above the first one
 above : (g : Over) (c : In-Greater g) → Below (member_pair c.args.first.now) (member_pair c.in-Some.line.value)
 above g c =
-    pair_cmp_total.antisymm (member_pair c.args.first.now) (member_pair c.in-Some.line.value)
-    ∙ ap ordering_reverse (grind arith)
+    let turned = pair_cmp_total.antisymm (member_pair c.args.first.now) (member_pair c.in-Some.line.value) in
+    grind arith
 
 -- no line was read beyond the next one
 reads : (g : Over) (c : After-next_line g) (t : List ℕ) → g.S.Source.text c.args.source.now ≡ Some t
@@ -40,14 +36,6 @@ pub returns-in-Greater-clause-later : goal.returns-in-Greater-clause-later
 returns-in-Greater-clause-later g c =
     let over = above g (goal.at.returns-in-Greater-clause-later g c).In-Greater in
     grind arith
-
--- one line more was taken
-taken_more : (pair : Pair) (before d1 d2 taken g0 g g' : List Member) (m : Member) → d1 ≡ before ++ taken → g ≡ g0
-    ++ taken → AllByRecursion (λ k. Alike (member_pair k) pair) taken
-    → d2 ≡ d1 ++ m ∷ [] → g' ≡ g ++ m ∷ [] → Alike (member_pair m) pair
-    → (more : List Member) × (d2 ≡ before ++ more) × (g' ≡ g0 ++ more)
-    × AllByRecursion (λ k. Alike (member_pair k) pair) more
-taken_more pair before d1 d2 taken g0 g g' m e f a h k b = grind (arith, append_assoc, each_join)
 
 -- a line was read that isn't below the first one
 was_read : (g : Over) (c : In-Some g) (f : Feed) → f.cursor ≡ c.next_line.new.cursor

@@ -10,18 +10,14 @@ returns-in_err-put-clause-part g c = grind (arith, on_err, prefix_longer)
 
 pub returns-in_err-put-2-clause-part : goal.returns-in_err-put-2-clause-part
 returns-in_err-put-2-clause-part g c =
-    let old = g.O.Output.written c.args.out.now in
-    let mid = g.O.Output.written c.put.new.out in
     on_err c.from_residual-in_err-put-2.result Write _ c.from_residual-in_err-put-2.ensures.1
-    (prefix_after old mid (g.O.Output.written c.put-2.new.out) c.args.line.now.line (10 ∷ []) (grind arith)
+    (prefix_after _ (g.O.Output.written c.put.new.out) _ c.args.line.now.line (10 ∷ []) (grind arith)
     c.in_err-put-2.ensures.prefix)
 
 pub returns-in_err-put-2-clause-grows : goal.returns-in_err-put-2-clause-grows
 returns-in_err-put-2-clause-grows g c =
-    grows_on (g.O.Output.written c.args.out.now) (g.O.Output.written c.put.new.out) (g.O.Output.written c.put-2.new.out)
-    (grind arith) (grind arith)
+    grows_on _ (g.O.Output.written c.put.new.out) _ (grind arith) (grind arith)
 
 pub returns-clause-grows : goal.returns-clause-grows
 returns-clause-grows g c =
-    grows_on (g.O.Output.written c.args.out.now) (g.O.Output.written c.put.new.out) (g.O.Output.written c.put-2.new.out)
-    (grind arith) (grind arith)
+    grows_on _ (g.O.Output.written c.put.new.out) _ (grind arith) (grind arith)
