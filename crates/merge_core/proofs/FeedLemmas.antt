@@ -1,11 +1,9 @@
 -- What one line more makes of a feed.
 use Rattle.std.proofs.lemmas.List.{map-append, take-map, take-take, drop_all}
-use Rattle.std.proofs.Common.{true, ◌⊎◌, ◌≡◌, Ordering, Equal, ℕ, suc, ◌+◌, ◌-◌, ◌≤◌, List, [], ◌∷◌, ◌++◌, length, refl}
-use Rattle.std.proofs.Common.{ap, ◌∙◌, arith, Bool, false, Option, Some, None, take, drop, map, append-nil}
-use Rattle.std.proofs.Common.{length-append, ◌<◌, cond, sym, ap₂, length-take, append_assoc, take-append-drop, is_gt}
+use Rattle.std.proofs.Common.{true, ◌⊎◌, ◌≡◌, ℕ, suc, ◌+◌, ◌-◌, ◌≤◌, List, [], ◌∷◌, ◌++◌, length, refl, ap, arith, Bool}
+use Rattle.std.proofs.Common.{false, Option, Some, None, take, drop, map, append-nil, length-append, ◌<◌, cond}
+use Rattle.std.proofs.Common.{length-take, append_assoc, take-append-drop}
 use Rattle.std.specs.List.{AllByRecursion}
-use Rattle.std.specs.Ordering.{nat_cmp, ordering_then, ordering_reverse}
-use Rattle.std.specs.Cmp.Lexicographic.{slice_cmp}
 use Rattle.std.specs.FinMap.{nat_cmp-IsAntisymmetric, slice_cmp-IsAntisymmetric}
 use Rattle.std.proofs.lemmas.Cmp.{tied_back}
 use Rattle.std.proofs.lemmas.List.Concat.{flat_map-append}
@@ -25,12 +23,14 @@ use Rattle.merge_core.specs.declared.feed.Progress.TheVariants.{Due, Waiting, Pa
 use Rattle.merge_core.specs.declared.feed.Feed.{Feed}
 use Rattle.line_queue.specs.PairOrders.{Alike, Upto, Below}
 use Rattle.merge_core.specs.Gathering.{EndsAt}
-use Rattle.merge_core.specs.Feeds.{IsNext, Fed, held, bytes_of, read_lines, member_of, given, done}
+use Rattle.merge_core.specs.Feeds.{IsNext, Fed, held, bytes_of, read_lines, given, done}
 use Rattle.line_queue.proofs.PairOrder.{upto_both, below_then}
 use Rattle.std.proofs.lemmas.Bool.{cases_lt}
 use Rattle.source_core.specs.LinesAtFault.{IsOutOfOrder, LineBeginsAt}
 use Rattle.source_core.proofs.SortedCuts.{begins_at}
 use Rattle.merge_core.specs.declared.fault.FeedFault.{FeedFault}
+use Rattle.merge_core.specs.NextLine.{IsNextLine}
+use Rattle.merge_core.proofs.GroupLemmas.{each_cut}
 use Rattle.merge_core.specs.LineFaults.{IsBadFirst, IsFeedFaultAt, NamesLine}
 
 pub no_entry : (limit : ℕ) (line : List ℕ) (o : Option Member) → o ≡ line_entry limit line
@@ -52,20 +52,6 @@ pub one_more : (t : List ℕ) (was now : CursorState) (line : List ℕ) → line
     → lines (drop was.at t) ≡ line ∷ lines (drop now.at t) → read_lines t now ≡ read_lines t was ++ line ∷ []
 one_more t was now line rest more start found = grind (arith, take_next)
 
--- the line that was taken is the first of the others
-pub after_taken : {X : Type 0} (n : ℕ) (xs : List X) (x : X) → take (n + 1) xs ≡ take n xs ++ x ∷ [] → (after : List X)
-    × (drop n xs ≡ x ∷ after)
-after_taken {X = X} n xs x e = suc_taken n xs (ap (λ k. take k xs) (let q : suc n ≡ n + 1 = omega arith in q) ∙ e)
-  where
-    suc_taken : (k : ℕ) (us : List X) → take (suc k) us ≡ take k us ++ x ∷ [] → (after : List X)
-        × (drop k us ≡ x ∷ after)
-    suc_taken (suc k) (u ∷ us) e = suc_taken k us (grind arith)
-    suc_taken k us e = grind arith
-
-pub take_map : {X Y : Type 0} (f : X → Y) (k n : ℕ) (xs : List X) → k ≤ n → take k (map f (take n xs))
-    ≡ map f (take k xs)
-take_map f k n xs h = grind (arith, take-map, take-take)
-
 pub falls_push : (xs : List Member) (y : Member) → NeverFalls member_pair pair_cmp xs
     → AllByRecursion (λ m. Upto (member_pair m) (member_pair y)) xs → NeverFalls member_pair pair_cmp (xs ++ y ∷ [])
 falls_push [] y h k = (tt, tt)
@@ -83,22 +69,12 @@ pub same_stays : (past : List ℕ → Bool) (pair : Pair) (m : Member) (ms : Lis
     → EndsAt pair ms → Alike (member_pair m) pair → past m.values.key ≡ false
 same_stays past pair m ms within low end alike =
     let last = end.1 in
-    let stays = (each_last (λ (k : Member). past k.values.key ≡ false) end.0 (rw (← end.2) within)) in
-    let at : Alike (member_pair last) pair = upto_both (member_pair last) pair
-    (each_last (λ k. Upto (member_pair k) pair) end.0 (rw (← end.2) low)) end.3 in
-    let keys : m.values.key ≡ last.values.key =
-    slice_cmp-IsAntisymmetric nat_cmp-IsAntisymmetric m.values.key last.values.key
-    (then_equal _ (slice_cmp nat_cmp m.values.stamp last.values.stamp)
-    (pair_cmp_total.congr (member_pair m) pair (member_pair last) alike
-    ∙ tied_back pair_cmp_total (member_pair last) pair at)) in
-    ap past keys ∙ stays
-  where
-    each_last : (P : Member → Type 0) (us : List Member) → AllByRecursion P (us ++ end.1 ∷ []) → P end.1
-    each_last P [] h = h.0
-    each_last P (u ∷ us) h = each_last P us h.1
-
-    then_equal : (a b : Ordering) → ordering_then a b ≡ Equal → a ≡ Equal
-    then_equal a b e = grind arith
+    let stays = (each_cut (λ (k : Member). past k.values.key ≡ false) end.0 (last ∷ []) (rw (← end.2) within)).1.0 in
+    let upto = (each_cut (λ k. Upto (member_pair k) pair) end.0 (last ∷ []) (rw (← end.2) low)).1.0 in
+    let back = tied_back pair_cmp_total (member_pair last) pair (upto_both (member_pair last) pair upto end.3) in
+    let both = pair_cmp_total.congr (member_pair m) pair (member_pair last) alike in
+    let same : m.values.key ≡ last.values.key = grind (arith, slice_cmp-IsAntisymmetric, nat_cmp-IsAntisymmetric) in
+    cc
 
 -- the limit of a line, in bytes
 module _ (limit : ℕ) where
@@ -110,29 +86,16 @@ module _ (limit : ℕ) where
     ordered = falls_push ms m run.ordered low;
   }
 
-  -- this line was read after those that were read before
-  abbrev pub ReadNext : List ℕ → CursorState → CursorState → Member → Type 0
-  ReadNext t old new m = (l : List ℕ) × (read_lines t new ≡ read_lines t old ++ l ∷ []) × (line_entry limit l ≡ Some m)
-
-  pub given_next : (t : List ℕ) (old new : CursorState) (m : Member) → ReadNext t old new m → given limit t new
-      ≡ given limit t old ++ m ∷ []
-  given_next t old new m r = grind (arith, map-append)
-
   -- what is done of a feed, beside what was read before
   pub done_is : (t : List ℕ) (f : Feed) (old : CursorState) → f.cursor.start ≡ old.start → f.cursor.count
       ≡ old.count + held f.progress → done limit t f ≡ given limit t old
-  done_is t f old start count = grind (arith, take_map)
+  done_is t f old start count = grind (arith, take-map, take-take)
 
   pub done_due : (t : List ℕ) (f : Feed) → f.progress ≡ Due → done limit t f ≡ given limit t f.cursor
   done_due t f e = grind (arith, done_is)
 
   pub fresh_done : (t : List ℕ) (f : Feed) → f.cursor.count ≡ 0 → done limit t f ≡ []
-  fresh_done t f e = ap
-      (λ n. take (n - held f.progress) (map (member_of limit) (take n (lines (drop f.cursor.start t))))) e
-      ∙ ap (λ n. take n []) none_left
-    where
-      none_left : 0 - held f.progress ≡ 0
-      none_left = omega arith
+  fresh_done t f e = grind arith
 
   -- the next line of a feed was read, which is this one
   pub record LineRead (past : List ℕ → Bool) (text : Option (List ℕ)) (extent : ℕ) (old f : Feed) (m : Member) : Type 0
@@ -144,7 +107,7 @@ module _ (limit : ℕ) where
       pub count : f.cursor.count ≡ old.cursor.count + 1
       pub near : (t : List ℕ) → text ≡ Some t
           → f.cursor.at ≤ old.cursor.at + first_length (lines (drop old.cursor.at t))
-      pub next : (t : List ℕ) → text ≡ Some t → ReadNext t old.cursor f.cursor m
+      pub next : (t : List ℕ) → text ≡ Some t → IsNextLine limit t old.cursor.at f.cursor.at (Some m)
       pub low : (t : List ℕ) → text ≡ Some t
           → AllByRecursion (λ k. Upto (member_pair k) (member_pair m)) (done limit t old)
 
@@ -156,36 +119,23 @@ module _ {limit : ℕ} {past : List ℕ → Bool} {text : Option (List ℕ)} {ex
   begins_still : (t : List ℕ) → text ≡ Some t → (before : List (List ℕ)) × BeginsAfter t f.cursor.start before
   begins_still t e = rw r.start (r.was.told t e).begins
 
+  read_more : (t : List ℕ) (e : text ≡ Some t) → read_lines t f.cursor
+      ≡ read_lines t old.cursor ++ (r.next t e).0 ∷ []
+  read_more t e = one_more t old.cursor f.cursor _ (r.was.stands.rest t e) r.count r.start (r.next t e).1
+
+  given_next : (t : List ℕ) → text ≡ Some t → given limit t f.cursor ≡ given limit t old.cursor ++ m ∷ []
+  given_next t e = let more = read_more t e in grind (arith, map-append)
+
   run_more : (t : List ℕ) → text ≡ Some t → IsRun limit (read_lines t f.cursor) (given limit t f.cursor)
   run_more t e =
-      let next = r.next t e in
-      rw (← next.1) at (rw (← given_next limit t old.cursor f.cursor m next) at (run_push limit
-      (read_lines t old.cursor) (given limit t old.cursor) next.0 m (r.was.told t e).run next.2
-      (rw (given_old t) at (r.low t e))))
+      rw (given_next t e, read_more t e) (run_push limit (read_lines t old.cursor) (given limit t old.cursor) _ m
+      (r.was.told t e).run (r.next t e).2 (rw (given_old t) at (r.low t e)))
 
   stood_more : (t : List ℕ) → text ≡ Some t → f.cursor.at ≤ f.cursor.start + bytes_of (read_lines t f.cursor)
-  stood_more t e = grind (arith, after_taken, flat_map-append, length-append, append-nil)
+  stood_more t e = let more = read_more t e in grind (arith, flat_map-append, length-append, append-nil)
 
   many_more : (t : List ℕ) → text ≡ Some t → length (read_lines t f.cursor) ≡ f.cursor.count
-  many_more t e = grind (arith, length-append)
-
-  pub fed_next : (ws : List Member) → IsNext past m f.progress ws → Fed limit past text extent f ws
-  fed_next ws n =
-      let cases = next_is past m f.progress ws n in
-      let many : f.cursor.count ≡ old.cursor.count + held f.progress = grind arith in
-      record {
-        stands = r.stands;
-        waits = grind arith;
-        counted = omega (arith, many);
-        told = λ t e. record {
-          begins = begins_still t e;
-          stood = stood_more t e;
-          as_many = many_more t e;
-          within = grind (arith, done_is, given_old);
-          run = run_more t e;
-          head = grind (arith, given_next, done_is);
-        };
-      }
+  many_more t e = let more = read_more t e in grind (arith, length-append)
 
   pub done_next : (ws : List Member) → IsNext past m f.progress ws → (t : List ℕ) → done limit t f ≡ done limit t old
   done_next ws n t = grind (arith, done_is, next_is, given_old)
@@ -193,19 +143,21 @@ module _ {limit : ℕ} {past : List ℕ → Bool} {text : Option (List ℕ)} {ex
   pub done_taken : f.progress ≡ Due → (t : List ℕ) → text ≡ Some t → done limit t f ≡ done limit t old ++ m ∷ []
   done_taken d t e = grind (arith, done_due, given_next, given_old)
 
-  pub fed_taken : f.progress ≡ Due → ((t : List ℕ) → text ≡ Some t → past m.values.key ≡ false)
-      → Fed limit past text extent f []
-  fed_taken d stays = record {
+  -- it waits or lies past the range, or it was taken
+  pub fed_more : (ws : List Member)
+      → IsNext past m f.progress ws ⊎ ((f.progress ≡ Due) × (ws ≡ [])
+      × ((t : List ℕ) → text ≡ Some t → past m.values.key ≡ false)) → Fed limit past text extent f ws
+  fed_more ws cases = record {
     stands = r.stands;
-    waits = grind arith;
-    counted = (let h = ap held d in omega arith);
+    waits = grind (arith, next_is);
+    counted = grind (arith, next_is);
     told = λ t e. record {
       begins = begins_still t e;
       stood = stood_more t e;
       as_many = many_more t e;
-      within = grind (arith, done_taken, each_join);
+      within = grind (arith, done_next, done_taken, each_join);
       run = run_more t e;
-      head = grind (arith, done_due);
+      head = grind (arith, next_is, given_next, done_next, done_due, given_old);
     };
   }
 
@@ -216,11 +168,6 @@ body_length b line = grind (arith, length-take)
 
 pub first_long : (limit : ℕ) (ls : List (List ℕ)) → limit < first_length ls → IsBadFirst limit ls
 first_long limit ls long = grind (arith, body_length, long_line_none)
-
--- where lines are left, the offset lies within the text
-inside : (t : List ℕ) (at : ℕ) (line : List ℕ) (after : List (List ℕ)) → lines (drop at t) ≡ line ∷ after
-    → at ≤ length t
-inside t at line after e = grind (arith, cases_lt, drop_all)
 
 -- the last of these lines has the last of these entries
 last_line : (limit : ℕ) (ls : List (List ℕ)) (before : List Member) (last : Member) → map (line_entry limit) ls
@@ -245,9 +192,9 @@ module _ {limit : ℕ} {past : List ℕ → Bool} {t : List ℕ} {extent : ℕ} 
       grind (arith, take-append-drop, append_assoc) in
       record {
         after = after;
-        lines_are = cut ∙ ap (λ ls. (told.begins.0 ++ read_lines t f.cursor) ++ ls) e;
+        lines_are = rw (← e) cut;
         offset_is = begins_at t f.cursor.at (told.begins.0 ++ read_lines t f.cursor) cut
-            (inside t f.cursor.at line after e);
+            (grind (arith, cases_lt, drop_all));
       }
 
   pub bad_named : (e : FeedFault) → IsFeedFaultAt limit (lines (drop f.cursor.at t)) f.cursor.at e → NamesLine limit t e
@@ -255,16 +202,12 @@ module _ {limit : ℕ} {past : List ℕ → Bool} {t : List ℕ} {extent : ℕ} 
 
   -- the next line has a pair below that of the last line before it
   pub order_named : (pair : Pair) (new : CursorState) (m : Member) → f.progress ≡ Due → EndsAt pair (done limit t f)
-      → new.start ≡ f.cursor.start → new.count ≡ f.cursor.count + 1
-      → ReadNext limit t f.cursor new m → Below (member_pair m) pair → IsOutOfOrder limit t f.cursor.at
-  order_named pair new m due end start count next below =
+      → IsNextLine limit t f.cursor.at new.at (Some m) → Below (member_pair m) pair → IsOutOfOrder limit t f.cursor.at
+  order_named pair new m due end next below =
       let told = fed.told t refl in
       let from = lines (drop f.cursor.start t) in
-      let last = last_line limit (read_lines t f.cursor) end.0 end.1 (told.run.entries
-      ∙ ap (map Some) (sym (done_due limit t f due) ∙ end.2)) in
-      let after = after_taken f.cursor.count from next.0 (ap₂ (λ n s. take n (lines (drop s t))) (sym count) (sym start)
-      ∙ next.1) in
-      let here = begins_here next.0 after.0 (fed.stands.rest t refl ∙ after.1) in
+      let last = last_line limit (read_lines t f.cursor) end.0 end.1 (grind (arith, done_due)) in
+      let here = begins_here next.0 (lines (drop new.at t)) next.1 in
       let front : told.begins.0 ++ read_lines t f.cursor ≡ (told.begins.0 ++ last.0)
       ++ last.1 ∷ [] = grind (arith, append_assoc) in
       record {
@@ -276,6 +219,6 @@ module _ {limit : ℕ} {past : List ℕ → Bool} {t : List ℕ} {extent : ℕ} 
         later = m;
         earlier_is = last.3;
         later_is = next.2;
-        falls = ap is_gt (pair_cmp_total.antisymm (member_pair end.1) (member_pair m)
-            ∙ ap ordering_reverse (below_then (member_pair m) pair (member_pair end.1) below end.3));
+        falls = (let turned = pair_cmp_total.antisymm (member_pair end.1) (member_pair m) in
+            let lower = below_then (member_pair m) pair (member_pair end.1) below end.3 in grind arith);
       }

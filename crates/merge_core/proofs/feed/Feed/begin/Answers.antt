@@ -1,8 +1,8 @@
-use Rattle.std.proofs.Common.{arith, ◌≡◌, ℕ, List, Some, None}
+use Rattle.std.proofs.Common.{arith, inl, ◌≡◌, ℕ, List, Some, None}
 use Rattle.cdxj_core.specs.declared.limit.TheConstants.{LINE_LIMIT}
 use Rattle.merge_core.specs.Spending.{ReadTo}
 use Rattle.merge_core.proofs.SpendLemmas.{read_to}
-use Rattle.merge_core.proofs.FeedLemmas.{LineRead, fresh_done, fed_next}
+use Rattle.merge_core.proofs.FeedLemmas.{LineRead, fresh_done, fed_more}
 use Rattle.merge_core.proofs.feed.Feed.begin.Given.{Over}
 use Rattle.merge_core.proofs.feed.Feed.begin.Goals.{After-next_line}
 use Rattle.merge_core.proofs.feed.Feed.begin.Goals as goal
@@ -21,7 +21,7 @@ returns-in-Some-clause-fed g c =
       next = grind arith;
       low = grind (arith, fresh_done);
     } in
-    fed_next read _ c.settle.ensures.next
+    fed_more read _ (inl c.settle.ensures.next)
 
 -- no line was read but the first
 reads : (g : Over) (c : After-next_line g) (t : List ℕ) → g.S.Source.text c.args.source.now ≡ Some t

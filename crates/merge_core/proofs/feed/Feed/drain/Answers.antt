@@ -1,5 +1,6 @@
 use Rattle.std.proofs.lemmas.List.{map-append}
-use Rattle.std.proofs.Common.{◌≡◌, ℕ, List, Some, [], ◌∷◌, ◌++◌, Box, Global, map, refl, ◌∙◌, arith, append_assoc}
+use Rattle.std.proofs.Common.{◌≡◌, inl, inr, ℕ, List, Some, [], ◌∷◌, ◌++◌, Box, Global, map, refl, ◌∙◌, arith}
+use Rattle.std.proofs.Common.{append_assoc}
 use Rattle.cdxj_core.specs.declared.limit.TheConstants.{LINE_LIMIT}
 use Rattle.cdxj_core.specs.declared.line.Line.{Line}
 use Rattle.cdxj_core.specs.Members.{Member, member_pair}
@@ -9,8 +10,7 @@ use Rattle.line_queue.specs.PairOrders.{Alike, Below, Upto}
 use Rattle.merge_core.specs.Feeds.{done}
 use Rattle.merge_core.specs.Spending.{ReadTo}
 use Rattle.merge_core.proofs.SpendLemmas.{read_to}
-use Rattle.merge_core.proofs.FeedLemmas.{bad_named, order_named, LineRead, same_stays, fed_next, done_next, fed_taken}
-use Rattle.merge_core.proofs.FeedLemmas.{done_taken}
+use Rattle.merge_core.proofs.FeedLemmas.{bad_named, order_named, LineRead, same_stays, fed_more, done_next, done_taken}
 use Rattle.merge_core.proofs.FailLemmas.{if_err}
 use Rattle.line_queue.proofs.PairOrder.{below_upto, same_upto, same_from, upto_upto}
 use Rattle.cdxj_places.proofs.RisingLaws.{each_join, each_weaker}
@@ -49,7 +49,7 @@ was_read g c f is up = record {
   start = grind arith;
   count = grind arith;
   near = grind arith;
-  next = λ t e. rw is (rw c.in-Some.is at (c.in_ok-line.ensures.given t (cc)));
+  next = λ t e. rw is (rw c.in-Some.is at (c.in_ok-line.ensures.next t (cc)));
   low = λ t e. each_weaker (λ (k : Member) (q : Upto (member_pair k) (member_pair c.args.first.now)).
       upto_upto (member_pair k) (member_pair c.args.first.now) (member_pair c.in-Some.line.value) q up) _
       (c.loop-line.invariant.low t (cc));
@@ -59,7 +59,7 @@ pub returns-in-Greater-clause-fed : goal.returns-in-Greater-clause-fed
 returns-in-Greater-clause-fed g c =
     let here = goal.at.returns-in-Greater-clause-fed g c in
     let up = below_upto (member_pair c.args.first.now) (member_pair c.in-Some.line.value) (above g here.In-Greater) in
-    fed_next (was_read g here.In-Some c.settle.new.self c.settle.ensures.cursor up) _ c.settle.ensures.next
+    fed_more (was_read g here.In-Some c.settle.new.self c.settle.ensures.cursor up) _ (inl c.settle.ensures.next)
 
 pub returns-in-Greater-clause-taken : goal.returns-in-Greater-clause-taken
 returns-in-Greater-clause-taken g c = λ t e.
@@ -93,9 +93,12 @@ loop-line-preserved g c =
       gave = omega arith;
       start = cc;
       there = grind arith;
-      fed = fed_taken read inv.due
-          (λ t e. same_stays (g.R.Range.past c.args.range.now) first m (done LINE_LIMIT t c.loop-line.self)
-          (inv.fed.told t (cc)).within (inv.low t (cc)) (inv.last t (cc)) alike);
+      fed = fed_more read _ (inr (
+        inv.due,
+        refl,
+        λ t e. same_stays (g.R.Range.past c.args.range.now) first m
+            (done LINE_LIMIT t c.loop-line.self) (inv.fed.told t (cc)).within (inv.low t (cc)) (inv.last t (cc)) alike,
+      ));
       due = inv.due;
       begin = c.at-begin-in-Some.ensures;
       last = λ t e. (done LINE_LIMIT t c.loop-line.self, m, more t (cc), up);
@@ -118,8 +121,7 @@ returns-in-Less-clause-fault g c = λ t e.
     let m = c.in-Some.line.value in
     let below : Below (member_pair m) first = grind arith in
     rw (← inv.begin) at (order_named (rw (inv.text ∙ e) at inv.fed) first
-    c.next_line.new.cursor m inv.due (inv.last t e) ok.start (rw c.in-Some.is at ok.count)
-    (rw c.in-Some.is at (ok.given t (cc))) below)
+    c.next_line.new.cursor m inv.due (inv.last t e) (rw c.in-Some.is at (ok.next t (cc))) below)
 
 pub returns-in_err-line-clause-reads : goal.returns-in_err-line-clause-reads
 returns-in_err-line-clause-reads g c = grind (arith, reads)
