@@ -1,13 +1,12 @@
 -- How many bytes indexes gave.
 use Rattle.std.specs.List.{AllZip, AllByRecursion}
-use Rattle.std.proofs.Common.{◌≡◌, ℕ, ◌+◌, ◌-◌, ◌≤◌, List, [], ◌∷◌, ◌++◌, length, take, map, filter, zip, Bool, true}
-use Rattle.std.proofs.Common.{false, cond, Option, Some, refl, ap, ◌∙◌, arith, length-append, length-take}
+use Rattle.std.proofs.Common.{◌≡◌, ℕ, ◌+◌, ◌≤◌, List, [], ◌∷◌, ◌++◌, length, map, filter, zip, Bool, true, false}
+use Rattle.std.proofs.Common.{Option, Some, ap, ◌∙◌, arith, length-append, length-take}
 use Rattle.std.proofs.lemmas.List.{map-append}
 use Rattle.std.proofs.lemmas.List.Concat.{flat_map-append}
 use Rattle.std.proofs.lemmas.List.Elements.{filter-append}
 use Rattle.cdxj_places.specs.Pairs.{Pair}
 use Rattle.cdxj_core.specs.Indexes.{IsIndex}
-use Rattle.cdxj_core.specs.Lines.{body_of}
 use Rattle.cdxj_core.specs.Members.{Member, line_row, member_pair, line_entry}
 use Rattle.cdxj_core.proofs.MemberLemmas.{entered}
 use Rattle.source_core.specs.Cursors.{CursorState}
@@ -32,12 +31,8 @@ bytes_cons l ls = length-append l _
 -- a line has no more bytes than its entry with a line feed
 row_most : (limit : ℕ) (l : List ℕ) (m : Member) → line_entry limit l ≡ Some m → length l ≤ length (line_row m)
 row_most limit l m e =
-    let most : length l ≤ length (body_of l) + 1 = body_most _ l in
-    let is = ap length (entered limit l m e).body in
-    omega (arith, length-append m.line (10 ∷ []))
-  where
-    body_most : (b : Bool) (line : List ℕ) → length line ≤ length (cond b (take (length line - 1) line) line) + 1
-    body_most b line = grind (arith, length-take)
+    let body = ap length (entered limit l m e).body in
+    grind (arith, length-append, length-take)
 
 rows_most : (limit : ℕ) (ls : List (List ℕ)) (ms : List Member) → map (line_entry limit) ls ≡ map Some ms
     → bytes_of ls ≤ length (lines_text ms)
@@ -49,11 +44,10 @@ rows_most limit ls ms e = grind arith
 -- of equal lists of entries, the one is a front
 front_of : (us : List Member) (zs : List (Option Member)) (vs : List Member) → map Some us ++ zs ≡ map Some vs
     → (tail : List Member) × (vs ≡ us ++ tail)
-front_of [] zs vs e = (vs, refl)
-front_of (u ∷ us) zs [] e = cc
 front_of (u ∷ us) zs (v ∷ vs) e =
     let rest = front_of us zs vs (let q : map Some us ++ zs ≡ map Some vs = cc in q) in
     grind arith
+front_of us zs vs e = grind arith
 
 -- Indexes were read from where the search for a pair ended; this test holds of all lines that lie within the range,
 -- aren't below the pair and don't stand above the bound
@@ -95,7 +89,6 @@ module _ (limit : ℕ) (past : List ℕ → Bool) (start : Pair) (b : Option Pai
     gave_most (s ∷ ss) (y ∷ ys) (x ∷ xs) (t ∷ ts) (i ∷ is) known tells are came moved cut reads =
         let m = moved.0 in
         let r = reads.0 t (m.text_kept ∙ tells.0) in
-        let from = m.start_kept in
-        let here = source_bytes t i x.1.cursor are.0 (rw from (cut.0 t i tells.0 are.0)) r in
+        let here = source_bytes t i x.1.cursor are.0 (rw m.start_kept (cut.0 t i tells.0 are.0)) r in
         grind (arith, gave_most ss ys xs ts is known.1 tells.1 are.1 came.1 moved.1 cut.1 reads.1)
     gave_most ss ys xs ts is known tells are came moved cut reads = grind arith

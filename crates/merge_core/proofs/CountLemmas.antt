@@ -1,9 +1,8 @@
 -- How many lines were read of indexes, and are held at once.
-use Rattle.std.proofs.lemmas.List.{take-map, length-map, map-append, nil_from_length}
+use Rattle.std.proofs.lemmas.List.{take-map, take-take, length-map, map-append, nil_from_length}
 use Rattle.std.specs.List.{AllZip, AllByRecursion, sum}
-use Rattle.std.proofs.Common.{◌≡◌, ℕ, zero, suc, ◌+◌, ◌<◌, ◌≤◌, List, [], ◌∷◌, ◌++◌, length, take, drop, map, filter}
-use Rattle.std.proofs.Common.{Bool, true, false, not, Option, Some, refl, sym, ap, ◌∙◌, arith, length-append, ◌-◌, zip}
-use Rattle.std.proofs.Common.{length-take}
+use Rattle.std.proofs.Common.{◌≡◌, ℕ, zero, suc, ◌+◌, ◌<◌, ◌≤◌, List, [], ◌∷◌, length, take, drop, map, filter, Bool}
+use Rattle.std.proofs.Common.{true, false, not, Option, Some, refl, ap, arith, length-append, ◌-◌, zip, length-take}
 use Rattle.merge_core.proofs.Filters.{filter_fewer, filter_weaker, filter_front, filter_back, each_take}
 use Rattle.std.proofs.lemmas.List.Elements.{filter-append}
 use Rattle.cdxj_places.specs.Pairs.{Pair}
@@ -16,7 +15,7 @@ use Rattle.line_queue.specs.PairOrders.{Upto, is_low, IsUpto}
 use Rattle.line_queue.specs.WaitingLines.{WaitingLine, is_of, waits_of}
 use Rattle.merge_core.specs.Collections.{Known, OverIndexes, all_lines}
 use Rattle.merge_core.specs.Counts.{is_at, ShareAtMost}
-use Rattle.merge_core.specs.Feeds.{Fed, AreFed, member_of, given, done, held}
+use Rattle.merge_core.specs.Feeds.{Fed, AreFed, member_of, done, held}
 use Rattle.merge_core.specs.Gathering.{Grouped, all_done, text_or}
 use Rattle.merge_core.specs.Reached.{Reached}
 use Rattle.merge_core.proofs.MergeLemmas.{gathered_now}
@@ -59,11 +58,10 @@ pub done_fewer : {limit : ℕ} {past : List ℕ → Bool} {t : List ℕ} {extent
 done_fewer {limit = limit} {t = t} {f = f} {ms = ms} test fed index =
     let told = fed.told t refl in
     let from = lines (drop f.cursor.start t) in
-    let whole : ms ≡ map (member_of limit) told.begins.0 ++ map (member_of limit) from =
-    sym (members_are limit (lines t) ms index.entries) ∙ ap (map (member_of limit)) told.begins.1.0
-    ∙ map-append (member_of limit) told.begins.0 from in
-    let read : given limit t f.cursor ≡ take f.cursor.count (map (member_of limit) from) =
-    sym (take-map (member_of limit) f.cursor.count from) in
+    let all = members_are limit (lines t) ms index.entries in
+    let cut = told.begins.1.0 in
+    let whole = map-append (member_of limit) told.begins.0 from in
+    let read = take-map (member_of limit) f.cursor.count from in
     grind (arith, filter_front, filter_back)
 
 module _ (limit : ℕ) (past : List ℕ → Bool) {S : Type 0} (text : S → Option (List ℕ)) (extent : S → ℕ) where
@@ -126,9 +124,10 @@ module _ (limit : ℕ) (past : List ℕ → Bool) (start : Pair) (b : Option Pai
       let from = lines (drop f.cursor.start t) in
       let run = run_after limit start t ms f.cursor.start index cut in
       let high : map (member_of limit) from ≡ cut.high = members_are limit from cut.high run.0.entries in
-      let not_low = each_take (λ m. is_low start m ≡ false) (f.cursor.count - held f.progress) (given limit t f.cursor)
-      (rw (← take-map (member_of limit) f.cursor.count from) (each_take (λ m. is_low start m ≡ false) f.cursor.count
-      (map (member_of limit) from) (rw high cut.none_below))) in
+      let front : done limit t f ≡ take (f.cursor.count - held f.progress) cut.high = grind
+      (arith, take-map, take-take) in
+      let not_low = rw (← front) at (each_take (λ m. is_low start m ≡ false) (f.cursor.count - held f.progress)
+      cut.high cut.none_below) in
       let all_pass = each_passes (done limit t f) told.within not_low upto in
       let fewer = done_fewer test fed index in
       grind (arith, one_held, length-map, filter_all, length-take)
@@ -146,10 +145,7 @@ module _ (limit : ℕ) (past : List ℕ → Bool) (start : Pair) (b : Option Pai
         (all_done limit text ss fs) upto in
         let here = source_most (rw known.0 at fed.0) are.0 (cut.0 t i known.0 are.0) (rw known.0 at parts.0) in
         let rest = lines_most (n + 1) ss fs ts is (omega arith) known.1 are.1 cut.1 fed.1 parts.1 in
-        omega (
-          arith,
-          sum_by-cons (λ (k : ℕ). k) f.cursor.count (map (λ (f : Feed). f.cursor.count) fs),
-          ap length (filter-append test i (all_lines is)),
-          length-append (filter test i) (filter test (all_lines is)),
-        )
+        let count = sum_by-cons (λ (k : ℕ). k) f.cursor.count (map (λ (f : Feed). f.cursor.count) fs) in
+        let passed = filter-append test i (all_lines is) in
+        grind (arith, length-append)
     lines_most n ss fs ts is same known are cut fed upto = grind (arith, nil_from_length)

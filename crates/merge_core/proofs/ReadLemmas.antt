@@ -1,7 +1,7 @@
 -- What was taken of sources that are indexes, beside all of their collection.
 use Rattle.std.specs.List.{AllZip, AllByRecursion}
 use Rattle.std.proofs.Common.{◌≡◌, ℕ, ◌+◌, List, [], ◌∷◌, ◌++◌, length, map, filter, zip, Bool, true, false, not}
-use Rattle.std.proofs.Common.{Option, Some, sym, ap, ap₂, ◌∙◌, arith}
+use Rattle.std.proofs.Common.{Option, Some, ◌∙◌, arith}
 use Rattle.std.proofs.lemmas.List.Elements.{filter-append}
 use Rattle.cdxj_places.specs.Pairs.{Pair}
 use Rattle.cdxj_places.specs.Places.{place_cmp}
@@ -50,10 +50,13 @@ module _ (limit : ℕ) (past : List ℕ → Bool) (upward : IsUpward past) (upto
   all_read Lines one n (s ∷ ss) (f ∷ fs) (i ∷ is) same told known fed settled each =
       let is_text = is_told (text s) told.0 in
       let cut = each_cut (λ m. upto m ≡ true) (done limit (text_or (text s)) f) (all_done limit text ss fs) each in
-      filter-append (is_read limit past upward upto) i (all_lines is)
-      ∙ ap₂ (λ u v. u ++ v) (one s f (waits_of n ws) (rw is_text at fed.0) settled.0 (late_of n) cut.0 is_text i known.0)
-      (all_read Lines one (n + 1) ss fs is (omega arith) told.1 known.1 fed.1 settled.1 cut.1)
-      ∙ sym (filter-append (stays limit past upward) (done limit (text_or (text s)) f) (all_done limit text ss fs))
+      let here = one s f (waits_of n ws) (rw is_text at fed.0) settled.0 (late_of n) cut.0 is_text i known.0 in
+      grind (
+        arith,
+        filter-append,
+        all_read Lines one (n + 1) ss fs is (omega arith) told.1 known.1 fed.1 settled.1
+            cut.1,
+      )
   all_read Lines one n ss fs highs same told known fed settled each = grind arith
 
 -- ---- where a merge of indexes came to
@@ -77,8 +80,10 @@ module _ {S : Type 0} (text : S → Option (List ℕ)) (extent gave : S → ℕ)
     done = all_done limit text ss fs;
     handed = grind (arith, told_known);
     read = λ upto late each. all_read limit past upward upto text extent ws late (RunsFrom limit text)
-        (λ s f own fed settled late each is ms run. fed_read upward upto fed settled late each ms (run _ is)) 0 ss fs highs
-        reached.ready.same told_now (runs_kept limit text extent gave (zip ss0 fs0) (zip ss fs) highs reached.moved runs)
+        (λ s f own fed settled late each is ms run. fed_read upward upto fed settled late each ms (run _ is)) 0 ss fs
+        highs
+        reached.ready.same told_now (runs_kept limit text extent gave (zip ss0 fs0) (zip ss fs) highs reached.moved
+        runs)
         reached.ready.fed reached.settled each;
   }
 
@@ -90,8 +95,7 @@ module _ {S : Type 0} (text : S → Option (List ℕ)) (extent gave : S → ℕ)
     sought = grind (arith, runs_sought)
 
     skipped : filter wanted (collection indexes) ≡ filter wanted (rising member_place place_cmp (all_lines sought.0))
-    skipped = wanted_high wanted (is_low start) (lower_by_pair start) beyond (all_lines indexes)
-        ∙ ap (λ l. filter wanted (rising member_place place_cmp l)) sought.2
+    skipped = rw (← sought.2) (wanted_high wanted (is_low start) (lower_by_pair start) beyond (all_lines indexes))
 
     -- what was taken so far is a front of what is wanted
     pub sought_first : TakenFirst wanted b (collection indexes) taken
@@ -106,4 +110,4 @@ module _ {S : Type 0} (text : S → Option (List ℕ)) (extent gave : S → ℕ)
         → (rest : List Member) × (filter wanted (collection indexes) ≡ filter wanted taken ++ rest)
         × AllByRecursion (λ m. (wanted m ≡ true) × Upto next (member_pair m)) rest
     sought_before next above least =
-        let first = taken_before (took sought.0 sought.1) next above least in (first.0, skipped ∙ first.1, first.2)
+        let first = taken_before (took sought.0 sought.1) next above least in let same = skipped in grind arith

@@ -1,12 +1,11 @@
 -- The lines of one source that were come to, among all that it has from its start on.
-use Rattle.std.proofs.Common.{arith, ◌≡◌, inl, inr, ℕ, List, [], ◌∷◌, ◌++◌, refl, sym, ap, ◌∙◌, Bool, true, false, not}
-use Rattle.std.proofs.Common.{◌&&◌, Some, take, drop, map, filter, append-nil, append_assoc, take-append-drop, Less}
-use Rattle.std.proofs.Common.{Greater, Ordering, is_gt}
-use Rattle.std.proofs.lemmas.Bool.{cases_Bool}
+use Rattle.std.proofs.Common.{arith, ◌≡◌, ℕ, List, [], ◌∷◌, ◌++◌, refl, sym, ap, ◌∙◌, Bool, true, false, not, ◌&&◌}
+use Rattle.std.proofs.Common.{Some, take, drop, map, filter, append-nil, append_assoc, take-append-drop, Greater}
+use Rattle.std.proofs.Common.{Ordering, is_gt}
 use Rattle.std.proofs.lemmas.List.{take-map, drop-map}
 use Rattle.std.specs.List.{AllByRecursion}
 use Rattle.merge_core.proofs.Filters.{filter_same, filter_out}
-use Rattle.std.specs.Ordering.{ordering_then, ordering_reverse, nat_cmp}
+use Rattle.std.specs.Ordering.{nat_cmp}
 use Rattle.std.specs.Cmp.Lexicographic.{slice_cmp}
 use Rattle.std.proofs.lemmas.Cmp.{nat_list_cmp_total}
 use Rattle.std.proofs.lemmas.List.Elements.{filter-append}
@@ -71,7 +70,13 @@ pub wanted_low : (wanted low : Member → Bool) → IsLower member_place place_c
     → ((m : Member) → wanted m ≡ true → low m ≡ true)
     → (xs : List Member) → filter wanted (rising member_place place_cmp xs)
     ≡ filter wanted (rising member_place place_cmp (filter low xs))
-wanted_low wanted low lower passes xs = grind (arith, wanted_parts wanted low lower xs, none_wanted, filter_out, append-nil)
+wanted_low wanted low lower passes xs = grind (
+  arith,
+  wanted_parts wanted low lower xs,
+  none_wanted,
+  filter_out,
+  append-nil,
+)
 
 -- the last lines
 pub wanted_high : (wanted low : Member → Bool) → IsLower member_place place_cmp low
@@ -101,17 +106,10 @@ module _ (limit : ℕ) (past : List ℕ → Bool) (upward : IsUpward past) where
   stays m = not (past m.values.key)
 
   pub stays_lower : IsLower member_place place_cmp stays
-  stays_lower x y h k = place_below x y
-      (key_below (slice_cmp nat_cmp x.values.key y.values.key) (slice_cmp nat_cmp x.values.stamp y.values.stamp) less)
-    where
-      key_below : (a b : Ordering) → a ≡ Less → ordering_then a b ≡ Less
-      key_below a b e = grind arith
-
-      less : slice_cmp nat_cmp x.values.key y.values.key ≡ Less
-      less = elim (cases_Bool (is_gt (slice_cmp nat_cmp y.values.key x.values.key))) [
-        | inl g ↦ nat_list_cmp_total.antisymm x.values.key y.values.key ∙ ap ordering_reverse (gt_is _ g)
-        | inr g ↦ grind arith
-      ]
+  stays_lower x y h k =
+      let turned = nat_list_cmp_total.antisymm x.values.key y.values.key in
+      let up = upward y.values.key x.values.key in
+      place_below x y (grind arith)
 
   -- which lines were come to
   module _ (upto : Member → Bool) where
@@ -162,14 +160,10 @@ module _ {limit : ℕ} {past : List ℕ → Bool} (upward : IsUpward past) (upto
       let n = f.cursor.count in
       let whole : map (member_of limit) from ≡ ms = members_are limit from ms run.entries in
       let read : given limit t f.cursor ≡ take n ms = sym (take-map (member_of limit) n from) ∙ ap (take n) whole in
-      let rest : drop n ms ≡ map (member_of limit) (lines (drop f.cursor.at t)) =
-      ap (drop n) (sym whole) ∙ drop-map (member_of limit) n from
-      ∙ ap (map (member_of limit)) (sym (fed.stands.rest t refl)) in
-      read_of ms (drop n ms) (sym (take-append-drop n ms) ∙ ap (λ l. l ++ drop n ms) (sym read)) run.ordered
-      (λ e. rest ∙ ap (map (member_of limit)) e)
+      let rest : drop n ms ≡ map (member_of limit) (lines (drop f.cursor.at t)) = grind (arith, drop-map) in
+      read_of ms (drop n ms) (grind (arith, take-append-drop)) run.ordered (grind arith)
 
   -- the same of the lines that were read
   pub given_read : filter (is_read limit past upward upto) (given limit t f.cursor)
       ≡ filter (stays limit past upward) (done limit t f)
-  given_read = read_of (given limit t f.cursor) [] (sym (append-nil (given limit t f.cursor)))
-      (fed.told t refl).run.ordered (λ e. refl)
+  given_read = read_of _ [] (sym (append-nil _)) (fed.told t refl).run.ordered (λ e. refl)

@@ -41,8 +41,7 @@ module _ (limit : ℕ) (past : List ℕ → Bool) where
         after = lines (drop f.cursor.at t);
         cut = grind (arith, take-append-drop, append_assoc);
         run = told.run;
-        ended = λ e. head_ended f.progress (done limit t f) (given limit t f.cursor) (lines (drop f.cursor.at t)) ws
-            settled fed.waits (none e) told.head;
+        ended = grind (arith, head_ended);
       }
 
 -- ---- all sources

@@ -1,24 +1,23 @@
 -- The lines that were taken of sources are lines of theirs.
-use Rattle.std.proofs.Common.{◌≡◌, ◌⊎◌, inl, inr, ℕ, suc, ◌+◌, ◌-◌, List, [], ◌∷◌, ◌++◌, length, take, arith, drop, map}
-use Rattle.std.proofs.Common.{zip, Bool, true, Option, None, Some, refl, sym, ◌∙◌}
+use Rattle.std.proofs.Common.{◌≡◌, ◌⊎◌, inl, inr, ℕ, suc, ◌+◌, List, [], ◌∷◌, ◌++◌, length, take, arith, map, Bool}
+use Rattle.std.proofs.Common.{true, Option, None, Some, refl}
 use Rattle.std.proofs.lemmas.Slice.Zip.{AllZip-long}
 use Rattle.std.specs.List.{AllByRecursion}
 use Rattle.std.specs.Option.{is_some}
 use Rattle.cdxj_places.specs.Pairs.{Pair}
-use Rattle.cdxj_places.specs.Places.{place_cmp}
 use Rattle.cdxj_places.specs.Rising.{IsIn}
 use Rattle.cdxj_places.specs.TextLines.{lines}
 use Rattle.cdxj_places.proofs.PlaceOrder.{place_cmp_total}
 use Rattle.cdxj_places.proofs.RisingLaws.{each_weaker, each_rising, each_join}
-use Rattle.cdxj_core.specs.Members.{Member, member_place, line_entry}
+use Rattle.cdxj_core.specs.Members.{Member, line_entry}
 use Rattle.merge_core.specs.declared.feed.Feed.{Feed}
 use Rattle.line_queue.specs.WaitingLines.{WaitingLine}
-use Rattle.merge_core.specs.Feeds.{Fed, AreFed, read_lines, given, held, done}
+use Rattle.merge_core.specs.Feeds.{Fed, AreFed, read_lines, given, done}
 use Rattle.merge_core.specs.Gathering.{AreTold, text_or, all_done}
 use Rattle.merge_core.specs.Reached.{Reached}
 use Rattle.merge_core.specs.SourceLines.{HasEntry, IsLineIn, IsLineOf, AreLinesOf}
 use Rattle.merge_core.proofs.Filters.{each_take}
-use Rattle.merge_core.proofs.Many.{Move, is_told, told_moved, length_zip}
+use Rattle.merge_core.proofs.Many.{is_told, told_moved, length_zip}
 use Rattle.merge_core.proofs.WholeLemmas.{texts_kept}
 
 in_take : {X : Type 0} (x : X) (n : ℕ) (xs : List X) → IsIn x (take n xs) → IsIn x xs
@@ -47,20 +46,17 @@ module _ (limit : ℕ) where
       → Fed limit past (Some t) extent f ws → AllByRecursion (IsLineIn limit t) (done limit t f)
   done_lines {t = t} {f = f} fed =
       let told = fed.told t refl in
-      let from = lines (drop f.cursor.start t) in
-      each_take (IsLineIn limit t) (f.cursor.count - held f.progress) (given limit t f.cursor)
+      each_take (IsLineIn limit t) _ (given limit t f.cursor)
       (each_entry (read_lines t f.cursor) (lines t) (given limit t f.cursor) told.run.entries
-      (λ l i. rw told.begins.1.0 (in_later l told.begins.0 from (in_take l f.cursor.count from i))))
+      (grind (arith, in_later, in_take)))
 
   later_source : (o : Option (List ℕ)) (sources : List (Option (List ℕ))) (m : Member) → IsLineOf limit sources m
       → IsLineOf limit (o ∷ sources) m
-  later_source None sources m h = inr h
-  later_source (Some t) sources m h = inr h
+  later_source o sources m h = grind arith
 
   first_source : (o : Option (List ℕ)) (sources : List (Option (List ℕ))) (m : Member) → IsLineIn limit (text_or o) m
       → IsLineOf limit (o ∷ sources) m
-  first_source None sources m h = absurd h.1
-  first_source (Some t) sources m h = inl h
+  first_source o sources m h = grind arith
 
   module _ {S : Type 0} (text : S → Option (List ℕ)) (extent : S → ℕ) where
     all_lines_of : (past : List ℕ → Bool) (n : ℕ) (ss : List S) (fs : List Feed) (ws : List WaitingLine)
@@ -77,8 +73,10 @@ module _ (limit : ℕ) where
     told_or [] = inl tt
     told_or (s ∷ ss) = more (text s) (told_or ss)
       where
-        more : (o : Option (List ℕ)) → AreTold text ss ⊎ ((m : Member) → HasEntry limit m → IsLineOf limit (map text ss) m)
-            → ((is_some o ≡ true) × AreTold text ss) ⊎ ((m : Member) → HasEntry limit m → IsLineOf limit (o ∷ map text ss) m)
+        more : (o : Option (List ℕ)) → AreTold text ss ⊎ ((m : Member) → HasEntry limit m → IsLineOf limit (map text
+            ss) m)
+            → ((is_some o ≡ true) × AreTold text ss) ⊎ ((m : Member) → HasEntry limit m → IsLineOf limit (o ∷ map text
+            ss) m)
         more None h = inr (λ m e. inl e)
         more (Some t) (inl h) = inl (refl, h)
         more (Some t) (inr f) = inr (λ m e. inr (f m e))
@@ -90,14 +88,16 @@ module _ (limit : ℕ) where
     taken_lines past gave ss0 fs0 ss fs ws b taken same reached = record {
       rise = reached.handed.rises;
       each = elim (told_or ss0) [
-        | inl told ↦ rw (reached.handed.told told).0 (each_rising member_place place_cmp place_cmp_total
-            (IsLineOf limit (map text ss0)) (all_done limit text ss fs)
-            (rw (← texts_kept text extent gave ss0 ss fs0 fs same long reached.moved) (all_lines_of past 0 ss fs ws
-            (told_moved text extent gave ss0 ss fs0 fs reached.ready.same reached.moved told) reached.ready.fed)))
+        | inl told ↦ rw (reached.handed.told told).0 (grind (
+          arith,
+          each_rising,
+          place_cmp_total,
+          all_lines_of,
+          told_moved,
+          texts_kept,
+          AllZip-long,
+          length_zip,
+        ))
         | inr f ↦ each_weaker f taken reached.handed.entries
       ];
     }
-      where
-        long : length ss ≡ length ss0
-        long = sym (length_zip ss fs reached.ready.same)
-            ∙ AllZip-long (Move text extent gave) (zip ss0 fs0) (zip ss fs) reached.moved ∙ length_zip ss0 fs0 same

@@ -2,9 +2,9 @@
 use Rattle.std.proofs.lemmas.Grind.{drop_more_same}
 use Rattle.std.proofs.lemmas.List.{take-map}
 use Rattle.std.specs.List.{AllZip, AllByRecursion}
-use Rattle.std.proofs.Common.{◌≡◌, ℕ, suc, ◌+◌, ◌-◌, ◌*◌, ◌≤◌, List, [], ◌∷◌, ◌++◌, length, take, drop, map, flat_map}
-use Rattle.std.proofs.Common.{get_or, set, Bool, false, Option, None, Some, refl, sym, ap, ◌∙◌, arith, append_assoc}
-use Rattle.std.proofs.Common.{append-nil, take-append-drop, length-append, length-drop, drop-set-lt, get_or-drop}
+use Rattle.std.proofs.Common.{◌≡◌, ℕ, suc, ◌+◌, ◌-◌, ◌*◌, ◌≤◌, List, [], ◌∷◌, ◌++◌, length, take, drop, map, get_or}
+use Rattle.std.proofs.Common.{set, Bool, false, Option, None, Some, refl, sym, ap, ◌∙◌, arith, append_assoc, append-nil}
+use Rattle.std.proofs.Common.{take-append-drop, length-append, length-drop, drop-set-lt, get_or-drop}
 use Rattle.std.proofs.lemmas.List.Concat.{flat_map-append}
 use Rattle.cdxj_places.specs.Pairs.{Pair}
 use Rattle.cdxj_places.specs.TextLines.{lines}
@@ -21,7 +21,7 @@ use Rattle.merge_core.specs.Spending.{ReadTo, AreReadTo, OpenedWithin}
 use Rattle.merge_core.proofs.CountLemmas.{one_held}
 use Rattle.merge_core.proofs.Filters.{each_both}
 use Rattle.merge_core.proofs.GroupLemmas.{each_cut}
-use Rattle.merge_core.proofs.Many.{zip_set, each_replaced}
+use Rattle.merge_core.proofs.Many.{zip_set, each_replaced, two_same}
 
 longest_later : (k : ℕ) (ls : List (List ℕ)) → longest (drop k ls) ≤ longest ls
 longest_later (suc k) (l ∷ ls) = let h = longest_later k ls in omega arith
@@ -37,7 +37,8 @@ one_line (l ∷ []) h = omega (arith, ap length (append-nil l))
 one_line ls h = omega arith
 
 module _ {limit : ℕ} {past : List ℕ → Bool} {text : Option (List ℕ)} {t : List ℕ} {extent : ℕ} {f : Feed}
-    {ws : List Member} {b : Option Pair} {new : CursorState} (fed : Fed limit past text extent f ws) (is : text ≡ Some t)
+    {ws : List Member} {b : Option Pair} {new : CursorState} (fed : Fed limit past text extent f ws)
+    (is : text ≡ Some t)
     (upto : AllByRecursion (λ m. IsUpto b (member_pair m)) (done limit t f)) where
   -- a cursor that passed one line more at most than those that the feed gave
   pub read_to : new.start ≡ f.cursor.start → new.at ≤ f.cursor.at + first_length (lines (drop f.cursor.at t))
@@ -48,29 +49,19 @@ module _ {limit : ℕ} {past : List ℕ → Bool} {text : Option (List ℕ)} {t 
       let all = read_lines t f.cursor in
       let k = f.cursor.count - held f.progress in
       let one = one_held f.progress in
-      let front = take k all in let back = drop k all in
-      let last = one_line back (omega (arith, length-drop k all)) in
+      let last = one_line (drop k all) (omega (arith, length-drop k all)) in
+      let whole = ap bytes_of (take-append-drop k all) in
+      let later = longest_later k all in
+      let front = longest_front f.cursor.count from in
       record {
-        read = front;
-        rest = back ++ drop f.cursor.count from;
+        read = take k all;
+        rest = drop k all ++ drop f.cursor.count from;
         cut = rw (start, ← append_assoc, take-append-drop, take-append-drop);
         members = done limit t f;
         entries = sym (take-map (line_entry limit) k all) ∙ ap (take k) told.run.entries
             ∙ take-map Some k (given limit t f.cursor);
         within = grind (arith, each_both);
-        most = omega (
-          arith,
-          told.stood,
-          last,
-          ap bytes_of (take-append-drop k all),
-          ap length (flat_map-append (λ (l : List ℕ). l) front back),
-          length-append (flat_map (λ (l : List ℕ). l) front) (flat_map (λ (l : List ℕ). l) back),
-          longest_later k all,
-          longest_front f.cursor.count from,
-          longest_drop f.cursor.start t,
-          first_most (lines (drop f.cursor.at t)),
-          longest_drop f.cursor.at t,
-        );
+        most = grind (arith, flat_map-append, length-append, longest_drop, first_most);
       }
 
 module _ (limit : ℕ) (past : List ℕ → Bool) where
@@ -104,22 +95,17 @@ module _ (limit : ℕ) (past : List ℕ → Bool) where
 -- where nothing may be read, little was
 pub read_none : (limit : ℕ) (past : List ℕ → Bool) (t : List ℕ) (c : CursorState) → ReadTo limit past None t c
     → reach c ≤ c.start + 2 * longest (lines t) + 8192
-read_none limit past t c h = let most = h.most in let none = ap bytes_of
-    (no_lines h.read h.members h.entries (none_of h.members h.within)) in omega arith
+read_none limit past t c h =
+    let none = no_bytes h.read h.members h.entries h.within in let most = h.most in omega arith
   where
-    none_of : (ms : List Member) → AllByRecursion (λ m. (past m.values.key ≡ false) × IsUpto None (member_pair m)) ms
-        → ms ≡ []
-    none_of [] k = refl
-    none_of (m ∷ ms) k = absurd k.0.1
-
-    no_lines : (ls : List (List ℕ)) (ms : List Member) → map (line_entry limit) ls ≡ map Some ms → ms ≡ [] → ls ≡ []
-    no_lines [] ms e n = refl
-    no_lines (l ∷ ls) ms e n = grind arith
+    no_bytes : (ls : List (List ℕ)) (ms : List Member) → map (line_entry limit) ls ≡ map Some ms
+        → AllByRecursion (λ m. (past m.values.key ≡ false) × IsUpto None (member_pair m)) ms → bytes_of ls ≡ 0
+    no_bytes (l ∷ ls) (m ∷ ms) e within = absurd within.0.1
+    no_bytes ls ms e within = grind arith
 
 pub opened_none : {S : Type 0} (text : S → Option (List ℕ)) (extent gave : S → ℕ) (ss : List S)
     → AllZip (λ x y. OpenedWithin (text x) (extent x) (gave x) (gave y)) ss ss
-opened_none text extent gave [] = tt
-opened_none text extent gave (s ∷ ss) = ((λ t e. omega arith), opened_none text extent gave ss)
+opened_none text extent gave = grind (arith, two_same)
 
 pub two_put : {X Y : Type 0} (R : X → Y → Type 0) (xs : List X) (ys : List Y) (i : ℕ) (d : X) (y : Y) → AllZip R xs ys
     → R (get_or xs i d) y → AllZip R xs (set ys i y)
@@ -128,10 +114,7 @@ two_put R xs ys i d y h r = grind arith
 
 -- what is left of a list that was gone over up to an index
 pub left_here : {X : Type 0} (old xs : List X) (i : ℕ) (d : X) → drop i xs ≡ drop i old → get_or xs i d ≡ get_or old i d
-left_here {X = X} old xs i d e = sym (first xs) ∙ ap (λ l. get_or l 0 d) e ∙ first old
-  where
-    first : (us : List X) → get_or (drop i us) 0 d ≡ get_or us i d
-    first us = grind (arith, get_or-drop)
+left_here old xs i d e = let was = get_or-drop i old 0 d in let now = get_or-drop i xs 0 d in grind arith
 
 pub left_after : {X : Type 0} (old xs : List X) (i : ℕ) (y : X) → drop i xs ≡ drop i old → drop (i + 1) (set xs i y)
     ≡ drop (i + 1) old

@@ -41,25 +41,23 @@ filter_every : (xs : List Member) → filter (λ m. true) xs ≡ xs
 filter_every [] = refl
 filter_every (x ∷ xs) = ap (λ l. x ∷ l) (filter_every xs)
 
--- of sources that are indexes, what was taken is a front of their collection
-front : (g : Over) (c : After-merge g) {ss : List g.row.S.Denot} {fs : List Feed} {ws : List WaitingLine}
-    {b : Option Pair} {taken : List Member} → ReachedFrom g c ss fs ws b taken
-    → (old new : Option (List ℕ)) → AppendsPrefix old new (lines_text taken)
-    → OverIndexes LINE_LIMIT (map g.S.Source.text c.args.sources.now)
-    (λ texts indexes. AppendsPrefix old new (lines_text (collection indexes)))
-front g c {ss} {fs} {ws} {b} {taken} reached old new p texts indexes known are =
-    let opened = c.in_ok-opened.ensures in
-    let first = sought_first _ _ _ _ _ (λ key later e h. absurd (true≢false (sym e))) _ _ _ _ _ _ _ opened.ready.same
-    reached texts indexes (rw (← opened.text) at known) are (λ m. true) (λ m e. refl) ([], []) opened.cut
-    (λ m e. none_below_least (member_pair m).0 (member_pair m).1) in
-    let whole : collection indexes ≡ taken ++ first.0 = grind (arith, filter_every) in
-    rw (whole, flat_map-append) (prefix_longer old new _ _ p)
+module _ (g : Over) (c : After-merge g) {ss : List g.row.S.Denot} {fs : List Feed} {ws : List WaitingLine}
+    {b : Option Pair} {taken : List Member} (reached : ReachedFrom g c ss fs ws b taken) where
+  -- of sources that are indexes, what was taken is a front of their collection
+  front : (old new : Option (List ℕ)) → AppendsPrefix old new (lines_text taken)
+      → OverIndexes LINE_LIMIT (map g.S.Source.text c.args.sources.now)
+      (λ texts indexes. AppendsPrefix old new (lines_text (collection indexes)))
+  front old new p texts indexes known are =
+      let opened = c.in_ok-opened.ensures in
+      let first = sought_first _ _ _ _ _ (λ key later e h. absurd (true≢false (sym e))) _ _ _ _ _ _ _ opened.ready.same
+      reached texts indexes (rw (← opened.text) at known) are (λ m. true) (λ m e. refl) ([], []) opened.cut
+      (λ m e. none_below_least (member_pair m).0 (member_pair m).1) in
+      let whole : collection indexes ≡ taken ++ first.0 = grind (arith, filter_every) in
+      rw (whole, flat_map-append) (prefix_longer old new _ _ p)
 
--- and of any sources, it is lines of theirs
-lines : (g : Over) (c : After-merge g) {ss : List g.row.S.Denot} {fs : List Feed} {ws : List WaitingLine}
-    {b : Option Pair} {taken : List Member} → ReachedFrom g c ss fs ws b taken
-    → AreLinesOf LINE_LIMIT (map g.S.Source.text c.args.sources.now) taken
-lines g c reached = rw (← c.in_ok-opened.ensures.text) (grind (arith, taken_lines))
+  -- and of any sources, it is lines of theirs
+  lines : AreLinesOf LINE_LIMIT (map g.S.Source.text c.args.sources.now) taken
+  lines = rw (← c.in_ok-opened.ensures.text) (grind (arith, taken_lines))
 
 whole : (old new : Option (List ℕ)) (text : List ℕ) → Appends old new text → AppendsPrefix old new text
 whole old new text a = grind (arith, append-nil, prefix_whole)
@@ -89,8 +87,8 @@ returns-in_err-opened-clause-part g c = grind (arith, wrote_nothing)
 
 pub returns-in_err-opened-clause-lines : goal.returns-in_err-opened-clause-lines
 returns-in_err-opened-clause-lines g c =
-    let p = err_from_is_err_and c.from_residual.result c.from_residual.ensures.1 in
-    rw p.1 (([], record { rise = tt; each = tt }, wrote_nothing (g.O.Output.written c.args.out.now) (lines_text [])))
+    rw (err_from_is_err_and c.from_residual.result c.from_residual.ensures.1).1
+    ([], record { rise = tt; each = tt }, wrote_nothing _ [])
 
 pub returns-in_err-merge-clause-part : goal.returns-in_err-merge-clause-part
 returns-in_err-merge-clause-part g c =

@@ -9,7 +9,6 @@ use Rattle.merge_core.proofs.feed.Feed.begin.Goals as goal
 
 pub returns-in-Some-clause-fed : goal.returns-in-Some-clause-fed
 returns-in-Some-clause-fed g c =
-    let ok = c.in_ok-line.ensures in
     let read : LineRead LINE_LIMIT (g.R.Range.past c.args.range.now) (g.S.Source.text c.next_line.new.source)
     (g.S.Source.extent c.next_line.new.source) c.args.self.now c.settle.new.self c.in-Some.line.value = record {
       is_due = grind arith;

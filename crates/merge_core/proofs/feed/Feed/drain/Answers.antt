@@ -65,12 +65,9 @@ pub returns-in-Greater-clause-taken : goal.returns-in-Greater-clause-taken
 returns-in-Greater-clause-taken g c = λ t e.
     let here = goal.at.returns-in-Greater-clause-taken g c in
     let up = below_upto (member_pair c.args.first.now) (member_pair c.in-Some.line.value) (above g here.In-Greater) in
-    let h = c.loop-line.invariant.taken t e in (
-      h.0,
-      done_next (was_read g here.In-Some c.settle.new.self c.settle.ensures.cursor up) _ c.settle.ensures.next t ∙ h.1,
-      h.2,
-      h.3,
-    )
+    let same = done_next (was_read g here.In-Some c.settle.new.self c.settle.ensures.cursor up) _
+    c.settle.ensures.next t in
+    let h = c.loop-line.invariant.taken t e in (h.0, same ∙ h.1, h.2, h.3)
 
 pub loop-line-preserved : goal.loop-line-preserved
 loop-line-preserved g c =
