@@ -25,9 +25,6 @@ use Rattle.merge_core.proofs.StartLemmas.{run_after}
 text_append : (us vs : List Member) → length (lines_text (us ++ vs)) ≡ length (lines_text us) + length (lines_text vs)
 text_append us vs = grind (arith, flat_map-append, length-append)
 
-bytes_cons : (l : List ℕ) (ls : List (List ℕ)) → bytes_of (l ∷ ls) ≡ length l + bytes_of ls
-bytes_cons l ls = length-append l _
-
 -- a line has no more bytes than its entry with a line feed
 row_most : (limit : ℕ) (l : List ℕ) (m : Member) → line_entry limit l ≡ Some m → length l ≤ length (line_row m)
 row_most limit l m e =
@@ -38,7 +35,7 @@ rows_most : (limit : ℕ) (ls : List (List ℕ)) (ms : List Member) → map (lin
     → bytes_of ls ≤ length (lines_text ms)
 rows_most limit (l ∷ ls) (m ∷ ms) e =
     let rest : map (line_entry limit) ls ≡ map Some ms = cc in
-    grind (arith, row_most, bytes_cons, length-append, rows_most limit ls ms rest)
+    grind (arith, row_most, length-append, rows_most limit ls ms rest)
 rows_most limit ls ms e = grind arith
 
 -- of equal lists of entries, the one is a front
@@ -64,8 +61,7 @@ module _ (limit : ℕ) (past : List ℕ → Bool) (start : Pair) (b : Option Pai
       → (r : ReadTo limit past b t c) → bytes_of r.read ≤ length (lines_text (filter test ms))
   source_bytes t ms c index cut r =
       let run = run_after limit start t ms c.start index cut in
-      let both : map Some r.members ++ map (line_entry limit) r.rest ≡ map Some cut.high = grind (arith, map-append) in
-      let tail = front_of r.members (map (line_entry limit) r.rest) cut.high both in
+      let tail = front_of r.members (map (line_entry limit) r.rest) cut.high (grind (arith, map-append)) in
       let not_low = (each_cut (λ m. is_low start m ≡ false) r.members tail.0 (rw (← tail.1) cut.none_below)).0 in
       let all_pass = each_passes r.members r.within not_low in
       grind (arith, filter-append, filter_all, rows_most, text_append)

@@ -205,20 +205,19 @@ module _ {limit : ℕ} {past : List ℕ → Bool} {t : List ℕ} {extent : ℕ} 
       → IsNextLine limit t f.cursor.at new.at (Some m) → Below (member_pair m) pair → IsOutOfOrder limit t f.cursor.at
   order_named pair new m due end next below =
       let told = fed.told t refl in
-      let from = lines (drop f.cursor.start t) in
       let last = last_line limit (read_lines t f.cursor) end.0 end.1 (grind (arith, done_due)) in
-      let here = begins_here next.0 (lines (drop new.at t)) next.1 in
       let front : told.begins.0 ++ read_lines t f.cursor ≡ (told.begins.0 ++ last.0)
       ++ last.1 ∷ [] = grind (arith, append_assoc) in
+      let turned = pair_cmp_total.antisymm (member_pair end.1) (member_pair m) in
+      let lower = below_then (member_pair m) pair (member_pair end.1) below end.3 in
       record {
         before = told.begins.0 ++ last.0;
         previous = last.1;
         line = next.0;
-        begins = rw (← front) here;
+        begins = rw (← front) (begins_here next.0 (lines (drop new.at t)) next.1);
         earlier = end.1;
         later = m;
         earlier_is = last.3;
         later_is = next.2;
-        falls = (let turned = pair_cmp_total.antisymm (member_pair end.1) (member_pair m) in
-            let lower = below_then (member_pair m) pair (member_pair end.1) below end.3 in grind arith);
+        falls = grind arith;
       }

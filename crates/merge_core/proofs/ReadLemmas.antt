@@ -1,7 +1,7 @@
 -- What was taken of sources that are indexes, beside all of their collection.
 use Rattle.std.specs.List.{AllZip, AllByRecursion}
 use Rattle.std.proofs.Common.{◌≡◌, ℕ, ◌+◌, List, [], ◌∷◌, ◌++◌, length, map, filter, zip, Bool, true, false, not}
-use Rattle.std.proofs.Common.{Option, Some, ◌∙◌, arith}
+use Rattle.std.proofs.Common.{Option, ◌∙◌, arith}
 use Rattle.std.proofs.lemmas.List.Elements.{filter-append}
 use Rattle.cdxj_places.specs.Pairs.{Pair}
 use Rattle.cdxj_places.specs.Places.{place_cmp}
@@ -13,7 +13,7 @@ use Rattle.merge_core.specs.declared.feed.Feed.{Feed}
 use Rattle.line_queue.specs.PairOrders.{IsAbove, Upto, is_low}
 use Rattle.line_queue.specs.WaitingLines.{WaitingLine, waiting_pair, waits_of}
 use Rattle.merge_core.specs.Collections.{Known, all_lines, collection}
-use Rattle.merge_core.specs.Feeds.{AreFed, AreSettled, IsSettled, Fed, done}
+use Rattle.merge_core.specs.Feeds.{AreFed, AreSettled, done}
 use Rattle.merge_core.specs.Gathering.{AreTold, text_or, all_done}
 use Rattle.merge_core.specs.Openings.{IsCutAt}
 use Rattle.merge_core.specs.Reached.{Reached}
@@ -35,29 +35,20 @@ module _ (limit : ℕ) (past : List ℕ → Bool) (upward : IsUpward past) (upto
   pub late_of : (n : ℕ) → AllByRecursion (IsLate limit past upward upto) (waits_of n ws)
   late_of n = grind (arith, each_waits, each_weaker)
 
-  -- sources of which lines are known, by how the lines of one are read
-  pub all_read : (Lines : S × Feed → List Member → Type 0)
-      → ((s : S) (f : Feed) (own : List Member) → Fed limit past (Some (text_or (text s))) (extent s) f own
-      → IsSettled f → AllByRecursion (IsLate limit past upward upto) own
-      → AllByRecursion (λ m. upto m ≡ true) (done limit (text_or (text s)) f) → text s ≡ Some (text_or (text s))
-      → (ms : List Member) → Lines (s, f) ms
-      → filter (is_read limit past upward upto) ms ≡ filter (stays limit past upward) (done limit (text_or (text s)) f))
-      → (n : ℕ) (ss : List S) (fs : List Feed) (highs : List (List Member)) → length ss ≡ length fs
-      → AreTold text ss → AllZip Lines (zip ss fs) highs → AreFed limit past text extent n ss fs ws → AreSettled fs
+  all_read : (n : ℕ) (ss : List S) (fs : List Feed) (highs : List (List Member)) → length ss ≡ length fs
+      → AreTold text ss → AllZip (RunsFrom limit text) (zip ss fs) highs
+      → AreFed limit past text extent n ss fs ws → AreSettled fs
       → AllByRecursion (λ m. upto m ≡ true) (all_done limit text ss fs)
       → filter (is_read limit past upward upto) (all_lines highs)
       ≡ filter (stays limit past upward) (all_done limit text ss fs)
-  all_read Lines one n (s ∷ ss) (f ∷ fs) (i ∷ is) same told known fed settled each =
+  all_read n (s ∷ ss) (f ∷ fs) (i ∷ is) same told runs fed settled each =
+      let t = text_or (text s) in
       let is_text = is_told (text s) told.0 in
-      let cut = each_cut (λ m. upto m ≡ true) (done limit (text_or (text s)) f) (all_done limit text ss fs) each in
-      let here = one s f (waits_of n ws) (rw is_text at fed.0) settled.0 (late_of n) cut.0 is_text i known.0 in
-      grind (
-        arith,
-        filter-append,
-        all_read Lines one (n + 1) ss fs is (omega arith) told.1 known.1 fed.1 settled.1
-            cut.1,
-      )
-  all_read Lines one n ss fs highs same told known fed settled each = grind arith
+      let cut = each_cut (λ m. upto m ≡ true) (done limit t f) (all_done limit text ss fs) each in
+      let here = fed_read upward upto (rw is_text at fed.0) settled.0 (late_of n) cut.0 i (runs.0 t is_text) in
+      let rest = all_read (n + 1) ss fs is (omega arith) told.1 runs.1 fed.1 settled.1 cut.1 in
+      grind (arith, filter-append)
+  all_read n ss fs highs same told runs fed settled each = grind arith
 
 -- ---- where a merge of indexes came to
 
@@ -68,9 +59,6 @@ module _ {S : Type 0} (text : S → Option (List ℕ)) (extent gave : S → ℕ)
     (texts : List (List ℕ)) (indexes : List (List Member)) (known : Known (map text ss0) texts)
     (are : AllZip (IsIndex limit) texts indexes)
     (wanted : Member → Bool) (within : (m : Member) → wanted m ≡ true → not (past m.values.key) ≡ true) where
-  told_now : AreTold text ss
-  told_now = grind (arith, told_moved, told_known)
-
   -- beside the lines that the sources have from where they are read on
   took : (highs : List (List Member)) → AllZip (RunsFrom limit text) (zip ss0 fs0) highs
       → Took limit past upward wanted b ws (all_lines highs) taken
@@ -79,12 +67,7 @@ module _ {S : Type 0} (text : S → Option (List ℕ)) (extent gave : S → ℕ)
     above = reached.above;
     done = all_done limit text ss fs;
     handed = grind (arith, told_known);
-    read = λ upto late each. all_read limit past upward upto text extent ws late (RunsFrom limit text)
-        (λ s f own fed settled late each is ms run. fed_read upward upto fed settled late each ms (run _ is)) 0 ss fs
-        highs
-        reached.ready.same told_now (runs_kept limit text extent gave (zip ss0 fs0) (zip ss fs) highs reached.moved
-        runs)
-        reached.ready.fed reached.settled each;
+    read = λ upto late each. grind (arith, all_read, told_moved, told_known, runs_kept);
   }
 
   -- sources that are read from where the search for this pair ended, below which nothing is wanted

@@ -94,10 +94,8 @@ wanted_high wanted low lower passes xs =
 
 pub members_are : (limit : ℕ) (ls : List (List ℕ)) (ms : List Member) → map (line_entry limit) ls ≡ map Some ms
     → map (member_of limit) ls ≡ ms
+members_are limit (l ∷ ls) (m ∷ ms) e = grind (arith, members_are limit ls ms)
 members_are limit [] [] e = refl
-members_are limit (l ∷ ls) (m ∷ ms) e =
-    let rest : map (line_entry limit) ls ≡ map Some ms = cc in
-    grind (arith, members_are limit ls ms rest)
 members_are limit ls ms e = cc
 
 module _ (limit : ℕ) (past : List ℕ → Bool) (upward : IsUpward past) where

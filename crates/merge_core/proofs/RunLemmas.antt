@@ -1,7 +1,7 @@
 -- What was taken of sources of any bytes, beside the lines that were read of them.
-use Rattle.std.specs.List.{AllZip, sum}
-use Rattle.std.proofs.Common.{◌≡◌, ◌⊎◌, ℕ, ◌+◌, List, [], ◌∷◌, ◌++◌, length, drop, map, filter, zip, Bool, true, not}
-use Rattle.std.proofs.Common.{Option, Some, refl, ap, arith, take-append-drop, append_assoc}
+use Rattle.std.specs.List.{AllByRecursion, AllZip, sum}
+use Rattle.std.proofs.Common.{◌≡◌, ◌⊎◌, ℕ, ◌+◌, List, [], ◌∷◌, ◌++◌, length, drop, map, filter, Bool, true, not, Option}
+use Rattle.std.proofs.Common.{Some, refl, ap, arith, take-append-drop, append_assoc}
 use Rattle.std.proofs.lemmas.List.{length-map, nil_from_length}
 use Rattle.std.proofs.lemmas.List.Sums.{sum_by-cons}
 use Rattle.cdxj_places.specs.Pairs.{Pair}
@@ -18,8 +18,10 @@ use Rattle.merge_core.specs.Gathering.{AreTold, text_or, all_done}
 use Rattle.merge_core.specs.Reached.{Reached}
 use Rattle.merge_core.specs.Runs.{IsPart, parts}
 use Rattle.merge_core.proofs.Many.{is_told, told_moved}
-use Rattle.merge_core.proofs.ReadLines.{IsUpward, given_read}
-use Rattle.merge_core.proofs.ReadLemmas.{all_read}
+use Rattle.merge_core.proofs.ReadLines.{IsUpward, stays, is_read, IsLate, given_read}
+use Rattle.merge_core.proofs.ReadLemmas.{late_of}
+use Rattle.std.proofs.lemmas.List.Elements.{filter-append}
+use Rattle.merge_core.proofs.GroupLemmas.{each_cut}
 use Rattle.merge_core.proofs.TakenLemmas.{TakenFirst, Took, taken_first, taken_whole}
 
 -- ---- one source
@@ -74,12 +76,20 @@ module _ (limit : ℕ) (past : List ℕ → Bool) {S : Type 0} (text : S → Opt
       omega arith
   parts_count n ss fs same told fed = grind (arith, nil_from_length)
 
--- the lines that were read of each source
-given_of : {S : Type 0} (limit : ℕ) (text : S → Option (List ℕ)) (xs : List (S × Feed))
-    → AllZip (λ x ms. ms ≡ given limit (text_or (text x.0)) x.1.cursor) xs
-    (map (λ x. given limit (text_or (text x.0)) x.1.cursor) xs)
-given_of limit text [] = tt
-given_of limit text (x ∷ xs) = (refl, given_of limit text xs)
+  module _ (upward : IsUpward past) (upto : Member → Bool)
+      (late : AllByRecursion (λ (w : WaitingLine). IsLate limit past upward upto w.member) ws) where
+    parts_read : (n : ℕ) (ss : List S) (fs : List Feed) → length ss ≡ length fs → AreTold text ss
+        → AreFed limit past text extent n ss fs ws → AreSettled fs
+        → AllByRecursion (λ m. upto m ≡ true) (all_done limit text ss fs)
+        → filter (is_read limit past upward upto) (all_lines (parts limit text ss fs))
+        ≡ filter (stays limit past upward) (all_done limit text ss fs)
+    parts_read n (s ∷ ss) (f ∷ fs) same told fed settled each =
+        let cut = each_cut (λ m. upto m ≡ true) (done limit (text_or (text s)) f) (all_done limit text ss fs) each in
+        let here = given_read upward upto (rw (is_told (text s) told.0) at fed.0) settled.0
+        (late_of limit past upward upto text extent ws late n) cut.0 in
+        let rest = parts_read (n + 1) ss fs (omega arith) told.1 fed.1 settled.1 cut.1 in
+        grind (arith, filter-append)
+    parts_read n ss fs same told fed settled each = grind arith
 
 -- ---- where a merge came to
 
@@ -88,20 +98,13 @@ module _ {S : Type 0} (text : S → Option (List ℕ)) (extent gave : S → ℕ)
     (ws : List WaitingLine) (b : Option Pair) (taken : List Member)
     (reached : Reached limit text past extent gave ss0 fs0 ss fs ws b taken) (told : AreTold text ss0)
     (wanted : Member → Bool) (within : (m : Member) → wanted m ≡ true → not (past m.values.key) ≡ true) where
-  told_now : AreTold text ss
-  told_now = grind (arith, told_moved)
-
   took : Took limit past upward wanted b ws (all_lines (parts limit text ss fs)) taken
   took = record {
     within = within;
     above = reached.above;
     done = all_done limit text ss fs;
     handed = reached.handed.told told;
-    read = λ upto late each. all_read limit past upward upto text extent ws late
-        (λ x ms. ms ≡ given limit (text_or (text x.0)) x.1.cursor)
-        (λ s f own fed settled late each is ms e. rw e (given_read upward upto fed settled late each)) 0 ss fs
-        (parts limit text ss fs) reached.ready.same told_now (given_of limit text (zip ss fs)) reached.ready.fed
-        reached.settled each;
+    read = λ upto late each. grind (arith, parts_read, told_moved);
   }
 
   -- what was taken is a front of what is wanted of the lines that were read

@@ -73,10 +73,10 @@ module _ (limit : ℕ) where
     told_or [] = inl tt
     told_or (s ∷ ss) = more (text s) (told_or ss)
       where
-        more : (o : Option (List ℕ)) → AreTold text ss ⊎ ((m : Member) → HasEntry limit m → IsLineOf limit (map text
-            ss) m)
-            → ((is_some o ≡ true) × AreTold text ss) ⊎ ((m : Member) → HasEntry limit m → IsLineOf limit (o ∷ map text
-            ss) m)
+        more : (o : Option (List ℕ))
+            → AreTold text ss ⊎ ((m : Member) → HasEntry limit m → IsLineOf limit (map text ss) m)
+            → ((is_some o ≡ true) × AreTold text ss)
+            ⊎ ((m : Member) → HasEntry limit m → IsLineOf limit (o ∷ map text ss) m)
         more None h = inr (λ m e. inl e)
         more (Some t) (inl h) = inl (refl, h)
         more (Some t) (inr f) = inr (λ m e. inr (f m e))
