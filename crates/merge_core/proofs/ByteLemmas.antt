@@ -1,7 +1,7 @@
 -- How many bytes indexes gave.
 use Rattle.std.specs.List.{AllZip, AllByRecursion}
-use Rattle.std.proofs.Common.{◌≡◌, ℕ, ◌+◌, ◌≤◌, List, [], ◌∷◌, ◌++◌, length, map, filter, zip, Bool, true, false}
-use Rattle.std.proofs.Common.{Option, Some, ap, ◌∙◌, arith, length-append, length-take}
+use Rattle.std.proofs.Common.{◌≡◌, ℕ, ◌≤◌, List, [], ◌∷◌, ◌++◌, length, map, filter, zip, Bool, true, false, Option}
+use Rattle.std.proofs.Common.{Some, ap, ◌∙◌, arith, length-append, length-take}
 use Rattle.std.proofs.lemmas.List.{map-append}
 use Rattle.std.proofs.lemmas.List.Concat.{flat_map-append}
 use Rattle.std.proofs.lemmas.List.Elements.{filter-append}
@@ -22,9 +22,6 @@ use Rattle.merge_core.proofs.GroupLemmas.{each_cut, filter_all}
 use Rattle.merge_core.proofs.Many.{Move}
 use Rattle.merge_core.proofs.StartLemmas.{run_after}
 
-text_append : (us vs : List Member) → length (lines_text (us ++ vs)) ≡ length (lines_text us) + length (lines_text vs)
-text_append us vs = grind (arith, flat_map-append, length-append)
-
 -- a line has no more bytes than its entry with a line feed
 row_most : (limit : ℕ) (l : List ℕ) (m : Member) → line_entry limit l ≡ Some m → length l ≤ length (line_row m)
 row_most limit l m e =
@@ -33,17 +30,13 @@ row_most limit l m e =
 
 rows_most : (limit : ℕ) (ls : List (List ℕ)) (ms : List Member) → map (line_entry limit) ls ≡ map Some ms
     → bytes_of ls ≤ length (lines_text ms)
-rows_most limit (l ∷ ls) (m ∷ ms) e =
-    let rest : map (line_entry limit) ls ≡ map Some ms = cc in
-    grind (arith, row_most, length-append, rows_most limit ls ms rest)
+rows_most limit (l ∷ ls) (m ∷ ms) e = grind (arith, row_most, length-append, rows_most limit ls ms)
 rows_most limit ls ms e = grind arith
 
 -- of equal lists of entries, the one is a front
 front_of : (us : List Member) (zs : List (Option Member)) (vs : List Member) → map Some us ++ zs ≡ map Some vs
     → (tail : List Member) × (vs ≡ us ++ tail)
-front_of (u ∷ us) zs (v ∷ vs) e =
-    let rest = front_of us zs vs (let q : map Some us ++ zs ≡ map Some vs = cc in q) in
-    grind arith
+front_of (u ∷ us) zs (v ∷ vs) e = grind (arith, front_of us zs vs)
 front_of us zs vs e = grind arith
 
 -- Indexes were read from where the search for a pair ended; this test holds of all lines that lie within the range,
@@ -63,8 +56,7 @@ module _ (limit : ℕ) (past : List ℕ → Bool) (start : Pair) (b : Option Pai
       let run = run_after limit start t ms c.start index cut in
       let tail = front_of r.members (map (line_entry limit) r.rest) cut.high (grind (arith, map-append)) in
       let not_low = (each_cut (λ m. is_low start m ≡ false) r.members tail.0 (rw (← tail.1) cut.none_below)).0 in
-      let all_pass = each_passes r.members r.within not_low in
-      grind (arith, filter-append, filter_all, rows_most, text_append)
+      grind (arith, each_passes, filter-append, filter_all, rows_most, flat_map-append, length-append)
 
   module _ {S : Type 0} (text : S → Option (List ℕ)) (extent gave : S → ℕ) where
     -- sources that tell their bytes, beside their feeds

@@ -91,13 +91,11 @@ module _ {S : Type 0} {limit : ℕ} {text : S → Option (List ℕ)} {past : Lis
   held_most texts indexes known are most share =
       let known_now = rw (← texts_kept text extent gave old ss old_fs fs same long now.moved) at known in
       let gathered = gathered_now was grouped (told_known text old texts known) in
-      let here = filter_weaker (λ m. not (is_low pair m)) (is_at pair) (all_done limit text ss fs)
-      (each_weaker (at_pair pair) _ gathered.upto) in
       let there = all_fewer limit past text extent 0 ss fs ws texts indexes (is_at pair) now.ready.same known_now are
       now.ready.fed in
       let few = few_of (length ss) ws (rw (← now.ready.same) at now.ready.placed) (few_wait now.ready) in
       let taken = ap length gathered.taken in
-      grind arith
+      grind (arith, filter_weaker, each_weaker, at_pair)
 
 -- ---- the lines that were read
 
@@ -121,16 +119,14 @@ module _ (limit : ℕ) (past : List ℕ → Bool) (start : Pair) (b : Option Pai
       → AllByRecursion (λ m. IsUpto b (member_pair m)) (done limit t f) → f.cursor.count ≤ length (filter test ms) + 1
   source_most {t} {f = f} {ms = ms} fed index cut upto =
       let told = fed.told t refl in
-      let from = lines (drop f.cursor.start t) in
       let run = run_after limit start t ms f.cursor.start index cut in
-      let high : map (member_of limit) from ≡ cut.high = members_are limit from cut.high run.0.entries in
-      let front : done limit t f ≡ take (f.cursor.count - held f.progress) cut.high = grind
-      (arith, take-map, take-take) in
-      let not_low = rw (← front) at (each_take (λ m. is_low start m ≡ false) (f.cursor.count - held f.progress)
-      cut.high cut.none_below) in
-      let all_pass = each_passes (done limit t f) told.within not_low upto in
+      let high : map (member_of limit) (lines (drop f.cursor.start t))
+      ≡ cut.high = members_are limit _ cut.high run.0.entries in
+      let k = f.cursor.count - held f.progress in
+      let front : done limit t f ≡ take k cut.high = grind (arith, take-map, take-take) in
+      let not_low = rw (← front) at (each_take (λ m. is_low start m ≡ false) k cut.high cut.none_below) in
       let fewer = done_fewer test fed index in
-      grind (arith, one_held, length-map, filter_all, length-take)
+      grind (arith, each_passes, one_held, length-map, filter_all, length-take)
 
   module _ {S : Type 0} (text : S → Option (List ℕ)) (extent : S → ℕ) (ws : List WaitingLine) where
     -- No more lines were read than those that pass, and one of each source

@@ -17,13 +17,13 @@ use Rattle.cdxj_core.specs.Lines.{body_of}
 use Rattle.cdxj_core.specs.Members.{Member, member_pair, line_entry}
 use Rattle.cdxj_core.proofs.MemberLemmas.{entry_is_short, long_line_none}
 use Rattle.source_core.specs.Cursors.{CursorState, Stands}
-use Rattle.source_core.specs.IndexLines.{BeginsAfter, first_length}
+use Rattle.source_core.specs.IndexLines.{first_length}
 use Rattle.merge_core.specs.declared.feed.Progress.{Progress}
 use Rattle.merge_core.specs.declared.feed.Progress.TheVariants.{Due, Waiting, Past}
 use Rattle.merge_core.specs.declared.feed.Feed.{Feed}
 use Rattle.line_queue.specs.PairOrders.{Alike, Upto, Below}
 use Rattle.merge_core.specs.Gathering.{EndsAt}
-use Rattle.merge_core.specs.Feeds.{IsNext, Fed, held, bytes_of, read_lines, given, done}
+use Rattle.merge_core.specs.Feeds.{IsNext, Fed, held, read_lines, given, done}
 use Rattle.line_queue.proofs.PairOrder.{upto_both, below_then}
 use Rattle.std.proofs.lemmas.Bool.{cases_lt}
 use Rattle.source_core.specs.LinesAtFault.{IsOutOfOrder, LineBeginsAt}
@@ -81,10 +81,7 @@ module _ (limit : ℕ) where
   run_push : (ls : List (List ℕ)) (ms : List Member) (l : List ℕ) (m : Member) → IsRun limit ls ms
       → line_entry limit l ≡ Some m → AllByRecursion (λ k. Upto (member_pair k) (member_pair m)) ms
       → IsRun limit (ls ++ l ∷ []) (ms ++ m ∷ [])
-  run_push ls ms l m run e low = record {
-    entries = grind (arith, map-append);
-    ordered = falls_push ms m run.ordered low;
-  }
+  run_push ls ms l m run e low = record { entries = grind (arith, map-append); ordered = grind (arith, falls_push) }
 
   -- what is done of a feed, beside what was read before
   pub done_is : (t : List ℕ) (f : Feed) (old : CursorState) → f.cursor.start ≡ old.start → f.cursor.count
@@ -116,26 +113,12 @@ module _ {limit : ℕ} {past : List ℕ → Bool} {text : Option (List ℕ)} {ex
   given_old : (t : List ℕ) → done limit t old ≡ given limit t old.cursor
   given_old t = done_due limit t old r.is_due
 
-  begins_still : (t : List ℕ) → text ≡ Some t → (before : List (List ℕ)) × BeginsAfter t f.cursor.start before
-  begins_still t e = rw r.start (r.was.told t e).begins
-
   read_more : (t : List ℕ) (e : text ≡ Some t) → read_lines t f.cursor
       ≡ read_lines t old.cursor ++ (r.next t e).0 ∷ []
   read_more t e = one_more t old.cursor f.cursor _ (r.was.stands.rest t e) r.count r.start (r.next t e).1
 
   given_next : (t : List ℕ) → text ≡ Some t → given limit t f.cursor ≡ given limit t old.cursor ++ m ∷ []
   given_next t e = let more = read_more t e in grind (arith, map-append)
-
-  run_more : (t : List ℕ) → text ≡ Some t → IsRun limit (read_lines t f.cursor) (given limit t f.cursor)
-  run_more t e =
-      rw (given_next t e, read_more t e) (run_push limit (read_lines t old.cursor) (given limit t old.cursor) _ m
-      (r.was.told t e).run (r.next t e).2 (rw (given_old t) at (r.low t e)))
-
-  stood_more : (t : List ℕ) → text ≡ Some t → f.cursor.at ≤ f.cursor.start + bytes_of (read_lines t f.cursor)
-  stood_more t e = let more = read_more t e in grind (arith, flat_map-append, length-append, append-nil)
-
-  many_more : (t : List ℕ) → text ≡ Some t → length (read_lines t f.cursor) ≡ f.cursor.count
-  many_more t e = let more = read_more t e in grind (arith, length-append)
 
   pub done_next : (ws : List Member) → IsNext past m f.progress ws → (t : List ℕ) → done limit t f ≡ done limit t old
   done_next ws n t = grind (arith, done_is, next_is, given_old)
@@ -151,14 +134,18 @@ module _ {limit : ℕ} {past : List ℕ → Bool} {text : Option (List ℕ)} {ex
     stands = r.stands;
     waits = grind (arith, next_is);
     counted = grind (arith, next_is);
-    told = λ t e. record {
-      begins = begins_still t e;
-      stood = stood_more t e;
-      as_many = many_more t e;
-      within = grind (arith, done_next, done_taken, each_join);
-      run = run_more t e;
-      head = grind (arith, next_is, given_next, done_next, done_due, given_old);
-    };
+    told = λ t e.
+        let was = r.was.told t e in
+        let more = read_more t e in
+        record {
+          begins = rw r.start was.begins;
+          stood = grind (arith, flat_map-append, length-append, append-nil);
+          as_many = grind (arith, length-append);
+          within = grind (arith, done_next, done_taken, each_join);
+          run = rw (given_next t e, more) (run_push limit _ _ _ m was.run (r.next t e).2 (rw (given_old t) at (r.low t
+              e)));
+          head = grind (arith, next_is, given_next, done_next, done_due, given_old);
+        };
   }
 
 -- ---- lines at fault, by where the cursor stands
@@ -193,8 +180,7 @@ module _ {limit : ℕ} {past : List ℕ → Bool} {t : List ℕ} {extent : ℕ} 
       record {
         after = after;
         lines_are = rw (← e) cut;
-        offset_is = begins_at t f.cursor.at (told.begins.0 ++ read_lines t f.cursor) cut
-            (grind (arith, cases_lt, drop_all));
+        offset_is = begins_at t f.cursor.at _ cut (grind (arith, cases_lt, drop_all));
       }
 
   pub bad_named : (e : FeedFault) → IsFeedFaultAt limit (lines (drop f.cursor.at t)) f.cursor.at e → NamesLine limit t e

@@ -17,11 +17,9 @@ use Rattle.cdxj_places.proofs.PlaceOrder.{place_cmp_total}
 use Rattle.cdxj_places.proofs.RisingLaws.{each_weaker, each_rising, rising_split}
 use Rattle.cdxj_core.specs.Indexes.{IsRun}
 use Rattle.cdxj_core.specs.Members.{Member, member_pair, member_place, line_entry}
-use Rattle.merge_core.specs.declared.feed.Progress.{Progress}
-use Rattle.merge_core.specs.declared.feed.Progress.TheVariants.{Due}
 use Rattle.merge_core.specs.declared.feed.Feed.{Feed}
 use Rattle.line_queue.specs.PairOrders.{Upto}
-use Rattle.merge_core.specs.Feeds.{AreWaits, IsHead, IsSettled, Fed, done, given, member_of}
+use Rattle.merge_core.specs.Feeds.{IsSettled, Fed, done, given, member_of}
 use Rattle.line_queue.proofs.PairOrder.{upto_itself}
 use Rattle.merge_core.proofs.GroupLemmas.{filter_none}
 use Rattle.merge_core.proofs.MergeLemmas.{place_below}
@@ -133,13 +131,6 @@ module _ (limit : ℕ) (past : List ℕ → Bool) (upward : IsUpward past) where
       grind (arith, each_weaker, falls_after),
     )
 
-    head_read : (before all ms rest : List Member) (left : List (List ℕ)) (ws : List Member) (progress : Progress)
-        → (progress ≡ Due → ⊥) → AreWaits progress ws → IsHead limit past before all left ws progress
-        → ms ≡ all ++ rest → NeverFalls member_pair pair_cmp ms → (left ≡ [] → rest ≡ []) → AllByRecursion IsLate ws
-        → AllByRecursion (λ m. upto m ≡ true) before → filter is_read ms ≡ filter stays before
-    head_read before all ms rest left ws progress settled waits h e falls end late each =
-        grind (arith, append_assoc, read_is, rest_unread)
-
 module _ {limit : ℕ} {past : List ℕ → Bool} (upward : IsUpward past) (upto : Member → Bool) {t : List ℕ} {extent : ℕ}
     {f : Feed} {ws : List Member} (fed : Fed limit past (Some t) extent f ws) (settled : IsSettled f)
     (late : AllByRecursion (IsLate limit past upward upto) ws)
@@ -147,19 +138,18 @@ module _ {limit : ℕ} {past : List ℕ → Bool} (upward : IsUpward past) (upto
   read_of : (ms rest : List Member) → ms ≡ given limit t f.cursor ++ rest → NeverFalls member_pair pair_cmp ms
       → (lines (drop f.cursor.at t) ≡ [] → rest ≡ [])
       → filter (is_read limit past upward upto) ms ≡ filter (stays limit past upward) (done limit t f)
-  read_of ms rest is falls end = head_read limit past upward upto (done limit t f) (given limit t f.cursor) ms rest
-      (lines (drop f.cursor.at t)) ws f.progress settled fed.waits (fed.told t refl).head is falls end late each
+  read_of ms rest is falls end =
+      let waits = fed.waits in let head = (fed.told t refl).head in grind (arith, append_assoc, read_is, rest_unread)
 
   -- Of the lines from the start on, those that were come to are those that are done
   pub fed_read : (ms : List Member) → IsRun limit (lines (drop f.cursor.start t)) ms
       → filter (is_read limit past upward upto) ms ≡ filter (stays limit past upward) (done limit t f)
   fed_read ms run =
-      let from = lines (drop f.cursor.start t) in
-      let n = f.cursor.count in
-      let whole : map (member_of limit) from ≡ ms = members_are limit from ms run.entries in
-      let read : given limit t f.cursor ≡ take n ms = sym (take-map (member_of limit) n from) ∙ ap (take n) whole in
-      let rest : drop n ms ≡ map (member_of limit) (lines (drop f.cursor.at t)) = grind (arith, drop-map) in
-      read_of ms (drop n ms) (grind (arith, take-append-drop)) run.ordered (grind arith)
+      let whole : map (member_of limit) (lines (drop f.cursor.start t)) ≡ ms = members_are limit _ ms run.entries in
+      let read : given limit t f.cursor ≡ take f.cursor.count ms = grind (arith, take-map) in
+      let rest : drop f.cursor.count ms ≡ map (member_of limit) (lines (drop f.cursor.at t)) = grind
+      (arith, drop-map) in
+      read_of ms (drop f.cursor.count ms) (grind (arith, take-append-drop)) run.ordered (grind arith)
 
   -- the same of the lines that were read
   pub given_read : filter (is_read limit past upward upto) (given limit t f.cursor)

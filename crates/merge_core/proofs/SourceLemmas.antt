@@ -34,12 +34,9 @@ module _ (limit : ℕ) where
   each_entry : (ls all : List (List ℕ)) (ms : List Member) → map (line_entry limit) ls ≡ map Some ms
       → ((l : List ℕ) → IsIn l ls → IsIn l all)
       → AllByRecursion (λ m. (line : List ℕ) × IsIn line all × (line_entry limit line ≡ Some m)) ms
+  each_entry (l ∷ ls) all (m ∷ ms) e f = grind (arith, each_entry ls all ms)
   each_entry ls all [] e f = tt
-  each_entry [] all (m ∷ ms) e f = cc
-  each_entry (l ∷ ls) all (m ∷ ms) e f =
-      let here : line_entry limit l ≡ Some m = cc in
-      let rest : map (line_entry limit) ls ≡ map Some ms = cc in
-      ((l, f l (inl refl), here), each_entry ls all ms rest (λ k i. f k (inr i)))
+  each_entry ls all ms e f = cc
 
   -- what is done of a source are lines of it
   done_lines : {past : List ℕ → Bool} {t : List ℕ} {extent : ℕ} {f : Feed} {ws : List Member}
@@ -64,8 +61,15 @@ module _ (limit : ℕ) where
         → AllByRecursion (IsLineOf limit (map text ss)) (all_done limit text ss fs)
     all_lines_of past n (s ∷ ss) (f ∷ fs) ws told fed =
         let others = all_lines_of past (n + 1) ss fs ws told.1 fed.1 in
-        let here = done_lines (rw (is_told (text s) told.0) at fed.0) in
-        grind (arith, each_join, each_weaker, first_source, later_source)
+        grind (
+          arith,
+          each_join,
+          each_weaker,
+          first_source,
+          later_source,
+          done_lines (rw (is_told (text s) told.0) at
+              fed.0),
+        )
     all_lines_of past n ss fs ws told fed = tt
 
     -- all sources tell their bytes, or one doesn't

@@ -71,9 +71,11 @@ module _ (limit : ℕ) (past : List ℕ → Bool) where
         → AreFed limit past text extent n ss fs ws
         → AllByRecursion (λ m. IsUpto b (member_pair m)) (all_done limit text ss fs) → AreReadTo limit past text b ss fs
     are_read_to n (s ∷ ss) (f ∷ fs) ws fed upto =
-        let cut = each_cut (λ m. IsUpto b (member_pair m)) (done limit (text_or (text s)) f) _ upto in
-        ((λ t e. read_to fed.0 e (grind arith) refl (omega arith) fed.0.stands.filled.most), are_read_to (n + 1) ss fs
-            ws fed.1 cut.1)
+        let cut = each_cut (λ m. IsUpto b (member_pair m)) (done limit (text_or (text s)) f) _ upto in (
+          (λ t e. read_to fed.0 e (grind arith) refl (omega arith) fed.0.stands.filled.most),
+          are_read_to (n + 1) ss fs
+              ws fed.1 cut.1,
+        )
     are_read_to n ss fs ws fed upto = tt
 
     -- one of them was read on

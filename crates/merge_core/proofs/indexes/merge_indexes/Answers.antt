@@ -15,7 +15,7 @@ use Rattle.devices.proofs.DeviceLemmas.{Appends-none}
 use Rattle.devices.proofs.WritingLemmas.{prefix_whole, prefix_longer, wrote_nothing}
 use Rattle.merge_core.specs.declared.feed.Feed.{Feed}
 use Rattle.line_queue.specs.WaitingLines.{WaitingLine}
-use Rattle.merge_core.specs.Collections.{KeepsSources, OverIndexes, collection}
+use Rattle.merge_core.specs.Collections.{OverIndexes, collection}
 use Rattle.merge_core.specs.Reached.{Reached}
 use Rattle.merge_core.specs.Written.{lines_text}
 use Rattle.merge_core.specs.SourceLines.{AreLinesOf}
@@ -31,18 +31,13 @@ use Rattle.merge_core.proofs.indexes.merge_indexes.Goals as goal
 abbrev never : List ℕ → Bool
 never key = false
 
--- the sources that were opened, and their feeds
-abbrev ReachedFrom : (g : Over) (c : After-merge g) (ss : List g.row.S.Denot) (fs : List Feed) (ws : List WaitingLine)
-    (b : Option Pair) (taken : List Member) → Type 0
-ReachedFrom g c ss fs ws b taken = Reached LINE_LIMIT g.S.Source.text never g.S.Source.extent g.S.Source.gave
-    c.open_at.new.sources c.in_ok-opened.opened.streams.feeds.items ss fs ws b taken
-
 filter_every : (xs : List Member) → filter (λ m. true) xs ≡ xs
 filter_every [] = refl
 filter_every (x ∷ xs) = ap (λ l. x ∷ l) (filter_every xs)
 
 module _ (g : Over) (c : After-merge g) {ss : List g.row.S.Denot} {fs : List Feed} {ws : List WaitingLine}
-    {b : Option Pair} {taken : List Member} (reached : ReachedFrom g c ss fs ws b taken) where
+    {b : Option Pair} {taken : List Member} (reached : Reached LINE_LIMIT g.S.Source.text never g.S.Source.extent
+    g.S.Source.gave c.open_at.new.sources c.in_ok-opened.opened.streams.feeds.items ss fs ws b taken) where
   -- of sources that are indexes, what was taken is a front of their collection
   front : (old new : Option (List ℕ)) → AppendsPrefix old new (lines_text taken)
       → OverIndexes LINE_LIMIT (map g.S.Source.text c.args.sources.now)
@@ -58,9 +53,6 @@ module _ (g : Over) (c : After-merge g) {ss : List g.row.S.Denot} {fs : List Fee
   -- and of any sources, it is lines of theirs
   lines : AreLinesOf LINE_LIMIT (map g.S.Source.text c.args.sources.now) taken
   lines = rw (← c.in_ok-opened.ensures.text) (grind (arith, taken_lines))
-
-whole : (old new : Option (List ℕ)) (text : List ℕ) → Appends old new text → AppendsPrefix old new text
-whole old new text a = grind (arith, append-nil, prefix_whole)
 
 -- all lines that were taken were written and counted
 wrote : (g : Over) (c : In_ok-merge g)
@@ -78,7 +70,7 @@ broke g c =
     let out = g.O.Output.written c.args.out.now in
     let broke = c.in_err-merge.ensures.broke in
     elim (broke.wrote c.new-writer.result out (Appends-none out, c.new-writer.ensures)) [
-      | inl k ↦ grind (arith, whole)
+      | inl k ↦ grind (arith, append-nil, prefix_whole)
       | inr p ↦ p
     ]
 
@@ -103,23 +95,19 @@ returns-in_err-merge-clause-lines g c =
 pub returns-clause-part : goal.returns-clause-part
 returns-clause-part g c =
     let at = goal.at.returns-clause-part g c in
-    front g at.After-merge c.in_ok-merge.ensures.passed.so_far.reached _ _ (grind (arith, whole, wrote))
+    front g at.After-merge c.in_ok-merge.ensures.passed.so_far.reached _ _
+    (rw append-nil at (prefix_whole _ _ _ [] (wrote g at.In_ok-merge).0))
 
 pub returns-clause-lines : goal.returns-clause-lines
 returns-clause-lines g c =
     let at = goal.at.returns-clause-lines g c in
     let w = c.in_ok-merge.ensures.passed.so_far in (w.taken, grind (arith, lines), wrote g at.In_ok-merge)
 
--- the sources stay as they were
-kept : (g : Over) (c : After-merge g)
-    → KeepsSources g.S.Source.text g.S.Source.extent c.args.sources.now c.merge.new.sources
-kept g c = grind (arith, texts_kept, extents_kept)
-
 pub returns-in_err-merge-clause-kept : goal.returns-in_err-merge-clause-kept
-returns-in_err-merge-clause-kept g c = kept g (goal.at.returns-in_err-merge-clause-kept g c).After-merge
+returns-in_err-merge-clause-kept g c = grind (arith, texts_kept, extents_kept)
 
 pub returns-clause-kept : goal.returns-clause-kept
-returns-clause-kept g c = kept g (goal.at.returns-clause-kept g c).After-merge
+returns-clause-kept g c = grind (arith, texts_kept, extents_kept)
 
 pub returns-clause-merged : goal.returns-clause-merged
 returns-clause-merged g c = λ texts known.
@@ -129,6 +117,7 @@ returns-clause-merged g c = λ texts known.
     let opened = c.in_ok-opened.ensures in
     let passed = c.in_ok-merge.ensures.passed in
     let reached = passed.so_far.reached in
+    let kept : map text sources ≡ map text c.args.sources.now = grind (arith, texts_kept) in
     let empty : c.merge.new.streams.waiting ≡ [] = grind (arith, cases_Bool) in
     let starts = starts_kept _ _ _ _ _ _ _ opened.ready.same reached.ready.same c.merge.ensures.moved
     (opened.start refl refl) in
@@ -138,7 +127,7 @@ returns-clause-merged g c = λ texts known.
     record {
       indexes = its_lines LINE_LIMIT never (λ key. refl) text extent sources feeds;
       are = are_read LINE_LIMIT never (λ key. refl) text extent 0 sources feeds texts reached.ready.same
-          (rw (← (kept g at.After-merge).0) at known) starts reached.settled (rw empty at reached.ready.fed);
+          (rw (← kept) at known) starts reached.settled (rw empty at reached.ready.fed);
       text = rw (← all) (wrote g at.In_ok-merge).0;
       count = rw (← all) (wrote g at.In_ok-merge).1;
     }

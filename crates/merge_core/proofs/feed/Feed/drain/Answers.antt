@@ -74,14 +74,13 @@ loop-line-preserved g c =
     let ok = c.in_ok-line.ensures in
     let inv = c.loop-line.invariant in
     let first = member_pair c.args.first.now in
-    let line = c.in-Some.line in
-    let m = line.value in
+    let m = c.in-Some.line.value in
     let alike : Alike (member_pair m) first = grind arith in
-    let f : Feed = record { cursor = c.next_line.new.cursor; progress = c.loop-line.self.progress } in
     let pushed : map (λ (b : Box Line Global). b.value) c.push.new.self.items
     ≡ map (λ (b : Box Line Global). b.value) c.loop-line.rest.items ++ m ∷ [] = grind (arith, map-append) in
     let up = same_from (member_pair m) first alike in
-    let read = was_read g (goal.at.loop-line-preserved g c).In-Some f refl up in
+    let read = was_read g (goal.at.loop-line-preserved g c).In-Some
+    (record { cursor = c.next_line.new.cursor; progress = c.loop-line.self.progress }) refl up in
     let more = done_taken read inv.due in
     record {
       text = cc;
@@ -113,12 +112,9 @@ returns-in_err-line-clause-fault g c = λ t e.
 pub returns-in-Less-clause-fault : goal.returns-in-Less-clause-fault
 returns-in-Less-clause-fault g c = λ t e.
     let inv = c.loop-line.invariant in
-    let ok = c.in_ok-line.ensures in
-    let first = member_pair c.args.first.now in
-    let m = c.in-Some.line.value in
-    let below : Below (member_pair m) first = grind arith in
-    rw (← inv.begin) at (order_named (rw (inv.text ∙ e) at inv.fed) first
-    c.next_line.new.cursor m inv.due (inv.last t e) (rw c.in-Some.is at (ok.next t (cc))) below)
+    rw (← inv.begin) at (order_named (rw (inv.text ∙ e) at inv.fed) (member_pair c.args.first.now)
+    c.next_line.new.cursor
+    c.in-Some.line.value inv.due (inv.last t e) (rw c.in-Some.is at (c.in_ok-line.ensures.next t (cc))) (grind arith))
 
 pub returns-in_err-line-clause-reads : goal.returns-in_err-line-clause-reads
 returns-in_err-line-clause-reads g c = grind (arith, reads)
