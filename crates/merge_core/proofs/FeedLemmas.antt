@@ -12,7 +12,6 @@ use Rattle.cdxj_places.proofs.RisingLaws.{each_join}
 use Rattle.cdxj_places.specs.Pairs.{Pair, pair_cmp}
 use Rattle.cdxj_places.specs.Rising.{NeverFalls}
 use Rattle.cdxj_places.specs.TextLines.{lines}
-use Rattle.cdxj_core.specs.Indexes.{IsRun}
 use Rattle.cdxj_core.specs.Lines.{body_of}
 use Rattle.cdxj_core.specs.Members.{Member, member_pair, line_entry}
 use Rattle.cdxj_core.proofs.MemberLemmas.{entry_is_short, long_line_none}
@@ -78,11 +77,6 @@ same_stays past pair m ms within low end alike =
 
 -- the limit of a line, in bytes
 module _ (limit : ℕ) where
-  run_push : (ls : List (List ℕ)) (ms : List Member) (l : List ℕ) (m : Member) → IsRun limit ls ms
-      → line_entry limit l ≡ Some m → AllByRecursion (λ k. Upto (member_pair k) (member_pair m)) ms
-      → IsRun limit (ls ++ l ∷ []) (ms ++ m ∷ [])
-  run_push ls ms l m run e low = record { entries = grind (arith, map-append); ordered = grind (arith, falls_push) }
-
   -- what is done of a feed, beside what was read before
   pub done_is : (t : List ℕ) (f : Feed) (old : CursorState) → f.cursor.start ≡ old.start → f.cursor.count
       ≡ old.count + held f.progress → done limit t f ≡ given limit t old
@@ -90,9 +84,6 @@ module _ (limit : ℕ) where
 
   pub done_due : (t : List ℕ) (f : Feed) → f.progress ≡ Due → done limit t f ≡ given limit t f.cursor
   done_due t f e = grind (arith, done_is)
-
-  pub fresh_done : (t : List ℕ) (f : Feed) → f.cursor.count ≡ 0 → done limit t f ≡ []
-  fresh_done t f e = grind arith
 
   -- the next line of a feed was read, which is this one
   pub record LineRead (past : List ℕ → Bool) (text : Option (List ℕ)) (extent : ℕ) (old f : Feed) (m : Member) : Type 0
@@ -142,8 +133,10 @@ module _ {limit : ℕ} {past : List ℕ → Bool} {text : Option (List ℕ)} {ex
           stood = grind (arith, flat_map-append, length-append, append-nil);
           as_many = grind (arith, length-append);
           within = grind (arith, done_next, done_taken, each_join);
-          run = rw (given_next t e, more) (run_push limit _ _ _ m was.run (r.next t e).2 (rw (given_old t) at (r.low t
-              e)));
+          run = rw (given_next t e, more) (record {
+            entries = grind (arith, map-append);
+            ordered = falls_push _ m was.run.ordered (rw (given_old t) at (r.low t e));
+          });
           head = grind (arith, next_is, given_next, done_next, done_due, given_old);
         };
   }

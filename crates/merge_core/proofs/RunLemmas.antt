@@ -1,19 +1,16 @@
 -- What was taken of sources of any bytes, beside the lines that were read of them.
 use Rattle.std.specs.List.{AllByRecursion, AllZip, sum}
-use Rattle.std.proofs.Common.{◌≡◌, ◌⊎◌, ℕ, ◌+◌, List, [], ◌∷◌, ◌++◌, length, drop, map, filter, Bool, true, not, Option}
-use Rattle.std.proofs.Common.{Some, refl, ap, arith, take-append-drop, append_assoc}
+use Rattle.std.proofs.Common.{◌≡◌, ℕ, ◌+◌, List, [], ◌∷◌, length, drop, map, filter, Bool, true, not, Option, Some}
+use Rattle.std.proofs.Common.{refl, ap, arith, take-append-drop, append_assoc}
 use Rattle.std.proofs.lemmas.List.{length-map, nil_from_length}
 use Rattle.std.proofs.lemmas.List.Sums.{sum_by-cons}
 use Rattle.cdxj_places.specs.Pairs.{Pair}
 use Rattle.cdxj_places.specs.TextLines.{lines}
 use Rattle.cdxj_core.specs.Members.{Member}
-use Rattle.merge_core.specs.declared.feed.Progress.{Progress}
-use Rattle.merge_core.specs.declared.feed.Progress.TheVariants.{Due}
 use Rattle.merge_core.specs.declared.feed.Feed.{Feed}
 use Rattle.line_queue.specs.WaitingLines.{WaitingLine, waits_of}
 use Rattle.merge_core.specs.Collections.{Known, all_lines, collection}
-use Rattle.merge_core.specs.Feeds.{AreFed, AreSettled, AreWaits, IsHead, IsSettled, Fed, done, given, member_of}
-use Rattle.merge_core.specs.Feeds.{read_lines}
+use Rattle.merge_core.specs.Feeds.{AreFed, AreSettled, IsSettled, Fed, done, given, member_of, read_lines}
 use Rattle.merge_core.specs.Gathering.{AreTold, text_or, all_done}
 use Rattle.merge_core.specs.Reached.{Reached}
 use Rattle.merge_core.specs.Runs.{IsPart, parts}
@@ -27,23 +24,18 @@ use Rattle.merge_core.proofs.TakenLemmas.{TakenFirst, Took, taken_first, taken_w
 -- ---- one source
 
 module _ (limit : ℕ) (past : List ℕ → Bool) where
-  head_ended : (p : Progress) (before all : List Member) (rest : List (List ℕ)) (ws : List Member) → (p ≡ Due → ⊥)
-      → AreWaits p ws → ws ≡ [] → IsHead limit past before all rest ws p
-      → (rest ≡ []) ⊎ ((earlier : List Member) × (last : Member) × (all ≡ earlier ++ last ∷ [])
-      × (past last.values.key ≡ true))
-  head_ended p before all rest ws settled waits none h = grind arith
-
   part_is : {t : List ℕ} {extent : ℕ} {f : Feed} {ws : List Member} (whole : Bool) → Fed limit past (Some t) extent f ws
       → IsSettled f → (whole ≡ true → ws ≡ []) → IsPart limit past whole t (given limit t f.cursor)
   part_is {t} {f = f} {ws = ws} whole fed settled none =
       let told = fed.told t refl in
+      let head = told.head in let waits = fed.waits in
       record {
         before = told.begins.0;
         read = read_lines t f.cursor;
         after = lines (drop f.cursor.at t);
         cut = grind (arith, take-append-drop, append_assoc);
         run = told.run;
-        ended = grind (arith, head_ended);
+        ended = grind arith;
       }
 
 -- ---- all sources
@@ -54,10 +46,9 @@ module _ (limit : ℕ) (past : List ℕ → Bool) {S : Type 0} (text : S → Opt
   pub parts_are : (n : ℕ) (ss : List S) (fs : List Feed) (texts : List (List ℕ)) (whole : Bool) → length ss ≡ length fs
       → Known (map text ss) texts → AreFed limit past text extent n ss fs ws → AreSettled fs
       → (whole ≡ true → ws ≡ []) → AllZip (IsPart limit past whole) texts (parts limit text ss fs)
-  parts_are n (s ∷ ss) (f ∷ fs) (t ∷ ts) whole same known fed settled none = (
-    rw known.0 (part_is limit past whole (rw known.0 at fed.0) settled.0 (λ e. ap (waits_of n) (none e))),
-    parts_are (n + 1) ss fs ts whole (omega arith) known.1 fed.1 settled.1 none,
-  )
+  parts_are n (s ∷ ss) (f ∷ fs) (t ∷ ts) whole same known fed settled none =
+      let here = part_is limit past whole (rw known.0 at fed.0) settled.0 (λ e. ap (waits_of n) (none e)) in
+      grind (arith, parts_are (n + 1) ss fs ts whole)
   parts_are n ss fs ts whole same known fed settled none = grind arith
 
   -- they have as many lines as were counted

@@ -36,23 +36,20 @@ one_line : (ls : List (List ℕ)) → length ls ≤ 1 → bytes_of ls ≤ longes
 one_line (l ∷ []) h = omega (arith, ap length (append-nil l))
 one_line ls h = omega arith
 
-module _ {limit : ℕ} {past : List ℕ → Bool} {text : Option (List ℕ)} {t : List ℕ} {extent : ℕ} {f : Feed}
-    {ws : List Member} {b : Option Pair} {new : CursorState} (fed : Fed limit past text extent f ws)
-    (is : text ≡ Some t)
-    (upto : AllByRecursion (λ m. IsUpto b (member_pair m)) (done limit t f)) where
+module _ {limit : ℕ} {past : List ℕ → Bool} {text : Option (List ℕ)} {extent : ℕ} {f : Feed} {ws : List Member}
+    (fed : Fed limit past text extent f ws) where
   -- a cursor that passed one line more at most than those that the feed gave
-  pub read_to : new.start ≡ f.cursor.start → new.at ≤ f.cursor.at + first_length (lines (drop f.cursor.at t))
-      → length new.ahead ≤ 8192 → ReadTo limit past b t new
-  read_to start near ahead =
+  pub read_to : (b : Option Pair) (t : List ℕ) (new : CursorState) → text ≡ Some t
+      → AllByRecursion (λ m. IsUpto b (member_pair m)) (done limit t f) → new.start ≡ f.cursor.start
+      → new.at ≤ f.cursor.at + first_length (lines (drop f.cursor.at t)) → length new.ahead ≤ 8192
+      → ReadTo limit past b t new
+  read_to b t new is upto start near ahead =
       let told = fed.told t is in
       let from = lines (drop f.cursor.start t) in
       let all = read_lines t f.cursor in
       let k = f.cursor.count - held f.progress in
-      let one = one_held f.progress in
-      let last = one_line (drop k all) (omega (arith, length-drop k all)) in
+      let last = one_line (drop k all) (grind (arith, one_held, length-drop)) in
       let whole = ap bytes_of (take-append-drop k all) in
-      let later = longest_later k all in
-      let front = longest_front f.cursor.count from in
       record {
         read = take k all;
         rest = drop k all ++ drop f.cursor.count from;
@@ -61,7 +58,7 @@ module _ {limit : ℕ} {past : List ℕ → Bool} {text : Option (List ℕ)} {t 
         entries = sym (take-map (line_entry limit) k all) ∙ ap (take k) told.run.entries
             ∙ take-map Some k (given limit t f.cursor);
         within = grind (arith, each_both);
-        most = grind (arith, flat_map-append, length-append, longest_drop, first_most);
+        most = grind (arith, flat_map-append, length-append, longest_later, longest_front, longest_drop, first_most);
       }
 
 module _ (limit : ℕ) (past : List ℕ → Bool) where
@@ -72,7 +69,7 @@ module _ (limit : ℕ) (past : List ℕ → Bool) where
         → AllByRecursion (λ m. IsUpto b (member_pair m)) (all_done limit text ss fs) → AreReadTo limit past text b ss fs
     are_read_to n (s ∷ ss) (f ∷ fs) ws fed upto =
         let cut = each_cut (λ m. IsUpto b (member_pair m)) (done limit (text_or (text s)) f) _ upto in (
-          (λ t e. read_to fed.0 e (grind arith) refl (omega arith) fed.0.stands.filled.most),
+          (λ t e. read_to fed.0 b t f.cursor e (grind arith) refl (omega arith) fed.0.stands.filled.most),
           are_read_to (n + 1) ss fs
               ws fed.1 cut.1,
         )

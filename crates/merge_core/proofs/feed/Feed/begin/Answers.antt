@@ -1,10 +1,7 @@
-use Rattle.std.proofs.Common.{arith, inl, ◌≡◌, ℕ, List, Some, None}
+use Rattle.std.proofs.Common.{arith, inl}
 use Rattle.cdxj_core.specs.declared.limit.TheConstants.{LINE_LIMIT}
-use Rattle.merge_core.specs.Spending.{ReadTo}
 use Rattle.merge_core.proofs.SpendLemmas.{read_to}
-use Rattle.merge_core.proofs.FeedLemmas.{LineRead, fresh_done, fed_more}
-use Rattle.merge_core.proofs.feed.Feed.begin.Given.{Over}
-use Rattle.merge_core.proofs.feed.Feed.begin.Goals.{After-next_line}
+use Rattle.merge_core.proofs.FeedLemmas.{LineRead, fed_more}
 use Rattle.merge_core.proofs.feed.Feed.begin.Goals as goal
 
 pub returns-in-Some-clause-fed : goal.returns-in-Some-clause-fed
@@ -18,19 +15,12 @@ returns-in-Some-clause-fed g c =
       count = grind arith;
       near = grind arith;
       next = grind arith;
-      low = grind (arith, fresh_done);
+      low = grind arith;
     } in
     fed_more read _ (inl c.settle.ensures.next)
 
--- no line was read but the first
-reads : (g : Over) (c : After-next_line g) (t : List ℕ) → g.S.Source.text c.args.source.now ≡ Some t
-    → ReadTo LINE_LIMIT (g.R.Range.past c.args.range.now) None t c.next_line.new.cursor
-reads g c t e =
-    let next = c.next_line.ensures in
-    read_to c.requires.fed e (grind arith) next.start (next.most t e) next.ahead
-
 pub returns-in_err-line-clause-reads : goal.returns-in_err-line-clause-reads
-returns-in_err-line-clause-reads g c = grind (arith, reads)
+returns-in_err-line-clause-reads g c = grind (arith, read_to c.requires.fed)
 
 pub returns-in-Some-clause-reads : goal.returns-in-Some-clause-reads
-returns-in-Some-clause-reads g c = grind (arith, reads)
+returns-in-Some-clause-reads g c = grind (arith, read_to c.requires.fed)

@@ -1,6 +1,5 @@
 use Rattle.std.proofs.lemmas.List.{map-append}
-use Rattle.std.proofs.Common.{◌≡◌, inl, inr, ℕ, List, Some, [], ◌∷◌, ◌++◌, Box, Global, map, refl, ◌∙◌, arith}
-use Rattle.std.proofs.Common.{append_assoc}
+use Rattle.std.proofs.Common.{◌≡◌, inl, inr, [], ◌∷◌, ◌++◌, Box, Global, map, refl, ◌∙◌, arith, append_assoc}
 use Rattle.cdxj_core.specs.declared.limit.TheConstants.{LINE_LIMIT}
 use Rattle.cdxj_core.specs.declared.line.Line.{Line}
 use Rattle.cdxj_core.specs.Members.{Member, member_pair}
@@ -8,14 +7,13 @@ use Rattle.cdxj_places.proofs.PairLemmas.{pair_cmp_total}
 use Rattle.merge_core.specs.declared.feed.Feed.{Feed}
 use Rattle.line_queue.specs.PairOrders.{Alike, Below, Upto}
 use Rattle.merge_core.specs.Feeds.{done}
-use Rattle.merge_core.specs.Spending.{ReadTo}
 use Rattle.merge_core.proofs.SpendLemmas.{read_to}
 use Rattle.merge_core.proofs.FeedLemmas.{bad_named, order_named, LineRead, same_stays, fed_more, done_next, done_taken}
 use Rattle.merge_core.proofs.FailLemmas.{if_err}
 use Rattle.line_queue.proofs.PairOrder.{below_upto, same_upto, same_from, upto_upto}
 use Rattle.cdxj_places.proofs.RisingLaws.{each_join, each_weaker}
 use Rattle.merge_core.proofs.feed.Feed.drain.Given.{Over}
-use Rattle.merge_core.proofs.feed.Feed.drain.Goals.{After-next_line, In-Greater, In-Some}
+use Rattle.merge_core.proofs.feed.Feed.drain.Goals.{In-Greater, In-Some}
 use Rattle.merge_core.proofs.feed.Feed.drain.Goals as goal
 
 -- a line that is above the first one
@@ -23,14 +21,6 @@ above : (g : Over) (c : In-Greater g) → Below (member_pair c.args.first.now) (
 above g c =
     let turned = pair_cmp_total.antisymm (member_pair c.args.first.now) (member_pair c.in-Some.line.value) in
     grind arith
-
--- no line was read beyond the next one
-reads : (g : Over) (c : After-next_line g) (t : List ℕ) → g.S.Source.text c.args.source.now ≡ Some t
-    → ReadTo LINE_LIMIT (g.R.Range.past c.args.range.now) (Some (member_pair c.args.first.now)) t c.next_line.new.cursor
-reads g c t e =
-    let inv = c.loop-line.invariant in
-    let next = c.next_line.ensures in
-    read_to inv.fed (inv.text ∙ e) (inv.low t e) next.start (next.most t (inv.text ∙ e)) next.ahead
 
 pub returns-in-Greater-clause-later : goal.returns-in-Greater-clause-later
 returns-in-Greater-clause-later g c =
@@ -117,16 +107,16 @@ returns-in-Less-clause-fault g c = λ t e.
     c.in-Some.line.value inv.due (inv.last t e) (rw c.in-Some.is at (c.in_ok-line.ensures.next t (cc))) (grind arith))
 
 pub returns-in_err-line-clause-reads : goal.returns-in_err-line-clause-reads
-returns-in_err-line-clause-reads g c = grind (arith, reads)
+returns-in_err-line-clause-reads g c = grind (arith, read_to c.loop-line.invariant.fed)
 
 pub returns-in-Less-clause-reads : goal.returns-in-Less-clause-reads
-returns-in-Less-clause-reads g c = grind (arith, reads)
+returns-in-Less-clause-reads g c = grind (arith, read_to c.loop-line.invariant.fed)
 
 pub returns-in_err-push-in-Equal-clause-reads : goal.returns-in_err-push-in-Equal-clause-reads
-returns-in_err-push-in-Equal-clause-reads g c = grind (arith, reads)
+returns-in_err-push-in-Equal-clause-reads g c = grind (arith, read_to c.loop-line.invariant.fed)
 
 pub returns-clause-reads : goal.returns-clause-reads
-returns-clause-reads g c = grind (arith, reads)
+returns-clause-reads g c = grind (arith, read_to c.loop-line.invariant.fed)
 
 pub returns-in-Greater-clause-reads : goal.returns-in-Greater-clause-reads
-returns-in-Greater-clause-reads g c = grind (arith, reads)
+returns-in-Greater-clause-reads g c = grind (arith, read_to c.loop-line.invariant.fed)
