@@ -1,13 +1,11 @@
 use Rattle.std.proofs.Common.{arith, inl}
-use Rattle.cdxj_core.specs.declared.limit.TheConstants.{LINE_LIMIT}
 use Rattle.merge_core.proofs.SpendLemmas.{read_to}
-use Rattle.merge_core.proofs.FeedLemmas.{LineRead, fed_more}
+use Rattle.merge_core.proofs.FeedLemmas.{fed_more}
 use Rattle.merge_core.proofs.feed.Feed.begin.Goals as goal
 
 pub returns-in-Some-clause-fed : goal.returns-in-Some-clause-fed
 returns-in-Some-clause-fed g c =
-    let read : LineRead LINE_LIMIT (g.R.Range.past c.args.range.now) (g.S.Source.text c.next_line.new.source)
-    (g.S.Source.extent c.next_line.new.source) c.args.self.now c.settle.new.self c.in-Some.line.value = record {
+    fed_more {old = c.args.self.now} {m = c.in-Some.line.value} (record {
       is_due = grind arith;
       was = grind arith;
       stands = grind arith;
@@ -16,8 +14,7 @@ returns-in-Some-clause-fed g c =
       near = grind arith;
       next = grind arith;
       low = grind arith;
-    } in
-    fed_more read _ (inl c.settle.ensures.next)
+    }) _ (inl c.settle.ensures.next)
 
 pub returns-in_err-line-clause-reads : goal.returns-in_err-line-clause-reads
 returns-in_err-line-clause-reads g c = grind (arith, read_to c.requires.fed)
