@@ -1,7 +1,6 @@
 -- The lines of one source that were come to, among all that it has from its start on.
 use Rattle.std.proofs.Common.{arith, ◌≡◌, ℕ, List, [], ◌∷◌, ◌++◌, refl, sym, ap, ◌∙◌, Bool, true, false, not, ◌&&◌}
-use Rattle.std.proofs.Common.{Some, take, drop, map, filter, append-nil, append_assoc, take-append-drop, Greater}
-use Rattle.std.proofs.Common.{Ordering, is_gt}
+use Rattle.std.proofs.Common.{Some, take, drop, map, filter, append-nil, append_assoc, take-append-drop, is_gt}
 use Rattle.std.proofs.lemmas.List.{take-map, drop-map}
 use Rattle.std.specs.List.{AllByRecursion}
 use Rattle.merge_core.proofs.Filters.{filter_same, filter_out}
@@ -31,18 +30,7 @@ falls_after : (us : List Member) (y : Member) (vs : List Member) → NeverFalls 
 falls_after [] y vs h = h.0
 falls_after (u ∷ us) y vs h = falls_after us y vs h.1
 
--- ---- Bools
-
-pub and_left : (a b : Bool) → (a && b) ≡ true → a ≡ true
-and_left a b h = grind arith
-
-pub and_right : (a b : Bool) → (a && b) ≡ true → b ≡ true
-and_right a b h = grind arith
-
 -- ---- keys
-
-pub gt_is : (r : Ordering) → is_gt r ≡ true → r ≡ Greater
-gt_is r h = grind arith
 
 -- a key above one past the range is past it
 abbrev pub IsUpward : (List ℕ → Bool) → Type 0
@@ -56,7 +44,7 @@ module _ (wanted test : Member → Bool) (passes : (m : Member) → wanted m ≡
       → filter wanted (rising member_place place_cmp xs) ≡ []
   none_wanted xs h = grind (arith, filter_none, each_weaker, each_rising, place_cmp_total)
 
-wanted_parts : (wanted low : Member → Bool) → IsLower member_place place_cmp low → (xs : List Member)
+pub wanted_parts : (wanted low : Member → Bool) → IsLower member_place place_cmp low → (xs : List Member)
     → filter wanted (rising member_place place_cmp xs)
     ≡ filter wanted (rising member_place place_cmp (filter low xs))
     ++ filter wanted (rising member_place place_cmp (filter (λ m. not (low m)) xs))

@@ -6,25 +6,24 @@ use Rattle.std.proofs.lemmas.Bool.{and_cases, not-false, not-true, true≢false}
 use Rattle.std.specs.List.{AllByRecursion}
 use Rattle.merge_core.proofs.Filters.{filter_out, each_filter}
 use Rattle.std.specs.Ordering.{ordering_reverse}
-use Rattle.std.proofs.lemmas.List.Elements.{filter-append}
 use Rattle.cdxj_places.specs.Pairs.{Pair, pair_cmp}
 use Rattle.cdxj_places.specs.Places.{place_cmp}
 use Rattle.cdxj_places.specs.Rising.{IsLower, rising}
 use Rattle.cdxj_places.proofs.PairLemmas.{pair_cmp_total}
 use Rattle.cdxj_places.proofs.PlaceOrder.{place_cmp_total}
-use Rattle.cdxj_places.proofs.RisingLaws.{each_weaker, each_rising, rising_split}
+use Rattle.cdxj_places.proofs.RisingLaws.{each_weaker, each_rising}
 use Rattle.cdxj_core.specs.Members.{Member, member_pair, member_place}
 use Rattle.line_queue.specs.PairOrders.{Below, Upto, IsAbove, IsUpto, is_low}
 use Rattle.line_queue.specs.WaitingLines.{WaitingLine, waiting_pair}
 use Rattle.line_queue.proofs.PairOrder.{below_then, then_below, from_not_below, upto_upto}
 use Rattle.merge_core.proofs.MergeLemmas.{place_below, below_next, is_less}
-use Rattle.merge_core.proofs.ReadLines.{IsUpward, stays, is_read, IsLate, stays_lower, gt_is, and_left, and_right}
-use Rattle.merge_core.proofs.ReadLines.{none_wanted, wanted_low}
+use Rattle.merge_core.proofs.ReadLines.{wanted_parts, IsUpward, stays, is_read, IsLate, stays_lower, none_wanted}
+use Rattle.merge_core.proofs.ReadLines.{wanted_low}
 
 -- ---- what stands above a bound
 
 gt_back : (p q : Pair) → is_gt (pair_cmp p q) ≡ true → Below q p
-gt_back p q h = pair_cmp_total.antisymm q p ∙ ap ordering_reverse (gt_is _ h)
+gt_back p q h = let turned = pair_cmp_total.antisymm q p in grind arith
 
 abbrev upto_bound : Option Pair → Member → Bool
 upto_bound None m = false
@@ -84,10 +83,8 @@ module _ {limit : ℕ} {past : List ℕ → Bool} {upward : IsUpward past} {want
       → seen all ≡ filter wanted taken ++ seen (filter (λ m. not (low upto m)) all)
   split upto lower late each =
       let is_lower : IsLower member_place place_cmp
-      (low upto) = grind (arith, and_cases, place_below, and_left, stays_lower, and_right) in
-      ap (filter wanted) (rising_split member_place place_cmp place_cmp_total (low upto) is_lower all)
-      ∙ filter-append wanted (rising member_place place_cmp (filter (low upto) all))
-      (rising member_place place_cmp (filter (λ m. not (low upto m)) all))
+      (low upto) = grind (arith, and_cases, place_below, stays_lower) in
+      wanted_parts wanted (low upto) is_lower all
       ∙ ap (λ l. l ++ seen (filter (λ m. not (low upto m)) all)) (grind (arith, wanted_low, stays, stays_lower))
 
   rest_above : (m : Member) → (low (upto_bound b) m ≡ false) × (wanted m ≡ true) → (wanted m ≡ true)
