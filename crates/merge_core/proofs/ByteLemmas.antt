@@ -78,5 +78,5 @@ module _ (limit : ℕ) (past : List ℕ → Bool) (start : Pair) (b : Option Pai
         let m = moved.0 in
         let r = reads.0 t (m.text_kept ∙ tells.0) in
         let here = source_bytes t i x.1.cursor are.0 (rw m.start_kept (cut.0 t i tells.0 are.0)) r in
-        grind (arith, gave_most ss ys xs ts is known.1 tells.1 are.1 came.1 moved.1 cut.1 reads.1)
+        grind (arith, gave_most ss ys xs ts is)
     gave_most ss ys xs ts is known tells are came moved cut reads = grind arith

@@ -72,8 +72,7 @@ module _ (limit : ℕ) (past : List ℕ → Bool) {S : Type 0} (text : S → Opt
       → length (filter test (all_done limit text ss fs)) ≤ length (filter test (all_lines indexes))
   all_fewer n (s ∷ ss) (f ∷ fs) ws (t ∷ ts) (i ∷ is) test e known are fed =
       let here = done_fewer test (rw known.0 at fed.0) are.0 in
-      let rest = all_fewer (n + 1) ss fs ws ts is test (omega arith) known.1 are.1 fed.1 in
-      grind (arith, filter-append, length-append)
+      grind (arith, filter-append, length-append, all_fewer (n + 1) ss fs ws ts is test)
   all_fewer n ss fs ws ts is test e known are fed = grind arith
 
 at_pair : (pair : Pair) (m : Member) → Upto (member_pair m) pair → not (is_low pair m) ≡ true → is_at pair m ≡ true

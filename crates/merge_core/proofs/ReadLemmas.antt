@@ -1,7 +1,7 @@
 -- What was taken of sources that are indexes, beside all of their collection.
 use Rattle.std.specs.List.{AllZip, AllByRecursion}
 use Rattle.std.proofs.Common.{◌≡◌, ℕ, ◌+◌, List, [], ◌∷◌, ◌++◌, length, map, filter, zip, Bool, true, false, not}
-use Rattle.std.proofs.Common.{Option, ◌∙◌, arith}
+use Rattle.std.proofs.Common.{Option, arith}
 use Rattle.std.proofs.lemmas.List.Elements.{filter-append}
 use Rattle.cdxj_places.specs.Pairs.{Pair}
 use Rattle.cdxj_places.specs.Places.{place_cmp}
@@ -42,12 +42,10 @@ module _ (limit : ℕ) (past : List ℕ → Bool) (upward : IsUpward past) (upto
       → filter (is_read limit past upward upto) (all_lines highs)
       ≡ filter (stays limit past upward) (all_done limit text ss fs)
   all_read n (s ∷ ss) (f ∷ fs) (i ∷ is) same told runs fed settled each =
-      let t = text_or (text s) in
       let is_text = is_told (text s) told.0 in
-      let cut = each_cut (λ m. upto m ≡ true) (done limit t f) (all_done limit text ss fs) each in
-      let here = fed_read upward upto (rw is_text at fed.0) settled.0 (late_of n) cut.0 i (runs.0 t is_text) in
-      let rest = all_read (n + 1) ss fs is (omega arith) told.1 runs.1 fed.1 settled.1 cut.1 in
-      grind (arith, filter-append)
+      let cut = each_cut (λ m. upto m ≡ true) (done limit (text_or (text s)) f) _ each in
+      let here = fed_read upward upto (rw is_text at fed.0) settled.0 (late_of n) cut.0 i (runs.0 _ is_text) in
+      grind (arith, filter-append, all_read (n + 1) ss fs is)
   all_read n ss fs highs same told runs fed settled each = grind arith
 
 -- ---- where a merge of indexes came to
@@ -86,11 +84,10 @@ module _ {S : Type 0} (text : S → Option (List ℕ)) (extent gave : S → ℕ)
 
     -- where no line waits, it is all
     pub sought_whole : ws ≡ [] → filter wanted (collection indexes) ≡ filter wanted taken
-    sought_whole none = skipped ∙ taken_whole (took sought.0 sought.1) none
+    sought_whole none = let found = sought in grind (arith, taken_whole, took, skipped)
 
     -- where the lines that wait don't stand below a pair, what is wanted beyond those that were taken doesn't either
     pub sought_before : (next : Pair) → IsAbove b next → AllByRecursion (λ w. Upto next (waiting_pair w)) ws
         → (rest : List Member) × (filter wanted (collection indexes) ≡ filter wanted taken ++ rest)
         × AllByRecursion (λ m. (wanted m ≡ true) × Upto next (member_pair m)) rest
-    sought_before next above least =
-        let first = taken_before (took sought.0 sought.1) next above least in let same = skipped in grind arith
+    sought_before next above least = let found = sought in grind (arith, taken_before, took, skipped)

@@ -75,11 +75,10 @@ module _ (limit : ℕ) (past : List ℕ → Bool) {S : Type 0} (text : S → Opt
         → filter (is_read limit past upward upto) (all_lines (parts limit text ss fs))
         ≡ filter (stays limit past upward) (all_done limit text ss fs)
     parts_read n (s ∷ ss) (f ∷ fs) same told fed settled each =
-        let cut = each_cut (λ m. upto m ≡ true) (done limit (text_or (text s)) f) (all_done limit text ss fs) each in
+        let cut = each_cut (λ m. upto m ≡ true) (done limit (text_or (text s)) f) _ each in
         let here = given_read upward upto (rw (is_told (text s) told.0) at fed.0) settled.0
         (late_of limit past upward upto text extent ws late n) cut.0 in
-        let rest = parts_read (n + 1) ss fs (omega arith) told.1 fed.1 settled.1 cut.1 in
-        grind (arith, filter-append)
+        grind (arith, filter-append, parts_read (n + 1) ss fs)
     parts_read n ss fs same told fed settled each = grind arith
 
 -- ---- where a merge came to

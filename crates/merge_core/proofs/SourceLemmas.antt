@@ -1,9 +1,8 @@
 -- The lines that were taken of sources are lines of theirs.
 use Rattle.std.proofs.Common.{◌≡◌, ◌⊎◌, inl, inr, ℕ, suc, ◌+◌, List, [], ◌∷◌, ◌++◌, length, take, arith, map, Bool}
-use Rattle.std.proofs.Common.{true, Option, None, Some, refl}
+use Rattle.std.proofs.Common.{Option, Some, refl}
 use Rattle.std.proofs.lemmas.Slice.Zip.{AllZip-long}
 use Rattle.std.specs.List.{AllByRecursion}
-use Rattle.std.specs.Option.{is_some}
 use Rattle.cdxj_places.specs.Pairs.{Pair}
 use Rattle.cdxj_places.specs.Rising.{IsIn}
 use Rattle.cdxj_places.specs.TextLines.{lines}
@@ -75,15 +74,7 @@ module _ (limit : ℕ) where
     -- all sources tell their bytes, or one doesn't
     told_or : (ss : List S) → AreTold text ss ⊎ ((m : Member) → HasEntry limit m → IsLineOf limit (map text ss) m)
     told_or [] = inl tt
-    told_or (s ∷ ss) = more (text s) (told_or ss)
-      where
-        more : (o : Option (List ℕ))
-            → AreTold text ss ⊎ ((m : Member) → HasEntry limit m → IsLineOf limit (map text ss) m)
-            → ((is_some o ≡ true) × AreTold text ss)
-            ⊎ ((m : Member) → HasEntry limit m → IsLineOf limit (o ∷ map text ss) m)
-        more None h = inr (λ m e. inl e)
-        more (Some t) (inl h) = inl (refl, h)
-        more (Some t) (inr f) = inr (λ m e. inr (f m e))
+    told_or (s ∷ ss) = elim (told_or ss) [ inl h ↦ grind arith | inr f ↦ grind (arith, later_source, f) ]
 
     -- what was taken are lines of the sources
     pub taken_lines : (past : List ℕ → Bool) (gave : S → ℕ) (ss0 : List S) (fs0 : List Feed) (ss : List S)

@@ -106,7 +106,7 @@ opened_none text extent gave = grind (arith, two_same)
 
 pub two_put : {X Y : Type 0} (R : X → Y → Type 0) (xs : List X) (ys : List Y) (i : ℕ) (d : X) (y : Y) → AllZip R xs ys
     → R (get_or xs i d) y → AllZip R xs (set ys i y)
-two_put R (x ∷ xs) (z ∷ ys) (suc i) d y h r = (h.0, two_put R xs ys i d y h.1 r)
+two_put R (x ∷ xs) (z ∷ ys) (suc i) d y h r = grind (arith, two_put R xs ys i)
 two_put R xs ys i d y h r = grind arith
 
 -- what is left of a list that was gone over up to an index
