@@ -1,7 +1,7 @@
 -- How many bytes indexes gave.
 use Rattle.std.specs.List.{AllZip, AllByRecursion}
-use Rattle.std.proofs.Common.{◌≡◌, ℕ, ◌≤◌, List, [], ◌∷◌, ◌++◌, length, map, filter, zip, Bool, true, false, Option}
-use Rattle.std.proofs.Common.{Some, ap, ◌∙◌, arith, length-append, length-take}
+use Rattle.std.proofs.Common.{◌≡◌, ℕ, ◌≤◌, List, ◌∷◌, ◌++◌, length, map, filter, zip, Bool, true, false, Option, Some}
+use Rattle.std.proofs.Common.{ap, ◌∙◌, arith, length-append, length-take}
 use Rattle.std.proofs.lemmas.List.{map-append}
 use Rattle.std.proofs.lemmas.List.Concat.{flat_map-append}
 use Rattle.std.proofs.lemmas.List.Elements.{filter-append}
@@ -18,6 +18,7 @@ use Rattle.merge_core.specs.Feeds.{bytes_of}
 use Rattle.merge_core.specs.Openings.{IsCutAt}
 use Rattle.merge_core.specs.Spending.{ReadTo, CameWithin, AllGaveWithin}
 use Rattle.merge_core.specs.Written.{lines_text}
+use Rattle.merge_core.proofs.CountLemmas.{each_passes}
 use Rattle.merge_core.proofs.GroupLemmas.{each_cut, filter_all}
 use Rattle.merge_core.proofs.Many.{Move}
 use Rattle.merge_core.proofs.StartLemmas.{run_after}
@@ -44,19 +45,14 @@ front_of us zs vs e = grind arith
 module _ (limit : ℕ) (past : List ℕ → Bool) (start : Pair) (b : Option Pair) (test : Member → Bool)
     (passes : (m : Member) → past m.values.key ≡ false → is_low start m ≡ false → IsUpto b (member_pair m) → test m
     ≡ true) where
-  each_passes : (ms : List Member) → AllByRecursion (λ m. (past m.values.key ≡ false) × IsUpto b (member_pair m)) ms
-      → AllByRecursion (λ m. is_low start m ≡ false) ms → AllByRecursion (λ m. test m ≡ true) ms
-  each_passes [] within not_low = tt
-  each_passes (m ∷ ms) within not_low =
-      (passes m within.0.0 not_low.0 within.0.1, each_passes ms within.1 not_low.1)
-
   source_bytes : (t : List ℕ) (ms : List Member) (c : CursorState) → IsIndex limit t ms → IsCut start t ms c.start
       → (r : ReadTo limit past b t c) → bytes_of r.read ≤ length (lines_text (filter test ms))
   source_bytes t ms c index cut r =
       let run = run_after limit start t ms c.start index cut in
       let tail = front_of r.members (map (line_entry limit) r.rest) cut.high (grind (arith, map-append)) in
       let not_low = (each_cut (λ m. is_low start m ≡ false) r.members tail.0 (rw (← tail.1) cut.none_below)).0 in
-      grind (arith, each_passes, filter-append, filter_all, rows_most, flat_map-append, length-append)
+      let all_pass = each_passes limit past start b test passes r.members r.within not_low in
+      grind (arith, filter-append, filter_all, rows_most, flat_map-append, length-append)
 
   module _ {S : Type 0} (text : S → Option (List ℕ)) (extent gave : S → ℕ) where
     -- sources that tell their bytes, beside their feeds

@@ -3,7 +3,7 @@ use Rattle.std.proofs.lemmas.List.{take-map, take-take, length-map, map-append, 
 use Rattle.std.specs.List.{AllZip, AllByRecursion, sum}
 use Rattle.std.proofs.Common.{◌≡◌, ℕ, zero, suc, ◌+◌, ◌<◌, ◌≤◌, List, [], ◌∷◌, length, take, drop, map, filter, Bool}
 use Rattle.std.proofs.Common.{true, false, not, Option, Some, refl, ap, arith, length-append, ◌-◌, zip, length-take}
-use Rattle.merge_core.proofs.Filters.{filter_fewer, filter_weaker, filter_front, filter_back, each_take}
+use Rattle.merge_core.proofs.Filters.{filter_fewer, filter_weaker, filter_front, filter_back, each_both, each_take}
 use Rattle.std.proofs.lemmas.List.Elements.{filter-append}
 use Rattle.cdxj_places.specs.Pairs.{Pair}
 use Rattle.cdxj_places.specs.TextLines.{lines}
@@ -106,12 +106,12 @@ one_held p = grind arith
 module _ (limit : ℕ) (past : List ℕ → Bool) (start : Pair) (b : Option Pair) (test : Member → Bool)
     (passes : (m : Member) → past m.values.key ≡ false → is_low start m ≡ false → IsUpto b (member_pair m) → test m
     ≡ true) where
-  each_passes : (ms : List Member) → AllByRecursion (λ m. past m.values.key ≡ false) ms
-      → AllByRecursion (λ m. is_low start m ≡ false) ms → AllByRecursion (λ m. IsUpto b (member_pair m)) ms
-      → AllByRecursion (λ m. test m ≡ true) ms
-  each_passes [] within not_low upto = tt
-  each_passes (m ∷ ms) within not_low upto =
-      (passes m within.0 not_low.0 upto.0, each_passes ms within.1 not_low.1 upto.1)
+  pub each_passes : (ms : List Member)
+      → AllByRecursion (λ m. (past m.values.key ≡ false) × IsUpto b (member_pair m)) ms
+      → AllByRecursion (λ m. is_low start m ≡ false) ms → AllByRecursion (λ m. test m ≡ true) ms
+  each_passes [] within not_low = tt
+  each_passes (m ∷ ms) within not_low =
+      (passes m within.0.0 not_low.0 within.0.1, each_passes ms within.1 not_low.1)
 
   source_most : {t : List ℕ} {extent : ℕ} {f : Feed} {ws ms : List Member} → Fed limit past (Some t) extent f ws
       → IsIndex limit t ms → IsCut start t ms f.cursor.start
@@ -125,7 +125,7 @@ module _ (limit : ℕ) (past : List ℕ → Bool) (start : Pair) (b : Option Pai
       let front : done limit t f ≡ take k cut.high = grind (arith, take-map, take-take) in
       let not_low = rw (← front) at (each_take (λ m. is_low start m ≡ false) k cut.high cut.none_below) in
       let fewer = done_fewer test fed index in
-      grind (arith, each_passes, one_held, length-map, filter_all, length-take)
+      grind (arith, each_passes, each_both, one_held, length-map, filter_all, length-take)
 
   module _ {S : Type 0} (text : S → Option (List ℕ)) (extent : S → ℕ) (ws : List WaitingLine) where
     -- No more lines were read than those that pass, and one of each source

@@ -1,8 +1,8 @@
 -- What one line more makes of a feed.
 use Rattle.std.proofs.lemmas.List.{map-append, take-map, take-take, drop_all}
-use Rattle.std.proofs.Common.{true, ◌⊎◌, ◌≡◌, ℕ, suc, ◌+◌, ◌-◌, ◌≤◌, List, [], ◌∷◌, ◌++◌, length, refl, ap, arith, Bool}
-use Rattle.std.proofs.Common.{false, Option, Some, None, take, drop, map, append-nil, length-append, ◌<◌, cond}
-use Rattle.std.proofs.Common.{length-take, append_assoc, take-append-drop}
+use Rattle.std.proofs.Common.{true, ◌⊎◌, ◌≡◌, ℕ, suc, ◌+◌, ◌≤◌, List, [], ◌∷◌, ◌++◌, length, refl, ap, arith, Bool}
+use Rattle.std.proofs.Common.{false, Option, Some, None, take, drop, map, append-nil, length-append, ◌<◌, length-take}
+use Rattle.std.proofs.Common.{append_assoc, take-append-drop}
 use Rattle.std.specs.List.{AllByRecursion}
 use Rattle.std.specs.FinMap.{nat_cmp-IsAntisymmetric, slice_cmp-IsAntisymmetric}
 use Rattle.std.proofs.lemmas.Cmp.{tied_back}
@@ -70,10 +70,9 @@ same_stays past pair m ms within low end alike =
     let last = end.1 in
     let stays = (each_cut (λ (k : Member). past k.values.key ≡ false) end.0 (last ∷ []) (rw (← end.2) within)).1.0 in
     let upto = (each_cut (λ k. Upto (member_pair k) pair) end.0 (last ∷ []) (rw (← end.2) low)).1.0 in
-    let back = tied_back pair_cmp_total (member_pair last) pair (upto_both (member_pair last) pair upto end.3) in
+    let back = upto_both (member_pair last) pair upto end.3 in
     let both = pair_cmp_total.congr (member_pair m) pair (member_pair last) alike in
-    let same : m.values.key ≡ last.values.key = grind (arith, slice_cmp-IsAntisymmetric, nat_cmp-IsAntisymmetric) in
-    cc
+    grind (arith, slice_cmp-IsAntisymmetric, nat_cmp-IsAntisymmetric, tied_back, pair_cmp_total)
 
 -- the limit of a line, in bytes
 module _ (limit : ℕ) where
@@ -143,11 +142,8 @@ module _ {limit : ℕ} {past : List ℕ → Bool} {text : Option (List ℕ)} {ex
 
 -- ---- lines at fault, by where the cursor stands
 
-body_length : (b : Bool) (line : List ℕ) → length line ≤ length (cond b (take (length line - 1) line) line) + 1
-body_length b line = grind (arith, length-take)
-
 pub first_long : (limit : ℕ) (ls : List (List ℕ)) → limit < first_length ls → IsBadFirst limit ls
-first_long limit ls long = grind (arith, body_length, long_line_none)
+first_long limit ls long = grind (arith, length-take, long_line_none)
 
 -- the last of these lines has the last of these entries
 last_line : (limit : ℕ) (ls : List (List ℕ)) (before : List Member) (last : Member) → map (line_entry limit) ls
@@ -155,10 +151,8 @@ last_line : (limit : ℕ) (ls : List (List ℕ)) (before : List Member) (last : 
     → (us : List (List ℕ)) × (line : List ℕ) × (ls ≡ us ++ line ∷ []) × (line_entry limit line ≡ Some last)
 last_line limit [] [] last e = absurd (cc)
 last_line limit (l ∷ ls) (m ∷ before) last e =
-    let rest = last_line limit ls before last (let q : map (line_entry limit) ls
-    ≡ map Some (before ++ last ∷ []) = cc in q) in
-    (l ∷ rest.0, rest.1, ap (λ us. l ∷ us) rest.2, rest.3)
-last_line limit (l ∷ []) [] last e = ([], l, refl, let q : line_entry limit l ≡ Some last = cc in q)
+    let rest = last_line limit ls before last (grind arith) in (l ∷ rest.0, rest.1, cc, rest.3)
+last_line limit (l ∷ []) [] last e = ([], l, refl, grind arith)
 last_line limit ls before last e = absurd (cc)
 
 module _ {limit : ℕ} {past : List ℕ → Bool} {t : List ℕ} {extent : ℕ} {f : Feed}

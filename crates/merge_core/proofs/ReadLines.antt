@@ -56,13 +56,8 @@ pub wanted_low : (wanted low : Member → Bool) → IsLower member_place place_c
     → ((m : Member) → wanted m ≡ true → low m ≡ true)
     → (xs : List Member) → filter wanted (rising member_place place_cmp xs)
     ≡ filter wanted (rising member_place place_cmp (filter low xs))
-wanted_low wanted low lower passes xs = grind (
-  arith,
-  wanted_parts wanted low lower xs,
-  none_wanted,
-  filter_out,
-  append-nil,
-)
+wanted_low wanted low lower passes xs =
+    grind (arith, wanted_parts wanted low lower xs, none_wanted, filter_out, append-nil)
 
 -- the last lines
 pub wanted_high : (wanted low : Member → Bool) → IsLower member_place place_cmp low

@@ -60,15 +60,8 @@ module _ (limit : ℕ) where
         → AllByRecursion (IsLineOf limit (map text ss)) (all_done limit text ss fs)
     all_lines_of past n (s ∷ ss) (f ∷ fs) ws told fed =
         let others = all_lines_of past (n + 1) ss fs ws told.1 fed.1 in
-        grind (
-          arith,
-          each_join,
-          each_weaker,
-          first_source,
-          later_source,
-          done_lines (rw (is_told (text s) told.0) at
-              fed.0),
-        )
+        let here = done_lines (rw (is_told (text s) told.0) at fed.0) in
+        grind (arith, each_join, each_weaker, first_source, later_source)
     all_lines_of past n ss fs ws told fed = tt
 
     -- all sources tell their bytes, or one doesn't
@@ -83,16 +76,8 @@ module _ (limit : ℕ) where
     taken_lines past gave ss0 fs0 ss fs ws b taken same reached = record {
       rise = reached.handed.rises;
       each = elim (told_or ss0) [
-        | inl told ↦ rw (reached.handed.told told).0 (grind (
-          arith,
-          each_rising,
-          place_cmp_total,
-          all_lines_of,
-          told_moved,
-          texts_kept,
-          AllZip-long,
-          length_zip,
-        ))
+        | inl told ↦ rw (reached.handed.told told).0
+            (grind (arith, each_rising, place_cmp_total, all_lines_of, told_moved, texts_kept, AllZip-long, length_zip))
         | inr f ↦ each_weaker f taken reached.handed.entries
       ];
     }

@@ -1,5 +1,6 @@
 use Rattle.std.proofs.lemmas.List.{map-append}
-use Rattle.std.proofs.Common.{◌≡◌, inl, inr, [], ◌∷◌, ◌++◌, Box, Global, map, refl, ◌∙◌, arith, append_assoc}
+use Rattle.std.proofs.Common.{is_lt, false, ◌≡◌, inl, inr, [], ◌∷◌, ◌++◌, Box, Global, map, refl, ◌∙◌, arith}
+use Rattle.std.proofs.Common.{append_assoc}
 use Rattle.cdxj_core.specs.declared.limit.TheConstants.{LINE_LIMIT}
 use Rattle.cdxj_core.specs.declared.line.Line.{Line}
 use Rattle.cdxj_core.specs.Members.{Member, member_pair}
@@ -10,10 +11,10 @@ use Rattle.merge_core.specs.Feeds.{done}
 use Rattle.merge_core.proofs.SpendLemmas.{read_to}
 use Rattle.merge_core.proofs.FeedLemmas.{bad_named, order_named, LineRead, same_stays, fed_more, done_next, done_taken}
 use Rattle.merge_core.proofs.FailLemmas.{if_err}
-use Rattle.line_queue.proofs.PairOrder.{below_upto, same_upto, same_from, upto_upto}
+use Rattle.line_queue.proofs.PairOrder.{from_not_below, same_upto, same_from, upto_upto}
 use Rattle.cdxj_places.proofs.RisingLaws.{each_join, each_weaker}
 use Rattle.merge_core.proofs.feed.Feed.drain.Given.{Over}
-use Rattle.merge_core.proofs.feed.Feed.drain.Goals.{In-Greater, In-Some}
+use Rattle.merge_core.proofs.feed.Feed.drain.Goals.{In-Greater, After-compare_pairs}
 use Rattle.merge_core.proofs.feed.Feed.drain.Goals as goal
 
 -- a line that is above the first one
@@ -28,11 +29,11 @@ returns-in-Greater-clause-later g c =
     grind arith
 
 -- a line was read that isn't below the first one
-was_read : (g : Over) (c : In-Some g) (f : Feed) → f.cursor ≡ c.next_line.new.cursor
-    → Upto (member_pair c.args.first.now) (member_pair c.in-Some.line.value)
+was_read : (g : Over) (c : After-compare_pairs g) (f : Feed) → f.cursor ≡ c.next_line.new.cursor
+    → is_lt c.compare_pairs.result ≡ false
     → LineRead LINE_LIMIT (g.R.Range.past c.args.range.now) (g.S.Source.text c.next_line.new.source)
     (g.S.Source.extent c.next_line.new.source) c.loop-line.self f c.in-Some.line.value
-was_read g c f is up = record {
+was_read g c f is not_less = record {
   is_due = grind arith;
   was = grind arith;
   stands = grind arith;
@@ -40,22 +41,23 @@ was_read g c f is up = record {
   count = grind arith;
   near = grind arith;
   next = λ t e. rw is (rw c.in-Some.is at (c.in_ok-line.ensures.next t (cc)));
-  low = λ t e. each_weaker (λ (k : Member) (q : Upto (member_pair k) (member_pair c.args.first.now)).
-      upto_upto (member_pair k) (member_pair c.args.first.now) (member_pair c.in-Some.line.value) q up) _
+  low = λ t e.
+      let first = member_pair c.args.first.now in let next = member_pair c.in-Some.line.value in
+      let up = from_not_below next first (grind arith) in
+      each_weaker (λ (k : Member) (q : Upto (member_pair k) first). upto_upto (member_pair k) first next q up) _
       (c.loop-line.invariant.low t (cc));
 }
 
 pub returns-in-Greater-clause-fed : goal.returns-in-Greater-clause-fed
 returns-in-Greater-clause-fed g c =
     let here = goal.at.returns-in-Greater-clause-fed g c in
-    let up = below_upto (member_pair c.args.first.now) (member_pair c.in-Some.line.value) (above g here.In-Greater) in
-    fed_more (was_read g here.In-Some c.settle.new.self c.settle.ensures.cursor up) _ (inl c.settle.ensures.next)
+    fed_more (was_read g here.After-compare_pairs c.settle.new.self c.settle.ensures.cursor (grind arith)) _
+    (inl c.settle.ensures.next)
 
 pub returns-in-Greater-clause-taken : goal.returns-in-Greater-clause-taken
 returns-in-Greater-clause-taken g c = λ t e.
     let here = goal.at.returns-in-Greater-clause-taken g c in
-    let up = below_upto (member_pair c.args.first.now) (member_pair c.in-Some.line.value) (above g here.In-Greater) in
-    let same = done_next (was_read g here.In-Some c.settle.new.self c.settle.ensures.cursor up) _
+    let same = done_next (was_read g here.After-compare_pairs c.settle.new.self c.settle.ensures.cursor (grind arith)) _
     c.settle.ensures.next t in
     let h = c.loop-line.invariant.taken t e in (h.0, same ∙ h.1, h.2, h.3)
 
@@ -69,8 +71,8 @@ loop-line-preserved g c =
     let pushed : map (λ (b : Box Line Global). b.value) c.push.new.self.items
     ≡ map (λ (b : Box Line Global). b.value) c.loop-line.rest.items ++ m ∷ [] = grind (arith, map-append) in
     let up = same_from (member_pair m) first alike in
-    let read = was_read g (goal.at.loop-line-preserved g c).In-Some
-    (record { cursor = c.next_line.new.cursor; progress = c.loop-line.self.progress }) refl up in
+    let read = was_read g (goal.at.loop-line-preserved g c).After-compare_pairs
+    (record { cursor = c.next_line.new.cursor; progress = c.loop-line.self.progress }) refl (grind arith) in
     let more = done_taken read inv.due in
     record {
       text = cc;

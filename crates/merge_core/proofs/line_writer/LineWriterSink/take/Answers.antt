@@ -39,10 +39,8 @@ module _ {B : Type 0} (seen : B → Member) (lines : List B) (k : ℕ) (line : B
 pub returns-in_err-put_line-clause-wrote : goal.returns-in_err-put_line-clause-wrote
 returns-in_err-put_line-clause-wrote g c =
     let p = err_from_is_err_and c.from_residual.result c.from_residual.ensures.1 in
-    λ begin taken start w. rw p.1 (broke_at (λ (l : Bor Line). l.now) c.args.lines.now c.loop-line.line-index
-    c.line-item.result
-    c.loop-line-test.true c.line-item.is taken start _ _ (c.loop-line.invariant.wrote taken start w).0
-    c.in_err-put_line.ensures.part)
+    λ begin taken start w. rw p.1 (broke_at (λ (l : Bor Line). l.now) _ _ _ c.loop-line-test.true c.line-item.is taken
+    start _ _ (c.loop-line.invariant.wrote taken start w).0 c.in_err-put_line.ensures.part)
 
 pub returns-in_err-put_line-clause-grows : goal.returns-in_err-put_line-clause-grows
 returns-in_err-put_line-clause-grows g c = grows_on _ _ _ c.loop-line.invariant.grows c.put_line.ensures.grows
