@@ -44,9 +44,7 @@ few_of zero (w ∷ ws) placed few = grind arith
 few_of (suc n) ws placed few =
     let others = filter (λ w. not (is_of n w)) ws in
     let split = length-filter_both (is_of n) (λ w. not (is_of n w)) (λ w. refl) ws in
-    let one = few n (omega arith) in
-    let fewer = few_of n others (others_before n ws placed)
-    (λ i l. let k = few i (omega arith) in grind (arith, length-map, filter_fewer)) in
+    let fewer = few_of n others (others_before n ws placed) (grind (arith, length-map, filter_fewer)) in
     grind (arith, length-map)
 
 -- ---- the lines of a group

@@ -1,7 +1,7 @@
 -- What one line more makes of a feed.
 use Rattle.std.proofs.lemmas.List.{map-append, take-map, take-take, drop_all}
-use Rattle.std.proofs.Common.{true, ◌⊎◌, ◌≡◌, ℕ, suc, ◌+◌, ◌≤◌, List, [], ◌∷◌, ◌++◌, length, refl, ap, arith, Bool}
-use Rattle.std.proofs.Common.{false, Option, Some, None, take, drop, map, append-nil, length-append, ◌<◌, length-take}
+use Rattle.std.proofs.Common.{true, ◌⊎◌, ◌≡◌, ℕ, suc, ◌+◌, ◌≤◌, List, [], ◌∷◌, ◌++◌, length, refl, arith, Bool, false}
+use Rattle.std.proofs.Common.{Option, Some, None, take, drop, map, append-nil, length-append, ◌<◌, length-take}
 use Rattle.std.proofs.Common.{append_assoc, take-append-drop}
 use Rattle.std.specs.List.{AllByRecursion}
 use Rattle.std.specs.FinMap.{nat_cmp-IsAntisymmetric, slice_cmp-IsAntisymmetric}
@@ -36,14 +36,10 @@ pub no_entry : (limit : ℕ) (line : List ℕ) (o : Option Member) → o ≡ lin
     → limit ≤ length (body_of line) → o ≡ None
 no_entry limit line o e h = grind (arith, entry_is_short)
 
-take_suc_at : {X : Type 0} (n : ℕ) (all : List X) (x : X) (rest : List X) → drop n all ≡ x ∷ rest → take (suc n) all
-    ≡ take n all ++ x ∷ []
-take_suc_at (suc n) (y ∷ ys) x rest e = ap (λ u. y ∷ u) (take_suc_at n ys x rest e)
-take_suc_at n all x rest e = grind arith
-
 pub take_next : {X : Type 0} (n : ℕ) (all : List X) (x : X) (rest : List X) → drop n all ≡ x ∷ rest → take (n + 1) all
     ≡ take n all ++ x ∷ []
-take_next n all x rest e = grind (arith, take_suc_at)
+take_next (suc n) (y ∷ ys) x rest e = grind (arith, take_next n ys x rest e)
+take_next n all x rest e = grind arith
 
 -- one line more was read
 pub one_more : (t : List ℕ) (was now : CursorState) (line : List ℕ) → lines (drop was.at t)
@@ -179,15 +175,14 @@ module _ {limit : ℕ} {past : List ℕ → Bool} {t : List ℕ} {extent : ℕ} 
   order_named pair new m due end next below =
       let told = fed.told t refl in
       let last = last_line limit (read_lines t f.cursor) end.0 end.1 (grind (arith, done_due)) in
-      let front : told.begins.0 ++ read_lines t f.cursor ≡ (told.begins.0 ++ last.0)
-      ++ last.1 ∷ [] = grind (arith, append_assoc) in
       let turned = pair_cmp_total.antisymm (member_pair end.1) (member_pair m) in
       let lower = below_then (member_pair m) pair (member_pair end.1) below end.3 in
+      let here = begins_here next.0 (lines (drop new.at t)) next.1 in
       record {
         before = told.begins.0 ++ last.0;
         previous = last.1;
         line = next.0;
-        begins = rw (← front) (begins_here next.0 (lines (drop new.at t)) next.1);
+        begins = grind (arith, append_assoc);
         earlier = end.1;
         later = m;
         earlier_is = last.3;

@@ -109,10 +109,8 @@ module _ (limit : ℕ) (past : List ℕ → Bool) (upward : IsUpward past) where
         → NeverFalls member_pair pair_cmp ms
         → ((k : Member) → Upto (member_pair m) (member_pair k) → is_read k ≡ false)
         → AllByRecursion (λ m. is_read m ≡ false) (m ∷ rest)
-    rest_unread before m rest ms e falls f = (
-      f m (upto_itself (member_pair m)),
-      grind (arith, each_weaker, falls_after),
-    )
+    rest_unread before m rest ms e falls f =
+        (f m (upto_itself (member_pair m)), grind (arith, each_weaker, falls_after))
 
 module _ {limit : ℕ} {past : List ℕ → Bool} (upward : IsUpward past) (upto : Member → Bool) {t : List ℕ} {extent : ℕ}
     {f : Feed} {ws : List Member} (fed : Fed limit past (Some t) extent f ws) (settled : IsSettled f)
@@ -128,11 +126,11 @@ module _ {limit : ℕ} {past : List ℕ → Bool} (upward : IsUpward past) (upto
   pub fed_read : (ms : List Member) → IsRun limit (lines (drop f.cursor.start t)) ms
       → filter (is_read limit past upward upto) ms ≡ filter (stays limit past upward) (done limit t f)
   fed_read ms run =
+      let n = f.cursor.count in
       let whole : map (member_of limit) (lines (drop f.cursor.start t)) ≡ ms = members_are limit _ ms run.entries in
-      let read : given limit t f.cursor ≡ take f.cursor.count ms = grind (arith, take-map) in
-      let rest : drop f.cursor.count ms ≡ map (member_of limit) (lines (drop f.cursor.at t)) = grind
-      (arith, drop-map) in
-      read_of ms (drop f.cursor.count ms) (grind (arith, take-append-drop)) run.ordered (grind arith)
+      let read : given limit t f.cursor ≡ take n ms = grind (arith, take-map) in
+      let rest : drop n ms ≡ map (member_of limit) (lines (drop f.cursor.at t)) = grind (arith, drop-map) in
+      read_of ms (drop n ms) (grind (arith, take-append-drop)) run.ordered (grind arith)
 
   -- the same of the lines that were read
   pub given_read : filter (is_read limit past upward upto) (given limit t f.cursor)

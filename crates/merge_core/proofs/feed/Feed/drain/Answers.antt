@@ -84,16 +84,15 @@ loop-line-preserved g c =
       fed = fed_more read _ (inr (
         inv.due,
         refl,
-        λ t e. same_stays (g.R.Range.past c.args.range.now) first m
-            (done LINE_LIMIT t c.loop-line.self) (inv.fed.told t (cc)).within (inv.low t (cc)) (inv.last t (cc)) alike,
+        λ t e. same_stays _ first m (done LINE_LIMIT t c.loop-line.self)
+            (inv.fed.told t (cc)).within (inv.low t (cc)) (inv.last t (cc)) alike,
       ));
       due = inv.due;
       begin = c.at-begin-in-Some.ensures;
       last = λ t e. (done LINE_LIMIT t c.loop-line.self, m, more t (cc), up);
       low = grind (arith, each_join, same_upto);
       each = grind (arith, each_join);
-      taken = λ t e.
-          let h = inv.taken t e in let next = more t (cc) in grind (arith, append_assoc, each_join);
+      taken = λ t e. let h = inv.taken t e in let next = more t (cc) in grind (arith, append_assoc, each_join);
     }
 
 pub returns-in_err-line-clause-fault : goal.returns-in_err-line-clause-fault
