@@ -6,7 +6,7 @@ use Rattle.cdxj_core.specs.declared.line.Line.{Line}
 use Rattle.cdxj_core.specs.Members.{Member, member_pair}
 use Rattle.cdxj_places.proofs.PairLemmas.{pair_cmp_total}
 use Rattle.merge_core.specs.declared.feed.Feed.{Feed}
-use Rattle.line_queue.specs.PairOrders.{Alike, Below, Upto}
+use Rattle.line_queue.specs.PairOrders.{Alike, Upto}
 use Rattle.merge_core.specs.Feeds.{done}
 use Rattle.merge_core.proofs.SpendLemmas.{read_to}
 use Rattle.merge_core.proofs.FeedLemmas.{bad_named, order_named, LineRead, same_stays, fed_more, done_next, done_taken}
@@ -14,18 +14,12 @@ use Rattle.merge_core.proofs.FailLemmas.{if_err}
 use Rattle.line_queue.proofs.PairOrder.{from_not_below, same_upto, same_from, upto_upto}
 use Rattle.cdxj_places.proofs.RisingLaws.{each_join, each_weaker}
 use Rattle.merge_core.proofs.feed.Feed.drain.Given.{Over}
-use Rattle.merge_core.proofs.feed.Feed.drain.Goals.{In-Greater, After-compare_pairs}
+use Rattle.merge_core.proofs.feed.Feed.drain.Goals.{After-compare_pairs}
 use Rattle.merge_core.proofs.feed.Feed.drain.Goals as goal
-
--- a line that is above the first one
-above : (g : Over) (c : In-Greater g) → Below (member_pair c.args.first.now) (member_pair c.in-Some.line.value)
-above g c =
-    let turned = pair_cmp_total.antisymm (member_pair c.args.first.now) (member_pair c.in-Some.line.value) in
-    grind arith
 
 pub returns-in-Greater-clause-later : goal.returns-in-Greater-clause-later
 returns-in-Greater-clause-later g c =
-    let over = above g (goal.at.returns-in-Greater-clause-later g c).In-Greater in
+    let turned = pair_cmp_total.antisymm (member_pair c.args.first.now) (member_pair c.in-Some.line.value) in
     grind arith
 
 -- a line was read that isn't below the first one
