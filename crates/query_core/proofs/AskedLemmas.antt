@@ -82,8 +82,7 @@ module _ {q : QueryValue} {start mid : Option (List ℕ)} {taken : List Member} 
       pub end_front : AppendsPrefix mid new
           (page_end (form_of w.writer.selection.query.now) (key_of w.writer.selection.query.now))
           → AppendsPrefix start new (answer_text q (query_page q all))
-      end_front p = subst (AppendsPrefix start new) text_same
-          (front-end start mid new (form_of q) taken_page.members (key_of q) stood.text (rw query_is at p))
+      end_front p = rw (← text_same) (front-end start mid new (form_of q) taken_page.members (key_of q) stood.text (rw query_is at p))
 
 module _ (first : PageWriter) (q : QueryValue) (is : (first.selection.query.now ≡ q)
     × (from_view first.selection.from ≡ q.resume) × (first.limit ≡ q.limit)) (taken : List Member)
@@ -91,11 +90,7 @@ module _ (first : PageWriter) (q : QueryValue) (is : (first.selection.query.now 
   -- the rows of these lines, or a front of them
   rows_front : ((k : PageSink) × Wrote first k.writer taken start now) ⊎ Broke first taken start now
       → AppendsPrefix start now (begun (form_of q) (page_over q q.resume q.limit taken).members)
-  rows_front (inl k) =
-      let w : Writing q start now taken = record { first = first; is = is; writer = k.0.writer; wrote = k.1 } in
-      let s = stood w in
-      grind (arith, whole_prefix)
-  rows_front (inr p) = grind arith
+  rows_front wrote = grind (arith, whole_prefix, stood)
 
   -- are a front of the page of lines of which these come first
   pub page_broke : (all rest : List Member) → captures q all ≡ captures q taken ++ rest
@@ -105,8 +100,6 @@ module _ (first : PageWriter) (q : QueryValue) (is : (first.selection.query.now 
       let members = (page_over q q.resume q.limit taken).members in
       let r = page_front q.limit (captures q taken) rest in
       let key = shown_key q.show_resume_key (query_page q all).next in
-      let same : (query_page q all).members ≡ members ++ r.0 =
-      ap (λ (p : Page Member PlaceValue). p.members) (asked_is q all ∙ ap (page q.limit) split) ∙ r.1 in
+      let same : (query_page q all).members ≡ members ++ r.0 = grind (arith, asked_is, page) in
       let f = begun_is_front (form_of q) members r.0 key in
-      subst (AppendsPrefix start now) (sym (ap (λ ms. page_text (form_of q) ms key) same ∙ f.1))
-      (prefix_longer start now (begun (form_of q) members) f.0 (rows_front wrote))
+      rw (same, f.1) (prefix_longer start now (begun (form_of q) members) f.0 (rows_front wrote))

@@ -97,18 +97,4 @@ module _ (limit : ℕ) (t : List ℕ) where
       }
 
       pub checked_fault : (f : AnswerFault) → IsLineFaultAt limit t at f → IsChecked limit t (Err f)
-      checked_fault fault.Memory known = tt
-      checked_fault (fault.Read i) known = tt
-      checked_fault fault.Write known = absurd known
-      checked_fault (fault.BadLine i offset) known = let bad = known.2 in rw known.1 (record {
-        before = take count (lines t);
-        line = bad.0;
-        begins = begins bad.0 bad.1 bad.2;
-        members = checked.members;
-        run = checked.run;
-        bad = bad.3;
-      })
-      checked_fault (fault.OutOfOrder i offset) known = absurd known
-      checked_fault fault.TooManySources known = absurd known
-      checked_fault fault.BadSizes known = absurd known
-      checked_fault fault.Input known = absurd known
+      checked_fault f known = grind (arith, begins)

@@ -53,7 +53,7 @@ lt_reverse r h = grind arith
 
 -- a pair that isn't above that of a line
 not_low : (pair : Pair) (m : Member) → is_gt (pair_cmp pair (member_pair m)) ≡ false → is_low pair m ≡ false
-not_low pair m h = ap is_lt (pair_cmp_total.antisymm (member_pair m) pair) ∙ lt_reverse _ h
+not_low pair m h = rw (pair_cmp_total.antisymm (member_pair m) pair) (lt_reverse _ h)
 
 zeros : ℕ → List ℕ
 zeros zero = []
@@ -111,13 +111,9 @@ line_stamp limit t m h = pair_stamp h.0 m (entry_pair_is limit h.0 m h.2)
 entries_are : (limit : ℕ) (t : List ℕ) (ls : List (List ℕ)) (ms : List Member)
     → ((l : List ℕ) → IsIn l ls → IsIn l (lines t)) → map (line_entry limit) ls ≡ map Some ms
     → AllByRecursion (IsLineIn limit t) ms
-entries_are limit t [] [] sub e = tt
+entries_are limit t ls [] sub e = grind arith
 entries_are limit t [] (m ∷ ms) sub e = cc
-entries_are limit t (l ∷ ls) [] sub e = cc
-entries_are limit t (l ∷ ls) (m ∷ ms) sub e =
-    let here : line_entry limit l ≡ Some m = cc in
-    let rest : map (line_entry limit) ls ≡ map Some ms = cc in
-    ((l, sub l (inl refl), here), entries_are limit t ls ms (λ k i. sub k (inr i)) rest)
+entries_are limit t (l ∷ ls) (m ∷ ms) sub e = grind (arith, entries_are limit t ls ms)
 
 -- the members of an index are lines of it
 index_lines : (limit : ℕ) (t : List ℕ) (ms : List Member) → IsIndex limit t ms
@@ -131,7 +127,7 @@ and_true a b h = grind arith
 stamped : (f : Member → Bool) (xs : List Member) → AllByRecursion (λ m. is_stamp m.values.stamp ≡ true) xs
     → filter (λ m. f m && is_stamp m.values.stamp) xs ≡ filter f xs
 stamped f [] h = refl
-stamped f (x ∷ xs) h = grind (arith, and_true, stamped f xs h.1)
+stamped f (x ∷ xs) h = grind (arith, stamped f xs h.1)
 
 index_stamps : (texts : List (List ℕ)) (indexes : List (List Member)) → AllZip (IsIndex LINE_LIMIT) texts indexes
     → AllByRecursion (λ m. is_stamp m.values.stamp ≡ true) (all_lines indexes)
@@ -147,7 +143,7 @@ known_stamp : (told : List (Option (List ℕ))) (texts : List (List ℕ)) (m : M
     → IsLineOf LINE_LIMIT told m → is_stamp m.values.stamp ≡ true
 known_stamp [] texts m k h = grind arith
 known_stamp (o ∷ os) [] m k h = absurd k
-known_stamp (o ∷ os) (t ∷ ts) m k h = elim (subst (λ o. IsLineOf LINE_LIMIT (o ∷ os) m) k.0 h) [
+known_stamp (o ∷ os) (t ∷ ts) m k h = elim (rw k.0 at h) [
   | inl here ↦ line_stamp LINE_LIMIT t m here
   | inr later ↦ known_stamp os ts m k.1 later
 ]
@@ -205,15 +201,14 @@ module _ (q : QueryValue) where
 module _ {S : Type 0} {text : S → Option (List ℕ)} {extent gave : S → ℕ} {q : QueryValue} {olds : List S}
     (r : Reading text extent gave q olds) where
   pub lines_taken : AreLinesOf LINE_LIMIT (map text olds) r.taken
-  lines_taken = rw (← r.start.kept) (taken_lines LINE_LIMIT text extent (is_past q.target) gave r.opened r.begun
-      r.sources r.feeds r.waiting r.bound r.taken r.start.same r.reached)
+  lines_taken = rw (← r.start.kept) (grind (arith, taken_lines))
 
   module _ (texts : List (List ℕ)) (known : Known (map text olds) texts) where
     pub known_opened : Known (map text r.opened) texts
     known_opened = rw r.start.kept known
 
     pub told : AreTold text r.opened
-    told = told_known text r.opened texts known_opened
+    told = grind (arith, told_known, known_opened)
 
     module _ (indexes : List (List Member)) (are : AllZip (IsIndex LINE_LIMIT) texts indexes) where
       of_all : filter (sought q) (collection indexes) ≡ filter (is_wanted q q.resume) (collection indexes)

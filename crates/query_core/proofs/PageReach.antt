@@ -89,12 +89,7 @@ pub page_not_reached : {S : Type 0} (text : S → Option (List ℕ)) (extent gav
     (texts : List (List ℕ)) (indexes : List (List Member)) (old new : Option (List ℕ)) (sources : List S)
     → Known (map text sources) texts → AllZip (IsIndex LINE_LIMIT) texts indexes → Grows old new
     → GaveInReach extent gave q texts indexes old new sources sources
-page_not_reached text extent gave q texts indexes old new sources known are grows = record {
-  whole = 0;
-  most = omega arith;
-  wrote = record { middle = old; front = Appends-none old; grows = grows };
-  within = grind (arith, within_opening, opened_not);
-}
+page_not_reached text extent gave q texts indexes old new sources known are grows = grind (arith, Appends-none, within_opening, opened_not)
 
 -- where no capture follows the page, all lines were read
 pub all_read : (all more shown : Bool) (found : Option PlaceValue) → more ≡ is_some found → shown ≡ is_some found
@@ -121,8 +116,7 @@ rising_fewer [] = omega arith
 rising_fewer (m ∷ ms) = grind (arith, put_fewer, rising_fewer ms)
 
 all_count : (parts : List (List Member)) → length (all_lines parts) ≡ sum (map (λ (ms : List Member). length ms) parts)
-all_count parts =
-    length-flat_map (λ (ms : List Member). ms) parts ∙ sym (sum-map (λ (ms : List Member). length ms) parts)
+all_count parts = grind (arith, length-flat_map, sum-map)
 
 pub page_fewer : (q : QueryValue) (parts : List (List Member)) (given lines : ℕ) → given
     ≡ min (length (query_page q (collection parts)).members) (2 ^ 64 - 1)

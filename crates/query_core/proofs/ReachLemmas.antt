@@ -53,21 +53,19 @@ use Rattle.query_core.proofs.PageOfIndexes.{wanted_whole}
 
 begins_itself : (text : List ℕ) → begins text text ≡ true
 begins_itself [] = refl
-begins_itself (b ∷ text) = rw (eq-eqb b b refl, begins_itself text) refl
+begins_itself (b ∷ text) = grind (arith, begins_itself text)
 
 covers_itself : (kind : MatchKind) (text : List ℕ) → kind_covers kind text text ≡ true
 covers_itself kind text = grind (arith, bytes_eq-Decides, begins_itself)
 
 covered_by : (b : Bool) (o : Ordering) → (is_gt o && not b) ≡ false → is_lt o ≡ false → (o ≡ Equal → b ≡ true)
     → b ≡ true
-covered_by b o past low met = grind arith
+covered_by b o past low met = grind (arith, is_gt, is_lt)
 
 -- a key that isn't past the target, and isn't below it
 covered_where_met : (t : TargetValue) (key : List ℕ) → is_past t key ≡ false → is_lt (slice_cmp nat_cmp key t.text)
     ≡ false → covers t key ≡ true
-covered_where_met t key past low = covered_by (covers t key) (slice_cmp nat_cmp key t.text) past low (λ met.
-    let same : key ≡ t.text = grind (arith, slice_cmp-IsAntisymmetric) in
-    ap (covers t) same ∙ covers_itself t.kind t.text)
+covered_where_met t key past low = grind (arith, covered_by, slice_cmp-IsAntisymmetric, covers_itself)
 
 turned : (p q : Pair) (o : Ordering) → pair_cmp p q ≡ o → is_gt o ≡ true → Below q p
 turned p q o f h = grind (arith, pair_cmp_total)
@@ -102,8 +100,7 @@ past_front (suc n) (c ∷ cs) vs x h k = past_front n cs vs x (omega arith) k
 firsts : {X Y : Type 0} (xs : List X) (ys : List Y) → length (zip xs ys) ≡ length xs
     → map (λ (x : X × Y). x.0) (zip xs ys) ≡ xs
 firsts [] ys h = refl
-firsts (x ∷ xs) [] h = absurd (omega arith)
-firsts (x ∷ xs) (y ∷ ys) h = ap (λ l. x ∷ l) (firsts xs ys (omega arith))
+firsts {Y = Y} (x ∷ xs) ys h = grind (arith, firsts {Y = Y} xs)
 
 -- ---- lines that were read
 
@@ -247,7 +244,7 @@ module _ {S : Type 0} {text : S → Option (List ℕ)} {extent gave : S → ℕ}
   pub took : Took q (map text olds) r.taken
   took = record {
     lines = lines_taken r;
-    first = λ texts indexes known are. let first = wanted_first r texts known indexes are in (first.0, first.1);
+    first = λ texts indexes known are. let first = wanted_first r texts known indexes are in grind arith;
   }
 
 pub within_opening : {S : Type 0} (text : S → Option (List ℕ)) (extent gave : S → ℕ) (test : Member → Bool)
@@ -256,11 +253,7 @@ pub within_opening : {S : Type 0} (text : S → Option (List ℕ)) (extent gave 
     → AllZip (λ x y. OpenedWithin (text x) (extent x) (gave x) (gave y)) olds news
     → AllGaveWithin extent gave test texts indexes olds news
 within_opening text extent gave test [] indexes xs ys known are opened = grind arith
-within_opening text extent gave test (t ∷ ts) [] xs ys known are opened = absurd are
-within_opening text extent gave test (t ∷ ts) (i ∷ is) [] ys known are opened = absurd known
-within_opening text extent gave test (t ∷ ts) (i ∷ is) (x ∷ xs) [] known are opened = absurd opened
-within_opening text extent gave test (t ∷ ts) (i ∷ is) (x ∷ xs) (y ∷ ys) known are opened =
-    grind (arith, within_opening text extent gave test ts is xs ys known.1 are.1 opened.1)
+within_opening text extent gave test (t ∷ ts) indexes xs ys known are opened = grind (arith, within_opening text extent gave test ts)
 
 -- nothing was read at all
 pub opened_not : {S : Type 0} (text : S → Option (List ℕ)) (extent gave : S → ℕ) (xs : List S)

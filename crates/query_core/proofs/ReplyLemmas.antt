@@ -24,14 +24,12 @@ use Rattle.query_core.specs.Conversations.{RepliedSoFar, RepliedToAll, RepliedTo
 zip_more : {X Y : Type 0} (P : X → Y → Type 0) (xs : List X) (ys : List Y) (x : X) (y : Y) → AllZip P xs ys → P x y
     → AllZip P (xs ++ x ∷ []) (ys ++ y ∷ [])
 zip_more P [] ys x y each p = grind arith
-zip_more P (u ∷ xs) [] x y each p = absurd each
-zip_more P (u ∷ xs) (v ∷ ys) x y each p = (each.0, zip_more P xs ys x y each.1 p)
+zip_more P (u ∷ xs) ys x y each p = grind (arith, zip_more P xs)
 
 zip_map : {X Y Z : Type 0} (P : Y → Z → Type 0) (f : X → Y) (xs : List X) (zs : List Z)
     → AllZip (λ x z. P (f x) z) xs zs → AllZip P (map f xs) zs
 zip_map P f [] zs each = grind arith
-zip_map P f (x ∷ xs) [] each = absurd each
-zip_map P f (x ∷ xs) (z ∷ zs) each = (each.0, zip_map P f xs zs each.1)
+zip_map P f (x ∷ xs) zs each = grind (arith, zip_map P f xs)
 
 abbrev joined : List (List ℕ) → List ℕ
 joined texts = flat_map (λ text. text) texts
@@ -82,45 +80,6 @@ module _ (limit : ℕ) (IsReply : List ℕ → List ℕ → Type 0) where
   replied-none (Some input) buffer old e =
       ([], [], ap (λ b. cut_lines (b ++ input)) (sym e), refl, tt, Appends-none old)
 
-  pub replied-more : (input now after : Option (List ℕ)) (count : ℕ) (old new last : Option (List ℕ))
-      (line text : List ℕ)
-      → RepliedSoFar limit IsReply input now count old new → TakesLine (limit + 2) true now after line
-      → Marked line text → Appends new last text
-      → RepliedSoFar limit IsReply input after (count + 1) old last
-  replied-more None now after count old new last line text s t m a = tt
-  replied-more (Some input) None after count old new last line text s t m a = absurd s
-  replied-more (Some input) (Some now) None count old new last line text s t m a = absurd t
-  replied-more (Some input) (Some now) (Some rest) count old new last line text
-      (done, texts, cut, counted, each, written) (seen, first, is) m a = (
-        done ++ seen ∷ [],
-        texts ++ text ∷ [],
-        grind (arith, append_assoc),
-        omega (arith, counted, length-append done (seen ∷ [])),
-        zip_more Marked done texts seen text each (held line seen text is m),
-        subst (Appends old last) (sym (joined-more texts text))
-            (Appends-join old new last (joined texts) text written a),
-      )
-
-  pub replied-whole : (input now after : Option (List ℕ)) (count taken : ℕ) (old new : Option (List ℕ)) (line : List ℕ)
-      → RepliedSoFar limit IsReply input now count old new → TakesLine (limit + 2) false now after line
-      → CountsTaken input after 0 taken → taken < 2 ^ 63 - 1
-      → RepliedToAll limit IsReply input count old new
-  replied-whole None now after count taken old new line s t n small = tt
-  replied-whole (Some input) None after count taken old new line s t n small = absurd s
-  replied-whole (Some input) (Some now) None count taken old new line s t n small = absurd t
-  replied-whole (Some input) (Some now) (Some rest) count taken old new line (done, texts, cut, counted, each, written)
-      (none, end) n small =
-      let all : cut_lines input ≡ done = cut ∙ (ap (λ l. done ++ cut_lines l) none ∙ append-nil done) in (
-        omega (arith, n, small, ap length end),
-        grind (arith, length-map),
-        texts,
-        zip_map (IsMarkedReply limit IsReply) without_carriage_return (cut_lines input) texts
-            (subst (λ ls. AllZip Marked ls texts) (sym all) each),
-        written,
-      )
-
-  -- ---- after a fault
-
   split : (input : List ℕ) (done later : List (List ℕ)) → cut_lines input ≡ done ++ later
       → input_lines input ≡ map without_carriage_return done ++ map without_carriage_return later
   split input done later cut = grind (arith, map-append)
@@ -138,29 +97,61 @@ module _ (limit : ℕ) (IsReply : List ℕ → List ℕ → Type 0) where
     grind (arith, append-nil, prefix_whole),
   )
 
-  pub replied-within : (input now after : Option (List ℕ)) (count : ℕ) (old new last : Option (List ℕ))
-      (line text : List ℕ)
+  -- a line that was read, and what was written then
+  replied : (input now after : Option (List ℕ)) (count : ℕ) (old new last : Option (List ℕ)) (line text : List ℕ)
       → RepliedSoFar limit IsReply input now count old new → TakesLine (limit + 2) true now after line
-      → Marked line text → AppendsPrefix new last text
-      → RepliedToFirst limit IsReply input old last
-  replied-within None now after count old new last line text s t m p = tt
-  replied-within (Some input) None after count old new last line text s t m p = absurd s
-  replied-within (Some input) (Some now) None count old new last line text s t m p = absurd t
-  replied-within (Some input) (Some now) (Some rest) count old new last line text
-      (done, texts, cut, counted, each, written) (seen, first, is) m p = (
-        map without_carriage_return (done ++ seen ∷ []),
-        map without_carriage_return (cut_lines rest),
-        texts ++ text ∷ [],
-        grind (arith, split, append_assoc),
-        zip_map (IsMarkedReply limit IsReply) without_carriage_return (done ++ seen ∷ []) (texts ++ text ∷ [])
-            (zip_more Marked done texts seen text each (held line seen text is m)),
-        subst (AppendsPrefix old last) (sym (joined-more texts text))
-            (prefix_after old new last (joined texts) text written p),
+      → Marked line text
+      → (Appends new last text → RepliedSoFar limit IsReply input after (count + 1) old last)
+      × (AppendsPrefix new last text → RepliedToFirst limit IsReply input old last)
+  replied None now after count old new last line text s t m = (λ a. tt, λ p. tt)
+  replied (Some input) None after count old new last line text s t m = absurd s
+  replied (Some input) (Some now) None count old new last line text s t m = absurd t
+  replied (Some input) (Some now) (Some rest) count old new last line text
+      (done, texts, cut, counted, each, written) (seen, first, is) m =
+      let lines = done ++ seen ∷ [] in
+      let more = zip_more Marked done texts seen text each (held line seen text is m) in
+      let whole = joined-more texts text in (
+        λ a. (
+          lines,
+          texts ++ text ∷ [],
+          grind (arith, append_assoc),
+          omega (arith, counted, length-append done (seen ∷ [])),
+          more,
+          rw whole (Appends-join old new last (joined texts) text written a),
+        ),
+        λ p. (
+          map without_carriage_return lines,
+          map without_carriage_return (cut_lines rest),
+          texts ++ text ∷ [],
+          grind (arith, split, append_assoc),
+          zip_map (IsMarkedReply limit IsReply) without_carriage_return lines (texts ++ text ∷ []) more,
+          rw whole (prefix_after old new last (joined texts) text written p),
+        ),
+      )
+
+  -- no line is left
+  pub line-none : (input now after : Option (List ℕ)) (count before taken : ℕ) (old new : Option (List ℕ))
+      (line : List ℕ) (found : Bool) → RepliedSoFar limit IsReply input now count old new
+      → TakesLine (limit + 2) found now after line → found ≡ false → CountsTaken input now 0 before
+      → CountsTaken now after before taken → taken < 2 ^ 63 - 1 → RepliedToAll limit IsReply input count old new
+  line-none None now after count before taken old new line found s t none n k small = tt
+  line-none (Some input) None after count before taken old new line found s t none n k small = absurd s
+  line-none (Some input) (Some now) None count before taken old new line found s t none n k small = absurd k
+  line-none (Some input) (Some now) (Some rest) count before taken old new line found
+      (done, texts, cut, counted, each, written) t none n k small =
+      let end = rw none at t in
+      let all : cut_lines input ≡ done = cut ∙ (ap (λ l. done ++ cut_lines l) end.0 ∙ append-nil done) in (
+        omega (arith, n, k, small, ap length end.1),
+        grind (arith, length-map),
+        texts,
+        zip_map (IsMarkedReply limit IsReply) without_carriage_return (cut_lines input) texts
+            (rw all each),
+        written,
       )
 
   pub nothing_replied : (input old : Option (List ℕ)) → RepliedToFirst limit IsReply input old old
-  nothing_replied None old = tt
-  nothing_replied (Some input) old = ([], input_lines input, [], refl, tt, wrote_nothing old [])
+  nothing_replied input old =
+      replied-front input (prepend_known [] input) 0 old old (replied-none input [] old refl)
 
 -- ---- the same, in the words of the calls
 
@@ -181,26 +172,12 @@ module _ {limit : ℕ} (t : Turn limit) (IsReply : List ℕ → List ℕ → Typ
   pub line-more : (reply : List ℕ) × IsMarkedReply limit IsReply (without_carriage_return t.line) reply
       × Appends t.new t.last reply → RepliedSoFar limit IsReply t.input t.after (t.count + 1) t.old t.last
   line-more (reply, m, a) =
-      replied-more limit IsReply t.input t.now t.after t.count t.old t.new t.last t.line reply so_far t.takes m a
+      (replied limit IsReply t.input t.now t.after t.count t.old t.new t.last t.line reply so_far t.takes m).0 a
 
   pub line-within : (reply : List ℕ) × IsMarkedReply limit IsReply (without_carriage_return t.line) reply
       × AppendsPrefix t.new t.last reply → RepliedToFirst limit IsReply t.input t.old t.last
   line-within (reply, m, p) =
-      replied-within limit IsReply t.input t.now t.after t.count t.old t.new t.last t.line reply so_far t.takes m p
-
-module _ (limit : ℕ) (IsReply : List ℕ → List ℕ → Type 0) (input now after : Option (List ℕ)) (count taken before : ℕ)
-    (old new : Option (List ℕ)) (line : List ℕ)
-    (found : Bool) (so_far : RepliedSoFar limit IsReply input now count old new)
-    (takes : TakesLine (limit + 2) found now after line) where
-  pub line-none : found ≡ false → CountsTaken input now 0 before → CountsTaken now after before taken
-      → taken < 2 ^ 63 - 1 → RepliedToAll limit IsReply input count old new
-  line-none none counts more small = grind (arith, replied-whole, taken-join)
-
--- after a fault
-pub converses_err : (limit : ℕ) (IsReply : List ℕ → List ℕ → Type 0) (Q : AnswerFault → Type 0)
-    (r : Result ℕ AnswerFault) (input old new : Option (List ℕ)) → IsErrAnd r Q
-    → RepliedToFirst limit IsReply input old new → Converses limit IsReply r input old new
-converses_err limit IsReply Q r input old new h p = grind arith
+      (replied limit IsReply t.input t.now t.after t.count t.old t.new t.last t.line reply so_far t.takes m).1 p
 
 -- ---- where each text has one reply
 
@@ -214,8 +191,7 @@ module _ (limit : ℕ) (reply : List ℕ → List ℕ) where
   texts_are : (lines texts : List (List ℕ)) → AllZip (IsMarkedReply limit Is) lines texts → joined texts
       ≡ flat_map (marked_reply limit reply) lines
   texts_are [] texts each = grind arith
-  texts_are (line ∷ lines) [] each = absurd each
-  texts_are (line ∷ lines) (text ∷ texts) (m, each) = grind (arith, line_is, texts_are lines texts each)
+  texts_are (line ∷ lines) texts each = grind (arith, line_is, texts_are lines)
 
   pub one_reply : (input : Option (List ℕ)) (count : ℕ) (old new : Option (List ℕ))
       → RepliedToAll limit Is input count old new → Replied limit reply input count old new

@@ -43,21 +43,20 @@ module _ (limit : ℕ) where
         earlier = m ∷ found.earlier;
         member = found.member;
         later = found.later;
-        split = ap (λ ms. m ∷ ms)
-            found.split;
+        split = ap (λ ms. m ∷ ms) found.split;
         entry = found.entry;
         others = found.others;
       }
 
-  pub no_bad_line : (text : List ℕ) (members : List Member) (offset : ℕ) → IsIndex limit text members
+  no_bad_line : (text : List ℕ) (members : List Member) (offset : ℕ) → IsIndex limit text members
       → IsBadLine limit text offset → ⊥
   no_bad_line text members offset index bad =
-      let found = entries_at bad.before bad.line bad.begins.after members (rw bad.begins.lines_are at index.entries) in
+      let found = entries_at bad.before bad.line bad.begins.after members in
       grind arith
 
   stays : (us : List Member) (m : Member) (vs : List Member) → NeverFalls member_pair pair_cmp (us ++ m ∷ vs)
       → AllByRecursion (λ v. is_gt (pair_cmp (member_pair m) (member_pair v)) ≡ false) vs
-  stays [] m vs h = h.0
+  stays [] m vs h = grind arith
   stays (u ∷ us) m vs h = stays us m vs h.1
 
   next_stays : (m : Member) (line : List ℕ) (after : List (List ℕ)) (later : List Member) (n : Member)
@@ -65,19 +64,16 @@ module _ (limit : ℕ) where
       → AllByRecursion (λ v. is_gt (pair_cmp (member_pair m) (member_pair v)) ≡ false) later
       → line_entry limit line ≡ Some n → is_gt (pair_cmp (member_pair m) (member_pair n)) ≡ false
   next_stays m line after [] n e all is = cc
-  next_stays m line after (v ∷ later) n e all is = let same : v ≡ n = cc in rw same at all.0
+  next_stays m line after (v ∷ later) n e all is = grind arith
 
-  pub none_out_of_order : (text : List ℕ) (members : List Member) (offset : ℕ) → IsIndex limit text members
+  none_out_of_order : (text : List ℕ) (members : List Member) (offset : ℕ) → IsIndex limit text members
       → IsOutOfOrder limit text offset → ⊥
   none_out_of_order text members offset index out =
       let cut = out.begins.lines_are ∙ append_assoc out.before (out.previous ∷ []) (out.line ∷ out.begins.after) in
       let first = entries_at out.before out.previous (out.line ∷ out.begins.after) members
       (rw cut at index.entries) in
       let ordered = stays first.earlier first.member first.later (rw first.split at index.ordered) in
-      let is_earlier : first.member ≡ out.earlier = cc in
-      let here = next_stays first.member out.line out.begins.after first.later out.later first.others ordered
-      out.later_is in
-      grind arith
+      grind (arith, next_stays)
 
   -- the source with this number tells the bytes of an index
   record ToldIndex (told : Option (List ℕ)) : Type 0 where
@@ -89,33 +85,13 @@ module _ (limit : ℕ) where
   index_at : (tolds : List (Option (List ℕ))) (texts : List (List ℕ)) (indexes : List (List Member)) → Known tolds texts
       → AllZip (IsIndex limit) texts indexes → (i : ℕ) → i < length tolds → ToldIndex (get_or tolds i None)
   index_at [] texts indexes known are i inside = grind arith
-  index_at (told ∷ tolds) [] indexes known are i inside = absurd known
-  index_at (told ∷ tolds) (t ∷ texts) [] known are i inside = absurd are
-  index_at (told ∷ tolds) (t ∷ texts) (ms ∷ indexes) known are zero inside =
-      record { text = t; members = ms; told_is = known.0; index = are.0 }
-  index_at (told ∷ tolds) (t ∷ texts) (ms ∷ indexes) known are (suc i) inside = index_at tolds texts indexes known.1
-      are.1 i (omega (arith, inside))
-
-  module _ (tolds : List (Option (List ℕ))) (texts : List (List ℕ)) (indexes : List (List Member))
-      (known : Known tolds texts) (are : AllZip (IsIndex limit) texts indexes) (i offset : ℕ) where
-    pub names_no_bad_line : IsAnswerFaultOf limit tolds (fault.BadLine i offset) → ⊥
-    names_no_bad_line named =
-        let at = index_at tolds texts indexes known are i named.0 in
-        no_bad_line at.text at.members offset at.index (named.1 at.text at.told_is)
-
-    pub names_none_out_of_order : IsAnswerFaultOf limit tolds (fault.OutOfOrder i offset) → ⊥
-    names_none_out_of_order named =
-        let at = index_at tolds texts indexes known are i named.0 in
-        none_out_of_order at.text at.members offset at.index (named.1 at.text at.told_is)
+  index_at (told ∷ tolds) texts indexes known are i inside = grind (arith, index_at tolds)
 
 pub no_line_at_fault : NoLineIsAtFault
-no_line_at_fault told fault.Memory named texts indexes known are = tt
-no_line_at_fault told (fault.Read i) named texts indexes known are = tt
-no_line_at_fault told fault.Write named texts indexes known are = tt
-no_line_at_fault told (fault.BadLine i offset) named texts indexes known are = names_no_bad_line LINE_LIMIT told texts
-    indexes known are i offset named
-no_line_at_fault told (fault.OutOfOrder i offset) named texts indexes known are = names_none_out_of_order LINE_LIMIT
-    told texts indexes known are i offset named
-no_line_at_fault told fault.TooManySources named texts indexes known are = tt
-no_line_at_fault told fault.BadSizes named texts indexes known are = tt
-no_line_at_fault told fault.Input named texts indexes known are = tt
+no_line_at_fault told (fault.BadLine i offset) named texts indexes known are =
+    let at = index_at LINE_LIMIT told texts indexes known are i named.0 in
+    no_bad_line LINE_LIMIT at.text at.members offset at.index (named.1 at.text at.told_is)
+no_line_at_fault told (fault.OutOfOrder i offset) named texts indexes known are =
+    let at = index_at LINE_LIMIT told texts indexes known are i named.0 in
+    none_out_of_order LINE_LIMIT at.text at.members offset at.index (named.1 at.text at.told_is)
+no_line_at_fault told other named texts indexes known are = tt

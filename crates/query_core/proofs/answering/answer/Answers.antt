@@ -80,9 +80,8 @@ settled_over : (g : Over) (c : In_ok-pass g) → OverIndexes LINE_LIMIT (map g.S
     (λ texts indexes. query_page c.args.query.now (collection indexes)
     ≡ page_over c.args.query.now c.args.query.now.resume c.args.query.now.limit c.in_ok-pass.ensures.took.lines)
 settled_over g c texts indexes known are =
-    let took = c.in_ok-pass.ensures.took in
-    let first = took.took.first texts indexes known are in
-    settled g c (collection indexes) first.0 first.1 (λ e. took.whole e texts indexes known are)
+    let first = c.in_ok-pass.ensures.took.took.first texts indexes known are in
+    settled g c (collection indexes) first.0 first.1 (grind arith)
 
 -- the page of lines of which these were taken before a fault
 broken : (g : Over) (c : In_err-pass g) (all rest : List Member) → captures c.args.query.now all
@@ -102,25 +101,17 @@ pub returns-then-sources-gt-SOURCES_LIMIT-clause-lines : goal.returns-then-sourc
 returns-then-sources-gt-SOURCES_LIMIT-clause-lines g c = ([], grind arith, wrote_nothing _ _)
 
 pub returns-in_err-writer-clause-lines : goal.returns-in_err-writer-clause-lines
-returns-in_err-writer-clause-lines g c =
-    let p = err_from_is_err_and c.from_residual.result c.from_residual.ensures.1 in
-    rw p.1 (([], record { rise = tt; each = tt }, grind (arith, front-start)))
+returns-in_err-writer-clause-lines g c = ([], grind arith, grind (arith, err_from_is_err_and, front-start))
 
 pub returns-in_err-pass-clause-lines : goal.returns-in_err-pass-clause-lines
 returns-in_err-pass-clause-lines g c =
-    let p = err_from_is_err_and c.from_residual-in_err-pass.result c.from_residual-in_err-pass.ensures.1 in
-    let broke = c.in_err-pass.ensures.broke in
-    rw p.1 ((
-      broke.lines,
-      broke.took.lines,
-      broken g (goal.at.returns-in_err-pass-clause-lines g c).In_err-pass broke.lines [] (sym (append-nil _)),
-    ))
+    let b = broken g (goal.at.returns-in_err-pass-clause-lines g c).In_err-pass _ [] (sym (append-nil _)) in
+    grind (arith, err_from_is_err_and)
 
 pub returns-in_err-end-clause-lines : goal.returns-in_err-end-clause-lines
 returns-in_err-end-clause-lines g c =
-    let p = err_from_is_err_and c.from_residual-in_err-end.result c.from_residual-in_err-end.ensures.1 in
     let took = c.in_ok-pass.ensures.took in
-    rw p.1 ((
+    rw (err_from_is_err_and c.from_residual-in_err-end.result c.from_residual-in_err-end.ensures.1).1 ((
       took.lines,
       took.took.lines,
       end_front (writing g (goal.at.returns-in_err-end-clause-lines g c).In_ok-pass) took.lines _
@@ -143,22 +134,18 @@ pub returns-then-sources-gt-SOURCES_LIMIT-clause-page : goal.returns-then-source
 returns-then-sources-gt-SOURCES_LIMIT-clause-page g c = λ texts indexes known are. wrote_nothing _ _
 
 pub returns-in_err-writer-clause-page : goal.returns-in_err-writer-clause-page
-returns-in_err-writer-clause-page g c =
-    let p = err_from_is_err_and c.from_residual.result c.from_residual.ensures.1 in
-    rw p.1 (λ texts indexes known are. grind (arith, front-start))
+returns-in_err-writer-clause-page g c = grind (arith, err_from_is_err_and, front-start)
 
 pub returns-in_err-pass-clause-page : goal.returns-in_err-pass-clause-page
-returns-in_err-pass-clause-page g c =
-    let p = err_from_is_err_and c.from_residual-in_err-pass.result c.from_residual-in_err-pass.ensures.1 in
-    rw p.1 (λ texts indexes known are.
+returns-in_err-pass-clause-page g c = λ texts indexes known are.
     let first = c.in_err-pass.ensures.broke.took.first texts indexes known are in
-    broken g (goal.at.returns-in_err-pass-clause-page g c).In_err-pass (collection indexes) first.0 first.1)
+    let b = broken g (goal.at.returns-in_err-pass-clause-page g c).In_err-pass (collection indexes) first.0 first.1 in
+    grind (arith, err_from_is_err_and)
 
 pub returns-in_err-end-clause-page : goal.returns-in_err-end-clause-page
 returns-in_err-end-clause-page g c =
-    let p = err_from_is_err_and c.from_residual-in_err-end.result c.from_residual-in_err-end.ensures.1 in
     let here = (goal.at.returns-in_err-end-clause-page g c).In_ok-pass in
-    rw p.1 (λ texts indexes known are. end_front (writing g here) (collection indexes) _
+    rw (err_from_is_err_and c.from_residual-in_err-end.result c.from_residual-in_err-end.ensures.1).1 (λ texts indexes known are. end_front (writing g here) (collection indexes) _
     (settled_over g here texts indexes known are) c.in_err-end.ensures.text)
 
 pub returns-clause-page : goal.returns-clause-page
@@ -201,8 +188,7 @@ returns-in_err-pass-clause-reads g c =
     let halted = c.in_err-pass.ensures.halted in
     let before = halted.before in
     let here = (goal.at.returns-in_err-pass-clause-reads g c).In_ok-writer in
-    let p = err_from_is_err_and c.from_residual-in_err-pass.result c.from_residual-in_err-pass.ensures.1 in
-    rw p.1 (record {
+    rw (err_from_is_err_and c.from_residual-in_err-pass.result c.from_residual-in_err-pass.ensures.1).1 (record {
       probes = tt;
       lines = λ texts indexes known are. tt;
       bytes = page_reached g.S.Source.text g.S.Source.extent g.S.Source.gave _ c.args.sources.now
@@ -219,8 +205,7 @@ returns-in_err-end-clause-reads g c =
     let here = all.In_ok-pass in
     let before = took.before in
     let room = within g all.In_ok-writer before.state took.earlier before.middle before.came before.more in
-    let p = err_from_is_err_and c.from_residual-in_err-end.result c.from_residual-in_err-end.ensures.1 in
-    rw p.1 (record {
+    rw (err_from_is_err_and c.from_residual-in_err-end.result c.from_residual-in_err-end.ensures.1).1 (record {
       probes = tt;
       lines = λ texts indexes known are. tt;
       bytes = page_reached g.S.Source.text g.S.Source.extent g.S.Source.gave _ c.args.sources.now

@@ -9,7 +9,6 @@ use Rattle.query_text.specs.Matching.{matches}
 use Rattle.page_core.proofs.PageLaws.{rises_filter}
 use Rattle.merge_core.specs.Collections.{all_lines, collection}
 use Rattle.page_core.specs.Pages.{kept}
-use Rattle.query_core.specs.QueryLaws.{SelectedAreFirst}
 use Rattle.query_core.proofs.laws.pages_are_selected.Goals as goal
 
 pub returns-clause-rise : goal.returns-clause-rise
@@ -20,19 +19,15 @@ filter_members : (f : Member → Bool) (m : Member) (l : List Member) → IsIn m
 filter_members f m [] = grind arith
 filter_members f m (x ∷ l) = grind (arith, filter_members f m l)
 
-selected_are_first : SelectedAreFirst
-selected_are_first q indexes m =
+kept_all : (place : Option PlaceValue) (lines : List Member) → kept member_place (same_part None) place lines ≡ lines
+kept_all place [] = refl
+kept_all place (m ∷ lines) = grind (arith, kept_all (Some (member_place m)) lines)
+
+pub returns-clause-members : goal.returns-clause-members
+returns-clause-members c = λ q indexes m.
     let lines = filter_members (λ m. matches q m.values) m (collection indexes) in
     let first = rising_members member_place place_cmp place_cmp_total m (all_lines indexes) in
     grind arith
-
-kept_all : (place : Option PlaceValue) (lines : List Member) → kept member_place (same_part None) place lines ≡ lines
-kept_all place [] = refl
-kept_all None (m ∷ lines) = ap (λ l. m ∷ l) (kept_all (Some (member_place m)) lines)
-kept_all (Some p) (m ∷ lines) = ap (λ l. m ∷ l) (kept_all (Some (member_place m)) lines)
-
-pub returns-clause-members : goal.returns-clause-members
-returns-clause-members c = selected_are_first
 
 pub returns-clause-plain : goal.returns-clause-plain
 returns-clause-plain c = grind (arith, kept_all)

@@ -18,12 +18,10 @@ pages_rise : PagesRise
 pages_rise q lines sizes pages rise positive chain =
     let selects = rises_filter member_place place_cmp place_cmp_total (λ m. matches q m.values) lines rise in
     let joined = (chain_law member_place place_cmp (same_part q.collapse) place_cmp_total (selected q lines) q.resume
-    sizes pages selects positive chain).0 in (
-      subst (Rises member_place place_cmp) (sym joined)
-          (rises_collapsed member_place place_cmp (same_part q.collapse) place_cmp_total (selected q lines) q.resume
-          selects),
-      subst (AllByRecursion (λ m. is_wanted q q.resume m ≡ true)) (captures_are q sizes positive lines rise
-          ∙ sym joined) (captures_wanted q.resume q lines),
+    sizes pages selects positive chain).0 in
+    rw joined (
+      rises_collapsed member_place place_cmp (same_part q.collapse) place_cmp_total (selected q lines) q.resume selects,
+      rw (captures_are q sizes positive lines rise) at (captures_wanted q.resume q lines),
     )
 
 pub returns : goal.returns

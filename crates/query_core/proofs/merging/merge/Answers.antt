@@ -8,7 +8,7 @@ pub returns-in_err-merged-clause-fault : goal.returns-in_err-merged-clause-fault
 returns-in_err-merged-clause-fault g c = grind (arith, err_from_is_err_and, merge_line)
 
 pub returns-then-sources-gt-SOURCES_LIMIT-clause-part : goal.returns-then-sources-gt-SOURCES_LIMIT-clause-part
-returns-then-sources-gt-SOURCES_LIMIT-clause-part g c = λ texts indexes known are. wrote_nothing _ _
+returns-then-sources-gt-SOURCES_LIMIT-clause-part g c = grind (arith, wrote_nothing)
 
 pub returns-then-sources-gt-SOURCES_LIMIT-clause-lines : goal.returns-then-sources-gt-SOURCES_LIMIT-clause-lines
 returns-then-sources-gt-SOURCES_LIMIT-clause-lines g c = ([], record { rise = tt; each = tt }, wrote_nothing _ _)

@@ -13,12 +13,12 @@ use Rattle.merge_core.specs.Collections.{OverIndexes, collection}
 use Rattle.merge_core.specs.Spending.{AllGaveWithin}
 use Rattle.page_writers.specs.WrittenPages.{are_sizes, WrotePages, WrotePagesInPart}
 use Rattle.page_writers.proofs.PageChains.{wrote_front, wrote_none}
-use Rattle.query_core.proofs.PagesExits.{all_ended, any_front, at_end}
+use Rattle.query_core.proofs.PagesExits.{WritingPages, all_ended, any_front, at_end}
 use Rattle.page_writers.proofs.PagesLemmas.{start_front}
 use Rattle.page_writers.proofs.SizeLemmas.{all_positive}
 use Rattle.query_core.proofs.ReachLemmas.{opened_not, within_opening}
 use Rattle.query_core.proofs.paging.pages.Given.{Over}
-use Rattle.query_core.proofs.paging.pages.Goals.{In_err-writer, In_err-read_lines, In_err-end, In_ok-end}
+use Rattle.query_core.proofs.paging.pages.Goals.{In_err-writer, In_err-read_lines, In_ok-read_lines}
 use Rattle.query_core.proofs.paging.pages.Goals as goal
 
 -- nothing was read
@@ -29,10 +29,6 @@ unread text extent gave test sources texts indexes known are = grind (arith, wit
 
 collection_rises : (indexes : List (List Member)) → Rises member_place place_cmp (collection indexes)
 collection_rises indexes = grind (arith, rises_rising, place_cmp_total)
-
--- ---- what is refused
-
--- ---- failures, and lines at fault
 
 -- ---- how much was read
 
@@ -59,55 +55,39 @@ returns-in_err-end-clause-bytes g c = λ texts indexes known are. c.in_ok-read_l
 
 -- ---- the pages of lines that rise by place, of which those that were read come first
 
-before : (g : Over) (c : In_err-writer g) → are_sizes c.args.sizes.now ≡ true → (lines : List Member)
-    → Rises member_place place_cmp lines
+before : (g : Over) (c : In_err-writer g) → (lines : List Member) → Rises member_place place_cmp lines
     → WrotePagesInPart c.args.query.now lines c.args.sizes.now (g.O.Output.written c.args.out.now)
     (g.O.Output.written c.begin.new.out)
-before g c sized lines rise =
-    let positive = all_positive c.args.sizes.now sized in
+before g c lines rise =
+    let positive = all_positive c.args.sizes.now (search rules) in
     let old = g.O.Output.written c.args.out.now in
     let new = g.O.Output.written c.begin.new.out in
     wrote_front c.args.query.now c.args.sizes.now positive lines rise [] old new _ refl
     (start_front c.args.query.now c.args.sizes.now old new positive c.in_err-writer.ensures.front)
 
-ended : (g : Over) (c : In_ok-end g) (lines : List Member) → Rises member_place place_cmp lines
-    → captures c.args.query.now lines ≡ captures c.args.query.now c.in_ok-read_lines.ensures.took.lines
-    → WrotePages c.args.query.now lines c.args.sizes.now (g.O.Output.written c.args.out.now)
-    (g.O.Output.written c.end.new.out) c.in_ok-end.field-0
-ended g c lines rise all =
+abbrev writing : (g : Over) (c : In_ok-read_lines g) → WritingPages c.args.query.now c.args.sizes.now
+    (g.O.Output.written c.args.out.now) (g.O.Output.written c.read_lines.new.out) c.in_ok-read_lines.ensures.took.lines
+writing g c =
     let positive = all_positive c.args.sizes.now (search rules) in
-    let took = c.in_ok-read_lines.ensures.took in
-    let end = c.in_ok-end.ensures in
-    all_ended c.in_ok-writer.writer c.args.query.now c.args.sizes.now c.in_ok-writer.ensures.query positive
-    (g.O.Output.written c.args.out.now) lines rise c.read_lines.new.sink.writer took.lines
-    (g.O.Output.written c.read_lines.new.out) (took.came (record { writer = c.in_ok-writer.writer })
-    (g.O.Output.written c.args.out.now) ((refl, refl), c.in_ok-writer.ensures.stands positive)) all
-    (g.O.Output.written c.end.new.out) c.in_ok-end.field-0 end.text end.count
+    record {
+      first = c.in_ok-writer.writer;
+      is = c.in_ok-writer.ensures.query;
+      positive = positive;
+      writer = c.read_lines.new.sink.writer;
+      wrote = c.in_ok-read_lines.ensures.took.came (record { writer = c.in_ok-writer.writer })
+          (g.O.Output.written c.args.out.now) ((refl, refl), c.in_ok-writer.ensures.stands positive);
+    }
 
-unended : (g : Over) (c : In_err-end g) → are_sizes c.args.sizes.now ≡ true → (lines : List Member)
-    → Rises member_place place_cmp lines
-    → captures c.args.query.now lines ≡ captures c.args.query.now c.in_ok-read_lines.ensures.took.lines
-    → WrotePagesInPart c.args.query.now lines c.args.sizes.now (g.O.Output.written c.args.out.now)
-    (g.O.Output.written c.end.new.out)
-unended g c sized lines rise all =
-    let positive = all_positive c.args.sizes.now sized in
-    let took = c.in_ok-read_lines.ensures.took in
-    at_end c.in_ok-writer.writer c.args.query.now c.args.sizes.now c.in_ok-writer.ensures.query positive
-    (g.O.Output.written c.args.out.now) lines rise c.read_lines.new.sink.writer took.lines
-    (g.O.Output.written c.read_lines.new.out) (took.came (record { writer = c.in_ok-writer.writer })
-    (g.O.Output.written c.args.out.now) ((refl, refl), c.in_ok-writer.ensures.stands positive)) all
-    (g.O.Output.written c.end.new.out) c.in_err-end.ensures.text
-
-broken : (g : Over) (c : In_err-read_lines g) → are_sizes c.args.sizes.now ≡ true → (lines : List Member)
-    → Rises member_place place_cmp lines → (rest : List Member)
+broken : (g : Over) (c : In_err-read_lines g) (lines : List Member) → Rises member_place place_cmp lines
+    → (rest : List Member)
     → captures c.args.query.now lines ≡ captures c.args.query.now c.in_err-read_lines.ensures.broke.lines ++ rest
     → WrotePagesInPart c.args.query.now lines c.args.sizes.now (g.O.Output.written c.args.out.now)
     (g.O.Output.written c.read_lines.new.out)
-broken g c sized lines rise rest split =
-    let positive = all_positive c.args.sizes.now sized in
+broken g c lines rise rest split =
+    let positive = all_positive c.args.sizes.now (search rules) in
     let broke = c.in_err-read_lines.ensures.broke in
     any_front c.in_ok-writer.writer c.args.query.now c.args.sizes.now c.in_ok-writer.ensures.query positive
-    (g.O.Output.written c.args.out.now) lines rise broke.lines rest (g.O.Output.written c.read_lines.new.out) split
+    (g.O.Output.written c.args.out.now) (g.O.Output.written c.read_lines.new.out) lines broke.lines rest rise split
     (broke.wrote (record { writer = c.in_ok-writer.writer }) (g.O.Output.written c.args.out.now)
     ((refl, refl), c.in_ok-writer.ensures.stands positive))
 
@@ -126,33 +106,32 @@ returns-then-sources-gt-SOURCES_LIMIT-clause-lines g c = (
 
 pub returns-in_err-writer-clause-lines : goal.returns-in_err-writer-clause-lines
 returns-in_err-writer-clause-lines g c =
-    let p = err_from_is_err_and c.from_residual.result c.from_residual.ensures.1 in
-    let here = (goal.at.returns-in_err-writer-clause-lines g c).In_err-writer in
-    rw p.1 (([], record { rise = tt; each = tt }, λ sized. before g here sized [] tt))
+    let b = before g (goal.at.returns-in_err-writer-clause-lines g c).In_err-writer [] tt in
+    ([], grind arith, grind (arith, err_from_is_err_and))
 
 pub returns-in_err-read_lines-clause-lines : goal.returns-in_err-read_lines-clause-lines
 returns-in_err-read_lines-clause-lines g c =
-    let p = err_from_is_err_and c.from_residual-in_err-read_lines.result c.from_residual-in_err-read_lines.ensures.1 in
-    rw p.1 (let broke = c.in_err-read_lines.ensures.broke in
-    let here = (goal.at.returns-in_err-read_lines-clause-lines g c).In_err-read_lines in (
-      broke.lines,
-      broke.took.lines,
-      λ sized. broken g here sized broke.lines broke.took.lines.rise []
-          (sym (append-nil (captures c.args.query.now broke.lines))),
-    ))
+    let broke = c.in_err-read_lines.ensures.broke in
+    let b = broken g (goal.at.returns-in_err-read_lines-clause-lines g c).In_err-read_lines broke.lines
+    broke.took.lines.rise [] (sym (append-nil _)) in
+    (broke.lines, broke.took.lines, grind (arith, err_from_is_err_and))
 
 pub returns-in_err-end-clause-lines : goal.returns-in_err-end-clause-lines
 returns-in_err-end-clause-lines g c =
-    let p = err_from_is_err_and c.from_residual-in_err-end.result c.from_residual-in_err-end.ensures.1 in
-    rw p.1 (let took = c.in_ok-read_lines.ensures.took in
-    let here = (goal.at.returns-in_err-end-clause-lines g c).In_err-end in
-    (took.lines, took.took.lines, λ sized. unended g here sized took.lines took.took.lines.rise refl))
+    let took = c.in_ok-read_lines.ensures.took in
+    let b = at_end (writing g (goal.at.returns-in_err-end-clause-lines g c).In_ok-read_lines) took.lines
+    took.took.lines.rise refl _ c.in_err-end.ensures.text in
+    (took.lines, took.took.lines, grind (arith, err_from_is_err_and))
 
 pub returns-clause-lines : goal.returns-clause-lines
 returns-clause-lines g c =
     let took = c.in_ok-read_lines.ensures.took in
-    let here = (goal.at.returns-clause-lines g c).In_ok-end in
-    (took.lines, took.took.lines, ended g here took.lines took.took.lines.rise refl)
+    let end = c.in_ok-end.ensures in (
+      took.lines,
+      took.took.lines,
+      all_ended (writing g (goal.at.returns-clause-lines g c).In_ok-read_lines) took.lines took.took.lines.rise refl _ _
+          end.text end.count,
+    )
 
 -- ---- the lines of indexes
 
@@ -161,39 +140,40 @@ returns-then-sources-gt-SOURCES_LIMIT-clause-pages g c = grind (arith, wrote_non
 
 pub returns-in_err-writer-clause-pages : goal.returns-in_err-writer-clause-pages
 returns-in_err-writer-clause-pages g c =
-    let p = err_from_is_err_and c.from_residual.result c.from_residual.ensures.1 in
-    let here = (goal.at.returns-in_err-writer-clause-pages g c).In_err-writer in
-    rw p.1 (λ texts indexes known are sized. before g here sized (collection indexes) (collection_rises indexes))
+    let b = before g (goal.at.returns-in_err-writer-clause-pages g c).In_err-writer in
+    grind (arith, err_from_is_err_and, collection_rises)
 
 pub returns-in_err-read_lines-clause-pages : goal.returns-in_err-read_lines-clause-pages
-returns-in_err-read_lines-clause-pages g c =
-    let p = err_from_is_err_and c.from_residual-in_err-read_lines.result c.from_residual-in_err-read_lines.ensures.1 in
-    rw p.1 (λ texts indexes known are sized.
+returns-in_err-read_lines-clause-pages g c = λ texts indexes known are.
     let first = c.in_err-read_lines.ensures.broke.took.first texts indexes known are in
-    broken g (goal.at.returns-in_err-read_lines-clause-pages g c).In_err-read_lines sized (collection indexes)
-    (collection_rises indexes) first.0 first.1)
+    let b = broken g (goal.at.returns-in_err-read_lines-clause-pages g c).In_err-read_lines (collection indexes)
+    (collection_rises indexes) first.0 first.1 in
+    grind (arith, err_from_is_err_and)
 
 pub returns-in_err-end-clause-pages : goal.returns-in_err-end-clause-pages
-returns-in_err-end-clause-pages g c =
-    let p = err_from_is_err_and c.from_residual-in_err-end.result c.from_residual-in_err-end.ensures.1 in
-    rw p.1 (λ texts indexes known are sized.
+returns-in_err-end-clause-pages g c = λ texts indexes known are.
     let whole = true_from_ne_false c.in_ok-read_lines.field-0.all (λ e. c.in_ok-read_lines.ensures.enough e) in
-    unended g (goal.at.returns-in_err-end-clause-pages g c).In_err-end sized (collection indexes)
-    (collection_rises indexes)
-    (c.in_ok-read_lines.ensures.took.whole whole texts indexes known are))
+    let b = at_end (writing g (goal.at.returns-in_err-end-clause-pages g c).In_ok-read_lines) (collection indexes)
+    (collection_rises indexes) (c.in_ok-read_lines.ensures.took.whole whole texts indexes known are) _
+    c.in_err-end.ensures.text in
+    grind (arith, err_from_is_err_and)
 
 pub returns-clause-pages : goal.returns-clause-pages
 returns-clause-pages g c = λ texts indexes known are.
-    ended g (goal.at.returns-clause-pages g c).In_ok-end (collection indexes) (collection_rises indexes)
-    (grind arith)
+    let whole = true_from_ne_false c.in_ok-read_lines.field-0.all (λ e. c.in_ok-read_lines.ensures.enough e) in
+    let end = c.in_ok-end.ensures in
+    all_ended (writing g (goal.at.returns-clause-pages g c).In_ok-read_lines) (collection indexes)
+    (collection_rises indexes) (c.in_ok-read_lines.ensures.took.whole whole texts indexes known are) _ _ end.text
+    end.count
 
 pub returns-clause-parts : goal.returns-clause-parts
 returns-clause-parts g c = λ texts known.
     let whole = true_from_ne_false c.in_ok-read_lines.field-0.all (λ e. c.in_ok-read_lines.ensures.enough e) in
     let read = c.in_ok-read_lines.ensures.took.parts texts known in
+    let end = c.in_ok-end.ensures in
     record {
       parts = read.parts;
       each = read.each true (λ e. whole);
-      wrote = ended g (goal.at.returns-clause-parts g c).In_ok-end (collection read.parts)
-          (collection_rises read.parts) (read.ended whole);
+      wrote = all_ended (writing g (goal.at.returns-clause-parts g c).In_ok-read_lines) (collection read.parts)
+          (collection_rises read.parts) (read.ended whole) _ _ end.text end.count;
     }

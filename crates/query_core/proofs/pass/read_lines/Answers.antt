@@ -31,15 +31,8 @@ returns-in_err-all-clause-fault g c = grind (arith, err_from_is_err_and, merge_l
 
 pub returns-clause-held : goal.returns-clause-held
 returns-clause-held g c = λ texts indexes known are most share.
-    let h = c.merge.ensures.held texts indexes (subst (λ l. Known l texts) (sym c.open_at.ensures.text) known) are most
-    share (omega (arith, c.in_ok-opened.ensures.held)) in
-    omega (
-      arith,
-      h,
-      ap length c.open_at.ensures.text,
-      length-map c.open_at.new.sources g.S.Source.text,
-      length-map c.args.sources.now g.S.Source.text,
-    )
+    let h = c.merge.ensures.held texts indexes (rw c.open_at.ensures.text known) are most share in
+    grind (arith, length-map)
 
 -- ---- sources that couldn't be opened
 
@@ -50,8 +43,7 @@ returns-in_err-opened-clause-broke g c =
 
 pub returns-in_err-opened-clause-halted : goal.returns-in_err-opened-clause-halted
 returns-in_err-opened-clause-halted g c =
-    let p = err_from_is_err_and c.from_residual.result c.from_residual.ensures.1 in
-    rw p.1 (record {
+    rw (err_from_is_err_and c.from_residual.result c.from_residual.ensures.1).1 (record {
       earlier = [];
       first = λ texts indexes known are. (_, refl);
       before = record {
@@ -79,10 +71,9 @@ start g c = record {
 
 pub returns-in_err-all-clause-broke : goal.returns-in_err-all-clause-broke
 returns-in_err-all-clause-broke g c =
-    let p = err_from_is_err_and c.from_residual-in_err-all.result c.from_residual-in_err-all.ensures.1 in
     let broke = c.in_err-all.ensures.broke in
     let opened = start g (goal.at.returns-in_err-all-clause-broke g c).In_ok-opened in
-    rw p.1 (record {
+    rw (err_from_is_err_and c.from_residual-in_err-all.result c.from_residual-in_err-all.ensures.1).1 (record {
       lines = broke.taken;
       wrote = broke.wrote;
       took = took (reading opened (rw c.target.ensures at broke.reached));
@@ -90,11 +81,10 @@ returns-in_err-all-clause-broke g c =
 
 pub returns-in_err-all-clause-halted : goal.returns-in_err-all-clause-halted
 returns-in_err-all-clause-halted g c =
-    let p = err_from_is_err_and c.from_residual-in_err-all.result c.from_residual-in_err-all.ensures.1 in
     let h = c.in_err-all.ensures.halted in
     let opened = start g (goal.at.returns-in_err-all-clause-halted g c).In_ok-opened in
     let r = reading opened (rw c.target.ensures at h.so_far.reached) in
-    rw p.1 (record {
+    rw (err_from_is_err_and c.from_residual-in_err-all.result c.from_residual-in_err-all.ensures.1).1 (record {
       earlier = h.so_far.taken;
       first = (took r).first;
       before = record {

@@ -12,13 +12,7 @@ pub returns-in-Ok-clause-lines : goal.returns-in-Ok-clause-lines
 returns-in-Ok-clause-lines g c = grind (arith, le-ltb, is_utf8-from_IsUtf8)
 
 pub returns-in-Err-clause-text : goal.returns-in-Err-clause-text
-returns-in-Err-clause-text g c = λ texts indexes known are.
-    let line = c.args.line.now in
-    let other = false_from_ne_true (is_utf8 line) (λ t. c.in-Err.ensures.cases.0 (IsUtf8-from_is_utf8 line t)) in
-    grind (arith, writes_some, no_text_reply, le-ltb)
+returns-in-Err-clause-text g c = grind (arith, writes_some, no_text_reply, le-ltb, false_from_ne_true, IsUtf8-from_is_utf8)
 
 pub returns-in-Err-clause-lines : goal.returns-in-Err-clause-lines
-returns-in-Err-clause-lines g c =
-    let line = c.args.line.now in
-    let other = false_from_ne_true (is_utf8 line) (λ t. c.in-Err.ensures.cases.0 (IsUtf8-from_is_utf8 line t)) in
-    grind (arith, writes_some, no_text_reply, le-ltb)
+returns-in-Err-clause-lines g c = grind (arith, writes_some, no_text_reply, le-ltb, false_from_ne_true, IsUtf8-from_is_utf8)

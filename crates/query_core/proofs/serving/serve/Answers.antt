@@ -7,8 +7,9 @@ use Rattle.merge_core.specs.Collections.{collection}
 use Rattle.query_core.specs.AnyReplies.{IsTextReply}
 use Rattle.query_core.specs.Conversations.{IsOneReply}
 use Rattle.query_core.specs.Replies.{reply_of}
-use Rattle.query_core.proofs.ReplyLemmas.{Turn, converses_err, line-more, line-none, line-within, nothing_replied}
+use Rattle.query_core.proofs.ReplyLemmas.{Turn, line-more, line-none, line-within, nothing_replied}
 use Rattle.query_core.proofs.ReplyLemmas.{one_reply, one_reply_part, replied-front, replied-none}
+use Rattle.std.proofs.lemmas.Result.{err_from_is_err_and}
 use Rattle.query_core.proofs.serving.serve.Given.{Over}
 use Rattle.query_core.proofs.serving.serve.Goals.{After-reply_and_mark}
 use Rattle.query_core.proofs.serving.serve.Goals as goal
@@ -28,7 +29,7 @@ pub returns-in_err-lines-clause-part : goal.returns-in_err-lines-clause-part
 returns-in_err-lines-clause-part g c = grind (arith, one_reply_part, nothing_replied)
 
 pub returns-in_err-lines-clause-lines : goal.returns-in_err-lines-clause-lines
-returns-in_err-lines-clause-lines g c = grind (arith, converses_err, nothing_replied)
+returns-in_err-lines-clause-lines g c = grind (arith, err_from_is_err_and, nothing_replied)
 
 -- ---- a line isn't read
 
@@ -36,7 +37,7 @@ pub returns-in_err-read_line-clause-part : goal.returns-in_err-read_line-clause-
 returns-in_err-read_line-clause-part g c = grind (arith, one_reply_part, replied-front)
 
 pub returns-in_err-read_line-clause-lines : goal.returns-in_err-read_line-clause-lines
-returns-in_err-read_line-clause-lines g c = grind (arith, converses_err, replied-front)
+returns-in_err-read_line-clause-lines g c = grind (arith, err_from_is_err_and, replied-front)
 
 -- ---- a reply ends in a fault
 
@@ -57,18 +58,14 @@ pub returns-in_err-reply_and_mark-clause-part : goal.returns-in_err-reply_and_ma
 returns-in_err-reply_and_mark-clause-part g c = λ texts indexes known are.
     let inv = c.loop-lines.invariant in
     let t = turn g (goal.at.returns-in_err-reply_and_mark-clause-part g c).After-reply_and_mark in
-    one_reply_part QUERY_LIMIT (reply indexes) t.input t.old t.last
-    (line-within t (IsOneReply (reply indexes)) (inv.told texts indexes known are)
-    (rw c.line.ensures at (c.in_err-reply_and_mark.ensures.text texts indexes (rw inv.kept.0 known) are)))
+    let s = line-within t (IsOneReply (reply indexes)) (inv.told texts indexes known are)
+    (rw c.line.ensures at (c.in_err-reply_and_mark.ensures.text texts indexes (rw inv.kept.0 known) are)) in
+    grind (arith, one_reply_part)
 
 pub returns-in_err-reply_and_mark-clause-lines : goal.returns-in_err-reply_and_mark-clause-lines
 returns-in_err-reply_and_mark-clause-lines g c =
-    let inv = c.loop-lines.invariant in
     let t = turn g (goal.at.returns-in_err-reply_and_mark-clause-lines g c).After-reply_and_mark in
-    let is = IsTextReply (map g.S.Source.text c.args.sources.now) in
-    converses_err QUERY_LIMIT is _ c.from_residual-in_err-reply_and_mark.result t.input t.old t.last
-    c.from_residual-in_err-reply_and_mark.ensures.1
-    (line-within t is inv.any (rw (inv.kept.0, c.line.ensures) at c.in_err-reply_and_mark.ensures.lines))
+    grind (arith, err_from_is_err_and, line-within t)
 
 -- ---- a reply more
 
@@ -81,20 +78,18 @@ loop-lines-preserved g c =
     let read = c.in_ok-read_line.ensures in
     let marked = c.in_ok-reply_and_mark.ensures in
     let t = turn g (goal.at.loop-lines-preserved g c).After-reply_and_mark in
-    let rises = read.some c.if-branch.true in
     record {
-      kept = (marked.kept.0 ∙ inv.kept.0, marked.kept.1 ∙ inv.kept.1);
-      sources = marked.failures.0 ∙ inv.sources;
-      writes = marked.failures.1 ∙ inv.writes;
-      reads = read.failures ∙ inv.reads;
-      most = c.read_line.ensures.most ∙ inv.most;
-      taken = taken-join _ _ _ 0 c.loop-lines.lines.taken _ inv.taken read.count;
+      kept = (cc, cc);
+      sources = cc;
+      writes = cc;
+      reads = cc;
+      most = cc;
+      taken = grind (arith, taken-join);
       within = read.within;
-      fits = omega (arith, inv.fits, rises);
+      fits = grind arith;
       told = λ texts indexes known are. line-more t (IsOneReply (reply indexes)) (inv.told texts indexes known are)
           (rw c.line.ensures at (marked.text texts indexes (rw inv.kept.0 known) are));
-      any = line-more t (IsTextReply (map g.S.Source.text c.args.sources.now)) inv.any
-          (rw (inv.kept.0, c.line.ensures) at marked.lines);
+      any = grind (arith, line-more t);
     }
 
 -- ---- no line is left
