@@ -1,5 +1,5 @@
 -- One page of a query, by what was taken of its sources, and by what a writer has written.
-use Rattle.std.proofs.Common.{arith, ◌≡◌, ◌⊎◌, inl, inr, List, ◌++◌, sym, ap, ◌∙◌, subst, Bool, true, false, not}
+use Rattle.std.proofs.Common.{arith, ◌≡◌, ◌⊎◌, List, ◌++◌, Bool, true, false, not}
 use Rattle.std.proofs.Common.{ℕ, Option}
 use Rattle.std.specs.Option.{is_some}
 use Rattle.std.specs.Io.KnownBytes.{Appends}

@@ -9,7 +9,6 @@ use Rattle.source_core.specs.IndexLines.{lines}
 use Rattle.source_core.specs.LinesAtFault.{LineBeginsAt}
 use Rattle.source_core.proofs.SortedCuts.{begins_at}
 use Rattle.query_core.specs.declared.fault.AnswerFault.{AnswerFault}
-use Rattle.query_core.specs.declared.fault.AnswerFault.TheVariants as fault
 use Rattle.merge_core.specs.NextLine.{IsNextLine}
 use Rattle.query_core.specs.Checking.{IsLineFaultAt, IsLastOf, FallsAfter, EndsOutOfOrder, IsChecked}
 use Rattle.std.specs.List.{AllByRecursion}

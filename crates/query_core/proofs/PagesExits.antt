@@ -1,6 +1,6 @@
 -- What a writer has written of pages, where it ends and where it fails.
 use Rattle.query_core.proofs.AskedLemmas.{captures}
-use Rattle.std.proofs.Common.{arith, ◌≡◌, ◌⊎◌, inl, inr, ℕ, ◌+◌, ◌++◌, ◌-◌, ◌^◌, List, min, Option, None}
+use Rattle.std.proofs.Common.{◌≡◌, ◌⊎◌, inl, inr, ℕ, ◌+◌, ◌++◌, ◌-◌, ◌^◌, List, min, Option, None}
 use Rattle.std.specs.Io.KnownBytes.{Appends}
 use Rattle.cdxj_core.specs.Members.{Member, member_place}
 use Rattle.devices.specs.Device.{AppendsPrefix}
@@ -14,7 +14,7 @@ use Rattle.page_core.specs.PageText.{page_end}
 use Rattle.page_writers.specs.declared.pages_writer.PagesWriter.{PagesWriter}
 use Rattle.query_core.specs.declared.sinks.PagesSink.{PagesSink}
 use Rattle.page_writers.specs.QueryPages.{form_of}
-use Rattle.page_writers.specs.WriterView.{IsFront, PagesBroke, PagesWrote, captures_of, from_view}
+use Rattle.page_writers.specs.WriterView.{IsFront, PagesBroke, PagesWrote, from_view}
 use Rattle.page_writers.proofs.PagesLemmas.{ended_stands, ending_front, stands_front}
 
 -- a writer that began with this query and these sizes wrote pages of the captures of these lines

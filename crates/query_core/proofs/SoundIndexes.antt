@@ -1,6 +1,6 @@
 -- Of an index no line is at fault.
 use Rattle.std.specs.List.{AllZip, AllByRecursion}
-use Rattle.std.proofs.Common.{◌≡◌, ◌<◌, ℕ, zero, suc, List, [], ◌∷◌, ◌++◌, length, get_or, map, Option, None, Some}
+use Rattle.std.proofs.Common.{◌≡◌, ◌<◌, ℕ, List, [], ◌∷◌, ◌++◌, length, get_or, map, Option, None, Some}
 use Rattle.std.proofs.Common.{arith, refl, ap, ◌∙◌, append_assoc, false, is_gt}
 use Rattle.cdxj_places.specs.Pairs.{pair_cmp}
 use Rattle.cdxj_places.specs.Rising.{NeverFalls}
@@ -10,7 +10,6 @@ use Rattle.cdxj_core.specs.Indexes.{IsIndex}
 use Rattle.source_core.specs.LinesAtFault.{IsBadLine, IsOutOfOrder}
 use Rattle.merge_core.specs.Collections.{Known}
 use Rattle.query_core.specs.declared.fault.AnswerFault.TheVariants as fault
-use Rattle.query_core.specs.IndexFaults.{IsAnswerFaultOf}
 use Rattle.query_core.specs.QueryLaws.{NoLineIsAtFault}
 
 module _ (limit : ℕ) where

@@ -1,4 +1,4 @@
-use Rattle.std.proofs.Common.{arith, ◌≡◌, ◌↔◌, Bool, List, [], ◌∷◌, Option, None, Some, filter, true, refl, ap}
+use Rattle.std.proofs.Common.{arith, ◌≡◌, ◌↔◌, Bool, List, [], ◌∷◌, Option, None, Some, filter, true, refl}
 use Rattle.cdxj_places.specs.Places.{PlaceValue, place_cmp}
 use Rattle.cdxj_places.specs.Rising.{IsIn}
 use Rattle.cdxj_places.proofs.PlaceOrder.{place_cmp_total}

@@ -1,7 +1,5 @@
-use Rattle.std.proofs.Common.{arith, ◌≡◌, true, sym, subst, ◌∙◌}
-use Rattle.std.specs.List.{AllByRecursion}
+use Rattle.std.proofs.Common.{arith}
 use Rattle.cdxj_places.specs.Places.{place_cmp}
-use Rattle.cdxj_places.specs.Rising.{Rises}
 use Rattle.cdxj_places.proofs.PlaceOrder.{place_cmp_total}
 use Rattle.cdxj_core.specs.Members.{member_place}
 use Rattle.query_text.specs.Collapses.{same_part}
@@ -9,7 +7,6 @@ use Rattle.query_text.specs.Matching.{matches}
 use Rattle.page_core.proofs.PageLaws.{chain_law, rises_filter, rises_collapsed}
 use Rattle.page_writers.specs.QueryPages.{selected}
 use Rattle.query_core.specs.QueryLaws.{PagesRise}
-use Rattle.page_writers.specs.PageWriting.{is_wanted}
 use Rattle.page_writers.proofs.NextPlaces.{captures_wanted}
 use Rattle.page_writers.proofs.PageChains.{captures_are}
 use Rattle.query_core.proofs.laws.pages_rise.Goals as goal

@@ -1,4 +1,3 @@
-use Rattle.std.proofs.Common.{arith}
 use Rattle.cdxj_places.specs.Places.{resume_text}
 use Rattle.cdxj_core.specs.Members.{member_place}
 use Rattle.query_text.specs.Resuming.{text_with_key}

@@ -11,7 +11,7 @@ use Rattle.cdxj_core.specs.declared.limit.TheConstants.{LINE_LIMIT}
 use Rattle.cdxj_core.specs.Members.{Member, member_place}
 use Rattle.merge_core.specs.Collections.{OverIndexes, collection}
 use Rattle.merge_core.specs.Spending.{AllGaveWithin}
-use Rattle.page_writers.specs.WrittenPages.{are_sizes, WrotePages, WrotePagesInPart}
+use Rattle.page_writers.specs.WrittenPages.{WrotePagesInPart}
 use Rattle.page_writers.proofs.PageChains.{wrote_front, wrote_none}
 use Rattle.query_core.proofs.PagesExits.{WritingPages, all_ended, any_front, at_end}
 use Rattle.page_writers.proofs.PagesLemmas.{start_front}

@@ -1,9 +1,8 @@
 use Rattle.query_core.proofs.AskedLemmas.{captures}
-use Rattle.std.proofs.Common.{length, ◌≡◌, Bool, true, false, refl, sym, ◌∙◌, arith, subst, [], ap}
+use Rattle.std.proofs.Common.{◌≡◌, Bool, true, false, refl, sym, ◌∙◌, arith, [], ap}
 use Rattle.std.proofs.Common.{append-nil, Some}
 use Rattle.std.proofs.lemmas.List.{length-map}
 use Rattle.std.proofs.lemmas.Result.{err_from_is_err_and}
-use Rattle.merge_core.specs.Collections.{Known}
 use Rattle.query_core.proofs.ConversionLemmas.{merge_line}
 use Rattle.merge_core.proofs.WholeLemmas.{extents_kept, texts_kept}
 use Rattle.devices.proofs.DeviceLemmas.{grows_not}

@@ -1,7 +1,6 @@
 use Rattle.std.proofs.Common.{arith, le-ltb}
 use Rattle.std.proofs.lemmas.Str.{IsUtf8-from_is_utf8, is_utf8-from_IsUtf8}
 use Rattle.std.proofs.lemmas.Bool.{false_from_ne_true}
-use Rattle.std.specs.Str.{is_utf8}
 use Rattle.query_core.proofs.LineReplies.{no_text_reply, writes_some}
 use Rattle.query_core.proofs.serving.reply_to_line.Goals as goal
 

@@ -1,4 +1,4 @@
-use Rattle.std.proofs.Common.{arith, map}
+use Rattle.std.proofs.Common.{map}
 use Rattle.query_text.specs.declared.query.TheConstants.{QUERY_LIMIT}
 use Rattle.query_text.specs.Queries.{query_of}
 use Rattle.query_core.proofs.serving.reply_to_text.Goals as goal

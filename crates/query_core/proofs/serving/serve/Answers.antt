@@ -1,10 +1,9 @@
-use Rattle.std.proofs.Common.{◌∙◌, ℕ, List, map, arith}
+use Rattle.std.proofs.Common.{ℕ, List, arith}
 use Rattle.std.specs.Io.KnownBytes.{prepend_known}
 use Rattle.cdxj_core.specs.Members.{Member}
 use Rattle.devices.proofs.Takings.{taken-join}
 use Rattle.query_text.specs.declared.query.TheConstants.{QUERY_LIMIT}
 use Rattle.merge_core.specs.Collections.{collection}
-use Rattle.query_core.specs.AnyReplies.{IsTextReply}
 use Rattle.query_core.specs.Conversations.{IsOneReply}
 use Rattle.query_core.specs.Replies.{reply_of}
 use Rattle.query_core.proofs.ReplyLemmas.{Turn, line-more, line-none, line-within, nothing_replied}

@@ -1,6 +1,4 @@
-use Rattle.std.proofs.Common.{arith, ◌++◌, map, ap, Bor}
-use Rattle.cdxj_core.specs.declared.line.Line.{Line}
-use Rattle.page_writers.specs.WriterView.{from_view}
+use Rattle.std.proofs.Common.{arith}
 use Rattle.page_writers.proofs.WriterLemmas.{broke_as}
 use Rattle.query_core.proofs.sinks.PageSinkSink.take.Goals as goal
 

@@ -1,6 +1,3 @@
-use Rattle.std.proofs.Common.{arith, ◌++◌, map, ◌∙◌, Bor}
-use Rattle.cdxj_core.specs.declared.line.Line.{Line}
-use Rattle.page_writers.proofs.PagesLemmas.{front_as}
 use Rattle.query_core.proofs.sinks.PagesSinkSink.take.Goals as goal
 
 pub returns-in-Ok-clause-wrote : goal.returns-in-Ok-clause-wrote
