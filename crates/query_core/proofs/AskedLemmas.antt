@@ -1,6 +1,6 @@
 -- One page of a query, by what was taken of its sources, and by what a writer has written.
-use Rattle.std.proofs.Common.{arith, ◌≡◌, ◌⊎◌, List, ◌++◌, Bool, true, false, not}
-use Rattle.std.proofs.Common.{ℕ, Option}
+use Rattle.std.proofs.Common.{arith, ◌≡◌, ◌⊎◌, List, [], ◌++◌, Bool, true, false, not}
+use Rattle.std.proofs.Common.{ℕ, Option, Some}
 use Rattle.std.specs.Option.{is_some}
 use Rattle.std.specs.Io.KnownBytes.{Appends}
 use Rattle.cdxj_places.specs.Places.{PlaceValue}
@@ -84,22 +84,41 @@ module _ {q : QueryValue} {start mid : Option (List ℕ)} {taken : List Member} 
           → AppendsPrefix start new (answer_text q (query_page q all))
       end_front p = rw (← text_same) (front-end start mid new (form_of q) taken_page.members (key_of q) stood.text (rw query_is at p))
 
-module _ (first : PageWriter) (q : QueryValue) (is : (first.selection.query.now ≡ q)
-    × (from_view first.selection.from ≡ q.resume) × (first.limit ≡ q.limit)) (taken : List Member)
-    (start now : Option (List ℕ)) where
+-- a writer that begins with this query, and what was written then
+pub record Beginning (q : QueryValue) (start mid : Option (List ℕ)) : Type 0 where
+  pub first : PageWriter
+  pub is : (first.selection.query.now ≡ q) × (from_view first.selection.from ≡ q.resume) × (first.limit ≡ q.limit)
+  pub began : Wrote first first [] start mid
+  pub some : q.limit ≡ Some 0 → ⊥
+
+module _ {q : QueryValue} {start mid : Option (List ℕ)} (b : Beginning q start mid) (taken : List Member)
+    (now : Option (List ℕ)) where
+  -- a sink passed these lines on to it
+  abbrev pub passed : (sink : PageSink) → ((first : PageSink) → (start : Option (List ℕ))
+      → Wrote first.writer b.first [] start mid → Wrote first.writer sink.writer taken start now)
+      → Writing q start now taken
+  passed sink came = record {
+    first = b.first;
+    is = b.is;
+    writer = sink.writer;
+    wrote = came (record { writer = b.first }) start b.began;
+  }
+
   -- the rows of these lines, or a front of them
-  rows_front : ((k : PageSink) × Wrote first k.writer taken start now) ⊎ Broke first taken start now
+  rows_front : ((k : PageSink) × Wrote b.first k.writer taken start now) ⊎ Broke b.first taken start now
       → AppendsPrefix start now (begun (form_of q) (page_over q q.resume q.limit taken).members)
   rows_front wrote = grind (arith, whole_prefix, stood)
 
   -- are a front of the page of lines of which these come first
-  pub page_broke : (all rest : List Member) → captures q all ≡ captures q taken ++ rest
-      → ((k : PageSink) × Wrote first k.writer taken start now) ⊎ Broke first taken start now
+  pub page_broke : ((first : PageSink) → (start : Option (List ℕ)) → Wrote first.writer b.first [] start mid
+      → ((k : PageSink) × Wrote first.writer k.writer taken start now) ⊎ Broke first.writer taken start now)
+      → (all rest : List Member) → captures q all ≡ captures q taken ++ rest
       → AppendsPrefix start now (answer_text q (query_page q all))
-  page_broke all rest split wrote =
+  page_broke came all rest split =
       let members = (page_over q q.resume q.limit taken).members in
       let r = page_front q.limit (captures q taken) rest in
       let key = shown_key q.show_resume_key (query_page q all).next in
       let same : (query_page q all).members ≡ members ++ r.0 = grind (arith, asked_is, page) in
       let f = begun_is_front (form_of q) members r.0 key in
-      rw (same, f.1) (prefix_longer start now (begun (form_of q) members) f.0 (rows_front wrote))
+      rw (same, f.1) (prefix_longer start now (begun (form_of q) members) f.0
+      (rows_front (came (record { writer = b.first }) start b.began)))

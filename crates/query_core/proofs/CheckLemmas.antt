@@ -26,11 +26,10 @@ all_upto : (members : List Member) (previous : Option Member) (m : Member) → I
 all_upto members None m is stays ordered = cc
 all_upto members (Some last) m is stays ordered =
     let step : Upto (member_pair last) (member_pair m) = grind arith in
-    subst (AllByRecursion (λ k. Upto (member_pair k) (member_pair m))) (sym is.1)
-    (each_join (λ k. Upto (member_pair k) (member_pair m)) is.0 (last ∷ [])
+    let last_of = falls_last is.0 last (rw is.1 at ordered) in
+    rw is.1 (each_join (λ k. Upto (member_pair k) (member_pair m)) is.0 (last ∷ [])
     (each_weaker (λ (k : Member) (h : Upto (member_pair k) (member_pair last)). upto_upto (member_pair k)
-    (member_pair last) (member_pair m) h step) is.0
-    (falls_last is.0 last (subst (NeverFalls member_pair pair_cmp) is.1 ordered))) (step, tt))
+    (member_pair last) (member_pair m) h step) is.0 last_of) (step, tt))
 
 run_push : (limit : ℕ) (ls : List (List ℕ)) (members : List Member) (previous : Option Member) (l : List ℕ)
     (m : Member) → IsRun limit ls members → IsLastOf members previous
@@ -66,9 +65,8 @@ module _ (limit : ℕ) (t : List ℕ) where
         → ((m : Member) → found ≡ Some m → ⊥) → (members : List Member) × IsIndex limit t members
         × (number ≡ length members)
     checked_whole to number None none counted end =
-        let whole : take count (lines t)
-        ≡ lines t = take_all count (lines t)
-        (omega (arith, ap length (sym checked.rest ∙ none), length-drop count (lines t))) in
+        let e = sym checked.rest ∙ none in
+        let whole = take_all count (lines t) (omega (arith, ap length e, length-drop count (lines t))) in
         grind arith
     checked_whole to number (Some m) next counted end = absurd (end m refl)
 
@@ -83,14 +81,14 @@ module _ (limit : ℕ) (t : List ℕ) where
       pub checked_falls : (to : ℕ) (m : Member) → IsNextLine limit t at to (Some m) → FallsAfter previous m
           → EndsOutOfOrder limit t at
       checked_falls to m next falls = record {
-        before = take count (lines t);
-        line = next.0;
+        before = _;
+        line = _;
         begins = begins next.0 (lines (drop to t)) next.1;
-        members = checked.members;
+        members = _;
         run = checked.run;
-        previous = previous;
+        previous = _;
         previous_is = checked.last;
-        member = m;
+        member = _;
         entry = next.2;
         falls = falls;
       }

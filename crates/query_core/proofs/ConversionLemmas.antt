@@ -9,9 +9,6 @@ use Rattle.query_core.specs.IndexFaults.{IsAnswerFaultOf}
 
 pub merge_line : (limit : ℕ) (texts : List (Option (List ℕ))) (e : MergeFault) → lines.IsMergeFaultOf limit texts e
     → IsAnswerFaultOf limit texts (fault_of_merge e)
-merge_line limit texts merge.Memory h = h
-merge_line limit texts merge.Write h = h
 merge_line limit texts (merge.Feed i feed.Memory) h = tt
 merge_line limit texts (merge.Feed i feed.Read) h = tt
-merge_line limit texts (merge.Feed i (feed.BadLine at)) h = h
-merge_line limit texts (merge.Feed i (feed.OutOfOrder at)) h = h
+merge_line limit texts other h = h

@@ -45,12 +45,13 @@ module _ (told : List (Option (List ℕ))) (q : QueryValue) (lines : List Member
         → IsAnswerFaultOf LINE_LIMIT told fault → fault_text fault ≡ Some line → WritesText r mid new line
         → WritesSome r old new (IsPageReply told q)
     fault_reply r old mid new fault line (rest, wrote) named is w =
-        writes_some r old new (IsPageReply told q) (wrote.front ++ line) (grind arith) (grind (arith, marked))
+        let m = marked r old mid new wrote.front line wrote.grown w in
+        grind (arith, writes_some)
 
 -- there is one
 pub some_reply : (told : List (Option (List ℕ))) (r : Result QueryValue QueryFault) → (reply : List ℕ)
     × IsQueryReply told r reply
-some_reply told (Ok q) = (answer_text q (query_page q []), page_reply told q [] (record { rise = tt; each = tt }))
+some_reply told (Ok q) = (answer_text q (query_page q []), page_reply told q [] (grind arith))
 some_reply told (Err fault) = grind arith
 
 -- ---- the reply to a line
@@ -66,8 +67,8 @@ module _ (limit : ℕ) (IsReply : List ℕ → List ℕ → Type 0) (line : List
       × IsLineReply limit IsReply line reply × Appends old mid reply
       → WritesText r mid new (codes ".\n") → WritesSome r old new (IsMarkedReply limit IsReply line)
   marked_reply r new (reply, is, a) w =
-      writes_some r old new (IsMarkedReply limit IsReply line) (reply ++ codes ".\n") (reply, is, refl)
-      (marked r old mid new reply (codes ".\n") a w)
+      let m = marked r old mid new reply (codes ".\n") a w in
+      grind arith
 
   pub unmarked_reply : (reply : List ℕ) × IsLineReply limit IsReply line reply × AppendsPrefix old mid reply
       → (text : List ℕ) × IsMarkedReply limit IsReply line text × AppendsPrefix old mid text

@@ -70,8 +70,9 @@ unfolding zeros
 least zero s e h = grind arith
 least (suc n) [] e h = absurd (omega arith)
 least (suc n) (b ∷ s) e h =
-    then_not_above (nat_cmp 48 b) (slice_cmp nat_cmp (zeros n) s) (not_above b (All-head (λ b. 48 ≤ b) b s h))
-    (least n s (omega arith) (All-tail (λ b. 48 ≤ b) b s h))
+    let k = All-head (λ b. 48 ≤ b) b s h in
+    let rest = least n s (omega arith) (All-tail (λ b. 48 ≤ b) b s h) in
+    grind arith
 
 stamp_not_below : (stamp : List ℕ) → is_stamp stamp ≡ true → is_gt (slice_cmp nat_cmp first_stamp stamp) ≡ false
 unfolding zeros
@@ -97,16 +98,13 @@ start_not_above q from m s h =
 
 -- a line has a stamp
 line_stamp : (limit : ℕ) (t : List ℕ) (m : Member) → IsLineIn limit t m → is_stamp m.values.stamp ≡ true
-line_stamp limit t m h = pair_stamp h.0 m (entry_pair_is limit h.0 m h.2)
+line_stamp limit t m h =
+    let found = some_pair (begins_with_pair h.0) (key_part h.0) (stamp_part h.0) (member_pair m) (entry_pair_is limit h.0 m h.2) in
+    grind (arith, and_parts)
   where
     some_pair : (b : Bool) (key stamp : List ℕ) (pair : Pair) → cond b (Some (key, stamp)) None ≡ Some pair → (b ≡ true)
         × (stamp ≡ pair.1)
     some_pair b key stamp pair e = grind arith
-
-    pair_stamp : (line : List ℕ) (m : Member) → pair_of line ≡ Some (member_pair m) → is_stamp m.values.stamp ≡ true
-    pair_stamp line m e =
-        let found = some_pair (begins_with_pair line) (key_part line) (stamp_part line) (member_pair m) e in
-        grind (arith, and_parts)
 
 entries_are : (limit : ℕ) (t : List ℕ) (ls : List (List ℕ)) (ms : List Member)
     → ((l : List ℕ) → IsIn l ls → IsIn l (lines t)) → map (line_entry limit) ls ≡ map Some ms
@@ -134,9 +132,9 @@ index_stamps : (texts : List (List ℕ)) (indexes : List (List Member)) → AllZ
 index_stamps [] indexes are = grind arith
 index_stamps (t ∷ ts) [] are = absurd are
 index_stamps (t ∷ ts) (i ∷ is) are =
-    each_join (λ m. is_stamp m.values.stamp ≡ true) i (all_lines is)
-    (each_weaker (λ (m : Member) (h : IsLineIn LINE_LIMIT t m). line_stamp LINE_LIMIT t m h) i
-    (index_lines LINE_LIMIT t i are.0)) (index_stamps ts is are.1)
+    let here = each_weaker (λ (m : Member) (h : IsLineIn LINE_LIMIT t m). line_stamp LINE_LIMIT t m h) i
+    (index_lines LINE_LIMIT t i are.0) in
+    grind (arith, each_join, index_stamps ts is)
 
 -- a line of sources that tell their bytes has one
 known_stamp : (told : List (Option (List ℕ))) (texts : List (List ℕ)) (m : Member) → Known told texts
@@ -230,11 +228,8 @@ module _ {S : Type 0} {text : S → Option (List ℕ)} {extent gave : S → ℕ}
           × AllByRecursion (λ m. IsAbove r.bound (member_pair m)) rest
       wanted_first =
           let f = sought_first _ _ _ _ _ (past_upward q.target) _ _ _ _ _ _ _ r.start.same r.reached texts indexes
-          known_opened are (sought q) (within q) _ r.start.cut (beyond q) in (
-            later f.0,
-            grind (arith, captures_split, of_all, of_taken),
-            grind (arith, later_each, each_weaker),
-          )
+          known_opened are (sought q) (within q) _ r.start.cut (beyond q) in
+          (later f.0, grind (arith, captures_split, of_all, of_taken), grind (arith, later_each, each_weaker))
 
       -- where the lines that wait don't stand below a pair, the rest doesn't either
       pub wanted_before : (next : Pair) → IsAbove r.bound next
@@ -251,6 +246,9 @@ module _ {S : Type 0} {text : S → Option (List ℕ)} {extent gave : S → ℕ}
 
       -- where no line waits, it is all
       pub wanted_whole : r.waiting ≡ [] → captures q (collection indexes) ≡ captures q r.taken
-      wanted_whole none = ap (kept_after q q.resume q.resume)
-          (sym of_all ∙ sought_whole _ _ _ _ _ (past_upward q.target) _ _ _ _ _ _ _ r.start.same r.reached texts
-          indexes known_opened are (sought q) (within q) _ r.start.cut (beyond q) none ∙ of_taken)
+      wanted_whole none = rw (
+        ← of_all,
+        sought_whole _ _ _ _ _ (past_upward q.target) _ _ _ _ _ _ _ r.start.same r.reached texts
+            indexes known_opened are (sought q) (within q) _ r.start.cut (beyond q) none,
+        of_taken,
+      ) refl

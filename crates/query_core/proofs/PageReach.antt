@@ -21,7 +21,10 @@ use Rattle.page_writers.specs.PageWriting.{page_over}
 use Rattle.query_core.specs.Passes.{AreAtMost, AreFirst, GaveFor}
 use Rattle.page_writers.specs.QueryPages.{form_of, query_page}
 use Rattle.query_core.specs.Reach.{captures_text, GaveInReach, WroteFirst}
-use Rattle.query_core.proofs.AskedLemmas.{captures, Writing, asked_is, stood}
+use Rattle.query_core.proofs.AskedLemmas.{Beginning, Writing, captures, asked_is, passed, stood}
+use Rattle.query_core.specs.declared.sinks.PageSink.{PageSink}
+use Rattle.page_writers.specs.WriterView.{Wrote}
+use Rattle.std.proofs.lemmas.Bool.{true≢false, false_from_ne_true}
 use Rattle.query_core.proofs.ReachLemmas.{opened_not, within_opening}
 use Rattle.page_writers.proofs.WriterLemmas.{page, next_none, page_front}
 use Rattle.std.proofs.lemmas.List.Concat.{length-flat_map}
@@ -29,15 +32,24 @@ use Rattle.std.proofs.lemmas.List.Sums.{sum-map}
 use Rattle.cdxj_places.specs.Rising.{put, rising}
 
 -- an empty page has none
-pub none_follows : (limit : Option ℕ) → is_some (page limit []).next ≡ false
+none_follows : (limit : Option ℕ) → is_some (page limit []).next ≡ false
 none_follows None = refl
 none_follows (Some zero) = refl
 none_follows (Some (suc n)) = refl
 
 -- captures that don't pass the page are within its limit
-pub within_page : (limit : Option ℕ) (c : List Member) → (limit ≡ Some 0 → ⊥) → is_some (page limit c).next ≡ false
+within_page : (limit : Option ℕ) (c : List Member) → (limit ≡ Some 0 → ⊥) → is_some (page limit c).next ≡ false
     → AreAtMost limit c
 within_page limit c some none = grind (arith, next_none)
+
+-- where it wanted more, the captures of what was passed on don't pass the page
+pub within : {q : QueryValue} {start mid : Option (List ℕ)} (b : Beginning q start mid) (taken : List Member)
+    (now : Option (List ℕ)) (sink : PageSink) → ((first : PageSink) → (start : Option (List ℕ))
+    → Wrote first.writer b.first [] start mid → Wrote first.writer sink.writer taken start now)
+    → ((b.first.more ≡ true → ⊥) → sink.writer.more ≡ true → ⊥) → AreAtMost q.limit (captures q taken)
+within b taken now sink came more =
+    let last = stood (passed b taken now sink came) in
+    grind (arith, true≢false, none_follows, within_page, false_from_ne_true)
 
 -- a page has at least the captures that don't pass it
 has_all : (limit : Option ℕ) (c tail : List Member) → AreAtMost limit c
@@ -48,13 +60,7 @@ has_all limit c tail most = grind (arith, length-append, length-take)
 front_written : (form : FormValue) (ms : List Member) (old middle new : Option (List ℕ))
     → Appends old middle (begun form ms)
     → Grows middle new → WroteFirst old new (captures_text form ms)
-front_written form [] old middle new a g =
-    record {
-      middle = old;
-      front = Appends-none old;
-      grows = grows_on old middle new
-          (grows_by old middle (begun form []) a) g;
-    }
+front_written form [] old middle new a g = record { middle = old; front = Appends-none old; grows = grows_on _ _ _ (grows_by _ _ _ a) g }
 front_written form (m ∷ ms) old middle new a g = grind arith
 
 -- What was written of the page of these lines, which come first, and what sources gave for the captures of the earlier
@@ -77,11 +83,9 @@ page_reached text extent gave {q} {old} {middle} new olds news {taken} earlier t
     let written = front_written (form_of q) mine old middle new (stood w).text grows in
     record {
       whole = length mine;
-      most = omega (arith, ap length members, length-append mine later.0);
+      most = grind (arith, length-append);
       wrote = grind (arith, take-append_seam);
-      within = within texts indexes known are (Some (length mine))
-          (subst (λ ms. length (captures q earlier) ≤ length (page q.limit ms).members) (sym split)
-          (has_all q.limit (captures q earlier) tail most));
+      within = within texts indexes known are (Some (length mine)) (grind (arith, has_all));
     }
 
 -- nothing was read at all, and no capture was written

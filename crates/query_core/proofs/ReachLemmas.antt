@@ -126,11 +126,9 @@ module _ {S : Type 0} {text : S → Option (List ℕ)} {extent gave : S → ℕ}
 
   -- all was read
   pub cut_all : r.waiting ≡ [] → Cuts r.bound r.taken
-  cut_all none = λ texts indexes known are. record {
-    back = [];
-    whole = wanted_whole r texts known indexes are none ∙ sym (append-nil _);
-    later = λ m upto. tt;
-  }
+  cut_all none = λ texts indexes known are.
+      let whole = wanted_whole r texts known indexes are none in
+      record { back = []; whole = grind (arith, append-nil); later = λ m upto. tt }
 
   -- behind the lines before the pair that was taken last
   pub cut_last : (pair : Pair) (earlier others : List Member) → r.bound ≡ Some pair → r.taken ≡ earlier ++ others
@@ -163,9 +161,7 @@ module _ {S : Type 0} {text : S → Option (List ℕ)} {extent gave : S → ℕ}
       record {
         back = before.0;
         whole = before.1;
-        later = λ m upto. each_weaker
-            (λ (v : Member) (h : Upto next (member_pair v)). upto_upto (member_pair m) next (member_pair v) upto h)
-            before.0 before.2;
+        later = λ m upto. each_weaker (λ v. upto_upto (member_pair m) next (member_pair v) upto) before.0 before.2;
       }
 
   as_long : length r.sources ≡ length r.opened
@@ -194,16 +190,13 @@ module _ {S : Type 0} {text : S → Option (List ℕ)} {extent gave : S → ℕ}
   pub gave_within : (earlier : List Member) → Cuts r.bound earlier
       → GaveFor q (map text olds) extent gave earlier olds r.sources
   gave_within earlier cuts = gave_upto r.bound earlier r.sources r.feeds cuts r.reached.moved as_long
-      (λ texts known. are_read_to LINE_LIMIT (is_past q.target) text extent r.bound 0 r.sources r.feeds r.waiting
-      r.reached.ready.fed (r.reached.handed.told (told r texts known)).1)
+      (λ texts known. are_read_to _ _ _ _ _ _ _ _ _ r.reached.ready.fed (r.reached.handed.told (told r texts known)).1)
 
   module _ (lines : ℕ) (counted : lines ≡ min (sum (map (λ (f : Feed). f.cursor.count) r.feeds)) (2 ^ 64 - 1)) where
     -- no more lines were read than are in reach, and one of each index
     pub lines_within : (earlier : List Member) → Cuts r.bound earlier → ReadFor q (map text olds) earlier lines
     lines_within earlier cuts = λ texts indexes known are limit most.
-        let h = lines_most LINE_LIMIT (is_past q.target) (start_pair q q.resume) r.bound
-        (in_reach q q.resume limit (collection indexes))
-        (passes q indexes r.bound earlier (cuts texts indexes known are) limit most) text extent r.waiting 0 r.sources
+        let h = lines_most _ _ _ _ _ (passes q indexes r.bound earlier (cuts texts indexes known are) limit most) text _ _ _ r.sources
         r.feeds texts indexes r.reached.ready.same (rw kept_now known) are
         (two_each (Move text extent gave)
         (λ (x : S × Feed). IsCutAt LINE_LIMIT (start_pair q q.resume) (text x.0) x.1.cursor)
@@ -211,32 +204,26 @@ module _ {S : Type 0} {text : S → Option (List ℕ)} {extent gave : S → ℕ}
         (λ x y m c. λ t members e i. rw m.start_kept (c t members (sym m.text_kept ∙ e) i)) (zip r.opened r.begun)
         (zip r.sources r.feeds) r.reached.moved r.start.cut) r.reached.ready.fed
         (r.reached.handed.told (told r texts known)).1 in
-        omega (
-          arith,
-          counted,
-          h,
-          AllZip-long (IsIndex LINE_LIMIT) texts indexes are,
-          AllZip-long (λ told t. told ≡ Some t) (map text olds) texts known,
-        )
+        grind (arith, AllZip-long)
 
     -- of each source consecutive lines were read
     pub of_parts : (all : Bool) → (all ≡ true → r.waiting ≡ [])
         → OverTexts (map text olds) (λ texts. IsOfParts q texts r.taken all lines)
     of_parts all ended = λ texts known.
         let read = parts LINE_LIMIT text r.sources r.feeds in
-        let found = parts_first _ _ _ _ _ (past_upward q.target) _ _ _ _ _ _ _ r.reached (told r texts known)
+        let told_all = told r texts known in
+        let found = parts_first _ _ _ _ _ (past_upward q.target) _ _ _ _ _ _ _ r.reached told_all
         (is_wanted q q.resume) (wanted_within q q.resume) in
         record {
           parts = read;
-          each = λ whole is. parts_are LINE_LIMIT (is_past q.target) text extent r.waiting 0 r.sources r.feeds texts
-              whole r.reached.ready.same (rw kept_now known) r.reached.ready.fed r.reached.settled (λ e. ended (is e));
+          each = λ whole is. parts_are _ _ _ extent _ _ _ _ _ _ r.reached.ready.same (rw kept_now known)
+              r.reached.ready.fed r.reached.settled (λ e. ended (is e));
           count = counted ∙ ap (λ n. min n (2 ^ 64 - 1))
-              (parts_count LINE_LIMIT (is_past q.target) text extent r.waiting 0 r.sources r.feeds r.reached.ready.same
-              (told_moved text extent gave r.opened r.sources r.begun r.feeds r.reached.ready.same r.reached.moved
-              (told r texts known)) r.reached.ready.fed);
+              (parts_count _ _ _ extent _ _ _ _ r.reached.ready.same
+              (told_moved _ _ _ _ _ _ _ r.reached.ready.same r.reached.moved told_all) r.reached.ready.fed);
           first = (_, captures_split q q.resume (collection read) r.taken found.0 found.1);
           ended = λ e. ap (kept_after q q.resume q.resume)
-              (parts_whole _ _ _ _ _ (past_upward q.target) _ _ _ _ _ _ _ r.reached (told r texts known)
+              (parts_whole _ _ _ _ _ (past_upward q.target) _ _ _ _ _ _ _ r.reached told_all
               (is_wanted q q.resume) (wanted_within q q.resume) (ended e));
         }
 

@@ -63,12 +63,8 @@ module _ (limit : ℕ) (IsReply : List ℕ → List ℕ → Type 0) where
     long_refused : reply ≡ refusal_text (codes "QueryTooLong") → Reply line reply
     long_refused h = subst by (sym is_long) h
 
-  held_by : (seen reply : List ℕ) (b : Bool) → nat_lt (limit + 2) (length seen) ≡ b
-      → Reply (take (limit + 2) seen) reply → Reply seen reply
-  held_by seen reply b e h = grind (arith, ltb-true, length-take, long_refused, refused_long, take_all, ltb-false)
-
   held : (line seen text : List ℕ) → line ≡ take (limit + 2) seen → Marked line text → Marked seen text
-  held line seen text is marked = grind (arith, held_by, nat_lt)
+  held line seen text is marked = grind (arith, ltb-true, length-take, long_refused, refused_long, take_all, ltb-false, nat_lt)
 
   -- ---- the conversation
 
@@ -169,13 +165,11 @@ module _ {limit : ℕ} (t : Turn limit) (IsReply : List ℕ → List ℕ → Typ
     (so_far : RepliedSoFar limit IsReply t.input t.now t.count t.old t.new) where
   pub line-more : (reply : List ℕ) × IsMarkedReply limit IsReply (without_carriage_return t.line) reply
       × Appends t.new t.last reply → RepliedSoFar limit IsReply t.input t.after (t.count + 1) t.old t.last
-  line-more (reply, m, a) =
-      (replied limit IsReply t.input t.now t.after t.count t.old t.new t.last t.line reply so_far t.takes m).0 a
+  line-more h = grind (arith, replied)
 
   pub line-within : (reply : List ℕ) × IsMarkedReply limit IsReply (without_carriage_return t.line) reply
       × AppendsPrefix t.new t.last reply → RepliedToFirst limit IsReply t.input t.old t.last
-  line-within (reply, m, p) =
-      (replied limit IsReply t.input t.now t.after t.count t.old t.new t.last t.line reply so_far t.takes m).1 p
+  line-within (reply, m, p) = (replied limit IsReply _ _ _ _ _ _ _ _ reply so_far t.takes m).1 p
 
 -- ---- where each text has one reply
 
@@ -189,7 +183,7 @@ module _ (limit : ℕ) (reply : List ℕ → List ℕ) where
   texts_are : (lines texts : List (List ℕ)) → AllZip (IsMarkedReply limit Is) lines texts → joined texts
       ≡ flat_map (marked_reply limit reply) lines
   texts_are [] texts each = grind arith
-  texts_are (line ∷ lines) texts each = grind (arith, line_is, texts_are lines)
+  texts_are (line ∷ lines) texts each = grind (arith, texts_are lines)
 
   pub one_reply : (input : Option (List ℕ)) (count : ℕ) (old new : Option (List ℕ))
       → RepliedToAll limit Is input count old new → Replied limit reply input count old new

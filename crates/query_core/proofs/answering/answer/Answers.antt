@@ -13,58 +13,36 @@ use Rattle.merge_core.specs.Collections.{OverIndexes, collection}
 use Rattle.query_core.specs.Passes.{AreAtMost}
 use Rattle.page_writers.specs.PageWriting.{page_over}
 use Rattle.page_writers.specs.QueryPages.{answer_text, query_page}
-use Rattle.devices.specs.Device.{AppendsPrefix}
+use Rattle.devices.specs.Device.{Grows}
+use Rattle.query_core.specs.Reach.{GaveInReach}
 use Rattle.page_writers.specs.WriterView.{Wrote}
 use Rattle.query_core.specs.declared.sinks.PageSink.{PageSink}
-use Rattle.query_core.proofs.AskedLemmas.{captures, Writing, asked_is, end_front, page_broke, page_ended, settles}
+use Rattle.query_core.proofs.AskedLemmas.{Beginning, Writing, captures, asked_is, end_front, page_broke, page_ended, passed, settles}
 use Rattle.query_core.proofs.AskedLemmas.{stood}
 use Rattle.page_core.proofs.PageLemmas.{front-start}
-use Rattle.query_core.proofs.PageReach.{page_fewer, all_read, none_follows, page_not_reached, page_reached, within_page}
+use Rattle.query_core.proofs.PageReach.{page_fewer, all_read, page_not_reached, page_reached, within}
 use Rattle.query_core.proofs.answering.answer.Given.{Over}
-use Rattle.query_core.proofs.answering.answer.Goals.{In_ok-writer, In_err-pass, In_ok-pass}
+use Rattle.query_core.proofs.answering.answer.Goals.{In_ok-writer, In_ok-pass}
 use Rattle.query_core.proofs.answering.answer.Goals as goal
 
 -- ---- the writer
 
-begun : (g : Over) (c : In_ok-writer g) → Wrote c.in_ok-writer.writer c.in_ok-writer.writer []
-    (g.O.Output.written c.args.out.now) (g.O.Output.written c.begin.new.out)
-begun g c = grind arith
-
--- lines that were passed to the sink from its beginning on
-abbrev at : (g : Over) (c : In_ok-writer g) (sink : PageSink) (lines : List Member) (now : Option (List ℕ))
-    → ((first : PageSink) → (start : Option (List ℕ))
-    → Wrote first.writer c.in_ok-writer.writer [] start (g.O.Output.written c.begin.new.out)
-    → Wrote first.writer sink.writer lines start now)
-    → Writing c.args.query.now (g.O.Output.written c.args.out.now) now lines
-at g c sink lines now came = record {
+abbrev begin : (g : Over) (c : In_ok-writer g) → Beginning c.args.query.now (g.O.Output.written c.args.out.now)
+    (g.O.Output.written c.begin.new.out)
+begin g c = record {
   first = c.in_ok-writer.writer;
   is = c.in_ok-writer.ensures.query;
-  writer = sink.writer;
-  wrote = came (record { writer = c.in_ok-writer.writer }) (g.O.Output.written c.args.out.now) (begun g c);
+  began = (((refl, refl), refl), c.in_ok-writer.ensures.stands);
+  some = grind arith;
 }
 
--- where it wanted more, their captures don't pass the page
-within : (g : Over) (c : In_ok-writer g) (sink : PageSink) (lines : List Member) (now : Option (List ℕ))
-    → ((first : PageSink) → (start : Option (List ℕ))
-    → Wrote first.writer c.in_ok-writer.writer [] start (g.O.Output.written c.begin.new.out)
-    → Wrote first.writer sink.writer lines start now)
-    → ((c.in_ok-writer.writer.more ≡ true → ⊥) → sink.writer.more ≡ true → ⊥)
-    → AreAtMost c.args.query.now.limit (captures c.args.query.now lines)
-within g c sink lines now came more =
-    let first = begun g c in
-    let last = stood (at g c sink lines now came) in
-    grind (arith, true≢false, none_follows, within_page, false_from_ne_true)
-
--- all lines that were taken
+-- after all lines that were taken
 abbrev writing : (g : Over) (c : In_ok-pass g) → Writing c.args.query.now (g.O.Output.written c.args.out.now)
     (g.O.Output.written c.read_lines.new.out) c.in_ok-pass.ensures.took.lines
-writing g c = record {
-  first = c.in_ok-writer.writer;
-  is = c.in_ok-writer.ensures.query;
-  writer = c.read_lines.new.sink.writer;
-  wrote = c.in_ok-pass.ensures.took.came (record { writer = c.in_ok-writer.writer })
-      (g.O.Output.written c.args.out.now) (((refl, refl), refl), c.in_ok-writer.ensures.stands);
-}
+writing g c =
+    let took = c.in_ok-pass.ensures.took in
+    passed (begin g (goal.at.In_ok-pass g c).In_ok-writer) took.lines (g.O.Output.written c.read_lines.new.out)
+    c.read_lines.new.sink took.came
 
 -- the page of lines of which these were taken, if they settle it
 settled : (g : Over) (c : In_ok-pass g) (all rest : List Member) → captures c.args.query.now all
@@ -74,7 +52,7 @@ settled : (g : Over) (c : In_ok-pass g) (all rest : List Member) → captures c.
     → query_page c.args.query.now all ≡ page_over c.args.query.now c.args.query.now.resume c.args.query.now.limit
     c.in_ok-pass.ensures.took.lines
 settled g c all rest split ended =
-    settles (writing g c) all c.in_ok-pass.pass.all rest split ended (λ e. c.in_ok-pass.ensures.enough e)
+    settles (writing g c) all c.in_ok-pass.pass.all rest split ended c.in_ok-pass.ensures.enough
 
 settled_over : (g : Over) (c : In_ok-pass g) → OverIndexes LINE_LIMIT (map g.S.Source.text c.args.sources.now)
     (λ texts indexes. query_page c.args.query.now (collection indexes)
@@ -82,18 +60,6 @@ settled_over : (g : Over) (c : In_ok-pass g) → OverIndexes LINE_LIMIT (map g.S
 settled_over g c texts indexes known are =
     let first = c.in_ok-pass.ensures.took.took.first texts indexes known are in
     settled g c (collection indexes) first.0 first.1 (grind arith)
-
--- the page of lines of which these were taken before a fault
-broken : (g : Over) (c : In_err-pass g) (all rest : List Member) → captures c.args.query.now all
-    ≡ captures c.args.query.now c.in_err-pass.ensures.broke.lines ++ rest
-    → AppendsPrefix (g.O.Output.written c.args.out.now) (g.O.Output.written c.read_lines.new.out)
-    (answer_text c.args.query.now (query_page c.args.query.now all))
-broken g c all rest split =
-    let broke = c.in_err-pass.ensures.broke in
-    let start = g.O.Output.written c.args.out.now in
-    page_broke c.in_ok-writer.writer c.args.query.now c.in_ok-writer.ensures.query broke.lines start
-    (g.O.Output.written c.read_lines.new.out) all rest split
-    (broke.wrote (record { writer = c.in_ok-writer.writer }) start (grind arith))
 
 -- ---- the page of lines of the sources
 
@@ -105,18 +71,16 @@ returns-in_err-writer-clause-lines g c = ([], grind arith, grind (arith, err_fro
 
 pub returns-in_err-pass-clause-lines : goal.returns-in_err-pass-clause-lines
 returns-in_err-pass-clause-lines g c =
-    let b = broken g (goal.at.returns-in_err-pass-clause-lines g c).In_err-pass _ [] (sym (append-nil _)) in
+    let p = page_broke (begin g (goal.at.returns-in_err-pass-clause-lines g c).In_ok-writer) _ _
+    c.in_err-pass.ensures.broke.wrote _ [] (sym (append-nil _)) in
     grind (arith, err_from_is_err_and)
 
 pub returns-in_err-end-clause-lines : goal.returns-in_err-end-clause-lines
 returns-in_err-end-clause-lines g c =
     let took = c.in_ok-pass.ensures.took in
-    rw (err_from_is_err_and c.from_residual-in_err-end.result c.from_residual-in_err-end.ensures.1).1 ((
-      took.lines,
-      took.took.lines,
-      end_front (writing g (goal.at.returns-in_err-end-clause-lines g c).In_ok-pass) took.lines _
-          (asked_is c.args.query.now took.lines) c.in_err-end.ensures.text,
-    ))
+    let p = end_front (writing g (goal.at.returns-in_err-end-clause-lines g c).In_ok-pass) took.lines _
+    (asked_is c.args.query.now took.lines) c.in_err-end.ensures.text in
+    (took.lines, took.took.lines, grind (arith, err_from_is_err_and))
 
 pub returns-clause-lines : goal.returns-clause-lines
 returns-clause-lines g c =
@@ -131,22 +95,24 @@ returns-clause-lines g c =
 -- ---- the page of the indexes' collection
 
 pub returns-then-sources-gt-SOURCES_LIMIT-clause-page : goal.returns-then-sources-gt-SOURCES_LIMIT-clause-page
-returns-then-sources-gt-SOURCES_LIMIT-clause-page g c = λ texts indexes known are. wrote_nothing _ _
+returns-then-sources-gt-SOURCES_LIMIT-clause-page g c = grind (arith, wrote_nothing)
 
 pub returns-in_err-writer-clause-page : goal.returns-in_err-writer-clause-page
 returns-in_err-writer-clause-page g c = grind (arith, err_from_is_err_and, front-start)
 
 pub returns-in_err-pass-clause-page : goal.returns-in_err-pass-clause-page
 returns-in_err-pass-clause-page g c = λ texts indexes known are.
-    let first = c.in_err-pass.ensures.broke.took.first texts indexes known are in
-    let b = broken g (goal.at.returns-in_err-pass-clause-page g c).In_err-pass (collection indexes) first.0 first.1 in
+    let broke = c.in_err-pass.ensures.broke in
+    let first = broke.took.first texts indexes known are in
+    let p = page_broke (begin g (goal.at.returns-in_err-pass-clause-page g c).In_ok-writer) _ _ broke.wrote _ _ first.1 in
     grind (arith, err_from_is_err_and)
 
 pub returns-in_err-end-clause-page : goal.returns-in_err-end-clause-page
-returns-in_err-end-clause-page g c =
+returns-in_err-end-clause-page g c = λ texts indexes known are.
     let here = (goal.at.returns-in_err-end-clause-page g c).In_ok-pass in
-    rw (err_from_is_err_and c.from_residual-in_err-end.result c.from_residual-in_err-end.ensures.1).1 (λ texts indexes known are. end_front (writing g here) (collection indexes) _
-    (settled_over g here texts indexes known are) c.in_err-end.ensures.text)
+    let p = end_front (writing g here) (collection indexes) _ (settled_over g here texts indexes known are)
+    c.in_err-end.ensures.text in
+    grind (arith, err_from_is_err_and)
 
 pub returns-clause-page : goal.returns-clause-page
 returns-clause-page g c = λ texts indexes known are.
@@ -157,22 +123,19 @@ returns-clause-page g c = λ texts indexes known are.
 
 pub returns-clause-parts : goal.returns-clause-parts
 returns-clause-parts g c = λ texts known.
-    let q = c.args.query.now in
     let end = c.in_ok-end.ensures in
     let read = c.in_ok-pass.ensures.took.parts texts known in
     let here = (goal.at.returns-clause-parts g c).In_ok-pass in
     let is = settled g here (collection read.parts) read.first.0 read.first.1 read.ended in
     let page = page_ended (writing g here) (collection read.parts) _ is c.in_ok-end.end _ end.text end.end refl
     c.is_some.ensures in
+    let stands = stood (writing g here) in
     record {
       parts = read.parts;
-      each = read.each _ (all_read c.in_ok-pass.pass.all c.read_lines.new.sink.writer.more _
-          (page_over q q.resume q.limit c.in_ok-pass.ensures.took.lines).next (stood (writing g here)).more_is
-          (page.more ∙ ap (λ (p : Page Member PlaceValue). is_some p.next) is)
-          (λ e. c.in_ok-pass.ensures.enough e));
+      each = read.each _ (grind arith);
       lines = read.count;
       answered = page;
-      least = page_fewer q read.parts _ _ page.given read.count;
+      least = page_fewer c.args.query.now read.parts _ _ page.given read.count;
     }
 
 -- ---- what was read
@@ -187,47 +150,43 @@ pub returns-in_err-pass-clause-reads : goal.returns-in_err-pass-clause-reads
 returns-in_err-pass-clause-reads g c =
     let halted = c.in_err-pass.ensures.halted in
     let before = halted.before in
-    let here = (goal.at.returns-in_err-pass-clause-reads g c).In_ok-writer in
-    rw (err_from_is_err_and c.from_residual-in_err-pass.result c.from_residual-in_err-pass.ensures.1).1 (record {
-      probes = tt;
-      lines = λ texts indexes known are. tt;
-      bytes = page_reached g.S.Source.text g.S.Source.extent g.S.Source.gave _ c.args.sources.now
-          c.read_lines.new.sources halted.earlier [] (at g here before.state halted.earlier before.middle before.came)
-          halted.grows halted.first (sym (append-nil _))
-          (within g here before.state halted.earlier before.middle before.came before.more) before.within;
-      held = λ texts indexes known are most share. tt;
-    })
+    let here = begin g (goal.at.returns-in_err-pass-clause-reads g c).In_ok-writer in
+    let bytes = page_reached g.S.Source.text g.S.Source.extent g.S.Source.gave _ c.args.sources.now
+    c.read_lines.new.sources halted.earlier [] (passed here _ _ before.state before.came)
+    halted.grows halted.first (sym (append-nil _))
+    (within here _ _ before.state before.came before.more) before.within in
+    grind (arith, err_from_is_err_and)
+
+-- the captures of the earlier of the lines that were taken don't pass the page
+few : (g : Over) (c : In_ok-pass g)
+    → AreAtMost c.args.query.now.limit (captures c.args.query.now c.in_ok-pass.ensures.took.earlier)
+few g c =
+    let before = c.in_ok-pass.ensures.took.before in
+    within (begin g (goal.at.In_ok-pass g c).In_ok-writer) _ _ before.state before.came before.more
+
+-- what was written so far reaches what the sources gave, whatever is written then
+reached : (g : Over) (c : In_ok-pass g) (new : Option (List ℕ)) → Grows (g.O.Output.written c.read_lines.new.out) new
+    → OverIndexes LINE_LIMIT (map g.S.Source.text c.args.sources.now) (λ texts indexes. GaveInReach g.S.Source.extent
+    g.S.Source.gave c.args.query.now texts indexes (g.O.Output.written c.args.out.now) new c.args.sources.now
+    c.read_lines.new.sources)
+reached g c new grows =
+    let took = c.in_ok-pass.ensures.took in
+    page_reached g.S.Source.text g.S.Source.extent g.S.Source.gave new c.args.sources.now c.read_lines.new.sources
+    took.earlier took.later (writing g c) grows took.took.first took.split (few g c) took.before.within
 
 pub returns-in_err-end-clause-reads : goal.returns-in_err-end-clause-reads
 returns-in_err-end-clause-reads g c =
-    let took = c.in_ok-pass.ensures.took in
-    let all = goal.at.returns-in_err-end-clause-reads g c in
-    let here = all.In_ok-pass in
-    let before = took.before in
-    let room = within g all.In_ok-writer before.state took.earlier before.middle before.came before.more in
-    rw (err_from_is_err_and c.from_residual-in_err-end.result c.from_residual-in_err-end.ensures.1).1 (record {
-      probes = tt;
-      lines = λ texts indexes known are. tt;
-      bytes = page_reached g.S.Source.text g.S.Source.extent g.S.Source.gave _ c.args.sources.now
-          c.read_lines.new.sources took.earlier took.later (writing g here) (grows_part _ _ _ c.in_err-end.ensures.text)
-          took.took.first took.split room took.before.within;
-      held = λ texts indexes known are most share. tt;
-    })
+    let here = (goal.at.returns-in_err-end-clause-reads g c).In_ok-pass in
+    grind (arith, err_from_is_err_and, grows_part, reached g here)
 
 pub returns-clause-reads : goal.returns-clause-reads
 returns-clause-reads g c =
-    let took = c.in_ok-pass.ensures.took in
-    let all = goal.at.returns-clause-reads g c in
-    let here = all.In_ok-pass in
-    let before = took.before in
-    let room = within g all.In_ok-writer before.state took.earlier before.middle before.came before.more in
+    let here = (goal.at.returns-clause-reads g c).In_ok-pass in
     record {
       probes = c.in_ok-pass.ensures.probes;
       lines = λ texts indexes known are.
-          let most = took.few texts indexes known are c.args.query.now.limit room in
+          let most = c.in_ok-pass.ensures.took.few texts indexes known are c.args.query.now.limit (few g here) in
           omega (arith, most, length-map c.args.sources.now g.S.Source.text);
-      bytes = page_reached g.S.Source.text g.S.Source.extent g.S.Source.gave _ c.args.sources.now
-          c.read_lines.new.sources took.earlier took.later (writing g here) (grows_by _ _ _ c.in_ok-end.ensures.text)
-          took.took.first took.split room took.before.within;
-      held = λ texts indexes known are most share. c.in_ok-pass.ensures.held texts indexes known are most share;
+      bytes = reached g here _ (grows_by _ _ _ c.in_ok-end.ensures.text);
+      held = c.in_ok-pass.ensures.held;
     }

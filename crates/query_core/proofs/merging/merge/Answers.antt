@@ -11,4 +11,4 @@ pub returns-then-sources-gt-SOURCES_LIMIT-clause-part : goal.returns-then-source
 returns-then-sources-gt-SOURCES_LIMIT-clause-part g c = grind (arith, wrote_nothing)
 
 pub returns-then-sources-gt-SOURCES_LIMIT-clause-lines : goal.returns-then-sources-gt-SOURCES_LIMIT-clause-lines
-returns-then-sources-gt-SOURCES_LIMIT-clause-lines g c = ([], record { rise = tt; each = tt }, wrote_nothing _ _)
+returns-then-sources-gt-SOURCES_LIMIT-clause-lines g c = ([], grind arith, grind (arith, wrote_nothing))

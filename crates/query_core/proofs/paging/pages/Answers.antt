@@ -42,8 +42,7 @@ pub returns-in_err-writer-clause-bytes : goal.returns-in_err-writer-clause-bytes
 returns-in_err-writer-clause-bytes g c = grind (arith, unread)
 
 pub returns-in_err-read_lines-clause-bytes : goal.returns-in_err-read_lines-clause-bytes
-returns-in_err-read_lines-clause-bytes g c = λ texts indexes known are. c.in_err-read_lines.ensures.halted.before.within
-    texts indexes known are None tt
+returns-in_err-read_lines-clause-bytes g c = λ texts indexes known are. c.in_err-read_lines.ensures.halted.before.within _ _ known are None tt
 
 pub returns-clause-bytes : goal.returns-clause-bytes
 returns-clause-bytes g c = λ texts indexes known are. c.in_ok-read_lines.ensures.took.before.within texts
@@ -60,10 +59,8 @@ before : (g : Over) (c : In_err-writer g) → (lines : List Member) → Rises me
     (g.O.Output.written c.begin.new.out)
 before g c lines rise =
     let positive = all_positive c.args.sizes.now (search rules) in
-    let old = g.O.Output.written c.args.out.now in
-    let new = g.O.Output.written c.begin.new.out in
-    wrote_front c.args.query.now c.args.sizes.now positive lines rise [] old new _ refl
-    (start_front c.args.query.now c.args.sizes.now old new positive c.in_err-writer.ensures.front)
+    let front = start_front c.args.query.now c.args.sizes.now _ _ positive c.in_err-writer.ensures.front in
+    wrote_front c.args.query.now c.args.sizes.now positive lines rise [] _ _ _ refl front
 
 abbrev writing : (g : Over) (c : In_ok-read_lines g) → WritingPages c.args.query.now c.args.sizes.now
     (g.O.Output.written c.args.out.now) (g.O.Output.written c.read_lines.new.out) c.in_ok-read_lines.ensures.took.lines
@@ -126,12 +123,8 @@ returns-in_err-end-clause-lines g c =
 pub returns-clause-lines : goal.returns-clause-lines
 returns-clause-lines g c =
     let took = c.in_ok-read_lines.ensures.took in
-    let end = c.in_ok-end.ensures in (
-      took.lines,
-      took.took.lines,
-      all_ended (writing g (goal.at.returns-clause-lines g c).In_ok-read_lines) took.lines took.took.lines.rise refl _ _
-          end.text end.count,
-    )
+    let w = writing g (goal.at.returns-clause-lines g c).In_ok-read_lines in
+    (took.lines, took.took.lines, grind (arith, all_ended w))
 
 -- ---- the lines of indexes
 
@@ -152,7 +145,7 @@ returns-in_err-read_lines-clause-pages g c = λ texts indexes known are.
 
 pub returns-in_err-end-clause-pages : goal.returns-in_err-end-clause-pages
 returns-in_err-end-clause-pages g c = λ texts indexes known are.
-    let whole = true_from_ne_false c.in_ok-read_lines.field-0.all (λ e. c.in_ok-read_lines.ensures.enough e) in
+    let whole = true_from_ne_false c.in_ok-read_lines.field-0.all c.in_ok-read_lines.ensures.enough in
     let b = at_end (writing g (goal.at.returns-in_err-end-clause-pages g c).In_ok-read_lines) (collection indexes)
     (collection_rises indexes) (c.in_ok-read_lines.ensures.took.whole whole texts indexes known are) _
     c.in_err-end.ensures.text in
@@ -160,20 +153,19 @@ returns-in_err-end-clause-pages g c = λ texts indexes known are.
 
 pub returns-clause-pages : goal.returns-clause-pages
 returns-clause-pages g c = λ texts indexes known are.
-    let whole = true_from_ne_false c.in_ok-read_lines.field-0.all (λ e. c.in_ok-read_lines.ensures.enough e) in
-    let end = c.in_ok-end.ensures in
-    all_ended (writing g (goal.at.returns-clause-pages g c).In_ok-read_lines) (collection indexes)
-    (collection_rises indexes) (c.in_ok-read_lines.ensures.took.whole whole texts indexes known are) _ _ end.text
-    end.count
+    let whole = true_from_ne_false c.in_ok-read_lines.field-0.all c.in_ok-read_lines.ensures.enough in
+    let all = c.in_ok-read_lines.ensures.took.whole whole texts indexes known are in
+    let w = writing g (goal.at.returns-clause-pages g c).In_ok-read_lines in
+    grind (arith, all_ended w (collection indexes) (collection_rises indexes))
 
 pub returns-clause-parts : goal.returns-clause-parts
 returns-clause-parts g c = λ texts known.
     let whole = true_from_ne_false c.in_ok-read_lines.field-0.all (λ e. c.in_ok-read_lines.ensures.enough e) in
     let read = c.in_ok-read_lines.ensures.took.parts texts known in
-    let end = c.in_ok-end.ensures in
+    let w = writing g (goal.at.returns-clause-parts g c).In_ok-read_lines in
+    let all = read.ended whole in
     record {
       parts = read.parts;
       each = read.each true (λ e. whole);
-      wrote = all_ended (writing g (goal.at.returns-clause-parts g c).In_ok-read_lines) (collection read.parts)
-          (collection_rises read.parts) (read.ended whole) _ _ end.text end.count;
+      wrote = grind (arith, all_ended w (collection read.parts) (collection_rises read.parts));
     }

@@ -42,17 +42,18 @@ returns-in_err-opened-clause-broke g c =
 
 pub returns-in_err-opened-clause-halted : goal.returns-in_err-opened-clause-halted
 returns-in_err-opened-clause-halted g c =
-    rw (err_from_is_err_and c.from_residual.result c.from_residual.ensures.1).1 (record {
+    let p = err_from_is_err_and c.from_residual.result c.from_residual.ensures.1 in
+    rw p.1 (record {
       earlier = [];
       first = λ texts indexes known are. (_, refl);
       before = record {
-        state = c.args.sink.now;
-        middle = g.O.Output.written c.args.out.now;
+        state = _;
+        middle = _;
         more = λ f. f;
         came = λ begin start h. h;
-        within = λ texts indexes known are limit most. grind (arith, within_opening);
+        within = grind (arith, within_opening);
       };
-      grows = grows_not (g.O.Output.written c.args.out.now);
+      grows = grows_not _;
     })
 
 -- ---- a merge that failed
@@ -72,11 +73,9 @@ pub returns-in_err-all-clause-broke : goal.returns-in_err-all-clause-broke
 returns-in_err-all-clause-broke g c =
     let broke = c.in_err-all.ensures.broke in
     let opened = start g (goal.at.returns-in_err-all-clause-broke g c).In_ok-opened in
-    rw (err_from_is_err_and c.from_residual-in_err-all.result c.from_residual-in_err-all.ensures.1).1 (record {
-      lines = broke.taken;
-      wrote = broke.wrote;
-      took = took (reading opened (rw c.target.ensures at broke.reached));
-    })
+    let t = took (reading opened (rw c.target.ensures at broke.reached)) in
+    rw (err_from_is_err_and c.from_residual-in_err-all.result c.from_residual-in_err-all.ensures.1).1
+    (record { lines = broke.taken; wrote = broke.wrote; took = t })
 
 pub returns-in_err-all-clause-halted : goal.returns-in_err-all-clause-halted
 returns-in_err-all-clause-halted g c =
