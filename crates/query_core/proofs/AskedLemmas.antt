@@ -64,11 +64,8 @@ module _ {q : QueryValue} {start mid : Option (List ℕ)} {taken : List Member} 
     settles whole rest first ended enough = grind (arith, asked_is, decided, stood)
 
     module _ (new : Option (List ℕ)) (same : query_page q all ≡ taken_page) where
-      next_same : next_of w.writer.more w.writer.last ≡ (query_page q all).next
-      next_same = grind (arith, next_is, stood)
-
       text_same : page_text (form_of q) taken_page.members (key_of q) ≡ answer_text q (query_page q all)
-      text_same = grind (arith, next_same)
+      text_same = grind (arith, next_is, stood)
 
       -- with its end it is written
       pub page_ended : (end : PageEnd) (report : Report)
@@ -77,7 +74,7 @@ module _ {q : QueryValue} {start mid : Option (List ℕ)} {taken : List Member} 
           → report.given ≡ end.given → report.more ≡ is_some end.next → Answered q all start new report
       page_ended end report a of_end given more =
           let b = rw query_is at a in
-          grind (arith, text_same, written-whole, next_same, stood)
+          grind (arith, text_same, written-whole, next_is, stood)
 
       pub end_front : AppendsPrefix mid new
           (page_end (form_of w.writer.selection.query.now) (key_of w.writer.selection.query.now))
@@ -107,7 +104,7 @@ module _ {q : QueryValue} {start mid : Option (List ℕ)} (b : Beginning q start
   -- the rows of these lines, or a front of them
   rows_front : ((k : PageSink) × Wrote b.first k.writer taken start now) ⊎ Broke b.first taken start now
       → AppendsPrefix start now (begun (form_of q) (page_over q q.resume q.limit taken).members)
-  rows_front wrote = grind (arith, whole_prefix, stood)
+  rows_front wrote = grind (arith, whole_prefix)
 
   -- are a front of the page of lines of which these come first
   pub page_broke : ((first : PageSink) → (start : Option (List ℕ)) → Wrote first.writer b.first [] start mid

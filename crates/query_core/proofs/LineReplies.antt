@@ -66,9 +66,7 @@ module _ (limit : ℕ) (IsReply : List ℕ → List ℕ → Type 0) (line : List
   pub marked_reply : {A E : Type 0} (r : Result A E) (new : Option (List ℕ)) → (reply : List ℕ)
       × IsLineReply limit IsReply line reply × Appends old mid reply
       → WritesText r mid new (codes ".\n") → WritesSome r old new (IsMarkedReply limit IsReply line)
-  marked_reply r new (reply, is, a) w =
-      let m = marked r old mid new reply (codes ".\n") a w in
-      grind arith
+  marked_reply r new (reply, is, a) w = let m = marked r old mid new reply (codes ".\n") a w in grind arith
 
   pub unmarked_reply : (reply : List ℕ) × IsLineReply limit IsReply line reply × AppendsPrefix old mid reply
       → (text : List ℕ) × IsMarkedReply limit IsReply line text × AppendsPrefix old mid text

@@ -2,7 +2,7 @@
 use Rattle.query_core.proofs.AskedLemmas.{captures}
 use Rattle.std.proofs.Common.{arith, ◌≡◌, inl, inr, ℕ, List, [], ◌∷◌, ◌++◌, length, map, filter, zip, Bool, true, false}
 use Rattle.std.proofs.Common.{not, ◌&&◌, Option, refl, sym, ap, ◌∙◌, cond, Some, None, zero, suc, ◌≤◌}
-use Rattle.std.proofs.Common.{Ordering, nat_cmp, is_gt, is_lt, All, eqb-true}
+use Rattle.std.proofs.Common.{Ordering, nat_cmp, is_gt, is_lt, All, eqb-true, replicate}
 use Rattle.std.specs.List.{AllZip, AllByRecursion}
 use Rattle.cdxj_places.specs.Pair.{is_stamp, key_part, stamp_part, begins_with_pair, pair_of}
 use Rattle.cdxj_places.specs.Pairs.{Pair, pair_cmp}
@@ -53,29 +53,20 @@ lt_reverse r h = grind arith
 
 -- a pair that isn't above that of a line
 not_low : (pair : Pair) (m : Member) → is_gt (pair_cmp pair (member_pair m)) ≡ false → is_low pair m ≡ false
-not_low pair m h = rw (pair_cmp_total.antisymm (member_pair m) pair) (lt_reverse _ h)
-
-zeros : ℕ → List ℕ
-zeros zero = []
-zeros (suc n) = 48 ∷ zeros n
+not_low pair m h = grind (arith, pair_cmp_total.antisymm (member_pair m) pair)
 
 digit_least : (b : ℕ) → is_ascii_digit b ≡ true → 48 ≤ b
 digit_least b h = grind (arith, nat_tests)
 
-not_above : (b : ℕ) → 48 ≤ b → is_gt (nat_cmp 48 b) ≡ false
-not_above b h = grind arith
-
-least : (n : ℕ) (s : List ℕ) → length s ≡ n → All (λ b. 48 ≤ b) s → is_gt (slice_cmp nat_cmp (zeros n) s) ≡ false
-unfolding zeros
-least zero s e h = grind arith
-least (suc n) [] e h = absurd (omega arith)
+least : (n : ℕ) (s : List ℕ) → length s ≡ n → All (λ b. 48 ≤ b) s → is_gt (slice_cmp nat_cmp (replicate n 48) s) ≡ false
+least n [] e h = grind arith
+least zero (b ∷ s) e h = absurd (omega arith)
 least (suc n) (b ∷ s) e h =
     let k = All-head (λ b. 48 ≤ b) b s h in
     let rest = least n s (omega arith) (All-tail (λ b. 48 ≤ b) b s h) in
     grind arith
 
 stamp_not_below : (stamp : List ℕ) → is_stamp stamp ≡ true → is_gt (slice_cmp nat_cmp first_stamp stamp) ≡ false
-unfolding zeros
 stamp_not_below stamp h = grind (arith, least, eqb-true, and_parts, digit_least)
 
 later_not_low : (pair : Pair) (from : Option PlaceValue) (m : Member) → is_low pair m ≡ false
@@ -89,9 +80,7 @@ wanted_key q from m h = grind arith
 -- a line with a stamp that is wanted doesn't stand below the start
 start_not_above : (q : QueryValue) (from : Option PlaceValue) (m : Member) → is_stamp m.values.stamp ≡ true
     → is_wanted q from m ≡ true → is_low (start_pair q from) m ≡ false
-start_not_above q from m s h =
-    later_not_low (q.target.text, first_stamp) from m
-    (not_low (q.target.text, first_stamp) m
+start_not_above q from m s h = later_not_low _ from m (not_low (q.target.text, first_stamp) m
     (grind (arith, then_not_above, match_not_below, wanted_key, stamp_not_below))) (grind (arith, and_parts))
 
 -- ---- every line of an index has a stamp
@@ -118,14 +107,11 @@ index_lines : (limit : ℕ) (t : List ℕ) (ms : List Member) → IsIndex limit 
     → AllByRecursion (IsLineIn limit t) ms
 index_lines limit t ms run = grind (arith, entries_are)
 
-and_true : (a b : Bool) → b ≡ true → (a && b) ≡ a
-and_true a b h = grind arith
-
 -- every line has a stamp
 stamped : (f : Member → Bool) (xs : List Member) → AllByRecursion (λ m. is_stamp m.values.stamp ≡ true) xs
     → filter (λ m. f m && is_stamp m.values.stamp) xs ≡ filter f xs
 stamped f [] h = refl
-stamped f (x ∷ xs) h = grind (arith, stamped f xs h.1)
+stamped f (x ∷ xs) h = grind (arith, stamped f xs)
 
 index_stamps : (texts : List (List ℕ)) (indexes : List (List Member)) → AllZip (IsIndex LINE_LIMIT) texts indexes
     → AllByRecursion (λ m. is_stamp m.values.stamp ≡ true) (all_lines indexes)
@@ -238,11 +224,8 @@ module _ {S : Type 0} {text : S → Option (List ℕ)} {extent gave : S → ℕ}
           × AllByRecursion (λ m. Upto next (member_pair m)) rest
       wanted_before next above least =
           let f = sought_before _ _ _ _ _ (past_upward q.target) _ _ _ _ _ _ _ r.start.same r.reached texts indexes
-          known_opened are (sought q) (within q) _ r.start.cut (beyond q) next above least in (
-            later f.0,
-            grind (arith, captures_split, of_all, of_taken),
-            grind (arith, later_each, each_weaker),
-          )
+          known_opened are (sought q) (within q) _ r.start.cut (beyond q) next above least in
+          (_, grind (arith, captures_split, of_all, of_taken), later_each _ f.0 (grind (arith, each_weaker)))
 
       -- where no line waits, it is all
       pub wanted_whole : r.waiting ≡ [] → captures q (collection indexes) ≡ captures q r.taken

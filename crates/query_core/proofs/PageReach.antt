@@ -25,7 +25,8 @@ use Rattle.query_core.proofs.AskedLemmas.{Beginning, Writing, captures, asked_is
 use Rattle.query_core.specs.declared.sinks.PageSink.{PageSink}
 use Rattle.page_writers.specs.WriterView.{Wrote}
 use Rattle.std.proofs.lemmas.Bool.{true≢false, false_from_ne_true}
-use Rattle.query_core.proofs.ReachLemmas.{opened_not, within_opening}
+use Rattle.query_core.proofs.ReachLemmas.{within_opening}
+use Rattle.merge_core.proofs.Many.{two_same}
 use Rattle.page_writers.proofs.WriterLemmas.{page, next_none, page_front}
 use Rattle.std.proofs.lemmas.List.Concat.{length-flat_map}
 use Rattle.std.proofs.lemmas.List.Sums.{sum-map}
@@ -77,9 +78,7 @@ page_reached text extent gave {q} {old} {middle} new olds news {taken} earlier t
     let front = first texts indexes known are in
     let mine = (page_over q q.resume q.limit taken).members in
     let later = page_front q.limit (captures q taken) front.0 in
-    let members : (query_page q (collection indexes)).members ≡ mine ++ later.0 =
-    ap (λ (p : Page Member PlaceValue). p.members) (asked_is q (collection indexes) ∙ ap (page q.limit) front.1)
-    ∙ later.1 in
+    let members : (query_page q (collection indexes)).members ≡ mine ++ later.0 = rw (asked_is q (collection indexes), front.1) later.1 in
     let written = front_written (form_of q) mine old middle new (stood w).text grows in
     record {
       whole = length mine;
@@ -93,12 +92,7 @@ pub page_not_reached : {S : Type 0} (text : S → Option (List ℕ)) (extent gav
     (texts : List (List ℕ)) (indexes : List (List Member)) (old new : Option (List ℕ)) (sources : List S)
     → Known (map text sources) texts → AllZip (IsIndex LINE_LIMIT) texts indexes → Grows old new
     → GaveInReach extent gave q texts indexes old new sources sources
-page_not_reached text extent gave q texts indexes old new sources known are grows = grind (arith, Appends-none, within_opening, opened_not)
-
--- where no capture follows the page, all lines were read
-pub all_read : (all more shown : Bool) (found : Option PlaceValue) → more ≡ is_some found → shown ≡ is_some found
-    → (all ≡ false → more ≡ true) → not shown ≡ true → all ≡ true
-all_read all more shown found a b enough e = grind arith
+page_not_reached text extent gave q texts indexes old new sources known are grows = grind (arith, Appends-none, within_opening, two_same)
 
 -- ---- a page has no more captures than lines were read
 
@@ -119,11 +113,7 @@ rising_fewer : (ms : List Member) → length (rising member_place place_cmp ms) 
 rising_fewer [] = omega arith
 rising_fewer (m ∷ ms) = grind (arith, put_fewer, rising_fewer ms)
 
-all_count : (parts : List (List Member)) → length (all_lines parts) ≡ sum (map (λ (ms : List Member). length ms) parts)
-all_count parts = grind (arith, length-flat_map, sum-map)
-
 pub page_fewer : (q : QueryValue) (parts : List (List Member)) (given lines : ℕ) → given
     ≡ min (length (query_page q (collection parts)).members) (2 ^ 64 - 1)
     → lines ≡ min (sum (map (λ (ms : List Member). length ms) parts)) (2 ^ 64 - 1) → given ≤ lines
-page_fewer q parts given lines g l =
-    grind (arith, asked_is, kept_fewer, filter_fewer, length-take, rising_fewer, all_count)
+page_fewer q parts given lines g l = grind (arith, asked_is, kept_fewer, filter_fewer, length-take, rising_fewer, length-flat_map, sum-map)

@@ -5,7 +5,7 @@ use Rattle.std.proofs.Common.{append_assoc, append-nil, Ordering, Equal, nat_cmp
 use Rattle.std.specs.List.{AllByRecursion, sum, AllZip}
 use Rattle.std.specs.Cmp.Lexicographic.{slice_cmp}
 use Rattle.std.specs.FinMap.{slice_cmp-IsAntisymmetric}
-use Rattle.std.proofs.lemmas.Slice.Zip.{AllZip-long}
+use Rattle.std.proofs.lemmas.Slice.Zip.{AllZip-long, firsts-zip}
 use Rattle.std.proofs.lemmas.Bool.{false_from_ne_true}
 use Rattle.std.proofs.lemmas.Slice.Eq.{bytes_eq-Decides}
 use Rattle.cdxj_places.specs.Pairs.{Pair, pair_cmp}
@@ -55,28 +55,17 @@ begins_itself : (text : List ℕ) → begins text text ≡ true
 begins_itself [] = refl
 begins_itself (b ∷ text) = grind (arith, begins_itself text)
 
-covers_itself : (kind : MatchKind) (text : List ℕ) → kind_covers kind text text ≡ true
-covers_itself kind text = grind (arith, bytes_eq-Decides, begins_itself)
-
-covered_by : (b : Bool) (o : Ordering) → (is_gt o && not b) ≡ false → is_lt o ≡ false → (o ≡ Equal → b ≡ true)
-    → b ≡ true
-covered_by b o past low met = grind (arith, is_gt, is_lt)
-
 -- a key that isn't past the target, and isn't below it
 covered_where_met : (t : TargetValue) (key : List ℕ) → is_past t key ≡ false → is_lt (slice_cmp nat_cmp key t.text)
     ≡ false → covers t key ≡ true
-covered_where_met t key past low = grind (arith, covered_by, slice_cmp-IsAntisymmetric, covers_itself)
-
-turned : (p q : Pair) (o : Ordering) → pair_cmp p q ≡ o → is_gt o ≡ true → Below q p
-turned p q o f h = grind (arith, pair_cmp_total)
+covered_where_met t key past low = grind (arith, slice_cmp-IsAntisymmetric, bytes_eq-Decides, begins_itself)
 
 -- what isn't below a pair that is above this one isn't below this one either
 not_low_above : (p q : Pair) (m : Member) → is_gt (pair_cmp p q) ≡ true → is_low p m ≡ false → is_low q m ≡ false
 not_low_above p q m e k =
-    false_from_ne_true (is_low q m)
-    (λ l. not_below_itself (member_pair m) p
-    (below_below (member_pair m) q p (is_less (pair_cmp (member_pair m) q) l) (turned p q (pair_cmp p q) refl e))
-    (from_not_below (member_pair m) p k))
+    let high = from_not_below (member_pair m) p k in
+    false_from_ne_true (is_low q m) (λ l. not_below_itself (member_pair m) p
+    (below_below (member_pair m) q p (is_less _ l) (grind (arith, pair_cmp_total))) high)
 
 not_low_later : (pair : Pair) (from : Option PlaceValue) (m : Member) → is_low (later_pair pair from) m ≡ false
     → is_low pair m ≡ false
@@ -137,20 +126,17 @@ module _ {S : Type 0} {text : S → Option (List ℕ)} {extent gave : S → ℕ}
       let first = wanted_first r texts known indexes are in
       let group = filter (is_wanted q q.resume) others in
       let p = place_before q q.resume earlier in
+      let among = each_filter (λ v. Alike (member_pair v) pair) (is_wanted q q.resume) others alike in
       record {
         back = kept_after q q.resume p group ++ first.0;
         whole = grind (arith, captures_append, append_assoc, kept_after);
         later = λ m upto.
-            let low = rw bound at upto in
-            each_join (λ v. Upto (member_pair m) (member_pair v)) (kept_after q q.resume p group) first.0
-            (each_kept member_place place_cmp (same_part q.collapse) place_cmp_total
-            (λ v. Upto (member_pair m) (member_pair v)) p group
-            (each_weaker (λ (v : Member) (h : Alike (member_pair v) pair × (is_wanted q q.resume v ≡ true)). upto_upto
-            (member_pair m) pair (member_pair v) low (same_from (member_pair v) pair h.0)) group
-            (each_filter (λ v. Alike (member_pair v) pair) (is_wanted q q.resume) others alike)))
-            (each_weaker (λ (v : Member) (h : IsAbove r.bound (member_pair v)). upto_upto (member_pair m) pair
-            (member_pair v) low (below_upto pair (member_pair v) (rw bound at h)))
-            first.0 first.2);
+            let A = λ (v : Member). Upto (member_pair m) (member_pair v) in
+            let upto_pair = λ (v : Member). upto_upto (member_pair m) pair (member_pair v) (rw bound at upto) in
+            each_join A (kept_after q q.resume p group) first.0
+            (each_kept member_place place_cmp (same_part q.collapse) place_cmp_total A p group
+            (each_weaker (λ v h. upto_pair v (same_from (member_pair v) pair h.0)) group among))
+            (each_weaker (λ v h. upto_pair v (below_upto pair (member_pair v) (rw bound at h))) first.0 first.2);
       }
 
   -- before a pair whose lines couldn't be had or handed on
@@ -229,10 +215,7 @@ module _ {S : Type 0} {text : S → Option (List ℕ)} {extent gave : S → ℕ}
 
   -- they are lines of the sources, which over indexes come first
   pub took : Took q (map text olds) r.taken
-  took = record {
-    lines = lines_taken r;
-    first = λ texts indexes known are. let first = wanted_first r texts known indexes are in grind arith;
-  }
+  took = record { lines = lines_taken r; first = λ texts indexes known are. let f = wanted_first r texts known indexes are in (f.0, f.1) }
 
 pub within_opening : {S : Type 0} (text : S → Option (List ℕ)) (extent gave : S → ℕ) (test : Member → Bool)
     (texts : List (List ℕ)) (indexes : List (List Member)) (olds news : List S) → Known (map text olds) texts
@@ -241,8 +224,3 @@ pub within_opening : {S : Type 0} (text : S → Option (List ℕ)) (extent gave 
     → AllGaveWithin extent gave test texts indexes olds news
 within_opening text extent gave test [] indexes xs ys known are opened = grind arith
 within_opening text extent gave test (t ∷ ts) indexes xs ys known are opened = grind (arith, within_opening text extent gave test ts)
-
--- nothing was read at all
-pub opened_not : {S : Type 0} (text : S → Option (List ℕ)) (extent gave : S → ℕ) (xs : List S)
-    → AllZip (λ x y. OpenedWithin (text x) (extent x) (gave x) (gave y)) xs xs
-opened_not text extent gave = grind (arith, two_same)

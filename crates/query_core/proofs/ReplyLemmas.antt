@@ -7,6 +7,7 @@ use Rattle.std.specs.List.{AllZip}
 use Rattle.std.specs.Str.{is_utf8}
 use Rattle.std.proofs.lemmas.List.{length-map, map-append, take_all}
 use Rattle.std.proofs.lemmas.List.Concat.{flat_map-append}
+use Rattle.std.proofs.lemmas.List.Elements.{AllZip-push}
 use Rattle.std.specs.Io.KnownBytes.{Appends, prepend_known}
 use Rattle.devices.specs.Device.{AppendsPrefix}
 use Rattle.devices.proofs.DeviceLemmas.{Appends-none, Appends-join}
@@ -18,11 +19,6 @@ use Rattle.query_core.specs.Conversations.{IsLineReply, IsMarkedReply, IsOneRepl
 use Rattle.query_core.specs.Conversations.{RepliedSoFar, RepliedToAll, RepliedToFirst}
 
 -- ---- lists of lines and of their replies
-
-zip_more : {X Y : Type 0} (P : X → Y → Type 0) (xs : List X) (ys : List Y) (x : X) (y : Y) → AllZip P xs ys → P x y
-    → AllZip P (xs ++ x ∷ []) (ys ++ y ∷ [])
-zip_more P [] ys x y each p = grind arith
-zip_more P (u ∷ xs) ys x y each p = grind (arith, zip_more P xs)
 
 zip_map : {X Y Z : Type 0} (P : Y → Z → Type 0) (f : X → Y) (xs : List X) (zs : List Z)
     → AllZip (λ x z. P (f x) z) xs zs → AllZip P (map f xs) zs
@@ -47,24 +43,8 @@ module _ (limit : ℕ) (IsReply : List ℕ → List ℕ → Type 0) where
   abbrev Marked : List ℕ → List ℕ → Type 0
   Marked line text = IsMarkedReply limit IsReply (without_carriage_return line) text
 
-  -- a line that is too long is refused
-  module _ (line reply : List ℕ) (long : limit + 1 < length line) where
-    abbrev by : Bool → Type 0
-    by b = MatchBool b (reply ≡ refusal_text (codes "QueryTooLong"))
-        (MatchBool (is_utf8 (without_carriage_return line)) (IsReply (without_carriage_return line) reply)
-        (reply ≡ refusal_text (codes "NotText")))
-
-    is_long : nat_lt limit (length (without_carriage_return line)) ≡ true
-    is_long = grind (arith, shorter, slice_index, lt-ltb)
-
-    refused_long : Reply line reply → reply ≡ refusal_text (codes "QueryTooLong")
-    refused_long h = subst by is_long h
-
-    long_refused : reply ≡ refusal_text (codes "QueryTooLong") → Reply line reply
-    long_refused h = subst by (sym is_long) h
-
   held : (line seen text : List ℕ) → line ≡ take (limit + 2) seen → Marked line text → Marked seen text
-  held line seen text is marked = grind (arith, ltb-true, length-take, long_refused, refused_long, take_all, ltb-false, nat_lt)
+  held line seen text is marked = grind (arith, ltb-true, length-take, shorter, slice_index, lt-ltb, take_all, ltb-false, nat_lt)
 
   -- ---- the conversation
 
@@ -103,7 +83,7 @@ module _ (limit : ℕ) (IsReply : List ℕ → List ℕ → Type 0) where
   replied (Some input) (Some now) (Some rest) count old new last line text
       (done, texts, cut, counted, each, written) (seen, first, is) m =
       let lines = done ++ seen ∷ [] in
-      let more = zip_more Marked done texts seen text each (held line seen text is m) in
+      let more = AllZip-push Marked done texts seen text each (held line seen text is m) in
       let whole = joined-more texts text in (
         λ a. (
           lines,
@@ -176,9 +156,6 @@ module _ {limit : ℕ} (t : Turn limit) (IsReply : List ℕ → List ℕ → Typ
 module _ (limit : ℕ) (reply : List ℕ → List ℕ) where
   abbrev Is : List ℕ → List ℕ → Type 0
   Is = IsOneReply reply
-
-  line_is : (line given : List ℕ) → IsLineReply limit Is line given → given ≡ reply_text limit reply line
-  line_is line given h = grind arith
 
   texts_are : (lines texts : List (List ℕ)) → AllZip (IsMarkedReply limit Is) lines texts → joined texts
       ≡ flat_map (marked_reply limit reply) lines

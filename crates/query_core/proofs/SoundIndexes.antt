@@ -24,28 +24,20 @@ module _ (limit : ℕ) where
 
   entries_at : (before : List (List ℕ)) (line : List ℕ) (after : List (List ℕ)) (members : List Member)
       → map (line_entry limit) (before ++ line ∷ after) ≡ map Some members → EntriesAt line after members
-  entries_at [] line after [] e = cc
   entries_at [] line after (m ∷ members) e =
-      record {
-        earlier = [];
-        member = m;
-        later = members;
-        split = refl;
-        entry = cc;
-        others = cc;
-      }
-  entries_at (b ∷ before) line after [] e = cc
+      record { earlier = []; member = m; later = members; split = refl; entry = cc; others = cc }
   entries_at (b ∷ before) line after (m ∷ members) e =
-      let rest : map (line_entry limit) (before ++ line ∷ after) ≡ map Some members = (cc) in
-      let found = entries_at before line after members rest in
+      let found = entries_at before line after members (cc) in
       record {
         earlier = m ∷ found.earlier;
-        member = found.member;
-        later = found.later;
-        split = ap (λ ms. m ∷ ms) found.split;
+        member = _;
+        later = _;
+        split = grind arith;
         entry = found.entry;
         others = found.others;
       }
+  entries_at [] line after [] e = cc
+  entries_at (b ∷ before) line after [] e = cc
 
   no_bad_line : (text : List ℕ) (members : List Member) (offset : ℕ) → IsIndex limit text members
       → IsBadLine limit text offset → ⊥

@@ -20,7 +20,7 @@ use Rattle.query_core.specs.declared.sinks.PageSink.{PageSink}
 use Rattle.query_core.proofs.AskedLemmas.{Beginning, Writing, captures, asked_is, end_front, page_broke, page_ended, passed, settles}
 use Rattle.query_core.proofs.AskedLemmas.{stood}
 use Rattle.page_core.proofs.PageLemmas.{front-start}
-use Rattle.query_core.proofs.PageReach.{page_fewer, all_read, page_not_reached, page_reached, within}
+use Rattle.query_core.proofs.PageReach.{page_fewer, page_not_reached, page_reached, within}
 use Rattle.query_core.proofs.answering.answer.Given.{Over}
 use Rattle.query_core.proofs.answering.answer.Goals.{In_ok-writer, In_ok-pass}
 use Rattle.query_core.proofs.answering.answer.Goals as goal

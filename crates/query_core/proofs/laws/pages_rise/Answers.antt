@@ -6,13 +6,12 @@ use Rattle.query_text.specs.Collapses.{same_part}
 use Rattle.query_text.specs.Matching.{matches}
 use Rattle.page_core.proofs.PageLaws.{chain_law, rises_filter, rises_collapsed}
 use Rattle.page_writers.specs.QueryPages.{selected}
-use Rattle.query_core.specs.QueryLaws.{PagesRise}
 use Rattle.page_writers.proofs.NextPlaces.{captures_wanted}
 use Rattle.page_writers.proofs.PageChains.{captures_are}
 use Rattle.query_core.proofs.laws.pages_rise.Goals as goal
 
-pages_rise : PagesRise
-pages_rise q lines sizes pages rise positive chain =
+pub returns : goal.returns
+returns c = λ q lines sizes pages rise positive chain.
     let selects = rises_filter member_place place_cmp place_cmp_total (λ m. matches q m.values) lines rise in
     let joined = (chain_law member_place place_cmp (same_part q.collapse) place_cmp_total (selected q lines) q.resume
     sizes pages selects positive chain).0 in
@@ -20,6 +19,3 @@ pages_rise q lines sizes pages rise positive chain =
       rises_collapsed member_place place_cmp (same_part q.collapse) place_cmp_total (selected q lines) q.resume selects,
       rw (captures_are q sizes positive lines rise) at (captures_wanted q.resume q lines),
     )
-
-pub returns : goal.returns
-returns c = grind (arith, pages_rise)

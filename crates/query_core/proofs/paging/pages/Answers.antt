@@ -16,16 +16,11 @@ use Rattle.page_writers.proofs.PageChains.{wrote_front, wrote_none}
 use Rattle.query_core.proofs.PagesExits.{WritingPages, all_ended, any_front, at_end}
 use Rattle.page_writers.proofs.PagesLemmas.{start_front}
 use Rattle.page_writers.proofs.SizeLemmas.{all_positive}
-use Rattle.query_core.proofs.ReachLemmas.{opened_not, within_opening}
+use Rattle.query_core.proofs.ReachLemmas.{within_opening}
+use Rattle.merge_core.proofs.Many.{two_same}
 use Rattle.query_core.proofs.paging.pages.Given.{Over}
 use Rattle.query_core.proofs.paging.pages.Goals.{In_err-writer, In_err-read_lines, In_ok-read_lines}
 use Rattle.query_core.proofs.paging.pages.Goals as goal
-
--- nothing was read
-unread : {S : Type 0} (text : S → Option (List ℕ)) (extent gave : S → ℕ) (test : Member → Bool) (sources : List S)
-    → OverIndexes LINE_LIMIT (map text sources)
-    (λ texts indexes. AllGaveWithin extent gave test texts indexes sources sources)
-unread text extent gave test sources texts indexes known are = grind (arith, within_opening, opened_not)
 
 collection_rises : (indexes : List (List Member)) → Rises member_place place_cmp (collection indexes)
 collection_rises indexes = grind (arith, rises_rising, place_cmp_total)
@@ -33,13 +28,13 @@ collection_rises indexes = grind (arith, rises_rising, place_cmp_total)
 -- ---- how much was read
 
 pub returns-then-not-are_sizes-clause-bytes : goal.returns-then-not-are_sizes-clause-bytes
-returns-then-not-are_sizes-clause-bytes g c = grind (arith, unread)
+returns-then-not-are_sizes-clause-bytes g c = grind (arith, within_opening, two_same)
 
 pub returns-then-sources-gt-SOURCES_LIMIT-clause-bytes : goal.returns-then-sources-gt-SOURCES_LIMIT-clause-bytes
-returns-then-sources-gt-SOURCES_LIMIT-clause-bytes g c = grind (arith, unread)
+returns-then-sources-gt-SOURCES_LIMIT-clause-bytes g c = grind (arith, within_opening, two_same)
 
 pub returns-in_err-writer-clause-bytes : goal.returns-in_err-writer-clause-bytes
-returns-in_err-writer-clause-bytes g c = grind (arith, unread)
+returns-in_err-writer-clause-bytes g c = grind (arith, within_opening, two_same)
 
 pub returns-in_err-read_lines-clause-bytes : goal.returns-in_err-read_lines-clause-bytes
 returns-in_err-read_lines-clause-bytes g c = λ texts indexes known are. c.in_err-read_lines.ensures.halted.before.within _ _ known are None tt
