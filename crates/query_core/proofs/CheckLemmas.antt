@@ -1,6 +1,6 @@
 -- How far a check has come.
 use Rattle.std.proofs.Common.{◌≡◌, ℕ, ◌+◌, ◌≤◌, List, [], ◌∷◌, ◌++◌, length, take, drop, Option, None, Some, refl, sym}
-use Rattle.std.proofs.Common.{ap, ◌∙◌, subst, arith, take-append-drop, length-append, length-drop}
+use Rattle.std.proofs.Common.{ap, ◌∙◌, arith, take-append-drop, length-append, length-drop}
 use Rattle.std.specs.Prelude.{Err, MatchOption}
 use Rattle.std.proofs.lemmas.List.{take_all, drop-drop, map-append}
 use Rattle.cdxj_core.specs.Members.{Member, member_pair, line_entry}

@@ -1,10 +1,10 @@
 -- What was taken of indexes, beside all that is wanted of their collection.
 use Rattle.query_core.proofs.AskedLemmas.{captures}
 use Rattle.std.proofs.Common.{arith, ◌≡◌, inl, inr, ℕ, List, [], ◌∷◌, ◌++◌, length, map, filter, zip, Bool, true, false}
-use Rattle.std.proofs.Common.{not, ◌&&◌, Option, refl, sym, ap, ◌∙◌, cond, Some, None, zero, suc, ◌≤◌}
+use Rattle.std.proofs.Common.{not, ◌&&◌, Option, refl, cond, Some, None, zero, suc, ◌≤◌}
 use Rattle.std.proofs.Common.{Ordering, nat_cmp, is_gt, is_lt, All, eqb-true, replicate}
 use Rattle.std.specs.List.{AllZip, AllByRecursion}
-use Rattle.cdxj_places.specs.Pair.{is_stamp, key_part, stamp_part, begins_with_pair, pair_of}
+use Rattle.cdxj_places.specs.Pair.{is_stamp, key_part, stamp_part, begins_with_pair}
 use Rattle.cdxj_places.specs.Pairs.{Pair, pair_cmp}
 use Rattle.cdxj_places.proofs.PlaceOrder.{place_cmp_total}
 use Rattle.cdxj_places.proofs.RisingLaws.{each_weaker, each_rising, each_join}

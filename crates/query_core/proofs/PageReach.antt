@@ -1,6 +1,6 @@
 -- What was read for a page, beside its reach.
-use Rattle.std.proofs.Common.{◌≡◌, ℕ, zero, suc, ◌≤◌, List, [], ◌∷◌, ◌++◌, length, map, Bool, true, false, not, Option}
-use Rattle.std.proofs.Common.{None, Some, refl, sym, ap, ◌∙◌, subst, arith, length-append, length-take, ◌-◌, ◌^◌}
+use Rattle.std.proofs.Common.{◌≡◌, ℕ, zero, suc, ◌≤◌, List, [], ◌∷◌, ◌++◌, length, map, Bool, true, false, Option}
+use Rattle.std.proofs.Common.{None, Some, refl, arith, length-append, length-take, ◌-◌, ◌^◌}
 use Rattle.std.proofs.Common.{filter, min}
 use Rattle.std.specs.Io.KnownBytes.{Appends}
 use Rattle.std.specs.Option.{is_some}
@@ -10,11 +10,11 @@ use Rattle.cdxj_core.specs.Members.{Member, member_place}
 use Rattle.devices.proofs.DeviceLemmas.{Appends-none, grows_by, grows_on}
 use Rattle.query_text.specs.Queries.{QueryValue}
 use Rattle.page_core.specs.Form.{FormValue}
-use Rattle.page_core.specs.Pages.{Page, kept}
+use Rattle.page_core.specs.Pages.{kept}
 use Rattle.page_core.specs.PageText.{begun}
 use Rattle.cdxj_core.specs.declared.limit.TheConstants.{LINE_LIMIT}
 use Rattle.cdxj_core.specs.Indexes.{IsIndex}
-use Rattle.merge_core.specs.Collections.{Known, OverIndexes, collection, all_lines}
+use Rattle.merge_core.specs.Collections.{Known, OverIndexes, collection}
 use Rattle.std.specs.List.{AllZip, sum}
 use Rattle.devices.specs.Device.{Grows}
 use Rattle.page_writers.specs.PageWriting.{page_over}

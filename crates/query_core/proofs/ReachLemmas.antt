@@ -1,11 +1,11 @@
 -- What was read of indexes, beside the reach of a page.
 use Rattle.std.proofs.Common.{◌≡◌, ℕ, zero, suc, ◌≤◌, List, [], ◌∷◌, ◌++◌, length, map, filter, zip, Bool, true, false}
-use Rattle.std.proofs.Common.{not, ◌&&◌, Option, Some, refl, sym, ap, ◌∙◌, subst, arith, min, ◌-◌, ◌^◌}
-use Rattle.std.proofs.Common.{append_assoc, append-nil, Ordering, Equal, nat_cmp, is_gt, is_lt}
+use Rattle.std.proofs.Common.{not, Option, Some, refl, sym, ap, ◌∙◌, subst, arith, min, ◌-◌, ◌^◌}
+use Rattle.std.proofs.Common.{append_assoc, append-nil, nat_cmp, is_gt, is_lt}
 use Rattle.std.specs.List.{AllByRecursion, sum, AllZip}
 use Rattle.std.specs.Cmp.Lexicographic.{slice_cmp}
 use Rattle.std.specs.FinMap.{slice_cmp-IsAntisymmetric}
-use Rattle.std.proofs.lemmas.Slice.Zip.{AllZip-long, firsts-zip}
+use Rattle.std.proofs.lemmas.Slice.Zip.{AllZip-long}
 use Rattle.std.proofs.lemmas.Bool.{false_from_ne_true}
 use Rattle.std.proofs.lemmas.Slice.Eq.{bytes_eq-Decides}
 use Rattle.cdxj_places.specs.Pairs.{Pair, pair_cmp}
@@ -20,11 +20,10 @@ use Rattle.cdxj_core.specs.Members.{Member, member_pair, member_place}
 use Rattle.query_text.specs.Collapses.{same_part}
 use Rattle.query_text.specs.Queries.{QueryValue}
 use Rattle.query_text.specs.Targets.{TargetValue}
-use Rattle.query_text.specs.Matching.{begins, kind_covers, covers, is_past}
-use Rattle.query_text.specs.declared.target.MatchKind.{MatchKind}
+use Rattle.query_text.specs.Matching.{begins, covers, is_past}
 use Rattle.page_core.proofs.PageLaws.{each_kept}
 use Rattle.merge_core.specs.declared.feed.Feed.{Feed}
-use Rattle.merge_core.specs.PairOrders.{Alike, Below, IsAbove, IsUpto, Upto, is_low}
+use Rattle.merge_core.specs.PairOrders.{Alike, IsAbove, IsUpto, Upto, is_low}
 use Rattle.merge_core.specs.WaitingLines.{waiting_pair}
 use Rattle.merge_core.specs.Collections.{Known, OverIndexes, OverTexts, collection}
 use Rattle.merge_core.specs.Openings.{IsCutAt}
@@ -33,7 +32,7 @@ use Rattle.merge_core.specs.Spending.{AllGaveWithin, AreReadTo, OpenedWithin}
 use Rattle.merge_core.proofs.CountLemmas.{lines_most}
 use Rattle.merge_core.proofs.Filters.{each_filter}
 use Rattle.merge_core.proofs.ByteLemmas.{gave_most, tell_both}
-use Rattle.merge_core.proofs.Many.{Move, length_zip, told_moved, two_each, two_same}
+use Rattle.merge_core.proofs.Many.{Move, length_zip, told_moved, two_each}
 use Rattle.merge_core.proofs.PairOrder.{below_below, below_upto, from_not_below, not_below_itself, same_from, upto_upto}
 use Rattle.merge_core.proofs.MergeLemmas.{is_less}
 use Rattle.merge_core.proofs.RunLemmas.{parts_are, parts_count, parts_first, parts_whole}

@@ -2,9 +2,8 @@
 use Rattle.std.proofs.Common.{◌≡◌, ℕ, ◌+◌, ◌-◌, ◌^◌, ◌<◌, ◌≤◌, List, [], ◌∷◌, ◌++◌, map, length, length-append}
 use Rattle.std.proofs.Common.{length-take, take, refl, sym, ap, ◌∙◌, subst, arith, cond, Bool, true, false, Option}
 use Rattle.std.proofs.Common.{Some, None, append_assoc, append-nil, lt-ltb, ltb-false, nat_lt, slice_index, ltb-true}
-use Rattle.std.specs.Prelude.{flat_map, codes, MatchBool}
+use Rattle.std.specs.Prelude.{flat_map}
 use Rattle.std.specs.List.{AllZip}
-use Rattle.std.specs.Str.{is_utf8}
 use Rattle.std.proofs.lemmas.List.{length-map, map-append, take_all}
 use Rattle.std.proofs.lemmas.List.Concat.{flat_map-append}
 use Rattle.std.proofs.lemmas.List.Elements.{AllZip-push}
@@ -14,7 +13,7 @@ use Rattle.devices.proofs.DeviceLemmas.{Appends-none, Appends-join}
 use Rattle.devices.proofs.WritingLemmas.{prefix_longer, prefix_after, prefix_whole}
 use Rattle.devices.specs.LineCuts.{cut_lines, input_lines, without_carriage_return}
 use Rattle.devices.specs.LineReading.{TakesLine, CountsTaken}
-use Rattle.query_core.specs.Replies.{refusal_text, reply_text, marked_reply}
+use Rattle.query_core.specs.Replies.{marked_reply}
 use Rattle.query_core.specs.Conversations.{IsLineReply, IsMarkedReply, IsOneReply, Replied, RepliedInPart}
 use Rattle.query_core.specs.Conversations.{RepliedSoFar, RepliedToAll, RepliedToFirst}
 

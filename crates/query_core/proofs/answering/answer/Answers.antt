@@ -1,22 +1,16 @@
-use Rattle.std.proofs.Common.{◌≡◌, ◌++◌, ℕ, map, List, [], Option, true, refl, sym, ap, ◌∙◌, append-nil, arith}
-use Rattle.std.proofs.lemmas.Bool.{true≢false, false_from_ne_true}
+use Rattle.std.proofs.Common.{◌≡◌, ◌++◌, ℕ, map, List, [], Option, true, refl, sym, append-nil, arith}
 use Rattle.std.proofs.lemmas.List.{length-map}
 use Rattle.std.proofs.lemmas.Result.{err_from_is_err_and}
-use Rattle.std.specs.Option.{is_some}
 use Rattle.devices.proofs.WritingLemmas.{wrote_nothing}
 use Rattle.cdxj_core.specs.declared.limit.TheConstants.{LINE_LIMIT}
 use Rattle.cdxj_core.specs.Members.{Member}
-use Rattle.cdxj_places.specs.Places.{PlaceValue}
-use Rattle.page_core.specs.Pages.{Page}
 use Rattle.devices.proofs.DeviceLemmas.{grows_by, grows_not, grows_part}
 use Rattle.merge_core.specs.Collections.{OverIndexes, collection}
 use Rattle.query_core.specs.Passes.{AreAtMost}
 use Rattle.page_writers.specs.PageWriting.{page_over}
-use Rattle.page_writers.specs.QueryPages.{answer_text, query_page}
+use Rattle.page_writers.specs.QueryPages.{query_page}
 use Rattle.devices.specs.Device.{Grows}
 use Rattle.query_core.specs.Reach.{GaveInReach}
-use Rattle.page_writers.specs.WriterView.{Wrote}
-use Rattle.query_core.specs.declared.sinks.PageSink.{PageSink}
 use Rattle.query_core.proofs.AskedLemmas.{Beginning, Writing, captures, asked_is, end_front, page_broke, page_ended, passed, settles}
 use Rattle.query_core.proofs.AskedLemmas.{stood}
 use Rattle.page_core.proofs.PageLemmas.{front-start}

@@ -1,5 +1,5 @@
 use Rattle.query_core.proofs.AskedLemmas.{captures}
-use Rattle.std.proofs.Common.{arith, rules, ◌≡◌, ◌++◌, ℕ, List, [], append-nil, Bool, true, refl, sym, map, Option}
+use Rattle.std.proofs.Common.{arith, rules, ◌≡◌, ◌++◌, List, [], append-nil, true, refl, sym}
 use Rattle.std.proofs.Common.{None}
 use Rattle.std.proofs.lemmas.Bool.{true_from_ne_false}
 use Rattle.std.proofs.lemmas.Result.{err_from_is_err_and}
@@ -7,10 +7,8 @@ use Rattle.cdxj_places.specs.Places.{place_cmp}
 use Rattle.cdxj_places.specs.Rising.{Rises}
 use Rattle.cdxj_places.proofs.PlaceOrder.{place_cmp_total}
 use Rattle.cdxj_places.proofs.RisingLaws.{rises_rising}
-use Rattle.cdxj_core.specs.declared.limit.TheConstants.{LINE_LIMIT}
 use Rattle.cdxj_core.specs.Members.{Member, member_place}
-use Rattle.merge_core.specs.Collections.{OverIndexes, collection}
-use Rattle.merge_core.specs.Spending.{AllGaveWithin}
+use Rattle.merge_core.specs.Collections.{collection}
 use Rattle.page_writers.specs.WrittenPages.{WrotePagesInPart}
 use Rattle.page_writers.proofs.PageChains.{wrote_front, wrote_none}
 use Rattle.query_core.proofs.PagesExits.{WritingPages, all_ended, any_front, at_end}

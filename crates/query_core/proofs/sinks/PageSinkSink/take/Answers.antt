@@ -1,5 +1,4 @@
 use Rattle.std.proofs.Common.{arith}
-use Rattle.page_writers.proofs.WriterLemmas.{broke_as}
 use Rattle.query_core.proofs.sinks.PageSinkSink.take.Goals as goal
 
 pub returns-in-Err-clause-wrote : goal.returns-in-Err-clause-wrote
