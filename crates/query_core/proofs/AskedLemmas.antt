@@ -79,7 +79,8 @@ module _ {q : QueryValue} {start mid : Option (List ℕ)} {taken : List Member} 
       pub end_front : AppendsPrefix mid new
           (page_end (form_of w.writer.selection.query.now) (key_of w.writer.selection.query.now))
           → AppendsPrefix start new (answer_text q (query_page q all))
-      end_front p = rw (← text_same) (front-end start mid new (form_of q) taken_page.members (key_of q) stood.text (rw query_is at p))
+      end_front p = rw (← text_same)
+          (front-end start mid new (form_of q) taken_page.members (key_of q) stood.text (rw query_is at p))
 
 -- a writer that begins with this query, and what was written then
 pub record Beginning (q : QueryValue) (start mid : Option (List ℕ)) : Type 0 where
@@ -101,11 +102,6 @@ module _ {q : QueryValue} {start mid : Option (List ℕ)} (b : Beginning q start
     wrote = came (record { writer = b.first }) start b.began;
   }
 
-  -- the rows of these lines, or a front of them
-  rows_front : ((k : PageSink) × Wrote b.first k.writer taken start now) ⊎ Broke b.first taken start now
-      → AppendsPrefix start now (begun (form_of q) (page_over q q.resume q.limit taken).members)
-  rows_front wrote = grind (arith, whole_prefix)
-
   -- are a front of the page of lines of which these come first
   pub page_broke : ((first : PageSink) → (start : Option (List ℕ)) → Wrote first.writer b.first [] start mid
       → ((k : PageSink) × Wrote first.writer k.writer taken start now) ⊎ Broke first.writer taken start now)
@@ -117,5 +113,5 @@ module _ {q : QueryValue} {start mid : Option (List ℕ)} (b : Beginning q start
       let key = shown_key q.show_resume_key (query_page q all).next in
       let same : (query_page q all).members ≡ members ++ r.0 = grind (arith, asked_is, page) in
       let f = begun_is_front (form_of q) members r.0 key in
-      rw (same, f.1) (prefix_longer start now (begun (form_of q) members) f.0
-      (rows_front (came (record { writer = b.first }) start b.began)))
+      let rows = came (record { writer = b.first }) start b.began in
+      rw (same, f.1) (prefix_longer start now (begun (form_of q) members) f.0 (grind (arith, whole_prefix)))

@@ -52,11 +52,9 @@ module _ (limit : ℕ) (t : List ℕ) where
         let grown = take_next count (lines t) next.0 (lines (drop to t)) (sym checked.rest ∙ next.1) in
         record {
           members = checked.members ++ m ∷ [];
-          run = rw grown
-              (run_push limit (take count (lines t)) checked.members previous next.0 m checked.run checked.last next.2
-              stays);
+          run = rw grown (run_push limit _ checked.members previous next.0 m checked.run checked.last next.2 stays);
           last = (checked.members, refl);
-          as_many = omega (arith, length-append checked.members (m ∷ []));
+          as_many = grind (arith, length-append);
           rest = sym (ap (drop 1) (sym checked.rest ∙ next.1)) ∙ drop-drop 1 count (lines t);
         }
 

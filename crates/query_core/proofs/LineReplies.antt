@@ -46,20 +46,15 @@ module _ (told : List (Option (List ℕ))) (q : QueryValue) (lines : List Member
         → WritesSome r old new (IsPageReply told q)
     fault_reply r old mid new fault line (rest, wrote) named is w =
         let m = marked r old mid new wrote.front line wrote.grown w in
-        grind (arith, writes_some)
+        grind arith
 
 -- there is one
 pub some_reply : (told : List (Option (List ℕ))) (r : Result QueryValue QueryFault) → (reply : List ℕ)
     × IsQueryReply told r reply
-some_reply told (Ok q) = (answer_text q (query_page q []), page_reply told q [] (grind arith))
+some_reply told (Ok q) = (answer_text q (query_page q []), record { lines = []; are = grind arith; page = grind arith })
 some_reply told (Err fault) = grind arith
 
 -- ---- the reply to a line
-
-module _ (limit : ℕ) (IsReply : List ℕ → List ℕ → Type 0) (line reply : List ℕ) where
-  pub no_text_reply : nat_lt limit (length line) ≡ false → is_utf8 line ≡ false → reply ≡ refusal_text (codes "NotText")
-      → IsLineReply limit IsReply line reply
-  no_text_reply fits other is = grind arith
 
 -- with the line `.`
 module _ (limit : ℕ) (IsReply : List ℕ → List ℕ → Type 0) (line : List ℕ) (old mid : Option (List ℕ)) where

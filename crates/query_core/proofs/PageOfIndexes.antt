@@ -48,9 +48,6 @@ use Rattle.page_core.specs.Pages.{is_above}
 then_not_above : (a b : Ordering) → is_gt a ≡ false → is_gt b ≡ false → is_gt (ordering_then a b) ≡ false
 then_not_above a b h k = grind arith
 
-lt_reverse : (r : Ordering) → is_gt r ≡ false → is_lt (ordering_reverse r) ≡ false
-lt_reverse r h = grind arith
-
 -- a pair that isn't above that of a line
 not_low : (pair : Pair) (m : Member) → is_gt (pair_cmp pair (member_pair m)) ≡ false → is_low pair m ≡ false
 not_low pair m h = grind (arith, pair_cmp_total.antisymm (member_pair m) pair)
@@ -73,22 +70,20 @@ later_not_low : (pair : Pair) (from : Option PlaceValue) (m : Member) → is_low
     → is_above member_place place_cmp from m ≡ true → is_low (later_pair pair from) m ≡ false
 later_not_low pair from m h k = grind arith
 
-wanted_key : (q : QueryValue) (from : Option PlaceValue) (m : Member) → is_wanted q from m ≡ true
-    → key_matches q.target m.values.key ≡ true
-wanted_key q from m h = grind arith
-
 -- a line with a stamp that is wanted doesn't stand below the start
 start_not_above : (q : QueryValue) (from : Option PlaceValue) (m : Member) → is_stamp m.values.stamp ≡ true
     → is_wanted q from m ≡ true → is_low (start_pair q from) m ≡ false
-start_not_above q from m s h = later_not_low _ from m (not_low (q.target.text, first_stamp) m
-    (grind (arith, then_not_above, match_not_below, wanted_key, stamp_not_below))) (grind (arith, and_parts))
+start_not_above q from m s h =
+    later_not_low _ from m (not_low (q.target.text, first_stamp) m
+    (grind (arith, then_not_above, match_not_below, and_parts, stamp_not_below))) (grind (arith, and_parts))
 
 -- ---- every line of an index has a stamp
 
 -- a line has a stamp
 line_stamp : (limit : ℕ) (t : List ℕ) (m : Member) → IsLineIn limit t m → is_stamp m.values.stamp ≡ true
 line_stamp limit t m h =
-    let found = some_pair (begins_with_pair h.0) (key_part h.0) (stamp_part h.0) (member_pair m) (entry_pair_is limit h.0 m h.2) in
+    let found = some_pair (begins_with_pair h.0) (key_part h.0) (stamp_part h.0) (member_pair m)
+    (entry_pair_is limit h.0 m h.2) in
     grind (arith, and_parts)
   where
     some_pair : (b : Bool) (key stamp : List ℕ) (pair : Pair) → cond b (Some (key, stamp)) None ≡ Some pair → (b ≡ true)
@@ -215,7 +210,7 @@ module _ {S : Type 0} {text : S → Option (List ℕ)} {extent gave : S → ℕ}
       wanted_first =
           let f = sought_first _ _ _ _ _ (past_upward q.target) _ _ _ _ _ _ _ r.start.same r.reached texts indexes
           known_opened are (sought q) (within q) _ r.start.cut (beyond q) in
-          (later f.0, grind (arith, captures_split, of_all, of_taken), grind (arith, later_each, each_weaker))
+          (_, grind (arith, captures_split, of_all, of_taken), later_each _ f.0 (grind (arith, each_weaker)))
 
       -- where the lines that wait don't stand below a pair, the rest doesn't either
       pub wanted_before : (next : Pair) → IsAbove r.bound next

@@ -38,11 +38,6 @@ none_follows None = refl
 none_follows (Some zero) = refl
 none_follows (Some (suc n)) = refl
 
--- captures that don't pass the page are within its limit
-within_page : (limit : Option ℕ) (c : List Member) → (limit ≡ Some 0 → ⊥) → is_some (page limit c).next ≡ false
-    → AreAtMost limit c
-within_page limit c some none = grind (arith, next_none)
-
 -- where it wanted more, the captures of what was passed on don't pass the page
 pub within : {q : QueryValue} {start mid : Option (List ℕ)} (b : Beginning q start mid) (taken : List Member)
     (now : Option (List ℕ)) (sink : PageSink) → ((first : PageSink) → (start : Option (List ℕ))
@@ -50,7 +45,7 @@ pub within : {q : QueryValue} {start mid : Option (List ℕ)} (b : Beginning q s
     → ((b.first.more ≡ true → ⊥) → sink.writer.more ≡ true → ⊥) → AreAtMost q.limit (captures q taken)
 within b taken now sink came more =
     let last = stood (passed b taken now sink came) in
-    grind (arith, true≢false, none_follows, within_page, false_from_ne_true)
+    grind (arith, true≢false, none_follows, next_none, false_from_ne_true)
 
 -- a page has at least the captures that don't pass it
 has_all : (limit : Option ℕ) (c tail : List Member) → AreAtMost limit c
@@ -61,7 +56,8 @@ has_all limit c tail most = grind (arith, length-append, length-take)
 front_written : (form : FormValue) (ms : List Member) (old middle new : Option (List ℕ))
     → Appends old middle (begun form ms)
     → Grows middle new → WroteFirst old new (captures_text form ms)
-front_written form [] old middle new a g = record { middle = old; front = Appends-none old; grows = grows_on _ _ _ (grows_by _ _ _ a) g }
+front_written form [] old middle new a g =
+    record { middle = old; front = Appends-none old; grows = grows_on _ _ _ (grows_by _ _ _ a) g }
 front_written form (m ∷ ms) old middle new a g = grind arith
 
 -- What was written of the page of these lines, which come first, and what sources gave for the captures of the earlier
@@ -78,7 +74,8 @@ page_reached text extent gave {q} {old} {middle} new olds news {taken} earlier t
     let front = first texts indexes known are in
     let mine = (page_over q q.resume q.limit taken).members in
     let later = page_front q.limit (captures q taken) front.0 in
-    let members : (query_page q (collection indexes)).members ≡ mine ++ later.0 = rw (asked_is q (collection indexes), front.1) later.1 in
+    let members : (query_page q (collection indexes)).members ≡ mine ++ later.0 =
+    rw (asked_is q (collection indexes), front.1) later.1 in
     let written = front_written (form_of q) mine old middle new (stood w).text grows in
     record {
       whole = length mine;
@@ -92,7 +89,8 @@ pub page_not_reached : {S : Type 0} (text : S → Option (List ℕ)) (extent gav
     (texts : List (List ℕ)) (indexes : List (List Member)) (old new : Option (List ℕ)) (sources : List S)
     → Known (map text sources) texts → AllZip (IsIndex LINE_LIMIT) texts indexes → Grows old new
     → GaveInReach extent gave q texts indexes old new sources sources
-page_not_reached text extent gave q texts indexes old new sources known are grows = grind (arith, Appends-none, within_opening, two_same)
+page_not_reached text extent gave q texts indexes old new sources known are grows =
+    grind (arith, Appends-none, within_opening, two_same)
 
 -- ---- a page has no more captures than lines were read
 
@@ -116,4 +114,5 @@ rising_fewer (m ∷ ms) = grind (arith, put_fewer, rising_fewer ms)
 pub page_fewer : (q : QueryValue) (parts : List (List Member)) (given lines : ℕ) → given
     ≡ min (length (query_page q (collection parts)).members) (2 ^ 64 - 1)
     → lines ≡ min (sum (map (λ (ms : List Member). length ms) parts)) (2 ^ 64 - 1) → given ≤ lines
-page_fewer q parts given lines g l = grind (arith, asked_is, kept_fewer, filter_fewer, length-take, rising_fewer, length-flat_map, sum-map)
+page_fewer q parts given lines g l =
+    grind (arith, asked_is, kept_fewer, filter_fewer, length-take, rising_fewer, length-flat_map, sum-map)

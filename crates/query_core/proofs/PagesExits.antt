@@ -42,7 +42,7 @@ module _ {q : QueryValue} {sizes : List ℕ} {start now : Option (List ℕ)} {ta
       (all : captures q lines ≡ captures q taken) (new : Option (List ℕ)) where
     pub all_ended : (number : ℕ) → Appends now new (page_end (form_of w.writer.selection.query.now) None)
         → number ≡ min (w.writer.count + 1) (2 ^ 64 - 1) → WrotePages q lines sizes start new number
-    all_ended number a n = wrote_whole q sizes w.positive lines rise (captures q taken) start new all number
+    all_ended number a n = wrote_whole _ _ w.positive lines rise _ _ _ all number
         (rw (query_same, from_same, w.is.2) at (ended_stands _ _ _ _ _ _ _ _ _ w.wrote.1.1 w.wrote.1.2 new number a n))
 
     pub at_end : AppendsPrefix now new (page_end (form_of w.writer.selection.query.now) None)

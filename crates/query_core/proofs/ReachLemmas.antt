@@ -116,7 +116,7 @@ module _ {S : Type 0} {text : S → Option (List ℕ)} {extent gave : S → ℕ}
   pub cut_all : r.waiting ≡ [] → Cuts r.bound r.taken
   cut_all none = λ texts indexes known are.
       let whole = wanted_whole r texts known indexes are none in
-      record { back = []; whole = grind (arith, append-nil); later = λ m upto. tt }
+      record { back = []; whole = grind (arith, append-nil); later = grind arith }
 
   -- behind the lines before the pair that was taken last
   pub cut_last : (pair : Pair) (earlier others : List Member) → r.bound ≡ Some pair → r.taken ≡ earlier ++ others
@@ -153,7 +153,7 @@ module _ {S : Type 0} {text : S → Option (List ℕ)} {extent gave : S → ℕ}
   as_long = grind (arith, AllZip-long, length_zip)
 
   kept_now : map text r.sources ≡ map text olds
-  kept_now = grind (arith, as_long, texts_kept)
+  kept_now = grind (arith, AllZip-long, length_zip, texts_kept)
 
   -- what sources gave that were read up to the bound
   pub gave_upto : (bound : Option Pair) (earlier : List Member) (news : List S) (feeds : List Feed) → Cuts bound earlier
@@ -161,15 +161,12 @@ module _ {S : Type 0} {text : S → Option (List ℕ)} {extent gave : S → ℕ}
       → OverTexts (map text olds) (λ texts. AreReadTo LINE_LIMIT (is_past q.target) text bound news feeds)
       → GaveFor q (map text olds) extent gave earlier olds news
   gave_upto bound earlier news feeds cuts moved long reads = λ texts indexes known are limit most.
-      let test = in_reach q q.resume limit (collection indexes) in
       let all = AllZip-long (Move text extent gave) (zip r.opened r.begun) (zip news feeds) moved in
       let pass = passes q indexes bound earlier (cuts texts indexes known are) limit most in
-      subst (λ ys. AllGaveWithin extent gave test texts indexes olds ys)
-      (firsts news feeds (omega (arith, all, long, length_zip r.opened r.begun r.start.same)))
-      (gave_most LINE_LIMIT (is_past q.target) (start_pair q q.resume) bound test pass text extent gave olds
-      (zip r.opened r.begun) (zip news feeds) texts indexes known
-      (tell_both LINE_LIMIT (is_past q.target) (start_pair q q.resume) bound test pass text extent gave r.opened r.begun
-      texts r.start.same (known_opened r texts known)) are r.start.came moved r.start.cut (reads texts known))
+      let tells = tell_both LINE_LIMIT _ _ _ _ pass text extent gave _ _ _ r.start.same (known_opened r texts known) in
+      rw (firsts news feeds (omega (arith, all, long, length_zip r.opened r.begun r.start.same))) at
+      (gave_most LINE_LIMIT _ _ _ _ pass text extent gave olds _ (zip news feeds) _ _ known tells are r.start.came moved
+      r.start.cut (reads texts known))
 
   -- what they gave of which these lines were taken
   pub gave_within : (earlier : List Member) → Cuts r.bound earlier
@@ -181,8 +178,8 @@ module _ {S : Type 0} {text : S → Option (List ℕ)} {extent gave : S → ℕ}
     -- no more lines were read than are in reach, and one of each index
     pub lines_within : (earlier : List Member) → Cuts r.bound earlier → ReadFor q (map text olds) earlier lines
     lines_within earlier cuts = λ texts indexes known are limit most.
-        let h = lines_most _ _ _ _ _ (passes q indexes r.bound earlier (cuts texts indexes known are) limit most) text _ _ _ r.sources
-        r.feeds texts indexes r.reached.ready.same (rw kept_now known) are
+        let h = lines_most _ _ _ _ _ (passes q indexes r.bound earlier (cuts texts indexes known are) limit most) text
+        _ _ _ r.sources r.feeds texts indexes r.reached.ready.same (rw kept_now known) are
         (two_each (Move text extent gave)
         (λ (x : S × Feed). IsCutAt LINE_LIMIT (start_pair q q.resume) (text x.0) x.1.cursor)
         (λ (x : S × Feed). IsCutAt LINE_LIMIT (start_pair q q.resume) (text x.0) x.1.cursor)
@@ -214,7 +211,10 @@ module _ {S : Type 0} {text : S → Option (List ℕ)} {extent gave : S → ℕ}
 
   -- they are lines of the sources, which over indexes come first
   pub took : Took q (map text olds) r.taken
-  took = record { lines = lines_taken r; first = λ texts indexes known are. let f = wanted_first r texts known indexes are in (f.0, f.1) }
+  took = record {
+    lines = lines_taken r;
+    first = λ texts indexes known are. let f = wanted_first r texts known indexes are in (f.0, f.1);
+  }
 
 pub within_opening : {S : Type 0} (text : S → Option (List ℕ)) (extent gave : S → ℕ) (test : Member → Bool)
     (texts : List (List ℕ)) (indexes : List (List Member)) (olds news : List S) → Known (map text olds) texts
@@ -222,4 +222,5 @@ pub within_opening : {S : Type 0} (text : S → Option (List ℕ)) (extent gave 
     → AllZip (λ x y. OpenedWithin (text x) (extent x) (gave x) (gave y)) olds news
     → AllGaveWithin extent gave test texts indexes olds news
 within_opening text extent gave test [] indexes xs ys known are opened = grind arith
-within_opening text extent gave test (t ∷ ts) indexes xs ys known are opened = grind (arith, within_opening text extent gave test ts)
+within_opening text extent gave test (t ∷ ts) indexes xs ys known are opened =
+    grind (arith, within_opening text extent gave test ts)

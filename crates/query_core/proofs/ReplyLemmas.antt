@@ -36,14 +36,12 @@ shorter : (t : Bool) (l : List ℕ) → length l ≤ length (cond t (take (lengt
 shorter t l = grind (arith, length-take)
 
 module _ (limit : ℕ) (IsReply : List ℕ → List ℕ → Type 0) where
-  abbrev Reply : List ℕ → List ℕ → Type 0
-  Reply line reply = IsLineReply limit IsReply (without_carriage_return line) reply
-
   abbrev Marked : List ℕ → List ℕ → Type 0
   Marked line text = IsMarkedReply limit IsReply (without_carriage_return line) text
 
   held : (line seen text : List ℕ) → line ≡ take (limit + 2) seen → Marked line text → Marked seen text
-  held line seen text is marked = grind (arith, ltb-true, length-take, shorter, slice_index, lt-ltb, take_all, ltb-false, nat_lt)
+  held line seen text is marked =
+      grind (arith, ltb-true, length-take, shorter, slice_index, lt-ltb, take_all, ltb-false, nat_lt)
 
   -- ---- the conversation
 

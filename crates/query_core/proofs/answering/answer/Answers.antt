@@ -11,8 +11,8 @@ use Rattle.page_writers.specs.PageWriting.{page_over}
 use Rattle.page_writers.specs.QueryPages.{query_page}
 use Rattle.devices.specs.Device.{Grows}
 use Rattle.query_core.specs.Reach.{GaveInReach}
-use Rattle.query_core.proofs.AskedLemmas.{Beginning, Writing, captures, asked_is, end_front, page_broke, page_ended, passed, settles}
-use Rattle.query_core.proofs.AskedLemmas.{stood}
+use Rattle.query_core.proofs.AskedLemmas.{Beginning, Writing, captures, asked_is, end_front, page_broke}
+use Rattle.query_core.proofs.AskedLemmas.{page_ended, passed, settles, stood}
 use Rattle.page_core.proofs.PageLemmas.{front-start}
 use Rattle.query_core.proofs.PageReach.{page_fewer, page_not_reached, page_reached, within}
 use Rattle.query_core.proofs.answering.answer.Given.{Over}
@@ -98,7 +98,8 @@ pub returns-in_err-pass-clause-page : goal.returns-in_err-pass-clause-page
 returns-in_err-pass-clause-page g c = λ texts indexes known are.
     let broke = c.in_err-pass.ensures.broke in
     let first = broke.took.first texts indexes known are in
-    let p = page_broke (begin g (goal.at.returns-in_err-pass-clause-page g c).In_ok-writer) _ _ broke.wrote _ _ first.1 in
+    let p = page_broke (begin g (goal.at.returns-in_err-pass-clause-page g c).In_ok-writer) _ _ broke.wrote _ _
+    first.1 in
     grind (arith, err_from_is_err_and)
 
 pub returns-in_err-end-clause-page : goal.returns-in_err-end-clause-page

@@ -35,15 +35,16 @@ pub returns-in_err-writer-clause-bytes : goal.returns-in_err-writer-clause-bytes
 returns-in_err-writer-clause-bytes g c = grind (arith, within_opening, two_same)
 
 pub returns-in_err-read_lines-clause-bytes : goal.returns-in_err-read_lines-clause-bytes
-returns-in_err-read_lines-clause-bytes g c = λ texts indexes known are. c.in_err-read_lines.ensures.halted.before.within _ _ known are None tt
+returns-in_err-read_lines-clause-bytes g c = λ texts indexes known are.
+    c.in_err-read_lines.ensures.halted.before.within _ _ known are None tt
 
 pub returns-clause-bytes : goal.returns-clause-bytes
-returns-clause-bytes g c = λ texts indexes known are. c.in_ok-read_lines.ensures.took.before.within texts
-    indexes known are None tt
+returns-clause-bytes g c = λ texts indexes known are.
+    c.in_ok-read_lines.ensures.took.before.within _ _ known are None tt
 
 pub returns-in_err-end-clause-bytes : goal.returns-in_err-end-clause-bytes
-returns-in_err-end-clause-bytes g c = λ texts indexes known are. c.in_ok-read_lines.ensures.took.before.within texts
-    indexes known are None tt
+returns-in_err-end-clause-bytes g c = λ texts indexes known are.
+    c.in_ok-read_lines.ensures.took.before.within _ _ known are None tt
 
 -- ---- the pages of lines that rise by place, of which those that were read come first
 

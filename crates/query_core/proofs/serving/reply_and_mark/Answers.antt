@@ -14,14 +14,15 @@ Is indexes = IsOneReply (reply_of QUERY_LIMIT (collection indexes))
 
 pub returns-in_err-reply_to_line-clause-text : goal.returns-in_err-reply_to_line-clause-text
 returns-in_err-reply_to_line-clause-text g c = λ texts indexes known are.
-    rw (err_from_is_err_and c.from_residual.result c.from_residual.ensures.1).1 (unmarked_reply QUERY_LIMIT (Is indexes) c.args.line.now (g.O.Output.written c.args.out.now)
-    (g.O.Output.written c.reply_to_line.new.out) (c.in_err-reply_to_line.ensures.text texts indexes known are))
+    let u = unmarked_reply QUERY_LIMIT (Is indexes) c.args.line.now _ _
+    (c.in_err-reply_to_line.ensures.text texts indexes known are) in
+    grind (arith, err_from_is_err_and)
 
 pub returns-in_err-reply_to_line-clause-lines : goal.returns-in_err-reply_to_line-clause-lines
 returns-in_err-reply_to_line-clause-lines g c =
-    rw (err_from_is_err_and c.from_residual.result c.from_residual.ensures.1).1 (unmarked_reply QUERY_LIMIT (IsTextReply (map g.S.Source.text c.args.sources.now)) c.args.line.now
-    (g.O.Output.written c.args.out.now) (g.O.Output.written c.reply_to_line.new.out)
-    c.in_err-reply_to_line.ensures.lines)
+    let u = unmarked_reply QUERY_LIMIT (IsTextReply (map g.S.Source.text c.args.sources.now)) c.args.line.now _ _
+    c.in_err-reply_to_line.ensures.lines in
+    grind (arith, err_from_is_err_and)
 
 pub returns-clause-text : goal.returns-clause-text
 returns-clause-text g c = grind (arith, marked_reply)

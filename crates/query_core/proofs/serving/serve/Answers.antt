@@ -57,9 +57,8 @@ pub returns-in_err-reply_and_mark-clause-part : goal.returns-in_err-reply_and_ma
 returns-in_err-reply_and_mark-clause-part g c = λ texts indexes known are.
     let inv = c.loop-lines.invariant in
     let t = turn g (goal.at.returns-in_err-reply_and_mark-clause-part g c).After-reply_and_mark in
-    let s = line-within t (IsOneReply (reply indexes)) (inv.told texts indexes known are)
-    (rw c.line.ensures at (c.in_err-reply_and_mark.ensures.text texts indexes (rw inv.kept.0 known) are)) in
-    grind (arith, one_reply_part)
+    let text = rw c.line.ensures at (c.in_err-reply_and_mark.ensures.text texts indexes (rw inv.kept.0 known) are) in
+    grind (arith, one_reply_part, line-within t (IsOneReply (reply indexes)) (inv.told texts indexes known are))
 
 pub returns-in_err-reply_and_mark-clause-lines : goal.returns-in_err-reply_and_mark-clause-lines
 returns-in_err-reply_and_mark-clause-lines g c =
