@@ -1,6 +1,5 @@
 -- One page of a query, by what was taken of its sources, and by what a writer has written.
-use Rattle.std.proofs.Common.{arith, ◌≡◌, ◌⊎◌, List, [], ◌++◌, Bool, true, false, not}
-use Rattle.std.proofs.Common.{ℕ, Option, Some}
+use Rattle.std.proofs.Common.{arith, ◌≡◌, ◌⊎◌, List, [], ◌++◌, Bool, true, false, not, ℕ, Option, Some}
 use Rattle.std.specs.Option.{is_some}
 use Rattle.std.specs.Io.KnownBytes.{Appends}
 use Rattle.cdxj_places.specs.Places.{PlaceValue}

@@ -1,6 +1,5 @@
 -- The reply to a line, by what the line is.
-use Rattle.std.proofs.Common.{arith, ◌≡◌, ℕ, List, [], ◌++◌, length, false, refl, nat_lt, Option, Some, Result}
-use Rattle.std.proofs.Common.{Ok, Err}
+use Rattle.std.proofs.Common.{arith, ◌≡◌, ℕ, List, [], ◌++◌, length, false, refl, nat_lt, Option, Some, Result, Ok, Err}
 use Rattle.std.specs.Prelude.{codes}
 use Rattle.std.specs.Str.{is_utf8}
 use Rattle.std.specs.Io.KnownBytes.{Appends}
@@ -36,9 +35,6 @@ marked (Err e) old mid new text mark a w = prefix_after old mid new text mark a 
 
 module _ (told : List (Option (List ℕ))) (q : QueryValue) (lines : List Member) (are : AreLinesOf LINE_LIMIT told lines)
   where
-    pub page_reply : IsPageReply told q (answer_text q (query_page q lines))
-    page_reply = grind arith
-
     -- the fault of a line after a front of the page
     pub fault_reply : {A E : Type 0} (r : Result A E) (old mid new : Option (List ℕ)) (fault : AnswerFault)
         (line : List ℕ) → AppendsPrefix old mid (answer_text q (query_page q lines))

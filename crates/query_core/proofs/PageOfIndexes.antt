@@ -1,8 +1,8 @@
 -- What was taken of indexes, beside all that is wanted of their collection.
 use Rattle.query_core.proofs.AskedLemmas.{captures}
 use Rattle.std.proofs.Common.{arith, ◌≡◌, inl, inr, ℕ, List, [], ◌∷◌, ◌++◌, length, map, filter, zip, Bool, true, false}
-use Rattle.std.proofs.Common.{not, ◌&&◌, Option, refl, cond, Some, None, zero, suc, ◌≤◌}
-use Rattle.std.proofs.Common.{Ordering, nat_cmp, is_gt, is_lt, All, eqb-true, replicate}
+use Rattle.std.proofs.Common.{not, ◌&&◌, Option, refl, cond, Some, None, zero, suc, ◌≤◌, Ordering, nat_cmp, is_gt}
+use Rattle.std.proofs.Common.{is_lt, All, eqb-true, replicate}
 use Rattle.std.specs.List.{AllZip, AllByRecursion}
 use Rattle.cdxj_places.specs.Pair.{is_stamp, key_part, stamp_part, begins_with_pair}
 use Rattle.cdxj_places.specs.Pairs.{Pair, pair_cmp}

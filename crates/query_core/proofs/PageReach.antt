@@ -1,7 +1,6 @@
 -- What was read for a page, beside its reach.
-use Rattle.std.proofs.Common.{◌≡◌, ℕ, zero, suc, ◌≤◌, List, [], ◌∷◌, ◌++◌, length, map, Bool, true, false, Option}
-use Rattle.std.proofs.Common.{None, Some, refl, arith, length-append, length-take, ◌-◌, ◌^◌}
-use Rattle.std.proofs.Common.{filter, min}
+use Rattle.std.proofs.Common.{◌≡◌, ℕ, zero, suc, ◌≤◌, List, [], ◌∷◌, ◌++◌, length, map, Bool, true, false, Option, None}
+use Rattle.std.proofs.Common.{Some, refl, arith, length-append, length-take, ◌-◌, ◌^◌, filter, min}
 use Rattle.std.specs.Io.KnownBytes.{Appends}
 use Rattle.std.specs.Option.{is_some}
 use Rattle.std.proofs.Math.Seq.{take-append_seam}
@@ -29,7 +28,7 @@ use Rattle.query_core.proofs.ReachLemmas.{within_opening}
 use Rattle.merge_core.proofs.Many.{two_same}
 use Rattle.page_writers.proofs.WriterLemmas.{page, next_none, page_front}
 use Rattle.std.proofs.lemmas.List.Concat.{length-flat_map}
-use Rattle.std.proofs.lemmas.List.Sums.{sum-map}
+use Rattle.std.proofs.lemmas.List.Sums.{count_by-le-length, length-filter, sum-map}
 use Rattle.cdxj_places.specs.Rising.{put, rising}
 
 -- an empty page has none
@@ -94,10 +93,6 @@ page_not_reached text extent gave q texts indexes old new sources known are grow
 
 -- ---- a page has no more captures than lines were read
 
-filter_fewer : (f : Member → Bool) (ms : List Member) → length (filter f ms) ≤ length ms
-filter_fewer f [] = omega arith
-filter_fewer f (m ∷ ms) = grind (arith, filter_fewer f ms)
-
 kept_fewer : (same : PlaceValue → PlaceValue → Bool) (p : Option PlaceValue) (ms : List Member)
     → length (kept member_place same p ms) ≤ length ms
 kept_fewer same p [] = omega arith
@@ -115,4 +110,14 @@ pub page_fewer : (q : QueryValue) (parts : List (List Member)) (given lines : �
     ≡ min (length (query_page q (collection parts)).members) (2 ^ 64 - 1)
     → lines ≡ min (sum (map (λ (ms : List Member). length ms) parts)) (2 ^ 64 - 1) → given ≤ lines
 page_fewer q parts given lines g l =
-    grind (arith, asked_is, kept_fewer, filter_fewer, length-take, rising_fewer, length-flat_map, sum-map)
+    grind (
+      arith,
+      asked_is,
+      kept_fewer,
+      length-filter,
+      count_by-le-length,
+      length-take,
+      rising_fewer,
+      length-flat_map,
+      sum-map,
+    )

@@ -1,7 +1,7 @@
 -- What was read of indexes, beside the reach of a page.
 use Rattle.std.proofs.Common.{◌≡◌, ℕ, zero, suc, ◌≤◌, List, [], ◌∷◌, ◌++◌, length, map, filter, zip, Bool, true, false}
-use Rattle.std.proofs.Common.{not, Option, Some, refl, sym, ap, ◌∙◌, subst, arith, min, ◌-◌, ◌^◌}
-use Rattle.std.proofs.Common.{append_assoc, append-nil, nat_cmp, is_gt, is_lt}
+use Rattle.std.proofs.Common.{not, Option, Some, refl, sym, ap, ◌∙◌, subst, arith, min, ◌-◌, ◌^◌, append_assoc}
+use Rattle.std.proofs.Common.{append-nil, nat_cmp, is_gt, is_lt}
 use Rattle.std.specs.List.{AllByRecursion, sum, AllZip}
 use Rattle.std.specs.Cmp.Lexicographic.{slice_cmp}
 use Rattle.std.specs.FinMap.{slice_cmp-IsAntisymmetric}

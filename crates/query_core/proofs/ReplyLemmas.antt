@@ -14,8 +14,8 @@ use Rattle.devices.proofs.WritingLemmas.{prefix_longer, prefix_after, prefix_who
 use Rattle.devices.specs.LineCuts.{cut_lines, input_lines, without_carriage_return}
 use Rattle.devices.specs.LineReading.{TakesLine, CountsTaken}
 use Rattle.query_core.specs.Replies.{marked_reply}
-use Rattle.query_core.specs.Conversations.{IsLineReply, IsMarkedReply, IsOneReply, Replied, RepliedInPart}
-use Rattle.query_core.specs.Conversations.{RepliedSoFar, RepliedToAll, RepliedToFirst}
+use Rattle.query_core.specs.Conversations.{IsLineReply, IsMarkedReply, IsOneReply, Replied, RepliedInPart, RepliedSoFar}
+use Rattle.query_core.specs.Conversations.{RepliedToAll, RepliedToFirst}
 
 -- ---- lists of lines and of their replies
 
@@ -63,7 +63,7 @@ module _ (limit : ℕ) (IsReply : List ℕ → List ℕ → Type 0) where
     map without_carriage_return done,
     map without_carriage_return (cut_lines now),
     texts,
-    split input done (cut_lines now) cut,
+    grind (arith, map-append),
     grind (arith, zip_map),
     grind (arith, append-nil, prefix_whole),
   )

@@ -11,8 +11,8 @@ use Rattle.page_writers.specs.PageWriting.{page_over}
 use Rattle.page_writers.specs.QueryPages.{query_page}
 use Rattle.devices.specs.Device.{Grows}
 use Rattle.query_core.specs.Reach.{GaveInReach}
-use Rattle.query_core.proofs.AskedLemmas.{Beginning, Writing, captures, asked_is, end_front, page_broke}
-use Rattle.query_core.proofs.AskedLemmas.{page_ended, passed, settles, stood}
+use Rattle.query_core.proofs.AskedLemmas.{Beginning, Writing, captures, asked_is, end_front, page_broke, page_ended}
+use Rattle.query_core.proofs.AskedLemmas.{passed, settles, stood}
 use Rattle.page_core.proofs.PageLemmas.{front-start}
 use Rattle.query_core.proofs.PageReach.{page_fewer, page_not_reached, page_reached, within}
 use Rattle.query_core.proofs.answering.answer.Given.{Over}

@@ -29,7 +29,6 @@ pub loop-previous-preserved : goal.loop-previous-preserved
 loop-previous-preserved g c =
     let inv = c.loop-previous.invariant in
     let ok = c.in_ok-line.ensures in
-    let counted = rw c.in-Some.is at ok.count in
     record {
       text = cc;
       extent = cc;
@@ -39,18 +38,13 @@ loop-previous-preserved g c =
       offset = c.at-offset.ensures;
       long = inv.long;
       told = λ t e.
-          let told : g.S.Source.text c.loop-previous.source ≡ Some t = inv.text ∙ e in
-          let next = rw c.in-Some.is at (ok.line t told) in
-          rw (counted, c.replace.ensures.after) (checked_more LINE_LIMIT t (inv.told t e) _ _ next
+          let next = rw c.in-Some.is at (ok.line t (inv.text ∙ e)) in
+          rw (rw c.in-Some.is at ok.count, c.replace.ensures.after) (checked_more LINE_LIMIT t (inv.told t e) _ _ next
           (rw c.deref.ensures at (c.falls_after.ensures.stays c.if-falls_after.false)));
     }
 
 pub returns-clause-checked : goal.returns-clause-checked
-returns-clause-checked g c =
+returns-clause-checked g c = λ t e.
     let inv = c.loop-previous.invariant in
-    let ok = c.in_ok-line.ensures in
-    λ t e.
-    let told : g.S.Source.text c.loop-previous.source ≡ Some t = inv.text ∙ e in
-    checked_whole LINE_LIMIT t (inv.told t e)
-    c.next_line.new.cursor.at c.count.result (value c.in_ok-line.field-0) (ok.line t told)
+    checked_whole LINE_LIMIT t (inv.told t e) _ c.count.result _ (c.in_ok-line.ensures.line t (inv.text ∙ e))
     (grind arith) (grind arith)

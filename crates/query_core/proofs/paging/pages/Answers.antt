@@ -1,6 +1,5 @@
 use Rattle.query_core.proofs.AskedLemmas.{captures}
-use Rattle.std.proofs.Common.{arith, rules, ◌≡◌, ◌++◌, List, [], append-nil, true, refl, sym}
-use Rattle.std.proofs.Common.{None}
+use Rattle.std.proofs.Common.{arith, rules, ◌≡◌, ◌++◌, List, [], append-nil, true, refl, sym, None}
 use Rattle.std.proofs.lemmas.Bool.{true_from_ne_false}
 use Rattle.std.proofs.lemmas.Result.{err_from_is_err_and}
 use Rattle.cdxj_places.specs.Places.{place_cmp}

@@ -1,6 +1,5 @@
 use Rattle.query_core.proofs.AskedLemmas.{captures}
-use Rattle.std.proofs.Common.{◌≡◌, Bool, true, false, refl, sym, ◌∙◌, arith, [], ap}
-use Rattle.std.proofs.Common.{append-nil, Some}
+use Rattle.std.proofs.Common.{◌≡◌, Bool, true, false, refl, sym, ◌∙◌, arith, [], ap, append-nil, Some}
 use Rattle.std.proofs.lemmas.List.{length-map}
 use Rattle.std.proofs.lemmas.Result.{err_from_is_err_and}
 use Rattle.query_core.proofs.ConversionLemmas.{merge_line}
@@ -10,6 +9,10 @@ use Rattle.page_writers.proofs.CaptureLemmas.{captures_append}
 use Rattle.query_core.proofs.PageOfIndexes.{Opened, reading, told, wanted_whole}
 use Rattle.query_core.proofs.ReachLemmas.{cut_all, cut_before, cut_last, gave_upto, gave_within, lines_within, of_parts}
 use Rattle.query_core.proofs.ReachLemmas.{took, within_opening}
+use Rattle.query_core.specs.Passes.{ReadFor, WantedMore}
+use Rattle.cdxj_core.specs.Members.{Member}
+use Rattle.query_core.specs.Starts.{start_pair}
+use Rattle.std.proofs.Common.{List, map, ◌++◌}
 use Rattle.query_core.proofs.pass.read_lines.Given.{Over}
 use Rattle.query_core.proofs.pass.read_lines.Goals.{In_ok-opened}
 use Rattle.query_core.proofs.pass.read_lines.Goals as goal
@@ -42,8 +45,7 @@ returns-in_err-opened-clause-broke g c =
 
 pub returns-in_err-opened-clause-halted : goal.returns-in_err-opened-clause-halted
 returns-in_err-opened-clause-halted g c =
-    let p = err_from_is_err_and c.from_residual.result c.from_residual.ensures.1 in
-    rw p.1 (record {
+    rw (err_from_is_err_and c.from_residual.result c.from_residual.ensures.1).1 (record {
       earlier = [];
       first = λ texts indexes known are. (_, refl);
       before = record {
@@ -51,7 +53,7 @@ returns-in_err-opened-clause-halted g c =
         middle = _;
         more = λ f. f;
         came = λ begin start h. h;
-        within = grind (arith, within_opening);
+        within = λ texts indexes known are limit most. grind (arith, within_opening);
       };
       grows = grows_not _;
     })
@@ -65,8 +67,7 @@ start g c = record {
   kept = c.open_at.ensures.text;
   same = c.in_ok-opened.ensures.ready.same;
   came = c.in_ok-opened.ensures.came;
-  cut = rw (ap (λ key. (key, c.start_pair-start.result.stamp)) c.as_bytes-key.ensures.value
-      ∙ c.start_pair-start.ensures) at c.in_ok-opened.ensures.cut;
+  cut = rw (c.as_bytes-key.ensures.value, c.start_pair-start.ensures) at c.in_ok-opened.ensures.cut;
 }
 
 pub returns-in_err-all-clause-broke : goal.returns-in_err-all-clause-broke
@@ -106,45 +107,40 @@ pub returns-clause-took : goal.returns-clause-took
 returns-clause-took g c =
     let q = c.args.query.now in
     let passed = c.in_ok-all.ensures.passed in
-    let came = passed.so_far.came in
     let r = reading (start g (goal.at.returns-clause-took g c).In_ok-opened)
     (rw c.target.ensures at passed.so_far.reached) in
+    let t = took r in
     let read = of_parts r c.lines.result c.lines.ensures c.in_ok-all.all passed.ended in
-    by_truth c.in_ok-all.all _ (λ e. record {
-      lines = r.taken;
-      came = came;
-      took = took r;
-      whole = λ e texts indexes known are. wanted_whole r texts known indexes are (passed.ended e);
-      parts = read;
-      earlier = r.taken;
-      later = [];
-      split = sym (append-nil (captures q r.taken));
-      before = record {
-        state = c.merge.new.sink;
-        middle = g.O.Output.written c.merge.new.out;
-        more = passed.further e;
-        came = came;
-        within = gave_within r r.taken (cut_all r (passed.ended e));
-      };
-      few = lines_within r c.lines.result c.lines.ensures r.taken (cut_all r (passed.ended e));
-    }) (λ e.
+    let wanted = by_truth c.in_ok-all.all ((earlier : List Member) × (later : List Member)
+    × (captures q r.taken ≡ captures q earlier ++ later) × WantedMore g.K.Sink.Wrote g.K.Sink.Broke g.K.Sink.Enough
+    g.S.Source.text g.S.Source.extent g.S.Source.gave q c.args.sources.now c.merge.new.sources c.args.sink.now
+    (g.O.Output.written c.args.out.now) earlier
+    × ReadFor q (map g.S.Source.text c.args.sources.now) earlier c.lines.result) (λ e.
+    let cut = cut_all r (passed.ended e) in
+    let came = passed.so_far.came in (
+      r.taken,
+      [],
+      sym (append-nil _),
+      record { state = _; middle = _; more = passed.further e; came = came; within = gave_within r r.taken cut },
+      lines_within r c.lines.result c.lines.ensures r.taken cut,
+    )) (λ e.
     let l = passed.last e in
-    let cut = cut_last r l.pair l.earlier l.group l.bound_is l.split l.alike in
+    let cut = cut_last r l.pair l.earlier l.group l.bound_is l.split l.alike in (
+      l.earlier,
+      _,
+      ap (captures q) l.split ∙ captures_append q q.resume l.earlier l.group,
+      record { state = l.state; middle = l.middle; more = l.more; came = l.came; within = gave_within r l.earlier cut },
+      lines_within r c.lines.result c.lines.ensures l.earlier cut,
+    )) in
     record {
       lines = r.taken;
-      came = came;
-      took = took r;
+      came = passed.so_far.came;
+      took = t;
       whole = λ e texts indexes known are. wanted_whole r texts known indexes are (passed.ended e);
       parts = read;
-      earlier = l.earlier;
-      later = _;
-      split = ap (captures q) l.split ∙ captures_append q q.resume l.earlier l.group;
-      before = record {
-        state = l.state;
-        middle = l.middle;
-        more = l.more;
-        came = l.came;
-        within = gave_within r l.earlier cut;
-      };
-      few = lines_within r c.lines.result c.lines.ensures l.earlier cut;
-    })
+      earlier = wanted.0;
+      later = wanted.1;
+      split = wanted.2;
+      before = wanted.3;
+      few = wanted.4;
+    }

@@ -6,8 +6,8 @@ use Rattle.query_text.specs.declared.query.TheConstants.{QUERY_LIMIT}
 use Rattle.merge_core.specs.Collections.{collection}
 use Rattle.query_core.specs.Conversations.{IsOneReply}
 use Rattle.query_core.specs.Replies.{reply_of}
-use Rattle.query_core.proofs.ReplyLemmas.{Turn, line-more, line-none, line-within, nothing_replied}
-use Rattle.query_core.proofs.ReplyLemmas.{one_reply, one_reply_part, replied-front, replied-none}
+use Rattle.query_core.proofs.ReplyLemmas.{Turn, line-more, line-none, line-within, nothing_replied, one_reply}
+use Rattle.query_core.proofs.ReplyLemmas.{one_reply_part, replied-front, replied-none}
 use Rattle.std.proofs.lemmas.Result.{err_from_is_err_and}
 use Rattle.query_core.proofs.serving.serve.Given.{Over}
 use Rattle.query_core.proofs.serving.serve.Goals.{After-reply_and_mark}
