@@ -1,12 +1,11 @@
 -- One page of a query, by what was taken of its sources, and by what a writer has written.
-use Rattle.std.proofs.Common.{arith, ◌≡◌, ◌⊎◌, List, [], ◌++◌, Bool, true, false, not, ℕ, Option, Some}
+use Rattle.std.proofs.Common.{arith, ◌≡◌, ◌⊎◌, List, [], ◌++◌, Bool, true, false, ℕ, Option, Some}
 use Rattle.std.specs.Option.{is_some}
 use Rattle.std.specs.Io.KnownBytes.{Appends}
 use Rattle.cdxj_places.specs.Places.{PlaceValue}
 use Rattle.devices.specs.Device.{AppendsPrefix}
 use Rattle.devices.proofs.WritingLemmas.{prefix_longer}
 use Rattle.query_text.specs.Queries.{QueryValue}
-use Rattle.query_text.specs.Matching.{is_past}
 use Rattle.cdxj_core.specs.Members.{Member}
 use Rattle.page_core.specs.Pages.{Page}
 use Rattle.page_core.specs.PageText.{page_text, page_end, begun}
@@ -14,18 +13,13 @@ use Rattle.page_core.proofs.PageLemmas.{begun_is_front, written-whole, front-end
 use Rattle.page_writers.specs.declared.page_writer.PageEnd.{PageEnd}
 use Rattle.page_writers.specs.declared.page_writer.PageWriter.{PageWriter}
 use Rattle.page_writers.specs.QueryPages.{answer_text, form_of, shown_key, query_page}
-use Rattle.page_writers.specs.PageWriting.{is_wanted, captures_over, page_over, next_of, PageStands}
+use Rattle.page_writers.specs.PageWriting.{captures_over, page_over, next_of, PageStands}
 use Rattle.page_writers.specs.WriterView.{from_view, Wrote, Broke}
 use Rattle.page_writers.proofs.CaptureLemmas.{filter_and}
 use Rattle.page_writers.proofs.WriterLemmas.{page, decided, next_is, page_front, whole_prefix}
 use Rattle.query_core.specs.Answering.{Answered}
 use Rattle.query_core.specs.declared.report.Report.{Report}
 use Rattle.query_core.specs.declared.sinks.PageSink.{PageSink}
-
--- what is wanted lies within the target's range
-pub wanted_within : (q : QueryValue) (from : Option PlaceValue) (m : Member) → is_wanted q from m ≡ true
-    → not (is_past q.target m.values.key) ≡ true
-wanted_within q from m h = grind arith
 
 -- what is wanted of these lines, collapsed
 abbrev pub captures : QueryValue → List Member → List Member

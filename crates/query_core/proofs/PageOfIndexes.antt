@@ -2,7 +2,7 @@
 use Rattle.query_core.proofs.AskedLemmas.{captures}
 use Rattle.std.proofs.Common.{arith, ◌≡◌, inl, inr, ℕ, List, [], ◌∷◌, ◌++◌, length, map, filter, zip, Bool, true, false}
 use Rattle.std.proofs.Common.{not, ◌&&◌, Option, refl, cond, Some, None, zero, suc, ◌≤◌, Ordering, nat_cmp, is_gt}
-use Rattle.std.proofs.Common.{is_lt, All, eqb-true, replicate}
+use Rattle.std.proofs.Common.{All, eqb-true, replicate}
 use Rattle.std.specs.List.{AllZip, AllByRecursion}
 use Rattle.cdxj_places.specs.Pair.{is_stamp, key_part, stamp_part, begins_with_pair}
 use Rattle.cdxj_places.specs.Pairs.{Pair, pair_cmp}
@@ -12,7 +12,7 @@ use Rattle.cdxj_core.specs.declared.limit.TheConstants.{LINE_LIMIT}
 use Rattle.cdxj_core.specs.Indexes.{IsIndex}
 use Rattle.cdxj_core.specs.Members.{Member, member_pair, line_entry, member_place}
 use Rattle.query_text.specs.Queries.{QueryValue}
-use Rattle.query_text.specs.Matching.{is_past, key_matches}
+use Rattle.query_text.specs.Matching.{is_past}
 use Rattle.query_text.proofs.RangeLaw.{past_upward, match_not_below}
 use Rattle.page_core.proofs.PageLaws.{each_kept}
 use Rattle.merge_core.specs.declared.feed.Feed.{Feed}
@@ -35,7 +35,7 @@ use Rattle.cdxj_places.specs.TextLines.{lines}
 use Rattle.cdxj_core.proofs.MemberLemmas.{entry_pair_is}
 use Rattle.merge_core.proofs.SourceLemmas.{taken_lines}
 use Rattle.std.specs.Char.{is_ascii_digit}
-use Rattle.std.specs.Ordering.{ordering_then, ordering_reverse}
+use Rattle.std.specs.Ordering.{ordering_then}
 use Rattle.std.specs.Cmp.Lexicographic.{slice_cmp}
 use Rattle.std.proofs.lemmas.Bool.Decides.{nat_tests}
 use Rattle.std.proofs.lemmas.List.Elements.{All-head, All-tail}
@@ -97,11 +97,6 @@ entries_are limit t ls [] sub e = grind arith
 entries_are limit t [] (m ∷ ms) sub e = cc
 entries_are limit t (l ∷ ls) (m ∷ ms) sub e = grind (arith, entries_are limit t ls ms)
 
--- the members of an index are lines of it
-index_lines : (limit : ℕ) (t : List ℕ) (ms : List Member) → IsIndex limit t ms
-    → AllByRecursion (IsLineIn limit t) ms
-index_lines limit t ms run = grind (arith, entries_are)
-
 -- every line has a stamp
 stamped : (f : Member → Bool) (xs : List Member) → AllByRecursion (λ m. is_stamp m.values.stamp ≡ true) xs
     → filter (λ m. f m && is_stamp m.values.stamp) xs ≡ filter f xs
@@ -113,8 +108,8 @@ index_stamps : (texts : List (List ℕ)) (indexes : List (List Member)) → AllZ
 index_stamps [] indexes are = grind arith
 index_stamps (t ∷ ts) [] are = absurd are
 index_stamps (t ∷ ts) (i ∷ is) are =
-    let here = each_weaker (λ (m : Member) (h : IsLineIn LINE_LIMIT t m). line_stamp LINE_LIMIT t m h) i
-    (index_lines LINE_LIMIT t i are.0) in
+    let lines : AllByRecursion (IsLineIn LINE_LIMIT t) i = grind (arith, entries_are) in
+    let here = each_weaker (λ (m : Member). line_stamp LINE_LIMIT t m) i lines in
     grind (arith, each_join, index_stamps ts is)
 
 -- a line of sources that tell their bytes has one

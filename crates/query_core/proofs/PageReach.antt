@@ -1,6 +1,6 @@
 -- What was read for a page, beside its reach.
 use Rattle.std.proofs.Common.{◌≡◌, ℕ, zero, suc, ◌≤◌, List, [], ◌∷◌, ◌++◌, length, map, Bool, true, false, Option, None}
-use Rattle.std.proofs.Common.{Some, refl, arith, length-append, length-take, ◌-◌, ◌^◌, filter, min}
+use Rattle.std.proofs.Common.{Some, refl, arith, length-append, length-take, ◌-◌, ◌^◌, min}
 use Rattle.std.specs.Io.KnownBytes.{Appends}
 use Rattle.std.specs.Option.{is_some}
 use Rattle.std.proofs.Math.Seq.{take-append_seam}

@@ -1,6 +1,6 @@
 -- What was read of indexes, beside the reach of a page.
 use Rattle.std.proofs.Common.{◌≡◌, ℕ, zero, suc, ◌≤◌, List, [], ◌∷◌, ◌++◌, length, map, filter, zip, Bool, true, false}
-use Rattle.std.proofs.Common.{not, Option, Some, refl, sym, ap, ◌∙◌, subst, arith, min, ◌-◌, ◌^◌, append_assoc}
+use Rattle.std.proofs.Common.{not, Option, Some, refl, sym, ap, ◌∙◌, arith, min, ◌-◌, ◌^◌, append_assoc}
 use Rattle.std.proofs.Common.{append-nil, nat_cmp, is_gt, is_lt}
 use Rattle.std.specs.List.{AllByRecursion, sum, AllZip}
 use Rattle.std.specs.Cmp.Lexicographic.{slice_cmp}
@@ -39,7 +39,7 @@ use Rattle.merge_core.proofs.RunLemmas.{parts_are, parts_count, parts_first, par
 use Rattle.merge_core.proofs.SpendLemmas.{are_read_to}
 use Rattle.merge_core.proofs.WholeLemmas.{texts_kept}
 use Rattle.query_text.proofs.RangeLaw.{past_upward}
-use Rattle.query_core.proofs.AskedLemmas.{captures, wanted_within}
+use Rattle.query_core.proofs.AskedLemmas.{captures}
 use Rattle.page_writers.specs.PageWriting.{is_wanted, place_before}
 use Rattle.query_core.specs.Reach.{pair_after, is_within, in_reach}
 use Rattle.query_core.specs.Passes.{AreAtMost, GaveFor, IsOfParts, ReadFor, Took}
@@ -195,18 +195,18 @@ module _ {S : Type 0} {text : S → Option (List ℕ)} {extent gave : S → ℕ}
         let read = parts LINE_LIMIT text r.sources r.feeds in
         let told_all = told r texts known in
         let found = parts_first _ _ _ _ _ (past_upward q.target) _ _ _ _ _ _ _ r.reached told_all
-        (is_wanted q q.resume) (wanted_within q q.resume) in
+        (is_wanted q q.resume) (λ m h. grind arith) in
+        let count = parts_count _ _ _ extent _ _ _ _ r.reached.ready.same
+        (told_moved _ _ _ _ _ _ _ r.reached.ready.same r.reached.moved told_all) r.reached.ready.fed in
         record {
           parts = read;
           each = λ whole is. parts_are _ _ _ extent _ _ _ _ _ _ r.reached.ready.same (rw kept_now known)
               r.reached.ready.fed r.reached.settled (λ e. ended (is e));
-          count = counted ∙ ap (λ n. min n (2 ^ 64 - 1))
-              (parts_count _ _ _ extent _ _ _ _ r.reached.ready.same
-              (told_moved _ _ _ _ _ _ _ r.reached.ready.same r.reached.moved told_all) r.reached.ready.fed);
+          count = cc;
           first = (_, captures_split q q.resume (collection read) r.taken found.0 found.1);
           ended = λ e. ap (kept_after q q.resume q.resume)
               (parts_whole _ _ _ _ _ (past_upward q.target) _ _ _ _ _ _ _ r.reached told_all
-              (is_wanted q q.resume) (wanted_within q q.resume) (ended e));
+              (is_wanted q q.resume) (λ m h. grind arith) (ended e));
         }
 
   -- they are lines of the sources, which over indexes come first

@@ -11,10 +11,10 @@ use Rattle.std.specs.Io.KnownBytes.{Appends, prepend_known}
 use Rattle.devices.specs.Device.{AppendsPrefix}
 use Rattle.devices.proofs.DeviceLemmas.{Appends-none, Appends-join}
 use Rattle.devices.proofs.WritingLemmas.{prefix_longer, prefix_after, prefix_whole}
-use Rattle.devices.specs.LineCuts.{cut_lines, input_lines, without_carriage_return}
+use Rattle.devices.specs.LineCuts.{cut_lines, without_carriage_return}
 use Rattle.devices.specs.LineReading.{TakesLine, CountsTaken}
 use Rattle.query_core.specs.Replies.{marked_reply}
-use Rattle.query_core.specs.Conversations.{IsLineReply, IsMarkedReply, IsOneReply, Replied, RepliedInPart, RepliedSoFar}
+use Rattle.query_core.specs.Conversations.{IsMarkedReply, IsOneReply, Replied, RepliedInPart, RepliedSoFar}
 use Rattle.query_core.specs.Conversations.{RepliedToAll, RepliedToFirst}
 
 -- ---- lists of lines and of their replies
@@ -51,10 +51,6 @@ module _ (limit : ℕ) (IsReply : List ℕ → List ℕ → Type 0) where
   replied-none (Some input) buffer old e =
       ([], [], ap (λ b. cut_lines (b ++ input)) (sym e), refl, tt, Appends-none old)
 
-  split : (input : List ℕ) (done later : List (List ℕ)) → cut_lines input ≡ done ++ later
-      → input_lines input ≡ map without_carriage_return done ++ map without_carriage_return later
-  split input done later cut = grind (arith, map-append)
-
   pub replied-front : (input now : Option (List ℕ)) (count : ℕ) (old new : Option (List ℕ))
       → RepliedSoFar limit IsReply input now count old new → RepliedToFirst limit IsReply input old new
   replied-front None now count old new s = tt
@@ -86,7 +82,7 @@ module _ (limit : ℕ) (IsReply : List ℕ → List ℕ → Type 0) where
           lines,
           texts ++ text ∷ [],
           grind (arith, append_assoc),
-          omega (arith, counted, length-append done (seen ∷ [])),
+          grind (arith, length-append),
           more,
           rw whole (Appends-join old new last (joined texts) text written a),
         ),
@@ -94,7 +90,7 @@ module _ (limit : ℕ) (IsReply : List ℕ → List ℕ → Type 0) where
           map without_carriage_return lines,
           map without_carriage_return (cut_lines rest),
           texts ++ text ∷ [],
-          grind (arith, split, append_assoc),
+          grind (arith, map-append, append_assoc),
           zip_map (IsMarkedReply limit IsReply) without_carriage_return lines (texts ++ text ∷ []) more,
           rw whole (prefix_after old new last (joined texts) text written p),
         ),

@@ -1,4 +1,4 @@
-use Rattle.std.proofs.Common.{◌≡◌, Box, Global, Option, Some, option_map, ◌∙◌, arith}
+use Rattle.std.proofs.Common.{Box, Global, Option, option_map, ◌∙◌, arith}
 use Rattle.std.proofs.lemmas.Result.{err_from_is_err_and}
 use Rattle.cdxj_core.specs.declared.limit.TheConstants.{LINE_LIMIT}
 use Rattle.cdxj_core.specs.declared.line.Line.{Line}

@@ -52,8 +52,8 @@ before : (g : Over) (c : In_err-writer g) → (lines : List Member) → Rises me
     (g.O.Output.written c.begin.new.out)
 before g c lines rise =
     let positive = all_positive c.args.sizes.now (search rules) in
-    let front = start_front c.args.query.now c.args.sizes.now _ _ positive c.in_err-writer.ensures.front in
-    wrote_front c.args.query.now c.args.sizes.now positive lines rise [] _ _ _ refl front
+    wrote_front c.args.query.now c.args.sizes.now positive lines rise [] _ _ _ refl
+    (start_front c.args.query.now c.args.sizes.now _ _ positive c.in_err-writer.ensures.front)
 
 abbrev writing : (g : Over) (c : In_ok-read_lines g) → WritingPages c.args.query.now c.args.sizes.now
     (g.O.Output.written c.args.out.now) (g.O.Output.written c.read_lines.new.out) c.in_ok-read_lines.ensures.took.lines

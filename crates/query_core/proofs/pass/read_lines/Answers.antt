@@ -1,5 +1,5 @@
 use Rattle.query_core.proofs.AskedLemmas.{captures}
-use Rattle.std.proofs.Common.{◌≡◌, Bool, true, false, refl, sym, ◌∙◌, arith, [], ap, append-nil, Some}
+use Rattle.std.proofs.Common.{◌≡◌, Bool, true, false, refl, sym, ◌∙◌, arith, [], ap, append-nil, Some, List, map, ◌++◌}
 use Rattle.std.proofs.lemmas.List.{length-map}
 use Rattle.std.proofs.lemmas.Result.{err_from_is_err_and}
 use Rattle.query_core.proofs.ConversionLemmas.{merge_line}
@@ -11,8 +11,6 @@ use Rattle.query_core.proofs.ReachLemmas.{cut_all, cut_before, cut_last, gave_up
 use Rattle.query_core.proofs.ReachLemmas.{took, within_opening}
 use Rattle.query_core.specs.Passes.{ReadFor, WantedMore}
 use Rattle.cdxj_core.specs.Members.{Member}
-use Rattle.query_core.specs.Starts.{start_pair}
-use Rattle.std.proofs.Common.{List, map, ◌++◌}
 use Rattle.query_core.proofs.pass.read_lines.Given.{Over}
 use Rattle.query_core.proofs.pass.read_lines.Goals.{In_ok-opened}
 use Rattle.query_core.proofs.pass.read_lines.Goals as goal
