@@ -31,16 +31,14 @@ marked (Err e) old mid new text mark a w = prefix_after old mid new text mark a 
 
 -- ---- the reply to a query
 
-module _ (told : List (Option (List ℕ))) (q : QueryValue) (lines : List Member) (are : AreLinesOf LINE_LIMIT told lines)
-  where
-    -- the fault of a line after a front of the page
-    pub fault_reply : {A E : Type 0} (r : Result A E) (old mid new : Option (List ℕ)) (fault : AnswerFault)
-        (line : List ℕ) → AppendsPrefix old mid (answer_text q (query_page q lines))
-        → IsAnswerFaultOf LINE_LIMIT told fault → fault_text fault ≡ Some line → WritesText r mid new line
-        → WritesSome r old new (IsPageReply told q)
-    fault_reply r old mid new fault line (rest, wrote) named is w =
-        let m = marked r old mid new wrote.front line wrote.grown w in
-        grind arith
+-- the fault of a line after a front of the page
+pub fault_reply : {A E : Type 0} (told : List (Option (List ℕ))) (q : QueryValue) (lines : List Member) (r : Result A E)
+    (old mid new : Option (List ℕ)) (fault : AnswerFault) (line : List ℕ) → AreLinesOf LINE_LIMIT told lines
+    → AppendsPrefix old mid (answer_text q (query_page q lines)) → IsAnswerFaultOf LINE_LIMIT told fault
+    → fault_text fault ≡ Some line → WritesText r mid new line → WritesSome r old new (IsPageReply told q)
+fault_reply told q lines r old mid new fault line are (rest, wrote) named is w =
+    let m = marked r old mid new wrote.front line wrote.grown w in
+    grind arith
 
 -- there is one
 pub some_reply : (told : List (Option (List ℕ))) (r : Result QueryValue QueryFault) → (reply : List ℕ)

@@ -38,22 +38,14 @@ writing g c =
     passed (begin g (goal.at.In_ok-pass g c).In_ok-writer) took.lines (g.O.Output.written c.read_lines.new.out)
     c.read_lines.new.sink took.came
 
--- the page of lines of which these were taken, if they settle it
-settled : (g : Over) (c : In_ok-pass g) (all rest : List Member) → captures c.args.query.now all
-    ≡ captures c.args.query.now c.in_ok-pass.ensures.took.lines ++ rest
-    → (c.in_ok-pass.pass.all ≡ true → captures c.args.query.now all
-    ≡ captures c.args.query.now c.in_ok-pass.ensures.took.lines)
-    → query_page c.args.query.now all ≡ page_over c.args.query.now c.args.query.now.resume c.args.query.now.limit
-    c.in_ok-pass.ensures.took.lines
-settled g c all rest split ended =
-    settles (writing g c) all c.in_ok-pass.pass.all rest split ended c.in_ok-pass.ensures.enough
-
+-- the page of the indexes is that of the lines that were taken
 settled_over : (g : Over) (c : In_ok-pass g) → OverIndexes LINE_LIMIT (map g.S.Source.text c.args.sources.now)
     (λ texts indexes. query_page c.args.query.now (collection indexes)
     ≡ page_over c.args.query.now c.args.query.now.resume c.args.query.now.limit c.in_ok-pass.ensures.took.lines)
 settled_over g c texts indexes known are =
     let first = c.in_ok-pass.ensures.took.took.first texts indexes known are in
-    settled g c (collection indexes) first.0 first.1 (grind arith)
+    settles (writing g c) (collection indexes) c.in_ok-pass.pass.all first.0 first.1 (grind arith)
+    c.in_ok-pass.ensures.enough
 
 -- ---- the page of lines of the sources
 
@@ -121,7 +113,8 @@ returns-clause-parts g c = λ texts known.
     let end = c.in_ok-end.ensures in
     let read = c.in_ok-pass.ensures.took.parts texts known in
     let here = (goal.at.returns-clause-parts g c).In_ok-pass in
-    let is = settled g here (collection read.parts) read.first.0 read.first.1 read.ended in
+    let is = settles (writing g here) (collection read.parts) c.in_ok-pass.pass.all read.first.0 read.first.1 read.ended
+    c.in_ok-pass.ensures.enough in
     let page = page_ended (writing g here) (collection read.parts) _ is c.in_ok-end.end _ end.text end.end refl
     c.is_some.ensures in
     let stands = stood (writing g here) in
