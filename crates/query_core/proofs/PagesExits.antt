@@ -1,6 +1,6 @@
 -- What a writer has written of pages, where it ends and where it fails.
 use Rattle.query_core.proofs.AskedLemmas.{captures}
-use Rattle.std.proofs.Common.{◌≡◌, ◌⊎◌, inl, inr, ℕ, ◌+◌, ◌++◌, ◌-◌, ◌^◌, List, min, Option, None}
+use Rattle.std.proofs.Common.{◌≡◌, ◌⊎◌, inl, inr, ℕ, ◌+◌, ◌++◌, ◌-◌, ◌^◌, List, [], min, Option, None}
 use Rattle.std.specs.Io.KnownBytes.{Appends}
 use Rattle.cdxj_core.specs.Members.{Member, member_place}
 use Rattle.devices.specs.Device.{AppendsPrefix}
@@ -17,17 +17,21 @@ use Rattle.page_writers.specs.QueryPages.{form_of}
 use Rattle.page_writers.specs.WriterView.{IsFront, PagesBroke, PagesWrote, from_view}
 use Rattle.page_writers.proofs.PagesLemmas.{ended_stands, ending_front, stands_front}
 
--- a writer that began with this query and these sizes wrote pages of the captures of these lines
-pub record WritingPages (q : QueryValue) (sizes : List ℕ) (start now : Option (List ℕ)) (taken : List Member) : Type 0
-  where
-    pub first : PagesWriter
-    pub is : (first.selection.query.now ≡ q) × (from_view first.selection.from ≡ q.resume) × (first.sizes.now ≡ sizes)
-    pub positive : AllPositive sizes
-    pub writer : PagesWriter
-    pub wrote : PagesWrote first.sizes.now first writer taken start now
+-- a writer that begins with this query and these sizes, and what was written then
+pub record BeginningPages (q : QueryValue) (sizes : List ℕ) (start mid : Option (List ℕ)) : Type 0 where
+  pub first : PagesWriter
+  pub is : (first.selection.query.now ≡ q) × (from_view first.selection.from ≡ q.resume) × (first.sizes.now ≡ sizes)
+  pub positive : AllPositive sizes
+  pub began : PagesWrote first.sizes.now first first [] start mid
 
-module _ {q : QueryValue} {sizes : List ℕ} {start now : Option (List ℕ)} {taken : List Member}
-    (w : WritingPages q sizes start now taken) where
+-- it wrote pages of the captures of these lines
+pub record WritingPages {q : QueryValue} {sizes : List ℕ} {start mid : Option (List ℕ)}
+    (b : BeginningPages q sizes start mid) (now : Option (List ℕ)) (taken : List Member) : Type 0 where
+  pub writer : PagesWriter
+  pub wrote : PagesWrote b.first.sizes.now b.first writer taken start now
+
+module _ {q : QueryValue} {sizes : List ℕ} {start mid now : Option (List ℕ)} {taken : List Member}
+    {b : BeginningPages q sizes start mid} (w : WritingPages b now taken) where
   query_same : w.writer.selection.query.now ≡ q
   query_same = cc
 
@@ -35,30 +39,32 @@ module _ {q : QueryValue} {sizes : List ℕ} {start now : Option (List ℕ)} {ta
   from_same = cc
 
   between : IsFront q sizes (captures q taken) start now
-  between = rw (query_same, from_same, w.is.2) at (stands_front _ _ _ _ _ _ _ _ _ w.wrote.1.1 w.wrote.1.2)
+  between = rw (query_same, from_same, b.is.2) at (stands_front _ _ _ _ _ _ _ _ _ w.wrote.1.1 w.wrote.1.2)
 
   -- the lines that were taken have all captures of these lines
   module _ (lines : List Member) (rise : Rises member_place place_cmp lines)
       (all : captures q lines ≡ captures q taken) (new : Option (List ℕ)) where
     pub all_ended : (number : ℕ) → Appends now new (page_end (form_of w.writer.selection.query.now) None)
         → number ≡ min (w.writer.count + 1) (2 ^ 64 - 1) → WrotePages q lines sizes start new number
-    all_ended number a n = wrote_whole _ _ w.positive lines rise _ _ _ all number
-        (rw (query_same, from_same, w.is.2) at (ended_stands _ _ _ _ _ _ _ _ _ w.wrote.1.1 w.wrote.1.2 new number a n))
+    all_ended number a n = wrote_whole _ _ b.positive lines rise _ _ _ all number
+        (rw (query_same, from_same, b.is.2) at (ended_stands _ _ _ _ _ _ _ _ _ w.wrote.1.1 w.wrote.1.2 new number a n))
 
     pub at_end : AppendsPrefix now new (page_end (form_of w.writer.selection.query.now) None)
         → WrotePagesInPart q lines sizes start new
-    at_end p = wrote_most q sizes w.positive lines rise (captures q taken) start new all
-        (rw (query_same, from_same, w.is.2) at (ending_front _ _ _ _ _ _ _ _ _ w.wrote.1.1 w.wrote.1.2 new p))
+    at_end p = wrote_most q sizes b.positive lines rise (captures q taken) start new all
+        (rw (query_same, from_same, b.is.2) at (ending_front _ _ _ _ _ _ _ _ _ w.wrote.1.1 w.wrote.1.2 new p))
 
 -- the captures of the lines that were taken come first
-pub any_front : (first : PagesWriter) (q : QueryValue) (sizes : List ℕ)
-    (is : (first.selection.query.now ≡ q) × (from_view first.selection.from ≡ q.resume) × (first.sizes.now ≡ sizes))
-    (positive : AllPositive sizes) (start now : Option (List ℕ)) (lines taken rest : List Member)
+pub any_front : {q : QueryValue} {sizes : List ℕ} {start mid : Option (List ℕ)} (b : BeginningPages q sizes start mid)
+    (now : Option (List ℕ)) (lines taken rest : List Member) → ((first : PagesSink) → (start : Option (List ℕ))
+    → PagesWrote first.writer.sizes.now first.writer b.first [] start mid
+    → ((k : PagesSink) × PagesWrote first.writer.sizes.now first.writer k.writer taken start now)
+    ⊎ PagesBroke first.writer taken start now)
     → Rises member_place place_cmp lines → captures q lines ≡ captures q taken ++ rest
-    → ((k : PagesSink) × PagesWrote first.sizes.now first k.writer taken start now) ⊎ PagesBroke first taken start now
     → WrotePagesInPart q lines sizes start now
-any_front first q sizes is positive start now lines taken rest rise split (inl k) =
-    wrote_front q sizes positive lines rise (captures q taken) start now rest split
-    (between (record { first = first; is = is; positive = positive; writer = k.0.writer; wrote = k.1 }))
-any_front first q sizes is positive start now lines taken rest rise split (inr p) =
-    wrote_front q sizes positive lines rise (captures q taken) start now rest split (rw (is.0, is.1, is.2) at p)
+any_front {q} {sizes} {start} b now lines taken rest came rise split =
+    wrote_front q sizes b.positive lines rise (captures q taken) start now rest split
+    (elim (came (record { writer = b.first }) start b.began) [
+      | inl k ↦ between {b = b} (record { writer = k.0.writer; wrote = k.1 })
+      | inr p ↦ rw (b.is.0, b.is.1, b.is.2) at p
+    ])

@@ -1,9 +1,8 @@
-use Rattle.std.proofs.Common.{◌≡◌, ◌++◌, ℕ, map, List, [], Option, true, refl, sym, append-nil, arith}
+use Rattle.std.proofs.Common.{◌≡◌, ℕ, map, List, [], Option, refl, sym, append-nil, arith}
 use Rattle.std.proofs.lemmas.List.{length-map}
 use Rattle.std.proofs.lemmas.Result.{err_from_is_err_and}
 use Rattle.devices.proofs.WritingLemmas.{wrote_nothing}
 use Rattle.cdxj_core.specs.declared.limit.TheConstants.{LINE_LIMIT}
-use Rattle.cdxj_core.specs.Members.{Member}
 use Rattle.devices.proofs.DeviceLemmas.{grows_by, grows_not, grows_part}
 use Rattle.merge_core.specs.Collections.{OverIndexes, collection}
 use Rattle.query_core.specs.Passes.{AreAtMost}

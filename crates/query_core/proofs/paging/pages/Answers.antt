@@ -1,5 +1,4 @@
-use Rattle.query_core.proofs.AskedLemmas.{captures}
-use Rattle.std.proofs.Common.{arith, rules, ◌≡◌, ◌++◌, List, [], append-nil, true, refl, sym, None}
+use Rattle.std.proofs.Common.{arith, rules, List, [], append-nil, true, refl, sym, None}
 use Rattle.std.proofs.lemmas.Bool.{true_from_ne_false}
 use Rattle.std.proofs.lemmas.Result.{err_from_is_err_and}
 use Rattle.cdxj_places.specs.Places.{place_cmp}
@@ -10,13 +9,13 @@ use Rattle.cdxj_core.specs.Members.{Member, member_place}
 use Rattle.merge_core.specs.Collections.{collection}
 use Rattle.page_writers.specs.WrittenPages.{WrotePagesInPart}
 use Rattle.page_writers.proofs.PageChains.{wrote_front, wrote_none}
-use Rattle.query_core.proofs.PagesExits.{WritingPages, all_ended, any_front, at_end}
+use Rattle.query_core.proofs.PagesExits.{BeginningPages, WritingPages, all_ended, any_front, at_end}
 use Rattle.page_writers.proofs.PagesLemmas.{start_front}
 use Rattle.page_writers.proofs.SizeLemmas.{all_positive}
 use Rattle.query_core.proofs.ReachLemmas.{within_opening}
 use Rattle.merge_core.proofs.Many.{two_same}
 use Rattle.query_core.proofs.paging.pages.Given.{Over}
-use Rattle.query_core.proofs.paging.pages.Goals.{In_err-writer, In_err-read_lines, In_ok-read_lines}
+use Rattle.query_core.proofs.paging.pages.Goals.{In_err-writer, In_ok-writer, In_ok-read_lines}
 use Rattle.query_core.proofs.paging.pages.Goals as goal
 
 collection_rises : (indexes : List (List Member)) → Rises member_place place_cmp (collection indexes)
@@ -55,31 +54,26 @@ before g c lines rise =
     wrote_front c.args.query.now c.args.sizes.now positive lines rise [] _ _ _ refl
     (start_front c.args.query.now c.args.sizes.now _ _ positive c.in_err-writer.ensures.front)
 
-abbrev writing : (g : Over) (c : In_ok-read_lines g) → WritingPages c.args.query.now c.args.sizes.now
-    (g.O.Output.written c.args.out.now) (g.O.Output.written c.read_lines.new.out) c.in_ok-read_lines.ensures.took.lines
-writing g c =
+abbrev begin : (g : Over) (c : In_ok-writer g) → BeginningPages c.args.query.now c.args.sizes.now
+    (g.O.Output.written c.args.out.now) (g.O.Output.written c.begin.new.out)
+begin g c =
     let positive = all_positive c.args.sizes.now (search rules) in
+    let stands = c.in_ok-writer.ensures.stands positive in
     record {
       first = c.in_ok-writer.writer;
       is = c.in_ok-writer.ensures.query;
       positive = positive;
-      writer = c.read_lines.new.sink.writer;
-      wrote = c.in_ok-read_lines.ensures.took.came (record { writer = c.in_ok-writer.writer })
-          (g.O.Output.written c.args.out.now) ((refl, refl), c.in_ok-writer.ensures.stands positive);
+      began = ((refl, refl), stands);
     }
 
-broken : (g : Over) (c : In_err-read_lines g) (lines : List Member) → Rises member_place place_cmp lines
-    → (rest : List Member)
-    → captures c.args.query.now lines ≡ captures c.args.query.now c.in_err-read_lines.ensures.broke.lines ++ rest
-    → WrotePagesInPart c.args.query.now lines c.args.sizes.now (g.O.Output.written c.args.out.now)
-    (g.O.Output.written c.read_lines.new.out)
-broken g c lines rise rest split =
-    let positive = all_positive c.args.sizes.now (search rules) in
-    let broke = c.in_err-read_lines.ensures.broke in
-    any_front c.in_ok-writer.writer c.args.query.now c.args.sizes.now c.in_ok-writer.ensures.query positive
-    (g.O.Output.written c.args.out.now) (g.O.Output.written c.read_lines.new.out) lines broke.lines rest rise split
-    (broke.wrote (record { writer = c.in_ok-writer.writer }) (g.O.Output.written c.args.out.now)
-    ((refl, refl), c.in_ok-writer.ensures.stands positive))
+abbrev writing : (g : Over) (c : In_ok-read_lines g)
+    → WritingPages (begin g (goal.at.In_ok-read_lines g c).In_ok-writer) (g.O.Output.written c.read_lines.new.out)
+    c.in_ok-read_lines.ensures.took.lines
+writing g c = record {
+  writer = c.read_lines.new.sink.writer;
+  wrote = c.in_ok-read_lines.ensures.took.came (record { writer = c.in_ok-writer.writer })
+      (g.O.Output.written c.args.out.now) (begin g (goal.at.In_ok-read_lines g c).In_ok-writer).began;
+}
 
 -- ---- lines of the sources
 
@@ -102,8 +96,8 @@ returns-in_err-writer-clause-lines g c =
 pub returns-in_err-read_lines-clause-lines : goal.returns-in_err-read_lines-clause-lines
 returns-in_err-read_lines-clause-lines g c =
     let broke = c.in_err-read_lines.ensures.broke in
-    let b = broken g (goal.at.returns-in_err-read_lines-clause-lines g c).In_err-read_lines broke.lines
-    broke.took.lines.rise [] (sym (append-nil _)) in
+    let b = any_front (begin g (goal.at.returns-in_err-read_lines-clause-lines g c).In_ok-writer) _ broke.lines
+    broke.lines [] broke.wrote broke.took.lines.rise (sym (append-nil _)) in
     (broke.lines, broke.took.lines, grind (arith, err_from_is_err_and))
 
 pub returns-in_err-end-clause-lines : goal.returns-in_err-end-clause-lines
@@ -131,9 +125,10 @@ returns-in_err-writer-clause-pages g c =
 
 pub returns-in_err-read_lines-clause-pages : goal.returns-in_err-read_lines-clause-pages
 returns-in_err-read_lines-clause-pages g c = λ texts indexes known are.
-    let first = c.in_err-read_lines.ensures.broke.took.first texts indexes known are in
-    let b = broken g (goal.at.returns-in_err-read_lines-clause-pages g c).In_err-read_lines (collection indexes)
-    (collection_rises indexes) first.0 first.1 in
+    let broke = c.in_err-read_lines.ensures.broke in
+    let first = broke.took.first texts indexes known are in
+    let b = any_front (begin g (goal.at.returns-in_err-read_lines-clause-pages g c).In_ok-writer) _
+    (collection indexes) broke.lines first.0 broke.wrote (collection_rises indexes) first.1 in
     grind (arith, err_from_is_err_and)
 
 pub returns-in_err-end-clause-pages : goal.returns-in_err-end-clause-pages
