@@ -1,21 +1,22 @@
 -- Sources and feeds, while lines wait.
 use Rattle.std.proofs.Common.{◌≡◌, ◌≢◌, ℕ, zero, suc, ◌+◌, ◌<◌, ◌≤◌, List, [], ◌∷◌, ◌++◌, false, length, get_or, set}
-use Rattle.std.proofs.Common.{Bool, Option, None, Some, MatchOption, option_map, refl, sym, ap, ◌∙◌, subst, arith}
+use Rattle.std.proofs.Common.{Bool, Option, None, Some, MatchOption, option_map, inl, inr, refl, sym, ap, ◌∙◌, arith}
 use Rattle.std.proofs.Common.{add-zero, length-set}
 use Rattle.std.specs.List.{AllByRecursion}
 use Rattle.std.specs.List.Sorted.{IsPermutation}
-use Rattle.std.proofs.lemmas.List.{set-get_or}
+use Rattle.std.proofs.lemmas.List.{get_or-set_other, get_or-set_same, get_or_default, nil_from_length, set-get_or}
+use Rattle.std.proofs.lemmas.Bool.Decides.{eqb_tells}
 use Rattle.std.proofs.lemmas.List.Sorted.{length_permutation}
-use Rattle.cdxj_places.specs.Pairs.{pair_cmp}
+use Rattle.cdxj_places.specs.Pairs.{Pair, pair_cmp}
 use Rattle.cdxj_places.specs.Rising.{NeverFalls}
 use Rattle.cdxj_core.specs.Members.{Member, member_pair}
 use Rattle.merge_core.specs.declared.feed.Progress.{Progress}
 use Rattle.merge_core.specs.declared.feed.Progress.TheVariants.{Due, Waiting}
 use Rattle.merge_core.specs.declared.feed.Feed.{Feed}
-use Rattle.line_queue.specs.WaitingLines.{WaitingLine, waits_of}
+use Rattle.line_queue.specs.WaitingLines.{WaitingLine, waiting_pair, waits_of}
 use Rattle.merge_core.specs.Feeds.{AreWaits, FedOf, Fed, AreFed, Ready, given, done, due, option_list}
-use Rattle.merge_core.specs.Gathering.{IsDue}
-use Rattle.line_queue.specs.PairOrders.{Upto}
+use Rattle.merge_core.specs.Gathering.{IsDue, DrainedSource}
+use Rattle.line_queue.specs.PairOrders.{Alike, Upto}
 use Rattle.line_queue.proofs.PairOrder.{upto_itself}
 use Rattle.cdxj_places.proofs.RisingLaws.{each_join}
 use Rattle.merge_core.proofs.FeedLemmas.{done_due}
@@ -44,48 +45,50 @@ falls_last (x ∷ xs) y h = (at_end xs h.0, falls_last xs y h.1)
     at_end (u ∷ us) a = at_end us a.1
 
 module _ (limit : ℕ) (past : List ℕ → Bool) {S : Type 0} (text : S → Option (List ℕ)) (extent : S → ℕ) where
-  pub fed_at : (n i : ℕ) (ss : List S) (fs : List Feed) (ws : List WaitingLine) (a : S) (b : Feed) → length ss
-      ≡ length fs → i < length ss → AreFed limit past text extent n ss fs ws
+  -- each source and its feed, with the lines of it that wait
+  abbrev EachFed : ℕ → List S → List Feed → List WaitingLine → Type 0
+  EachFed n ss fs ws = (i : ℕ) (a : S) (b : Feed) → i < length ss → i < length fs
       → Fed limit past (text (get_or ss i a)) (extent (get_or ss i a)) (get_or fs i b) (waits_of (n + i) ws)
-  fed_at n i [] fs ws a b e l h = absurd (omega arith)
-  fed_at n i (s ∷ ss) [] ws a b e l h = absurd (omega arith)
-  fed_at n zero (s ∷ ss) (f ∷ fs) ws a b e l h = grind arith
-  fed_at n (suc i) (s ∷ ss) (f ∷ fs) ws a b e l h =
-      grind (arith, fed_at (n + 1) i ss fs ws a b (omega arith) (omega arith) h.1)
 
-  -- where the waiting lines of each source stay the same
-  fed_other : (n i : ℕ) (ss : List S) (fs : List Feed) (ws ws' : List WaitingLine) → i < n
-      → ((j : ℕ) → j ≢ i → waits_of j ws' ≡ waits_of j ws) → AreFed limit past text extent n ss fs ws
-      → AreFed limit past text extent n ss fs ws'
-  fed_other n i [] fs ws ws' l same h = tt
-  fed_other n i (s ∷ ss) [] ws ws' l same h = tt
-  fed_other n i (s ∷ ss) (f ∷ fs) ws ws' l same h =
-      grind (arith, fed_other (n + 1) i ss fs ws ws' (omega arith) same h.1)
+  each_fed : (n : ℕ) (ss : List S) (fs : List Feed) (ws : List WaitingLine) → AreFed limit past text extent n ss fs ws
+      → EachFed n ss fs ws
+  each_fed n [] fs ws h i a b l k = absurd (omega arith)
+  each_fed n (s ∷ ss) [] ws h i a b l k = absurd (omega arith)
+  each_fed n (s ∷ ss) (f ∷ fs) ws h zero a b l k = rw add-zero h.0
+  each_fed n (s ∷ ss) (f ∷ fs) ws h (suc i) a b l k =
+      let e : n + suc i ≡ (n + 1) + i = omega arith in
+      rw e (each_fed (n + 1) ss fs ws h.1 i a b (omega arith) (omega arith))
+
+  pub are_fed : (n : ℕ) (ss : List S) (fs : List Feed) (ws : List WaitingLine) → EachFed n ss fs ws
+      → AreFed limit past text extent n ss fs ws
+  are_fed n [] fs ws h = tt
+  are_fed n (s ∷ ss) [] ws h = tt
+  are_fed n (s ∷ ss) (f ∷ fs) ws h = (
+    rw add-zero at (h 0 s f (omega arith) (omega arith)),
+    are_fed (n + 1) ss fs ws (λ i a b l k.
+        let e : n + suc i ≡ (n + 1) + i = omega arith in rw e at (h (suc i) a b (omega arith) (omega arith))),
+  )
 
   -- one source, its feed and its waiting lines change
-  pub fed_set : (n i : ℕ) (ss : List S) (fs : List Feed) (ws ws' : List WaitingLine) (s : S) (f : Feed)
-      → ((j : ℕ) → j ≢ n + i → waits_of j ws' ≡ waits_of j ws)
-      → AreFed limit past text extent n ss fs ws → Fed limit past (text s) (extent s) f (waits_of (n + i) ws')
-      → AreFed limit past text extent n (set ss i s) (set fs i f) ws'
-  fed_set n i [] fs ws ws' s f same h k = tt
-  fed_set n i (x ∷ ss) [] ws ws' s f same h k = grind arith
-  fed_set n zero (x ∷ ss) (y ∷ fs) ws ws' s f same h k = grind (arith, add-zero, fed_other)
-  fed_set n (suc i) (x ∷ ss) (y ∷ fs) ws ws' s f same h k =
-      let e : n + suc i ≡ (n + 1) + i = omega arith in (
-        grind arith,
-        fed_set (n + 1) i ss fs ws ws' s f (λ j q. same j (rw e q)) h.1 (grind arith),
-      )
+  pub fed_set : (i : ℕ) (ss : List S) (fs : List Feed) (ws ws' : List WaitingLine) (s : S) (f : Feed)
+      → ((j : ℕ) → j ≢ i → waits_of j ws' ≡ waits_of j ws)
+      → AreFed limit past text extent 0 ss fs ws → Fed limit past (text s) (extent s) f (waits_of i ws')
+      → AreFed limit past text extent 0 (set ss i s) (set fs i f) ws'
+  fed_set i ss fs ws ws' s f same h k = are_fed 0 (set ss i s) (set fs i f) ws' (λ j a b l m.
+      let j_is : 0 + j ≡ j = omega arith in
+      let l' : j < length ss = rw length-set at l in
+      let m' : j < length fs = rw length-set at m in
+      rw j_is (elim (eqb_tells j i) [
+        | inl e ↦ rw (e.1, get_or-set_same ss i s a (omega arith), get_or-set_same fs i f b (omega arith)) k
+        | inr e ↦ rw (get_or-set_other ss i j s a e.1, get_or-set_other fs i j f b e.1, same j e.1) (rw j_is at
+            (each_fed 0 ss fs ws h j a b l' m'))
+      ]))
 
   pub fed_permuted : (n : ℕ) (ss : List S) (fs : List Feed) (ws ws' : List WaitingLine) → IsPermutation ws ws'
       → AreFed limit past text extent n ss fs ws → AreFed limit past text extent n ss fs ws'
-  fed_permuted n [] fs ws ws' p h = tt
-  fed_permuted n (s ∷ ss) [] ws ws' p h = tt
-  fed_permuted n (s ∷ ss) (f ∷ fs) ws ws' p h = (
-    subst (Fed limit past (text s) (extent s) f)
-        (grind (arith, waits_permuted, few_waits)) h.0,
-    fed_permuted (n + 1)
-        ss fs ws ws' p h.1,
-  )
+  fed_permuted n ss fs ws ws' p h = are_fed n ss fs ws' (λ i a b l k.
+      let was = each_fed n ss fs ws h i a b l k in
+      rw (waits_permuted (n + i) ws ws' p (few_waits (get_or fs i b).progress (waits_of (n + i) ws) was.waits)) was)
 
 -- the line of a source that waits is taken
 module _ {limit : ℕ} {past : List ℕ → Bool} {f : Feed} {m : Member} {ws : List Member} where
@@ -121,8 +124,10 @@ module _ {limit : ℕ} {past : List ℕ → Bool} {S : Type 0} {text : S → Opt
 
   ready_at : (i : ℕ) (a : S) (b : Feed) → i < length ss
       → Fed limit past (text (get_or ss i a)) (extent (get_or ss i a)) (get_or fs i b) (waits_of i ws)
-  ready_at i a b l = rw (let q : 0 + i ≡ i = omega arith in q) at (fed_at limit past text extent 0 i ss fs ws a b
-      ready.same l ready.fed)
+  ready_at i a b l =
+      let same = ready.same in
+      rw (let q : 0 + i ≡ i = omega arith in q) at
+      (each_fed limit past text extent 0 ss fs ws ready.fed i a b l (omega arith))
 
   pub few_wait : (i : ℕ) → i < length ss → length (waits_of i ws) ≤ 1
   few_wait i l =
@@ -143,44 +148,58 @@ module _ {limit : ℕ} {past : List ℕ → Bool} {S : Type 0} {text : S → Opt
 -- the first in turn is taken out
 module _ {limit : ℕ} {past : List ℕ → Bool} {S : Type 0} {text : S → Option (List ℕ)} {extent : S → ℕ} {ss : List S}
     {fs : List Feed} {ws0 ws : List WaitingLine} {w : WaitingLine} (ready : Ready limit past text extent ss fs ws0)
-    (p : IsPermutation ws0 (w ∷ ws)) (a : S) (b : Feed) where
+    (p : IsPermutation ws0 (w ∷ ws)) where
   all_ready : Ready limit past text extent ss fs (w ∷ ws)
   all_ready = ready_permuted ready (w ∷ ws) p
 
   pub inside_sources : w.source < length ss
   inside_sources = let l = all_ready.placed.0 in let same = ready.same in omega arith
 
-  fed_here : Fed limit past (text (get_or ss w.source a)) (extent (get_or ss w.source a)) (get_or fs w.source b)
-      (w.member ∷ waits_of w.source ws)
-  fed_here = subst (Fed limit past (text (get_or ss w.source a)) (extent (get_or ss w.source a))
-      (get_or fs w.source b)) (grind arith) (ready_at all_ready w.source a b inside_sources)
-
   pub none_left : waits_of w.source ws ≡ []
-  none_left = (only_waits (get_or fs w.source b).progress w.member (waits_of w.source ws) fed_here.waits).1
+  none_left =
+      let few = few_wait all_ready w.source inside_sources in
+      nil_from_length (waits_of w.source ws) (omega (arith, ap length (waits_here w.source w ws refl)))
 
-  pub popped_ready : Ready limit past text extent ss (set fs w.source (due (get_or fs w.source b))) ws
-  popped_ready = rw (← set-get_or ss w.source a) (ready_set all_ready w.source (get_or ss w.source a)
+  fed_here : (a : S) (b : Feed) → Fed limit past (text (get_or ss w.source a)) (extent (get_or ss w.source a))
+      (get_or fs w.source b) (w.member ∷ waits_of w.source ws)
+  fed_here a b = rw waits_here at (ready_at all_ready w.source a b inside_sources)
+
+  pub popped_ready : (b : Feed) → Ready limit past text extent ss (set fs w.source (due (get_or fs w.source b))) ws
+  popped_ready b =
+      let a : S = any_of ss w.source inside_sources in
+      rw (← set-get_or ss w.source a) (ready_set all_ready w.source (get_or ss w.source a)
       (due (get_or fs w.source b)) ws (λ j q. sym (waits_other j w ws (λ e. absurd (omega arith)))) all_ready.placed.1
-      (fed_due fed_here))
+      (fed_due (fed_here a b)))
 
-  both : (t : List ℕ) → text (get_or ss w.source a) ≡ Some t
+  both : (a : S) (b : Feed) (t : List ℕ) → text (get_or ss w.source a) ≡ Some t
       → (given limit t (get_or fs w.source b).cursor ≡ done limit t (get_or fs w.source b) ++ w.member ∷ [])
       × (done limit t (due (get_or fs w.source b)) ≡ done limit t (get_or fs w.source b) ++ w.member ∷ [])
-  both t e = let d = due_of fed_here.waits (fed_here.told t e) in (d.0, d.1)
+  both a b t e = let d = due_of (fed_here a b).waits ((fed_here a b).told t e) in (d.0, d.1)
 
-  pub popped_done : (t : List ℕ) → text (get_or ss w.source a) ≡ Some t
-      → done limit t (due (get_or fs w.source b)) ≡ done limit t (get_or fs w.source b) ++ w.member ∷ []
-  popped_done t e = (both t e).1
+  pub popped : {pair : Pair} {group : List Member} (b : Feed) → Alike (waiting_pair w) pair
+      → DrainedSource limit text pair w.source ss ss fs (set fs w.source (due (get_or fs w.source b))) group
+      (group ++ w.member ∷ [])
+  popped b at =
+      let a : S = any_of ss w.source inside_sources in
+      record {
+        source = get_or ss w.source a;
+        feed = due (get_or fs w.source b);
+        source_is = sym (set-get_or ss w.source a);
+        feed_is = refl;
+        text_is = λ x. ap text (get_or_default ss w.source a x inside_sources);
+        drained = λ x d t e. (w.member ∷ [], rw (get_or_default fs w.source d b all_ready.placed.0) (both x b t e).1, refl, (at, tt));
+      }
 
-  pub popped_due : IsDue limit (member_pair w.member) (text (get_or ss w.source a)) (due (get_or fs w.source b))
-  popped_due = record {
+  pub popped_due : (a : S) (b : Feed)
+      → IsDue limit (member_pair w.member) (text (get_or ss w.source a)) (due (get_or fs w.source b))
+  popped_due a b = record {
     is_due = refl;
     low = λ t e.
-        let f = get_or fs w.source b in
-        rw (both t e).1 (each_join (λ m. Upto (member_pair m) (member_pair w.member)) (done limit t f) (w.member ∷ [])
-        (falls_last (done limit t f) w.member (rw (← (both t e).0) (fed_here.told t e).run.ordered))
+        let f = get_or fs w.source b in let here = both a b t e in
+        rw here.1 (each_join (λ m. Upto (member_pair m) (member_pair w.member)) (done limit t f) (w.member ∷ [])
+        (falls_last (done limit t f) w.member (rw (← here.0) ((fed_here a b).told t e).run.ordered))
         (upto_itself (member_pair w.member), tt));
-    last = λ t e. (done limit t (get_or fs w.source b), w.member, popped_done t e, upto_itself (member_pair w.member));
+    last = λ t e. (done limit t (get_or fs w.source b), w.member, (both a b t e).1, upto_itself (member_pair w.member));
   }
 
 -- the lines of a source with the pair of a group were taken

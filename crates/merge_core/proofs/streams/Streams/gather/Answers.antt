@@ -1,6 +1,6 @@
 use Rattle.std.proofs.lemmas.List.{map-append}
-use Rattle.std.proofs.Common.{◌≡◌, ◌≤◌, Some, ◌+◌, ◌∷◌, ◌++◌, [], Box, Global, List, length, get_or, set, map, false}
-use Rattle.std.proofs.Common.{is_lt, refl, sym, ap, ◌∙◌, arith, length-set}
+use Rattle.std.proofs.Common.{◌≡◌, Some, ◌+◌, ◌∷◌, ◌++◌, [], Box, Global, List, length, get_or, set, map, false}
+use Rattle.std.proofs.Common.{is_lt, refl, sym, ap, ◌∙◌, arith}
 use Rattle.std.proofs.lemmas.Cmp.{tied_itself}
 use Rattle.std.proofs.lemmas.List.Sorted.{IsPermutation-sym}
 use Rattle.cdxj_places.proofs.PairLemmas.{pair_cmp_total}
@@ -21,7 +21,7 @@ use Rattle.merge_core.proofs.SpendLemmas.{due_read}
 use Rattle.merge_core.proofs.WholeLemmas.{texts_kept}
 use Rattle.merge_core.proofs.FailLemmas.{if_err}
 use Rattle.merge_core.proofs.GroupLemmas.{AreBelow}
-use Rattle.merge_core.proofs.GatherSteps.{Gathers, TakenNext, gathers_start, taken_next, gathers_drained, gathers_all}
+use Rattle.merge_core.proofs.GatherSteps.{Gathers, TakenNext, gathers_start, taken_next, gathers_drained}
 use Rattle.line_queue.proofs.HeapLemmas.{each_permuted}
 use Rattle.merge_core.proofs.Many.{moved_trans, moved_still, set_own}
 use Rattle.line_queue.proofs.TurnLemmas.{above_popped, not_before}
@@ -139,15 +139,13 @@ returns-in_default-take_at-clause-group g c =
     let took = c.in_default-take_at.ensures in
     let unread_same = ap (λ (us : List Feed). unread g.S.Source.extent ss us) took.feeds in
     let long = ap (λ (ws : List WaitingLine). length ws) took.out.0 in
-    let inside : c.sources.i + 1 ≤ length ss = omega
-    (arith, inv.inside, ap length ok.drained.source_is, length-set c.sources.sources c.sources.i ok.drained.source) in
     rw (← (c.new-keyed.ensures ∙ c.deref.ensures)) (record {
       above = inv.above;
       least = inv.least;
       later = took.out.1;
       each = now.each;
       fewer = omega (arith, ok.fewer, inv.fewer, unread_same, long);
-      gathered = λ told low. rw took.feeds (gathers_all now c.requires.ready.same inside told low);
+      gathered = λ told low. rw took.feeds (now.gathered told low).0;
     })
 
 pub returns-in_err-push-clause-moved : goal.returns-in_err-push-clause-moved
@@ -202,7 +200,7 @@ read_to : (g : Over) (c : After-drain g) → AreTold g.S.Source.text c.args.sour
     c.drain.new.sources c.drain.new.self.feeds.items
 read_to g c told low =
     let is = c.deref-in-sources.ensures ∙ sym (c.new-keyed.ensures ∙ c.deref.ensures) in
-    let all = (gathers_all c.sources.invariant.gathers c.requires.ready.same (omega arith) told low).upto in
+    let all = (c.sources.invariant.gathers.gathered told low).0.upto in
     (rw is at c.drain.ensures.reads) all
 
 pub returns-in_err-drain-clause-reads : goal.returns-in_err-drain-clause-reads
