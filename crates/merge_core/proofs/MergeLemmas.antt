@@ -1,5 +1,5 @@
 -- One group more of a merge.
-use Rattle.std.proofs.Common.{arith, ◌≡◌, ℕ, Result, IsErrAnd, OnErr, List, [], ◌∷◌, ◌++◌, refl, sym, ap, ap₂}
+use Rattle.std.proofs.Common.{arith, ◌≡◌, ℕ, Result, inl, IsErrAnd, OnErr, List, [], ◌∷◌, ◌++◌, refl, sym, ap, ap₂}
 use Rattle.std.proofs.Common.{◌∙◌, Bool, Option, Some, None, map, true, Less, Ordering, is_lt, is_gt}
 use Rattle.std.specs.List.{AllByRecursion}
 use Rattle.std.specs.Ordering.{ordering_reverse}
@@ -13,7 +13,10 @@ use Rattle.merge_core.specs.declared.feed.Feed.{Feed}
 use Rattle.line_queue.specs.PairOrders.{Alike, Below, Upto, IsAbove, IsUpto, is_low}
 use Rattle.line_queue.specs.WaitingLines.{WaitingLine, waiting_pair}
 use Rattle.merge_core.specs.Gathering.{Gathered, Grouped, AreTold, all_done}
+use Rattle.devices.specs.Device.{Grows}
+use Rattle.merge_core.specs.Merging.{BrokenMerge, HaltedGroup, HaltedMerge, SoFar}
 use Rattle.merge_core.specs.Reached.{Handed, Reached}
+use Rattle.merge_core.specs.declared.streams.Streams.{Streams}
 use Rattle.merge_core.specs.Feeds.{Ready, AreSettled, AllMoved}
 use Rattle.merge_core.proofs.Many.{told_moved, moved_trans}
 use Rattle.merge_core.specs.SourceLines.{HasEntry}
@@ -94,6 +97,40 @@ module _ {S : Type 0} {limit : ℕ} {text : S → Option (List ℕ)} {past : Lis
       told = grind (arith, gathered_now, risen_on);
     };
   }
+
+-- these lines were passed on, when a fault came
+module _ {K S : Type 0} {Wrote : K → K → List Member → Option (List ℕ) → Option (List ℕ) → Type 0}
+    {Enough : K → Type 0} {past : List ℕ → Bool} {text : S → Option (List ℕ)} {extent gave : S → ℕ}
+    {olds sources : List S} {begun stood : Streams} {sink state : K} {old middle now : Option (List ℕ)}
+    (so_far : SoFar Wrote Enough past text extent gave olds begun sink old sources stood state middle) where
+  pub broken_there : {Broke : K → List Member → Option (List ℕ) → Option (List ℕ) → Type 0} → now ≡ middle
+      → BrokenMerge Wrote Enough past text extent gave olds begun sink old Broke now
+  broken_there same = record {
+    sources = sources;
+    streams = stood;
+    bound = so_far.bound;
+    taken = so_far.taken;
+    reached = so_far.reached;
+    wrote = λ begin start w. inl (state, rw same (so_far.came begin start w));
+  }
+
+  pub halted_there : {news : List S} {streams : Streams} → ((Enough sink → ⊥) → Enough state → ⊥)
+      → HaltedGroup past text sources stood news streams
+      → Grows middle now → HaltedMerge Wrote Enough past text extent gave olds begun sink old news streams now
+  halted_there more halted grows =
+      let above = halted.above so_far.bound so_far.reached.above in record {
+        sources = sources;
+        stood = stood;
+        state = state;
+        middle = middle;
+        so_far = so_far;
+        more = more;
+        grows = grows;
+        next = halted.pair;
+        above = above;
+        least = halted.least;
+        read = grind (arith, told_moved, below_next);
+      }
 
 pub handed_none : {S : Type 0} (limit : ℕ) (text : S → Option (List ℕ)) (ss : List S) (fs : List Feed)
     → all_done limit text ss fs ≡ [] → Handed limit text ss ss fs None []

@@ -1,11 +1,13 @@
 -- The opening of sources, one after another.
 use Rattle.std.proofs.Common.{◌≡◌, ◌≢◌, ℕ, zero, suc, ◌+◌, ◌<◌, List, [], ◌∷◌, ◌++◌, length, set, zip, flat_map}
-use Rattle.std.proofs.Common.{map, take, Bool, Option, Some, MatchOption, refl, ap, ◌∙◌, arith}
-use Rattle.std.proofs.Common.{append-nil, length-append}
+use Rattle.std.proofs.Common.{map, take, Bool, Option, Some, MatchOption, refl, ap, arith}
+use Rattle.std.proofs.Common.{append-nil, inl, inr, length-append, length-set}
 use Rattle.std.specs.List.{AllByRecursion, sum}
-use Rattle.std.proofs.lemmas.List.Sums.{sum_by-cons}
+use Rattle.std.proofs.lemmas.Bool.Decides.{eqb_tells}
+use Rattle.std.proofs.lemmas.List.Sums.{sum-map, sum_by_push}
 use Rattle.std.specs.List.Sorted.{IsPermutation}
-use Rattle.std.proofs.lemmas.List.{take_more_set, drop_all}
+use Rattle.std.proofs.lemmas.List.{drop_all, get_or-set_other, get_or-set_same, get_or_append_left, get_or_push}
+use Rattle.std.proofs.lemmas.List.{length_push, take_more_set}
 use Rattle.std.proofs.lemmas.List.Concat.{flat_map-append}
 use Rattle.cdxj_places.proofs.RisingLaws.{each_weaker}
 use Rattle.cdxj_core.specs.Members.{Member}
@@ -14,7 +16,7 @@ use Rattle.line_queue.specs.WaitingLines.{WaitingLine, waits_of}
 use Rattle.merge_core.specs.Feeds.{Fed, AreFed, option_list, done}
 use Rattle.merge_core.specs.Gathering.{text_or}
 use Rattle.line_queue.proofs.HeapLemmas.{each_permuted, waits_here, waits_other}
-use Rattle.merge_core.proofs.StreamLemmas.{fed_permuted}
+use Rattle.merge_core.proofs.StreamLemmas.{are_fed, each_fed, fed_permuted}
 
 -- none of a later source waits
 waits_none : (n : ℕ) (ws : List WaitingLine) → AllByRecursion (λ (w : WaitingLine). w.source < n) ws → waits_of n ws
@@ -24,23 +26,22 @@ waits_none n (w ∷ ws) h = grind (arith, waits_other, waits_none n ws h.1)
 
 module _ (limit : ℕ) (past : List ℕ → Bool) where
   module _ {S : Type 0} (text : S → Option (List ℕ)) (extent : S → ℕ) where
-    fed_nil : (n : ℕ) (ss : List S) (ws : List WaitingLine) → AreFed limit past text extent n ss [] ws
-    fed_nil n [] ws = tt
-    fed_nil n (s ∷ ss) ws = tt
-
-    fed_push : (n i : ℕ) (ss : List S) (fs : List Feed) (ws ws' : List WaitingLine) (s : S) (f : Feed) → length fs ≡ i
-        → i < length ss → AreFed limit past text extent n ss fs ws
-        → ((j : ℕ) → j ≢ n + i → waits_of j ws' ≡ waits_of j ws)
-        → Fed limit past (text s) (extent s) f (waits_of (n + i) ws')
-        → AreFed limit past text extent n (set ss i s) (fs ++ f ∷ []) ws'
-    fed_push n i [] fs ws ws' s f e l h same k = absurd (omega arith)
-    fed_push n i (x ∷ ss) [] ws ws' s f e l h same k = grind (arith, fed_nil)
-    fed_push n zero (x ∷ ss) (y ∷ fs) ws ws' s f e l h same k = absurd (omega arith)
-    fed_push n (suc i) (x ∷ ss) (y ∷ fs) ws ws' s f e l h same k =
-        let q : n + suc i ≡ (n + 1) + i = omega arith in (
-          grind arith,
-          fed_push (n + 1) i ss fs ws ws' s f (omega arith) (omega arith) h.1 (λ j p. same j (rw q p)) (grind arith),
-        )
+    fed_push : (i : ℕ) (ss : List S) (fs : List Feed) (ws ws' : List WaitingLine) (s : S) (f : Feed) → length fs ≡ i
+        → AreFed limit past text extent 0 ss fs ws → ((j : ℕ) → j ≢ i → waits_of j ws' ≡ waits_of j ws)
+        → Fed limit past (text s) (extent s) f (waits_of i ws')
+        → AreFed limit past text extent 0 (set ss i s) (fs ++ f ∷ []) ws'
+    fed_push i ss fs ws ws' s f e h same k =
+        are_fed limit past text extent 0 (set ss i s) (fs ++ f ∷ []) ws' (λ j a b l m.
+        let j_is : 0 + j ≡ j = omega arith in
+        let l' : j < length ss = rw length-set at l in
+        let m' : j < length fs + 1 = rw length_push at m in
+        rw j_is (elim (eqb_tells j i) [
+          | inl q ↦ rw (q.1, get_or-set_same ss i s a (omega arith), get_or_push fs f b i e) k
+          | inr q ↦
+              let here = each_fed limit past text extent 0 ss fs ws h j a b l' (omega arith) in
+              rw (get_or-set_other ss i j s a q.1, get_or_append_left fs (f ∷ []) b j (omega arith), same j q.1)
+              (rw j_is at here)
+        ]))
 
     pub fed_added : (i : ℕ) (ss : List S) (fs : List Feed) (ws ws' : List WaitingLine) (s : S) (f : Feed)
         (o : Option Member) → length fs ≡ i → i < length ss
@@ -70,10 +71,9 @@ zip_none (x ∷ xs) ys e = grind arith
 -- one source more, of those that have feeds
 pub zip_push : {A B : Type 0} (xs : List A) (ys : List B) (i : ℕ) (x : A) (y : B) → length ys ≡ i → i < length xs
     → zip (set xs i x) (ys ++ y ∷ []) ≡ zip xs ys ++ (x, y) ∷ []
-zip_push [] ys i x y e l = absurd (omega arith)
-zip_push (a ∷ xs) [] i x y e l = grind (arith, zip_none)
-zip_push (a ∷ xs) (b ∷ ys) zero x y e l = absurd (omega arith)
-zip_push (a ∷ xs) (b ∷ ys) (suc i) x y e l = ap (λ l. (a, b) ∷ l) (zip_push xs ys i x y (omega arith) (omega arith))
+zip_push (a ∷ xs) [] zero x y e l = grind (arith, zip_none)
+zip_push (a ∷ xs) (b ∷ ys) (suc i) x y e l = grind (arith, zip_push xs ys i x y)
+zip_push xs ys i x y e l = absurd (omega arith)
 
 pub flat_push : {X Y : Type 0} (f : X → List Y) (xs : List X) (x : X) → flat_map f xs ≡ [] → f x ≡ []
     → flat_map f (xs ++ x ∷ []) ≡ []
@@ -85,7 +85,8 @@ done_none f xs ys e = ap (flat_map f) (zip_none xs ys e)
 
 pub fed_none : {S : Type 0} (limit : ℕ) (past : List ℕ → Bool) (text : S → Option (List ℕ)) (extent : S → ℕ)
     (ss : List S) (fs : List Feed) (ws : List WaitingLine) → fs ≡ [] → AreFed limit past text extent 0 ss fs ws
-fed_none limit past text extent ss fs ws e = grind (arith, fed_nil)
+fed_none limit past text extent ss fs ws e =
+    are_fed limit past text extent 0 ss fs ws (λ i a b l k. absurd (omega (arith, ap length e)))
 
 pub fresh_of : (limit : ℕ) (text : Option (List ℕ)) (f : Feed) → ((t : List ℕ) → text ≡ Some t → done limit t f ≡ [])
     → done limit (text_or text) f ≡ []
@@ -94,11 +95,4 @@ fresh_of limit text f h = grind (arith, drop_all)
 -- one more of those that are summed
 pub sum_turn : {X : Type 0} (n : X → ℕ) (xs : List X) (i : ℕ) (y : X) → i < length xs
     → sum (map n (take (i + 1) (set xs i y))) ≡ sum (map n (take i xs)) + n y
-sum_turn n xs i y l = ap (λ us. sum (map n us)) (take_more_set xs i y l) ∙ sum_push n (take i xs) y
-  where
-    sum_push : {X : Type 0} (n : X → ℕ) (xs : List X) (x : X) → sum (map n (xs ++ x ∷ [])) ≡ sum (map n xs) + n x
-    sum_push n [] x = cc
-    sum_push n (a ∷ xs) x =
-        let p = sum_by-cons (λ (k : ℕ). k) (n a) (map n (xs ++ x ∷ [])) in let q = sum_by-cons (λ (k : ℕ). k) (n a)
-        (map n xs) in let ih = sum_push n xs x in
-        omega arith
+sum_turn n xs i y l = grind (arith, take_more_set, sum-map, sum_by_push)

@@ -21,9 +21,8 @@ use Rattle.merge_core.proofs.Many.{Move}
 -- of equal lists, with fronts of one length
 after_front : {X : Type 0} (us vs xs ys : List X) → length us ≡ length xs → us ++ vs ≡ xs ++ ys → vs ≡ ys
 after_front [] vs [] ys n e = e
-after_front [] vs (x ∷ xs) ys n e = absurd (omega arith)
-after_front (u ∷ us) vs [] ys n e = absurd (omega arith)
 after_front (u ∷ us) vs (x ∷ xs) ys n e = after_front us vs xs ys (omega arith) (let q : us ++ vs ≡ xs ++ ys = cc in q)
+after_front us vs xs ys n e = absurd (omega arith)
 
 falls_back : (us vs : List Member) → NeverFalls member_pair pair_cmp (us ++ vs) → NeverFalls member_pair pair_cmp vs
 falls_back [] vs h = h
@@ -47,10 +46,6 @@ module _ {S : Type 0} (limit : ℕ) (text : S → Option (List ℕ)) where
       → AllByRecursion (λ x. IsCutAt limit start (text x.0) x.1.cursor) (zip ss fs)
       → (highs : List (List Member)) × AllZip RunsFrom (zip ss fs) highs
       × (filter (λ m. not (is_low start m)) (all_lines indexes) ≡ all_lines highs)
-  runs_sought start [] fs texts is same known are cut = grind arith
-  runs_sought start (s ∷ ss) [] texts is same known are cut = absurd (omega arith)
-  runs_sought start (s ∷ ss) (f ∷ fs) [] is same known are cut = absurd known
-  runs_sought start (s ∷ ss) (f ∷ fs) (t ∷ ts) [] same known are cut = absurd are
   runs_sought start (s ∷ ss) (f ∷ fs) (t ∷ ts) (i ∷ is) same known are cut =
       let here = cut.0 t i known.0 are.0 in
       let run = run_after limit start t i f.cursor.start are.0 here in
@@ -59,14 +54,13 @@ module _ {S : Type 0} (limit : ℕ) (text : S → Option (List ℕ)) where
         grind arith,
         filter-append (λ m. not (is_low start m)) i (all_lines is) ∙ ap₂ (λ u v. u ++ v) run.1 others.2,
       )
+  runs_sought start ss fs texts is same known are cut = grind arith
 
   -- the same after more was read
   pub runs_kept : (extent gave : S → ℕ) (xs ys : List (S × Feed)) (highs : List (List Member))
       → AllZip (Move text extent gave) xs ys → AllZip RunsFrom xs highs → AllZip RunsFrom ys highs
-  runs_kept extent gave [] ys highs m h = grind arith
-  runs_kept extent gave (x ∷ xs) [] highs m h = absurd m
-  runs_kept extent gave (x ∷ xs) (y ∷ ys) [] m h = absurd h
   runs_kept extent gave (x ∷ xs) (y ∷ ys) (i ∷ is) m h = (
     λ t e. rw m.0.start_kept (h.0 t (sym m.0.text_kept ∙ e)),
     runs_kept extent gave xs ys is m.1 h.1,
   )
+  runs_kept extent gave xs ys highs m h = grind arith

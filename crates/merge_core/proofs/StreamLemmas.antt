@@ -46,28 +46,26 @@ falls_last (x ∷ xs) y h = (at_end xs h.0, falls_last xs y h.1)
 
 module _ (limit : ℕ) (past : List ℕ → Bool) {S : Type 0} (text : S → Option (List ℕ)) (extent : S → ℕ) where
   -- each source and its feed, with the lines of it that wait
-  abbrev EachFed : ℕ → List S → List Feed → List WaitingLine → Type 0
+  abbrev pub EachFed : ℕ → List S → List Feed → List WaitingLine → Type 0
   EachFed n ss fs ws = (i : ℕ) (a : S) (b : Feed) → i < length ss → i < length fs
       → Fed limit past (text (get_or ss i a)) (extent (get_or ss i a)) (get_or fs i b) (waits_of (n + i) ws)
 
-  each_fed : (n : ℕ) (ss : List S) (fs : List Feed) (ws : List WaitingLine) → AreFed limit past text extent n ss fs ws
-      → EachFed n ss fs ws
-  each_fed n [] fs ws h i a b l k = absurd (omega arith)
-  each_fed n (s ∷ ss) [] ws h i a b l k = absurd (omega arith)
+  pub each_fed : (n : ℕ) (ss : List S) (fs : List Feed) (ws : List WaitingLine)
+      → AreFed limit past text extent n ss fs ws → EachFed n ss fs ws
   each_fed n (s ∷ ss) (f ∷ fs) ws h zero a b l k = rw add-zero h.0
   each_fed n (s ∷ ss) (f ∷ fs) ws h (suc i) a b l k =
       let e : n + suc i ≡ (n + 1) + i = omega arith in
       rw e (each_fed (n + 1) ss fs ws h.1 i a b (omega arith) (omega arith))
+  each_fed n ss fs ws h i a b l k = absurd (omega arith)
 
   pub are_fed : (n : ℕ) (ss : List S) (fs : List Feed) (ws : List WaitingLine) → EachFed n ss fs ws
       → AreFed limit past text extent n ss fs ws
-  are_fed n [] fs ws h = tt
-  are_fed n (s ∷ ss) [] ws h = tt
   are_fed n (s ∷ ss) (f ∷ fs) ws h = (
     rw add-zero at (h 0 s f (omega arith) (omega arith)),
     are_fed (n + 1) ss fs ws (λ i a b l k.
         let e : n + suc i ≡ (n + 1) + i = omega arith in rw e at (h (suc i) a b (omega arith) (omega arith))),
   )
+  are_fed n ss fs ws h = grind arith
 
   -- one source, its feed and its waiting lines change
   pub fed_set : (i : ℕ) (ss : List S) (fs : List Feed) (ws ws' : List WaitingLine) (s : S) (f : Feed)
@@ -187,7 +185,12 @@ module _ {limit : ℕ} {past : List ℕ → Bool} {S : Type 0} {text : S → Opt
         source_is = sym (set-get_or ss w.source a);
         feed_is = refl;
         text_is = λ x. ap text (get_or_default ss w.source a x inside_sources);
-        drained = λ x d t e. (w.member ∷ [], rw (get_or_default fs w.source d b all_ready.placed.0) (both x b t e).1, refl, (at, tt));
+        drained = λ x d t e. (
+          w.member ∷ [],
+          rw (get_or_default fs w.source d b all_ready.placed.0) (both x b t e).1,
+          refl,
+          (at, tt),
+        );
       }
 
   pub popped_due : (a : S) (b : Feed)

@@ -1,9 +1,9 @@
 -- Sources of which all lines were read: each that tells its bytes is an index, and all its lines are done.
 use Rattle.std.specs.List.{AllZip, AllByRecursion}
 use Rattle.std.proofs.Common.{◌≡◌, ℕ, ◌+◌, ◌≤◌, List, [], ◌∷◌, length, drop, map, Bool, false, true, Option, Some}
-use Rattle.std.proofs.Common.{flat_map, zip, refl, ap, ◌∙◌, arith, length-drop}
+use Rattle.std.proofs.Common.{flat_map, zip, ap, ◌∙◌, arith, length-drop}
 use Rattle.std.specs.Option.{is_some}
-use Rattle.std.proofs.lemmas.List.{take_all}
+use Rattle.std.proofs.lemmas.List.{nil_from_length, take_all}
 use Rattle.cdxj_core.specs.Members.{Member}
 use Rattle.cdxj_core.specs.Indexes.{IsIndex}
 use Rattle.merge_core.specs.declared.feed.Progress.{Progress}
@@ -36,19 +36,16 @@ module _ (limit : ℕ) (past : List ℕ → Bool) (never : (key : List ℕ) → 
         → AllZip (λ told t. told ≡ Some t) (map text ss) texts
         → AllByRecursion (λ (f : Feed). f.cursor.start ≡ 0) fs → AreSettled fs
         → AreFed limit past text extent n ss fs [] → AllZip (IsIndex limit) texts (its_lines ss fs)
-    are_read n [] fs texts same known start settled fed = grind arith
-    are_read n (s ∷ ss) [] texts same known start settled fed = absurd (omega arith)
-    are_read n (s ∷ ss) (f ∷ fs) [] same known start settled fed = absurd known
     are_read n (s ∷ ss) (f ∷ fs) (t ∷ texts) same known start settled fed = (
       rw known.0 (index_read start.0 settled.0 (rw known.0 at fed.0)),
       are_read (n + 1) ss fs texts (omega arith) known.1 start.1 settled.1 fed.1,
     )
+    are_read n ss fs texts same known start settled fed = grind arith
 
     pub all_lines_are : (ss : List S) (fs : List Feed) → all_done limit text ss fs
         ≡ flat_map (λ (members : List Member). members) (its_lines ss fs)
-    all_lines_are [] fs = refl
-    all_lines_are (s ∷ ss) [] = refl
     all_lines_are (s ∷ ss) (f ∷ fs) = grind (arith, all_lines_are ss fs)
+    all_lines_are ss fs = grind arith
 
 -- ---- what a merge keeps of sources and feeds
 
@@ -62,14 +59,10 @@ module _ {S : Type 0} (text : S → Option (List ℕ)) (extent gave : S → ℕ)
   kept : {Y : Type 0} (f : S → Y) → ((x y : S × Feed) → Move text extent gave x y → f y.0 ≡ f x.0)
       → (ss ss' : List S) (fs fs' : List Feed) → length ss ≡ length fs → length ss' ≡ length ss
       → AllZip (Move text extent gave) (zip ss fs) (zip ss' fs') → map f ss' ≡ map f ss
-  kept f k [] [] fs fs' e e' h = refl
-  kept f k [] (s' ∷ ss') fs fs' e e' h = absurd (omega arith)
-  kept f k (s ∷ ss) [] fs fs' e e' h = absurd (omega arith)
-  kept f k (s ∷ ss) (s' ∷ ss') [] fs' e e' h = absurd (omega arith)
-  kept f k (s ∷ ss) (s' ∷ ss') (u ∷ fs) [] e e' h = absurd h
   kept f k (s ∷ ss) (s' ∷ ss') (u ∷ fs) (u' ∷ fs') e e' h =
       let same = k (s, u) (s', u') h.0 in
       grind (arith, kept f k ss ss' fs fs' (omega arith) (omega arith) h.1)
+  kept f k ss ss' fs fs' e e' h = grind (arith, nil_from_length)
 
   pub texts_kept : (ss ss' : List S) (fs fs' : List Feed) → length ss ≡ length fs → length ss' ≡ length ss
       → AllZip (Move text extent gave) (zip ss fs) (zip ss' fs') → map text ss' ≡ map text ss
@@ -82,13 +75,9 @@ module _ {S : Type 0} (text : S → Option (List ℕ)) (extent gave : S → ℕ)
   pub starts_kept : (ss ss' : List S) (fs fs' : List Feed) → length ss ≡ length fs → length ss' ≡ length fs'
       → AllZip (Move text extent gave) (zip ss fs) (zip ss' fs')
       → AllByRecursion (λ (f : Feed). f.cursor.start ≡ 0) fs → AllByRecursion (λ (f : Feed). f.cursor.start ≡ 0) fs'
-  starts_kept ss [] fs [] e e' h z = tt
-  starts_kept ss [] fs (f' ∷ fs') e e' h z = absurd (omega arith)
-  starts_kept ss (s' ∷ ss') fs [] e e' h z = absurd (omega arith)
-  starts_kept [] (s' ∷ ss') fs (f' ∷ fs') e e' h z = absurd h
-  starts_kept (s ∷ ss) (s' ∷ ss') [] (f' ∷ fs') e e' h z = absurd (omega arith)
   starts_kept (s ∷ ss) (s' ∷ ss') (f ∷ fs) (f' ∷ fs') e e' h z = (
-    h.0.start_kept
-        ∙ z.0,
+    h.0.start_kept ∙ z.0,
     starts_kept ss ss' fs fs' (omega arith) (omega arith) h.1 z.1,
   )
+  starts_kept ss [] fs fs' e e' h z = grind (arith, nil_from_length)
+  starts_kept ss (s' ∷ ss') fs fs' e e' h z = grind arith

@@ -1,6 +1,6 @@
-use Rattle.std.proofs.lemmas.List.{map-append}
-use Rattle.std.proofs.Common.{◌≡◌, Some, ◌+◌, ◌∷◌, ◌++◌, [], Box, Global, List, length, get_or, set, map, false}
-use Rattle.std.proofs.Common.{is_lt, refl, sym, ap, ◌∙◌, arith}
+use Rattle.std.proofs.lemmas.List.{get_or-set_same, map-append}
+use Rattle.std.proofs.Common.{◌≡◌, Some, ◌+◌, ◌∷◌, Box, Global, List, get_or, set, map}
+use Rattle.std.proofs.Common.{refl, sym, ap, ◌∙◌, arith}
 use Rattle.std.proofs.lemmas.Cmp.{tied_itself}
 use Rattle.std.proofs.lemmas.List.Sorted.{IsPermutation-sym}
 use Rattle.cdxj_places.proofs.PairLemmas.{pair_cmp_total}
@@ -9,21 +9,19 @@ use Rattle.cdxj_core.specs.declared.limit.TheConstants.{LINE_LIMIT}
 use Rattle.cdxj_core.specs.declared.line.Line.{Line}
 use Rattle.cdxj_core.specs.Members.{Member, member_pair}
 use Rattle.merge_core.specs.declared.feed.Feed.{Feed}
-use Rattle.line_queue.specs.PairOrders.{Alike, Upto}
-use Rattle.line_queue.specs.WaitingLines.{WaitingLine, waiting_pair, turn_cmp}
+use Rattle.line_queue.specs.PairOrders.{Upto}
+use Rattle.line_queue.specs.WaitingLines.{WaitingLine, waiting_pair}
 use Rattle.merge_core.specs.Feeds.{AreSettled, due}
-use Rattle.merge_core.specs.Gathering.{IsFrom, AreTold, all_done, unread}
-use Rattle.merge_core.specs.declared.fault.MergeFault.TheVariants.{Memory}
+use Rattle.merge_core.specs.Gathering.{AreTold, all_done}
 use Rattle.merge_core.specs.Spending.{AreReadTo}
 use Rattle.line_queue.proofs.PairOrder.{upto_itself}
 use Rattle.merge_core.proofs.MergeLemmas.{on_err}
 use Rattle.merge_core.proofs.SpendLemmas.{due_read}
 use Rattle.merge_core.proofs.WholeLemmas.{texts_kept}
-use Rattle.merge_core.proofs.FailLemmas.{if_err}
 use Rattle.merge_core.proofs.GroupLemmas.{AreBelow}
 use Rattle.merge_core.proofs.GatherSteps.{Gathers, TakenNext, gathers_start, taken_next, gathers_drained}
 use Rattle.line_queue.proofs.HeapLemmas.{each_permuted}
-use Rattle.merge_core.proofs.Many.{moved_trans, moved_still, set_own}
+use Rattle.merge_core.proofs.Many.{moved_trans, moved_still}
 use Rattle.line_queue.proofs.TurnLemmas.{above_popped, not_before}
 use Rattle.merge_core.proofs.streams.Streams.gather.Given.{Over}
 use Rattle.merge_core.proofs.streams.Streams.gather.Goals.{After-drain, After-push, In_ok-drain}
@@ -50,18 +48,14 @@ drained g c =
 -- and of the feeds
 drained_settled : (g : Over) (c : In_ok-drain g) → AreSettled c.drain.new.self.feeds.items
 drained_settled g c =
-    let ok = c.in_ok-drain.ensures in
-    let f = ok.drained.feed in
-    let own = ap (λ (l : List Feed). get_or l c.sources.i f) ok.drained.feed_is
-    ∙ set_own c.sources.self.feeds.items c.sources.i f in
+    let f = c.in_ok-drain.ensures.drained.feed in
+    let same = c.sources.invariant.gathers.ready.same in
+    let own = get_or-set_same c.sources.self.feeds.items c.sources.i f f (omega arith) in
     grind arith
 
 -- the line that is taken next
 abbrev taken_line : (g : Over) → After-push g → WaitingLine
 taken_line g c = record { member = c.next-in-sources.inside.line.value; source = c.next-in-sources.inside.source }
-
-taken_alike : (g : Over) (c : After-push g) → Alike (waiting_pair (taken_line g c)) (member_pair c.new-keyed.result)
-taken_alike g c = grind arith
 
 taken_feeds : (g : Over) (c : After-push g) (d : Feed) → c.take_at.new.self.feeds.items
     ≡ set c.drain.new.self.feeds.items (taken_line g c).source
@@ -78,16 +72,14 @@ taken : (g : Over) (c : After-push g)
 taken g c h =
     let took = c.in-Some-take_at.ensures in
     let is = sym c.next-in-sources.view_is in
-    taken_next h (taken_line g c) c.take_at.new.self.waiting c.take_at.new.self.feeds.items (rw is at took.out)
-    (taken_feeds g c) (rw is at took.first) (taken_alike g c)
+    taken_next h (taken_line g c) _ _ (rw is at took.out) (taken_feeds g c) (rw is at took.first) (grind arith)
 
 pub returns-in_default-clause-moved : goal.returns-in_default-clause-moved
 returns-in_default-clause-moved g c = grind (arith, moved_still)
 
 pub sources-init : goal.sources-init
 sources-init g c =
-    let past = g.R.Range.past c.args.range.now in
-    let ss = c.args.sources.now in let fs = c.args.self.now.feeds.items in let ws = c.args.self.now.waiting in
+    let ws = c.args.self.now.waiting in
     let left = c.take_first.new.self.waiting in
     let from : Member → WaitingLine = λ m. record { member = m; source = c.next.inside.source } in
     let w = from c.new-keyed.result in
@@ -96,16 +88,13 @@ sources-init g c =
     let out = rw is at c.in-Some.ensures.out in
     let later = rw is at c.in-Some.ensures.first in
     let least = each_permuted (λ (v : WaitingLine). Upto pair (waiting_pair v)) (w ∷ left) ws
-    (IsPermutation-sym ws (w ∷ left) out) (
-      upto_itself pair,
-      each_weaker (λ (v : WaitingLine) (q : is_lt (turn_cmp v w) ≡ false). not_before v w q) left later,
-    ) in
-    let t = taken_next (gathers_start LINE_LIMIT past g.S.Source.text g.S.Source.extent g.S.Source.gave ss fs pair ws
-    c.requires.ready least) w left c.take_first.new.self.feeds.items out (rw is at c.in-Some.ensures.feeds) later
+    (IsPermutation-sym ws (w ∷ left) out) (upto_itself pair, each_weaker (λ v. not_before v w) left later) in
+    let t = taken_next (gathers_start LINE_LIMIT (g.R.Range.past c.args.range.now) g.S.Source.text g.S.Source.extent
+    g.S.Source.gave _ _ pair ws c.requires.ready least) w left _ out (rw is at c.in-Some.ensures.feeds) later
     (tied_itself pair_cmp_total pair) in
     record {
       gathers = grind arith;
-      held = c.take_first.ensures.held;
+      held = grind arith;
       inside = t.inside;
       due = t.due;
       settled = t.settled c.requires.settled;
@@ -118,79 +107,23 @@ sources-init g c =
 pub drain-requires-clause-due : goal.drain-requires-clause-due
 drain-requires-clause-due g c = λ a d. let due = c.sources.invariant.due a d in grind arith
 
-pub returns-in_err-drain-clause-moved : goal.returns-in_err-drain-clause-moved
-returns-in_err-drain-clause-moved g c = grind (arith, moved_trans)
-
 pub take_at-requires-clause-from : goal.take_at-requires-clause-from
 take_at-requires-clause-from g c =
-    each_weaker (λ (w : WaitingLine) (h : IsFrom (member_pair c.new-keyed.result) (c.sources.i + 1) w). h.0)
-    c.drain.new.self.waiting (drained g (goal.at.take_at-requires-clause-from g c).In_ok-drain).from
-
-pub returns-in_default-take_at-clause-moved : goal.returns-in_default-take_at-clause-moved
-returns-in_default-take_at-clause-moved g c = grind (arith, drained)
-
-pub returns-in_default-take_at-clause-group : goal.returns-in_default-take_at-clause-group
-returns-in_default-take_at-clause-group g c =
-    let here = (goal.at.returns-in_default-take_at-clause-group g c).In_ok-drain in
-    let now = drained g here in
-    let ss = c.drain.new.sources in
-    let inv = c.sources.invariant in
-    let ok = c.in_ok-drain.ensures in
-    let took = c.in_default-take_at.ensures in
-    let unread_same = ap (λ (us : List Feed). unread g.S.Source.extent ss us) took.feeds in
-    let long = ap (λ (ws : List WaitingLine). length ws) took.out.0 in
-    rw (← (c.new-keyed.ensures ∙ c.deref.ensures)) (record {
-      above = inv.above;
-      least = inv.least;
-      later = took.out.1;
-      each = now.each;
-      fewer = omega (arith, ok.fewer, inv.fewer, unread_same, long);
-      gathered = λ told low. rw took.feeds (now.gathered told low).0;
-    })
-
-pub returns-in_err-push-clause-moved : goal.returns-in_err-push-clause-moved
-returns-in_err-push-clause-moved g c =
-    let here = goal.at.returns-in_err-push-clause-moved g c in
-    (taken g here.After-push (drained g here.In_ok-drain)).gathers.moved
+    let now = drained g (goal.at.take_at-requires-clause-from g c).In_ok-drain in
+    grind (arith, each_weaker)
 
 pub sources-smaller : goal.sources-smaller
 sources-smaller g c =
     let here = goal.at.sources-smaller g c in
-    let fewer = (taken g here.After-push (drained g here.In_ok-drain)).fewer in
-    omega (arith, fewer, c.in_ok-drain.ensures.fewer)
+    let t = taken g here.After-push (drained g here.In_ok-drain) in
+    grind arith
 
 pub sources-preserved : goal.sources-preserved
 sources-preserved g c =
     let here = goal.at.sources-preserved g c in
     let t = taken g here.After-push (drained g here.In_ok-drain) in
-    let w = taken_line g here.After-push in
-    let pair = member_pair c.new-keyed.result in
-    let rest = c.drain.new.rest.items in
-    let feeds = c.drain.new.self.feeds.items in
-    let inv = c.sources.invariant in
-    let ok = c.in_ok-drain.ensures in
-    let pushed : values c.push.new.self.items ≡ values rest ++ w.member ∷ [] =
-    ap values c.in_ok-push.ensures.items
-    ∙ map-append (λ (b : Box Line Global). b.value) rest (c.next-in-sources.inside.line ∷ []) in
-    record {
-      gathers = grind arith;
-      held = c.take_at.ensures.held ∙ ok.held ∙ inv.held;
-      inside = t.inside;
-      due = t.due;
-      settled = t.settled (drained_settled g here.In_ok-drain);
-      failures = ok.failures ∙ inv.failures;
-      above = inv.above;
-      least = inv.least;
-      fewer = omega (arith, t.fewer, ok.fewer, inv.fewer);
-    }
-
-pub returns-in_default-take_at-clause-settled : goal.returns-in_default-take_at-clause-settled
-returns-in_default-take_at-clause-settled g c =
-    rw c.in_default-take_at.ensures.feeds (drained_settled g (goal.at.returns-in_default-take_at-clause-settled g
-    c).In_ok-drain)
-
-pub returns-in_err-drain-clause-fault : goal.returns-in_err-drain-clause-fault
-returns-in_err-drain-clause-fault g c = grind (arith, texts_kept, if_err)
+    let settled = drained_settled g here.In_ok-drain in
+    grind (arith, map-append)
 
 -- the sources were read up to the pair
 read_to : (g : Over) (c : After-drain g) → AreTold g.S.Source.text c.args.sources.now
@@ -199,27 +132,68 @@ read_to : (g : Over) (c : After-drain g) → AreTold g.S.Source.text c.args.sour
     → AreReadTo LINE_LIMIT (g.R.Range.past c.args.range.now) g.S.Source.text (Some (member_pair c.new-keyed.result))
     c.drain.new.sources c.drain.new.self.feeds.items
 read_to g c told low =
-    let is = c.deref-in-sources.ensures ∙ sym (c.new-keyed.ensures ∙ c.deref.ensures) in
-    let all = (c.sources.invariant.gathers.gathered told low).0.upto in
-    (rw is at c.drain.ensures.reads) all
+    (rw (c.deref-in-sources.ensures ∙ sym (c.new-keyed.ensures ∙ c.deref.ensures)) at c.drain.ensures.reads)
+    (c.sources.invariant.gathers.gathered told low).0.upto
+
+pub returns-in_default-take_at : goal.returns-in_default-take_at
+returns-in_default-take_at g c =
+    let here = (goal.at.returns-in_default-take_at g c).In_ok-drain in
+    let now = drained g here in
+    let done = drained_settled g here in
+    let inv = c.sources.invariant in
+    let ok = c.in_ok-drain.ensures in
+    let took = c.in_default-take_at.ensures in
+    record {
+      moved = grind arith;
+      failures = grind arith;
+      fault = grind arith;
+      ready = grind arith;
+      settled = grind arith;
+      group = rw (← (c.new-keyed.ensures ∙ c.deref.ensures), took.feeds, took.out.0) (record {
+        above = inv.above;
+        least = inv.least;
+        later = rw took.out.0 at took.out.1;
+        each = now.each;
+        fewer = omega (arith, ok.fewer, inv.fewer);
+        gathered = λ told low. (now.gathered told low).0;
+      });
+      reads = grind arith;
+      held = grind arith;
+    }
+
+pub returns-in_err-drain-clause-moved : goal.returns-in_err-drain-clause-moved
+returns-in_err-drain-clause-moved g c = grind (arith, moved_trans)
+
+pub returns-in_err-drain-clause-fault : goal.returns-in_err-drain-clause-fault
+returns-in_err-drain-clause-fault g c = grind (arith, texts_kept)
 
 pub returns-in_err-drain-clause-reads : goal.returns-in_err-drain-clause-reads
 returns-in_err-drain-clause-reads g c =
-    let here = (goal.at.returns-in_err-drain-clause-reads g c).After-drain in
-    let inv = c.sources.invariant in
-    on_err c.from_residual.result c.in_err-drain.field-0.0 _ c.from_residual.ensures.1
-    (record { pair = member_pair c.new-keyed.result; above = inv.above; least = inv.least; read = read_to g here })
-
-pub returns-in_err-push-clause-reads : goal.returns-in_err-push-clause-reads
-returns-in_err-push-clause-reads g c =
-    let at = goal.at.returns-in_err-push-clause-reads g c in
-    let inv = c.sources.invariant in
-    let f = c.in_ok-drain.ensures.drained.feed in
-    on_err c.from_residual-in_err-push.result Memory _ c.from_residual-in_err-push.ensures.1 (record {
+    on_err _ _ _ c.from_residual.ensures.1 (record {
       pair = member_pair c.new-keyed.result;
-      above = inv.above;
-      least = inv.least;
-      read = λ told low. rw (taken_feeds g at.After-push f)
-          (due_read LINE_LIMIT (g.R.Range.past c.args.range.now) g.S.Source.text g.S.Source.extent _ c.drain.new.sources
-          c.drain.new.self.feeds.items (taken_line g at.After-push).source f (read_to g at.After-drain told low));
+      above = c.sources.invariant.above;
+      least = c.sources.invariant.least;
+      read = read_to g (goal.at.returns-in_err-drain-clause-reads g c).After-drain;
     })
+
+pub returns-in_err-push : goal.returns-in_err-push
+returns-in_err-push g c =
+    let here = goal.at.returns-in_err-push g c in
+    let t = taken g here.After-push (drained g here.In_ok-drain) in
+    let feeds = taken_feeds g here.After-push c.in_ok-drain.ensures.drained.feed in
+    record {
+      moved = grind arith;
+      failures = grind arith;
+      fault = grind arith;
+      ready = grind arith;
+      settled = grind arith;
+      group = grind arith;
+      reads = on_err _ _ _ c.from_residual-in_err-push.ensures.1 (record {
+        pair = member_pair c.new-keyed.result;
+        above = c.sources.invariant.above;
+        least = c.sources.invariant.least;
+        read = λ told low. rw feeds (due_read LINE_LIMIT _ g.S.Source.text g.S.Source.extent _ _ _ _ _
+            (read_to g here.After-drain told low));
+      });
+      held = grind arith;
+    }

@@ -1,12 +1,12 @@
 use Rattle.std.specs.List.{sum}
 use Rattle.std.proofs.lemmas.Slice.Zip.{all_zipped_more}
-use Rattle.std.proofs.Common.{◌≡◌, get_or, take, ◌<◌, ◌+◌, ◌∷◌, [], length, map, sym, ap, ◌∙◌, zip}
+use Rattle.std.proofs.Common.{◌≡◌, get_or, take, ◌<◌, length, map, sym, ap, ◌∙◌, zip}
 use Rattle.std.proofs.Common.{length-append, arith}
 use Rattle.std.proofs.lemmas.List.{take_all, take_more}
 use Rattle.cdxj_core.specs.declared.limit.TheConstants.{LINE_LIMIT}
 use Rattle.source_core.specs.Halving.{digits}
 use Rattle.merge_core.specs.declared.feed.Feed.{Feed}
-use Rattle.merge_core.specs.Spending.{CameWithin, OpenedWithin}
+use Rattle.merge_core.specs.Spending.{CameWithin}
 use Rattle.merge_core.proofs.SpendLemmas.{opened_none, two_put, left_here, left_after}
 use Rattle.merge_core.proofs.FailLemmas.{raised_by_feed}
 use Rattle.cdxj_places.proofs.RisingLaws.{each_join}
@@ -18,12 +18,6 @@ use Rattle.merge_core.proofs.streams.Streams.open_at.Goals as goal
 
 pub loop-i-init : goal.loop-i-init
 loop-i-init g c = grind (arith, fed_none, zip_none, done_none, opened_none)
-
-pub returns-in-Err-clause-text : goal.returns-in-Err-clause-text
-returns-in-Err-clause-text g c = grind (arith, map_set_same)
-
-pub returns-in-Err-clause-extent : goal.returns-in-Err-clause-extent
-returns-in-Err-clause-extent g c = grind (arith, map_set_same)
 
 pub loop-i-preserved : goal.loop-i-preserved
 loop-i-preserved g c =
@@ -44,26 +38,42 @@ loop-i-preserved g c =
     let here = ap digits ok.extent in
     let all = c.saturating_add-probes.ensures in
     record {
-      text = map_set_same text ss i a s inside ok.text ∙ inv.text;
-      extent = map_set_same extent ss i a s inside ok.extent ∙ inv.extent;
-      failures = map_set_same g.S.Source.failures ss i a s inside ok.failures ∙ inv.failures;
-      held = ok.held ∙ inv.held;
-      count = ap length added.feeds_are ∙ length-append fs (f ∷ []) ∙ ap (λ n. n + 1) inv.count;
+      text = grind (arith, map_set_same);
+      extent = grind (arith, map_set_same);
+      failures = grind (arith, map_set_same);
+      held = grind arith;
+      count = grind (arith, length-append);
       placed = rw added.feeds_are both.0;
-      fed = rw added.feeds_are both.1;
+      fed = grind arith;
       cut = grind (arith, zip_push, each_join);
-      start = λ k s. rw added.feeds_are
-          (each_join (λ (f : Feed). f.cursor.start ≡ 0) fs (f ∷ []) (inv.start k s) (added.cursor_is.2 k s, tt));
-      settled = ok.settled inv.settled;
+      start = grind (arith, each_join);
+      settled = grind arith;
       fresh = grind (arith, zip_push, flat_push, fresh_of);
       probes = omega (arith, turns, here, ok.probes, inv.probes, all);
-      left = left_after olds ss i s inv.left;
-      spent = two_put (λ x y. OpenedWithin (text x) (extent x) (gave x) (gave y)) olds ss i a s inv.spent
-          (rw same_here at ok.spent);
+      left = grind (arith, left_after);
+      spent = grind (arith, two_put);
       came = rw (added.feeds_are, zip_push ss fs i s f inv.count inside, take_more olds i a inside_old)
           (all_zipped_more Came (take i olds) (zip ss fs) (get_or olds i a) (s, f) inv.came
           (rw same_here at added.cursor_is.1));
     }
+
+pub returns-in-Err-clause-text : goal.returns-in-Err-clause-text
+returns-in-Err-clause-text g c = grind (arith, map_set_same)
+
+pub returns-in-Err-clause-extent : goal.returns-in-Err-clause-extent
+returns-in-Err-clause-extent g c = grind (arith, map_set_same)
+
+pub returns-in-Err-clause-failures : goal.returns-in-Err-clause-failures
+returns-in-Err-clause-failures g c = grind (arith, raised_by_feed)
+
+pub returns-in-Err-clause-spent : goal.returns-in-Err-clause-spent
+returns-in-Err-clause-spent g c =
+    let here = left_here c.args.sources.now c.loop-i.sources c.loop-i.i c.index-sources-i.result
+    c.loop-i.invariant.left in
+    grind (arith, two_put)
+
+pub returns-clause-came : goal.returns-clause-came
+returns-clause-came g c = grind (arith, take_all)
 
 pub returns-clause-probes : goal.returns-clause-probes
 returns-clause-probes g c =
@@ -74,17 +84,3 @@ returns-clause-probes g c =
     let same = ap sum (map_seen digits e c.loop-i.sources ∙ ap (map digits) inv.extent
     ∙ sym (map_seen digits e c.args.sources.now)) in
     grind arith
-
-pub returns-in-Err-clause-spent : goal.returns-in-Err-clause-spent
-returns-in-Err-clause-spent g c =
-    let text = g.S.Source.text in let extent = g.S.Source.extent in let gave = g.S.Source.gave in
-    let olds = c.args.sources.now in let ss = c.loop-i.sources in let i = c.loop-i.i in
-    let a = c.index-sources-i.result in
-    two_put (λ x y. OpenedWithin (text x) (extent x) (gave x) (gave y)) olds ss i a c.add_from.new.source
-    c.loop-i.invariant.spent (rw (left_here olds ss i a c.loop-i.invariant.left) at c.add_from.ensures.spent)
-
-pub returns-clause-came : goal.returns-clause-came
-returns-clause-came g c = grind (arith, take_all)
-
-pub returns-in-Err-clause-failures : goal.returns-in-Err-clause-failures
-returns-in-Err-clause-failures g c = grind (arith, raised_by_feed)
