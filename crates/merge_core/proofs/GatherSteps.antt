@@ -1,7 +1,7 @@
 -- The steps of a group's gathering.
 use Rattle.std.specs.List.{AllZip, AllByRecursion}
 use Rattle.std.proofs.Common.{◌≡◌, ℕ, ◌+◌, ◌<◌, ◌≤◌, List, [], ◌∷◌, ◌++◌, length, get_or, set, drop, zip}
-use Rattle.std.proofs.Common.{flat_map, Bool, true, false, is_lt, Option, refl, ap, arith}
+use Rattle.std.proofs.Common.{flat_map, Bool, true, false, is_lt, Option, refl, append_assoc, arith}
 use Rattle.std.proofs.Common.{length-set}
 use Rattle.std.specs.List.Sorted.{IsPermutation}
 use Rattle.std.specs.Option.{is_some}
@@ -15,13 +15,13 @@ use Rattle.line_queue.specs.PairOrders.{Alike, Upto}
 use Rattle.line_queue.specs.WaitingLines.{WaitingLine, waiting_pair, turn_cmp}
 use Rattle.merge_core.specs.Feeds.{Ready, IsSettled, AreSettled, done, due}
 use Rattle.merge_core.specs.Gathering.{Gathered, AreTold, text_or, all_done, unread, IsFrom, IsDue}
-use Rattle.merge_core.specs.Gathering.{DrainedSource, WaitsAbove}
+use Rattle.merge_core.specs.Gathering.{DrainedSource}
 use Rattle.line_queue.proofs.PairOrder.{upto_upto, same_upto, same_from}
 use Rattle.line_queue.proofs.HeapLemmas.{each_get, each_permuted}
 use Rattle.merge_core.proofs.Many.{is_told, zip_set, zip_at, length_zip, Move, moved_trans, moved_still, moved_set}
 use Rattle.merge_core.proofs.Many.{each_replaced, move_not, told_moved, unread_set}
 use Rattle.merge_core.proofs.StreamLemmas.{any_of, inside_sources, none_left, popped_ready, popped, popped_due}
-use Rattle.merge_core.proofs.GroupLemmas.{from_popped, from_waited, AreAt, AreBelow, gathered_none, source_more}
+use Rattle.merge_core.proofs.GroupLemmas.{from_popped, AreAt, AreBelow, each_cut, gathered_none, source_more}
 
 -- what is done of a source
 abbrev of : {S : Type 0} → ℕ → (S → Option (List ℕ)) → S × Feed → List Member
@@ -53,14 +53,7 @@ module _ (limit : ℕ) (past : List ℕ → Bool) {S : Type 0} (text : S → Opt
 
   pub gathers_start : (ws0 : List WaitingLine) → Ready limit past text extent ss0 fs0 ws0
       → AllByRecursion (λ w. Upto pair (waiting_pair w)) ws0 → Gathers 0 ss0 fs0 ws0 []
-  gathers_start ws0 ready least = record {
-    ready = ready;
-    as_many = refl;
-    moved = moved_still text extent gave (zip ss0 fs0);
-    each = tt;
-    from = each_weaker (λ (w : WaitingLine) (u : Upto pair (waiting_pair w)). (u, λ a. omega arith)) ws0 least;
-    gathered = λ told low. (gathered_none pair (all_done limit text ss0 fs0) low, low);
-  }
+  gathers_start ws0 ready least = grind (arith, moved_still, each_weaker, gathered_none)
 
 module _ {limit n : ℕ} {past : List ℕ → Bool} {S : Type 0} {text : S → Option (List ℕ)} {extent gave : S → ℕ}
     {ss0 ss : List S} {fs0 fs : List Feed} {pair : Pair} {ws : List WaitingLine} {group : List Member}
@@ -68,17 +61,20 @@ module _ {limit n : ℕ} {past : List ℕ → Bool} {S : Type 0} {text : S → O
   told_now : (i : ℕ) (a : S) → i < length ss → AreTold text ss0 → is_some (text (get_or ss i a)) ≡ true
   told_now i a l told = each_get (λ s. is_some (text s) ≡ true) ss i a (grind (arith, told_moved)) l
 
-  -- more lines of a source are taken
-  pub gathers_on : {i : ℕ} {ss' : List S} {fs' : List Feed} {ws' : List WaitingLine} {group' : List Member}
-      → DrainedSource limit text pair i ss ss' fs fs' group group' → n ≤ i + 1 → i < length ss
+  -- more lines of a source are taken: of the group, all but those that lead are lines that the source is asked for
+  pub gathers_on : {i : ℕ} {ss' : List S} {fs' : List Feed} {ws' : List WaitingLine} (lead : List Member)
+      {lines lines' : List Member} → group ≡ lead ++ lines
+      → DrainedSource limit text pair i ss ss' fs fs' lines lines' → n ≤ i + 1 → i < length ss
       → Ready limit past text extent ss' fs' ws' → AllZip (Move text extent gave) (zip ss fs) (zip ss' fs')
-      → AllByRecursion (IsFrom pair (i + 1)) ws' → AreAt pair group'
-      → Gathers limit past text extent gave ss0 fs0 pair (i + 1) ss' fs' ws' group'
-  gathers_on {i} {ss'} {fs'} {ws'} {group'} d turn inside ready moved from each = record {
+      → AllByRecursion (IsFrom pair (i + 1)) ws' → (AreAt pair lines → AreAt pair lines')
+      → Gathers limit past text extent gave ss0 fs0 pair (i + 1) ss' fs' ws' (lead ++ lines')
+  gathers_on {i} {ss'} {fs'} lead {lines} {lines'} is d turn inside ready moved from each = record {
     ready = ready;
     as_many = grind (arith, length-set);
     moved = moved_trans text extent gave (zip ss0 fs0) (zip ss fs) (zip ss' fs') h.moved moved;
-    each = each;
+    each =
+        (let cut = each_cut (λ m. Alike (member_pair m) pair) lead lines (rw is at h.each) in
+        each_join (λ m. Alike (member_pair m) pair) lead lines' cut.0 (each cut.1));
     from = from;
     gathered = λ told low.
         let s = d.source in let f = d.feed in
@@ -88,8 +84,8 @@ module _ {limit n : ℕ} {past : List ℕ → Bool} {S : Type 0} {text : S → O
         let now : zip ss' fs' ≡ set (zip ss fs) i (s, f) = grind (arith, zip_set) in
         let long = length_zip ss fs h.ready.same in
         let here = zip_at ss fs i s f h.ready.same inside in
-        rw (now, more.2) (source_more pair (of limit text) (zip ss fs) n i (s, f) (s, f) (all_done limit text ss0 fs0)
-        group more.0 turn (omega arith) (grind arith) more.3 was.0 was.1);
+        rw (now, more.2, ← append_assoc lead lines more.0, ← is) (source_more pair (of limit text) (zip ss fs) n i
+        (s, f) (s, f) (all_done limit text ss0 fs0) group more.0 turn (omega arith) (grind arith) more.3 was.0 was.1);
   }
 
   -- the next line is taken out, and its source's next line is to be read
@@ -121,31 +117,10 @@ module _ {limit n : ℕ} {past : List ℕ → Bool} {S : Type 0} {text : S → O
         let from = from_popped pair w ws' at first (none_left h.ready p) in
         let turn = (each_permuted (IsFrom pair n) ws (w ∷ ws') p h.from).0.1 at in
         rw (feeds b) (record {
-          gathers = gathers_on (popped h.ready p b at) (omega arith) inside (popped_ready h.ready p b) moved from
-              (each_join (λ m. Alike (member_pair m) pair) group (w.member ∷ []) h.each (at, tt));
+          gathers = gathers_on [] refl (popped h.ready p b at) (omega arith) inside (popped_ready h.ready p b) moved
+              from (λ each. each_join (λ m. Alike (member_pair m) pair) group (w.member ∷ []) each (at, tt));
           inside = inside;
           due = λ x d. rw (get_or-set_same fs i f d (omega arith)) (due_alike at (popped_due h.ready p x b));
           settled = λ all f s. rw set-set (each_replaced IsSettled fs i f all s);
           fewer = omega arith;
         })
-
--- the further lines of a source are taken
-pub gathers_drained : {limit i : ℕ} {past : List ℕ → Bool} {S : Type 0} {text : S → Option (List ℕ)}
-    {extent gave : S → ℕ} {ss0 ss ss' : List S} {fs0 fs fs' : List Feed} {pair q : Pair} {ws ws' : List WaitingLine}
-    {first : Member} {g g' : List Member}
-    → Gathers limit past text extent gave ss0 fs0 pair (i + 1) ss fs ws (first ∷ g)
-    → DrainedSource limit text q i ss ss' fs fs' g g' → q ≡ pair → i < length ss
-    → Ready limit past text extent ss' fs' ws' → AllZip (Move text extent gave) (zip ss fs) (zip ss' fs')
-    → WaitsAbove pair i ws ws' → (AreAt q g → AreAt q g')
-    → Gathers limit past text extent gave ss0 fs0 pair (i + 1) ss' fs' ws' (first ∷ g')
-gathers_drained {i = i} {pair = pair} {ws = ws} {ws' = ws'} {first = first} h d same inside ready moved waits each =
-    let from = from_waited pair (i + 1) i ws ws' waits h.from in
-    gathers_on h (record {
-      source = d.source;
-      feed = d.feed;
-      source_is = d.source_is;
-      feed_is = d.feed_is;
-      text_is = d.text_is;
-      drained = λ s f t e.
-          let m = d.drained s f t e in (m.0, m.1, ap (λ l. first ∷ l) m.2, rw same at m.3);
-    }) (omega arith) inside ready moved from (h.each.0, rw same at each h.each.1)

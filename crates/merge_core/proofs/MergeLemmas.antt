@@ -1,5 +1,5 @@
 -- One group more of a merge.
-use Rattle.std.proofs.Common.{arith, ◌≡◌, ℕ, Result, inl, IsErrAnd, OnErr, List, [], ◌∷◌, ◌++◌, refl, sym, ap, ap₂}
+use Rattle.std.proofs.Common.{arith, ◌≡◌, ℕ, Result, inl, IsErrAnd, OnErr, List, [], ◌∷◌, ◌++◌, refl, ap}
 use Rattle.std.proofs.Common.{◌∙◌, Bool, Option, Some, None, map, true, Less, Ordering, is_lt, is_gt}
 use Rattle.std.specs.List.{AllByRecursion}
 use Rattle.std.specs.Ordering.{ordering_reverse}
@@ -49,8 +49,7 @@ lower_by_pair pair x y h k = place_below x y
 risen_on : (pair : Pair) (old now group : List Member) → Gathered pair old now [] group
     → rising member_place place_cmp old ++ rising member_place place_cmp group ≡ rising member_place place_cmp now
 risen_on pair old now group h =
-    sym (rising_split member_place place_cmp place_cmp_total (is_low pair) (lower_by_pair pair) now
-    ∙ ap₂ (λ u v. rising member_place place_cmp u ++ rising member_place place_cmp v) h.before (sym h.taken))
+    cc (rising_split member_place place_cmp place_cmp_total (is_low pair) (lower_by_pair pair) now)
 
 -- lists that rise, the one below the other
 rises_join : (us vs : List Member) → Rises member_place place_cmp us → Rises member_place place_cmp vs
@@ -78,8 +77,9 @@ module _ {S : Type 0} {limit : ℕ} {text : S → Option (List ℕ)} {past : Lis
 
   pub gathered_now : AreTold text old
       → Gathered pair (all_done limit text ss0 fs0) (all_done limit text ss fs) [] group
-  gathered_now told = grouped.gathered (told_moved text extent gave old ss0 old_fs fs0 was.ready.same was.moved told)
-      (below_next b pair (grouped.above b was.above) (all_done limit text ss0 fs0) (was.handed.told told).1)
+  gathered_now told =
+      let above = grouped.above b was.above in
+      grind (arith, told_moved, below_next)
 
   pub reached_next : Ready limit past text extent ss fs ws → AreSettled fs → AllMoved text extent gave ss0 fs0 ss fs
       → AllByRecursion (HasEntry limit) group

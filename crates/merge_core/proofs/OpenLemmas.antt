@@ -1,13 +1,12 @@
 -- The opening of sources, one after another.
 use Rattle.std.proofs.Common.{◌≡◌, ◌≢◌, ℕ, zero, suc, ◌+◌, ◌<◌, List, [], ◌∷◌, ◌++◌, length, set, zip, flat_map}
 use Rattle.std.proofs.Common.{map, take, Bool, Option, Some, MatchOption, refl, ap, arith}
-use Rattle.std.proofs.Common.{append-nil, inl, inr, length-append, length-set}
+use Rattle.std.proofs.Common.{append-nil, length-append}
 use Rattle.std.specs.List.{AllByRecursion, sum}
-use Rattle.std.proofs.lemmas.Bool.Decides.{eqb_tells}
 use Rattle.std.proofs.lemmas.List.Sums.{sum-map, sum_by_push}
 use Rattle.std.specs.List.Sorted.{IsPermutation}
-use Rattle.std.proofs.lemmas.List.{drop_all, get_or-set_other, get_or-set_same, get_or_append_left, get_or_push}
-use Rattle.std.proofs.lemmas.List.{length_push, take_more_set}
+use Rattle.std.proofs.lemmas.List.{drop_all}
+use Rattle.std.proofs.lemmas.List.{take_more_set}
 use Rattle.std.proofs.lemmas.List.Concat.{flat_map-append}
 use Rattle.cdxj_places.proofs.RisingLaws.{each_weaker}
 use Rattle.cdxj_core.specs.Members.{Member}
@@ -16,7 +15,7 @@ use Rattle.line_queue.specs.WaitingLines.{WaitingLine, waits_of}
 use Rattle.merge_core.specs.Feeds.{Fed, AreFed, option_list, done}
 use Rattle.merge_core.specs.Gathering.{text_or}
 use Rattle.line_queue.proofs.HeapLemmas.{each_permuted, waits_here, waits_other}
-use Rattle.merge_core.proofs.StreamLemmas.{are_fed, each_fed, fed_permuted}
+use Rattle.merge_core.proofs.StreamLemmas.{fed_permuted}
 
 -- none of a later source waits
 waits_none : (n : ℕ) (ws : List WaitingLine) → AllByRecursion (λ (w : WaitingLine). w.source < n) ws → waits_of n ws
@@ -26,22 +25,18 @@ waits_none n (w ∷ ws) h = grind (arith, waits_other, waits_none n ws h.1)
 
 module _ (limit : ℕ) (past : List ℕ → Bool) where
   module _ {S : Type 0} (text : S → Option (List ℕ)) (extent : S → ℕ) where
-    fed_push : (i : ℕ) (ss : List S) (fs : List Feed) (ws ws' : List WaitingLine) (s : S) (f : Feed) → length fs ≡ i
-        → AreFed limit past text extent 0 ss fs ws → ((j : ℕ) → j ≢ i → waits_of j ws' ≡ waits_of j ws)
-        → Fed limit past (text s) (extent s) f (waits_of i ws')
-        → AreFed limit past text extent 0 (set ss i s) (fs ++ f ∷ []) ws'
-    fed_push i ss fs ws ws' s f e h same k =
-        are_fed limit past text extent 0 (set ss i s) (fs ++ f ∷ []) ws' (λ j a b l m.
-        let j_is : 0 + j ≡ j = omega arith in
-        let l' : j < length ss = rw length-set at l in
-        let m' : j < length fs + 1 = rw length_push at m in
-        rw j_is (elim (eqb_tells j i) [
-          | inl q ↦ rw (q.1, get_or-set_same ss i s a (omega arith), get_or_push fs f b i e) k
-          | inr q ↦
-              let here = each_fed limit past text extent 0 ss fs ws h j a b l' (omega arith) in
-              rw (get_or-set_other ss i j s a q.1, get_or_append_left fs (f ∷ []) b j (omega arith), same j q.1)
-              (rw j_is at here)
-        ]))
+    fed_nil : (n : ℕ) (ss : List S) (ws : List WaitingLine) → AreFed limit past text extent n ss [] ws
+    fed_nil n [] ws = tt
+    fed_nil n (s ∷ ss) ws = tt
+
+    fed_push : (n i m : ℕ) (ss : List S) (fs : List Feed) (ws ws' : List WaitingLine) (s : S) (f : Feed) → m ≡ n + i
+        → length fs ≡ i → i < length ss → AreFed limit past text extent n ss fs ws
+        → ((j : ℕ) → j ≢ m → waits_of j ws' ≡ waits_of j ws) → Fed limit past (text s) (extent s) f (waits_of m ws')
+        → AreFed limit past text extent n (set ss i s) (fs ++ f ∷ []) ws'
+    fed_push n zero m (x ∷ ss) [] ws ws' s f q e l h same k = grind (arith, fed_nil)
+    fed_push n (suc i) m (x ∷ ss) (y ∷ fs) ws ws' s f q e l h same k =
+        (grind arith, fed_push (n + 1) i m ss fs ws ws' s f (omega arith) (omega arith) (omega arith) h.1 same k)
+    fed_push n i m ss fs ws ws' s f q e l h same k = absurd (omega arith)
 
     pub fed_added : (i : ℕ) (ss : List S) (fs : List Feed) (ws ws' : List WaitingLine) (s : S) (f : Feed)
         (o : Option Member) → length fs ≡ i → i < length ss
@@ -85,8 +80,7 @@ done_none f xs ys e = ap (flat_map f) (zip_none xs ys e)
 
 pub fed_none : {S : Type 0} (limit : ℕ) (past : List ℕ → Bool) (text : S → Option (List ℕ)) (extent : S → ℕ)
     (ss : List S) (fs : List Feed) (ws : List WaitingLine) → fs ≡ [] → AreFed limit past text extent 0 ss fs ws
-fed_none limit past text extent ss fs ws e =
-    are_fed limit past text extent 0 ss fs ws (λ i a b l k. absurd (omega (arith, ap length e)))
+fed_none limit past text extent ss fs ws e = grind (arith, fed_nil)
 
 pub fresh_of : (limit : ℕ) (text : Option (List ℕ)) (f : Feed) → ((t : List ℕ) → text ≡ Some t → done limit t f ≡ [])
     → done limit (text_or text) f ≡ []

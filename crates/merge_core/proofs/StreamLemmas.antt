@@ -1,11 +1,10 @@
 -- Sources and feeds, while lines wait.
 use Rattle.std.proofs.Common.{◌≡◌, ◌≢◌, ℕ, zero, suc, ◌+◌, ◌<◌, ◌≤◌, List, [], ◌∷◌, ◌++◌, false, length, get_or, set}
-use Rattle.std.proofs.Common.{Bool, Option, None, Some, MatchOption, option_map, inl, inr, refl, sym, ap, ◌∙◌, arith}
-use Rattle.std.proofs.Common.{add-zero, length-set}
+use Rattle.std.proofs.Common.{Bool, Option, None, Some, MatchOption, option_map, refl, sym, ap, ◌∙◌, arith}
+use Rattle.std.proofs.Common.{length-set}
 use Rattle.std.specs.List.{AllByRecursion}
 use Rattle.std.specs.List.Sorted.{IsPermutation}
-use Rattle.std.proofs.lemmas.List.{get_or-set_other, get_or-set_same, get_or_default, nil_from_length, set-get_or}
-use Rattle.std.proofs.lemmas.Bool.Decides.{eqb_tells}
+use Rattle.std.proofs.lemmas.List.{get_or_default, nil_from_length, set-get_or}
 use Rattle.std.proofs.lemmas.List.Sorted.{length_permutation}
 use Rattle.cdxj_places.specs.Pairs.{Pair, pair_cmp}
 use Rattle.cdxj_places.specs.Rising.{NeverFalls}
@@ -14,7 +13,7 @@ use Rattle.merge_core.specs.declared.feed.Progress.{Progress}
 use Rattle.merge_core.specs.declared.feed.Progress.TheVariants.{Due, Waiting}
 use Rattle.merge_core.specs.declared.feed.Feed.{Feed}
 use Rattle.line_queue.specs.WaitingLines.{WaitingLine, waiting_pair, waits_of}
-use Rattle.merge_core.specs.Feeds.{AreWaits, FedOf, Fed, AreFed, Ready, given, done, due, option_list}
+use Rattle.merge_core.specs.Feeds.{AreWaits, Fed, AreFed, Ready, given, done, due, option_list}
 use Rattle.merge_core.specs.Gathering.{IsDue, DrainedSource}
 use Rattle.line_queue.specs.PairOrders.{Alike, Upto}
 use Rattle.line_queue.proofs.PairOrder.{upto_itself}
@@ -45,57 +44,46 @@ falls_last (x ∷ xs) y h = (at_end xs h.0, falls_last xs y h.1)
     at_end (u ∷ us) a = at_end us a.1
 
 module _ (limit : ℕ) (past : List ℕ → Bool) {S : Type 0} (text : S → Option (List ℕ)) (extent : S → ℕ) where
-  -- each source and its feed, with the lines of it that wait
-  abbrev pub EachFed : ℕ → List S → List Feed → List WaitingLine → Type 0
-  EachFed n ss fs ws = (i : ℕ) (a : S) (b : Feed) → i < length ss → i < length fs
-      → Fed limit past (text (get_or ss i a)) (extent (get_or ss i a)) (get_or fs i b) (waits_of (n + i) ws)
+  fed_at : (n i m : ℕ) (ss : List S) (fs : List Feed) (ws : List WaitingLine) (a : S) (b : Feed) → m ≡ n + i
+      → length ss ≡ length fs → i < length ss → AreFed limit past text extent n ss fs ws
+      → Fed limit past (text (get_or ss i a)) (extent (get_or ss i a)) (get_or fs i b) (waits_of m ws)
+  fed_at n zero m (s ∷ ss) (f ∷ fs) ws a b e same l h = rw (let q : m ≡ n = omega arith in q) h.0
+  fed_at n (suc i) m (s ∷ ss) (f ∷ fs) ws a b e same l h =
+      fed_at (n + 1) i m ss fs ws a b (omega arith) (omega arith) (omega arith) h.1
+  fed_at n i m ss fs ws a b e same l h = absurd (omega arith)
 
-  pub each_fed : (n : ℕ) (ss : List S) (fs : List Feed) (ws : List WaitingLine)
-      → AreFed limit past text extent n ss fs ws → EachFed n ss fs ws
-  each_fed n (s ∷ ss) (f ∷ fs) ws h zero a b l k = rw add-zero h.0
-  each_fed n (s ∷ ss) (f ∷ fs) ws h (suc i) a b l k =
-      let e : n + suc i ≡ (n + 1) + i = omega arith in
-      rw e (each_fed (n + 1) ss fs ws h.1 i a b (omega arith) (omega arith))
-  each_fed n ss fs ws h i a b l k = absurd (omega arith)
-
-  pub are_fed : (n : ℕ) (ss : List S) (fs : List Feed) (ws : List WaitingLine) → EachFed n ss fs ws
-      → AreFed limit past text extent n ss fs ws
-  are_fed n (s ∷ ss) (f ∷ fs) ws h = (
-    rw add-zero at (h 0 s f (omega arith) (omega arith)),
-    are_fed (n + 1) ss fs ws (λ i a b l k.
-        let e : n + suc i ≡ (n + 1) + i = omega arith in rw e at (h (suc i) a b (omega arith) (omega arith))),
-  )
-  are_fed n ss fs ws h = grind arith
+  -- where the waiting lines of each source stay the same
+  fed_other : (n i : ℕ) (ss : List S) (fs : List Feed) (ws ws' : List WaitingLine) → i < n
+      → ((j : ℕ) → j ≢ i → waits_of j ws' ≡ waits_of j ws) → AreFed limit past text extent n ss fs ws
+      → AreFed limit past text extent n ss fs ws'
+  fed_other n i (s ∷ ss) (f ∷ fs) ws ws' l same h =
+      grind (arith, fed_other (n + 1) i ss fs ws ws' (omega arith) same h.1)
+  fed_other n i ss fs ws ws' l same h = grind arith
 
   -- one source, its feed and its waiting lines change
-  pub fed_set : (i : ℕ) (ss : List S) (fs : List Feed) (ws ws' : List WaitingLine) (s : S) (f : Feed)
-      → ((j : ℕ) → j ≢ i → waits_of j ws' ≡ waits_of j ws)
-      → AreFed limit past text extent 0 ss fs ws → Fed limit past (text s) (extent s) f (waits_of i ws')
-      → AreFed limit past text extent 0 (set ss i s) (set fs i f) ws'
-  fed_set i ss fs ws ws' s f same h k = are_fed 0 (set ss i s) (set fs i f) ws' (λ j a b l m.
-      let j_is : 0 + j ≡ j = omega arith in
-      let l' : j < length ss = rw length-set at l in
-      let m' : j < length fs = rw length-set at m in
-      rw j_is (elim (eqb_tells j i) [
-        | inl e ↦ rw (e.1, get_or-set_same ss i s a (omega arith), get_or-set_same fs i f b (omega arith)) k
-        | inr e ↦ rw (get_or-set_other ss i j s a e.1, get_or-set_other fs i j f b e.1, same j e.1) (rw j_is at
-            (each_fed 0 ss fs ws h j a b l' m'))
-      ]))
+  fed_set : (n i m : ℕ) (ss : List S) (fs : List Feed) (ws ws' : List WaitingLine) (s : S) (f : Feed) → m ≡ n + i
+      → ((j : ℕ) → j ≢ m → waits_of j ws' ≡ waits_of j ws)
+      → AreFed limit past text extent n ss fs ws → Fed limit past (text s) (extent s) f (waits_of m ws')
+      → AreFed limit past text extent n (set ss i s) (set fs i f) ws'
+  fed_set n zero m (x ∷ ss) (y ∷ fs) ws ws' s f e same h k = grind (arith, fed_other)
+  fed_set n (suc i) m (x ∷ ss) (y ∷ fs) ws ws' s f e same h k =
+      (grind arith, fed_set (n + 1) i m ss fs ws ws' s f (omega arith) same h.1 k)
+  fed_set n i m ss fs ws ws' s f e same h k = grind arith
 
   pub fed_permuted : (n : ℕ) (ss : List S) (fs : List Feed) (ws ws' : List WaitingLine) → IsPermutation ws ws'
       → AreFed limit past text extent n ss fs ws → AreFed limit past text extent n ss fs ws'
-  fed_permuted n ss fs ws ws' p h = are_fed n ss fs ws' (λ i a b l k.
-      let was = each_fed n ss fs ws h i a b l k in
-      rw (waits_permuted (n + i) ws ws' p (few_waits (get_or fs i b).progress (waits_of (n + i) ws) was.waits)) was)
+  fed_permuted n (s ∷ ss) (f ∷ fs) ws ws' p h =
+      (rw (waits_permuted n ws ws' p (few_waits _ _ h.0.waits)) h.0, fed_permuted (n + 1) ss fs ws ws' p h.1)
+  fed_permuted n ss fs ws ws' p h = grind arith
 
 -- the line of a source that waits is taken
 module _ {limit : ℕ} {past : List ℕ → Bool} {f : Feed} {m : Member} {ws : List Member} where
-  due_of : {t : List ℕ} → AreWaits f.progress (m ∷ ws) → FedOf limit past t f (m ∷ ws)
+  due_of : {text : Option (List ℕ)} {extent : ℕ} {t : List ℕ} → Fed limit past text extent f (m ∷ ws) → text ≡ Some t
       → (given limit t f.cursor ≡ done limit t f ++ m ∷ []) × (done limit t (due f) ≡ done limit t f ++ m ∷ [])
       × (past m.values.key ≡ false)
-  due_of {t = t} waits h =
-      let only = only_waits f.progress m ws waits in
-      let head = rw only.0 at h.head in
+  due_of {t = t} h e =
+      let only = only_waits f.progress m ws h.waits in
+      let head = rw only.0 at (h.told t e).head in
       let all : given limit t f.cursor ≡ done limit t f ++ m ∷ [] = grind arith in
       (all, done_due limit t (due f) refl ∙ all, head.1.0)
 
@@ -107,7 +95,8 @@ module _ {limit : ℕ} {past : List ℕ → Bool} {f : Feed} {m : Member} {ws : 
     counted = omega arith;
     told = λ t e.
         let was = h.told t e in
-        grind (arith, due_of, each_join, done_due);
+        let now = due_of h e in
+        grind (arith, each_join, done_due);
   }
 
 -- sources and feeds that are ready
@@ -122,10 +111,7 @@ module _ {limit : ℕ} {past : List ℕ → Bool} {S : Type 0} {text : S → Opt
 
   ready_at : (i : ℕ) (a : S) (b : Feed) → i < length ss
       → Fed limit past (text (get_or ss i a)) (extent (get_or ss i a)) (get_or fs i b) (waits_of i ws)
-  ready_at i a b l =
-      let same = ready.same in
-      rw (let q : 0 + i ≡ i = omega arith in q) at
-      (each_fed limit past text extent 0 ss fs ws ready.fed i a b l (omega arith))
+  ready_at i a b l = fed_at limit past text extent 0 i i ss fs ws a b (omega arith) ready.same l ready.fed
 
   pub few_wait : (i : ℕ) → i < length ss → length (waits_of i ws) ≤ 1
   few_wait i l =
@@ -140,7 +126,7 @@ module _ {limit : ℕ} {past : List ℕ → Bool} {S : Type 0} {text : S → Opt
   ready_set i s f ws' others placed fed = record {
     same = grind (arith, length-set);
     placed = simp length-set placed;
-    fed = grind (arith, fed_set);
+    fed = fed_set limit past text extent 0 i i ss fs ws ws' s f (omega arith) others ready.fed fed;
   }
 
 -- the first in turn is taken out
@@ -169,11 +155,6 @@ module _ {limit : ℕ} {past : List ℕ → Bool} {S : Type 0} {text : S → Opt
       (due (get_or fs w.source b)) ws (λ j q. sym (waits_other j w ws (λ e. absurd (omega arith)))) all_ready.placed.1
       (fed_due (fed_here a b)))
 
-  both : (a : S) (b : Feed) (t : List ℕ) → text (get_or ss w.source a) ≡ Some t
-      → (given limit t (get_or fs w.source b).cursor ≡ done limit t (get_or fs w.source b) ++ w.member ∷ [])
-      × (done limit t (due (get_or fs w.source b)) ≡ done limit t (get_or fs w.source b) ++ w.member ∷ [])
-  both a b t e = let d = due_of (fed_here a b).waits ((fed_here a b).told t e) in (d.0, d.1)
-
   pub popped : {pair : Pair} {group : List Member} (b : Feed) → Alike (waiting_pair w) pair
       → DrainedSource limit text pair w.source ss ss fs (set fs w.source (due (get_or fs w.source b))) group
       (group ++ w.member ∷ [])
@@ -187,7 +168,7 @@ module _ {limit : ℕ} {past : List ℕ → Bool} {S : Type 0} {text : S → Opt
         text_is = λ x. ap text (get_or_default ss w.source a x inside_sources);
         drained = λ x d t e. (
           w.member ∷ [],
-          rw (get_or_default fs w.source d b all_ready.placed.0) (both x b t e).1,
+          rw (get_or_default fs w.source d b all_ready.placed.0) (due_of (fed_here x b) e).1,
           refl,
           (at, tt),
         );
@@ -198,11 +179,11 @@ module _ {limit : ℕ} {past : List ℕ → Bool} {S : Type 0} {text : S → Opt
   popped_due a b = record {
     is_due = refl;
     low = λ t e.
-        let f = get_or fs w.source b in let here = both a b t e in
+        let f = get_or fs w.source b in let here = due_of (fed_here a b) e in
         rw here.1 (each_join (λ m. Upto (member_pair m) (member_pair w.member)) (done limit t f) (w.member ∷ [])
         (falls_last (done limit t f) w.member (rw (← here.0) ((fed_here a b).told t e).run.ordered))
         (upto_itself (member_pair w.member), tt));
-    last = λ t e. (done limit t (get_or fs w.source b), w.member, (both a b t e).1, upto_itself (member_pair w.member));
+    last = λ t e. (_, w.member, (due_of (fed_here a b) e).1, upto_itself (member_pair w.member));
   }
 
 -- the lines of a source with the pair of a group were taken

@@ -23,7 +23,7 @@ use Rattle.merge_core.proofs.ReadLines.{wanted_low}
 -- ---- what stands above a bound
 
 gt_back : (p q : Pair) → is_gt (pair_cmp p q) ≡ true → Below q p
-gt_back p q h = let turned = pair_cmp_total.antisymm q p in grind arith
+gt_back p q h = grind (arith, pair_cmp_total)
 
 abbrev upto_bound : Option Pair → Member → Bool
 upto_bound None m = false
@@ -76,16 +76,24 @@ module _ {limit : ℕ} {past : List ℕ → Bool} {upward : IsUpward past} {want
   abbrev low : (Member → Bool) → Member → Bool
   low upto m = upto m && not (past m.values.key)
 
+  -- what was taken is a front, and the rest isn't low
   split : (upto : Member → Bool)
       → ((x y : Member) → upto x ≡ true → upto y ≡ false → Below (member_pair x) (member_pair y))
       → AllByRecursion (λ (w : WaitingLine). IsLate limit past upward upto w.member) ws
       → AllByRecursion (λ m. upto m ≡ true) r.done
-      → seen all ≡ filter wanted taken ++ seen (filter (λ m. not (low upto m)) all)
+      → (rest : List Member) × (seen all ≡ filter wanted taken ++ rest)
+      × AllByRecursion (λ m. (low upto m ≡ false) × (wanted m ≡ true)) rest
   split upto lower late each =
       let is_lower : IsLower member_place place_cmp
       (low upto) = grind (arith, and_cases, place_below, stays_lower) in
-      wanted_parts wanted (low upto) is_lower all
-      ∙ ap (λ l. l ++ seen (filter (λ m. not (low upto m)) all)) (grind (arith, wanted_low, stays, stays_lower))
+      let others = filter (λ m. not (low upto m)) all in (
+        seen others,
+        wanted_parts wanted (low upto) is_lower all
+            ∙ ap (λ l. l ++ seen others) (grind (arith, wanted_low, stays, stays_lower)),
+        each_filter (λ m. low upto m ≡ false) wanted (rising member_place place_cmp others)
+            (each_rising member_place place_cmp place_cmp_total (λ m. low upto m ≡ false) others
+            (filter_out (low upto) all)),
+      )
 
   rest_above : (m : Member) → (low (upto_bound b) m ≡ false) × (wanted m ≡ true) → (wanted m ≡ true)
       × IsAbove b (member_pair m)
@@ -94,28 +102,21 @@ module _ {limit : ℕ} {past : List ℕ → Bool} {upward : IsUpward past} {want
   -- it is a front of what is wanted
   pub taken_first : TakenFirst wanted b (rising member_place place_cmp all) taken
   taken_first =
-      let others = filter (λ m. not (low (upto_bound b) m)) all in (
-        seen others,
-        split (upto_bound b) (bound_lower b)
-            (grind (arith, each_weaker, bound_late))
-            (each_weaker (λ (m : Member) (h : IsUpto b (member_pair m)). bound_upto b m h) r.done r.handed.1),
-        each_weaker rest_above (seen others)
-            (each_filter (λ m. low (upto_bound b) m ≡ false) wanted (rising member_place place_cmp others)
-            (each_rising member_place place_cmp place_cmp_total (λ m. low (upto_bound b) m ≡ false) others
-            (filter_out (low (upto_bound b)) all))),
-      )
+      let cut = split (upto_bound b) (bound_lower b) (grind (arith, each_weaker, bound_late))
+      (each_weaker (bound_upto b) r.done r.handed.1) in
+      (cut.0, cut.1, each_weaker rest_above cut.0 cut.2)
 
   -- where no line waits, it is all
   pub taken_whole : ws ≡ [] → filter wanted (rising member_place place_cmp all) ≡ filter wanted taken
   taken_whole none =
-      split (λ m. true) (λ x y h k. absurd (true≢false k)) (rw none tt) (each_any r.done)
-      ∙ ap (λ l. filter wanted taken ++ l) (none_wanted wanted (stays limit past upward) r.within
-      (filter (λ m. not (low (λ k. true) m)) all) (filter_out (stays limit past upward) all))
-      ∙ append-nil (filter wanted taken)
+      let cut = split (λ m. true) (λ x y h k. absurd (true≢false k)) (rw none tt)
+      (each_weaker (λ m h. refl) r.done r.handed.1) in
+      rw (none_left cut.0 cut.2, append-nil) at cut.1
     where
-      each_any : (xs : List Member) → AllByRecursion (λ m. true ≡ true) xs
-      each_any [] = tt
-      each_any (x ∷ xs) = (refl, each_any xs)
+      none_left : (rest : List Member) → AllByRecursion (λ m. (low (λ k. true) m ≡ false) × (wanted m ≡ true)) rest
+          → rest ≡ []
+      none_left [] h = refl
+      none_left (m ∷ ms) h = absurd (true≢false (sym (r.within m h.0.1) ∙ h.0.0))
 
   -- what was taken stands below this pair, and the lines that wait don't
   module _ (next : Pair) (later : IsAbove b next) (least : AllByRecursion (λ w. Upto next (waiting_pair w)) ws) where
@@ -140,15 +141,9 @@ module _ {limit : ℕ} {past : List ℕ → Bool} {upward : IsUpward past} {want
         × (filter wanted (rising member_place place_cmp all) ≡ filter wanted taken ++ rest)
         × AllByRecursion (λ m. (wanted m ≡ true) × Upto next (member_pair m)) rest
     taken_before =
-        let others = filter (λ m. not (low (is_low next) m)) all in (
-          seen others,
-          split (is_low next) (λ x y h k. below_then (member_pair x) next (member_pair y) (is_less _ h)
-              (from_not_below (member_pair y) next k))
-              (each_weaker (λ (w : WaitingLine) (h : Upto next (waiting_pair w)). λ k u. not_low k
-              (upto_upto next (member_pair w.member) (member_pair k) h u)) ws least)
-              (grind (arith, each_weaker, is_lt, below_next)),
-          each_weaker from_next (seen others)
-              (each_filter (λ m. low (is_low next) m ≡ false) wanted (rising member_place place_cmp others)
-              (each_rising member_place place_cmp place_cmp_total (λ m. low (is_low next) m ≡ false) others
-              (filter_out (low (is_low next)) all))),
-        )
+        let cut = split (is_low next) (λ x y h k. below_then (member_pair x) next (member_pair y) (is_less _ h)
+        (from_not_below (member_pair y) next k))
+        (each_weaker (λ (w : WaitingLine) (h : Upto next (waiting_pair w)). λ k u. not_low k
+        (upto_upto next (member_pair w.member) (member_pair k) h u)) ws least)
+        (grind (arith, each_weaker, is_lt, below_next)) in
+        (cut.0, cut.1, each_weaker from_next cut.0 cut.2)

@@ -1,6 +1,6 @@
 use Rattle.std.proofs.lemmas.List.{length-map}
 use Rattle.std.proofs.Common.{arith, ◌≡◌, ℕ, ◌+◌, ◌≤◌, length, ◌∷◌, ◌++◌, [], inl, inr, Box, Global, List, Some, None}
-use Rattle.std.proofs.Common.{map, refl}
+use Rattle.std.proofs.Common.{max, min, ◌-◌, ◌^◌, map, refl}
 use Rattle.cdxj_core.specs.declared.limit.TheConstants.{LINE_LIMIT}
 use Rattle.cdxj_core.specs.declared.line.Line.{Line}
 use Rattle.cdxj_core.specs.Members.{Member, member_pair, member_place}
@@ -48,11 +48,17 @@ reached g c =
     (grind arith)
 
 -- the waiting lines and the group are one line of each source, and as many as share a pair
-group_most : (g : Over) (c : After-hand_on g) → OverIndexes LINE_LIMIT (map g.S.Source.text c.args.sources.now)
-    (λ texts indexes. (most : ℕ) → ShareAtMost most (all_lines indexes)
-    → length c.gather.new.self.waiting + length (group g c) ≤ length c.args.sources.now + most)
-group_most g c = held_most c.loop-rest.invariant.came.reached (grouped g c) (reached g c) (omega arith)
-    c.requires.ready.same
+held : (g : Over) (c : After-hand_on g) (now : ℕ)
+    → now ≡ max c.gather.new.self.held (min (length c.gather.new.self.waiting + 1 + length c.gather.new.rest.items)
+    (2 ^ 64 - 1))
+    → OverIndexes LINE_LIMIT (map g.S.Source.text c.args.sources.now) (λ texts indexes. (most : ℕ)
+    → ShareAtMost most (all_lines indexes) → c.args.streams.now.held ≤ length c.args.sources.now + most
+    → now ≤ length c.args.sources.now + most)
+held g c now is texts indexes known are most share h =
+    let before = c.loop-rest.invariant.held texts indexes known are most share h in
+    let few = held_most c.loop-rest.invariant.came.reached (grouped g c) (reached g c) (omega arith)
+    c.requires.ready.same texts indexes known are most share in
+    grind (arith, length-map)
 
 order : (g : Over) (c : After-hand_on g)
     → rising member_place place_cmp (c.deref.result.now ∷ values c.deref-in-Some.result.now)
@@ -80,18 +86,8 @@ loop-rest-preserved g c =
     let here = (goal.at.loop-rest-preserved g c).After-hand_on in
     let now = reached g here in
     let same = order g here in
-    record {
-      empty = grind arith;
-      settled = grind arith;
-      reads = grind arith;
-      writes = grind arith;
-      further = grind arith;
-      held = λ texts indexes known are most share h.
-          let before = c.loop-rest.invariant.held texts indexes known are most share h in
-          let few = group_most g here texts indexes known are most share in
-          grind (arith, length-map);
-      came = grind arith;
-    }
+    let few = held g here c.put_back.new.self.held c.put_back.ensures.held in
+    grind arith
 
 pub returns-clause-held : goal.returns-clause-held
 returns-clause-held g c = simp c.gather.ensures.held c.loop-rest.invariant.held
@@ -153,10 +149,7 @@ returns-then-not-more g c =
       moved = grind (arith, moved_trans);
       failures = grind arith;
       fault = grind arith;
-      held = λ texts indexes known are most share h.
-          let before = c.loop-rest.invariant.held texts indexes known are most share h in
-          let few = group_most g here texts indexes known are most share in
-          grind (arith, length-map);
+      held = held g here c.put_back.new.self.held c.put_back.ensures.held;
       passed = record {
         so_far = grind (arith, order);
         last = λ e. record {

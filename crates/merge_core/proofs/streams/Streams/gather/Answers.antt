@@ -1,5 +1,5 @@
 use Rattle.std.proofs.lemmas.List.{get_or-set_same, map-append}
-use Rattle.std.proofs.Common.{◌≡◌, Some, ◌+◌, ◌∷◌, Box, Global, List, get_or, set, map}
+use Rattle.std.proofs.Common.{[], subst, ◌≡◌, Some, ◌+◌, ◌∷◌, Box, Global, List, get_or, set, map}
 use Rattle.std.proofs.Common.{refl, sym, ap, ◌∙◌, arith}
 use Rattle.std.proofs.lemmas.Cmp.{tied_itself}
 use Rattle.std.proofs.lemmas.List.Sorted.{IsPermutation-sym}
@@ -18,8 +18,8 @@ use Rattle.line_queue.proofs.PairOrder.{upto_itself}
 use Rattle.merge_core.proofs.MergeLemmas.{on_err}
 use Rattle.merge_core.proofs.SpendLemmas.{due_read}
 use Rattle.merge_core.proofs.WholeLemmas.{texts_kept}
-use Rattle.merge_core.proofs.GroupLemmas.{AreBelow}
-use Rattle.merge_core.proofs.GatherSteps.{Gathers, TakenNext, gathers_start, taken_next, gathers_drained}
+use Rattle.merge_core.proofs.GroupLemmas.{AreAt, AreBelow, from_waited}
+use Rattle.merge_core.proofs.GatherSteps.{Gathers, TakenNext, gathers_start, taken_next, gathers_on}
 use Rattle.line_queue.proofs.HeapLemmas.{each_permuted}
 use Rattle.merge_core.proofs.Many.{moved_trans, moved_still}
 use Rattle.line_queue.proofs.TurnLemmas.{above_popped, not_before}
@@ -41,9 +41,13 @@ drained : (g : Over) (c : In_ok-drain g)
     c.drain.new.sources c.drain.new.self.feeds.items c.drain.new.self.waiting
     (c.new-keyed.result ∷ values c.drain.new.rest.items)
 drained g c =
+    let inv = c.sources.invariant in
     let ok = c.in_ok-drain.ensures in
-    gathers_drained c.sources.invariant.gathers ok.drained (same g c) c.sources.invariant.inside ok.ready ok.moved
-    (grind arith) ok.each
+    let is = same g c in
+    let pair = member_pair c.new-keyed.result in
+    gathers_on inv.gathers (c.new-keyed.result ∷ []) refl (rw is at ok.drained) (omega arith) inv.inside ok.ready
+    ok.moved (from_waited pair (c.sources.i + 1) c.sources.i _ _ (grind arith) inv.gathers.from)
+    (subst (λ p. AreAt p (values c.sources.rest.items) → AreAt p (values c.drain.new.rest.items)) is ok.each)
 
 -- and of the feeds
 drained_settled : (g : Over) (c : In_ok-drain g) → AreSettled c.drain.new.self.feeds.items
