@@ -58,9 +58,6 @@ module _ (limit : ℕ) (past : List ℕ → Bool) {S : Type 0} (text : S → Opt
 module _ {limit n : ℕ} {past : List ℕ → Bool} {S : Type 0} {text : S → Option (List ℕ)} {extent gave : S → ℕ}
     {ss0 ss : List S} {fs0 fs : List Feed} {pair : Pair} {ws : List WaitingLine} {group : List Member}
     (h : Gathers limit past text extent gave ss0 fs0 pair n ss fs ws group) where
-  told_now : (i : ℕ) (a : S) → i < length ss → AreTold text ss0 → is_some (text (get_or ss i a)) ≡ true
-  told_now i a l told = each_get (λ s. is_some (text s) ≡ true) ss i a (grind (arith, told_moved)) l
-
   -- more lines of a source are taken: of the group, all but those that lead are lines that the source is asked for
   pub gathers_on : {i : ℕ} {ss' : List S} {fs' : List Feed} {ws' : List WaitingLine} (lead : List Member)
       {lines lines' : List Member} → group ≡ lead ++ lines
@@ -79,8 +76,8 @@ module _ {limit n : ℕ} {past : List ℕ → Bool} {S : Type 0} {text : S → O
     gathered = λ told low.
         let s = d.source in let f = d.feed in
         let was = h.gathered told low in
-        let more = d.drained s f (text_or (text (get_or ss i s)))
-        (is_told (text (get_or ss i s)) (told_now i s inside told)) in
+        let told_here = each_get (λ s. is_some (text s) ≡ true) ss i s (grind (arith, told_moved)) inside in
+        let more = d.drained s f (text_or (text (get_or ss i s))) (is_told (text (get_or ss i s)) told_here) in
         let now : zip ss' fs' ≡ set (zip ss fs) i (s, f) = grind (arith, zip_set) in
         let long = length_zip ss fs h.ready.same in
         let here = zip_at ss fs i s f h.ready.same inside in
@@ -108,10 +105,8 @@ module _ {limit n : ℕ} {past : List ℕ → Bool} {S : Type 0} {text : S → O
         let b : Feed = any_of fs i (omega arith) in
         let s = get_or ss i a in let f = due (get_or fs i b) in
         let still = set-get_or ss i a in
-        let moved = rw still at (moved_set text extent gave ss fs i a s b f same inside (move_not text extent gave (
-          s,
-          get_or fs i b,
-        ))) in
+        let kept = move_not text extent gave (s, get_or fs i b) in
+        let moved = rw still at (moved_set text extent gave ss fs i a s b f same inside kept) in
         let left = rw still at (unread_set text extent gave ss fs i a s b f same inside) in
         let length = length_permutation ws (w ∷ ws') p in
         let from = from_popped pair w ws' at first (none_left h.ready p) in

@@ -1,6 +1,6 @@
 -- The lines of one pair, taken of one source after another.
 use Rattle.std.proofs.Common.{◌≡◌, ◌≢◌, ℕ, ◌+◌, ◌-◌, ◌<◌, ◌≤◌, List, [], ◌∷◌, ◌++◌, length, get_or, set, take, drop}
-use Rattle.std.proofs.Common.{flat_map, filter, Bool, true, false, is_lt, Equal, inl, inr, refl, sym, ap, ◌∙◌}
+use Rattle.std.proofs.Common.{flat_map, filter, Bool, true, false, is_lt, inl, inr, refl, sym, ap, ◌∙◌}
 use Rattle.std.proofs.Common.{arith, append-nil, append_assoc, drop-drop, drop-set-lt, take-append-drop}
 use Rattle.std.specs.List.{AllByRecursion}
 use Rattle.std.proofs.lemmas.Bool.{cond-false, cond-true}
@@ -8,13 +8,14 @@ use Rattle.std.proofs.lemmas.Cmp.{tied_back}
 use Rattle.std.proofs.lemmas.List.{take_more, take_more_set}
 use Rattle.std.proofs.lemmas.List.Concat.{flat_map-append}
 use Rattle.std.proofs.lemmas.List.Elements.{filter-append}
-use Rattle.cdxj_places.specs.Pairs.{Pair, pair_cmp}
+use Rattle.cdxj_places.specs.Pairs.{Pair}
 use Rattle.cdxj_places.proofs.PairLemmas.{pair_cmp_total}
 use Rattle.cdxj_places.proofs.RisingLaws.{each_join, each_weaker}
 use Rattle.cdxj_core.specs.Members.{Member, member_pair}
 use Rattle.line_queue.specs.PairOrders.{Alike, Below, Upto}
 use Rattle.line_queue.specs.WaitingLines.{WaitingLine, waiting_pair, turn_cmp, waits_of}
 use Rattle.merge_core.specs.Gathering.{Gathered, IsFrom, WaitsAbove}
+use Rattle.merge_core.proofs.Filters.{each_both}
 use Rattle.line_queue.proofs.PairOrder.{below_upto, same_upto, same_from, upto_upto, not_below_itself}
 use Rattle.line_queue.proofs.TurnLemmas.{not_before, source_after}
 use Rattle.line_queue.proofs.HeapLemmas.{each_permuted, none_waits}
@@ -90,34 +91,17 @@ module _ (pair : Pair) where
 pub from_popped : (pair : Pair) (w : WaitingLine) (ws : List WaitingLine) → Alike (waiting_pair w) pair
     → AllByRecursion (λ v. is_lt (turn_cmp v w) ≡ false) ws → waits_of w.source ws ≡ []
     → AllByRecursion (IsFrom pair (w.source + 1)) ws
-from_popped pair w ws e first none = both ws first (none_waits w.source ws none)
-  where
-    both : (vs : List WaitingLine) → AllByRecursion (λ v. is_lt (turn_cmp v w) ≡ false) vs
-        → AllByRecursion (λ (v : WaitingLine). v.source ≢ w.source) vs → AllByRecursion (IsFrom pair (w.source + 1)) vs
-    both [] h k = tt
-    both (v ∷ vs) h k = (
-      (
-        upto_upto pair (waiting_pair w) (waiting_pair v) (same_from (waiting_pair w) pair e) (not_before v w h.0),
-        λ a. (let at : pair_cmp (waiting_pair v) (waiting_pair w)
-            ≡ Equal = alike_both (waiting_pair v) pair (waiting_pair w) a
-            (tied_back pair_cmp_total (waiting_pair w) pair e) in
-            let l = source_after v w h.0 at in let n = k.0 in omega arith),
-      ),
-      both vs h.1 k.1,
-    )
-      where
-        alike_both : (p q r : Pair) → Alike p q → Alike q r → Alike p r
-        alike_both p q r a b = pair_cmp_total.congr p q r a ∙ b
+from_popped pair w ws e first none =
+    each_weaker (λ (v : WaitingLine) (h : (is_lt (turn_cmp v w) ≡ false) × (v.source ≢ w.source)). (
+      upto_upto pair (waiting_pair w) (waiting_pair v) (same_from (waiting_pair w) pair e) (not_before v w h.0),
+      λ a. (let at = pair_cmp_total.congr (waiting_pair v) pair (waiting_pair w) a
+          ∙ tied_back pair_cmp_total (waiting_pair w) pair e in
+          let later = source_after v w h.0 at in let other = h.1 in omega arith),
+    )) ws (each_both _ _ ws first (none_waits w.source ws none))
 
 pub from_waited : (pair : Pair) (n i : ℕ) (old new : List WaitingLine) → WaitsAbove pair i old new
     → AllByRecursion (IsFrom pair n) old → AllByRecursion (IsFrom pair n) new
 from_waited pair n i old new (inl e) h = grind arith
 from_waited pair n i old new (inr (w, p, e, b)) h =
-    each_permuted (IsFrom pair n) (w ∷ old) new p (
-      (
-        below_upto pair (waiting_pair w) b,
-        λ a. absurd
-            (not_below_itself pair (waiting_pair w) b (same_upto (waiting_pair w) pair a)),
-      ),
-      h,
-    )
+    let not_at = not_below_itself pair (waiting_pair w) b in
+    each_permuted (IsFrom pair n) (w ∷ old) new p (grind (arith, below_upto, same_upto))

@@ -15,7 +15,7 @@ use Rattle.line_queue.specs.WaitingLines.{WaitingLine, waiting_pair}
 use Rattle.merge_core.specs.Gathering.{Gathered, Grouped, AreTold, all_done}
 use Rattle.devices.specs.Device.{Grows}
 use Rattle.merge_core.specs.Merging.{BrokenMerge, HaltedGroup, HaltedMerge, SoFar}
-use Rattle.merge_core.specs.Reached.{Handed, Reached}
+use Rattle.merge_core.specs.Reached.{Reached}
 use Rattle.merge_core.specs.declared.streams.Streams.{Streams}
 use Rattle.merge_core.specs.Feeds.{Ready, AreSettled, AllMoved}
 use Rattle.merge_core.proofs.Many.{told_moved, moved_trans}
@@ -131,10 +131,6 @@ module _ {K S : Type 0} {Wrote : K → K → List Member → Option (List ℕ) �
         least = halted.least;
         read = grind (arith, told_moved, below_next);
       }
-
-pub handed_none : {S : Type 0} (limit : ℕ) (text : S → Option (List ℕ)) (ss : List S) (fs : List Feed)
-    → all_done limit text ss fs ≡ [] → Handed limit text ss ss fs None []
-handed_none limit text ss fs e = grind arith
 
 pub on_err : {A E : Type 0} (r : Result A E) (e : E) (P : Type 0) → IsErrAnd r (λ x. x ≡ e) → P → OnErr r P
 on_err r e P h p = grind arith

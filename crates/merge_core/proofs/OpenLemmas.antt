@@ -1,13 +1,12 @@
 -- The opening of sources, one after another.
-use Rattle.std.proofs.Common.{◌≡◌, ◌≢◌, ℕ, zero, suc, ◌+◌, ◌<◌, List, [], ◌∷◌, ◌++◌, length, set, zip, flat_map}
-use Rattle.std.proofs.Common.{map, take, Bool, Option, Some, MatchOption, refl, ap, arith}
-use Rattle.std.proofs.Common.{append-nil, length-append}
+use Rattle.std.proofs.Common.{◌≡◌, ◌≢◌, ℕ, zero, suc, ◌+◌, ◌<◌, List, [], ◌∷◌, ◌++◌, length, set, zip}
+use Rattle.std.proofs.Common.{map, take, Bool, Option, Some, MatchOption, refl, arith}
+use Rattle.std.proofs.Common.{length-append}
 use Rattle.std.specs.List.{AllByRecursion, sum}
 use Rattle.std.proofs.lemmas.List.Sums.{sum-map, sum_by_push}
 use Rattle.std.specs.List.Sorted.{IsPermutation}
 use Rattle.std.proofs.lemmas.List.{drop_all}
 use Rattle.std.proofs.lemmas.List.{take_more_set}
-use Rattle.std.proofs.lemmas.List.Concat.{flat_map-append}
 use Rattle.cdxj_places.proofs.RisingLaws.{each_weaker}
 use Rattle.cdxj_core.specs.Members.{Member}
 use Rattle.merge_core.specs.declared.feed.Feed.{Feed}
@@ -25,7 +24,7 @@ waits_none n (w ∷ ws) h = grind (arith, waits_other, waits_none n ws h.1)
 
 module _ (limit : ℕ) (past : List ℕ → Bool) where
   module _ {S : Type 0} (text : S → Option (List ℕ)) (extent : S → ℕ) where
-    fed_nil : (n : ℕ) (ss : List S) (ws : List WaitingLine) → AreFed limit past text extent n ss [] ws
+    pub fed_nil : (n : ℕ) (ss : List S) (ws : List WaitingLine) → AreFed limit past text extent n ss [] ws
     fed_nil n [] ws = tt
     fed_nil n (s ∷ ss) ws = tt
 
@@ -69,18 +68,6 @@ pub zip_push : {A B : Type 0} (xs : List A) (ys : List B) (i : ℕ) (x : A) (y :
 zip_push (a ∷ xs) [] zero x y e l = grind (arith, zip_none)
 zip_push (a ∷ xs) (b ∷ ys) (suc i) x y e l = grind (arith, zip_push xs ys i x y)
 zip_push xs ys i x y e l = absurd (omega arith)
-
-pub flat_push : {X Y : Type 0} (f : X → List Y) (xs : List X) (x : X) → flat_map f xs ≡ [] → f x ≡ []
-    → flat_map f (xs ++ x ∷ []) ≡ []
-flat_push f xs x h k = grind (arith, flat_map-append, append-nil)
-
-pub done_none : {A B Y : Type 0} (f : A × B → List Y) (xs : List A) (ys : List B) → ys ≡ [] → flat_map f (zip xs ys)
-    ≡ []
-done_none f xs ys e = ap (flat_map f) (zip_none xs ys e)
-
-pub fed_none : {S : Type 0} (limit : ℕ) (past : List ℕ → Bool) (text : S → Option (List ℕ)) (extent : S → ℕ)
-    (ss : List S) (fs : List Feed) (ws : List WaitingLine) → fs ≡ [] → AreFed limit past text extent 0 ss fs ws
-fed_none limit past text extent ss fs ws e = grind (arith, fed_nil)
 
 pub fresh_of : (limit : ℕ) (text : Option (List ℕ)) (f : Feed) → ((t : List ℕ) → text ≡ Some t → done limit t f ≡ [])
     → done limit (text_or text) f ≡ []

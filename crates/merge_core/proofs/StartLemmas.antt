@@ -1,8 +1,8 @@
 -- The lines that the sources have from where they are read on.
 use Rattle.std.specs.List.{AllZip, AllByRecursion}
 use Rattle.std.proofs.Common.{◌≡◌, ℕ, List, [], ◌∷◌, ◌++◌, length, map, drop, filter, zip, not, Option, Some, sym}
-use Rattle.std.proofs.Common.{ap₂, ◌∙◌, arith}
-use Rattle.std.proofs.lemmas.List.{length-map, map-append}
+use Rattle.std.proofs.Common.{ap, refl, ap₂, ◌∙◌, arith}
+use Rattle.std.proofs.lemmas.List.{drop_at, length-map, map-append}
 use Rattle.std.proofs.lemmas.List.Elements.{filter-append}
 use Rattle.cdxj_places.specs.Pairs.{Pair, pair_cmp}
 use Rattle.cdxj_places.specs.Rising.{NeverFalls}
@@ -20,9 +20,8 @@ use Rattle.merge_core.proofs.Many.{Move}
 
 -- of equal lists, with fronts of one length
 after_front : {X : Type 0} (us vs xs ys : List X) → length us ≡ length xs → us ++ vs ≡ xs ++ ys → vs ≡ ys
-after_front [] vs [] ys n e = e
-after_front (u ∷ us) vs (x ∷ xs) ys n e = after_front us vs xs ys (omega arith) (let q : us ++ vs ≡ xs ++ ys = cc in q)
-after_front us vs xs ys n e = absurd (omega arith)
+after_front us vs xs ys n e =
+    rw (drop_at us vs (length us) refl, n, drop_at xs ys (length xs) refl) at (ap (drop (length us)) e)
 
 falls_back : (us vs : List Member) → NeverFalls member_pair pair_cmp (us ++ vs) → NeverFalls member_pair pair_cmp vs
 falls_back [] vs h = h

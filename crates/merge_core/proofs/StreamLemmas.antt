@@ -142,7 +142,7 @@ module _ {limit : ℕ} {past : List ℕ → Bool} {S : Type 0} {text : S → Opt
   pub none_left : waits_of w.source ws ≡ []
   none_left =
       let few = few_wait all_ready w.source inside_sources in
-      nil_from_length (waits_of w.source ws) (omega (arith, ap length (waits_here w.source w ws refl)))
+      grind (arith, waits_here, nil_from_length)
 
   fed_here : (a : S) (b : Feed) → Fed limit past (text (get_or ss w.source a)) (extent (get_or ss w.source a))
       (get_or fs w.source b) (w.member ∷ waits_of w.source ws)

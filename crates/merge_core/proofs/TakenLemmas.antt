@@ -1,7 +1,6 @@
 -- What was taken of lines, beside all that is wanted of them.
 use Rattle.std.proofs.Common.{arith, ◌≡◌, inl, inr, ℕ, List, [], ◌∷◌, ◌++◌, filter, Bool, true, false, not, ◌&&◌}
 use Rattle.std.proofs.Common.{Option, None, Some, refl, sym, ap, ◌∙◌, append-nil, is_gt, is_lt}
-use Rattle.std.proofs.Common.{Ordering}
 use Rattle.std.proofs.lemmas.Bool.{and_cases, not-false, not-true, true≢false}
 use Rattle.std.specs.List.{AllByRecursion}
 use Rattle.merge_core.proofs.Filters.{filter_out, each_filter}
@@ -121,10 +120,9 @@ module _ {limit : ℕ} {past : List ℕ → Bool} {upward : IsUpward past} {want
   -- what was taken stands below this pair, and the lines that wait don't
   module _ (next : Pair) (later : IsAbove b next) (least : AllByRecursion (λ w. Upto next (waiting_pair w)) ws) where
     not_low : (k : Member) → Upto next (member_pair k) → is_low next k ≡ false
-    not_low k u = ap is_lt (pair_cmp_total.antisymm (member_pair k) next) ∙ turned (pair_cmp next (member_pair k)) u
-      where
-        turned : (r : Ordering) → is_gt r ≡ false → is_lt (ordering_reverse r) ≡ false
-        turned r h = grind arith
+    not_low k u =
+        let turned = pair_cmp_total.antisymm (member_pair k) next in
+        grind (arith, ordering_reverse)
 
     from_next : (m : Member) → (low (is_low next) m ≡ false) × (wanted m ≡ true) → (wanted m ≡ true)
         × Upto next (member_pair m)

@@ -1,23 +1,23 @@
 use Rattle.std.specs.List.{sum}
+use Rattle.std.proofs.lemmas.List.Concat.{flat_map-append}
+use Rattle.std.proofs.Common.{append-nil}
 use Rattle.std.proofs.lemmas.Slice.Zip.{all_zipped_more}
 use Rattle.std.proofs.Common.{◌≡◌, get_or, take, ◌<◌, length, map, sym, ap, ◌∙◌, zip}
 use Rattle.std.proofs.Common.{length-append, arith}
 use Rattle.std.proofs.lemmas.List.{take_all, take_more}
 use Rattle.cdxj_core.specs.declared.limit.TheConstants.{LINE_LIMIT}
 use Rattle.source_core.specs.Halving.{digits}
-use Rattle.merge_core.specs.declared.feed.Feed.{Feed}
-use Rattle.merge_core.specs.Spending.{CameWithin}
 use Rattle.merge_core.proofs.SpendLemmas.{opened_none, two_put, left_here, left_after}
 use Rattle.merge_core.proofs.FailLemmas.{raised_by_feed}
 use Rattle.cdxj_places.proofs.RisingLaws.{each_join}
 use Rattle.merge_core.proofs.Many.{map_set_same}
 use Rattle.merge_core.proofs.MergeLemmas.{map_seen}
-use Rattle.merge_core.proofs.OpenLemmas.{fed_added, fed_none, done_none, zip_none, zip_push, flat_push, fresh_of}
+use Rattle.merge_core.proofs.OpenLemmas.{fed_nil, fed_added, zip_none, zip_push, fresh_of}
 use Rattle.merge_core.proofs.OpenLemmas.{sum_turn}
 use Rattle.merge_core.proofs.streams.Streams.open_at.Goals as goal
 
 pub loop-i-init : goal.loop-i-init
-loop-i-init g c = grind (arith, fed_none, zip_none, done_none, opened_none)
+loop-i-init g c = grind (arith, fed_nil, zip_none, opened_none)
 
 pub loop-i-preserved : goal.loop-i-preserved
 loop-i-preserved g c =
@@ -27,16 +27,10 @@ loop-i-preserved g c =
     let olds = c.args.sources.now in let ss = c.loop-i.sources in let fs = c.loop-i.streams.feeds.items in
     let i = c.loop-i.i in let a = c.index-sources-i.result in let s = c.add_from.new.source in let f = added.feed in
     let inside : i < length ss = omega arith in
-    let text = g.S.Source.text in let extent = g.S.Source.extent in let gave = g.S.Source.gave in
+    let text = g.S.Source.text in let extent = g.S.Source.extent in
     let both = fed_added LINE_LIMIT (g.R.Range.past c.args.range.now) text extent i ss fs c.loop-i.streams.waiting
     c.add_from.new.self.waiting s f added.first inv.count inside inv.placed inv.fed added.waits added.fed in
-    let Came = λ (x : g.row.S.Denot) (y : g.row.S.Denot × Feed). CameWithin (text x) (extent x) (gave x) (gave y.0)
-    y.1.cursor in
-    let inside_old : i < length olds = omega arith in
     let same_here : get_or ss i a ≡ get_or olds i a = left_here olds ss i a inv.left in
-    let turns = sum_turn (λ s. digits (extent s)) ss i s inside in
-    let here = ap digits ok.extent in
-    let all = c.saturating_add-probes.ensures in
     record {
       text = grind (arith, map_set_same);
       extent = grind (arith, map_set_same);
@@ -48,12 +42,12 @@ loop-i-preserved g c =
       cut = grind (arith, zip_push, each_join);
       start = grind (arith, each_join);
       settled = grind arith;
-      fresh = grind (arith, zip_push, flat_push, fresh_of);
-      probes = omega (arith, turns, here, ok.probes, inv.probes, all);
+      fresh = grind (arith, zip_push, flat_map-append, append-nil, fresh_of);
+      probes = grind (arith, sum_turn (λ s. digits (extent s)) ss i s inside);
       left = grind (arith, left_after);
       spent = grind (arith, two_put);
-      came = rw (added.feeds_are, zip_push ss fs i s f inv.count inside, take_more olds i a inside_old)
-          (all_zipped_more Came (take i olds) (zip ss fs) (get_or olds i a) (s, f) inv.came
+      came = rw (added.feeds_are, zip_push ss fs i s f inv.count inside, take_more olds i a (omega arith))
+          (all_zipped_more _ (take i olds) (zip ss fs) (get_or olds i a) (s, f) inv.came
           (rw same_here at added.cursor_is.1));
     }
 
