@@ -1,8 +1,7 @@
 -- The steps of a group's gathering.
 use Rattle.std.specs.List.{AllZip, AllByRecursion}
-use Rattle.std.proofs.Common.{◌≡◌, ℕ, ◌+◌, ◌<◌, ◌≤◌, List, [], ◌∷◌, ◌++◌, length, get_or, set, drop, zip}
-use Rattle.std.proofs.Common.{flat_map, Bool, true, false, is_lt, Option, refl, append_assoc, arith}
-use Rattle.std.proofs.Common.{length-set}
+use Rattle.std.proofs.Common.{◌≡◌, ℕ, ◌+◌, ◌<◌, ◌≤◌, List, [], ◌∷◌, ◌++◌, length, get_or, set, drop, zip, flat_map}
+use Rattle.std.proofs.Common.{Bool, true, false, is_lt, Option, refl, append_assoc, arith, length-set}
 use Rattle.std.specs.List.Sorted.{IsPermutation}
 use Rattle.std.specs.Option.{is_some}
 use Rattle.std.proofs.lemmas.List.{set-set, set-get_or, get_or-set_same}
@@ -14,8 +13,7 @@ use Rattle.merge_core.specs.declared.feed.Feed.{Feed}
 use Rattle.line_queue.specs.PairOrders.{Alike, Upto}
 use Rattle.line_queue.specs.WaitingLines.{WaitingLine, waiting_pair, turn_cmp}
 use Rattle.merge_core.specs.Feeds.{Ready, IsSettled, AreSettled, done, due}
-use Rattle.merge_core.specs.Gathering.{Gathered, AreTold, text_or, all_done, unread, IsFrom, IsDue}
-use Rattle.merge_core.specs.Gathering.{DrainedSource}
+use Rattle.merge_core.specs.Gathering.{Gathered, AreTold, text_or, all_done, unread, IsFrom, IsDue, DrainedSource}
 use Rattle.line_queue.proofs.PairOrder.{upto_upto, same_upto, same_from}
 use Rattle.line_queue.proofs.HeapLemmas.{each_get, each_permuted}
 use Rattle.merge_core.proofs.Many.{is_told, zip_set, zip_at, length_zip, Move, moved_trans, moved_still, moved_set}
@@ -32,8 +30,7 @@ due_alike : {limit : ℕ} {p q : Pair} {text : Option (List ℕ)} {f : Feed} →
     → IsDue limit q text f
 due_alike {p = p} {q = q} at h = record {
   is_due = h.is_due;
-  low = λ t e. each_weaker (λ (m : Member) (u : Upto (member_pair m) p). upto_upto (member_pair m) p q u
-      (same_upto p q at)) _ (h.low t e);
+  low = λ t e. each_weaker (λ m u. upto_upto (member_pair m) p q u (same_upto p q at)) _ (h.low t e);
   last = λ t e.
       let end = h.last t e in (end.0, end.1, end.2, upto_upto q p (member_pair end.1) (same_from p q at) end.3);
 }

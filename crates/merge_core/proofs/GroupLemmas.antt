@@ -44,8 +44,8 @@ module _ (pair : Pair) where
   gathered_more : (old now later group us : List Member) → Gathered pair old (now ++ later) [] group → AreAt pair us
       → AreBelow pair later → Gathered pair old (now ++ us ++ later) [] (group ++ us)
   gathered_more old now later group us h at low =
-      let high = each_weaker (λ (x : Member) (e : Alike (member_pair x) pair). ap is_lt e) us at in
-      let lows = each_weaker (λ (x : Member) (e : Below (member_pair x) pair). ap is_lt e) later low in
+      let high = each_weaker (λ m e. ap is_lt e) us at in
+      let lows = each_weaker (λ m e. ap is_lt e) later low in
       let parts = each_cut (λ m. Upto (member_pair m) pair) now later h.upto in
       record {
         before = grind (arith, filter-append, filter_none, append-nil);

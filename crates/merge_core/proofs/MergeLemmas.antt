@@ -1,8 +1,7 @@
 -- One group more of a merge.
 use Rattle.std.proofs.Common.{arith, ◌≡◌, ℕ, Result, inl, IsErrAnd, OnErr, List, [], ◌∷◌, ◌++◌, refl, ap}
-use Rattle.std.proofs.Common.{◌∙◌, Bool, Option, Some, None, map, true, Less, Ordering, is_lt, is_gt}
+use Rattle.std.proofs.Common.{Bool, Option, Some, None, map, true, Less, Ordering, is_lt, is_gt}
 use Rattle.std.specs.List.{AllByRecursion}
-use Rattle.std.specs.Ordering.{ordering_reverse}
 use Rattle.cdxj_places.specs.Pairs.{Pair}
 use Rattle.cdxj_places.specs.Places.{place_cmp}
 use Rattle.cdxj_places.specs.Rising.{IsLower, Rises, rising}
@@ -10,7 +9,7 @@ use Rattle.cdxj_places.proofs.PlaceOrder.{place_cmp_total}
 use Rattle.cdxj_places.proofs.RisingLaws.{each_weaker, each_rising, rises_rising, rising_split, each_join}
 use Rattle.cdxj_core.specs.Members.{Member, member_pair, member_place}
 use Rattle.merge_core.specs.declared.feed.Feed.{Feed}
-use Rattle.line_queue.specs.PairOrders.{Alike, Below, Upto, IsAbove, IsUpto, is_low}
+use Rattle.line_queue.specs.PairOrders.{Alike, Below, IsAbove, IsUpto, is_low}
 use Rattle.line_queue.specs.WaitingLines.{WaitingLine, waiting_pair}
 use Rattle.merge_core.specs.Gathering.{Gathered, Grouped, AreTold, all_done}
 use Rattle.devices.specs.Device.{Grows}
@@ -32,8 +31,7 @@ above_none (w ∷ ws) = (tt, above_none ws)
 pub below_next : (b : Option Pair) (pair : Pair) → IsAbove b pair → (ms : List Member)
     → AllByRecursion (λ m. IsUpto b (member_pair m)) ms → AreBelow pair ms
 below_next None pair up ms h = grind (arith, each_weaker)
-below_next (Some bound) pair up ms h = each_weaker
-    (λ (m : Member) (q : Upto (member_pair m) bound). then_below (member_pair m) bound pair q up) ms h
+below_next (Some bound) pair up ms h = each_weaker (λ m q. then_below (member_pair m) bound pair q up) ms h
 
 pub place_below : (x y : Member) → Below (member_pair x) (member_pair y) → place_cmp (member_place x) (member_place y)
     ≡ Less
@@ -61,9 +59,9 @@ rises_join (u ∷ us) vs h k l = grind (arith, each_join, is_gt, rises_join us v
 place_above : (pair : Pair) (u v : Member) → Below (member_pair u) pair → Alike (member_pair v) pair
     → is_gt (place_cmp (member_place v) (member_place u)) ≡ true
 place_above pair u v h k =
-    ap is_gt (place_cmp_total.antisymm (member_place v) (member_place u)
-    ∙ ap ordering_reverse
-    (place_below u v (below_then (member_pair u) pair (member_pair v) h (same_from (member_pair v) pair k))))
+    let turned = place_cmp_total.antisymm (member_place v) (member_place u) in
+    let below = place_below u v (below_then (member_pair u) pair (member_pair v) h (same_from _ pair k)) in
+    cc
 
 module _ {S : Type 0} {limit : ℕ} {text : S → Option (List ℕ)} {past : List ℕ → Bool} {extent gave : S → ℕ}
     {old ss0 ss : List S} {old_fs fs0 fs : List Feed} {ws0 ws : List WaitingLine} {b : Option Pair} {pair : Pair}

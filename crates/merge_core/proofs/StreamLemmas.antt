@@ -1,7 +1,6 @@
 -- Sources and feeds, while lines wait.
 use Rattle.std.proofs.Common.{◌≡◌, ◌≢◌, ℕ, zero, suc, ◌+◌, ◌<◌, ◌≤◌, List, [], ◌∷◌, ◌++◌, false, length, get_or, set}
-use Rattle.std.proofs.Common.{Bool, Option, None, Some, MatchOption, option_map, refl, sym, ap, ◌∙◌, arith}
-use Rattle.std.proofs.Common.{length-set}
+use Rattle.std.proofs.Common.{Bool, Option, None, Some, MatchOption, option_map, refl, sym, ap, ◌∙◌, arith, length-set}
 use Rattle.std.specs.List.{AllByRecursion}
 use Rattle.std.specs.List.Sorted.{IsPermutation}
 use Rattle.std.proofs.lemmas.List.{get_or_default, nil_from_length, set-get_or}
@@ -204,15 +203,12 @@ module _ {limit : ℕ} {past : List ℕ → Bool} {S : Type 0} {text : S → Opt
         → Fed limit past (text s) (extent s) f (option_list (option_map value o))
         → Ready limit past text extent (set ss i s) (set fs i f) ws'
     waited_ready s f None e fed =
-        let same = ready_set ready i s f ws (λ j q. refl) ready.placed (rw none_waits_here fed) in
-        grind arith
+        rw e (ready_set ready i s f ws (λ j q. refl) ready.placed (rw none_waits_here fed))
     waited_ready s f (Some x) p fed =
         let w : WaitingLine = record { member = value x; source = i } in
-        let here : waits_of i (w ∷ ws) ≡ w.member ∷ [] =
-        waits_here i w ws refl ∙ ap (λ l. w.member ∷ l) none_waits_here in
         let same = ready.same in
         ready_permuted (ready_set ready i s f (w ∷ ws) (λ j q. waits_other j w ws (λ e. absurd (omega arith)))
-        (omega arith, ready.placed) (rw here fed)) ws' p
+        (omega arith, ready.placed) (rw (waits_here i w ws refl, none_waits_here) fed)) ws' p
 
     pub waited_length : (o : Option B) → Waited o → length ws' ≡ length ws + length (option_list (option_map value o))
     waited_length o p = grind (arith, length_permutation)

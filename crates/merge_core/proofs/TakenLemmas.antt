@@ -1,5 +1,5 @@
 -- What was taken of lines, beside all that is wanted of them.
-use Rattle.std.proofs.Common.{arith, ◌≡◌, inl, inr, ℕ, List, [], ◌∷◌, ◌++◌, filter, Bool, true, false, not, ◌&&◌}
+use Rattle.std.proofs.Common.{arith, ◌≡◌, ℕ, List, [], ◌∷◌, ◌++◌, filter, Bool, true, false, not, ◌&&◌}
 use Rattle.std.proofs.Common.{Option, None, Some, refl, sym, ap, ◌∙◌, append-nil, is_gt, is_lt}
 use Rattle.std.proofs.lemmas.Bool.{and_cases, not-false, not-true, true≢false}
 use Rattle.std.specs.List.{AllByRecursion}
@@ -16,7 +16,7 @@ use Rattle.line_queue.specs.PairOrders.{Below, Upto, IsAbove, IsUpto, is_low}
 use Rattle.line_queue.specs.WaitingLines.{WaitingLine, waiting_pair}
 use Rattle.line_queue.proofs.PairOrder.{below_then, then_below, from_not_below, upto_upto}
 use Rattle.merge_core.proofs.MergeLemmas.{place_below, below_next, is_less}
-use Rattle.merge_core.proofs.ReadLines.{wanted_parts, IsUpward, stays, is_read, IsLate, stays_lower, none_wanted}
+use Rattle.merge_core.proofs.ReadLines.{wanted_parts, IsUpward, stays, is_read, IsLate, stays_lower}
 use Rattle.merge_core.proofs.ReadLines.{wanted_low}
 
 -- ---- what stands above a bound
@@ -126,13 +126,9 @@ module _ {limit : ℕ} {past : List ℕ → Bool} {upward : IsUpward past} {want
 
     from_next : (m : Member) → (low (is_low next) m ≡ false) × (wanted m ≡ true) → (wanted m ≡ true)
         × Upto next (member_pair m)
-    from_next m h = (
-      h.1,
-      elim (and_cases (is_low next m) (not (past m.values.key)) h.0) [
-        | inl e ↦ from_not_below (member_pair m) next e
-        | inr e ↦ absurd (true≢false (sym (r.within m h.1) ∙ e))
-      ],
-    )
+    from_next m h =
+        let within = r.within m h.1 in
+        (h.1, grind (arith, and_cases, from_not_below (member_pair m) next))
 
     -- then the rest doesn't stand below it either
     pub taken_before : (rest : List Member)

@@ -1,6 +1,6 @@
 -- Sources of which all lines were read: each that tells its bytes is an index, and all its lines are done.
 use Rattle.std.specs.List.{AllZip, AllByRecursion}
-use Rattle.std.proofs.Common.{◌≡◌, ℕ, ◌+◌, ◌≤◌, List, [], ◌∷◌, length, drop, map, Bool, false, true, Option, Some}
+use Rattle.std.proofs.Common.{◌≡◌, ℕ, ◌+◌, List, [], ◌∷◌, length, map, Bool, false, true, Option, Some}
 use Rattle.std.proofs.Common.{flat_map, zip, ap, ◌∙◌, arith, length-drop}
 use Rattle.std.specs.Option.{is_some}
 use Rattle.std.proofs.lemmas.List.{nil_from_length, take_all}
@@ -13,9 +13,6 @@ use Rattle.merge_core.specs.Feeds.{AreWaits, IsHead, IsSettled, AreSettled, Fed,
 use Rattle.merge_core.specs.Gathering.{text_or, all_done}
 use Rattle.merge_core.proofs.Many.{Move}
 
-none_left : (xs : List (List ℕ)) (n : ℕ) → drop n xs ≡ [] → length xs ≤ n
-none_left xs n e = omega (arith, length-drop n xs, ap length e)
-
 module _ (limit : ℕ) (past : List ℕ → Bool) (never : (key : List ℕ) → past key ≡ false) where
   -- a feed of which no line waits, and which isn't due, has ended
   ended : (p : Progress) (before all : List Member) (rest : List (List ℕ)) → (p ≡ Due → ⊥) → AreWaits p []
@@ -25,7 +22,7 @@ module _ (limit : ℕ) (past : List ℕ → Bool) (never : (key : List ℕ) → 
   -- then its source is an index
   index_read : {t : List ℕ} {extent : ℕ} {f : Feed} → f.cursor.start ≡ 0 → IsSettled f
       → Fed limit past (Some t) extent f [] → IsIndex limit t (done limit t f)
-  index_read zero_start s fed = grind (arith, ended, take_all, none_left)
+  index_read zero_start s fed = grind (arith, ended, take_all, length-drop {A = List ℕ})
 
   module _ {S : Type 0} (text : S → Option (List ℕ)) (extent : S → ℕ) where
     -- the lines of each

@@ -16,8 +16,7 @@ use Rattle.merge_core.specs.Reached.{Reached}
 use Rattle.merge_core.proofs.WholeLemmas.{texts_kept}
 use Rattle.merge_core.proofs.Many.{moved_trans, moved_still}
 use Rattle.merge_core.proofs.CountLemmas.{held_most}
-use Rattle.merge_core.proofs.MergeLemmas.{above_none, below_next, broken_there, halted_there}
-use Rattle.merge_core.proofs.MergeLemmas.{reached_next, on_err}
+use Rattle.merge_core.proofs.MergeLemmas.{above_none, below_next, broken_there, halted_there, reached_next, on_err}
 use Rattle.devices.proofs.DeviceLemmas.{grows_not}
 use Rattle.merge_core.proofs.merging.merge.Given.{Over}
 use Rattle.merge_core.proofs.merging.merge.Goals.{After-gather, After-hand_on}

@@ -109,7 +109,7 @@ sources-init g c =
     }
 
 pub drain-requires-clause-due : goal.drain-requires-clause-due
-drain-requires-clause-due g c = λ a d. let due = c.sources.invariant.due a d in grind arith
+drain-requires-clause-due g c a d = let due = c.sources.invariant.due a d in grind arith
 
 pub take_at-requires-clause-from : goal.take_at-requires-clause-from
 take_at-requires-clause-from g c =

@@ -1,9 +1,7 @@
 use Rattle.std.specs.List.{sum}
 use Rattle.std.proofs.lemmas.List.Concat.{flat_map-append}
-use Rattle.std.proofs.Common.{append-nil}
+use Rattle.std.proofs.Common.{append-nil, ◌≡◌, get_or, take, ◌<◌, length, map, sym, ap, ◌∙◌, zip, length-append, arith}
 use Rattle.std.proofs.lemmas.Slice.Zip.{all_zipped_more}
-use Rattle.std.proofs.Common.{◌≡◌, get_or, take, ◌<◌, length, map, sym, ap, ◌∙◌, zip}
-use Rattle.std.proofs.Common.{length-append, arith}
 use Rattle.std.proofs.lemmas.List.{take_all, take_more}
 use Rattle.cdxj_core.specs.declared.limit.TheConstants.{LINE_LIMIT}
 use Rattle.source_core.specs.Halving.{digits}
@@ -12,8 +10,7 @@ use Rattle.merge_core.proofs.FailLemmas.{raised_by_feed}
 use Rattle.cdxj_places.proofs.RisingLaws.{each_join}
 use Rattle.merge_core.proofs.Many.{map_set_same}
 use Rattle.merge_core.proofs.MergeLemmas.{map_seen}
-use Rattle.merge_core.proofs.OpenLemmas.{fed_nil, fed_added, zip_none, zip_push, fresh_of}
-use Rattle.merge_core.proofs.OpenLemmas.{sum_turn}
+use Rattle.merge_core.proofs.OpenLemmas.{fed_nil, fed_added, zip_none, zip_push, fresh_of, sum_turn}
 use Rattle.merge_core.proofs.streams.Streams.open_at.Goals as goal
 
 pub loop-i-init : goal.loop-i-init
