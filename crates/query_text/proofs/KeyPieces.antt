@@ -1,5 +1,5 @@
 -- A query text with a printed key is cut into its pieces again.
-use Rattle.std.proofs.Common.{◌≡◌, ℕ, ◌<◌, Bool, true, false, not, List, [], ◌∷◌, length, codes, refl, arith}
+use Rattle.std.proofs.Common.{◌≡◌, ℕ, ◌<◌, true, false, not, List, [], ◌∷◌, length, codes, refl, arith}
 use Rattle.std.proofs.Common.{◌==◌}
 use Rattle.std.specs.List.{All, AllByRecursion, slice_split, onto_first, join_with_byte}
 use Rattle.std.proofs.lemmas.List.Elements.{All-weaker, All-append}
@@ -31,11 +31,8 @@ serialized : (b : ℕ) → IsSerializedByte b → (b == 38) ≡ false
 serialized b h = grind arith
 
 named : IsOnePiece (codes "resumeKey=")
-named = All-weaker (λ b. not (b == 38) ≡ true) (λ b. (b == 38) ≡ false) (λ b h. not_so (b == 38) h) (codes "resumeKey=")
+named = All-weaker (λ b. not (b == 38) ≡ true) (λ b. (b == 38) ≡ false) (λ b h. grind arith) (codes "resumeKey=")
     (AllPass-from_list_all (λ b. not (b == 38)) (codes "resumeKey=") refl)
-  where
-    not_so : (b : Bool) → not b ≡ true → b ≡ false
-    not_so b h = grind arith
 
 key_piece : (place : PlaceValue) → IsOnePiece (resume_piece (resume_text place))
 key_piece place =

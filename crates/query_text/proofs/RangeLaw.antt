@@ -87,10 +87,7 @@ covers_back kind text key later above below covered = grind (arith, begins_betwe
 -- the keys of a range are not below its target
 pub covered_not_below : (t : TargetValue) (key : List ℕ) → covers t key ≡ true → is_gt (slice_cmp nat_cmp t.text key)
     ≡ false
-covered_not_below t key = by_kind t.kind
-  where
-    by_kind : (kind : MatchKind) → kind_covers kind t.text key ≡ true → is_gt (slice_cmp nat_cmp t.text key) ≡ false
-    by_kind kind = grind (arith, bytes_eq-Decides, not_above_itself, front_not_above)
+covered_not_below t key h = grind (arith, bytes_eq-Decides, not_above_itself, front_not_above)
 
 pub match_covered : (t : TargetValue) (key : List ℕ) → key_matches t key ≡ true → covers t key ≡ true
 match_covered t key h = (and_parts _ _ h).0

@@ -1,6 +1,6 @@
 -- A query text with another resume key.
 use Rattle.std.proofs.Common.{◌≡◌, ℕ, Bool, true, false, List, [], ◌∷◌, ◌++◌, length, codes, Option, None, Some}
-use Rattle.std.proofs.Common.{is_some, Ok, Err, refl, sym, ap, ◌∙◌, arith, nat_lt, ◌==◌, if◌then◌else◌}
+use Rattle.std.proofs.Common.{is_some, Ok, Err, refl, sym, ap, ◌∙◌, arith, nat_lt, if◌then◌else◌}
 use Rattle.std.specs.List.{before_first, after_first}
 use Rattle.std.specs.Str.{IsUtf8}
 use Rattle.std.proofs.lemmas.Bool.{true≢false, cond-false, le-ltb}
@@ -64,14 +64,7 @@ piece_name piece = parameter_named (decoded (before_first is_equals piece))
 
 piece_at : (r : Option PlaceValue) (v : ParameterValues) (piece : Text) → has_resume_key piece ≡ false
     → with_piece (at r v) piece ≡ all_at r (with_piece v piece)
-piece_at r v piece h = unless_empty (length piece == 0)
-    (with_parameter (piece_name piece) v (after_first is_equals piece))
-    (with_parameter (piece_name piece) (at r v) (after_first is_equals piece))
-    (named_at r (piece_name piece) v (after_first is_equals piece) h)
-  where
-    unless_empty : (b : Bool) (x y : Read ParameterValues) → y ≡ all_at r x → (if b then Ok (at r v) else y)
-        ≡ all_at r (if b then Ok v else x)
-    unless_empty b x y e = grind arith
+piece_at r v piece h = grind (arith, named_at)
 
 -- ---- the pieces
 
@@ -107,11 +100,7 @@ filled v b piece = grind arith
 not_again : (r : PlaceValue) (v w : ParameterValues) (piece : Text) → has_resume_key piece ≡ true
     → with_piece (at (Some r) v) piece ≡ Ok w → ⊥
 not_again r v w [] h e = empty_has_none h
-not_again r v w (b ∷ piece) h e = again (piece_name (b ∷ piece)) h (sym (filled (at (Some r) v) b piece) ∙ e)
-  where
-    again : (p : Option Parameter) → is_resume_key p ≡ true
-        → with_parameter p (at (Some r) v) (after_first is_equals (b ∷ piece)) ≡ Ok w → ⊥
-    again p h e = grind (arith, true≢false)
+not_again r v w (b ∷ piece) h e = grind (arith, filled, true≢false)
 
 -- after a resume key, the others read as they do after another one
 pieces_after : (a b : PlaceValue) (v w : ParameterValues) (pieces : List Text) → with_pieces (at (Some a) v) pieces
@@ -150,11 +139,7 @@ key_read key place v none e =
 key_given : (v next : ParameterValues) (piece : Text) → v.resume ≡ None → has_resume_key piece ≡ true
     → with_piece v piece ≡ Ok next → (place : PlaceValue) × (next ≡ at (Some place) v)
 key_given v next [] none h e = absurd (empty_has_none h)
-key_given v next (b ∷ piece) none h e = given (piece_name (b ∷ piece)) h (sym (filled v b piece) ∙ e)
-  where
-    given : (p : Option Parameter) → is_resume_key p ≡ true → with_parameter p v (after_first is_equals (b ∷ piece))
-        ≡ Ok next → (place : PlaceValue) × (next ≡ at (Some place) v)
-    given p h e = grind (arith, true≢false)
+key_given v next (b ∷ piece) none h e = grind (arith, filled, true≢false)
 
 -- a resume key among the pieces, or after them
 pieces_with : (key : Text) (place : PlaceValue) → resume_of key ≡ Ok place
