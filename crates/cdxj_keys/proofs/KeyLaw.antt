@@ -1,11 +1,11 @@
 -- The host key of a web URL begins its key.
-use Rattle.std.proofs.Common.{arith, ◌≡◌, ℕ, Bool, true, false, cond, List, [], ◌∷◌, ◌++◌, Some, None, Result, Ok, Err}
+use Rattle.std.proofs.Common.{arith, ◌≡◌, ℕ, List, [], ◌∷◌, ◌++◌, Some, None, Result, Ok, Err}
 use Rattle.std.proofs.Common.{option_map, append_assoc}
 use Rattle.std.proofs.lemmas.List.Concat.{flat_map-append}
 use Rattle.url.specs.declared.error.ParseError.{ParseError}
 use Rattle.url.specs.Parts.{Parts, host_or_empty}
 use Rattle.url.specs.Parser.{parse_url}
-use Rattle.cdxj_keys.specs.Key.{key_host, port_text, query_text, is_web, web_text, key_text, folded, key_of}
+use Rattle.cdxj_keys.specs.Key.{key_host, port_text, query_text, web_text, key_text, folded, key_of}
 use Rattle.cdxj_keys.specs.Key.{host_text_of, host_key_of}
 
 abbrev Begins : List ℕ → List ℕ → Type 0
@@ -23,12 +23,7 @@ web_begins url =
 
 begins : (read : Result Parts ParseError) (target host : List ℕ) → option_map folded (host_text_of read) ≡ Some host
     → Begins host (folded (key_text read target))
-begins (Ok url) target host h = go (is_web url) h
-  where
-    go : (web : Bool) → option_map folded (cond web (Some (key_host (host_or_empty url))) None) ≡ Some host
-        → Begins host (folded (cond web (web_text url) target))
-    go true h = let w = web_begins url in grind arith
-    go false h = absurd (cc)
+begins (Ok url) target host h = let w = web_begins url in grind arith
 begins (Err e) target host h = absurd (cc)
 
 pub host_begins_key : (target host : List ℕ) → host_key_of target ≡ Some host → (rest : List ℕ)

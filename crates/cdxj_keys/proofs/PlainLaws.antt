@@ -102,12 +102,7 @@ some_segments path = grind (arith, length-slice_split)
 
 joined : (path : List ℕ) → join_segments (segments_of path) ≡ 47 ∷ path
 joined [] = refl
-joined (b ∷ path) = by (b == 47) refl (joined path)
-  where
-    by : (t : Bool) → (b == 47) ≡ t → join_segments (segments_of path) ≡ 47 ∷ path
-        → join_segments (cond t ([] ∷ segments_of path) (onto_first b (segments_of path))) ≡ 47 ∷ b ∷ path
-    by true e rest = grind arith
-    by false e rest = grind arith
+joined (b ∷ path) = grind (arith, joined path)
 
 -- the first segment has the bytes of one, and the others are segments
 abbrev Good : List (List ℕ) → Type 0
@@ -133,12 +128,7 @@ onto_begins c segments some h = grind arith
 begins_head : (path : List ℕ) → pairs (47 ∷ path) ≡ true → Begins (head_of (segments_of path))
 unfolding head_of
 begins_head [] h = tt
-begins_head (c ∷ path) h = by (c == 47) (and_parts _ _ h).0
-  where
-    by : (t : Bool) → begins_plain 47 c ≡ true → Begins (head_of
-        (cond t ([] ∷ segments_of path) (onto_first c (segments_of path))))
-    by true first = tt
-    by false first = onto_begins c (segments_of path) (some_segments path) first
+begins_head (c ∷ path) h = grind (arith, onto_begins, some_segments, and_parts)
 
 all_good : (segments : List (List ℕ)) → Good segments → Begins (head_of segments) → All (IsSegment SpecialNotFile)
     segments
