@@ -1,35 +1,22 @@
 -- The texts of an entry aren't empty, and its stamp is one.
-use Rattle.std.proofs.Common.{◌≡◌, ℕ, ◌<◌, Bool, true, false, cond, List, [], ◌∷◌, length, Option, Some, None, codes}
+use Rattle.std.proofs.Common.{◌≡◌, ℕ, ◌<◌, true, List, length, Option}
 use Rattle.std.proofs.Common.{arith}
-use Rattle.std.specs.Str.{is_utf8}
-use Rattle.percent_encoding.specs.Percent.{percent_encode}
-use Rattle.percent_encoding.specs.declared.ascii_set.TheConstants.AsciiSet.{EMPTY}
 use Rattle.percent_encoding.proofs.PercentLemmas.{percent_encode_nonempty}
 use Rattle.std.proofs.lemmas.Grind.{common_steps}
 use Rattle.warc_core.specs.Length.{all_digits}
 use Rattle.warc_core.specs.HeadView.{HeadView}
 use Rattle.cdxj_places.specs.Pair.{is_stamp}
-use Rattle.capture_core.specs.Indexed.{field, is_marked}
 use Rattle.capture_core.specs.Utf8Text.{utf8_text}
-use Rattle.capture_core.specs.Capture.{ResponseValue, media_of, content_of, mime_of}
+use Rattle.capture_core.specs.Capture.{ResponseValue, content_of, mime_of}
 
 -- the text of a value that isn't empty isn't either
 pub text_is_filled : (value : List ℕ) → 0 < length value → 0 < length (utf8_text value)
 unfolding utf8_text
-text_is_filled value h = go (is_utf8 value)
-  where
-    go : (utf8 : Bool) → 0 < length (cond utf8 value (percent_encode EMPTY value))
-    go true = h
-    go false = percent_encode_nonempty EMPTY value h
+text_is_filled value h = grind (arith, percent_encode_nonempty)
 
 content_is_filled : (h : HeadView) (response : Option ResponseValue) → 0 < length (content_of h response)
 unfolding content_of
-content_is_filled h (Some response) = grind (arith)
-content_is_filled h None = go (is_marked h)
-  where
-    go : (marked : Bool) → 0 < length (cond marked (45 ∷ []) (media_of (field (codes "Content-Type") h)))
-    go true = omega arith
-    go false = grind (arith, common_steps, field, codes)
+content_is_filled h response = grind (arith, common_steps)
 
 pub mime_is_filled : (h : HeadView) (response : Option ResponseValue) → 0 < length (mime_of h response)
 mime_is_filled h response = grind (arith, content_is_filled)

@@ -1,5 +1,5 @@
 -- The rest of a capture, from how it goes on.
-use Rattle.std.proofs.Common.{◌≡◌, ℕ, ◌+◌, ◌-◌, ◌≤◌, ◌∙◌, List, [], Option, Some, Result, Ok, Err, length, take}
+use Rattle.std.proofs.Common.{◌≡◌, ℕ, ◌+◌, ◌-◌, ◌≤◌, ◌∙◌, List, [], Option, Result, Ok, Err, length, take}
 use Rattle.std.proofs.Common.{length-append, ap, arith}
 use Rattle.warc_core.specs.declared.fault.Fault.{Fault}
 use Rattle.warc_core.specs.HeadView.{record_length}
@@ -13,7 +13,6 @@ use Rattle.capture_core.specs.declared.fault.CaptureFault.TheVariants.{Archive}
 use Rattle.capture_core.specs.declared.http_head.TheConstants.{HTTP_HEAD_LIMIT}
 use Rattle.capture_core.specs.declared.indexed.Indexed.{Indexed}
 use Rattle.capture_core.specs.RecordReading.{front_length}
-use Rattle.capture_core.specs.CaptureAnswer.{usual_limits}
 use Rattle.capture_core.specs.CaptureSteps.{HasFront, FillsBehind, CapturesRest}
 use Rattle.capture_core.proofs.CaptureLemmas.{rest-behind}
 use Rattle.capture_core.proofs.Steps.{goes-on-to, capture-behind-first}

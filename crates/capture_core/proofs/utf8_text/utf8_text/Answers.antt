@@ -1,8 +1,6 @@
-use Rattle.std.proofs.lemmas.Bool.{false_from_ne_true}
 use Rattle.std.proofs.lemmas.Grind.{common_steps}
 use Rattle.std.proofs.lemmas.Str.{is_utf8-from_IsUtf8, IsUtf8-from_is_utf8}
 use Rattle.std.proofs.Common.{arith}
-use Rattle.std.specs.Str.{is_utf8}
 use Rattle.capture_core.specs.Utf8Text.{utf8_text}
 use Rattle.capture_core.proofs.utf8_text.utf8_text.Goals as goal
 

@@ -1,6 +1,5 @@
 use Rattle.std.proofs.Common.{◌≡◌, arith}
 use Rattle.cdxj_core.specs.Entries.{line_text}
-use Rattle.capture_core.proofs.HeldLines.{held_good}
 use Rattle.capture_core.proofs.SpellingLemmas.{stamp_in}
 use Rattle.capture_core.proofs.held_line.HeldLine.stamp.Goals.{After-first_line}
 use Rattle.capture_core.proofs.held_line.HeldLine.stamp.Goals as goal

@@ -1,12 +1,9 @@
-use Rattle.std.proofs.Common.{arith, ◌≡◌, Bool, false, List, ℕ, bytes_eq, refl}
+use Rattle.std.proofs.Common.{arith, ◌≡◌, false, List, ℕ, bytes_eq, refl}
 use Rattle.std.proofs.lemmas.Slice.Eq.{bytes_eq-Decides}
 use Rattle.capture_core.proofs.types.Types.with_name.Goals as goal
 
 other : (kind name : List ℕ) → (name ≡ kind → ⊥) → bytes_eq kind name ≡ false
-other kind name differ = go (bytes_eq kind name) refl
-  where
-    go : (b : Bool) → bytes_eq kind name ≡ b → b ≡ false
-    go b e = grind (arith, bytes_eq-Decides)
+other kind name differ = grind (arith, bytes_eq-Decides)
 
 pub returns-in_default : goal.returns-in_default
 returns-in_default c =
