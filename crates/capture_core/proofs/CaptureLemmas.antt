@@ -1,9 +1,8 @@
 -- The capture of a record, from how its block was read.
 use Rattle.std.proofs.Common.{◌≡◌, ◌≢◌, ℕ, ◌-◌, ◌≤◌, List, ◌++◌, Option, None, Some, Result, Ok, Err, IfErr}
-use Rattle.std.proofs.Common.{IfSome, length, take, option_map, refl, arith}
+use Rattle.std.proofs.Common.{IfSome, length, take, refl, arith}
 use Rattle.std.proofs.lemmas.List.{length-take}
 use Rattle.std.specs.Io.KnownBytes.{prepend_known}
-use Rattle.httparse.specs.Grammar.{ResponseHead}
 use Rattle.sha1.specs.Sha1.{sha1}
 use Rattle.warc_core.specs.declared.fault.Cause.{Cause}
 use Rattle.warc_core.specs.declared.fault.Cause.TheVariants as causes
@@ -17,10 +16,8 @@ use Rattle.cdxj_core.specs.Entries.{EntryValue}
 use Rattle.capture_core.specs.declared.fault.CaptureFault.{CaptureFault}
 use Rattle.capture_core.specs.declared.fault.CaptureFault.TheVariants.{Archive, LineTooLong, KeyTooLong}
 use Rattle.block_digests.specs.Base32.{base32_of}
-use Rattle.capture_core.specs.HttpHead.{then_more}
 use Rattle.block_digests.specs.RestDigest.{digest_of_rest}
-use Rattle.capture_core.specs.Capture.{ResponseValue, IsCaptureUnder, entry_of, response_of, digest_of, settled_digest}
-use Rattle.capture_core.specs.Capture.{payload_of}
+use Rattle.capture_core.specs.Capture.{ResponseValue, IsCaptureUnder, entry_of, digest_of, settled_digest}
 use Rattle.capture_core.specs.RecordReading.{reading_of, IsCaptureFaultAt, ReadsRest}
 use Rattle.capture_core.specs.CaptureAnswer.{Limits, IsCaptureOf, AnswersEntry, PartsBlock}
 use Rattle.block_digests.proofs.DigestLemmas.{take_past}
@@ -60,14 +57,6 @@ pub digest-known : (left : ℕ) (start digest : List ℕ) (before after : Option
 digest-known left start digest before after r = grind (arith, digest-then)
 
 -- ---- what the capture is
-
-payload-behind : (front more : List ℕ) (found : Option (ResponseHead × List ℕ))
-    → payload_of (front ++ more) (then_more more found) ≡ payload_of front found ++ more
-payload-behind front more found = grind arith
-
-same-response : (more : List ℕ) (found : Option (ResponseHead × List ℕ))
-    → option_map (λ f. response_of f.0) (then_more more found) ≡ option_map (λ f. response_of f.0) found
-same-response more found = grind arith
 
 module _ (limits : Limits) (h : HeadView) (name url front payload bytes digest : List ℕ)
     (response : Option ResponseValue) where

@@ -1,6 +1,6 @@
 -- Lines that are held: the line, its key and the file name are found in the bytes.
 use Rattle.std.proofs.Common.{◌≡◌, inl, inr, ℕ, ◌+◌, ◌-◌, ◌==◌, true, not, List, [], ◌∷◌, ◌++◌, length, refl}
-use Rattle.std.proofs.Common.{subst, Some, None, length-append, append_assoc, append-nil, arith}
+use Rattle.std.proofs.Common.{Some, None, length-append, append_assoc, append-nil, arith}
 use Rattle.std.proofs.lemmas.Bool.{and_parts, lt-ltb}
 use Rattle.std.proofs.lemmas.List.Sums.{suffix_len_is}
 use Rattle.std.proofs.Math.Seq.{take-append_seam, drop-append_seam}
@@ -9,7 +9,7 @@ use Rattle.memchr.specs.Find.{is_byte, IsLastByte}
 use Rattle.cdxj_places.specs.Pair.{is_space}
 use Rattle.cdxj_places.proofs.PlaceLaw.{before_first_at, key_no_space}
 use Rattle.cdxj_core.specs.declared.limit.TheConstants.{LINE_LIMIT}
-use Rattle.cdxj_core.specs.Entries.{EntryValue, IsGood, HasLine, line_text}
+use Rattle.cdxj_core.specs.Entries.{EntryValue, HasLine, line_text}
 use Rattle.cdxj_core.specs.Lines.{has_no_feed}
 use Rattle.cdxj_core.proofs.EntryRead.{body_feed}
 use Rattle.capture_core.specs.Spelling.{HoldsLine, KeepsName, entry_in, first_line, is_line_feed, is_quote}
@@ -19,10 +19,6 @@ use Rattle.capture_core.proofs.SpellingLemmas.{spells}
 pub holds_spelled : (e : EntryValue) (bytes : List ℕ) (o : ℕ) → HoldsLine e bytes o
     → HoldsLine (entry_in (first_line bytes)) bytes o
 holds_spelled e bytes o h = grind (arith, spells)
-
--- the entry that is held is good, as it is seen
-pub held_good : {e seen : EntryValue} {bytes : List ℕ} {o : ℕ} → HoldsLine e bytes o → e ≡ seen → IsGood seen
-held_good h is = subst IsGood is h.has_line.0
 
 -- ---- a line, with more behind it
 

@@ -1,5 +1,5 @@
 -- The pages of a query, by how its captures are cut.
-use Rattle.std.proofs.Common.{◌≡◌, ℕ, List, [], ◌∷◌, ◌++◌, take, drop, Bool, Option, None, Some, sym, ap, ◌∙◌, arith}
+use Rattle.std.proofs.Common.{◌≡◌, ℕ, List, ◌∷◌, ◌++◌, take, drop, Bool, Option, None, Some, sym, ap, ◌∙◌, arith}
 use Rattle.cdxj_places.specs.Places.{PlaceValue, place_cmp}
 use Rattle.cdxj_places.specs.Rising.{Rises}
 use Rattle.cdxj_places.proofs.PlaceOrder.{place_cmp_total}

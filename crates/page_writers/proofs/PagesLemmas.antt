@@ -20,9 +20,8 @@ use Rattle.page_core.specs.Form.{FormValue}
 use Rattle.page_core.specs.PageText.{begun, page_start, page_end, row_text}
 use Rattle.page_core.proofs.PageLemmas.{begun-more, begun_is_front, page_in_pieces}
 use Rattle.page_writers.specs.QueryPages.{form_of, shown_key}
-use Rattle.page_writers.specs.declared.selection.Selection.{Selection}
 use Rattle.page_writers.specs.PageWriting.{captures_over, is_wanted, place_before}
-use Rattle.page_writers.specs.WriterView.{IsFront, IsSame, captures_of}
+use Rattle.page_writers.specs.WriterView.{IsFront}
 use Rattle.page_writers.specs.WrittenPages.{IsReadBack, pages_text}
 use Rattle.page_writers.specs.PagesWriting.{AreCut, HasNext, HasReadKey, PagesStand, last_of}
 use Rattle.page_writers.proofs.CaptureLemmas.{end_last, captures_append, kept_after}
@@ -267,12 +266,6 @@ pub front_more : (q : QueryValue) (from : Option PlaceValue) (sizes : List ℕ) 
 front_more q from sizes taken rest start now front later =
     let found = front (kept_after q from (place_before q from taken) (filter (is_wanted q from) rest) ++ later) in
     grind (arith, append_assoc, captures_append)
-
--- the same of a selection that kept its query and place
-pub front_as : (s first : Selection) (sizes : List ℕ) (taken : List Member) (start now : Option (List ℕ))
-    → IsSame first s → IsFront s.query.now sizes (captures_of s taken) start now
-    → IsFront first.query.now sizes (captures_of first taken) start now
-front_as s first sizes taken start now same front = rw (← same.0, ← same.1) front
 
 -- in the start of the first page
 pub start_front : (q : QueryValue) (sizes : List ℕ) (start new : Option (List ℕ)) → AllPositive sizes

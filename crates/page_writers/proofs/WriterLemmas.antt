@@ -175,10 +175,3 @@ decided limit us vs h = grind (arith, true≢false, at_end, next_some)
 pub next_is : (limit : Option ℕ) (c : List Member) (more : Bool) (last : Option PlaceValue) → more
     ≡ is_some (page limit c).next → last ≡ last_place limit c → next_of more last ≡ (page limit c).next
 next_is limit c more last h k = grind (arith, true≢false, next_some, next_place, next_short, ends_at, cases_lt)
-
--- the same, of a writer that kept these
-pub broke_as : (q q' : QueryValue) (from from' : Option PlaceValue) (limit limit' : Option ℕ) (taken : List Member)
-    (start now : Option (List ℕ)) → q ≡ q' → from ≡ from' → limit ≡ limit'
-    → AppendsPrefix start now (begun (form_of q) (page_over q from limit taken).members)
-    → AppendsPrefix start now (begun (form_of q') (page_over q' from' limit' taken).members)
-broke_as q q' from from' limit limit' taken start now a b c p = grind arith

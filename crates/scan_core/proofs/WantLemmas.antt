@@ -63,4 +63,5 @@ module _ (whole_is_not_refused : WholeIsNotRefused) (types : Kind → Bool) (nam
   archive_want fault h k = let fresh = new_at [] names i new inside in grind arith
 
 pub only_memory : WholeIsNotRefused → OnlyMemoryIsWanting
-only_memory law types names archives inputs sizes text fault counts count s known h may k may' k' = grind (arith, archive_want)
+only_memory law types names archives inputs sizes text fault counts count s known h may k may' k' =
+    grind (arith, archive_want)

@@ -1,6 +1,5 @@
 -- Lines whose end is far.
-use Rattle.std.proofs.Common.{◌≡◌, ℕ, ◌+◌, ◌-◌, ◌<◌, ◌≤◌, List, length, drop, arith, length-drop, Option}
-use Rattle.std.proofs.Common.{IfNone}
+use Rattle.std.proofs.Common.{◌≡◌, ℕ, ◌+◌, ◌-◌, ◌<◌, ◌≤◌, List, length, drop, arith, length-drop}
 use Rattle.source_core.specs.IndexLines.{lines, from_line, first_length, longest}
 use Rattle.source_core.specs.Halved.{IsFar}
 use Rattle.source_core.proofs.LongestLines.{first_and_after, first_most, longest_drop, from_line_short}
@@ -20,6 +19,3 @@ far_longest limit t m some far =
 pub far_here : (limit : ℕ) (t : List ℕ) (m until : ℕ) → until ≡ m + limit → until ≤ length t → from_line until t
     ≡ from_line m t → IsFar limit t m
 far_here limit t m until e inside same = grind (arith, from_line_short)
-
-pub none_so : {A : Type 0} (o : Option A) (P : Type 0) → P → IfNone o P
-none_so o P h = grind arith
