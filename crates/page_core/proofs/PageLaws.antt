@@ -1,20 +1,20 @@
 -- The laws of pages.
 use Rattle.std.proofs.Common.{◌≡◌, ℕ, zero, suc, ◌<◌, List, [], ◌∷◌, ◌++◌, Bool, true, false, cond, length, take, drop}
-use Rattle.std.proofs.Common.{inl, inr, refl, sym, ap, ap₂, ◌∙◌, subst, arith, Ordering, Less, Greater, is_gt, filter}
+use Rattle.std.proofs.Common.{refl, sym, ap, ◌∙◌, subst, arith, Ordering, Less, Greater, is_gt, filter}
 use Rattle.std.proofs.Common.{Some, None, Option, MatchOption, take-append-drop, append-nil, length-drop, length-take}
 use Rattle.std.specs.List.{AllByRecursion, flat_map}
 use Rattle.std.specs.Cmp.{IsTotalOrder}
 use Rattle.std.proofs.lemmas.Cmp.{tied_itself}
-use Rattle.std.proofs.lemmas.Bool.{cond-true, cond-false, cases_Bool}
+use Rattle.std.proofs.lemmas.Bool.{cond-false}
 use Rattle.cdxj_places.specs.Rising.{IsIn, Rises}
 use Rattle.cdxj_places.proofs.RisingLaws.{each_at}
-use Rattle.page_core.specs.Pages.{Page, AllPositive, later_sizes, first_size, is_above, repeats, end_place, kept}
+use Rattle.page_core.specs.Pages.{Page, AllPositive, later_sizes, first_size, is_above, end_place, kept}
 use Rattle.page_core.specs.Pages.{collapsed, next_after, page_of, IsChain, FullButLast}
 
 -- a filter that all pass
 pub filter_all : {X : Type 0} (f : X → Bool) (xs : List X) → AllByRecursion (λ y. f y ≡ true) xs → filter f xs ≡ xs
 filter_all f [] h = refl
-filter_all f (x ∷ xs) h = cond-true (f x) _ _ h.0 ∙ ap (λ t. x ∷ t) (filter_all f xs h.1)
+filter_all f (x ∷ xs) h = grind (arith, filter_all f xs h.1)
 
 -- a filter over another that lets all of it pass
 pub filter_filter : {X : Type 0} (f g : X → Bool) (h : (x : X) → f x ≡ true → g x ≡ true) (xs : List X)
@@ -62,23 +62,11 @@ module _ {X P : Type 0} (place : X → P) (R : P → P → Ordering) (same : P �
 
   in_kept : (m : X) (p : Option P) (xs : List X) → IsIn m (kept place same p xs) → IsIn m xs
   in_kept m p [] i = i
-  in_kept m p (x ∷ xs) i =
-      (elim (repeats place same p x) as (λ b. IsIn m (cond b (kept place same (Some (place x)) xs)
-      (x ∷ kept place same (Some (place x)) xs)) → IsIn m (x ∷ xs)) [
-        | true ↦ (λ i. inr (in_kept m (Some (place x)) xs i))
-        | false ↦ (λ i. elim i [ inl e ↦ inl e | inr j ↦ inr (in_kept m (Some (place x)) xs j) ])
-      ]) i
+  in_kept m p (x ∷ xs) i = grind (arith, in_kept m (Some (place x)) xs)
 
   in_filter : (f : X → Bool) (m : X) (xs : List X) → IsIn m (filter f xs) → f m ≡ true
   in_filter f m [] i = absurd i
-  in_filter f m (x ∷ xs) i = elim (cases_Bool (f x)) [
-    | inl e ↦ elim (subst (λ b. IsIn m (cond b (x ∷ filter f xs) (filter f xs))) e i) [
-      | inl q ↦ (ap f (sym q) ∙ e)
-      | inr
-          j ↦ in_filter f m xs j
-    ]
-    | inr e ↦ in_filter f m xs (grind arith)
-  ]
+  in_filter f m (x ∷ xs) i = grind (arith, in_filter f m xs)
 
   -- The members above one that is kept, collapsed from it on, are those that were kept above it
   resumes : (p : Option P) (m : X) (xs : List X) → Rises place R xs → IsIn m (kept place same p xs)
@@ -112,19 +100,15 @@ module _ {X P : Type 0} (place : X → P) (R : P → P → Ordering) (same : P �
 
   -- where no place follows the n-th member, the first n are all
   all_taken : (n : ℕ) (c : List X) → 0 < n → next_after place n c ≡ None → take n c ≡ c
-  all_taken zero c z h = absurd (omega arith)
-  all_taken (suc n) [] z h = refl
-  all_taken (suc zero) c z h = grind arith
-  all_taken (suc (suc n)) (x ∷ xs) z h = ap (λ t. x ∷ t) (all_taken (suc n) xs (omega arith) h)
+  all_taken (suc (suc n)) (x ∷ xs) z h = grind (arith, all_taken (suc n) xs)
+  all_taken n c z h = grind arith
 
   -- where one follows, it is that of a member, the page is full, and the members above it are the rest
   pub split_there : (n : ℕ) (c : List X) (q : P) → Rises place R c → next_after place n c ≡ Some q
       → (m : X) × IsIn m c × (place m ≡ q) × (length (take n c) ≡ n)
       × (filter (is_above place R (Some (place m))) c ≡ drop n c)
-  split_there zero c q r h = cc
-  split_there (suc n) [] q r h = cc
-  split_there (suc zero) c q r h = grind (arith, filter_all)
   split_there (suc (suc n)) (x ∷ xs) q r h = grind (arith, above_not_below, each_at, split_there (suc n) xs q r.1 h)
+  split_there n c q r h = grind (arith, filter_all)
 
   first_positive : (sizes : List ℕ) → AllPositive sizes → 0 < first_size sizes
   first_positive sizes h = grind arith
@@ -136,36 +120,17 @@ module _ {X P : Type 0} (place : X → P) (R : P → P → Ordering) (same : P �
       → AllPositive sizes
       → IsChain place R same l p sizes pages
       → (flat_map (λ (g : Page X P). g.members) pages ≡ collapsed place R same l p) × FullButLast sizes pages
-  chain_law l p sizes [] r z h = absurd h
-  chain_law l p sizes (page ∷ []) r z h = grind (arith, append-nil, all_taken)
   chain_law l p sizes (page ∷ other ∷ more) r z h =
-      let nx : page.next ≡ next_after place (first_size sizes) (collapsed place R same l p) = ap (λ g. g.next) h.0 in
-      (elim page.next as (λ v. page.next ≡ v → MatchOption v (other ∷ more ≡ []) (λ q. IsChain place R same l (Some q)
-      (later_sizes sizes) (other ∷ more)) → (page.members ++ flat_map (λ (g : Page X P). g.members) (other ∷ more) ≡
-      collapsed place R same l p) × ((length page.members ≡ first_size sizes) × FullButLast (later_sizes sizes)
-      (other ∷ more))) [
-        | None ↦ (λ e k. cc)
-        | Some q ↦ (λ e k.
-            let s = split_there (first_size sizes) (collapsed place R same l p) q (rises_collapsed l p r)
-            (sym nx ∙ e) in
-            let ih = chain_law l (Some q) (later_sizes sizes) (other ∷ more) r (later_positive sizes z) k in
-            grind (arith, collapse_resumes, take-append-drop))
-      ]) refl h.1
+      let later = λ (q : P). chain_law l (Some q) (later_sizes sizes) (other ∷ more) r (later_positive sizes z) in
+      grind (arith, split_there, rises_collapsed, collapse_resumes, take-append-drop)
+  chain_law l p sizes pages r z h = grind (arith, append-nil, all_taken)
 
   -- there is a chain, and only one
   pub chain_one : (l : List X) (p : Option P) (sizes : List ℕ) (us vs : List (Page X P)) → IsChain place R same l p
       sizes us → IsChain place R same l p sizes vs → us ≡ vs
-  chain_one l p sizes [] vs h k = absurd h
-  chain_one l p sizes (a ∷ us) [] h k = absurd k
   chain_one l p sizes (a ∷ us) (b ∷ vs) h k =
-      let e : a ≡ b = h.0 ∙ sym k.0 in
-      let g : MatchOption a.next (vs ≡ []) (λ q. IsChain place R same l (Some q) (later_sizes sizes) vs) =
-      grind arith in
-      let rests : us ≡ vs =
-      (elim a.next as (λ v. MatchOption v (us ≡ []) (λ q. IsChain place R same l (Some q) (later_sizes sizes) us)
-      → MatchOption v (vs ≡ []) (λ q. IsChain place R same l (Some q) (later_sizes sizes) vs) → us ≡ vs)
-      [ None ↦ (λ x y. x ∙ sym y) | Some q ↦ (λ x y. chain_one l (Some q) (later_sizes sizes) us vs x y) ]) h.1 g in
-      ap₂ (λ x y. x ∷ y) e rests
+      let rest = λ (q : P). chain_one l (Some q) (later_sizes sizes) us vs in grind arith
+  chain_one l p sizes us vs h k = grind arith
 
   -- MatchOption at a value that is known
   match_at : {A : Type 0} (v w : Option A) (N : Type 0) (S : A → Type 0) → v ≡ w → MatchOption w N S → MatchOption v N S
@@ -179,17 +144,14 @@ module _ {X P : Type 0} (place : X → P) (R : P → P → Ordering) (same : P �
       (elim (next_after place (first_size sizes) (collapsed place R same l p)) as
       (λ v. next_after place (first_size sizes) (collapsed place R same l p) ≡ v → (pages : List (Page X P))
       × IsChain place R same l p sizes pages) [
-        | None ↦ (λ e. (page_of place R same l p (Some (first_size sizes)) ∷ [], (refl, match_at _ None _ _ e refl)))
+        | None ↦ (λ e. (page_of place R same l p (Some (first_size sizes)) ∷ [], grind arith))
         | Some q ↦ (λ e.
             let s = split_there (first_size sizes) (collapsed place R same l p) q (rises_collapsed l p r) e in
-            let over : collapsed place R same l (Some q) ≡ drop (first_size sizes) (collapsed place R same l p) =
-            grind (arith, collapse_resumes) in
             let pos = first_positive sizes z in
-            let len = ap length over ∙ length-drop (first_size sizes) (collapsed place R same l p) in
-            let tk = sym s.3 ∙ length-take (first_size sizes) (collapsed place R same l p) in
-            let less : length (collapsed place R same l (Some q)) < fuel = omega arith in
+            let less : length (collapsed place R same l (Some q)) < fuel =
+            grind (arith, collapse_resumes, length-drop, length-take) in
             let k = chain_at fuel l (Some q) (later_sizes sizes) r (later_positive sizes z) less in
-            (page_of place R same l p (Some (first_size sizes)) ∷ k.0, (refl, match_at _ (Some q) _ _ e k.1)))
+            (page_of place R same l p (Some (first_size sizes)) ∷ k.0, grind arith))
       ]) refl
 
   pub chain_there : (l : List X) (p : Option P) (sizes : List ℕ) → Rises place R l → AllPositive sizes
