@@ -5,7 +5,7 @@ use Rattle.std.specs.List.{concat}
 use Rattle.warc_core.specs.HeadView.{HeadView, record_length}
 use Rattle.warc_core.specs.Next.{next_at}
 use Rattle.warc_core.specs.Walk.{Walks}
-use Rattle.warc_core.specs.RecordText.{AreTexts, IsReadFrom}
+use Rattle.warc_core.specs.RecordText.{AreTexts}
 use Rattle.warc_core.specs.Laws.{NoRecordAtDamage}
 use Rattle.warc_core.proofs.SpelledLemmas.{read-spelled, spelled-read, head-there, head-read-there, next-there}
 
@@ -35,21 +35,14 @@ spelled-walk limit start heads texts rest a = grind arith
 pub no-record : NoRecordAtDamage
 no-record limit archive heads offset cause d h block text more e r = grind (arith, spelled-read)
 
-record-size : (limit start : ℕ) (h : HeadView) (block text : List ℕ) → IsReadFrom limit start h block text → length text
-    ≡ record_length h
-record-size limit start h block text r = grind (arith, length-append)
-
 -- what was walked over stands in front of what is left
 pub walk-front : (limit start : ℕ) (bytes : List ℕ) (heads : List HeadView) (end : ℕ) (rest : List ℕ)
     → Walks limit start bytes heads end rest → (front : List ℕ) × (bytes ≡ front ++ rest) × (end ≡ start + length front)
-walk-front limit start bytes [] end rest w = grind arith
 walk-front limit start bytes (h ∷ heads) end rest w =
     let r = read-spelled limit start bytes w.0 h w.1 in
-    let f = walk-front limit (start + record_length h) w.0 heads end rest w.2 in (
-      r.1 ++ f.0,
-      grind (arith, append_assoc),
-      omega (arith, f.2, length-append r.1 f.0, record-size limit start h r.0 r.1 r.2),
-    )
+    let f = walk-front limit (start + record_length h) w.0 heads end rest w.2 in
+    (r.1 ++ f.0, grind (arith, append_assoc), grind (arith, length-append))
+walk-front limit start bytes [] end rest w = grind arith
 
 -- a head that was read stands in front of its block
 pub next-spelled : (limit start : ℕ) (bytes rest : List ℕ) (h : HeadView) → next_at limit start bytes

@@ -1,5 +1,5 @@
 -- A block's first bytes, piece by piece.
-use Rattle.std.proofs.Common.{◌≡◌, ℕ, ◌+◌, ◌-◌, ◌≤◌, List, [], ◌++◌, Option, None, Some, Ok, Err, length, take}
+use Rattle.std.proofs.Common.{◌≡◌, ℕ, ◌+◌, ◌-◌, ◌≤◌, List, [], ◌++◌, Option, Ok, Err, length, take}
 use Rattle.std.proofs.Common.{arith, append_assoc, length-drop}
 use Rattle.std.proofs.lemmas.List.{length-take-le, drop_all, take-take}
 use Rattle.std.proofs.lemmas.Slice.{take-put_mid}
@@ -26,9 +26,7 @@ Consumes-join before mid after a b h k = grind (arith, append_assoc)
 pub found-behind : (c : Cause) (left n : ℕ) (piece : List ℕ) (before mid : Option (List ℕ)) → length piece ≡ n
     → n ≤ left → Consumes before mid piece → IsFoundAt (after_block (left - n)) c mid
     → IsFoundAt (after_block left) c before
-found-behind c left n piece (Some z) (Some w) l h k f =
-    grind (arith, drop_all n piece (omega arith), after_block-part left n piece w h (omega arith))
-found-behind c left n piece before mid l h k f = grind arith
+found-behind c left n piece before mid l h k f = grind (arith, drop_all n piece, after_block-part left n piece)
 
 -- the first n bytes of what was written at the place a
 pub take-written : (a k n : ℕ) (xs ys : List ℕ) → a ≤ length xs → n ≤ length ys → take (a + n) (put_mid a k xs ys)
@@ -61,24 +59,12 @@ Filling-more left len old now next before mid after size filled n piece part cou
     let long = f.long in
     let within = f.within in
     let fits = f.fits in
-    record {
-      opened = f.opened;
-      fits = f.fits;
-      long = grind (arith, same_len_mid, length-take-le, length-drop, long);
-      within = omega arith;
-      stands = grind arith;
-      given = grind (arith, take-written, Consumes-join);
-    }
+    grind (arith, take-written, Consumes-join, same_len_mid, length-take-le, length-drop)
 
 pub Filling-fault : (left len : ℕ) (old now next : ReaderView) (before mid after : Option (List ℕ)) (size filled : ℕ)
     (fault : Fault) (piece part whole : List ℕ) (count k k' : ℕ) → Filling left len old now before mid size filled piece
     → GivesBlock (left - filled) len (state_of now mid k) (state_of next after k') (Err fault) part → k ≡ count
     → Fills left len (state_of old before count) (state_of next after k') (Err fault) whole
 Filling-fault left len old now next before mid after size filled fault piece part whole count k k' f g e =
-    record {
-      given = found-behind fault.cause left filled (take filled piece) _ _ (length-take-le filled piece (omega arith))
-          (omega arith) f.given g.bytes;
-      state = grind arith;
-      cause = g.cause;
-      failures = grind arith;
-    }
+    let len = length-take-le filled piece (omega arith) in
+    grind (arith, found-behind fault.cause left filled (take filled piece))

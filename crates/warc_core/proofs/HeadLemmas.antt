@@ -1,16 +1,19 @@
 -- The text of a head, found a byte at a time.
-use Rattle.std.proofs.Common.{◌≡◌, ℕ, zero, suc, ◌+◌, ◌-◌, ◌<◌, ◌≤◌, Bool, true, false, ◌&&◌, ◌||◌, nat_lt, List, []}
-use Rattle.std.proofs.Common.{◌∷◌, ◌++◌, Option, None, Some, Result, Ok, Err, length, take, refl, sym, ap, ◌∙◌, arith}
-use Rattle.std.proofs.Common.{append_assoc, append-nil, length-append, if◌then◌else◌, ◌==◌, ◌⊎◌, inl, inr}
-use Rattle.std.proofs.lemmas.Bool.Decides.{nat_tests}
+use Rattle.std.proofs.Common.{◌≡◌, ℕ, suc, ◌+◌, ◌-◌, ◌<◌, ◌≤◌, Bool, true, false, ◌&&◌, List, []}
+use Rattle.std.proofs.Common.{◌∷◌, ◌++◌, Option, None, Some, Result, Ok, Err, length, take, refl, ap, arith}
+use Rattle.std.proofs.Common.{append_assoc, append-nil, length-append, if◌then◌else◌, ◌==◌, ◌⊎◌}
 use Rattle.std.proofs.Math.Seq.{drop-append_seam}
 use Rattle.warc_core.specs.declared.fault.Cause.{Cause}
 use Rattle.warc_core.specs.declared.fault.Cause.TheVariants as causes
 use Rattle.warc_core.specs.HeadText.{has_version, agrees, version_1_1, version_1_0, is_closed, shortest, found_head}
 use Rattle.warc_core.specs.HeadText.{head_text}
-
-and_keeps_true : (t a b : Bool) → (a ≡ true → b ≡ true) → (t && a) ≡ true → (t && b) ≡ true
-and_keeps_true t a b f h = grind arith
+use Rattle.std.proofs.lemmas.List.Folds.{list_all_at}
+use Rattle.std.proofs.lemmas.Slice.Zip.{get_or-zip, length-zip}
+use Rattle.std.proofs.Common.{get_or, drop, length-drop, zip}
+use Rattle.std.specs.Prelude.{not}
+use Rattle.warc_core.specs.Record.{closing}
+use Rattle.warc_core.specs.RecordText.{IsVersionLine}
+use Rattle.std.proofs.lemmas.List.{get_or-drop, get_or-take, nil_from_length}
 
 pub and_both : (t a : Bool) → (t && a) ≡ true → (t ≡ true) × (a ≡ true)
 and_both t a h = grind arith
@@ -28,93 +31,50 @@ agrees-nil [] = refl
 agrees-nil (x ∷ xs) = refl
 
 -- a text that begins with a version line
-pub begins_1_1 : (text rest : List ℕ) → text ≡ version_1_1 ++ rest → has_version text ≡ true
-begins_1_1 text rest e = grind (arith, agrees-nil)
-
-pub begins_1_0 : (text rest : List ℕ) → text ≡ version_1_0 ++ rest → has_version text ≡ true
-begins_1_0 text rest e = grind (arith, agrees-nil)
+pub begins_version : (version text rest : List ℕ) → IsVersionLine version → text ≡ version ++ rest
+    → has_version text ≡ true
+begins_version version text rest v e = grind (arith, agrees-nil)
 
 -- a text that agrees to the other's end does so however it goes on
 pub agrees-whole : (xs more ys : List ℕ) → agrees xs ys ≡ true → length ys ≤ length xs → agrees (xs ++ more) ys ≡ true
-agrees-whole [] more [] h l = agrees-nil more
-agrees-whole (x ∷ xs) more (y ∷ ys) h l = and_keeps_true (x == y) (agrees xs ys) (agrees (xs ++ more) ys)
-    (λ t. agrees-whole xs more ys t (omega arith)) h
+agrees-whole (x ∷ xs) more (y ∷ ys) h l = grind (arith, agrees-whole xs more ys)
+agrees-whole xs more [] h l = grind (arith, agrees-nil)
 agrees-whole xs more ys h l = grind arith
 
--- a text that agrees and is no longer is a front of the other
-pub agrees-front : (xs ys : List ℕ) → agrees xs ys ≡ true → length xs ≤ length ys → xs ≡ take (length xs) ys
-agrees-front (x ∷ xs) (y ∷ ys) h l =
-    let p = and_both (x == y) (agrees xs ys) h in
-    grind (arith, agrees-front xs ys p.1 (omega arith))
-agrees-front xs ys h l = grind arith
-
 -- a text that agrees and is as long begins with the other
-pub agrees-begins : (xs ys : List ℕ) → agrees xs ys ≡ true → length ys ≤ length xs → (more : List ℕ) × (xs ≡ ys ++ more)
-agrees-begins xs [] h l = (xs, refl)
-agrees-begins [] (y ∷ ys) h l = absurd (omega arith)
-agrees-begins (x ∷ xs) (y ∷ ys) h l =
-    let p = and_both (x == y) (agrees xs ys) h in
-    grind (arith, agrees-begins xs ys p.1 (omega arith))
+agrees-begins : (xs ys : List ℕ) → agrees xs ys ≡ true → length ys ≤ length xs → take (length ys) xs ≡ ys
+agrees-begins (x ∷ xs) (y ∷ ys) h l = grind (arith, agrees-begins xs ys)
+agrees-begins xs ys h l = grind (arith, nil_from_length ys)
 
--- no front of a version line ends a head, nor does one more byte
-open_1_1 : (n : ℕ) → n < 11 → is_closed (take n version_1_1) ≡ false
-open_1_1 zero h = refl
-open_1_1 (suc zero) h = refl
-open_1_1 (suc (suc zero)) h = refl
-open_1_1 (suc (suc (suc zero))) h = refl
-open_1_1 (suc (suc (suc (suc zero)))) h = refl
-open_1_1 (suc (suc (suc (suc (suc zero))))) h = refl
-open_1_1 (suc (suc (suc (suc (suc (suc zero)))))) h = refl
-open_1_1 (suc (suc (suc (suc (suc (suc (suc zero))))))) h = refl
-open_1_1 (suc (suc (suc (suc (suc (suc (suc (suc zero)))))))) h = refl
-open_1_1 (suc (suc (suc (suc (suc (suc (suc (suc (suc zero))))))))) h = refl
-open_1_1 (suc (suc (suc (suc (suc (suc (suc (suc (suc (suc zero)))))))))) h = refl
-open_1_1 (suc (suc (suc (suc (suc (suc (suc (suc (suc (suc (suc n))))))))))) h = absurd (omega arith)
+-- a text with a version begins with a version line
+pub version-line : (text : List ℕ) → has_version text ≡ true → 10 ≤ length text → IsVersionLine (take 10 text)
+version-line text h l = grind (arith, agrees-begins text version_1_1, agrees-begins text version_1_0)
 
-open_1_0 : (n : ℕ) → n < 11 → is_closed (take n version_1_0) ≡ false
-open_1_0 zero h = refl
-open_1_0 (suc zero) h = refl
-open_1_0 (suc (suc zero)) h = refl
-open_1_0 (suc (suc (suc zero))) h = refl
-open_1_0 (suc (suc (suc (suc zero)))) h = refl
-open_1_0 (suc (suc (suc (suc (suc zero))))) h = refl
-open_1_0 (suc (suc (suc (suc (suc (suc zero)))))) h = refl
-open_1_0 (suc (suc (suc (suc (suc (suc (suc zero))))))) h = refl
-open_1_0 (suc (suc (suc (suc (suc (suc (suc (suc zero)))))))) h = refl
-open_1_0 (suc (suc (suc (suc (suc (suc (suc (suc (suc zero))))))))) h = refl
-open_1_0 (suc (suc (suc (suc (suc (suc (suc (suc (suc (suc zero)))))))))) h = refl
-open_1_0 (suc (suc (suc (suc (suc (suc (suc (suc (suc (suc (suc n))))))))))) h = absurd (omega arith)
+-- texts that agree have the same byte at each place
+agrees-at : (xs ys : List ℕ) (i : ℕ) → agrees xs ys ≡ true → i < length xs → i < length ys
+    → get_or xs i 0 ≡ get_or ys i 0
+agrees-at xs ys i h l m =
+    grind (arith, list_all_at (λ (p : ℕ × ℕ). p.0 == p.1) (zip xs ys) i (0, 0), get_or-zip, length-zip)
 
-closed-long_1_1 : (seen : List ℕ) → is_closed seen ≡ true → agrees seen version_1_1 ≡ true → 12 ≤ length seen
-closed-long_1_1 seen h a =
-    elim (which (nat_lt (length seen) 12)) [
-      | inl t ↦ (elim (which (nat_lt (length seen) 11)) [
-        | inl u ↦ (let m : length seen < 11 = grind arith in
-            absurd (let f = open_1_1 (length seen) m in let e = agrees-front seen version_1_1 a (omega arith) in
-            cc))
-        | inr u ↦ grind arith
-      ])
-      | inr f ↦ grind arith
-    ]
+-- the only LF of a version line is its last byte
+one-lf : (version : List ℕ) → IsVersionLine version → (k : ℕ) → k < 9 → get_or version k 0 ≡ 10 → ⊥
+one-lf version v k l e = grind (arith, list_all_at (λ b. not (b == 10)) (take 9 version) k 0, get_or-take)
 
-closed-long_1_0 : (seen : List ℕ) → is_closed seen ≡ true → agrees seen version_1_0 ≡ true → 12 ≤ length seen
-closed-long_1_0 seen h a =
-    elim (which (nat_lt (length seen) 12)) [
-      | inl t ↦ (elim (which (nat_lt (length seen) 11)) [
-        | inl u ↦ (let m : length seen < 11 = grind arith in
-            absurd (let f = open_1_0 (length seen) m in let e = agrees-front seen version_1_0 a (omega arith) in
-            cc))
-        | inr u ↦ grind arith
-      ])
-      | inr f ↦ grind arith
-    ]
+-- what ends a head has an LF three bytes before its end
+closed-lf : (text : List ℕ) → is_closed text ≡ true → (4 ≤ length text) × (get_or text (length text - 3) 0 ≡ 10)
+closed-lf text h =
+    let e : drop (length text - 4) text ≡ closing = grind arith in
+    grind (arith, length-drop (length text - 4) text, ap length e, get_or-drop (length text - 4) text 1 0)
 
-pub or_true : (a b : Bool) → (a || b) ≡ true → (a ≡ true) ⊎ (b ≡ true)
-or_true a b h = grind arith
+closed-and-agrees : (seen version : List ℕ) → IsVersionLine version → is_closed seen ≡ true
+    → agrees seen version ≡ true → 12 ≤ length seen
+closed-and-agrees seen version v h a =
+    let lf = closed-lf seen h in
+    grind (arith, one-lf version v (length seen - 3), agrees-at seen version (length seen - 3))
 
 -- what ends a head and agrees has the whole version line, and more
 pub closed-long : (seen : List ℕ) → is_closed seen ≡ true → has_version seen ≡ true → 12 ≤ length seen
-closed-long seen h a = grind (arith, closed-long_1_1, closed-long_1_0)
+closed-long seen h a = grind (arith, closed-and-agrees)
 
 shortest-now : (test : List ℕ → Bool) (seen bytes : List ℕ) → test seen ≡ true → shortest test seen bytes ≡ Some seen
 unfolding shortest
@@ -173,12 +133,11 @@ pub going-piece : (limit : ℕ) (seen w bytes : List ℕ) → ((j : ℕ) → j <
     → length seen + length w ≤ limit → going limit seen (w ++ bytes) ≡ going limit (seen ++ w) bytes
 going-piece limit seen [] bytes u l = grind (arith, append-nil)
 going-piece limit seen (b ∷ w) bytes u l =
-    let first : is_closed seen ≡ false = ap is_closed (sym (append-nil seen)) ∙ u 0 (omega arith) in
-    going-more limit seen (w ++ bytes) b first (omega arith)
-    ∙ (going-piece limit (seen ++ b ∷ []) w bytes
-    (λ j k. ap is_closed (append_assoc seen (b ∷ []) (take j w)) ∙ u (suc j) (omega (arith, k)))
-    (omega (arith, length-append seen (b ∷ [])))
-    ∙ ap (λ s. going limit s bytes) (append_assoc seen (b ∷ []) w))
+    let first : is_closed seen ≡ false = rw append-nil at (u 0 (omega arith)) in
+    let len = length-append seen (b ∷ []) in
+    let rest = going-piece limit (seen ++ b ∷ []) w bytes (λ j k. rw append_assoc (u (suc j) (omega arith)))
+    (omega arith) in
+    grind (arith, going-more, append_assoc)
 
 -- a piece that disagrees
 pub going-wrong : (limit : ℕ) (seen w bytes : List ℕ) → has_version (seen ++ w) ≡ false → going limit seen (w ++ bytes)
@@ -191,8 +150,4 @@ pub going-gathered : (limit : ℕ) (seen w bytes : List ℕ) → is_closed seen 
     → ((n : ℕ) → length seen < n → n < length seen + length w → is_closed (take n (seen ++ w)) ≡ false)
     → length seen + length w ≤ limit → going limit seen (w ++ bytes) ≡ going limit (seen ++ w) bytes
 going-gathered limit seen w bytes h u l =
-    going-piece limit seen w bytes (λ j k. elim (which (nat_lt 0 j)) [
-      | inl t ↦ (let p : 0 < j = grind (arith, nat_tests) in ap is_closed (sym (take-behind seen w j))
-          ∙ u (length seen + j) (omega arith) (omega arith))
-      | inr f ↦ (grind (arith, nat_tests, append-nil))
-    ]) l
+    going-piece limit seen w bytes (λ j k. grind (arith, take-behind, append-nil, u (length seen + j))) l

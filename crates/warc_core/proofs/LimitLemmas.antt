@@ -22,9 +22,9 @@ reading_stays low high up start bytes rest (Some h) e = grind (arith, read-spell
 walks_stay : (low high : ℕ) → low ≤ high
     → (start : ℕ) (bytes : List ℕ) (heads : List HeadView) (end : ℕ) (rest : List ℕ)
     → Walks low start bytes heads end rest → Walks high start bytes heads end rest
-walks_stay low high up start bytes [] end rest w = w
 walks_stay low high up start bytes (h ∷ heads) end rest w =
-    grind (arith, reading_stays, walks_stay low high up (start + record_length h) w.0 heads end rest w.2)
+    grind (arith, reading_stays, walks_stay low high up (start + record_length h) w.0 heads end rest)
+walks_stay low high up start bytes [] end rest w = w
 
 pub records_stay : RecordsStay
 records_stay low high up archive heads r = grind (arith, walks_stay)

@@ -23,7 +23,7 @@ pub of_open : (P : ℕ → ℕ → Type 0) (phase : Phase) (a b c d : ℕ) → p
 of_open P phase a b c d h k p = grind arith
 
 pub zero_of : (n : ℕ) → (0 < n → ⊥) → n ≡ 0
-zero_of n h = grind arith
+zero_of n h = omega arith
 
 -- what is met in a block ends its record
 pub found-of-record : (c : Cause) (left : ℕ) (before after : Option (List ℕ)) → IsFoundAt (after_block left) c before
@@ -33,13 +33,7 @@ found-of-record c left before after f = grind arith
 
 pub block-part : (n : ℕ) (front w : List ℕ) → length front ≤ n → after_block n (front ++ w)
     ≡ after_block (n - length front) w
-block-part n front w l =
-    grind (
-      arith,
-      drop_all (length front) front (omega arith),
-      after_block-part n (length front) front w l
-          (omega arith),
-    )
+block-part n front w l = grind (arith, drop_all (length front) front, after_block-part n (length front) front w)
 
 record-part : (n : ℕ) (front w : List ℕ) → length front ≤ n → after_record n (front ++ w)
     ≡ after_record (n - length front) w

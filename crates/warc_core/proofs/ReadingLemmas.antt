@@ -1,10 +1,10 @@
 -- Laws of reading in steps.
 use Rattle.std.specs.Prelude.{◌==◌}
-use Rattle.std.proofs.Common.{false, ◌≡◌, ℕ, ◌<◌, List, [], ◌∷◌, ◌++◌, Option, None, Some, Result, Ok}
-use Rattle.std.proofs.Common.{length, take, drop, refl, arith, append_assoc}
+use Rattle.std.proofs.Common.{false, ◌≡◌, ℕ, ◌<◌, List, [], ◌++◌, Option, None, Some, Result, Ok}
+use Rattle.std.proofs.Common.{length, take, drop, arith, append_assoc}
 use Rattle.std.specs.Io.KnownBytes.{Keeps, Consumes, IsAtEnd, prepend_known}
 use Rattle.std.proofs.Math.Seq.{take-append_seam, drop-nil}
-use Rattle.std.proofs.lemmas.List.{take-append-drop}
+use Rattle.std.proofs.lemmas.List.{take-append-drop, nil_from_length}
 use Rattle.warc_core.specs.declared.fault.Cause.{Cause}
 use Rattle.warc_core.specs.Reading.{Reads}
 
@@ -50,22 +50,20 @@ pub was_read : {A : Type 0} (f : List ℕ → Result (A × List ℕ) Cause) (x :
 was_read f x now after w h k = grind arith
 
 pub nil_of : {A : Type 0} (xs : List A) → length xs ≡ 0 → xs ≡ []
-nil_of [] h = refl
-nil_of (x ∷ xs) h = absurd (omega arith)
+nil_of xs h = nil_from_length xs h
 
 -- what was given out of what is held
 pub gave : (before left : Option (List ℕ)) (b : List ℕ) (count : ℕ) (out : List ℕ) → Keeps before (prepend_known b left)
     → out ≡ take count b → Consumes before (prepend_known (drop count b) left) out
-gave (Some z) (Some v) b count out h e =
-    grind (arith, take-append-drop count b, append_assoc (take count b) (drop count b) v)
-gave before left b count out h e = grind arith
+gave before left b count out h e =
+    grind (arith, take-append-drop count b, append_assoc (take count b) (drop count b))
 
 pub at_end : (count : ℕ) (b : List ℕ) (left : Option (List ℕ)) → b ≡ [] → IsAtEnd left
     → IsAtEnd (prepend_known (drop count b) left)
 at_end count b left e h = grind (arith, drop-nil)
 
 pub front_of : {A : Type 0} (n : ℕ) (xs ys : List A) → length xs ≡ n → take n (xs ++ ys) ≡ xs
-front_of n xs ys h = rw (← h) (take-append_seam xs ys)
+front_of n xs ys h = grind (arith, take-append_seam)
 
 pub some_bytes : (xs ys : List ℕ) → xs ≡ ys → false ≡ (length xs == 0) → 0 < length ys
 some_bytes xs ys e t = grind arith

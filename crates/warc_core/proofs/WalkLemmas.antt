@@ -1,6 +1,6 @@
 -- Two walks over one text.
-use Rattle.std.proofs.Common.{arith, ◌≡◌, ◌∙◌, ℕ, ◌+◌, List, [], ◌∷◌, ◌++◌, Option, None, Some, Result, Ok, Err, sym}
-use Rattle.std.proofs.Common.{refl, ◌⊎◌}
+use Rattle.std.proofs.Common.{arith, ◌≡◌, ℕ, ◌+◌, List, [], ◌∷◌, ◌++◌, Option, None, Some, Result, Ok, Err}
+use Rattle.std.proofs.Common.{◌⊎◌, append-nil}
 use Rattle.warc_core.specs.declared.fault.Cause.{Cause}
 use Rattle.warc_core.specs.Reading.{Reads, ◌>>=◌}
 use Rattle.warc_core.specs.Record.{after_record}
@@ -19,61 +19,55 @@ no_fault : (limit start : ℕ) (rest : List ℕ) (c : Cause) → rest ≡ [] →
 unfolding record_at next_at
 no_fault limit start rest c n e = grind arith
 
--- two steps from one place are one step
-one_step : (limit start : ℕ) (bytes : List ℕ) (h k : HeadView) (l m : List ℕ) → record_at limit start bytes
-    ≡ Ok (Some h, l) → record_at limit start bytes ≡ Ok (Some k, m) → (h ≡ k) × (l ≡ m)
-one_step limit start bytes h k l m p q = grind arith
+-- the walk to gs at p, with t left, is that to hs at o, with r left, and more
+abbrev GoesOnFrom : ℕ → List HeadView → List HeadView → ℕ → ℕ → List ℕ → List ℕ → Type 0
+GoesOnFrom limit hs gs o p r t = (more : List HeadView) × (gs ≡ hs ++ more) × Walks limit o r more p t
+
+-- of two walks from one place, one goes on where the other stopped
+two-walks : (limit start : ℕ) (bytes : List ℕ) (hs gs : List HeadView) (o p : ℕ) (r t : List ℕ)
+    → Walks limit start bytes hs o r → Walks limit start bytes gs p t
+    → GoesOnFrom limit hs gs o p r t ⊎ GoesOnFrom limit gs hs p o t r
+two-walks limit start bytes (h ∷ hs) (g ∷ gs) o p r t v w =
+    grind (arith, two-walks limit (start + record_length h) v.0 hs gs o p r t)
+two-walks limit start bytes hs gs o p r t v w = grind arith
+
+-- no walk goes on from the end of the archive, nor from its damage
+walk-ends : (limit p : ℕ) (t : List ℕ) (more : List HeadView) (o : ℕ) (r : List ℕ)
+    → (t ≡ []) ⊎ ((c : Cause) × (record_at limit p t ≡ Err c)) → Walks limit p t more o r
+    → (more ≡ []) × (o ≡ p) × (r ≡ t)
+walk-ends limit p t [] o r e w = grind arith
+walk-ends limit p t (h ∷ more) o r e w = absurd (grind (arith, at_the_end))
 
 pub one_list : (limit start : ℕ) (bytes : List ℕ) (hs gs : List HeadView) (o p : ℕ) → Walks limit start bytes hs o []
     → Walks limit start bytes gs p [] → hs ≡ gs
-one_list limit start bytes [] [] o p v w = refl
-one_list limit start bytes [] (g ∷ gs) o p v w = grind (arith, at_the_end)
-one_list limit start bytes (h ∷ hs) [] o p v w = grind (arith, at_the_end)
-one_list limit start bytes (h ∷ hs) (g ∷ gs) o p v w =
-    let e = one_step limit start bytes h g v.0 w.0 v.1 w.1 in
-    let r : Walks limit (start + record_length h) v.0 gs p [] = rw (e.0, e.1) w.2 in
-    let t = one_list limit (start + record_length h) v.0 hs gs o p v.2 r in
-    cc
+one_list limit start bytes hs gs o p v w = grind (arith, two-walks, walk-ends, append-nil)
 
 pub not_both : (limit start : ℕ) (bytes : List ℕ) (hs gs : List HeadView) (o p : ℕ) (c : Cause) (rest : List ℕ)
     → Walks limit start bytes hs o [] → Walks limit start bytes gs p rest → record_at limit p rest ≡ Err c → ⊥
-not_both limit start bytes [] [] o p c rest v w e = no_fault limit p rest c (w.1 ∙ sym v.1) e
-not_both limit start bytes [] (g ∷ gs) o p c rest v w e = at_the_end limit start g w.0 (rw v.1 w.1)
-not_both limit start bytes (h ∷ hs) [] o p c rest v w e = grind arith
-not_both limit start bytes (h ∷ hs) (g ∷ gs) o p c rest v w e =
-    let f = one_step limit start bytes h g v.0 w.0 v.1 w.1 in
-    let r : Walks limit (start + record_length h) v.0 gs p rest = rw (f.0, f.1) w.2 in
-    not_both limit (start + record_length h) v.0 hs gs o p c rest v.2 r e
+not_both limit start bytes hs gs o p c rest v w e = grind (arith, two-walks, walk-ends, no_fault)
 
 -- a walk to the end of the archive or to its damage goes on where any other stopped
 pub walk-extends : (limit start : ℕ) (bytes : List ℕ) (hs gs : List HeadView) (o p : ℕ) (r t : List ℕ)
     → Walks limit start bytes hs o r → Walks limit start bytes gs p t → (t ≡ [])
     ⊎ ((c : Cause) × (record_at limit p t ≡ Err c)) → (more : List HeadView) × (gs ≡ hs ++ more)
-walk-extends limit start bytes (h ∷ hs) (g ∷ gs) o p r t v w e =
-    let f = one_step limit start bytes h g v.0 w.0 v.1 w.1 in
-    let x : Walks limit (start + record_length h) v.0 gs p t = rw (f.0, f.1) w.2 in
-    grind (arith, walk-extends limit (start + record_length h) v.0 hs gs o p r t v.2 x e)
-walk-extends limit start bytes hs gs o p r t v w e = grind (arith, at_the_end)
+walk-extends limit start bytes hs gs o p r t v w e =
+    let s = two-walks limit start bytes hs gs o p r t v w in
+    grind (arith, walk-ends, append-nil)
 
 -- two walks to damage are one
 pub one_fault : (limit start : ℕ) (bytes : List ℕ) (hs gs : List HeadView) (o p : ℕ) (c d : Cause) (r s : List ℕ)
     → Walks limit start bytes hs o r → Walks limit start bytes gs p s → record_at limit o r ≡ Err c
     → record_at limit p s ≡ Err d → (hs ≡ gs) × (o ≡ p) × (c ≡ d)
-one_fault limit start bytes [] [] o p c d r s v w e f = grind arith
-one_fault limit start bytes [] (g ∷ gs) o p c d r s v w e f = grind arith
-one_fault limit start bytes (h ∷ hs) [] o p c d r s v w e f = grind arith
-one_fault limit start bytes (h ∷ hs) (g ∷ gs) o p c d r s v w e f =
-    let k = one_step limit start bytes h g v.0 w.0 v.1 w.1 in
-    let x : Walks limit (start + record_length h) v.0 gs p s = rw (k.0, k.1) w.2 in
-    grind (arith, one_fault limit (start + record_length h) v.0 hs gs o p c d r s v.2 x e f)
+one_fault limit start bytes hs gs o p c d r s v w e f =
+    grind (arith, two-walks limit start bytes hs gs o p r s v w, walk-ends limit p s, walk-ends limit o r, append-nil)
 
 -- one record further
 pub Walks-more : (limit start : ℕ) (bytes : List ℕ) (hs : List HeadView) (o : ℕ) (r : List ℕ) (h : HeadView)
     (l : List ℕ) → Walks limit start bytes hs o r → record_at limit o r ≡ Ok (Some h, l)
     → Walks limit start bytes (hs ++ h ∷ []) (o + record_length h) l
-Walks-more limit start bytes [] o r h l w e = grind arith
 Walks-more limit start bytes (g ∷ hs) o r h l w e =
-    (w.0, w.1, Walks-more limit (start + record_length g) w.0 hs o r h l w.2 e)
+    grind (arith, Walks-more limit (start + record_length g) w.0 hs o r h l)
+Walks-more limit start bytes [] o r h l w e = grind arith
 
 module _ (limit start : ℕ) (before mid after : Option (List ℕ)) where
   pub record-stopped : (c : Cause) → Reads (next_at limit start) (Err c) before after

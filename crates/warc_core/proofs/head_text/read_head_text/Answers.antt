@@ -1,6 +1,5 @@
-use Rattle.std.proofs.Common.{◌≡◌, ◌+◌, ◌≤◌, ◌++◌, length, take, arith, ap}
+use Rattle.std.proofs.Common.{length, arith, ap}
 use Rattle.std.proofs.lemmas.List.{take_all, length-take-le}
-use Rattle.warc_core.specs.HeadText.{ClosesFirst}
 use Rattle.warc_core.proofs.HeadLemmas.{going-start}
 use Rattle.warc_core.proofs.GatherLemmas.{head-wrong, head-piece, head-found, head-is-found}
 use Rattle.warc_core.proofs.GatherLemmas.{open-more}
@@ -20,17 +19,11 @@ returns-then-not-has_version-clause-bytes g c = grind (arith, head-wrong)
 
 pub returns-in-Some-clause-found : goal.returns-in-Some-clause-found
 returns-in-Some-clause-found g c =
-    let closes : ClosesFirst c.extend_from_slice.new.self.items (length c.loop-buffer.head.items) c.in-Some.end =
-    grind arith in
-    let held : length c.as_slice-held.result.now ≡ length c.fill.new.self = ap length c.as_slice-held.ensures in
-    let new : c.extend_from_slice.new.self.items ≡ c.loop-buffer.head.items ++ take c.min-count.result c.fill.new.self =
-    grind arith in
-    let few : c.min-count.result ≤ length c.fill.new.self = omega (arith, c.min-count.ensures, c.min.ensures, held) in
-    let room : length c.loop-buffer.head.items + c.min-count.result ≤ c.args.limit = grind arith in
+    let held = ap length c.as_slice-held.ensures in
     rw c.truncate.ensures.items
-    (head-is-found c.args.limit c.loop-buffer.head.items c.fill.new.self c.extend_from_slice.new.self.items
-    c.min-count.result c.in-Some.end few new c.loop-buffer.invariant.open_so_far closes room
-    (grind arith))
+    (head-is-found c.args.limit c.loop-buffer.head.items c.fill.new.self _
+    c.min-count.result c.in-Some.end (omega arith) (grind arith) c.loop-buffer.invariant.open_so_far (grind arith)
+    (grind arith) (grind arith))
 
 pub returns-in-Some-clause-bytes : goal.returns-in-Some-clause-bytes
 returns-in-Some-clause-bytes g c = grind (arith, head-found)

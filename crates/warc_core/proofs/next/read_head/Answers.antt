@@ -21,9 +21,4 @@ returns-clause-bytes g c =
     grind (arith, head-read, read-ok c.in_ok-raw.raw.items c.in_ok-parts.parts.parts c.in_ok-parts.ensures.answer)
 
 pub from_parts-requires : goal.from_parts-requires
-from_parts-requires g c =
-    grind (
-      arith,
-      found-spelled HEAD_LIMIT c.in_ok-raw.raw.items c.in_ok-parts.parts.parts c.in_ok-raw.ensures.found
-          (grind (arith, read-ok)),
-    )
+from_parts-requires g c = grind (arith, found-spelled HEAD_LIMIT c.in_ok-raw.raw.items, read-ok)
