@@ -1,6 +1,6 @@
 -- The forms of a date.
-use Rattle.std.proofs.Common.{◌≡◌, ℕ, ◌<◌, ◌≤◌, Bool, true, false, ◌&&◌, List, [], ◌∷◌, length, take, drop, refl, sym}
-use Rattle.std.proofs.Common.{arith, ◌⊎◌, Option, Some, if◌then◌else◌, codes, zero, suc, ◌+◌, ◌++◌, get_or}
+use Rattle.std.proofs.Common.{◌≡◌, ℕ, ◌<◌, ◌≤◌, Bool, true, false, ◌&&◌, List, ◌∷◌, length, take, drop, refl}
+use Rattle.std.proofs.Common.{arith, Option, Some, if◌then◌else◌, codes, zero, suc, ◌+◌, ◌++◌, get_or}
 use Rattle.std.proofs.Common.{lit≤, append-nil}
 use Rattle.std.specs.List.{list_all, zip}
 use Rattle.std.specs.Prelude.{◌==◌}
@@ -8,18 +8,13 @@ use Rattle.std.proofs.lemmas.Bool.Decides.{nat_tests}
 use Rattle.warc_head.specs.Length.{is_digit, all_digits}
 use Rattle.warc_head.specs.Date.{fits, fits_byte, two, digits_of, full_date, date_length, has_fraction, to_the_second}
 
-which : (b : Bool) → (b ≡ true) ⊎ (b ≡ false)
-which b = grind arith
-
 pub and_both : (t a : Bool) → (t && a) ≡ true → (t ≡ true) × (a ≡ true)
 and_both t a h = grind arith
 
 pub fits_long : (p t : List ℕ) → fits p t ≡ true → length p ≡ length t
 unfolding fits
-fits_long [] t h = grind arith
-fits_long (p ∷ ps) [] h = grind arith
-fits_long (p ∷ ps) (b ∷ bs) h =
-    (let e = fits_long ps bs (and_both (fits_byte p b) (fits ps bs) h).1 in omega (arith, e))
+fits_long (p ∷ ps) (b ∷ bs) h = grind (arith, fits_long ps bs)
+fits_long ps bs h = grind arith
 
 pub long_fraction : (t : List ℕ) → has_fraction t ≡ true → 19 ≤ length t
 long_fraction t h = grind arith
@@ -27,9 +22,8 @@ long_fraction t h = grind arith
 -- a text has a form if it has its length and agrees with it byte by byte
 pub fits_by_zip : (p t : List ℕ) → ((length p == length t) && list_all (λ q. fits_byte q.0 q.1) (zip p t)) ≡ fits p t
 unfolding fits
-fits_by_zip [] t = grind (arith, nat_tests)
-fits_by_zip (p ∷ ps) [] = grind (arith, nat_tests)
 fits_by_zip (p ∷ ps) (b ∷ bs) = grind (arith, fits_by_zip ps bs)
+fits_by_zip ps bs = grind (arith, nat_tests)
 
 pub short_fraction : (t : List ℕ) → length t < 19 → has_fraction t ≡ false
 short_fraction t l = grind arith
@@ -37,32 +31,19 @@ short_fraction t l = grind arith
 -- a digit stands where the form has one
 digit_at : (f t : List ℕ) (i : ℕ) → fits f t ≡ true → get_or f i 0 ≡ 48 → is_digit (get_or t i 0) ≡ true
 unfolding fits
-digit_at [] t i h e = grind arith
-digit_at (f ∷ fs) [] i h e = grind arith
-digit_at (f ∷ fs) (b ∷ bs) zero h e = grind arith
-digit_at (f ∷ fs) (b ∷ bs) (suc i) h e = digit_at fs bs i (and_both (fits_byte f b) (fits fs bs) h).1 e
+digit_at (f ∷ fs) (b ∷ bs) (suc i) h e = grind (arith, digit_at fs bs i)
+digit_at fs bs i h e = grind arith
 
 pub both : (a b : Bool) → a ≡ true → b ≡ true → (a && b) ≡ true
-both true true h k = refl
-both true false h k = k
-both false b h k = h
+both a b h k = grind arith
 
 -- a text in front of what fills it up has the form too
 fits_filled : (f g z t : List ℕ) (n : ℕ) → fits f z ≡ true → fits g t ≡ true → take n g ≡ take n f → n ≤ length g
     → fits f (take n t ++ drop n z) ≡ true
 unfolding fits
+fits_filled (f ∷ fs) (g ∷ gs) (c ∷ cs) (b ∷ bs) (suc n) h k e l = grind (arith, fits_filled fs gs cs bs n)
 fits_filled f g z t zero h k e l = h
-fits_filled f [] z t (suc n) h k e l = absurd (omega arith)
-fits_filled f (g ∷ gs) z [] (suc n) h k e l = grind arith
-fits_filled [] (g ∷ gs) z (b ∷ bs) (suc n) h k e l = grind arith
-fits_filled (f ∷ fs) (g ∷ gs) [] (b ∷ bs) (suc n) h k e l = grind arith
-fits_filled (f ∷ fs) (g ∷ gs) (c ∷ cs) (b ∷ bs) (suc n) h k e l =
-    let same : g ≡ f = cc in
-    let later : take n gs ≡ take n fs = cc in
-    let p = and_both (fits_byte g b) (fits gs bs) k in
-    let q = and_both (fits_byte f c) (fits fs cs) h in
-    both (fits_byte f b) (fits fs (take n bs ++ drop n cs)) (rw (sym same) p.0)
-    (fits_filled fs gs cs bs n q.1 p.1 later (omega arith))
+fits_filled f g z t n h k e l = grind arith
 
 if_some : (b : Bool) (m : ℕ) (rest : Option ℕ) (P : ℕ → Type 0) → (b ≡ true → P m) → ((n : ℕ) → rest ≡ Some n → P n)
     → (n : ℕ) → (if b then Some m else rest) ≡ Some n → P n
@@ -75,20 +56,14 @@ zeros_fit = refl
 -- each of the six forms, filled up, says a date and a time to the second
 pub whole_fits : (t : List ℕ) (n : ℕ) → date_length t ≡ Some n → fits to_the_second (full_date t n) ≡ true
 unfolding date_length
-whole_fits t = grind (arith, fits_filled, zeros_fit, lit≤, append-nil, and_both)
+whole_fits t = grind (arith, fits_filled, zeros_fit, lit≤, append-nil)
 
 digit_at_most : (b : ℕ) → is_digit b ≡ true → b ≤ 57
 digit_at_most b h = grind arith
 
 pub two_small : (w : List ℕ) (i : ℕ) → fits to_the_second w ≡ true → get_or to_the_second i 0 ≡ 48
     → get_or to_the_second (i + 1) 0 ≡ 48 → two w i ≤ 99
-two_small w i h a b =
-    grind (
-      arith,
-      digit_at_most (get_or w i 0) (digit_at to_the_second w i h a),
-      digit_at_most (get_or w (i + 1) 0)
-          (digit_at to_the_second w (i + 1) h b),
-    )
+two_small w i h a b = grind (arith, digit_at_most, digit_at to_the_second w i, digit_at to_the_second w (i + 1))
 
 -- the stamp of a date text is of digits
 pub digits_of-digits : (w : List ℕ) → fits to_the_second w ≡ true → all_digits (digits_of w) ≡ true

@@ -1,16 +1,16 @@
 -- The fields of lines, of which some were read.
-use Rattle.std.proofs.Common.{◌≡◌, ◌∙◌, ◌<◌, ℕ, List, [], ◌∷◌, ◌++◌, length, None, Result, Ok, Err, refl}
-use Rattle.std.proofs.Common.{sym, true, false, Bool, append_assoc, arith, length-take, if◌then◌else◌}
+use Rattle.std.proofs.Common.{◌≡◌, ◌<◌, ℕ, List, [], ◌∷◌, ◌++◌, length, None, Result, Ok, Err, refl}
+use Rattle.std.proofs.Common.{true, false, Bool, append_assoc, arith, length-take}
 use Rattle.std.specs.List.{ends_with, list_all}
 use Rattle.std.specs.Prelude.{nat_eq, ◌&&◌, take, drop, ◌-◌}
-use Rattle.std.proofs.lemmas.List.{drop-take}
+use Rattle.std.proofs.lemmas.List.{drop-take, nil_from_length}
 use Rattle.warc_head.specs.Parts.{field_lines_in}
 use Rattle.warc_head.specs.declared.fault.HeadFault.{HeadFault}
 use Rattle.warc_head.specs.declared.fault.HeadFault.TheVariants as faults
 use Rattle.warc_head.specs.Answers.{◌>>=◌}
 use Rattle.warc_head.specs.Lines.{lines_of, line_content, BeginsWithLine, continues, trim, is_content, line_end}
 use Rattle.warc_head.specs.Fields.{Field, Given, given_by, fields_of, joined, longer, added, unless_continued, field_in}
-use Rattle.warc_head.specs.Fields.{with_folded, with_field, at_colon}
+use Rattle.warc_head.specs.Fields.{with_field, at_colon}
 use Rattle.warc_head.proofs.LineLemmas.{line_first, line_text, concat, concat-lines, IsLine, line_if}
 
 -- fields that were read, and what the lines after them give
@@ -31,19 +31,13 @@ joined-nil a = grind arith
 -- fields before the last one are left as they are
 onto-more : (seen : List Field) (f : Field) (read : Given) → onto (seen ++ f ∷ []) read
     ≡ Ok (seen ++ longer f (added read.more) ∷ read.fields)
-onto-more [] f read = refl
-onto-more (g ∷ []) f read = refl
 onto-more (g ∷ h ∷ seen) f read = grind (arith, onto-more (h ∷ seen) f read)
+onto-more seen f read = grind arith
 
 -- a line that begins a field
 onto-began : (seen : List Field) (f : Field) (read : Given) → onto seen (with_field f read) ≡ onto (seen ++ f ∷ []) read
-onto-began [] f read = refl
-onto-began (g ∷ []) f read = grind arith
 onto-began (g ∷ h ∷ seen) f read = grind (arith, onto-began (h ∷ seen) f read)
-
-then_ok : {A B C : Type 0} (r : Result A HeadFault) (f : A → B) (g : B → Result C HeadFault)
-    → ((r >>= λ x. Ok (f x)) >>= g) ≡ (r >>= λ x. g (f x))
-then_ok r f g = grind arith
+onto-began seen f read = grind arith
 
 -- what one line does
 line-fault : (seen : List Field) (line : List ℕ) (lines : List (List ℕ)) (e : HeadFault) → line_content line ≡ Err e
@@ -74,13 +68,6 @@ Plain (Ok x) = Unit {0}
 Plain (Err faults.FieldLine) = Unit {0}
 Plain (Err e) = ⊥
 
-Plain-then : {A B : Type 0} (r : Result A HeadFault) (f : A → Result B HeadFault) → Plain r → ((x : A) → Plain (f x))
-    → Plain (r >>= f)
-Plain-then r f p h = grind arith
-
-Plain-if : {A : Type 0} (t : Bool) (a b : Result A HeadFault) → Plain a → Plain b → Plain (if t then a else b)
-Plain-if t a b p q = grind arith
-
 Plain-name : (text : List ℕ) → Plain (field_in text)
 unfolding field_in
 Plain-name text = grind (arith, at_colon)
@@ -88,28 +75,17 @@ Plain-name text = grind (arith, at_colon)
 Plain-lines : (lines : List (List ℕ)) → Plain (given_by lines)
 unfolding given_by
 Plain-lines [] = tt
-Plain-lines (line ∷ lines) =
-    Plain-then (line_content line) _ (grind arith)
-    (λ text. Plain-if (continues text) _ _ (Plain-then (given_by lines) _ (Plain-lines lines) (λ later. tt))
-    (Plain-then (field_in text) _ (Plain-name text)
-    (λ field. Plain-then (given_by lines) _ (Plain-lines lines) (λ later. tt))))
-
-all_refused : {A B : Type 0} (r : Result A HeadFault) → Plain r
-    → ◌≡◌ {A = Result B HeadFault} (r >>= λ x. Err faults.FieldLine) (Err faults.FieldLine)
-all_refused r p = grind arith
+Plain-lines (line ∷ lines) = grind (arith, Plain-name, Plain-lines lines)
 
 line-first : (line text : List ℕ) (lines : List (List ℕ)) → line_content line ≡ Ok text → continues text ≡ true
     → going_lines [] (line ∷ lines) ≡ Err faults.FieldLine
 unfolding given_by
-line-first line text lines h c =
-    rw (h, c) (then_ok (given_by lines) (with_folded (trim text)) (onto [])
-    ∙ all_refused (given_by lines) (Plain-lines lines))
+line-first line text lines h c = grind (arith, Plain-lines lines)
 
 -- at the end
 onto-end : (seen : List Field) → onto seen (record { more = None; fields = [] }) ≡ Ok seen
-onto-end [] = refl
-onto-end (f ∷ []) = grind arith
 onto-end (f ∷ g ∷ seen) = grind (arith, onto-end (g ∷ seen))
+onto-end seen = grind arith
 
 pub going-end : (seen : List Field) → going seen [] ≡ Ok seen
 unfolding going lines_of given_by
@@ -129,14 +105,8 @@ unended_lines : (seen : List Field) (text : List ℕ) (lines : List (List ℕ)) 
 unended_lines seen text [] e h f = grind (arith, concat-lines text)
 unended_lines seen text (line ∷ lines) e h f =
     line-fault seen line lines faults.FieldLine
-    (content_fault line (ends_with nat_eq line line_end && list_all is_content (take (length line - 2) line)) refl
-    (λ t l. f t (concat lines)
-    (record {
-      spelled = sym (concat-lines text)
-          ∙ (grind (arith, append_assoc));
-      plain =
-          l.plain;
-    })))
+    (content_fault line _ refl
+    (λ t l. f t (concat lines) (record { spelled = grind (arith, append_assoc, concat-lines text); plain = l.plain })))
 
 -- a text that begins with no line
 pub going-fault : (seen : List Field) (text : List ℕ) → 0 < length text
@@ -171,8 +141,7 @@ module _ (rest text later : List ℕ) (line : BeginsWithLine rest text later) wh
   going-continued seen f c = grind (arith, cut, line-continued, content)
 
 pub nil_of : {A : Type 0} (xs : List A) → length xs ≡ 0 → xs ≡ []
-nil_of [] h = refl
-nil_of (x ∷ xs) h = absurd (omega arith)
+nil_of xs h = nil_from_length xs h
 
 -- the lines between the version line and the empty line
 pub body_is : (raw : List ℕ) → field_lines_in raw ≡ drop 10 (take (length raw - 2) raw)

@@ -1,10 +1,10 @@
 -- The fields that are read and the texts that spell them.
-use Rattle.std.proofs.Common.{◌≡◌, ℕ, suc, Bool, true, List, [], ◌∷◌, ◌++◌, refl, ap, arith, append_assoc}
-use Rattle.std.proofs.Common.{Option, Some, None, Result, Ok, Err, subst, if◌then◌else◌, map}
-use Rattle.std.specs.Prelude.{◌==◌, All}
+use Rattle.std.proofs.Common.{◌≡◌, ℕ, suc, true, List, [], ◌∷◌, ◌++◌, refl, ap, arith, append_assoc}
+use Rattle.std.proofs.Common.{Option, Some, None, Result, Ok, Err, if◌then◌else◌, map}
+use Rattle.std.specs.Prelude.{All}
 use Rattle.std.specs.List.{list_all, flat_map}
-use Rattle.std.specs.Option.{option_map}
 use Rattle.std.proofs.lemmas.List.Folds.{list_all-append}
+use Rattle.std.proofs.lemmas.Bool.Decides.{nat_tests}
 use Rattle.std.proofs.lemmas.List.Elements.{All-cons, All-nil}
 use Rattle.warc_head.specs.declared.fault.HeadFault.{HeadFault}
 use Rattle.warc_head.specs.Answers.{◌>>=◌}
@@ -42,18 +42,9 @@ more_read : (more : List (List ℕ)) (rest : List ℕ) (later : Given) → All I
     ≡ Ok later
     → given_by (lines_of (flat_map ended more ++ rest)) ≡ Ok (with_pieces more later)
 unfolding given_by
-more_read [] rest later h r = r
 more_read (text ∷ more) rest later h r =
-    grind (
-      arith,
-      all_first,
-      append_assoc,
-      line_first,
-      line_text,
-      all_later,
-      more_read more rest later
-          (all_later IsContinuation text more h) r,
-    )
+    grind (arith, all_first, append_assoc, line_first, line_text, more_read more rest later (all_later IsContinuation text more h))
+more_read [] rest later h r = r
 
 first_plain : (f : Folded) → IsFolded f → list_all is_content (f.name ++ (58 ∷ f.rest)) ≡ true
 first_plain f h = grind (arith, list_all-append, names-plain)
@@ -69,16 +60,9 @@ unfolding given_by lines_of
 spelling_read [] h = refl
 spelling_read (f ∷ fs) h =
     let one = all_first IsFolded f fs h in
-    let text = f.name ++ (58 ∷ f.rest) in
-    let rest = flat_map folded_text fs in
-    let more = flat_map ended f.more in
     let plain = first_plain f one in
-    let cut : lines_of ((ended text ++ more) ++ rest) ≡ ended text ∷ lines_of (more ++ rest) =
-    grind (arith, append_assoc, line_first) in
-    let later : given_by (lines_of (more ++ rest))
-    ≡ Ok (with_pieces f.more (record { more = None; fields = map unfolded fs })) =
-    grind (arith, more_read, all_later, spelling_read fs (all_later IsFolded f fs h)) in
-    grind (arith, line_text, text, begins, first_field, pieces-added, pieces-fields)
+    let later = more_read f.more (flat_map folded_text fs) (record { more = None; fields = map unfolded fs }) one.more (spelling_read fs (all_later IsFolded f fs h)) in
+    grind (arith, append_assoc, line_first, line_text, begins, first_field, pieces-added, pieces-fields)
 
 pub spelled_is_read : (body : List ℕ) (fields : List Field) → IsSpelling body fields → fields_of body ≡ Ok fields
 unfolding fields_of
@@ -87,20 +71,11 @@ spelled_is_read body fields s = grind (arith, spelling_read)
 line_of_text : (line text : List ℕ) → line_content line ≡ Ok text → IsLine line text
 line_of_text line text h = line_if line _ text refl h
 
-abbrev option_cons : ℕ → Option (List ℕ × List ℕ) → Option (List ℕ × List ℕ)
-option_cons b o = option_map (λ p. (b ∷ p.0, p.1)) o
-
-colon_if : (b : ℕ) (bs name rest : List ℕ) (t : Bool) → (b == 58) ≡ t
-    → ((p : List ℕ × List ℕ) → at_colon bs ≡ Some p → bs ≡ p.0 ++ (58 ∷ p.1))
-    → if◌then◌else◌ {A = Option (List ℕ × List ℕ)} t (Some ([], bs)) (option_cons b (at_colon bs)) ≡ Some (name, rest)
-    → b ∷ bs ≡ name ++ (58 ∷ rest)
-colon_if b bs name rest t e ih h = grind (arith, name)
-
 -- a text is cut at its first colon
 colon_cuts : (text : List ℕ) (p : List ℕ × List ℕ) → at_colon text ≡ Some p → text ≡ p.0 ++ (58 ∷ p.1)
 unfolding at_colon
+colon_cuts (b ∷ bs) p h = grind (arith, nat_tests, colon_cuts bs)
 colon_cuts [] p h = grind arith
-colon_cuts (b ∷ bs) p h = colon_if b bs p.0 p.1 (b == 58) refl (colon_cuts bs) h
 
 record IsFirst (text : List ℕ) (field : Field) : Type 0 where
   rest : List ℕ
@@ -130,10 +105,6 @@ record Spells (body : List ℕ) (given : Given) : Type 0 where
   adds : given.more ≡ said_more more
   says : given.fields ≡ map unfolded folded
 
-same_fields : (name : List ℕ) {v w : List ℕ} {fs gs : List Field} → v ≡ w → fs ≡ gs
-    → ◌≡◌ {A = List Field} (record { name = name; value = v } ∷ fs) (record { name = name; value = w } ∷ gs)
-same_fields name p q = rw (p, q) refl
-
 module _ (line : List ℕ) (lines : List (List ℕ)) (given : Given) (ih : (later : Given) → given_by lines ≡ Ok later
     → Spells (concat lines) later) where
   goes_on : (text : List ℕ) → IsLine line text → continues text ≡ true → (r : Result Given HeadFault) → given_by lines
@@ -142,17 +113,15 @@ module _ (line : List ℕ) (lines : List (List ℕ)) (given : Given) (ih : (late
   goes_on text l c (Err e) g h = grind arith
   goes_on text l c (Ok later) g h =
       let s = ih later g in
-      let same : with_folded (trim text) later ≡ given = cc in
-      subst (λ v. Spells (line ++ concat lines) v) same
-      (record {
+      record {
         more = text ∷ s.more;
         folded = s.folded;
         each_more = grind arith;
         each = s.each;
         text = grind (arith, append_assoc, text);
         adds = grind (arith, text, added-said);
-        says = s.says;
-      })
+        says = grind arith;
+      }
 
   begins_field : (text : List ℕ) (field : Field) → IsLine line text → IsFirst text field → (r : Result Given HeadFault)
       → given_by lines ≡ r
@@ -160,23 +129,18 @@ module _ (line : List ℕ) (lines : List (List ℕ)) (given : Given) (ih : (late
   begins_field text field l f (Err e) g h = grind arith
   begins_field text field l f (Ok later) g h =
       let s = ih later g in
-      let same : with_field field later ≡ given = cc in
       let one : Folded = record { name = field.name; rest = f.rest; more = s.more } in
-      let plain : list_all is_content (field.name ++ (58 ∷ f.rest))
-      ≡ true = grind arith in
+      let plain : list_all is_content (field.name ++ (58 ∷ f.rest)) ≡ true = grind arith in
       let rest_plain : list_all is_content f.rest ≡ true = grind (arith, list_all-append) in
-      let value : joined field.value (added later.more) ≡ joined (trim f.rest) (joined_all (map trim s.more)) =
-      grind arith in
-      subst (λ v. Spells (line ++ concat lines) v) same
-      (record {
+      record {
         more = [];
         folded = one ∷ s.folded;
         each_more = All-nil IsContinuation;
-        each = All-cons IsFolded one s.folded (record { name = f.name; plain = rest_plain; more = s.each_more }) s.each;
+        each = All-cons IsFolded one s.folded (grind arith) s.each;
         text = grind (arith, append_assoc);
-        adds = refl;
-        says = same_fields field.name value s.says;
-      })
+        adds = grind arith;
+        says = grind (arith, added-said);
+      }
 
   from_field : (text : List ℕ) → IsLine line text → (r : Result Field HeadFault) → field_in text ≡ r
       → (r >>= λ field. given_by lines >>= λ later. Ok (with_field field later)) ≡ Ok given
@@ -192,18 +156,15 @@ module _ (line : List ℕ) (lines : List (List ℕ)) (given : Given) (ih : (late
 
 spells : (lines : List (List ℕ)) (given : Given) → given_by lines ≡ Ok given → Spells (concat lines) given
 unfolding given_by
-spells [] given h =
-    let same : ◌≡◌ {A = Given} (record { more = None; fields = [] }) given = cc in
-    subst (λ v. Spells [] v) same
-    (record {
-      more = [];
-      folded = [];
-      each_more = All-nil IsContinuation;
-      each = All-nil IsFolded;
-      text = refl;
-      adds = refl;
-      says = refl;
-    })
+spells [] given h = record {
+  more = [];
+  folded = [];
+  each_more = All-nil IsContinuation;
+  each = All-nil IsFolded;
+  text = refl;
+  adds = grind arith;
+  says = grind arith;
+}
 spells (line ∷ lines) given h = grind (arith, from_line, spells lines)
 
 no_more : (more : List (List ℕ)) → ◌≡◌ {A = Option (List ℕ)} None (said_more more) → more ≡ []

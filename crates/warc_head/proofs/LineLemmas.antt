@@ -1,13 +1,11 @@
 -- The lines of a text.
 use Rattle.std.proofs.lemmas.Grind.{common_steps}
-use Rattle.std.proofs.Common.{◌≡◌, ◌∙◌, ℕ, zero, suc, ◌+◌, ◌-◌, ◌<◌, ◌≤◌, List, [], ◌∷◌, ◌++◌, length, take, drop}
-use Rattle.std.proofs.Common.{get_or, refl, sym, ap, arith, true, false, Bool, ◌&&◌, add-one, length-drop, inl, inr, Ok}
-use Rattle.std.proofs.Common.{Err, nat_eq, subst, if◌then◌else◌}
+use Rattle.std.proofs.Common.{◌≡◌, ℕ, suc, ◌+◌, ◌-◌, ◌<◌, ◌≤◌, List, [], ◌∷◌, ◌++◌, length, take, drop}
+use Rattle.std.proofs.Common.{get_or, refl, arith, true, false, Bool, ◌&&◌, add-one, length-drop, Ok}
+use Rattle.std.proofs.Common.{Err, nat_eq, if◌then◌else◌}
 use Rattle.std.specs.Prelude.{◌==◌, Some, None}
 use Rattle.std.specs.List.{list_all, ends_with}
-use Rattle.std.specs.Option.{option_map}
 use Rattle.std.specs.Cmp.Lexicographic.{pointwise}
-use Rattle.std.proofs.lemmas.Bool.{cases_lt}
 use Rattle.httparse.specs.Pieces.{IsRunAt}
 use Rattle.std.proofs.lemmas.List.{take-append-drop, drop-drop, get_or-drop}
 use Rattle.std.proofs.Math.Seq.{take-append_seam, drop-append_seam}
@@ -16,7 +14,6 @@ use Rattle.warc_head.specs.declared.fault.HeadFault.TheVariants as faults
 use Rattle.warc_head.specs.Lines.{lines_of, line_content, line_end, is_content, BeginsWithLine, EndsLine}
 use Rattle.warc_head.specs.Fields.{at_colon}
 use Rattle.warc_head.specs.Folding.{ended}
-use Rattle.warc_head.proofs.DateLemmas.{and_both}
 
 pub false_of : (t : Bool) → (t ≡ true → ⊥) → t ≡ false
 false_of t h = grind arith
@@ -25,29 +22,27 @@ false_of t h = grind arith
 pub colon_at : (text : List ℕ) (at : ℕ) → at < length text → (get_or text at 0 == 58) ≡ true
     → ((k : ℕ) → k < at → (get_or text k 0 == 58) ≡ true → ⊥) → at_colon text ≡ Some (take at text, drop (at + 1) text)
 unfolding at_colon
-colon_at [] at h e f = absurd (omega arith)
-colon_at (b ∷ bs) zero h e f = rw e refl
 colon_at (b ∷ bs) (suc at) h e f =
     let t : (b == 58) ≡ false = false_of (b == 58) (f 0 (omega arith)) in
-    rw (t, add-one) (ap (option_map (λ p. (b ∷ p.0, p.1)))
-    (rw add-one at (colon_at bs at (omega arith) e (λ k l. f (suc k) (omega arith)))))
+    let ih = rw add-one at (colon_at bs at (omega arith) e (λ k l. f (suc k) (omega arith))) in
+    rw (t, add-one) (grind arith)
+colon_at text at h e f = grind arith
 
 pub colon_none : (text : List ℕ) → ((k : ℕ) → k < length text → (get_or text k 0 == 58) ≡ true → ⊥) → at_colon text
     ≡ None
 unfolding at_colon
 colon_none [] f = refl
 colon_none (b ∷ bs) f =
-    let t : (b == 58) ≡ false = false_of (b == 58) (f 0 (omega arith)) in
-    rw t (ap (option_map (λ p. (b ∷ p.0, p.1))) (colon_none bs (λ k l. f (suc k) (omega arith))))
+    let first = f 0 (omega arith) in
+    let ih = colon_none bs (λ k l. f (suc k) (omega arith)) in
+    grind arith
 
 -- the first line of a text
 pub line_first : (text rest : List ℕ) → list_all is_content text ≡ true → lines_of (text ++ (line_end ++ rest))
     ≡ (text ++ line_end) ∷ lines_of rest
 unfolding lines_of
 line_first [] rest h = refl
-line_first (b ∷ bs) rest h =
-    let p = and_both (is_content b) (list_all is_content bs) h in
-    grind (arith, line_first bs rest p.1)
+line_first (b ∷ bs) rest h = grind (arith, line_first bs rest)
 
 front : (text : List ℕ) → take (length (text ++ line_end) - 2) (text ++ line_end) ≡ text
 front text = grind (arith, common_steps, take-append_seam)
@@ -79,26 +74,15 @@ pub record IsLine (line text : List ℕ) : Type 0 where
 pub line_if : (line : List ℕ) (t : Bool) (text : List ℕ)
     → (ends_with nat_eq line line_end && list_all is_content (take (length line - 2) line)) ≡ t
     → (if t then Ok (take (length line - 2) line) else Err faults.FieldLine) ≡ Ok text → IsLine line text
-line_if line false text e h = grind arith
-line_if line true text e h =
-    let p = and_both (ends_with nat_eq line line_end) (list_all is_content (take (length line - 2) line)) e in
-    let same : take (length line - 2) line ≡ text = cc in
-    subst (λ t. IsLine line t) same
-    (record {
-      spelled = sym (take-append-drop (length line - 2) line)
-          ∙ ap (λ d. take (length line - 2) line ++ d) (line_end_is (drop (length line - 2) line) p.0);
-      plain = p.1;
-    })
+line_if line t text e h = grind (arith, take-append-drop, line_end_is)
 
 -- where a line stands, the first CR or LF is that at its end
 pub line_end_at : (line rest : List ℕ) (at : ℕ) → list_all is_content line ≡ true
     → is_byte2 13 10 (get_or (line ++ 13 ∷ rest) at 0) ≡ true
     → ((k : ℕ) → k < at → is_byte2 13 10 (get_or (line ++ 13 ∷ rest) k 0) ≡ true → ⊥) → at ≡ length line
-line_end_at [] rest zero p h f = refl
-line_end_at [] rest (suc at) p h f = absurd (f 0 (omega arith) refl)
-line_end_at (b ∷ bs) rest zero p h f = grind arith
-line_end_at (b ∷ bs) rest (suc at) p h f = ap suc
-    (line_end_at bs rest at (and_both (is_content b) (list_all is_content bs) p).1 h (λ k l. f (suc k) (omega arith)))
+line_end_at (b ∷ bs) rest (suc at) p h f =
+    grind (arith, line_end_at bs rest at (grind arith) h (λ k l. f (suc k) (omega arith)))
+line_end_at line rest at p h f = grind (arith, f 0)
 
 -- a text that begins so has a CR or LF
 pub line_end_in : (line rest : List ℕ)
@@ -109,11 +93,11 @@ line_end_in (b ∷ bs) rest f = line_end_in bs rest (λ k l. f (suc k) (omega ar
 -- the bytes before the first CR or LF
 pub plain_before : (text : List ℕ) (at : ℕ) → ((k : ℕ) → k < at → is_byte2 13 10 (get_or text k 0) ≡ true → ⊥)
     → at ≤ length text → list_all is_content (take at text) ≡ true
-plain_before text zero f l = refl
-plain_before [] (suc at) f l = absurd (omega arith)
 plain_before (b ∷ bs) (suc at) f l =
-    let t : is_byte2 13 10 b ≡ false = false_of (is_byte2 13 10 b) (f 0 (omega arith)) in
-    rw t (plain_before bs at (λ k l. f (suc k) (omega arith)) (omega arith))
+    let first = f 0 (omega arith) in
+    let ih = plain_before bs at (λ k l. f (suc k) (omega arith)) (omega arith) in
+    grind arith
+plain_before text at f l = grind arith
 
 -- where no CR or LF stands, no line does
 pub unended : (text : List ℕ) → ((k : ℕ) → k < length text → is_byte2 13 10 (get_or text k 0) ≡ true → ⊥)
@@ -137,16 +121,7 @@ module _ (text : List ℕ) (at end : ℕ) (run : IsRunAt is_content text at end)
   pub ends_line : drop end text ≡ line_end ++ drop 2 (drop end text) → EndsLine text at end
   ends_line e =
       let size : length (drop end text) ≡ 2 + length (drop 2 (drop end text)) = grind arith in
-      record {
-        order = run.ordered;
-        within = omega (arith, size, length-drop end text);
-        line = record {
-          spelled = sym (take-append-drop (end - at) (drop at text))
-              ∙ ap (λ t. take (end - at) (drop at text) ++ t)
-              (behind ∙ (e ∙ ap (λ t. line_end ++ t) (drop-drop 2 end text)));
-          plain = grind (arith, plain_before, no_break, length-drop);
-        };
-      }
+      grind (arith, length-drop, take-append-drop (end - at) (drop at text), behind, drop-drop 2 end text, plain_before, no_break)
 
   broken : end < length text → is_byte2 13 10 (get_or (drop at text) (end - at) 0) ≡ true
   broken inside = grind (arith, get_or-drop)
@@ -154,8 +129,6 @@ module _ (text : List ℕ) (at end : ℕ) (run : IsRunAt is_content text at end)
   pub ends_no_line : ((more : List ℕ) → drop end text ≡ line_end ++ more → ⊥) → (line rest : List ℕ)
       → BeginsWithLine (drop at text) line rest → ⊥
   ends_no_line other line rest b =
-      elim (cases_lt end (length text)) [
-        | inl inside ↦ grind (arith, ended_elsewhere, broken, no_break, behind)
-        | inr whole ↦ unended (drop at text) (λ k l h. no_break k (omega (arith, l, whole, length-drop at text)) h) line
-            rest b
-      ]
+      let whole = unended (drop at text) in
+      let inside = ended_elsewhere (drop at text) (end - at) in
+      grind (arith, broken, no_break, behind, length-drop)

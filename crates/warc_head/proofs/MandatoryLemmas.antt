@@ -49,26 +49,17 @@ pub repeated_regrouped : (fields : List Field)
     kind_name) ≡ none_repeated mandatory fields
 repeated_regrouped fields = grind arith
 
-abbrev LastThree : Bool → Bool → Bool → Type 0
-LastThree b c d = (b ≡ true) × ((c ≡ true) × (d ≡ true))
-
-is_filled : (n : ℕ) → nat_lt 0 n ≡ true → 0 < n
-is_filled n h = grind (arith, nat_tests, h)
-
 abbrev pub IsOnce : List ℕ → List Field → Type 0
 IsOnce name fields = (0 < length (field_values name fields)) × (length (field_values name fields) < 2)
 
 -- where no mandatory name is missing and none is repeated, each stands once
 module _ (fields : List Field) (some : none_missing mandatory fields ≡ true) (single : none_repeated mandatory fields
     ≡ true) where
-  filled : LastThree (stands fields length_name) (stands fields date_name) (stands fields kind_name)
-  filled = grind arith
-
   pub length_once : IsOnce (codes "Content-Length") fields
-  length_once = grind arith
+  length_once = grind (arith, nat_tests)
 
   pub date_once : IsOnce (codes "WARC-Date") fields
-  date_once = grind arith
+  date_once = grind (arith, nat_tests)
 
   pub kind_once : IsOnce (codes "WARC-Type") fields
   kind_once = grind arith

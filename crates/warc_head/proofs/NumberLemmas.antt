@@ -1,11 +1,9 @@
 -- Numbers of few digits.
 use Rattle.std.proofs.Math.Nat.{pow-le-pow_right, one-le-pow}
 use Rattle.std.proofs.lemmas.Grind.{pow_more}
-use Rattle.std.proofs.Common.{◌≡◌, ℕ, ◌+◌, ◌-◌, ◌*◌, ◌^◌, ◌<◌, ◌≤◌, arith, sym, ap, lit<, List, ◌∷◌, length, true, ◌&&◌}
-use Rattle.std.proofs.Common.{nat_le, ◌∙◌}
+use Rattle.std.proofs.Common.{◌≡◌, ℕ, ◌+◌, ◌-◌, ◌*◌, ◌^◌, ◌<◌, ◌≤◌, arith, lit<, List, ◌∷◌, length, true}
 use Rattle.std.proofs.lemmas.Bool.Decides.{nat_tests}
 use Rattle.warc_head.specs.Length.{all_digits}
-use Rattle.warc_head.proofs.DateLemmas.{and_both}
 
 -- one digit more
 pub digit-more : (n d k : ℕ) → n < 10 ^ k → d ≤ 9 → 10 * n + d < 10 ^ (k + 1)
@@ -18,22 +16,9 @@ few-digits n k h l = grind (arith, pow-le-pow_right)
 pub start-small : (k : ℕ) → 0 < 10 ^ k
 start-small k = one-le-pow k 10 (lit< tt)
 
-le_of : (a b : ℕ) → nat_le a b ≡ true → a ≤ b
-le_of a b h = grind (arith, nat_tests)
-
 -- the next digit keeps the number small
 pub step-small : (n : ℕ) (rest : List ℕ) (d : ℕ) (later : List ℕ) → rest ≡ d ∷ later → all_digits rest ≡ true
     → length rest ≤ 19 → n < 10 ^ (19 - length rest)
     → (10 * n + (d - 48) < 10000000000000000000) × (10 * n + (d - 48) < 10 ^ (19 - length later))
     × (all_digits later ≡ true)
-step-small n rest d later e a l h =
-    let a' : (nat_le 48 d && nat_le d 57 && all_digits later) ≡ true = ap all_digits (sym e) ∙ a in
-    let p = and_both (nat_le 48 d && nat_le d 57) (all_digits later) a' in
-    let q = and_both (nat_le 48 d) (nat_le d 57) p.0 in
-    let u = le_of d 57 q.1 in
-    let len : length rest ≡ length (d ∷ later) = ap length e in
-    let k = 19 - length rest in
-    let m : 19 - length later ≡ k + 1 = omega (arith, len, l) in
-    let s = digit-more n (d - 48) k h (omega (arith, u)) in
-    let t : 10 * n + (d - 48) < 10 ^ (19 - length later) = rw m s in
-    (few-digits (10 * n + (d - 48)) (k + 1) (omega (arith, len, l)) s, t, p.1)
+step-small n rest d later e a l h = grind (arith, nat_tests, digit-more n (d - 48) (19 - length rest), few-digits (10 * n + (d - 48)) (19 - length later))

@@ -1,5 +1,5 @@
 -- A line of a text that begins with the lines of a head.
-use Rattle.std.proofs.Common.{◌≡◌, ◌∙◌, ℕ, ◌+◌, ◌-◌, ◌<◌, ◌≤◌, List, ◌++◌, length, take, drop, ap, arith, length-drop}
+use Rattle.std.proofs.Common.{◌≡◌, ℕ, ◌+◌, ◌-◌, ◌<◌, ◌≤◌, List, ◌++◌, length, take, drop, arith, length-drop}
 use Rattle.std.proofs.Common.{length-append}
 use Rattle.std.proofs.lemmas.List.{take-append-le, take-append-drop, drop-drop, length-take-le}
 use Rattle.warc_head.specs.Lines.{EndsLine}
@@ -25,7 +25,7 @@ module _ (raw text : List ℕ) (held : Continues raw text) (end at : ℕ) (insid
 
     -- what follows the line
     pub shorter : length text ≡ length raw + length held.0
-    shorter = ap length held.1 ∙ length-append raw held.0
+    shorter = grind (arith, length-append)
 
     pub inside_text : stop ≤ length text
     inside_text = omega (arith, ended.within, size, shorter, inside)

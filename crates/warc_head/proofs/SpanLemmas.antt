@@ -1,6 +1,6 @@
 -- Fields that are stored at spans in one text.
 use Rattle.std.proofs.lemmas.Grind.{common_steps}
-use Rattle.std.proofs.Common.{◌≡◌, ◌∙◌, ℕ, suc, ◌+◌, ◌≤◌, List, [], ◌∷◌, ◌++◌, length, drop, refl, ap, subst}
+use Rattle.std.proofs.Common.{◌≡◌, ℕ, suc, ◌+◌, ◌≤◌, List, [], ◌∷◌, ◌++◌, length, drop, refl}
 use Rattle.std.proofs.Common.{arith, append-nil, append_assoc, length-append, false}
 use Rattle.std.specs.Prelude.{All}
 use Rattle.std.proofs.lemmas.List.{take-append-le, drop-append-le, map-append, length-drop, take_all}
@@ -9,6 +9,7 @@ use Rattle.warc_head.specs.declared.spans.FieldSpan.{FieldSpan}
 use Rattle.warc_head.specs.Names.{same_name}
 use Rattle.warc_head.specs.Fields.{joined, longer, value_of}
 use Rattle.warc_head.specs.Spans.{IsWithin, between, field_at, fields_at, moved, Continues, joint}
+use Rattle.std.proofs.Math.Seq.{drop-append-add}
 
 -- bytes that are appended change nothing before them
 pub between_more : (text more : List ℕ) (i j : ℕ) → i ≤ j → j ≤ length text → between i j (text ++ more)
@@ -26,38 +27,22 @@ later_of : (P : FieldSpan → Type 0) (p : FieldSpan) (spans : List FieldSpan) �
 later_of P p spans h = λ k d l. h (suc k) d (omega (arith, l))
 
 last_of : (P : FieldSpan → Type 0) (before : List FieldSpan) (p : FieldSpan) → All P (before ++ p ∷ []) → P p
-last_of P [] p h = first_of P p [] h
-last_of P (q ∷ before) p h = last_of P before p (later_of P q (before ++ p ∷ []) h)
+last_of P before p h = grind (arith, h (length before) p, length-append, common_steps)
 
 before_of : (P : FieldSpan → Type 0) (before : List FieldSpan) (p : FieldSpan) → All P (before ++ p ∷ []) → All P before
-before_of P [] p h = All-nil P
-before_of P (q ∷ before) p h = grind (
-  arith,
-  first_of,
-  later_of,
-  before_of P before p
-      (later_of P q (before ++ p ∷ []) h),
-)
+before_of P before p h = λ k d l. grind (arith, h k d, length-append, common_steps)
 
 fields_more : (text more : List ℕ) (spans : List FieldSpan) → All (IsWithin (length text)) spans
     → fields_at (text ++ more) spans ≡ fields_at text spans
 fields_more text more [] h = refl
-fields_more text more (p ∷ spans) h = λ i. field_more text more p (first_of (IsWithin (length text)) p spans h) i ∷
-    fields_more text more spans (later_of (IsWithin (length text)) p spans h) i
+fields_more text more (p ∷ spans) h = grind (arith, field_more, h 0 p, fields_more text more spans (later_of (IsWithin (length text)) p spans h))
 
 one : (P : FieldSpan → Type 0) (p : FieldSpan) → P p → All P (p ∷ [])
 one P p h = All-cons P p [] h (All-nil P)
 
 pub within_later : (size : ℕ) (rest later : List FieldSpan) (first : FieldSpan) → rest ≡ first ∷ later
     → All (IsWithin size) rest → All (IsWithin size) later
-within_later size rest later first e h = later_of (IsWithin size) first later (subst (All (IsWithin size)) e h)
-
--- a text behind others
-drop_moved : (front text : List ℕ) (i : ℕ) → drop (length front + i) (front ++ text) ≡ drop i text
-drop_moved [] text i = grind arith
-drop_moved (b ∷ front) text i =
-    let e : length (b ∷ front) + i ≡ suc (length front + i) = omega arith in
-    grind (arith, drop_moved front text i)
+within_later size rest later first e h = later_of (IsWithin size) first later (rw e at h)
 
 -- a field of a line that stands in a text
 module _ (text front line back : List ℕ) (spans : List FieldSpan) (p : FieldSpan)
@@ -68,7 +53,7 @@ module _ (text front line back : List ℕ) (spans : List FieldSpan) (p : FieldSp
 
   pub field_added : fields_at text (spans ++ moved (length front) p ∷ []) ≡ fields_at text spans
       ++ field_at line p ∷ []
-  field_added = grind (arith, map-append, drop_moved, field_more)
+  field_added = grind (arith, map-append, drop-append-add, field_more)
 
   pub span_added : All (IsWithin (length text)) spans
       → All (IsWithin (length text)) (spans ++ moved (length front) p ∷ [])
@@ -91,16 +76,16 @@ module _ (text there text' piece more : List ℕ) (before : List FieldSpan) (las
     whole = grind (arith, append_assoc)
 
     copied_size : length there ≡ length text + length more
-    copied_size = ap length copied ∙ length-append text more
+    copied_size = grind (arith, length-append)
 
     longer_size : length text' ≡ length there + length (joint (drop p.value_start there) piece)
-    longer_size = ap length new ∙ length-append there _
+    longer_size = grind (arith, length-append)
 
     name_same : between p.name_start p.name_end text' ≡ (field_at text last).name
     name_same =
-        (λ i. between (name i) (name_end i) (whole i))
-        ∙ between_more text _ last.name_start last.name_end last_within.name
-        (omega (arith, last_within.order, last_within.end))
+        let w = whole in
+        let l = last_within in
+        grind (arith, between_more)
 
     value_new : between p.value_start p.value_end text' ≡ joined (field_at text last).value piece
     value_new = grind (arith, take_all, length-drop, drop-append-le, append-nil)
@@ -111,7 +96,7 @@ module _ (text there text' piece more : List ℕ) (before : List FieldSpan) (las
 
     pub place_longer : All (IsWithin (length text')) (before ++ p ∷ [])
     place_longer = All-append (IsWithin (length text')) before (p ∷ [])
-        (grind (arith, longer_size, copied_size, before_within))
+        (λ k d l. grind (arith, longer_size, copied_size, before_within k d l))
         (grind (arith, one, last_within, longer_size, copied_size))
 
 pub old_fields : (text : List ℕ) (before : List FieldSpan) (last : FieldSpan) → fields_at text (before ++ last ∷ [])

@@ -1,5 +1,5 @@
 -- Reading what was spelled.
-use Rattle.std.proofs.Common.{◌≡◌, ℕ, suc, ◌-◌, true, false, List, [], ◌∷◌, ◌++◌, length, drop, refl, arith}
+use Rattle.std.proofs.Common.{◌≡◌, ℕ, suc, ◌-◌, true, false, List, [], ◌∷◌, ◌++◌, length, refl, arith}
 use Rattle.std.proofs.Common.{append_assoc, length-append, Some, None, Ok}
 use Rattle.std.specs.Prelude.{All}
 use Rattle.std.specs.List.{list_all}
@@ -16,10 +16,8 @@ use Rattle.warc_head.proofs.LineLemmas.{line_first, line_text}
 use Rattle.warc_head.proofs.FieldLemmas.{joined-nil}
 
 pub names-plain : (name : List ℕ) → list_all is_name_byte name ≡ true → list_all is_content name ≡ true
+names-plain (b ∷ bs) h = grind (arith, names-plain bs)
 names-plain [] h = refl
-names-plain (b ∷ bs) h =
-    let p = and_both (is_name_byte b) (list_all is_name_byte bs) h in
-    grind (arith, names-plain bs p.1)
 
 pub colon_after : (name rest : List ℕ) → list_all is_name_byte name ≡ true → at_colon (name ++ (58 ∷ rest))
     ≡ Some (name, rest)
@@ -45,9 +43,8 @@ given_back : (fields : List Field) → All IsOneLine fields → given_by (lines_
 unfolding given_by lines_of
 given_back [] h = refl
 given_back (f ∷ fs) h =
-    let one : IsOneLine f = h 0 f (omega arith) in
-    let later : All IsOneLine fs = λ k d l. h (suc k) d (omega (arith, l)) in
-    grind (arith, append_assoc, line_first, text_plain, line_text, begins, field_back, joined-nil, given_back fs later)
+    let one = h 0 f (omega arith) in
+    grind (arith, append_assoc, line_first, text_plain, line_text, begins, field_back, joined-nil, given_back fs (λ k d l. h (suc k) d (omega arith)))
 
 fields_back : (fields : List Field) → All IsOneLine fields → fields_of (spelled fields) ≡ Ok fields
 unfolding fields_of
@@ -55,8 +52,8 @@ fields_back fields h = rw (given_back fields h) refl
 
 pub body : (version text : List ℕ) → length version ≡ 10 → field_lines_in (version ++ (text ++ line_end)) ≡ text
 body version text h =
-    let d : drop 10 (version ++ (text ++ line_end)) ≡ text ++ line_end = drop_at version (text ++ line_end) 10 h in
-    let n : length (version ++ (text ++ line_end)) - 2 - 10 ≡ length text = simp length-append (omega (arith, h)) in
+    let d = drop_at version (text ++ line_end) 10 h in
+    let n : length (version ++ (text ++ line_end)) - 2 - 10 ≡ length text = grind (arith, length-append) in
     rw (d, n) (take-append_seam text line_end)
 
 pub read_back : SpellingReadsBack

@@ -1,20 +1,21 @@
 -- White space at the ends of a text, and where the text between it stands.
-use Rattle.std.proofs.Common.{◌≡◌, ◌∙◌, ℕ, ◌+◌, ◌-◌, ◌≤◌, Bool, true, false, List, [], ◌∷◌, ◌++◌, length, drop}
-use Rattle.std.proofs.Common.{reverse, refl, sym, ap, arith, length-append, append_assoc, if◌then◌else◌}
+use Rattle.std.proofs.Common.{◌≡◌, ℕ, ◌+◌, ◌-◌, ◌≤◌, true, false, List, [], ◌∷◌, ◌++◌, length, drop}
+use Rattle.std.proofs.Common.{reverse, refl, ap, arith, length-append, append_assoc, if◌then◌else◌}
 use Rattle.std.proofs.lemmas.List.{reverse-append, reverse-reverse, length-drop, take-append-drop, drop-drop}
 use Rattle.std.proofs.lemmas.List.{length-take-le}
 use Rattle.std.proofs.Math.Seq.{drop-append_seam, take-append_seam}
 use Rattle.warc_head.specs.Lines.{is_white_space, trim_front, trim_end}
 use Rattle.warc_head.specs.Spans.{between, IsTrimmed}
 
-front_if : (t : Bool) (b : ℕ) (bs : List ℕ) → (before : List ℕ) × (bs ≡ before ++ trim_front bs) → (before : List ℕ)
-    × (b ∷ bs ≡ before ++ (if t then trim_front bs else b ∷ bs))
-front_if true b bs p = (b ∷ p.0, ap (λ t. b ∷ t) p.1)
-front_if false b bs p = ([], refl)
-
 trimmed_front : (bs : List ℕ) → (before : List ℕ) × (bs ≡ before ++ trim_front bs)
 trimmed_front [] = ([], refl)
-trimmed_front (b ∷ bs) = front_if (is_white_space b) b bs (trimmed_front bs)
+trimmed_front (b ∷ bs) =
+    let p = trimmed_front bs in
+    elim (is_white_space b) as
+    (λ t. (before : List ℕ) × (b ∷ bs ≡ before ++ (if t then trim_front bs else b ∷ bs))) [
+      | true ↦ (b ∷ p.0, ap (λ t. b ∷ t) p.1)
+      | false ↦ ([], refl)
+    ]
 
 trimmed_end : (bs : List ℕ) → (after : List ℕ) × (bs ≡ trim_end bs ++ after)
 trimmed_end bs =
@@ -30,10 +31,8 @@ between_part text from to before middle after e =
     let size : from + length before + length middle - (from + length before) ≡ length middle = omega arith in
     let whole : drop from text ≡ before ++ (middle ++ (after ++ rest)) =
     grind (arith, take-append-drop, append_assoc) in
-    let behind : drop (from + length before) text ≡ middle ++ (after ++ rest) =
-    sym (drop-drop (length before) from text)
-    ∙ (grind (arith, drop-append_seam)) in
-    grind (arith, size, take-append_seam)
+    let behind = drop-drop (length before) from text in
+    grind (arith, size, drop-append_seam, take-append_seam)
 
 -- where the bytes between two offsets stand without the white space at both ends
 module _ (text : List ℕ) (from to : ℕ) (order : from ≤ to) (within : to ≤ length text)
@@ -54,11 +53,12 @@ module _ (text : List ℕ) (from to : ℕ) (order : from ≤ to) (within : to �
   whole = grind arith
 
   size : to - from ≡ length before + length front
-  size = sym (grind (arith, length-take-le, length-drop))
-      ∙ (ap length whole ∙ length-append before front)
+  size =
+      let w = ap length whole in
+      grind (arith, length-take-le, length-drop, length-append)
 
   end_size : length front ≡ length end + length after
-  end_size = ap length front_whole ∙ length-append end after
+  end_size = grind (arith, front_whole, length-append)
 
   pub front_fits : length front ≤ to
   front_fits = omega (arith, size)

@@ -8,16 +8,11 @@ use Rattle.warc_head.proofs.continuing.continue_field.Goals as goal
 pub returns-clause-fields : goal.returns-clause-fields
 returns-clause-fields c =
     let text = c.args.text.now.items in
-    let before = c.pop.new.self.items in
-    let last = c.in-Some.last in
-    let there = c.value_at_end.new.text.items in
-    let start = c.trimmed-start.result.0 in
-    let end = c.trimmed-start.result.1 in
-    let piece : between start end there ≡ trim (between c.args.from c.args.to text) =
-    grind (arith, between_more) in
-    let old = subst (All (IsWithin (length text))) c.in-Some.ensures.items c.requires.spans in (
-      fields_at text before,
-      field_at text last,
+    let piece : between c.trimmed-start.result.0 c.trimmed-start.result.1 c.value_at_end.new.text.items
+    ≡ trim (between c.args.from c.args.to text) = grind (arith, between_more) in
+    let old = rw c.in-Some.ensures.items at c.requires.spans in (
+      fields_at text c.pop.new.self.items,
+      field_at text c.in-Some.last,
       grind (arith, old_fields),
       grind (arith, piece_added),
     )

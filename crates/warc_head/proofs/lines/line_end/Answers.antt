@@ -1,4 +1,4 @@
-use Rattle.std.proofs.Common.{◌≡◌, ◌∙◌, ◌-◌, true, false, sym, length, drop, take}
+use Rattle.std.proofs.Common.{arith, ◌-◌, length, drop, take}
 use Rattle.std.proofs.lemmas.Bool.Decides.{Decides-eqb}
 use Rattle.std.proofs.lemmas.List.{take_rest}
 use Rattle.std.proofs.lemmas.Slice.Eq.{starts_is}
@@ -19,8 +19,5 @@ pub returns-else-starts_with : goal.returns-else-starts_with
 returns-else-starts_with c =
     let text = c.args.text.now in
     let end = c.plain_end-end.result in
-    let begins = rw take_rest
-    at (starts_is Decides-eqb (take (length text - end) (drop end text)) line_end c.starts_with.result
-    c.starts_with.ensures.value).1 in
-    ends_no_line text c.args.at end c.plain_end-end.ensures (λ more e. let t : true ≡ false = sym (begins more e)
-    ∙ c.if-starts_with.false in cc)
+    let begins = rw take_rest at (starts_is Decides-eqb (take (length text - end) (drop end text)) line_end c.starts_with.result c.starts_with.ensures.value) in
+    ends_no_line text c.args.at end c.plain_end-end.ensures (λ more e. grind (arith, begins.1 more))

@@ -1,4 +1,4 @@
-use Rattle.std.proofs.Common.{arith, ◌≡◌, ◌∙◌, List, true, false, refl, sym}
+use Rattle.std.proofs.Common.{arith, ◌≡◌, ◌∙◌, List, true, sym}
 use Rattle.warc_head.specs.Fields.{Field}
 use Rattle.warc_head.specs.Mandatory.{each_once, none_missing, none_repeated, mandatory}
 use Rattle.warc_head.specs.Spans.{fields_at}
@@ -8,23 +8,16 @@ use Rattle.warc_head.proofs.mandatory.mandatory_values.Goals as goal
 pub returns-then-not-none_missing-clause-err : goal.returns-then-not-none_missing-clause-err
 unfolding each_once
 returns-then-not-none_missing-clause-err c =
-    let fields = fields_at c.args.text.now c.args.spans.now in
-    let missing : none_missing mandatory fields
-    ≡ false = sym (c.none_missing.ensures c.args.text.now fields c.occurrences_in-found.ensures)
-    ∙ c.if-not-none_missing.true in
-    rw missing refl
+    let missing = c.none_missing.ensures c.args.text.now (fields_at c.args.text.now c.args.spans.now) c.occurrences_in-found.ensures in
+    grind arith
 
 pub returns-then-not-none_repeated-clause-err : goal.returns-then-not-none_repeated-clause-err
 unfolding each_once
 returns-then-not-none_repeated-clause-err c =
-    let text = c.args.text.now in
-    let fields = fields_at text c.args.spans.now in
-    let all = c.occurrences_in-found.ensures in
-    let some : none_missing mandatory fields ≡ true = sym (c.none_missing.ensures text fields all)
-    ∙ c.if-not-none_missing.false in
-    let repeated : none_repeated mandatory fields ≡ false = sym (c.none_repeated.ensures text fields all)
-    ∙ c.if-not-none_repeated.true in
-    rw (some, repeated) refl
+    let fields = fields_at c.args.text.now c.args.spans.now in
+    let missing = c.none_missing.ensures c.args.text.now fields c.occurrences_in-found.ensures in
+    let repeated = c.none_repeated.ensures c.args.text.now fields c.occurrences_in-found.ensures in
+    grind arith
 
 -- at the end, none is missing and none is repeated
 module _ (c : goal.After-value-3) where
@@ -41,19 +34,13 @@ module _ (c : goal.After-value-3) where
 
 pub returns-clause-once : goal.returns-clause-once
 unfolding each_once
-returns-clause-once c = rw (some c, single c) refl
+returns-clause-once c = grind (arith, some, single)
 
 pub returns-clause-length : goal.returns-clause-length
-returns-clause-length c =
-    let once = length_once (fields c) (some c) (single c) in
-    grind (arith, required_is)
+returns-clause-length c = grind (arith, length_once (fields c) (some c) (single c), required_is)
 
 pub returns-clause-date : goal.returns-clause-date
-returns-clause-date c =
-    let once = date_once (fields c) (some c) (single c) in
-    grind (arith, required_is)
+returns-clause-date c = grind (arith, date_once (fields c) (some c) (single c), required_is)
 
 pub returns-clause-kind : goal.returns-clause-kind
-returns-clause-kind c =
-    let once = kind_once (fields c) (some c) (single c) in
-    grind (arith, required_is)
+returns-clause-kind c = grind (arith, kind_once (fields c) (some c) (single c), required_is)

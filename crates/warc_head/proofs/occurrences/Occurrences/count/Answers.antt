@@ -2,7 +2,6 @@ use Rattle.std.proofs.Common.{◌≡◌, ◌++◌, ◌∷◌, [], List, ℕ, cod
 use Rattle.warc_head.specs.declared.occurrence.Occurrence.{Occurrence}
 use Rattle.warc_head.specs.Fields.{Field, field_values}
 use Rattle.warc_head.specs.Mandatory.{Occurs, values_in}
-use Rattle.warc_head.specs.Spans.{field_at}
 use Rattle.warc_head.proofs.MandatoryLemmas.{values_more}
 use Rattle.warc_head.proofs.occurrences.Occurrences.count.Goals as goal
 use Rattle.std.proofs.lemmas.List.{length-map}
@@ -22,30 +21,16 @@ kept : (text wanted : List ℕ) (last : Field) (fields : List Field) (o : Occurr
 kept text wanted last fields o other h = grind (arith, values_more, length-map, bytes_eq-Decides, append-nil)
 
 pub returns-then-size-eq9 : goal.returns-then-size-eq9
-returns-then-size-eq9 c =
-    let text = c.args.text.now in
-    let last = field_at text c.args.span in
-    λ fields all. record {
-      record_id = grind (arith, kept, codes);
-      length = grind (arith, kept, codes);
-      date = counted text (codes "WARC-Date") last fields _
-          (c.count.ensures (field_values (codes "WARC-Date") fields) all.date);
-      kind = counted text (codes "WARC-Type") last fields _
-          (c.count-then-size-eq9.ensures (field_values (codes "WARC-Type") fields) all.kind);
-    }
+returns-then-size-eq9 c = λ fields all.
+    let date = c.count.ensures (field_values (codes "WARC-Date") fields) all.date in
+    let kind = c.count-then-size-eq9.ensures (field_values (codes "WARC-Type") fields) all.kind in
+    grind (arith, kept, counted, codes)
 
 pub returns-then-size-eq14 : goal.returns-then-size-eq14
-returns-then-size-eq14 c =
-    let text = c.args.text.now in
-    let last = field_at text c.args.span in
-    λ fields all. record {
-      record_id = counted text (codes "WARC-Record-ID") last fields _
-          (c.count-then-size-eq14.ensures (field_values (codes "WARC-Record-ID") fields) all.record_id);
-      length = counted text (codes "Content-Length") last fields _
-          (c.count-then-size-eq14-2.ensures (field_values (codes "Content-Length") fields) all.length);
-      date = grind (arith, kept, codes);
-      kind = grind (arith, kept, codes);
-    }
+returns-then-size-eq14 c = λ fields all.
+    let record_id = c.count-then-size-eq14.ensures (field_values (codes "WARC-Record-ID") fields) all.record_id in
+    let length = c.count-then-size-eq14-2.ensures (field_values (codes "Content-Length") fields) all.length in
+    grind (arith, kept, counted, codes)
 
 pub returns-else-size-eq14 : goal.returns-else-size-eq14
 returns-else-size-eq14 c = grind (arith, kept)
