@@ -1,11 +1,11 @@
 -- The fields that are read and the texts that spell them.
-use Rattle.std.proofs.Common.{◌≡◌, ℕ, suc, true, List, [], ◌∷◌, ◌++◌, refl, ap, arith, append_assoc}
+use Rattle.std.proofs.Common.{◌≡◌, ℕ, true, List, [], ◌∷◌, ◌++◌, refl, ap, arith, append_assoc}
 use Rattle.std.proofs.Common.{Option, Some, None, Result, Ok, Err, if◌then◌else◌, map}
 use Rattle.std.specs.Prelude.{All}
 use Rattle.std.specs.List.{list_all, flat_map}
 use Rattle.std.proofs.lemmas.List.Folds.{list_all-append}
 use Rattle.std.proofs.lemmas.Bool.Decides.{nat_tests}
-use Rattle.std.proofs.lemmas.List.Elements.{All-cons, All-nil}
+use Rattle.std.proofs.lemmas.List.Elements.{All-cons, All-nil, All-head, All-tail}
 use Rattle.warc_head.specs.declared.fault.HeadFault.{HeadFault}
 use Rattle.warc_head.specs.Answers.{◌>>=◌}
 use Rattle.warc_head.specs.Lines.{lines_of, line_content, continues, is_content, trim}
@@ -31,19 +31,14 @@ pieces-fields : (more : List (List ℕ)) (later : Given) → (with_pieces more l
 pieces-fields [] later = refl
 pieces-fields (text ∷ more) later = pieces-fields more later
 
-all_first : {X : Type 0} (P : X → Type 0) (x : X) (xs : List X) → All P (x ∷ xs) → P x
-all_first P x xs h = h 0 x (omega arith)
-
-all_later : {X : Type 0} (P : X → Type 0) (x : X) (xs : List X) → All P (x ∷ xs) → All P xs
-all_later P x xs h = λ k d l. h (suc k) d (omega (arith, l))
-
 -- lines that go on, before lines that are read
 more_read : (more : List (List ℕ)) (rest : List ℕ) (later : Given) → All IsContinuation more → given_by (lines_of rest)
     ≡ Ok later
     → given_by (lines_of (flat_map ended more ++ rest)) ≡ Ok (with_pieces more later)
 unfolding given_by
 more_read (text ∷ more) rest later h r =
-    grind (arith, all_first, append_assoc, line_first, line_text, more_read more rest later (all_later IsContinuation text more h))
+    let others = All-tail IsContinuation text more h in
+    grind (arith, All-head, append_assoc, line_first, line_text, more_read more rest later)
 more_read [] rest later h r = r
 
 first_plain : (f : Folded) → IsFolded f → list_all is_content (f.name ++ (58 ∷ f.rest)) ≡ true
@@ -59,9 +54,10 @@ spelling_read : (folded : List Folded) → All IsFolded folded → given_by (lin
 unfolding given_by lines_of
 spelling_read [] h = refl
 spelling_read (f ∷ fs) h =
-    let one = all_first IsFolded f fs h in
+    let one = All-head IsFolded f fs h in
     let plain = first_plain f one in
-    let later = more_read f.more (flat_map folded_text fs) (record { more = None; fields = map unfolded fs }) one.more (spelling_read fs (all_later IsFolded f fs h)) in
+    let later = more_read f.more (flat_map folded_text fs) (record { more = None; fields = map unfolded fs }) one.more
+    (spelling_read fs (All-tail IsFolded f fs h)) in
     grind (arith, append_assoc, line_first, line_text, begins, first_field, pieces-added, pieces-fields)
 
 pub spelled_is_read : (body : List ℕ) (fields : List Field) → IsSpelling body fields → fields_of body ≡ Ok fields
@@ -131,12 +127,11 @@ module _ (line : List ℕ) (lines : List (List ℕ)) (given : Given) (ih : (late
       let s = ih later g in
       let one : Folded = record { name = field.name; rest = f.rest; more = s.more } in
       let plain : list_all is_content (field.name ++ (58 ∷ f.rest)) ≡ true = grind arith in
-      let rest_plain : list_all is_content f.rest ≡ true = grind (arith, list_all-append) in
       record {
         more = [];
         folded = one ∷ s.folded;
         each_more = All-nil IsContinuation;
-        each = All-cons IsFolded one s.folded (grind arith) s.each;
+        each = All-cons IsFolded one s.folded (grind (arith, list_all-append)) s.each;
         text = grind (arith, append_assoc);
         adds = grind arith;
         says = grind (arith, added-said);

@@ -1,6 +1,6 @@
 -- The lanes at which two loads have a byte.
 use Rattle.std.proofs.Common.{◌≡◌, ◌∙◌, ℕ, ◌+◌, ◌%◌, ◌^◌, ◌<◌, ◌≤◌, eqb, cond, bit_and, Bool, true, false, not, ◌&&◌}
-use Rattle.std.proofs.Common.{List, [], ◌∷◌, map, length, get_or, replicate, refl, sym, ap, arith}
+use Rattle.std.proofs.Common.{List, ◌∷◌, map, length, get_or, replicate, sym, ap, arith}
 use Rattle.std.specs.List.{prefix_len}
 use Rattle.std.proofs.lemmas.Bool.{eq-eqb, not-true}
 use Rattle.std.proofs.lemmas.List.{map-id}
@@ -22,9 +22,8 @@ both_top s t = grind arith
 
 both_tops : (y : ℕ) (v w : List ℕ) → map (top 7) (zip2 bit_and (map (λ x. has_byte x y) v) (map (λ x. has_byte x y) w))
     ≡ zip2 (λ a b. eqb a y && eqb b y) v w
-both_tops y [] w = refl
-both_tops y (a ∷ v) [] = refl
-both_tops y (a ∷ v) (b ∷ w) = λ i. both_top (eqb a y) (eqb b y) i ∷ both_tops y v w i
+both_tops y (a ∷ v) (b ∷ w) = grind (arith, both_top, both_tops y v w)
+both_tops y v w = grind arith
 
 -- two loads of a text, from i and j on, and how many lanes precede the first at which both have the byte
 module _ (text : List ℕ) (i j y r : ℕ) (first : i + 32 ≤ length text) (second : j + 32 ≤ length text) where
@@ -66,8 +65,6 @@ module _ (text : List ℕ) (i j y r : ℕ) (first : i + 32 ≤ length text) (sec
   both_none found k below p q =
       let inside : k < 32 = omega (arith, both_bound found) in
       let none : get_or both k false ≡ false = grind (arith, not-true, prefix_len_passes, counted) in
-      let at : get_or both k false ≡ (eqb (get_or v k 0) y && eqb (get_or w k 0) y) =
-      grind (arith, get_or-zip2, long_v, long_w) in
       let s : eqb (get_or v k 0) y ≡ true = eq-eqb _ _ (get_or-chunk i 32 text k 0 inside ∙ p) in
       let t : eqb (get_or w k 0) y ≡ true = eq-eqb _ _ (get_or-chunk j 32 text k 0 inside ∙ q) in
-      grind arith
+      grind (arith, get_or-zip2, long_v, long_w)

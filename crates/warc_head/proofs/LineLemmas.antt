@@ -121,7 +121,8 @@ module _ (text : List ℕ) (at end : ℕ) (run : IsRunAt is_content text at end)
   pub ends_line : drop end text ≡ line_end ++ drop 2 (drop end text) → EndsLine text at end
   ends_line e =
       let size : length (drop end text) ≡ 2 + length (drop 2 (drop end text)) = grind arith in
-      grind (arith, length-drop, take-append-drop (end - at) (drop at text), behind, drop-drop 2 end text, plain_before, no_break)
+      let split = take-append-drop (end - at) (drop at text) in
+      grind (arith, length-drop, behind, drop-drop 2 end text, plain_before, no_break)
 
   broken : end < length text → is_byte2 13 10 (get_or (drop at text) (end - at) 0) ≡ true
   broken inside = grind (arith, get_or-drop)

@@ -1,19 +1,15 @@
 -- The values of a name among fields, of which the last was looked at.
 use Rattle.std.proofs.Common.{◌≡◌, ◌<◌, ℕ, Bool, true, ◌&&◌, nat_lt, List, [], ◌∷◌, ◌++◌, length, codes, Ok}
-use Rattle.std.proofs.Common.{refl, arith}
+use Rattle.std.proofs.Common.{arith}
 use Rattle.std.proofs.lemmas.Bool.Decides.{nat_tests}
 use Rattle.warc_head.specs.Fields.{Field, field_values, value_of}
-use Rattle.warc_head.specs.Names.{same_name}
 use Rattle.warc_head.specs.Mandatory.{mandatory, none_missing, none_repeated, required, values_in}
 
 module _ (wanted : List ℕ) (last : Field) where
-  last_is : (t : Bool) → same_name last.name wanted ≡ t → field_values wanted (last ∷ []) ≡ values_in wanted last
-  last_is t h = grind arith
-
   pub values_more : (fields : List Field) → field_values wanted (fields ++ last ∷ []) ≡ field_values wanted fields
       ++ values_in wanted last
-  values_more [] = last_is (same_name last.name wanted) refl
   values_more (first ∷ fields) = grind (arith, values_more fields)
+  values_more [] = grind arith
 
 -- the value of a field that occurs once is the one that is required
 pub required_is : (name : List ℕ) (fields : List Field) (value : List ℕ) → field_values name fields ≡ value ∷ []

@@ -21,4 +21,6 @@ pub step-small : (n : ℕ) (rest : List ℕ) (d : ℕ) (later : List ℕ) → re
     → length rest ≤ 19 → n < 10 ^ (19 - length rest)
     → (10 * n + (d - 48) < 10000000000000000000) × (10 * n + (d - 48) < 10 ^ (19 - length later))
     × (all_digits later ≡ true)
-step-small n rest d later e a l h = grind (arith, nat_tests, digit-more n (d - 48) (19 - length rest), few-digits (10 * n + (d - 48)) (19 - length later))
+step-small n rest d later e a l h =
+    let more = digit-more n (d - 48) (19 - length rest) in
+    grind (arith, nat_tests, few-digits (10 * n + (d - 48)) (19 - length later))

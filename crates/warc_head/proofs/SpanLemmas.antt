@@ -1,10 +1,10 @@
 -- Fields that are stored at spans in one text.
 use Rattle.std.proofs.lemmas.Grind.{common_steps}
-use Rattle.std.proofs.Common.{◌≡◌, ℕ, suc, ◌+◌, ◌≤◌, List, [], ◌∷◌, ◌++◌, length, drop, refl}
+use Rattle.std.proofs.Common.{◌≡◌, ℕ, ◌+◌, ◌≤◌, List, [], ◌∷◌, ◌++◌, length, drop, refl}
 use Rattle.std.proofs.Common.{arith, append-nil, append_assoc, length-append, false}
 use Rattle.std.specs.Prelude.{All}
 use Rattle.std.proofs.lemmas.List.{take-append-le, drop-append-le, map-append, length-drop, take_all}
-use Rattle.std.proofs.lemmas.List.Elements.{All-append, All-cons, All-nil}
+use Rattle.std.proofs.lemmas.List.Elements.{All-append, All-cons, All-nil, All-tail}
 use Rattle.warc_head.specs.declared.spans.FieldSpan.{FieldSpan}
 use Rattle.warc_head.specs.Names.{same_name}
 use Rattle.warc_head.specs.Fields.{joined, longer, value_of}
@@ -20,12 +20,6 @@ field_more : (text more : List ℕ) (p : FieldSpan) → IsWithin (length text) p
     → field_at (text ++ more) p ≡ field_at text p
 field_more text more p h = grind (arith, between_more)
 
-first_of : (P : FieldSpan → Type 0) (p : FieldSpan) (spans : List FieldSpan) → All P (p ∷ spans) → P p
-first_of P p spans h = h 0 p (omega arith)
-
-later_of : (P : FieldSpan → Type 0) (p : FieldSpan) (spans : List FieldSpan) → All P (p ∷ spans) → All P spans
-later_of P p spans h = λ k d l. h (suc k) d (omega (arith, l))
-
 last_of : (P : FieldSpan → Type 0) (before : List FieldSpan) (p : FieldSpan) → All P (before ++ p ∷ []) → P p
 last_of P before p h = grind (arith, h (length before) p, length-append, common_steps)
 
@@ -35,14 +29,16 @@ before_of P before p h = λ k d l. grind (arith, h k d, length-append, common_st
 fields_more : (text more : List ℕ) (spans : List FieldSpan) → All (IsWithin (length text)) spans
     → fields_at (text ++ more) spans ≡ fields_at text spans
 fields_more text more [] h = refl
-fields_more text more (p ∷ spans) h = grind (arith, field_more, h 0 p, fields_more text more spans (later_of (IsWithin (length text)) p spans h))
+fields_more text more (p ∷ spans) h =
+    let others = All-tail (IsWithin (length text)) p spans h in
+    grind (arith, field_more, h 0 p, fields_more text more spans)
 
 one : (P : FieldSpan → Type 0) (p : FieldSpan) → P p → All P (p ∷ [])
 one P p h = All-cons P p [] h (All-nil P)
 
 pub within_later : (size : ℕ) (rest later : List FieldSpan) (first : FieldSpan) → rest ≡ first ∷ later
     → All (IsWithin size) rest → All (IsWithin size) later
-within_later size rest later first e h = later_of (IsWithin size) first later (rw e at h)
+within_later size rest later first e h = All-tail (IsWithin size) first later (rw e at h)
 
 -- a field of a line that stands in a text
 module _ (text front line back : List ℕ) (spans : List FieldSpan) (p : FieldSpan)

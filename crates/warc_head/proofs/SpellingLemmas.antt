@@ -44,7 +44,8 @@ unfolding given_by lines_of
 given_back [] h = refl
 given_back (f ∷ fs) h =
     let one = h 0 f (omega arith) in
-    grind (arith, append_assoc, line_first, text_plain, line_text, begins, field_back, joined-nil, given_back fs (λ k d l. h (suc k) d (omega arith)))
+    let others = given_back fs (λ k d l. h (suc k) d (omega arith)) in
+    grind (arith, append_assoc, line_first, text_plain, line_text, begins, field_back, joined-nil)
 
 fields_back : (fields : List Field) → All IsOneLine fields → fields_of (spelled fields) ≡ Ok fields
 unfolding fields_of

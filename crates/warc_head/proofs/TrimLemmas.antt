@@ -53,9 +53,7 @@ module _ (text : List ℕ) (from to : ℕ) (order : from ≤ to) (within : to �
   whole = grind arith
 
   size : to - from ≡ length before + length front
-  size =
-      let w = ap length whole in
-      grind (arith, length-take-le, length-drop, length-append)
+  size = grind (arith, length-take-le, length-drop, length-append before front, ap length whole)
 
   end_size : length front ≡ length end + length after
   end_size = grind (arith, front_whole, length-append)

@@ -54,7 +54,8 @@ returns-in_err-continue_field-clause-answer c = grind (arith, common_steps, same
 pub returns-in_default-field_in-clause-answer : goal.returns-in_default-field_in-clause-answer
 returns-in_default-field_in-clause-answer c =
     let d = (goal.at.returns-in_default-field_in-clause-answer c).In-Some in
-    c.lines.invariant.fields ∙ going-unnamed _ _ _ (line d).line (seen d) faults.FieldLine (grind (arith, same d)) (grind (arith, same d))
+    let this_is = same d in
+    c.lines.invariant.fields ∙ going-unnamed _ _ _ (line d).line (seen d) faults.FieldLine (grind arith) (grind arith)
 
 pub lines-preserved : goal.lines-preserved
 lines-preserved c =
@@ -77,13 +78,16 @@ lines-preserved c =
           }))
       | else-continues+in-Some-field_in+in_ok-push w ↦ (
           let span = w.in-Some-field_in.span in
-          let front : length (take (at d) (text d)) ≡ at d = grind (arith, length-take-le, line, inside_text, ends) in
+          let before = take (at d) (text d) in
+          let stored = between (at d) (stop d) (text d) in
+          let front : length before ≡ at d = grind (arith, length-take-le, line, inside_text, ends) in
           let held = line_held (raw d) (text d) kept.text (end d) (at d) kept.end (stop d) (ends d) in
-          let moved_is : w.moved.result ≡ moved (length (take (at d) (text d))) span = grind arith in
-          let inside : IsWithin (length (between (at d) (stop d) (text d))) span = grind arith in
-          let added = field_added (text d) (take (at d) (text d)) (between (at d) (stop d) (text d)) (drop (stop d) (text d))
-          c.lines.spans.items span held inside in
-          let began = going-began rest this later (line d).line (seen d) (field_at (between (at d) (stop d) (text d)) span) (grind arith) (grind arith) in
+          let moved_is : w.moved.result ≡ moved (length before) span = grind arith in
+          let inside : IsWithin (length stored) span = grind arith in
+          let added = field_added (text d) before stored (drop (stop d) (text d)) c.lines.spans.items span held inside
+          in
+          let began = going-began rest this later (line d).line (seen d) (field_at stored span) (grind arith)
+          (grind arith) in
           rw (w.text-is, w.spans-is, w.in_ok-push.ensures.items, moved_is) (record {
             fields = rw added (kept.fields ∙ began);
             text = kept.text;

@@ -10,14 +10,14 @@ pub returns-then-starts_with : goal.returns-then-starts_with
 returns-then-starts_with c =
     let text = c.args.text.now in
     let end = c.plain_end-end.result in
-    let begins = rw take_rest
-    at (starts_is Decides-eqb (take (length text - end) (drop end text)) line_end c.starts_with.result
-    c.starts_with.ensures.value).0 in
-    ends_line text c.args.at end c.plain_end-end.ensures (begins c.if-starts_with.true)
+    let begins = starts_is Decides-eqb (take (length text - end) (drop end text)) line_end c.starts_with.result in
+    ends_line text c.args.at end c.plain_end-end.ensures
+    ((rw take_rest at (begins c.starts_with.ensures.value)).0 c.if-starts_with.true)
 
 pub returns-else-starts_with : goal.returns-else-starts_with
 returns-else-starts_with c =
     let text = c.args.text.now in
     let end = c.plain_end-end.result in
-    let begins = rw take_rest at (starts_is Decides-eqb (take (length text - end) (drop end text)) line_end c.starts_with.result c.starts_with.ensures.value) in
-    ends_no_line text c.args.at end c.plain_end-end.ensures (λ more e. grind (arith, begins.1 more))
+    let begins = starts_is Decides-eqb (take (length text - end) (drop end text)) line_end c.starts_with.result in
+    ends_no_line text c.args.at end c.plain_end-end.ensures
+    (λ more e. grind (arith, (rw take_rest at (begins c.starts_with.ensures.value)).1 more))

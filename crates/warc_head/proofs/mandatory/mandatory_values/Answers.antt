@@ -8,7 +8,8 @@ use Rattle.warc_head.proofs.mandatory.mandatory_values.Goals as goal
 pub returns-then-not-none_missing-clause-err : goal.returns-then-not-none_missing-clause-err
 unfolding each_once
 returns-then-not-none_missing-clause-err c =
-    let missing = c.none_missing.ensures c.args.text.now (fields_at c.args.text.now c.args.spans.now) c.occurrences_in-found.ensures in
+    let fields = fields_at c.args.text.now c.args.spans.now in
+    let missing = c.none_missing.ensures c.args.text.now fields c.occurrences_in-found.ensures in
     grind arith
 
 pub returns-then-not-none_repeated-clause-err : goal.returns-then-not-none_repeated-clause-err

@@ -8,5 +8,5 @@ loop-first-preserved c =
     let other = c.if-same_name.ensures in
     record {
       value = grind (arith, value_later);
-      within = within_later _ c.loop-first.rest.now c.in-Some.later.now c.in-Some.first.now cut c.loop-first.invariant.within;
+      within = within_later _ _ c.in-Some.later.now c.in-Some.first.now cut c.loop-first.invariant.within;
     }
