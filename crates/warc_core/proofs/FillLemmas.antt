@@ -32,13 +32,9 @@ found-behind c left n piece before mid l h k f = grind (arith, drop_all n piece,
 pub take-written : (a k n : ℕ) (xs ys : List ℕ) → a ≤ length xs → n ≤ length ys → take (a + n) (put_mid a k xs ys)
     ≡ take a xs ++ take n ys
 take-written a k n xs ys h m =
-    grind (
-      arith,
-      length-take-le a xs h,
-      take-take (a + n) (a + length ys) (put_mid a k xs ys) (omega arith),
-      take-put_mid,
-      take-append-add,
-    )
+    let len = length-take-le a xs h in
+    let cut = take-take (a + n) (a + length ys) (put_mid a k xs ys) (omega arith) in
+    grind (arith, take-put_mid, take-append-add)
 
 -- So many bytes of a piece were filled from an open record's block.
 pub record Filling (left len : ℕ) (old now : ReaderView) (before mid : Option (List ℕ)) (size filled : ℕ)
@@ -66,5 +62,4 @@ pub Filling-fault : (left len : ℕ) (old now next : ReaderView) (before mid aft
     → GivesBlock (left - filled) len (state_of now mid k) (state_of next after k') (Err fault) part → k ≡ count
     → Fills left len (state_of old before count) (state_of next after k') (Err fault) whole
 Filling-fault left len old now next before mid after size filled fault piece part whole count k k' f g e =
-    let len = length-take-le filled piece (omega arith) in
-    grind (arith, found-behind fault.cause left filled (take filled piece))
+    grind (arith, found-behind fault.cause left filled (take filled piece), length-take-le filled piece)

@@ -2,8 +2,7 @@
 use Rattle.std.proofs.Common.{◌≡◌, ◌∙◌, ℕ, ◌+◌, ◌-◌, ◌<◌, ◌≤◌, List, ◌++◌, Option, Ok, Err}
 use Rattle.std.proofs.Common.{true, false, length, take, drop, arith, ap, append_assoc, length-append}
 use Rattle.std.specs.Io.KnownBytes.{prepend_known}
-use Rattle.std.proofs.lemmas.Grind.{common_steps}
-use Rattle.std.proofs.lemmas.List.{take-append-drop, length-take-le, take-append-le}
+use Rattle.std.proofs.lemmas.List.{take-append-drop, length-take-le, take-append-le, take-take}
 use Rattle.warc_core.specs.declared.fault.Cause.TheVariants as causes
 use Rattle.warc_core.specs.Reading.{Reads}
 use Rattle.warc_core.proofs.ReadingLemmas.{GoesOn}
@@ -14,9 +13,6 @@ use Rattle.warc_core.proofs.HeadLemmas.{agrees-longer}
 
 split_at : (count : ℕ) (b z : List ℕ) → b ++ z ≡ take count b ++ (drop count b ++ z)
 split_at count b z = rw (← append_assoc, take-append-drop)
-
-take-take-le : (m n : ℕ) (xs : List ℕ) → m ≤ n → take m (take n xs) ≡ take m xs
-take-take-le m n xs h = grind (arith, common_steps)
 
 -- a front of what agrees
 pub has_version-front : (xs more : List ℕ) → has_version (xs ++ more) ≡ true → has_version xs ≡ true
@@ -48,7 +44,7 @@ module _ (limit : ℕ) (seen b : List ℕ) (before left : Option (List ℕ)) (un
       let len : length new ≡ length seen + length (take count b) = ap length n ∙ length-append seen (take count b) in
       let k = end - length seen in
       let front = take-behind seen (take count b) k in
-      grind (arith, head-piece k (take end new), take-take-le, going-found, has_version-take)
+      grind (arith, head-piece k (take end new), take-take, going-found, has_version-take)
 
 -- no front of what was seen ends a head, nor does one of what was added
 pub open-more : (seen piece new : List ℕ) → new ≡ seen ++ piece
@@ -63,4 +59,4 @@ pub head-is-found : (limit : ℕ) (seen b new : List ℕ) (count end : ℕ) → 
 head-is-found limit seen b new count end c e before h room agree =
     let v = has_version-take end new agree in
     let f : (n : ℕ) → n < end → is_closed (take n new) ≡ false = λ n l. grind (arith, take-append-le) in
-    grind (arith, length-take-le, length-append, take-take-le)
+    grind (arith, length-take-le, length-append, take-take)

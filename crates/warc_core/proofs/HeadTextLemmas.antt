@@ -52,5 +52,4 @@ found-spelled limit raw p f h =
 pub spelled-found : (limit : ℕ) (raw : List ℕ) (p : HeadParts) → IsRecordHead limit p raw → IsFoundOf limit p raw
 spelled-found limit raw p h =
     let whole : field_lines_in raw ≡ h.is_head.body = grind (arith, body) in
-    let f = (fields_spelled h.is_head.body p.fields).1 h.is_head.is_body in
-    grind (arith, read-back)
+    grind (arith, read-back, (fields_spelled h.is_head.body p.fields).1)

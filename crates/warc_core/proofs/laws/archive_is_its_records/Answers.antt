@@ -1,6 +1,4 @@
-use Rattle.std.proofs.Common.{arith, subst, append-nil, []}
-use Rattle.warc_core.specs.Walk.{Walks}
-use Rattle.std.specs.List.{concat}
+use Rattle.std.proofs.Common.{arith, append-nil, []}
 use Rattle.warc_core.proofs.ArchiveLemmas.{walk-spelled, spelled-walk, end_of}
 use Rattle.warc_core.proofs.laws.archive_is_its_records.Goals as goal
 
@@ -8,8 +6,6 @@ pub returns-clause-spelled : goal.returns-clause-spelled
 returns-clause-spelled c limit archive heads r = grind (arith, walk-spelled, append-nil)
 
 pub returns-clause-read : goal.returns-clause-read
-returns-clause-read c limit heads texts a = record {
-  end = end_of 0 heads;
-  walks = subst (λ z. Walks limit 0 z heads (end_of 0 heads) []) (append-nil (concat texts))
-      (spelled-walk limit 0 heads texts [] a);
-}
+returns-clause-read c limit heads texts a =
+    let walks = spelled-walk limit 0 heads texts [] a in
+    record { end = end_of 0 heads; walks = rw append-nil at walks }
