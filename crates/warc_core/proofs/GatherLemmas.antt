@@ -8,7 +8,7 @@ use Rattle.warc_core.specs.Reading.{Reads}
 use Rattle.warc_core.proofs.ReadingLemmas.{GoesOn}
 use Rattle.warc_core.specs.HeadText.{has_version, is_closed, head_text, IsFoundHead, IsOpenAfter, ClosesFirst}
 use Rattle.warc_core.proofs.HeadLemmas.{going, going-found, going-wrong, going-gathered}
-use Rattle.warc_core.proofs.HeadLemmas.{take-behind}
+use Rattle.std.proofs.Math.Seq.{take-append-add}
 use Rattle.warc_core.proofs.HeadLemmas.{agrees-longer}
 
 split_at : (count : ℕ) (b z : List ℕ) → b ++ z ≡ take count b ++ (drop count b ++ z)
@@ -43,7 +43,7 @@ module _ (limit : ℕ) (seen b : List ℕ) (before left : Option (List ℕ)) (un
       let m : length (take count b) ≡ count = length-take-le count b c in
       let len : length new ≡ length seen + length (take count b) = ap length n ∙ length-append seen (take count b) in
       let k = end - length seen in
-      let front = take-behind seen (take count b) k in
+      let front = take-append-add seen (take count b) k in
       grind (arith, head-piece k (take end new), take-take, going-found, has_version-take)
 
 -- no front of what was seen ends a head, nor does one of what was added

@@ -1,8 +1,8 @@
 -- The text of a head, found a byte at a time.
 use Rattle.std.proofs.Common.{◌≡◌, ℕ, suc, ◌+◌, ◌-◌, ◌<◌, ◌≤◌, Bool, true, false, ◌&&◌, List, []}
-use Rattle.std.proofs.Common.{◌∷◌, ◌++◌, Option, None, Some, Result, Ok, Err, length, take, refl, ap, arith}
+use Rattle.std.proofs.Common.{◌∷◌, ◌++◌, Option, Some, Result, Ok, Err, length, take, refl, ap, arith}
 use Rattle.std.proofs.Common.{append_assoc, append-nil, length-append, if◌then◌else◌, ◌==◌, ◌⊎◌}
-use Rattle.std.proofs.Math.Seq.{drop-append_seam}
+use Rattle.std.proofs.Math.Seq.{take-append-add, drop-append_seam}
 use Rattle.warc_core.specs.declared.fault.Cause.{Cause}
 use Rattle.warc_core.specs.declared.fault.Cause.TheVariants as causes
 use Rattle.warc_core.specs.HeadText.{has_version, agrees, version_1_1, version_1_0, is_closed, shortest, found_head}
@@ -81,15 +81,6 @@ unfolding shortest
 shortest-now test seen [] h = rw h refl
 shortest-now test seen (b ∷ bytes) h = rw h refl
 
-shortest-none : (test : List ℕ → Bool) (seen : List ℕ) → test seen ≡ false → shortest test seen [] ≡ None
-unfolding shortest
-shortest-none test seen h = rw h refl
-
-shortest-more : (test : List ℕ → Bool) (seen bytes : List ℕ) (b : ℕ) → test seen ≡ false
-    → shortest test seen (b ∷ bytes) ≡ shortest test (seen ++ b ∷ []) bytes
-unfolding shortest
-shortest-more test seen bytes b h = rw h refl
-
 -- a text judged by the shortest front that ends a head
 abbrev pub judged : ℕ → List ℕ → Option (List ℕ) → Result (List ℕ × List ℕ) Cause
 judged limit text found = if has_version text then found_head limit text found else Err causes.Version
@@ -104,29 +95,23 @@ going-start limit bytes = grind arith
 
 pub going-more : (limit : ℕ) (seen bytes : List ℕ) (b : ℕ) → is_closed seen ≡ false → length seen < limit
     → going limit seen (b ∷ bytes) ≡ going limit (seen ++ b ∷ []) bytes
-unfolding going
-going-more limit seen bytes b h l = grind (arith, length-append, shortest-more, append_assoc)
+unfolding going shortest
+going-more limit seen bytes b h l = grind (arith, length-append, append_assoc)
 
 pub going-end : (limit : ℕ) (seen : List ℕ) → is_closed seen ≡ false → has_version seen ≡ true → length seen < limit
     → going limit seen [] ≡ Err causes.ShortHead
-unfolding going
-going-end limit seen h a l = grind (arith, shortest-none, append-nil)
+unfolding going shortest
+going-end limit seen h a l = grind (arith, append-nil)
 
 pub going-full : (limit : ℕ) (seen bytes : List ℕ) → is_closed seen ≡ false → has_version seen ≡ true → length seen
     ≡ limit → 10 ≤ limit → going limit seen bytes ≡ Err causes.HeadTooLong
-unfolding going
-going-full limit seen bytes h a l m = grind (arith, shortest-none, agrees-whole, length-append)
+unfolding going shortest
+going-full limit seen bytes h a l m = grind (arith, agrees-whole, length-append)
 
 pub going-found : (limit : ℕ) (seen bytes : List ℕ) → is_closed seen ≡ true → has_version seen ≡ true
     → going limit seen bytes ≡ Ok (seen, bytes)
 unfolding going
 going-found limit seen bytes h a = grind (arith, shortest-now, agrees-whole, closed-long, drop-append_seam)
-
-pub take-behind : (seen w : List ℕ) (j : ℕ) → take (length seen + j) (seen ++ w) ≡ seen ++ take j w
-take-behind [] w j = grind arith
-take-behind (x ∷ seen) w j =
-    let e : length (x ∷ seen) + j ≡ suc (length seen + j) = omega arith in
-    grind (arith, take-behind seen w j)
 
 -- a piece of which no front but the last can end a head
 pub going-piece : (limit : ℕ) (seen w bytes : List ℕ) → ((j : ℕ) → j < length w → is_closed (seen ++ take j w) ≡ false)
@@ -150,4 +135,4 @@ pub going-gathered : (limit : ℕ) (seen w bytes : List ℕ) → is_closed seen 
     → ((n : ℕ) → length seen < n → n < length seen + length w → is_closed (take n (seen ++ w)) ≡ false)
     → length seen + length w ≤ limit → going limit seen (w ++ bytes) ≡ going limit (seen ++ w) bytes
 going-gathered limit seen w bytes h u l =
-    going-piece limit seen w bytes (λ j k. grind (arith, take-behind, append-nil, u (length seen + j))) l
+    going-piece limit seen w bytes (λ j k. grind (arith, take-append-add, append-nil, u (length seen + j))) l
