@@ -18,7 +18,7 @@ use Rattle.merge_core.specs.Feeds.{bytes_of}
 use Rattle.merge_core.specs.Openings.{IsCutAt}
 use Rattle.merge_core.specs.Spending.{ReadTo, CameWithin, AllGaveWithin}
 use Rattle.merge_core.specs.Written.{lines_text}
-use Rattle.merge_core.proofs.CountLemmas.{each_passes}
+use Rattle.merge_core.proofs.CountLemmas.{Passes, each_passes}
 use Rattle.merge_core.proofs.GroupLemmas.{each_cut, filter_all}
 use Rattle.merge_core.proofs.Many.{Move}
 use Rattle.merge_core.proofs.StartLemmas.{run_after}
@@ -40,27 +40,26 @@ front_of : (us : List Member) (zs : List (Option Member)) (vs : List Member) →
 front_of (u ∷ us) zs (v ∷ vs) e = grind (arith, front_of us zs vs)
 front_of us zs vs e = grind arith
 
--- Indexes were read from where the search for a pair ended; this test holds of all lines that lie within the range,
--- aren't below the pair and don't stand above the bound
-module _ (limit : ℕ) (past : List ℕ → Bool) (start : Pair) (b : Option Pair) (test : Member → Bool)
-    (passes : (m : Member) → past m.values.key ≡ false → is_low start m ≡ false → IsUpto b (member_pair m) → test m
-    ≡ true) where
+-- sources that tell their bytes, beside their feeds
+pub tell_both : {S : Type 0} (text : S → Option (List ℕ)) (ss : List S) (fs : List Feed) (texts : List (List ℕ))
+    → length ss ≡ length fs → Known (map text ss) texts
+    → AllZip (λ (t : List ℕ) (x : S × Feed). text x.0 ≡ Some t) texts (zip ss fs)
+tell_both text (s ∷ ss) (f ∷ fs) (t ∷ ts) same known = (known.0, tell_both text ss fs ts (omega arith) known.1)
+tell_both text ss fs ts same known = grind arith
+
+-- indexes were read from where the search for a pair ended
+module _ (limit : ℕ) {past : List ℕ → Bool} {start : Pair} {b : Option Pair} {test : Member → Bool}
+    (p : Passes past start b test) where
   source_bytes : (t : List ℕ) (ms : List Member) (c : CursorState) → IsIndex limit t ms → IsCut start t ms c.start
       → (r : ReadTo limit past b t c) → bytes_of r.read ≤ length (lines_text (filter test ms))
   source_bytes t ms c index cut r =
       let run = run_after limit start t ms c.start index cut in
       let tail = front_of r.members (map (line_entry limit) r.rest) cut.high (grind (arith, map-append)) in
       let not_low = (each_cut (λ m. is_low start m ≡ false) r.members tail.0 (rw (← tail.1) cut.none_below)).0 in
-      let all_pass = each_passes limit past start b test passes r.members r.within not_low in
+      let all_pass = each_passes p r.members r.within not_low in
       grind (arith, filter-append, filter_all, rows_most, flat_map-append, length-append)
 
   module _ {S : Type 0} (text : S → Option (List ℕ)) (extent gave : S → ℕ) where
-    -- sources that tell their bytes, beside their feeds
-    pub tell_both : (ss : List S) (fs : List Feed) (texts : List (List ℕ)) → length ss ≡ length fs
-        → Known (map text ss) texts → AllZip (λ (t : List ℕ) (x : S × Feed). text x.0 ≡ Some t) texts (zip ss fs)
-    tell_both (s ∷ ss) (f ∷ fs) (t ∷ ts) same known = (known.0, tell_both ss fs ts (omega arith) known.1)
-    tell_both ss fs ts same known = grind arith
-
     -- What sources gave from before they were opened, when they were read up to the bound
     pub gave_most : (ss0 : List S) (xs1 xs : List (S × Feed)) (texts : List (List ℕ)) (indexes : List (List Member))
         → Known (map text ss0) texts → AllZip (λ (t : List ℕ) (x : S × Feed). text x.0 ≡ Some t) texts xs1

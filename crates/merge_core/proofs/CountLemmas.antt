@@ -39,13 +39,13 @@ others_before n (w ∷ ws) placed = grind (arith, others_before n ws placed.1)
 
 few_of : (n : ℕ) (ws : List WaitingLine) → AllByRecursion (λ (w : WaitingLine). w.source < n) ws
     → ((i : ℕ) → i < n → length (waits_of i ws) ≤ 1) → length ws ≤ n
-few_of zero [] placed few = omega arith
-few_of zero (w ∷ ws) placed few = grind arith
 few_of (suc n) ws placed few =
     let others = filter (λ w. not (is_of n w)) ws in
     let split = length-filter_both (is_of n) (λ w. not (is_of n w)) (λ w. refl) ws in
     let fewer = few_of n others (others_before n ws placed) (grind (arith, length-map, filter_fewer)) in
     grind (arith, length-map)
+few_of zero [] placed few = omega arith
+few_of zero (w ∷ ws) placed few = grind arith
 
 -- ---- the lines of a group
 
@@ -99,22 +99,26 @@ module _ {S : Type 0} {limit : ℕ} {text : S → Option (List ℕ)} {past : Lis
 pub one_held : (p : Progress) → held p ≤ 1
 one_held p = grind arith
 
--- Lines were read of sources that are indexes, from where the search for a pair ended; this test holds of all lines
--- that lie within the range, aren't below the pair and don't stand above the bound
-module _ (limit : ℕ) (past : List ℕ → Bool) (start : Pair) (b : Option Pair) (test : Member → Bool)
-    (passes : (m : Member) → past m.values.key ≡ false → is_low start m ≡ false → IsUpto b (member_pair m) → test m
-    ≡ true) where
+-- this test holds of all lines that lie within the range, aren't below the pair and don't stand above the bound
+pub record Passes (past : List ℕ → Bool) (start : Pair) (b : Option Pair) (test : Member → Bool) : Type 0 where
+  pub passes : (m : Member) → past m.values.key ≡ false → is_low start m ≡ false → IsUpto b (member_pair m)
+      → test m ≡ true
+
+-- lines were read of sources that are indexes, from where the search for that pair ended
+module _ {past : List ℕ → Bool} {start : Pair} {b : Option Pair} {test : Member → Bool}
+    (p : Passes past start b test) where
   pub each_passes : (ms : List Member)
       → AllByRecursion (λ m. (past m.values.key ≡ false) × IsUpto b (member_pair m)) ms
       → AllByRecursion (λ m. is_low start m ≡ false) ms → AllByRecursion (λ m. test m ≡ true) ms
   each_passes [] within not_low = tt
   each_passes (m ∷ ms) within not_low =
-      (passes m within.0.0 not_low.0 within.0.1, each_passes ms within.1 not_low.1)
+      (p.passes m within.0.0 not_low.0 within.0.1, each_passes ms within.1 not_low.1)
 
-  source_most : {t : List ℕ} {extent : ℕ} {f : Feed} {ws ms : List Member} → Fed limit past (Some t) extent f ws
+  source_most : {limit : ℕ} {t : List ℕ} {extent : ℕ} {f : Feed} {ws ms : List Member}
+      → Fed limit past (Some t) extent f ws
       → IsIndex limit t ms → IsCut start t ms f.cursor.start
       → AllByRecursion (λ m. IsUpto b (member_pair m)) (done limit t f) → f.cursor.count ≤ length (filter test ms) + 1
-  source_most {t} {f = f} {ms = ms} fed index cut upto =
+  source_most {limit} {t} {f = f} {ms = ms} fed index cut upto =
       let told = fed.told t refl in
       let run = run_after limit start t ms f.cursor.start index cut in
       let high : map (member_of limit) (lines (drop f.cursor.start t))
@@ -125,7 +129,7 @@ module _ (limit : ℕ) (past : List ℕ → Bool) (start : Pair) (b : Option Pai
       let fewer = done_fewer test fed index in
       grind (arith, each_passes, each_both, one_held, length-map, filter_all, length-take)
 
-  module _ {S : Type 0} (text : S → Option (List ℕ)) (extent : S → ℕ) (ws : List WaitingLine) where
+  module _ (limit : ℕ) {S : Type 0} (text : S → Option (List ℕ)) (extent : S → ℕ) (ws : List WaitingLine) where
     -- No more lines were read than those that pass, and one of each source
     pub lines_most : (n : ℕ) (ss : List S) (fs : List Feed) (texts : List (List ℕ)) (indexes : List (List Member))
         → length ss ≡ length fs → Known (map text ss) texts → AllZip (IsIndex limit) texts indexes
@@ -139,6 +143,5 @@ module _ (limit : ℕ) (past : List ℕ → Bool) (start : Pair) (b : Option Pai
         let here = source_most (rw known.0 at fed.0) are.0 (cut.0 t i known.0 are.0) (rw known.0 at parts.0) in
         let rest = lines_most (n + 1) ss fs ts is (omega arith) known.1 are.1 cut.1 fed.1 parts.1 in
         let count = sum_by-cons (λ (k : ℕ). k) f.cursor.count (map (λ (f : Feed). f.cursor.count) fs) in
-        let passed = filter-append test i (all_lines is) in
-        grind (arith, length-append)
+        grind (arith, length-append, filter-append)
     lines_most n ss fs ts is same known are cut fed upto = grind (arith, nil_from_length)

@@ -49,8 +49,8 @@ one_more t was now line rest more start found = grind (arith, take_next)
 
 pub falls_push : (xs : List Member) (y : Member) → NeverFalls member_pair pair_cmp xs
     → AllByRecursion (λ m. Upto (member_pair m) (member_pair y)) xs → NeverFalls member_pair pair_cmp (xs ++ y ∷ [])
-falls_push [] y h k = (tt, tt)
 falls_push (x ∷ xs) y h k = grind (arith, each_join, falls_push xs y h.1 k.1)
+falls_push xs y h k = grind arith
 
 -- the next line waits, or lies past the range
 next_is : (past : List ℕ → Bool) (m : Member) (p : Progress) (ws : List Member) → IsNext past m p ws

@@ -39,11 +39,6 @@ two_set R same (x ∷ xs) zero d y r = (r, two_same R same xs)
 two_set R same (x ∷ xs) (suc i) d y r = (same x, two_set R same xs i d y r)
 two_set R same xs i d y r = grind arith
 
-pub two_each : {X : Type 0} (R : X → X → Type 0) (P Q : X → Type 0) → ((x y : X) → R x y → P x → Q y) → (xs ys : List X)
-    → AllZip R xs ys → AllByRecursion P xs → AllByRecursion Q ys
-two_each R P Q f (x ∷ xs) (y ∷ ys) h p = (f x y h.0 p.0, two_each R P Q f xs ys h.1 p.1)
-two_each R P Q f xs ys h p = grind arith
-
 two_trans : {X : Type 0} (R : X → X → Type 0) → ((x y z : X) → R x y → R y z → R x z) → (xs ys zs : List X)
     → AllZip R xs ys → AllZip R ys zs → AllZip R xs zs
 two_trans R t (x ∷ xs) (y ∷ ys) (z ∷ zs) h k = (t x y z h.0 k.0, two_trans R t xs ys zs h.1 k.1)
@@ -69,9 +64,9 @@ module _ {S : Type 0} (text : S → Option (List ℕ)) (extent gave : S → ℕ)
   pub told_moved : (ss ss' : List S) (fs fs' : List Feed) → length ss' ≡ length fs'
       → AllZip Move (zip ss fs) (zip ss' fs') → AllByRecursion (λ s. is_some (text s) ≡ true) ss
       → AllByRecursion (λ s. is_some (text s) ≡ true) ss'
-  told_moved ss [] fs fs' e m h = tt
   told_moved (s ∷ ss) (s' ∷ ss') (f ∷ fs) (f' ∷ fs') e m h =
       (rw m.0.text_kept h.0, told_moved ss ss' fs fs' (omega arith) m.1 h.1)
+  told_moved ss [] fs fs' e m h = tt
   told_moved ss (s' ∷ ss') fs fs' e m h = grind arith
 
   module _ (ss : List S) (fs : List Feed) (i : ℕ) (a s : S) (b f : Feed) (same : length ss ≡ length fs)

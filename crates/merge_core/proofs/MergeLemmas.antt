@@ -132,7 +132,3 @@ module _ {K S : Type 0} {Wrote : K → K → List Member → Option (List ℕ) �
 
 pub on_err : {A E : Type 0} (r : Result A E) (e : E) (P : Type 0) → IsErrAnd r (λ x. x ≡ e) → P → OnErr r P
 on_err r e P h p = grind arith
-
-pub map_seen : {A X Y : Type 0} (f : X → Y) (g : A → X) (xs : List A) → map (λ a. f (g a)) xs ≡ map f (map g xs)
-map_seen f g [] = refl
-map_seen f g (x ∷ xs) = ap (λ l. f (g x) ∷ l) (map_seen f g xs)

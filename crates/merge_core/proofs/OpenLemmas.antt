@@ -30,9 +30,9 @@ module _ (limit : ℕ) (past : List ℕ → Bool) where
         → length fs ≡ i → i < length ss → AreFed limit past text extent n ss fs ws
         → ((j : ℕ) → j ≢ m → waits_of j ws' ≡ waits_of j ws) → Fed limit past (text s) (extent s) f (waits_of m ws')
         → AreFed limit past text extent n (set ss i s) (fs ++ f ∷ []) ws'
-    fed_push n zero m (x ∷ ss) [] ws ws' s f q e l h same k = grind (arith, fed_nil)
     fed_push n (suc i) m (x ∷ ss) (y ∷ fs) ws ws' s f q e l h same k =
         (grind arith, fed_push (n + 1) i m ss fs ws ws' s f (omega arith) (omega arith) (omega arith) h.1 same k)
+    fed_push n zero m (x ∷ ss) [] ws ws' s f q e l h same k = grind (arith, fed_nil)
     fed_push n i m ss fs ws ws' s f q e l h same k = absurd (omega arith)
 
     pub fed_added : (i : ℕ) (ss : List S) (fs : List Feed) (ws ws' : List WaitingLine) (s : S) (f : Feed)
@@ -63,9 +63,8 @@ zip_none (x ∷ xs) ys e = grind arith
 -- one source more, of those that have feeds
 pub zip_push : {A B : Type 0} (xs : List A) (ys : List B) (i : ℕ) (x : A) (y : B) → length ys ≡ i → i < length xs
     → zip (set xs i x) (ys ++ y ∷ []) ≡ zip xs ys ++ (x, y) ∷ []
-zip_push (a ∷ xs) [] zero x y e l = grind (arith, zip_none)
 zip_push (a ∷ xs) (b ∷ ys) (suc i) x y e l = grind (arith, zip_push xs ys i x y)
-zip_push xs ys i x y e l = absurd (omega arith)
+zip_push xs ys i x y e l = grind (arith, zip_none)
 
 pub fresh_of : (limit : ℕ) (text : Option (List ℕ)) (f : Feed) → ((t : List ℕ) → text ≡ Some t → done limit t f ≡ [])
     → done limit (text_or text) f ≡ []

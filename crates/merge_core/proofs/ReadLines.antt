@@ -79,52 +79,49 @@ members_are limit (l ∷ ls) (m ∷ ms) e = grind (arith, members_are limit ls m
 members_are limit [] [] e = refl
 members_are limit ls ms e = cc
 
-module _ (limit : ℕ) (past : List ℕ → Bool) (upward : IsUpward past) where
-  -- the key doesn't lie past the range
-  abbrev pub stays : Member → Bool
-  stays m = not (past m.values.key)
+-- the key doesn't lie past the range
+abbrev pub stays : (List ℕ → Bool) → Member → Bool
+stays past m = not (past m.values.key)
 
-  pub stays_lower : IsLower member_place place_cmp stays
-  stays_lower x y h k =
-      let turned = nat_list_cmp_total.antisymm x.values.key y.values.key in
-      let up = upward y.values.key x.values.key in
-      place_below x y (grind arith)
+pub stays_lower : (past : List ℕ → Bool) → IsUpward past → IsLower member_place place_cmp (stays past)
+stays_lower past upward x y h k =
+    let turned = nat_list_cmp_total.antisymm x.values.key y.values.key in
+    let up = upward y.values.key x.values.key in
+    place_below x y (grind arith)
 
+-- neither this line nor one that may follow it was come to
+abbrev pub IsLate : (Member → Bool) → Member → Type 0
+IsLate upto m = (k : Member) → Upto (member_pair m) (member_pair k) → upto k ≡ false
+
+module _ (past : List ℕ → Bool) (upto : Member → Bool) where
   -- which lines were come to
-  module _ (upto : Member → Bool) where
-    abbrev pub is_read : Member → Bool
-    is_read m = upto m && stays m
+  abbrev pub is_read : Member → Bool
+  is_read m = upto m && stays past m
 
-    -- neither this line nor one that may follow it was come to
-    abbrev pub IsLate : Member → Type 0
-    IsLate m = (k : Member) → Upto (member_pair m) (member_pair k) → upto k ≡ false
+  read_is : (before tail ms : List Member) → ms ≡ before ++ tail → AllByRecursion (λ m. upto m ≡ true) before
+      → AllByRecursion (λ m. is_read m ≡ false) tail → filter is_read ms ≡ filter (stays past) before
+  read_is before tail ms e h k = grind (arith, filter-append, filter_same, each_weaker, filter_none, append-nil)
 
-    read_is : (before tail ms : List Member) → ms ≡ before ++ tail → AllByRecursion (λ m. upto m ≡ true) before
-        → AllByRecursion (λ m. is_read m ≡ false) tail
-        → filter is_read ms ≡ filter stays before
-    read_is before tail ms e h k = grind (arith, filter-append, filter_same, each_weaker, filter_none, append-nil)
-
-    -- the first line of the rest isn't read, and so none
-    rest_unread : (before : List Member) (m : Member) (rest ms : List Member) → ms ≡ before ++ m ∷ rest
-        → NeverFalls member_pair pair_cmp ms
-        → ((k : Member) → Upto (member_pair m) (member_pair k) → is_read k ≡ false)
-        → AllByRecursion (λ m. is_read m ≡ false) (m ∷ rest)
-    rest_unread before m rest ms e falls f =
-        (f m (upto_itself (member_pair m)), grind (arith, each_weaker, falls_after))
+  -- the first line of the rest isn't read, and so none
+  rest_unread : (before : List Member) (m : Member) (rest ms : List Member) → ms ≡ before ++ m ∷ rest
+      → NeverFalls member_pair pair_cmp ms
+      → ((k : Member) → Upto (member_pair m) (member_pair k) → is_read k ≡ false)
+      → AllByRecursion (λ m. is_read m ≡ false) (m ∷ rest)
+  rest_unread before m rest ms e falls f =
+      (f m (upto_itself (member_pair m)), grind (arith, each_weaker, falls_after))
 
 module _ {limit : ℕ} {past : List ℕ → Bool} (upward : IsUpward past) (upto : Member → Bool) {t : List ℕ} {extent : ℕ}
     {f : Feed} {ws : List Member} (fed : Fed limit past (Some t) extent f ws) (settled : IsSettled f)
-    (late : AllByRecursion (IsLate limit past upward upto) ws)
-    (each : AllByRecursion (λ m. upto m ≡ true) (done limit t f)) where
+    (late : AllByRecursion (IsLate upto) ws) (each : AllByRecursion (λ m. upto m ≡ true) (done limit t f)) where
   read_of : (ms rest : List Member) → ms ≡ given limit t f.cursor ++ rest → NeverFalls member_pair pair_cmp ms
       → (lines (drop f.cursor.at t) ≡ [] → rest ≡ [])
-      → filter (is_read limit past upward upto) ms ≡ filter (stays limit past upward) (done limit t f)
+      → filter (is_read past upto) ms ≡ filter (stays past) (done limit t f)
   read_of ms rest is falls end =
       let waits = fed.waits in let head = (fed.told t refl).head in grind (arith, append_assoc, read_is, rest_unread)
 
   -- Of the lines from the start on, those that were come to are those that are done
   pub fed_read : (ms : List Member) → IsRun limit (lines (drop f.cursor.start t)) ms
-      → filter (is_read limit past upward upto) ms ≡ filter (stays limit past upward) (done limit t f)
+      → filter (is_read past upto) ms ≡ filter (stays past) (done limit t f)
   fed_read ms run =
       let n = f.cursor.count in
       let whole : map (member_of limit) (lines (drop f.cursor.start t)) ≡ ms = members_are limit _ ms run.entries in
@@ -133,6 +130,5 @@ module _ {limit : ℕ} {past : List ℕ → Bool} (upward : IsUpward past) (upto
       read_of ms (drop n ms) (grind (arith, take-append-drop)) run.ordered (grind arith)
 
   -- the same of the lines that were read
-  pub given_read : filter (is_read limit past upward upto) (given limit t f.cursor)
-      ≡ filter (stays limit past upward) (done limit t f)
+  pub given_read : filter (is_read past upto) (given limit t f.cursor) ≡ filter (stays past) (done limit t f)
   given_read = read_of _ [] (sym (append-nil _)) (fed.told t refl).run.ordered (λ e. refl)

@@ -19,7 +19,7 @@ use Rattle.merge_core.proofs.ReadLines.{IsUpward, stays, is_read, IsLate, given_
 use Rattle.merge_core.proofs.ReadLemmas.{late_of}
 use Rattle.std.proofs.lemmas.List.Elements.{filter-append}
 use Rattle.merge_core.proofs.GroupLemmas.{each_cut}
-use Rattle.merge_core.proofs.TakenLemmas.{TakenFirst, Took, taken_first, taken_whole}
+use Rattle.merge_core.proofs.TakenLemmas.{Took}
 
 -- ---- one source
 
@@ -59,48 +59,39 @@ module _ (limit : ℕ) (past : List ℕ → Bool) {S : Type 0} (text : S → Opt
   parts_count n (s ∷ ss) (f ∷ fs) same told fed =
       let t = text_or (text s) in
       let many = (fed.0.told t (is_told (text s) told.0)).as_many in
-      let here = length-map (read_lines t f.cursor) (member_of limit) in
-      let rest = parts_count (n + 1) ss fs (omega arith) told.1 fed.1 in
       let a = sum_by-cons (λ (k : ℕ). k) f.cursor.count (map (λ (f : Feed). f.cursor.count) fs) in
       let b = sum_by-cons (λ (k : ℕ). k) (length (given limit t f.cursor))
       (map (λ (ms : List Member). length ms) (parts limit text ss fs)) in
-      omega arith
+      grind (arith, length-map, parts_count (n + 1) ss fs)
   parts_count n ss fs same told fed = grind (arith, nil_from_length)
 
   module _ (upward : IsUpward past) (upto : Member → Bool)
-      (late : AllByRecursion (λ (w : WaitingLine). IsLate limit past upward upto w.member) ws) where
+      (late : AllByRecursion (λ (w : WaitingLine). IsLate upto w.member) ws) where
     parts_read : (n : ℕ) (ss : List S) (fs : List Feed) → length ss ≡ length fs → AreTold text ss
         → AreFed limit past text extent n ss fs ws → AreSettled fs
         → AllByRecursion (λ m. upto m ≡ true) (all_done limit text ss fs)
-        → filter (is_read limit past upward upto) (all_lines (parts limit text ss fs))
-        ≡ filter (stays limit past upward) (all_done limit text ss fs)
+        → filter (is_read past upto) (all_lines (parts limit text ss fs))
+        ≡ filter (stays past) (all_done limit text ss fs)
     parts_read n (s ∷ ss) (f ∷ fs) same told fed settled each =
         let cut = each_cut (λ m. upto m ≡ true) (done limit (text_or (text s)) f) _ each in
         let here = given_read upward upto (rw (is_told (text s) told.0) at fed.0) settled.0
-        (late_of limit past upward upto text extent ws late n) cut.0 in
+        (late_of upto ws late n) cut.0 in
         grind (arith, filter-append, parts_read (n + 1) ss fs)
     parts_read n ss fs same told fed settled each = grind arith
 
--- ---- where a merge came to
-
-module _ {S : Type 0} (text : S → Option (List ℕ)) (extent gave : S → ℕ) (limit : ℕ) (past : List ℕ → Bool)
-    (upward : IsUpward past) (ss0 : List S) (fs0 : List Feed) (ss : List S) (fs : List Feed)
-    (ws : List WaitingLine) (b : Option Pair) (taken : List Member)
-    (reached : Reached limit text past extent gave ss0 fs0 ss fs ws b taken) (told : AreTold text ss0)
-    (wanted : Member → Bool) (within : (m : Member) → wanted m ≡ true → not (past m.values.key) ≡ true) where
-  took : Took limit past upward wanted b ws (all_lines (parts limit text ss fs)) taken
-  took = record {
-    within = within;
-    above = reached.above;
-    done = all_done limit text ss fs;
-    handed = reached.handed.told told;
-    read = λ upto late each. grind (arith, parts_read, told_moved);
-  }
-
-  -- what was taken is a front of what is wanted of the lines that were read
-  pub parts_first : TakenFirst wanted b (collection (parts limit text ss fs)) taken
-  parts_first = taken_first took
-
-  -- where no line waits, it is all
-  pub parts_whole : ws ≡ [] → filter wanted (collection (parts limit text ss fs)) ≡ filter wanted taken
-  parts_whole = taken_whole took
+-- where a merge came to: what was taken of the wanted lines among those that were read
+pub took_of_parts : {S : Type 0} {text : S → Option (List ℕ)} {extent gave : S → ℕ} {limit : ℕ}
+    {past : List ℕ → Bool} {ss0 ss : List S} {fs0 fs : List Feed} {ws : List WaitingLine} {b : Option Pair}
+    {taken : List Member} → Reached limit text past extent gave ss0 fs0 ss fs ws b taken → AreTold text ss0
+    → IsUpward past → (wanted : Member → Bool) → ((m : Member) → wanted m ≡ true → stays past m ≡ true)
+    → Took past wanted b ws (collection (parts limit text ss fs)) taken
+took_of_parts {text = text} {limit = limit} {ss = ss} {fs = fs} reached told upward wanted within = record {
+  upward = upward;
+  within = within;
+  above = reached.above;
+  all = all_lines (parts limit text ss fs);
+  wanted_of = refl;
+  done = all_done limit text ss fs;
+  handed = reached.handed.told told;
+  read = λ upto late each. grind (arith, parts_read, told_moved);
+}

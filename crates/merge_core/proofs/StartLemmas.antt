@@ -55,6 +55,16 @@ module _ {S : Type 0} (limit : ℕ) (text : S → Option (List ℕ)) where
       )
   runs_sought start ss fs texts is same known are cut = grind arith
 
+  -- feeds that stand where a search ended do so after more was read
+  pub cuts_kept : (start : Pair) (extent gave : S → ℕ) (xs ys : List (S × Feed)) → AllZip (Move text extent gave) xs ys
+      → AllByRecursion (λ x. IsCutAt limit start (text x.0) x.1.cursor) xs
+      → AllByRecursion (λ x. IsCutAt limit start (text x.0) x.1.cursor) ys
+  cuts_kept start extent gave (x ∷ xs) (y ∷ ys) m h = (
+    λ t members e i. rw m.0.start_kept (h.0 t members (sym m.0.text_kept ∙ e) i),
+    cuts_kept start extent gave xs ys m.1 h.1,
+  )
+  cuts_kept start extent gave xs ys m h = grind arith
+
   -- the same after more was read
   pub runs_kept : (extent gave : S → ℕ) (xs ys : List (S × Feed)) (highs : List (List Member))
       → AllZip (Move text extent gave) xs ys → AllZip RunsFrom xs highs → AllZip RunsFrom ys highs

@@ -56,64 +56,57 @@ TakenFirst wanted b all taken =
     × AllByRecursion (λ m. (wanted m ≡ true) × IsAbove b (member_pair m)) rest
 
 -- what was taken of lines, of which those that were come to are known
-pub record Took (limit : ℕ) (past : List ℕ → Bool) (upward : IsUpward past) (wanted : Member → Bool) (b : Option Pair)
-    (ws : List WaitingLine) (all taken : List Member) : Type 0 where
-  pub within : (m : Member) → wanted m ≡ true → not (past m.values.key) ≡ true
+pub record Took (past : List ℕ → Bool) (wanted : Member → Bool) (b : Option Pair) (ws : List WaitingLine)
+    (whole taken : List Member) : Type 0 where
+  pub upward : IsUpward past
+  pub within : (m : Member) → wanted m ≡ true → stays past m ≡ true
   pub above : AllByRecursion (λ w. IsAbove b (waiting_pair w)) ws
+  pub all : List Member
+  pub wanted_of : filter wanted whole ≡ filter wanted (rising member_place place_cmp all)
   pub done : List Member
   pub handed : (taken ≡ rising member_place place_cmp done) × AllByRecursion (λ m. IsUpto b (member_pair m)) done
-  pub read : (upto : Member → Bool)
-      → AllByRecursion (λ (w : WaitingLine). IsLate limit past upward upto w.member) ws
-      → AllByRecursion (λ m. upto m ≡ true) done
-      → filter (is_read limit past upward upto) all ≡ filter (stays limit past upward) done
+  pub read : (upto : Member → Bool) → AllByRecursion (λ (w : WaitingLine). IsLate upto w.member) ws
+      → AllByRecursion (λ m. upto m ≡ true) done → filter (is_read past upto) all ≡ filter (stays past) done
 
-module _ {limit : ℕ} {past : List ℕ → Bool} {upward : IsUpward past} {wanted : Member → Bool} {b : Option Pair}
-    {ws : List WaitingLine} {all taken : List Member} (r : Took limit past upward wanted b ws all taken) where
-  abbrev seen : List Member → List Member
-  seen xs = filter wanted (rising member_place place_cmp xs)
-
-  abbrev low : (Member → Bool) → Member → Bool
-  low upto m = upto m && not (past m.values.key)
-
-  -- what was taken is a front, and the rest isn't low
+module _ {past : List ℕ → Bool} {wanted : Member → Bool} {b : Option Pair} {ws : List WaitingLine}
+    {whole taken : List Member} (r : Took past wanted b ws whole taken) where
+  -- what was taken is a front, and the rest wasn't come to
   split : (upto : Member → Bool)
       → ((x y : Member) → upto x ≡ true → upto y ≡ false → Below (member_pair x) (member_pair y))
-      → AllByRecursion (λ (w : WaitingLine). IsLate limit past upward upto w.member) ws
-      → AllByRecursion (λ m. upto m ≡ true) r.done
-      → (rest : List Member) × (seen all ≡ filter wanted taken ++ rest)
-      × AllByRecursion (λ m. (low upto m ≡ false) × (wanted m ≡ true)) rest
+      → AllByRecursion (λ (w : WaitingLine). IsLate upto w.member) ws → AllByRecursion (λ m. upto m ≡ true) r.done
+      → (rest : List Member) × (filter wanted whole ≡ filter wanted taken ++ rest)
+      × AllByRecursion (λ m. (is_read past upto m ≡ false) × (wanted m ≡ true)) rest
   split upto lower late each =
-      let is_lower : IsLower member_place place_cmp
-      (low upto) = grind (arith, and_cases, place_below, stays_lower) in
-      let others = filter (λ m. not (low upto m)) all in (
-        seen others,
-        wanted_parts wanted (low upto) is_lower all
-            ∙ ap (λ l. l ++ seen others) (grind (arith, wanted_low, stays, stays_lower)),
-        each_filter (λ m. low upto m ≡ false) wanted (rising member_place place_cmp others)
-            (each_rising member_place place_cmp place_cmp_total (λ m. low upto m ≡ false) others
-            (filter_out (low upto) all)),
+      let low = is_read past upto in
+      let is_lower : IsLower member_place place_cmp low = grind (arith, and_cases, place_below, stays_lower) in
+      let others = rising member_place place_cmp (filter (λ m. not (low m)) r.all) in (
+        filter wanted others,
+        r.wanted_of ∙ wanted_parts wanted low is_lower r.all
+            ∙ ap (λ l. l ++ filter wanted others) (grind (arith, wanted_low, stays, stays_lower)),
+        each_filter (λ m. low m ≡ false) wanted others
+            (each_rising member_place place_cmp place_cmp_total (λ m. low m ≡ false) _ (filter_out low r.all)),
       )
 
-  rest_above : (m : Member) → (low (upto_bound b) m ≡ false) × (wanted m ≡ true) → (wanted m ≡ true)
+  rest_above : (m : Member) → (is_read past (upto_bound b) m ≡ false) × (wanted m ≡ true) → (wanted m ≡ true)
       × IsAbove b (member_pair m)
   rest_above m h = grind (arith, and_cases, bound_above, true≢false)
 
   -- it is a front of what is wanted
-  pub taken_first : TakenFirst wanted b (rising member_place place_cmp all) taken
+  pub taken_first : TakenFirst wanted b whole taken
   taken_first =
       let cut = split (upto_bound b) (bound_lower b) (grind (arith, each_weaker, bound_late))
       (each_weaker (bound_upto b) r.done r.handed.1) in
       (cut.0, cut.1, each_weaker rest_above cut.0 cut.2)
 
   -- where no line waits, it is all
-  pub taken_whole : ws ≡ [] → filter wanted (rising member_place place_cmp all) ≡ filter wanted taken
+  pub taken_whole : ws ≡ [] → filter wanted whole ≡ filter wanted taken
   taken_whole none =
       let cut = split (λ m. true) (λ x y h k. absurd (true≢false k)) (rw none tt)
       (each_weaker (λ m h. refl) r.done r.handed.1) in
       rw (none_left cut.0 cut.2, append-nil) at cut.1
     where
-      none_left : (rest : List Member) → AllByRecursion (λ m. (low (λ k. true) m ≡ false) × (wanted m ≡ true)) rest
-          → rest ≡ []
+      none_left : (rest : List Member)
+          → AllByRecursion (λ m. (is_read past (λ k. true) m ≡ false) × (wanted m ≡ true)) rest → rest ≡ []
       none_left [] h = refl
       none_left (m ∷ ms) h = absurd (true≢false (sym (r.within m h.0.1) ∙ h.0.0))
 
@@ -124,15 +117,14 @@ module _ {limit : ℕ} {past : List ℕ → Bool} {upward : IsUpward past} {want
         let turned = pair_cmp_total.antisymm (member_pair k) next in
         grind (arith, ordering_reverse)
 
-    from_next : (m : Member) → (low (is_low next) m ≡ false) × (wanted m ≡ true) → (wanted m ≡ true)
+    from_next : (m : Member) → (is_read past (is_low next) m ≡ false) × (wanted m ≡ true) → (wanted m ≡ true)
         × Upto next (member_pair m)
     from_next m h =
         let within = r.within m h.1 in
         (h.1, grind (arith, and_cases, from_not_below (member_pair m) next))
 
     -- then the rest doesn't stand below it either
-    pub taken_before : (rest : List Member)
-        × (filter wanted (rising member_place place_cmp all) ≡ filter wanted taken ++ rest)
+    pub taken_before : (rest : List Member) × (filter wanted whole ≡ filter wanted taken ++ rest)
         × AllByRecursion (λ m. (wanted m ≡ true) × Upto next (member_pair m)) rest
     taken_before =
         let cut = split (is_low next) (λ x y h k. below_then (member_pair x) next (member_pair y) (is_less _ h)

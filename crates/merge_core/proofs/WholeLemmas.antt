@@ -48,9 +48,8 @@ module _ (limit : ℕ) (past : List ℕ → Bool) (never : (key : List ℕ) → 
 
 pub told_known : {S : Type 0} (text : S → Option (List ℕ)) (ss : List S) (texts : List (List ℕ))
     → AllZip (λ told t. told ≡ Some t) (map text ss) texts → AllByRecursion (λ s. is_some (text s) ≡ true) ss
-told_known text [] texts h = tt
-told_known text (s ∷ ss) [] h = absurd h
 told_known text (s ∷ ss) (t ∷ texts) h = (ap is_some h.0, told_known text ss texts h.1)
+told_known text ss texts h = grind arith
 
 module _ {S : Type 0} (text : S → Option (List ℕ)) (extent gave : S → ℕ) where
   kept : {Y : Type 0} (f : S → Y) → ((x y : S × Feed) → Move text extent gave x y → f y.0 ≡ f x.0)

@@ -21,7 +21,8 @@ use Rattle.merge_core.specs.Collections.{Known, all_lines, collection}
 use Rattle.merge_core.specs.PairOrders.{IsAbove, Upto, is_low}
 use Rattle.merge_core.specs.Openings.{IsCutAt}
 use Rattle.merge_core.specs.Reached.{Reached}
-use Rattle.merge_core.proofs.ReadLemmas.{sought_before, sought_first, sought_whole}
+use Rattle.merge_core.proofs.ReadLemmas.{took_of_indexes}
+use Rattle.merge_core.proofs.TakenLemmas.{Took, taken_before, taken_first, taken_whole}
 use Rattle.page_writers.specs.PageWriting.{is_wanted, place_before}
 use Rattle.merge_core.specs.SourceLines.{AreLinesOf, IsLineIn, IsLineOf}
 use Rattle.merge_core.specs.Gathering.{AreTold}
@@ -199,12 +200,15 @@ module _ {S : Type 0} {text : S → Option (List ℕ)} {extent gave : S → ℕ}
       later_each : (A : Member → Type 0) (rest : List Member) → AllByRecursion A rest → AllByRecursion A (later rest)
       later_each A rest = grind (arith, each_kept, place_cmp_total)
 
+      took_sought : Took (is_past q.target) (sought q) r.bound r.waiting (collection indexes) r.taken
+      took_sought = took_of_indexes r.reached r.start.same _ r.start.cut texts indexes known_opened are
+          (past_upward q.target) (sought q) (within q) (beyond q)
+
       -- what was taken is a front of what is wanted
       pub wanted_first : (rest : List Member) × (captures q (collection indexes) ≡ captures q r.taken ++ rest)
           × AllByRecursion (λ m. IsAbove r.bound (member_pair m)) rest
       wanted_first =
-          let f = sought_first _ _ _ _ _ (past_upward q.target) _ _ _ _ _ _ _ r.start.same r.reached texts indexes
-          known_opened are (sought q) (within q) _ r.start.cut (beyond q) in
+          let f = taken_first took_sought in
           (_, grind (arith, captures_split, of_all, of_taken), later_each _ f.0 (grind (arith, each_weaker)))
 
       -- where the lines that wait don't stand below a pair, the rest doesn't either
@@ -213,15 +217,9 @@ module _ {S : Type 0} {text : S → Option (List ℕ)} {extent gave : S → ℕ}
           → (rest : List Member) × (captures q (collection indexes) ≡ captures q r.taken ++ rest)
           × AllByRecursion (λ m. Upto next (member_pair m)) rest
       wanted_before next above least =
-          let f = sought_before _ _ _ _ _ (past_upward q.target) _ _ _ _ _ _ _ r.start.same r.reached texts indexes
-          known_opened are (sought q) (within q) _ r.start.cut (beyond q) next above least in
+          let f = taken_before took_sought next above least in
           (_, grind (arith, captures_split, of_all, of_taken), later_each _ f.0 (grind (arith, each_weaker)))
 
       -- where no line waits, it is all
       pub wanted_whole : r.waiting ≡ [] → captures q (collection indexes) ≡ captures q r.taken
-      wanted_whole none = rw (
-        ← of_all,
-        sought_whole _ _ _ _ _ (past_upward q.target) _ _ _ _ _ _ _ r.start.same r.reached texts
-            indexes known_opened are (sought q) (within q) _ r.start.cut (beyond q) none,
-        of_taken,
-      ) refl
+      wanted_whole none = rw (← of_all, taken_whole took_sought none, of_taken) refl

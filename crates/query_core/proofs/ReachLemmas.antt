@@ -29,13 +29,15 @@ use Rattle.merge_core.specs.Collections.{Known, OverIndexes, OverTexts, collecti
 use Rattle.merge_core.specs.Openings.{IsCutAt}
 use Rattle.merge_core.specs.Runs.{parts}
 use Rattle.merge_core.specs.Spending.{AllGaveWithin, AreReadTo, OpenedWithin}
-use Rattle.merge_core.proofs.CountLemmas.{lines_most}
+use Rattle.merge_core.proofs.CountLemmas.{Passes, lines_most}
 use Rattle.merge_core.proofs.Filters.{each_filter}
 use Rattle.merge_core.proofs.ByteLemmas.{gave_most, tell_both}
-use Rattle.merge_core.proofs.Many.{Move, length_zip, told_moved, two_each}
+use Rattle.merge_core.proofs.Many.{Move, length_zip, told_moved}
+use Rattle.merge_core.proofs.StartLemmas.{cuts_kept}
 use Rattle.merge_core.proofs.PairOrder.{below_below, below_upto, from_not_below, not_below_itself, same_from, upto_upto}
 use Rattle.merge_core.proofs.MergeLemmas.{is_less}
-use Rattle.merge_core.proofs.RunLemmas.{parts_are, parts_count, parts_first, parts_whole}
+use Rattle.merge_core.proofs.RunLemmas.{parts_are, parts_count, took_of_parts}
+use Rattle.merge_core.proofs.TakenLemmas.{taken_first, taken_whole}
 use Rattle.merge_core.proofs.SpendLemmas.{are_read_to}
 use Rattle.merge_core.proofs.WholeLemmas.{texts_kept}
 use Rattle.query_text.proofs.RangeLaw.{past_upward}
@@ -102,8 +104,7 @@ module _ (q : QueryValue) (indexes : List (List Member)) where
 
   module _ (bound : Option Pair) (earlier : List Member) (c : Cut bound earlier) (limit : Option ℕ)
       (most : AreAtMost limit (captures q earlier)) where
-    passes : (m : Member) → is_past q.target m.values.key ≡ false → is_low (start_pair q q.resume) m ≡ false
-        → IsUpto bound (member_pair m) → in_reach q q.resume limit (collection indexes) m ≡ true
+    passes : Passes (is_past q.target) (start_pair q q.resume) bound (in_reach q q.resume limit (collection indexes))
     passes = grind (arith, both, covered_from_start, past_front)
 
 module _ {S : Type 0} {text : S → Option (List ℕ)} {extent gave : S → ℕ} {q : QueryValue} {olds : List S}
@@ -163,9 +164,9 @@ module _ {S : Type 0} {text : S → Option (List ℕ)} {extent gave : S → ℕ}
   gave_upto bound earlier news feeds cuts moved long reads = λ texts indexes known are limit most.
       let all = AllZip-long (Move text extent gave) (zip r.opened r.begun) (zip news feeds) moved in
       let pass = passes q indexes bound earlier (cuts texts indexes known are) limit most in
-      let tells = tell_both LINE_LIMIT _ _ _ _ pass text extent gave _ _ _ r.start.same (known_opened r texts known) in
+      let tells = tell_both text _ _ _ r.start.same (known_opened r texts known) in
       rw (firsts news feeds (omega (arith, all, long, length_zip r.opened r.begun r.start.same))) at
-      (gave_most LINE_LIMIT _ _ _ _ pass text extent gave olds _ (zip news feeds) _ _ known tells are r.start.came moved
+      (gave_most LINE_LIMIT pass text extent gave olds _ (zip news feeds) _ _ known tells are r.start.came moved
       r.start.cut (reads texts known))
 
   -- what they gave of which these lines were taken
@@ -178,13 +179,9 @@ module _ {S : Type 0} {text : S → Option (List ℕ)} {extent gave : S → ℕ}
     -- no more lines were read than are in reach, and one of each index
     pub lines_within : (earlier : List Member) → Cuts r.bound earlier → ReadFor q (map text olds) earlier lines
     lines_within earlier cuts = λ texts indexes known are limit most.
-        let h = lines_most _ _ _ _ _ (passes q indexes r.bound earlier (cuts texts indexes known are) limit most) text
-        _ _ _ r.sources r.feeds texts indexes r.reached.ready.same (rw kept_now known) are
-        (two_each (Move text extent gave)
-        (λ (x : S × Feed). IsCutAt LINE_LIMIT (start_pair q q.resume) (text x.0) x.1.cursor)
-        (λ (x : S × Feed). IsCutAt LINE_LIMIT (start_pair q q.resume) (text x.0) x.1.cursor)
-        (λ x y m c. λ t members e i. rw m.start_kept (c t members (sym m.text_kept ∙ e) i)) (zip r.opened r.begun)
-        (zip r.sources r.feeds) r.reached.moved r.start.cut) r.reached.ready.fed
+        let h = lines_most (passes q indexes r.bound earlier (cuts texts indexes known are) limit most) _ text _ _ _
+        r.sources r.feeds texts indexes r.reached.ready.same (rw kept_now known) are
+        (cuts_kept LINE_LIMIT text _ extent gave _ _ r.reached.moved r.start.cut) r.reached.ready.fed
         (r.reached.handed.told (told r texts known)).1 in
         grind (arith, AllZip-long)
 
@@ -194,8 +191,9 @@ module _ {S : Type 0} {text : S → Option (List ℕ)} {extent gave : S → ℕ}
     of_parts all ended = λ texts known.
         let read = parts LINE_LIMIT text r.sources r.feeds in
         let told_all = told r texts known in
-        let found = parts_first _ _ _ _ _ (past_upward q.target) _ _ _ _ _ _ _ r.reached told_all
-        (is_wanted q q.resume) (λ m h. grind arith) in
+        let all_took = took_of_parts r.reached told_all (past_upward q.target) (is_wanted q q.resume)
+        (λ m h. grind arith) in
+        let found = taken_first all_took in
         let count = parts_count _ _ _ extent _ _ _ _ r.reached.ready.same
         (told_moved _ _ _ _ _ _ _ r.reached.ready.same r.reached.moved told_all) r.reached.ready.fed in
         record {
@@ -204,9 +202,7 @@ module _ {S : Type 0} {text : S → Option (List ℕ)} {extent gave : S → ℕ}
               r.reached.ready.fed r.reached.settled (λ e. ended (is e));
           count = cc;
           first = (_, captures_split q q.resume (collection read) r.taken found.0 found.1);
-          ended = λ e. ap (kept_after q q.resume q.resume)
-              (parts_whole _ _ _ _ _ (past_upward q.target) _ _ _ _ _ _ _ r.reached told_all
-              (is_wanted q q.resume) (λ m h. grind arith) (ended e));
+          ended = λ e. ap (kept_after q q.resume q.resume) (taken_whole all_took (ended e));
         }
 
   -- they are lines of the sources, which over indexes come first

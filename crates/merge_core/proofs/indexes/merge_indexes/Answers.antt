@@ -19,7 +19,8 @@ use Rattle.merge_core.specs.Collections.{OverIndexes, collection}
 use Rattle.merge_core.specs.Reached.{Reached}
 use Rattle.merge_core.specs.Written.{lines_text}
 use Rattle.merge_core.specs.SourceLines.{AreLinesOf}
-use Rattle.merge_core.proofs.ReadLemmas.{sought_first}
+use Rattle.merge_core.proofs.ReadLemmas.{took_of_indexes}
+use Rattle.merge_core.proofs.TakenLemmas.{taken_first}
 use Rattle.source_core.proofs.SortedCuts.{none_below_least}
 use Rattle.merge_core.proofs.SourceLemmas.{taken_lines}
 use Rattle.merge_core.proofs.WholeLemmas.{are_read, all_lines_are, its_lines, told_known, texts_kept, extents_kept}
@@ -44,9 +45,9 @@ module _ (g : Over) (c : After-merge g) {ss : List g.row.S.Denot} {fs : List Fee
       (λ texts indexes. AppendsPrefix old new (lines_text (collection indexes)))
   front old new p texts indexes known are =
       let opened = c.in_ok-opened.ensures in
-      let first = sought_first _ _ _ _ _ (λ key later e h. absurd (true≢false (sym e))) _ _ _ _ _ _ _ opened.ready.same
-      reached texts indexes (rw (← opened.text) at known) are (λ m. true) (λ m e. refl) ([], []) opened.cut
-      (λ m e. none_below_least (member_pair m).0 (member_pair m).1) in
+      let first = taken_first (took_of_indexes reached opened.ready.same ([], []) opened.cut texts indexes
+      (rw (← opened.text) at known) are (λ key later e h. absurd (true≢false (sym e))) (λ m. true) (λ m e. refl)
+      (λ m e. none_below_least (member_pair m).0 (member_pair m).1)) in
       let whole : collection indexes ≡ taken ++ first.0 = grind (arith, filter_every) in
       rw (whole, flat_map-append) (prefix_longer old new _ _ p)
 

@@ -5,16 +5,7 @@ use Rattle.merge_core.proofs.feed.Feed.begin.Goals as goal
 
 pub returns-in-Some-clause-fed : goal.returns-in-Some-clause-fed
 returns-in-Some-clause-fed g c =
-    fed_more {old = c.args.self.now} {m = c.in-Some.line.value} (record {
-      is_due = grind arith;
-      was = grind arith;
-      stands = grind arith;
-      start = grind arith;
-      count = grind arith;
-      near = grind arith;
-      next = grind arith;
-      low = grind arith;
-    }) _ (inl c.settle.ensures.next)
+    fed_more {old = c.args.self.now} {m = c.in-Some.line.value} (grind arith) _ (inl c.settle.ensures.next)
 
 pub returns-in_err-line-clause-reads : goal.returns-in_err-line-clause-reads
 returns-in_err-line-clause-reads g c = grind (arith, read_to c.requires.fed)

@@ -1,6 +1,7 @@
 use Rattle.std.proofs.lemmas.List.{map-append}
 use Rattle.std.proofs.Common.{is_lt, false, ◌≡◌, inl, inr, [], ◌∷◌, ◌++◌, Box, Global, map, refl, ◌∙◌, arith}
-use Rattle.std.proofs.Common.{append_assoc}
+use Rattle.std.proofs.Common.{append_assoc, ℕ, List, Some}
+use Rattle.std.specs.List.{AllByRecursion}
 use Rattle.cdxj_core.specs.declared.limit.TheConstants.{LINE_LIMIT}
 use Rattle.cdxj_core.specs.declared.line.Line.{Line}
 use Rattle.cdxj_core.specs.Members.{Member, member_pair}
@@ -27,20 +28,15 @@ was_read : (g : Over) (c : After-compare_pairs g) (f : Feed) → f.cursor ≡ c.
     → is_lt c.compare_pairs.result ≡ false
     → LineRead LINE_LIMIT (g.R.Range.past c.args.range.now) (g.S.Source.text c.next_line.new.source)
     (g.S.Source.extent c.next_line.new.source) c.loop-line.self f c.in-Some.line.value
-was_read g c f is not_less = record {
-  is_due = grind arith;
-  was = grind arith;
-  stands = grind arith;
-  start = grind arith;
-  count = grind arith;
-  near = grind arith;
-  next = λ t e. rw is (rw c.in-Some.is at (c.in_ok-line.ensures.next t (cc)));
-  low = λ t e.
-      let first = member_pair c.args.first.now in let next = member_pair c.in-Some.line.value in
-      let up = from_not_below next first (grind arith) in
-      each_weaker (λ (k : Member) (q : Upto (member_pair k) first). upto_upto (member_pair k) first next q up) _
-      (c.loop-line.invariant.low t (cc));
-}
+was_read g c f is not_less =
+    let first = member_pair c.args.first.now in
+    let next = member_pair c.in-Some.line.value in
+    let up = from_not_below next first (grind arith) in
+    let low : (t : List ℕ) → g.S.Source.text c.next_line.new.source ≡ Some t
+    → AllByRecursion (λ k. Upto (member_pair k) next) (done LINE_LIMIT t c.loop-line.self) = λ t e.
+    each_weaker (λ (k : Member) (q : Upto (member_pair k) first). upto_upto (member_pair k) first next q up) _
+    (c.loop-line.invariant.low t (cc)) in
+    grind arith
 
 pub returns-in-Greater-clause-fed : goal.returns-in-Greater-clause-fed
 returns-in-Greater-clause-fed g c =

@@ -9,7 +9,7 @@ use Rattle.merge_core.proofs.SpendLemmas.{opened_none, two_put, left_here, left_
 use Rattle.merge_core.proofs.FailLemmas.{raised_by_feed}
 use Rattle.cdxj_places.proofs.RisingLaws.{each_join}
 use Rattle.merge_core.proofs.Many.{map_set_same}
-use Rattle.merge_core.proofs.MergeLemmas.{map_seen}
+use Rattle.std.proofs.lemmas.Simd.{map-map}
 use Rattle.merge_core.proofs.OpenLemmas.{fed_nil, fed_added, zip_none, zip_push, fresh_of, sum_turn}
 use Rattle.merge_core.proofs.streams.Streams.open_at.Goals as goal
 
@@ -72,6 +72,5 @@ returns-clause-probes g c =
     let e = g.S.Source.extent in
     let whole = ap (λ us. sum (map (λ s. digits (e s)) us))
     (take_all c.loop-i.i c.loop-i.sources (omega (arith, ap length inv.extent, inv.count))) in
-    let same = ap sum (map_seen digits e c.loop-i.sources ∙ ap (map digits) inv.extent
-    ∙ sym (map_seen digits e c.args.sources.now)) in
+    let same = ap sum (simp map-map at (ap (map digits) inv.extent)) in
     grind arith
