@@ -33,11 +33,10 @@ pub two_same : {X : Type 0} (R : X → X → Type 0) → ((x : X) → R x x) →
 two_same R same [] = tt
 two_same R same (x ∷ xs) = (same x, two_same R same xs)
 
-two_set : {X : Type 0} (R : X → X → Type 0) → ((x : X) → R x x) → (xs : List X) (i : ℕ) (d y : X)
-    → R (get_or xs i d) y → AllZip R xs (set xs i y)
-two_set R same (x ∷ xs) zero d y r = (r, two_same R same xs)
-two_set R same (x ∷ xs) (suc i) d y r = (same x, two_set R same xs i d y r)
-two_set R same xs i d y r = grind arith
+pub two_put : {X Y : Type 0} (R : X → Y → Type 0) (xs : List X) (ys : List Y) (i : ℕ) (d : X) (y : Y) → AllZip R xs ys
+    → R (get_or xs i d) y → AllZip R xs (set ys i y)
+two_put R (x ∷ xs) (z ∷ ys) (suc i) d y h r = grind (arith, two_put R xs ys i)
+two_put R xs ys i d y h r = grind arith
 
 two_trans : {X : Type 0} (R : X → X → Type 0) → ((x y z : X) → R x y → R y z → R x z) → (xs ys zs : List X)
     → AllZip R xs ys → AllZip R ys zs → AllZip R xs zs
@@ -73,7 +72,7 @@ module _ {S : Type 0} (text : S → Option (List ℕ)) (extent gave : S → ℕ)
       (inside : i < length ss) where
     pub moved_set : Move (get_or ss i a, get_or fs i b) (s, f) → AllZip Move (zip ss fs) (zip (set ss i s) (set fs i f))
     moved_set m =
-        rw (zip_set ss fs i s f) (two_set Move move_not (zip ss fs) i (a, b) (s, f) (grind (arith, zip_at)))
+        rw (zip_set ss fs i s f) (two_put Move (zip ss fs) (zip ss fs) i (a, b) (s, f) (moved_still (zip ss fs)) (grind (arith, zip_at)))
 
     -- how many bytes weren't read
     pub unread_set : unread extent (set ss i s) (set fs i f) + (extent (get_or ss i a) - (get_or fs i b).cursor.at)

@@ -25,7 +25,7 @@ use Rattle.merge_core.proofs.MergeLemmas.{place_below}
 
 -- ---- lists
 
-falls_after : (us : List Member) (y : Member) (vs : List Member) → NeverFalls member_pair pair_cmp (us ++ y ∷ vs)
+pub falls_after : (us : List Member) (y : Member) (vs : List Member) → NeverFalls member_pair pair_cmp (us ++ y ∷ vs)
     → AllByRecursion (λ k. Upto (member_pair y) (member_pair k)) vs
 falls_after [] y vs h = h.0
 falls_after (u ∷ us) y vs h = falls_after us y vs h.1

@@ -30,7 +30,7 @@ in_later x (u ∷ us) vs h = inr (in_later x us vs h)
 
 module _ (limit : ℕ) where
   -- each of these entries is that of one of these lines
-  each_entry : (ls all : List (List ℕ)) (ms : List Member) → map (line_entry limit) ls ≡ map Some ms
+  pub each_entry : (ls all : List (List ℕ)) (ms : List Member) → map (line_entry limit) ls ≡ map Some ms
       → ((l : List ℕ) → IsIn l ls → IsIn l all)
       → AllByRecursion (λ m. (line : List ℕ) × IsIn line all × (line_entry limit line ≡ Some m)) ms
   each_entry (l ∷ ls) all (m ∷ ms) e f = grind (arith, each_entry ls all ms)

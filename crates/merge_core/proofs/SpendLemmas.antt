@@ -104,11 +104,6 @@ pub opened_none : {S : Type 0} (text : S → Option (List ℕ)) (extent gave : S
     → AllZip (λ x y. OpenedWithin (text x) (extent x) (gave x) (gave y)) ss ss
 opened_none text extent gave = grind (arith, two_same)
 
-pub two_put : {X Y : Type 0} (R : X → Y → Type 0) (xs : List X) (ys : List Y) (i : ℕ) (d : X) (y : Y) → AllZip R xs ys
-    → R (get_or xs i d) y → AllZip R xs (set ys i y)
-two_put R (x ∷ xs) (z ∷ ys) (suc i) d y h r = grind (arith, two_put R xs ys i)
-two_put R xs ys i d y h r = grind arith
-
 -- what is left of a list that was gone over up to an index
 pub left_here : {X : Type 0} (old xs : List X) (i : ℕ) (d : X) → drop i xs ≡ drop i old → get_or xs i d ≡ get_or old i d
 left_here old xs i d e = let was = get_or-drop i old 0 d in let now = get_or-drop i xs 0 d in grind arith

@@ -113,9 +113,7 @@ module _ {past : List ℕ → Bool} {wanted : Member → Bool} {b : Option Pair}
   -- what was taken stands below this pair, and the lines that wait don't
   module _ (next : Pair) (later : IsAbove b next) (least : AllByRecursion (λ w. Upto next (waiting_pair w)) ws) where
     not_low : (k : Member) → Upto next (member_pair k) → is_low next k ≡ false
-    not_low k u =
-        let turned = pair_cmp_total.antisymm (member_pair k) next in
-        grind (arith, ordering_reverse)
+    not_low k u = grind (arith, pair_cmp_total.antisymm (member_pair k) next)
 
     from_next : (m : Member) → (is_read past (is_low next) m ≡ false) × (wanted m ≡ true) → (wanted m ≡ true)
         × Upto next (member_pair m)

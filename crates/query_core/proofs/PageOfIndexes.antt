@@ -34,7 +34,7 @@ use Rattle.std.proofs.lemmas.Bool.{and_parts}
 use Rattle.cdxj_places.specs.Rising.{IsIn}
 use Rattle.cdxj_places.specs.TextLines.{lines}
 use Rattle.cdxj_core.proofs.MemberLemmas.{entry_pair_is}
-use Rattle.merge_core.proofs.SourceLemmas.{taken_lines}
+use Rattle.merge_core.proofs.SourceLemmas.{each_entry, taken_lines}
 use Rattle.std.specs.Char.{is_ascii_digit}
 use Rattle.std.specs.Ordering.{ordering_then}
 use Rattle.std.specs.Cmp.Lexicographic.{slice_cmp}
@@ -57,12 +57,11 @@ digit_least : (b : ℕ) → is_ascii_digit b ≡ true → 48 ≤ b
 digit_least b h = grind (arith, nat_tests)
 
 least : (n : ℕ) (s : List ℕ) → length s ≡ n → All (λ b. 48 ≤ b) s → is_gt (slice_cmp nat_cmp (replicate n 48) s) ≡ false
-least n [] e h = grind arith
-least zero (b ∷ s) e h = absurd (omega arith)
 least (suc n) (b ∷ s) e h =
     let k = All-head (λ b. 48 ≤ b) b s h in
     let rest = least n s (omega arith) (All-tail (λ b. 48 ≤ b) b s h) in
     grind arith
+least n s e h = grind arith
 
 stamp_not_below : (stamp : List ℕ) → is_stamp stamp ≡ true → is_gt (slice_cmp nat_cmp first_stamp stamp) ≡ false
 stamp_not_below stamp h = grind (arith, least, eqb-true, and_parts, digit_least)
@@ -91,13 +90,6 @@ line_stamp limit t m h =
         × (stamp ≡ pair.1)
     some_pair b key stamp pair e = grind arith
 
-entries_are : (limit : ℕ) (t : List ℕ) (ls : List (List ℕ)) (ms : List Member)
-    → ((l : List ℕ) → IsIn l ls → IsIn l (lines t)) → map (line_entry limit) ls ≡ map Some ms
-    → AllByRecursion (IsLineIn limit t) ms
-entries_are limit t ls [] sub e = grind arith
-entries_are limit t [] (m ∷ ms) sub e = cc
-entries_are limit t (l ∷ ls) (m ∷ ms) sub e = grind (arith, entries_are limit t ls ms)
-
 -- every line has a stamp
 stamped : (f : Member → Bool) (xs : List Member) → AllByRecursion (λ m. is_stamp m.values.stamp ≡ true) xs
     → filter (λ m. f m && is_stamp m.values.stamp) xs ≡ filter f xs
@@ -106,22 +98,20 @@ stamped f (x ∷ xs) h = grind (arith, stamped f xs)
 
 index_stamps : (texts : List (List ℕ)) (indexes : List (List Member)) → AllZip (IsIndex LINE_LIMIT) texts indexes
     → AllByRecursion (λ m. is_stamp m.values.stamp ≡ true) (all_lines indexes)
-index_stamps [] indexes are = grind arith
-index_stamps (t ∷ ts) [] are = absurd are
 index_stamps (t ∷ ts) (i ∷ is) are =
-    let lines : AllByRecursion (IsLineIn LINE_LIMIT t) i = grind (arith, entries_are) in
+    let lines : AllByRecursion (IsLineIn LINE_LIMIT t) i = each_entry LINE_LIMIT (lines t) (lines t) i are.0.entries (λ l h. h) in
     let here = each_weaker (λ (m : Member). line_stamp LINE_LIMIT t m) i lines in
     grind (arith, each_join, index_stamps ts is)
+index_stamps texts indexes are = grind arith
 
 -- a line of sources that tell their bytes has one
 known_stamp : (told : List (Option (List ℕ))) (texts : List (List ℕ)) (m : Member) → Known told texts
     → IsLineOf LINE_LIMIT told m → is_stamp m.values.stamp ≡ true
-known_stamp [] texts m k h = grind arith
-known_stamp (o ∷ os) [] m k h = absurd k
 known_stamp (o ∷ os) (t ∷ ts) m k h = elim (rw k.0 at h) [
   | inl here ↦ line_stamp LINE_LIMIT t m here
   | inr later ↦ known_stamp os ts m k.1 later
 ]
+known_stamp told texts m k h = grind arith
 
 -- ---- what was taken
 

@@ -9,6 +9,8 @@ use Rattle.cdxj_core.specs.Members.{Member, member_pair, line_entry}
 use Rattle.cdxj_core.specs.Indexes.{IsIndex}
 use Rattle.source_core.specs.LinesAtFault.{IsBadLine, IsOutOfOrder}
 use Rattle.merge_core.specs.Collections.{Known}
+use Rattle.merge_core.proofs.ReadLines.{falls_after}
+use Rattle.merge_core.specs.PairOrders.{Upto}
 use Rattle.query_core.specs.declared.fault.AnswerFault.TheVariants as fault
 use Rattle.query_core.specs.QueryLaws.{NoLineIsAtFault}
 
@@ -45,15 +47,10 @@ module _ (limit : ℕ) where
       let found = entries_at bad.before bad.line bad.begins.after members in
       grind arith
 
-  stays : (us : List Member) (m : Member) (vs : List Member) → NeverFalls member_pair pair_cmp (us ++ m ∷ vs)
-      → AllByRecursion (λ v. is_gt (pair_cmp (member_pair m) (member_pair v)) ≡ false) vs
-  stays [] m vs h = grind arith
-  stays (u ∷ us) m vs h = stays us m vs h.1
-
   next_stays : (m : Member) (line : List ℕ) (after : List (List ℕ)) (later : List Member) (n : Member)
       → map (line_entry limit) (line ∷ after) ≡ map Some later
-      → AllByRecursion (λ v. is_gt (pair_cmp (member_pair m) (member_pair v)) ≡ false) later
-      → line_entry limit line ≡ Some n → is_gt (pair_cmp (member_pair m) (member_pair n)) ≡ false
+      → AllByRecursion (λ v. Upto (member_pair m) (member_pair v)) later
+      → line_entry limit line ≡ Some n → Upto (member_pair m) (member_pair n)
   next_stays m line after [] n e all is = cc
   next_stays m line after (v ∷ later) n e all is = grind arith
 
@@ -63,7 +60,7 @@ module _ (limit : ℕ) where
       let cut = out.begins.lines_are ∙ append_assoc out.before (out.previous ∷ []) (out.line ∷ out.begins.after) in
       let first = entries_at out.before out.previous (out.line ∷ out.begins.after) members
       (rw cut at index.entries) in
-      let ordered = stays first.earlier first.member first.later (rw first.split at index.ordered) in
+      let ordered = falls_after first.earlier first.member first.later (rw first.split at index.ordered) in
       grind (arith, next_stays)
 
   -- the source with this number tells the bytes of an index

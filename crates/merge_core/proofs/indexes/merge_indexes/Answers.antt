@@ -93,50 +93,43 @@ returns-in_err-merge-clause-lines g c =
     let b = c.in_err-merge.ensures.broke in
     grind (arith, err_from_is_err_and, lines, broke)
 
-pub returns-clause-part : goal.returns-clause-part
-returns-clause-part g c =
-    let at = goal.at.returns-clause-part g c in
-    front g at.After-merge c.in_ok-merge.ensures.passed.so_far.reached _ _
-    (rw append-nil at (prefix_whole _ _ _ [] (wrote g at.In_ok-merge).0))
-
-pub returns-clause-lines : goal.returns-clause-lines
-returns-clause-lines g c =
-    let at = goal.at.returns-clause-lines g c in
-    let w = c.in_ok-merge.ensures.passed.so_far in (w.taken, grind (arith, lines), wrote g at.In_ok-merge)
-
 pub returns-in_err-merge-clause-kept : goal.returns-in_err-merge-clause-kept
 returns-in_err-merge-clause-kept g c = grind (arith, texts_kept, extents_kept)
 
-pub returns-clause-kept : goal.returns-clause-kept
-returns-clause-kept g c = grind (arith, texts_kept, extents_kept)
-
-pub returns-clause-merged : goal.returns-clause-merged
-returns-clause-merged g c = λ texts known.
-    let at = goal.at.returns-clause-merged g c in
+pub returns : goal.returns
+returns g c =
+    let at = goal.at.returns g c in
     let text = g.S.Source.text in let extent = g.S.Source.extent in
     let sources = c.merge.new.sources in let feeds = c.merge.new.streams.feeds.items in
     let opened = c.in_ok-opened.ensures in
     let passed = c.in_ok-merge.ensures.passed in
+    let taken = passed.so_far.taken in
     let reached = passed.so_far.reached in
-    let kept : map text sources ≡ map text c.args.sources.now = grind (arith, texts_kept) in
-    let empty : c.merge.new.streams.waiting ≡ [] = grind (arith, cases_Bool) in
-    let starts = starts_kept _ _ _ _ _ _ _ opened.ready.same reached.ready.same c.merge.ensures.moved
-    (opened.start refl refl) in
-    let all : passed.so_far.taken ≡ collection (its_lines LINE_LIMIT never (λ key. refl) text extent sources feeds) =
-    (reached.handed.told (told_known _ _ texts (rw (← opened.text) at known))).0
-    ∙ ap (rising member_place place_cmp) (all_lines_are LINE_LIMIT never (λ key. refl) text extent sources feeds) in
-    record {
-      indexes = its_lines LINE_LIMIT never (λ key. refl) text extent sources feeds;
-      are = are_read LINE_LIMIT never (λ key. refl) text extent 0 sources feeds texts reached.ready.same
-          (rw (← kept) at known) starts reached.settled (rw empty at reached.ready.fed);
-      text = rw (← all) (wrote g at.In_ok-merge).0;
-      count = rw (← all) (wrote g at.In_ok-merge).1;
-    }
-
-pub returns-clause-held : goal.returns-clause-held
-returns-clause-held g c = λ texts indexes known are most share.
-    let opened = c.in_ok-opened.ensures in
-    let few = c.merge.ensures.held texts indexes (rw (← opened.text) at known) are most share
-    (omega (arith, opened.held)) in
+    let wrote = wrote g at.In_ok-merge in
     let same = ap length opened.extent in
-    grind (arith, length-map)
+    record {
+      kept = grind (arith, texts_kept, extents_kept);
+      failures = grind arith;
+      fault = grind arith;
+      merged = λ texts known.
+          let kept : map text sources ≡ map text c.args.sources.now = grind (arith, texts_kept) in
+          let empty : c.merge.new.streams.waiting ≡ [] = grind (arith, cases_Bool) in
+          let starts = starts_kept _ _ _ _ _ _ _ opened.ready.same reached.ready.same c.merge.ensures.moved
+          (opened.start refl refl) in
+          let all : taken ≡ collection (its_lines LINE_LIMIT never (λ key. refl) text extent sources feeds) =
+          (reached.handed.told (told_known _ _ texts (rw (← opened.text) at known))).0
+          ∙ ap (rising member_place place_cmp) (all_lines_are LINE_LIMIT never (λ key. refl) text extent sources feeds) in
+          record {
+            indexes = its_lines LINE_LIMIT never (λ key. refl) text extent sources feeds;
+            are = are_read LINE_LIMIT never (λ key. refl) text extent 0 sources feeds texts reached.ready.same
+                (rw (← kept) at known) starts reached.settled (rw empty at reached.ready.fed);
+            text = rw (← all) wrote.0;
+            count = rw (← all) wrote.1;
+          };
+      part = front g at.After-merge reached _ _ (rw append-nil at (prefix_whole _ _ _ [] wrote.0));
+      lines = (taken, grind (arith, lines), wrote);
+      held = λ texts indexes known are most share.
+          let few = c.merge.ensures.held texts indexes (rw (← opened.text) at known) are most share
+          (omega (arith, opened.held)) in
+          grind (arith, length-map);
+    }

@@ -84,7 +84,6 @@ pub loop-rest-preserved : goal.loop-rest-preserved
 loop-rest-preserved g c =
     let here = (goal.at.loop-rest-preserved g c).After-hand_on in
     let now = reached g here in
-    let same = order g here in
     let few = held g here c.put_back.new.self.held c.put_back.ensures.held in
     grind arith
 

@@ -18,11 +18,6 @@ use Rattle.merge_core.proofs.feed.Feed.drain.Given.{Over}
 use Rattle.merge_core.proofs.feed.Feed.drain.Goals.{After-compare_pairs}
 use Rattle.merge_core.proofs.feed.Feed.drain.Goals as goal
 
-pub returns-in-Greater-clause-later : goal.returns-in-Greater-clause-later
-returns-in-Greater-clause-later g c =
-    let turned = pair_cmp_total.antisymm (member_pair c.args.first.now) (member_pair c.in-Some.line.value) in
-    grind arith
-
 -- a line was read that isn't below the first one
 was_read : (g : Over) (c : After-compare_pairs g) (f : Feed) → f.cursor ≡ c.next_line.new.cursor
     → is_lt c.compare_pairs.result ≡ false
@@ -38,18 +33,14 @@ was_read g c f is not_less =
     (c.loop-line.invariant.low t (cc)) in
     grind arith
 
-pub returns-in-Greater-clause-fed : goal.returns-in-Greater-clause-fed
-returns-in-Greater-clause-fed g c =
-    let here = goal.at.returns-in-Greater-clause-fed g c in
-    fed_more (was_read g here.After-compare_pairs c.settle.new.self c.settle.ensures.cursor (grind arith)) _
-    (inl c.settle.ensures.next)
-
-pub returns-in-Greater-clause-taken : goal.returns-in-Greater-clause-taken
-returns-in-Greater-clause-taken g c = λ t e.
-    let here = goal.at.returns-in-Greater-clause-taken g c in
-    let same = done_next (was_read g here.After-compare_pairs c.settle.new.self c.settle.ensures.cursor (grind arith)) _
-    c.settle.ensures.next t in
-    let h = c.loop-line.invariant.taken t e in (h.0, same ∙ h.1, h.2, h.3)
+pub returns-in-Greater : goal.returns-in-Greater
+returns-in-Greater g c =
+    let inv = c.loop-line.invariant in
+    let turned = pair_cmp_total.antisymm (member_pair c.args.first.now) (member_pair c.in-Some.line.value) in
+    let here = goal.at.returns-in-Greater g c in
+    let read = was_read g here.After-compare_pairs c.settle.new.self c.settle.ensures.cursor (grind arith) in
+    let fed = fed_more read _ (inl c.settle.ensures.next) in
+    grind (arith, read_to inv.fed, done_next read _ c.settle.ensures.next)
 
 pub loop-line-preserved : goal.loop-line-preserved
 loop-line-preserved g c =
@@ -90,15 +81,15 @@ returns-in_err-line-clause-fault g c = λ t e.
     let fed = rw (c.loop-line.invariant.text ∙ e) at c.loop-line.invariant.fed in
     grind (arith, if_err, bad_named fed)
 
+pub returns-in_err-line-clause-reads : goal.returns-in_err-line-clause-reads
+returns-in_err-line-clause-reads g c = grind (arith, read_to c.loop-line.invariant.fed)
+
 pub returns-in-Less-clause-fault : goal.returns-in-Less-clause-fault
 returns-in-Less-clause-fault g c = λ t e.
     let inv = c.loop-line.invariant in
     rw (← inv.begin) at (order_named (rw (inv.text ∙ e) at inv.fed) (member_pair c.args.first.now)
     c.next_line.new.cursor
     c.in-Some.line.value inv.due (inv.last t e) (rw c.in-Some.is at (c.in_ok-line.ensures.next t (cc))) (grind arith))
-
-pub returns-in_err-line-clause-reads : goal.returns-in_err-line-clause-reads
-returns-in_err-line-clause-reads g c = grind (arith, read_to c.loop-line.invariant.fed)
 
 pub returns-in-Less-clause-reads : goal.returns-in-Less-clause-reads
 returns-in-Less-clause-reads g c = grind (arith, read_to c.loop-line.invariant.fed)
@@ -108,6 +99,3 @@ returns-in_err-push-in-Equal-clause-reads g c = grind (arith, read_to c.loop-lin
 
 pub returns-clause-reads : goal.returns-clause-reads
 returns-clause-reads g c = grind (arith, read_to c.loop-line.invariant.fed)
-
-pub returns-in-Greater-clause-reads : goal.returns-in-Greater-clause-reads
-returns-in-Greater-clause-reads g c = grind (arith, read_to c.loop-line.invariant.fed)

@@ -5,10 +5,10 @@ use Rattle.std.proofs.lemmas.Slice.Zip.{all_zipped_more}
 use Rattle.std.proofs.lemmas.List.{take_all, take_more}
 use Rattle.cdxj_core.specs.declared.limit.TheConstants.{LINE_LIMIT}
 use Rattle.source_core.specs.Halving.{digits}
-use Rattle.merge_core.proofs.SpendLemmas.{opened_none, two_put, left_here, left_after}
+use Rattle.merge_core.proofs.SpendLemmas.{opened_none, left_here, left_after}
 use Rattle.merge_core.proofs.FailLemmas.{raised_by_feed}
 use Rattle.cdxj_places.proofs.RisingLaws.{each_join}
-use Rattle.merge_core.proofs.Many.{map_set_same}
+use Rattle.merge_core.proofs.Many.{map_set_same, two_put}
 use Rattle.std.proofs.lemmas.Simd.{map-map}
 use Rattle.merge_core.proofs.OpenLemmas.{fed_nil, fed_added, zip_none, zip_push, fresh_of, sum_turn}
 use Rattle.merge_core.proofs.streams.Streams.open_at.Goals as goal
@@ -63,14 +63,10 @@ returns-in-Err-clause-spent g c =
     c.loop-i.invariant.left in
     grind (arith, two_put)
 
-pub returns-clause-came : goal.returns-clause-came
-returns-clause-came g c = grind (arith, take_all)
-
-pub returns-clause-probes : goal.returns-clause-probes
-returns-clause-probes g c =
+pub returns : goal.returns
+returns g c =
     let inv = c.loop-i.invariant in
     let e = g.S.Source.extent in
-    let whole = ap (λ us. sum (map (λ s. digits (e s)) us))
-    (take_all c.loop-i.i c.loop-i.sources (omega (arith, ap length inv.extent, inv.count))) in
+    let whole = take_all c.loop-i.i c.loop-i.sources (omega (arith, ap length inv.extent, inv.count)) in
     let same = ap sum (simp map-map at (ap (map digits) inv.extent)) in
-    grind arith
+    grind (arith, take_all)
