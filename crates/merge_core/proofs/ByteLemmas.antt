@@ -1,18 +1,18 @@
 -- How many bytes indexes gave.
 use Rattle.std.specs.List.{AllZip, AllByRecursion}
-use Rattle.std.proofs.Common.{◌≡◌, ℕ, ◌≤◌, List, ◌∷◌, ◌++◌, length, map, filter, zip, Bool, true, false, Option, Some}
+use Rattle.std.proofs.Common.{◌≡◌, ℕ, ◌≤◌, List, ◌∷◌, ◌++◌, length, map, filter, zip, Bool, false, Option, Some}
 use Rattle.std.proofs.Common.{ap, ◌∙◌, arith, length-append, length-take}
 use Rattle.std.proofs.lemmas.List.{map-append}
 use Rattle.std.proofs.lemmas.List.Concat.{flat_map-append}
 use Rattle.std.proofs.lemmas.List.Elements.{filter-append}
 use Rattle.cdxj_places.specs.Pairs.{Pair}
 use Rattle.cdxj_core.specs.Indexes.{IsIndex}
-use Rattle.cdxj_core.specs.Members.{Member, line_row, member_pair, line_entry}
+use Rattle.cdxj_core.specs.Members.{Member, line_row, line_entry}
 use Rattle.cdxj_core.proofs.MemberLemmas.{entered}
 use Rattle.source_core.specs.Cursors.{CursorState}
 use Rattle.source_core.specs.Search.{IsCut}
 use Rattle.merge_core.specs.declared.feed.Feed.{Feed}
-use Rattle.line_queue.specs.PairOrders.{IsUpto, is_low}
+use Rattle.line_queue.specs.PairOrders.{is_low}
 use Rattle.merge_core.specs.Collections.{Known}
 use Rattle.merge_core.specs.Feeds.{bytes_of}
 use Rattle.merge_core.specs.Openings.{IsCutAt}

@@ -1,7 +1,6 @@
 -- Which device failed.
 use Rattle.std.proofs.lemmas.List.{get_or-map, length-map, map-set}
-use Rattle.std.proofs.Common.{◌≡◌, ℕ, ◌<◌, List, arith, length, map, get_or, set, Result}
-use Rattle.std.proofs.Common.{IfErr, IsErrAnd}
+use Rattle.std.proofs.Common.{◌≡◌, ℕ, ◌<◌, List, arith, length, map, get_or, set, Result, IfErr, IsErrAnd}
 use Rattle.merge_core.specs.declared.fault.FeedFault.{FeedFault}
 use Rattle.merge_core.specs.declared.fault.MergeFault.TheVariants as fault
 use Rattle.merge_core.specs.Failures.{RaisedByFeed, RaisedByRead}

@@ -1,6 +1,6 @@
 -- Lists of sources and feeds, seen as one list of pairs.
 use Rattle.std.specs.List.{AllZip, AllByRecursion}
-use Rattle.std.proofs.Common.{◌≡◌, ℕ, zero, suc, ◌+◌, ◌-◌, ◌<◌, List, [], ◌∷◌, ap, arith, Option}
+use Rattle.std.proofs.Common.{◌≡◌, ℕ, suc, ◌+◌, ◌-◌, ◌<◌, List, [], ◌∷◌, ap, arith, Option}
 use Rattle.std.proofs.Common.{Some, true, length, get_or, set, map, zip}
 use Rattle.std.specs.Option.{is_some}
 use Rattle.std.proofs.lemmas.List.{get_or-map, map-set, set-get_or}

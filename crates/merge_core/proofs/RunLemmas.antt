@@ -1,6 +1,6 @@
 -- What was taken of sources of any bytes, beside the lines that were read of them.
 use Rattle.std.specs.List.{AllByRecursion, AllZip, sum}
-use Rattle.std.proofs.Common.{◌≡◌, ℕ, ◌+◌, List, [], ◌∷◌, length, drop, map, filter, Bool, true, not, Option, Some}
+use Rattle.std.proofs.Common.{◌≡◌, ℕ, ◌+◌, List, [], ◌∷◌, length, drop, map, filter, Bool, true, Option, Some}
 use Rattle.std.proofs.Common.{refl, ap, arith, take-append-drop, append_assoc}
 use Rattle.std.proofs.lemmas.List.{length-map, nil_from_length}
 use Rattle.std.proofs.lemmas.List.Sums.{sum_by-cons}
@@ -10,7 +10,7 @@ use Rattle.cdxj_core.specs.Members.{Member}
 use Rattle.merge_core.specs.declared.feed.Feed.{Feed}
 use Rattle.line_queue.specs.WaitingLines.{WaitingLine, waits_of}
 use Rattle.merge_core.specs.Collections.{Known, all_lines, collection}
-use Rattle.merge_core.specs.Feeds.{AreFed, AreSettled, IsSettled, Fed, done, given, member_of, read_lines}
+use Rattle.merge_core.specs.Feeds.{AreFed, AreSettled, IsSettled, Fed, done, given, read_lines}
 use Rattle.merge_core.specs.Gathering.{AreTold, text_or, all_done}
 use Rattle.merge_core.specs.Reached.{Reached}
 use Rattle.merge_core.specs.Runs.{IsPart, parts}

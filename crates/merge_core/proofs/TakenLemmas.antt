@@ -1,5 +1,5 @@
 -- What was taken of lines, beside all that is wanted of them.
-use Rattle.std.proofs.Common.{arith, ◌≡◌, ℕ, List, [], ◌∷◌, ◌++◌, filter, Bool, true, false, not, ◌&&◌}
+use Rattle.std.proofs.Common.{arith, ◌≡◌, ℕ, List, [], ◌∷◌, ◌++◌, filter, Bool, true, false, not}
 use Rattle.std.proofs.Common.{Option, None, Some, refl, sym, ap, ◌∙◌, append-nil, is_gt, is_lt}
 use Rattle.std.proofs.lemmas.Bool.{and_cases, not-false, not-true, true≢false}
 use Rattle.std.specs.List.{AllByRecursion}
@@ -16,8 +16,7 @@ use Rattle.line_queue.specs.PairOrders.{Below, Upto, IsAbove, IsUpto, is_low}
 use Rattle.line_queue.specs.WaitingLines.{WaitingLine, waiting_pair}
 use Rattle.line_queue.proofs.PairOrder.{below_then, then_below, from_not_below, upto_upto}
 use Rattle.merge_core.proofs.MergeLemmas.{place_below, below_next, is_less}
-use Rattle.merge_core.proofs.ReadLines.{wanted_parts, IsUpward, stays, is_read, IsLate, stays_lower}
-use Rattle.merge_core.proofs.ReadLines.{wanted_low}
+use Rattle.merge_core.proofs.ReadLines.{wanted_parts, IsUpward, stays, is_read, IsLate, stays_lower, wanted_low}
 
 -- ---- what stands above a bound
 

@@ -1,7 +1,7 @@
 -- What was taken of indexes, beside all that is wanted of their collection.
 use Rattle.query_core.proofs.AskedLemmas.{captures}
 use Rattle.std.proofs.Common.{arith, ◌≡◌, inl, inr, ℕ, List, [], ◌∷◌, ◌++◌, length, map, filter, zip, Bool, true, false}
-use Rattle.std.proofs.Common.{not, ◌&&◌, Option, refl, cond, Some, None, zero, suc, ◌≤◌, Ordering, nat_cmp, is_gt}
+use Rattle.std.proofs.Common.{not, ◌&&◌, Option, refl, cond, Some, None, suc, ◌≤◌, Ordering, nat_cmp, is_gt}
 use Rattle.std.proofs.Common.{All, eqb-true, replicate}
 use Rattle.std.specs.List.{AllZip, AllByRecursion}
 use Rattle.cdxj_places.specs.Pair.{is_stamp, key_part, stamp_part, begins_with_pair}
@@ -10,7 +10,7 @@ use Rattle.cdxj_places.proofs.PlaceOrder.{place_cmp_total}
 use Rattle.cdxj_places.proofs.RisingLaws.{each_weaker, each_rising, each_join}
 use Rattle.cdxj_core.specs.declared.limit.TheConstants.{LINE_LIMIT}
 use Rattle.cdxj_core.specs.Indexes.{IsIndex}
-use Rattle.cdxj_core.specs.Members.{Member, member_pair, line_entry, member_place}
+use Rattle.cdxj_core.specs.Members.{Member, member_pair, member_place}
 use Rattle.query_text.specs.Queries.{QueryValue}
 use Rattle.query_text.specs.Matching.{is_past}
 use Rattle.query_text.proofs.RangeLaw.{past_upward, match_not_below}
@@ -31,7 +31,6 @@ use Rattle.merge_core.proofs.WholeLemmas.{told_known}
 use Rattle.query_core.specs.Starts.{start_pair, first_stamp, later_pair}
 use Rattle.page_writers.proofs.CaptureLemmas.{kept_after, captures_split}
 use Rattle.std.proofs.lemmas.Bool.{and_parts}
-use Rattle.cdxj_places.specs.Rising.{IsIn}
 use Rattle.cdxj_places.specs.TextLines.{lines}
 use Rattle.cdxj_core.proofs.MemberLemmas.{entry_pair_is}
 use Rattle.merge_core.proofs.SourceLemmas.{each_entry, taken_lines}

@@ -1,6 +1,6 @@
 -- What was read of indexes, beside the reach of a page.
 use Rattle.std.proofs.Common.{◌≡◌, ℕ, zero, suc, ◌≤◌, List, [], ◌∷◌, ◌++◌, length, map, filter, zip, Bool, true, false}
-use Rattle.std.proofs.Common.{not, Option, Some, refl, sym, ap, ◌∙◌, arith, min, ◌-◌, ◌^◌, append_assoc}
+use Rattle.std.proofs.Common.{not, Option, Some, refl, ap, arith, min, ◌-◌, ◌^◌, append_assoc}
 use Rattle.std.proofs.Common.{append-nil, nat_cmp, is_gt, is_lt}
 use Rattle.std.specs.List.{AllByRecursion, sum, AllZip}
 use Rattle.std.specs.Cmp.Lexicographic.{slice_cmp}
@@ -26,7 +26,6 @@ use Rattle.merge_core.specs.declared.feed.Feed.{Feed}
 use Rattle.merge_core.specs.PairOrders.{Alike, IsAbove, IsUpto, Upto, is_low}
 use Rattle.merge_core.specs.WaitingLines.{waiting_pair}
 use Rattle.merge_core.specs.Collections.{Known, OverIndexes, OverTexts, collection}
-use Rattle.merge_core.specs.Openings.{IsCutAt}
 use Rattle.merge_core.specs.Runs.{parts}
 use Rattle.merge_core.specs.Spending.{AllGaveWithin, AreReadTo, OpenedWithin}
 use Rattle.merge_core.proofs.CountLemmas.{Passes, lines_most}

@@ -1,9 +1,7 @@
 -- Of an index no line is at fault.
 use Rattle.std.specs.List.{AllZip, AllByRecursion}
 use Rattle.std.proofs.Common.{◌≡◌, ◌<◌, ℕ, List, [], ◌∷◌, ◌++◌, length, get_or, map, Option, None, Some, arith, refl}
-use Rattle.std.proofs.Common.{◌∙◌, append_assoc, false, is_gt}
-use Rattle.cdxj_places.specs.Pairs.{pair_cmp}
-use Rattle.cdxj_places.specs.Rising.{NeverFalls}
+use Rattle.std.proofs.Common.{◌∙◌, append_assoc}
 use Rattle.cdxj_core.specs.declared.limit.TheConstants.{LINE_LIMIT}
 use Rattle.cdxj_core.specs.Members.{Member, member_pair, line_entry}
 use Rattle.cdxj_core.specs.Indexes.{IsIndex}

@@ -1,6 +1,6 @@
 use Rattle.std.specs.List.{sum}
 use Rattle.std.proofs.lemmas.List.Concat.{flat_map-append}
-use Rattle.std.proofs.Common.{append-nil, ◌≡◌, get_or, take, ◌<◌, length, map, sym, ap, ◌∙◌, zip, length-append, arith}
+use Rattle.std.proofs.Common.{append-nil, ◌≡◌, get_or, take, ◌<◌, length, map, ap, zip, length-append, arith}
 use Rattle.std.proofs.lemmas.Slice.Zip.{all_zipped_more}
 use Rattle.std.proofs.lemmas.List.{take_all, take_more}
 use Rattle.cdxj_core.specs.declared.limit.TheConstants.{LINE_LIMIT}
