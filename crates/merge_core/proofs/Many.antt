@@ -72,7 +72,8 @@ module _ {S : Type 0} (text : S → Option (List ℕ)) (extent gave : S → ℕ)
       (inside : i < length ss) where
     pub moved_set : Move (get_or ss i a, get_or fs i b) (s, f) → AllZip Move (zip ss fs) (zip (set ss i s) (set fs i f))
     moved_set m =
-        rw (zip_set ss fs i s f) (two_put Move (zip ss fs) (zip ss fs) i (a, b) (s, f) (moved_still (zip ss fs)) (grind (arith, zip_at)))
+        rw (zip_set ss fs i s f) (two_put Move (zip ss fs) (zip ss fs) i (a, b) (s, f) (moved_still (zip ss fs))
+        (grind (arith, zip_at)))
 
     -- how many bytes weren't read
     pub unread_set : unread extent (set ss i s) (set fs i f) + (extent (get_or ss i a) - (get_or fs i b).cursor.at)

@@ -98,8 +98,8 @@ stamped f (x ∷ xs) h = grind (arith, stamped f xs)
 index_stamps : (texts : List (List ℕ)) (indexes : List (List Member)) → AllZip (IsIndex LINE_LIMIT) texts indexes
     → AllByRecursion (λ m. is_stamp m.values.stamp ≡ true) (all_lines indexes)
 index_stamps (t ∷ ts) (i ∷ is) are =
-    let lines : AllByRecursion (IsLineIn LINE_LIMIT t) i = each_entry LINE_LIMIT (lines t) (lines t) i are.0.entries (λ l h. h) in
-    let here = each_weaker (λ (m : Member). line_stamp LINE_LIMIT t m) i lines in
+    let entries = each_entry LINE_LIMIT (lines t) (lines t) i are.0.entries (λ l h. h) in
+    let here = each_weaker (λ (m : Member). line_stamp LINE_LIMIT t m) i entries in
     grind (arith, each_join, index_stamps ts is)
 index_stamps texts indexes are = grind arith
 

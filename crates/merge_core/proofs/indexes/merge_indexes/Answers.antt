@@ -118,7 +118,8 @@ returns g c =
           (opened.start refl refl) in
           let all : taken ≡ collection (its_lines LINE_LIMIT never (λ key. refl) text extent sources feeds) =
           (reached.handed.told (told_known _ _ texts (rw (← opened.text) at known))).0
-          ∙ ap (rising member_place place_cmp) (all_lines_are LINE_LIMIT never (λ key. refl) text extent sources feeds) in
+          ∙ ap (rising member_place place_cmp)
+          (all_lines_are LINE_LIMIT never (λ key. refl) text extent sources feeds) in
           record {
             indexes = its_lines LINE_LIMIT never (λ key. refl) text extent sources feeds;
             are = are_read LINE_LIMIT never (λ key. refl) text extent 0 sources feeds texts reached.ready.same
