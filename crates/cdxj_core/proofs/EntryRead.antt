@@ -29,7 +29,7 @@ abbrev no_feed : ℕ → Bool
 no_feed b = not (b == 10)
 
 joined : (xs ys : List ℕ) → has_no_feed xs ≡ true → has_no_feed ys ≡ true → has_no_feed (xs ++ ys) ≡ true
-joined xs ys h k = list_all-append no_feed xs ys ∙ both _ _ h k
+joined xs ys h k = grind (arith, list_all-append)
 
 key_feed : (b : ℕ) → is_key_byte b ≡ true → no_feed b ≡ true
 key_feed b h = grind arith
@@ -49,14 +49,14 @@ high_escapes : (x : ℕ) → 93 ≤ x → Escapes x
 high_escapes x high = grind (arith, escape_byte_plain, ne_eqb)
 
 escapes : (x : ℕ) → Escapes x
-escapes x = ⊎_elim (low_escapes x) (high_escapes x) (cases_lt x 93)
+escapes x = grind (arith, low_escapes, high_escapes, cases_lt)
 
 escaped : (s : List ℕ) → has_no_feed (escape s) ≡ true
 escaped [] = refl
-escaped (x ∷ xs) = joined (escape_byte x) (escape xs) (escapes x) (escaped xs)
+escaped (x ∷ xs) = grind (arith, joined, escapes, escaped xs)
 
 quoted_feed : (s : List ℕ) → has_no_feed (quoted s) ≡ true
-quoted_feed s = joined (escape s) (34 ∷ []) (escaped s) refl
+quoted_feed s = grind (arith, joined, escaped)
 
 later_feed : (ms : List Pair) → has_no_feed (flat_map (λ m. (44 ∷ 32 ∷ []) ++ member_text m) ms) ≡ true
 later_feed [] = refl
@@ -97,11 +97,8 @@ line_in-body_text limit e h short =
     let stamp_free = digits_no_space e.stamp (and_parts _ _ h.stamp).1 in
     let after_key = after_first_at e.key (e.stamp ++ 32 ∷ object) key_free in
     let key_is = before_first_at e.key (e.stamp ++ 32 ∷ object) key_free in
-    let stamp_is = ap (before_first is_space) after_key ∙ before_first_at e.stamp object stamp_free in
-    let object_is = ap (after_first is_space) after_key ∙ after_first_at e.stamp object stamp_free in
+    let stamp_is = before_first_at e.stamp object stamp_free in
+    let object_is = after_first_at e.stamp object stamp_free in
     let below : length (body_text e) < limit = omega (arith, length-append (body_text e) (10 ∷ []), short) in
-    cond-true _ _ _ (both _ _ (lt-ltb (length (body_text e)) limit below) (body_feed e h))
-    ∙ (λ i. line_parts (key_is i) (stamp_is i) (object_is i))
-    ∙ cond-true _ _ _ (both _ _ h.key h.stamp)
-    ∙ ap (option_and_then (line_from e.key e.stamp)) (read_texts (entry_texts e))
-    ∙ values_read e h
+    let whole = body_feed e h in
+    grind (arith, read_texts (entry_texts e), values_read)

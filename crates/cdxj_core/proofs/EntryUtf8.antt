@@ -21,7 +21,7 @@ AreTexts [] = Unit {0}
 AreTexts (m ∷ ms) = IsUtf8 m.0 × (IsUtf8 m.1 × AreTexts ms)
 
 byte : (b : ℕ) → b < 128 → IsUtf8 (b ∷ [])
-byte b h = IsUtf8-from_ascii (b ∷ []) (grind arith)
+byte b h = grind (arith, IsUtf8-from_ascii)
 
 after : (b : ℕ) (s : List ℕ) → b < 128 → IsUtf8 s → IsUtf8 (b ∷ s)
 after b s h u = IsUtf8-append (b ∷ []) s (byte b h) u
@@ -45,8 +45,7 @@ object_utf8 m ms h =
 
 ascii_name : (s : List ℕ) → list_all (λ b. ltb b 128) s ≡ true → IsUtf8 s
 ascii_name [] h = IsUtf8-nil
-ascii_name (b ∷ s) h = let parts = and_parts (ltb b 128) (list_all (λ b. ltb b 128) s) h in
-    after b s (ltb-true b 128 parts.0) (ascii_name s parts.1)
+ascii_name (b ∷ s) h = grind (arith, after, ascii_name s)
 
 abbrev AreValues : List Pair → Type 0
 AreValues [] = Unit {0}
@@ -55,8 +54,7 @@ AreValues (m ∷ ms) = IsUtf8 m.1 × AreValues ms
 -- names of ASCII, and texts
 named : (ms : List Pair) → list_all (λ m. list_all (λ b. ltb b 128) m.0) ms ≡ true → AreValues ms → AreTexts ms
 named [] ascii values = tt
-named (m ∷ ms) ascii values = let parts = and_parts _ _ ascii in
-    (ascii_name m.0 parts.0, (values.0, named ms parts.1 values.1))
+named (m ∷ ms) ascii values = grind (arith, ascii_name, named ms)
 
 pub body_utf8 : (e : EntryValue) → IsGood e → IsUtf8 (body_text e)
 body_utf8 e h =

@@ -78,8 +78,7 @@ parses_value : (n depth : ℕ) → Parses n (ShortJson n) (value depth)
 unfolding value
 parses_value n zero = grind arith
 parses_value n (suc depth) =
-    one_level n (λ ts. items (value depth) (length ts) ts) (λ ts. members (value depth) (length ts) ts)
-    (λ ts. parses_items n (value depth) (parses_value n depth) (length ts) ts) (λ ts. parses_members n (value depth)
+    one_level n _ _ (λ ts. parses_items n (value depth) (parses_value n depth) (length ts) ts) (λ ts. parses_members n (value depth)
     (parses_value n depth) (length ts) ts)
 
 -- ---- the data that the value is
@@ -108,8 +107,8 @@ ShortData n (Data.array ds) = ⊤
 ShortData n (Data.object ms) = ShortTexts n ms
 
 short_put : (n : ℕ) (k : List ℕ) (d : Data) (ms : Members) → ShortText n d → ShortTexts n ms → ShortTexts n (put k d ms)
-short_put n k d Members.no_members h hs = (h, tt)
-short_put n k d (Members.member l e ms) h hs = grind (arith, short_put n k d ms h hs.1)
+short_put n k d Members.no_members h hs = grind arith
+short_put n k d (Members.member l e ms) h hs = grind (arith, short_put n k d ms)
 
 short_text : (n : ℕ) (j : Json) → ShortString n j → Each (ShortText n) (of_json j)
 short_text n j h = grind arith
@@ -129,16 +128,14 @@ short_last n p h = grind arith
 
 short_read : (text : List ℕ) → Each (ShortData (length text)) (read text)
 short_read text =
-    let n = length text in
-    each_then (ShortJson n) (ShortData n) of_json (short_data n) _
-    (each_then (Parsed n (ShortJson n)) (ShortJson n) (λ p. if_last p.0 p.1) (short_last n)
-    (value max_depth (tokens text)) (parses_value n max_depth (tokens text) (short_tokens text)))
+    let parsed = parses_value (length text) max_depth (tokens text) (short_tokens text) in
+    grind (arith, short_data, short_last)
 
 -- ---- the file name
 
 short_member : (n : ℕ) (k : List ℕ) (ms : Members) → ShortTexts n ms → Each (ShortText n) (get_member k ms)
 short_member n k Members.no_members h = tt
-short_member n k (Members.member l e ms) h = grind (arith, short_member n k ms h.1)
+short_member n k (Members.member l e ms) h = grind (arith, short_member n k ms)
 
 -- the file name of an object is no longer than the object's text
 filename_in : (text filename : List ℕ) (d : Data) → read text ≡ Some d → filename_value (get filename_name d) ≡

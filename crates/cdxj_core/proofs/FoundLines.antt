@@ -42,10 +42,7 @@ seven key stamp url mime status digest length offset filename = grind (arith, va
 
 members_line : (key stamp : List ℕ) (ms : Members) → line_from key stamp (object ms) ≡ found_line key stamp
     (found_of ms)
-members_line key stamp ms =
-    seven key stamp (get_member url_name ms) (get_member mime_name ms) (get_member status_name ms)
-    (get_member digest_name ms) (get_member length_name ms) (get_member offset_name ms)
-    (get_member filename_name ms)
+members_line key stamp ms = grind (arith, value_text-seen)
 
 pub line_found : (key stamp text : List ℕ) (found : FoundValue) → members_in text ≡ Some found → line_object key stamp
     text ≡ found_line key stamp found

@@ -21,9 +21,7 @@ use Rattle.cdxj_core.proofs.MemberLemmas.{written_entry, entry-higher}
 pub lines_front : (body rest : List ℕ) → has_no_feed body ≡ true → lines (body ++ 10 ∷ rest) ≡ (body ++ 10 ∷ []) ∷ lines
     rest
 lines_front [] rest h = refl
-lines_front (b ∷ body) rest h =
-    let parts = and_parts (not (b == 10)) (has_no_feed body) h in
-    grind (arith, lines_front body rest parts.1)
+lines_front (b ∷ body) rest h = grind (arith, lines_front body rest)
 
 lines_written : (limit : ℕ) (es : List EntryValue) → AllByRecursion (HasLine limit) es → lines (flat_map line_text es) ≡
     map line_text es
@@ -40,7 +38,7 @@ entries_written limit (e ∷ es) h = grind (arith, written_entry, entries_writte
 each_map : {X Y : Type 0} (f : X → Y) (A : Y → Type 0) (xs : List X) → AllByRecursion (λ x. A (f x)) xs
     → AllByRecursion A (map f xs)
 each_map f A [] h = tt
-each_map f A (x ∷ xs) h = (h.0, each_map f A xs h.1)
+each_map f A (x ∷ xs) h = grind (arith, each_map f A xs)
 
 ordered_written : (es : List EntryValue) → NeverFalls entry_pair pair_cmp es → NeverFalls member_pair pair_cmp
     (map entry_member es)
@@ -53,13 +51,7 @@ index_written limit es h k = grind (arith, lines_written, entries_written, order
 
 not_above : (x y : EntryValue) (o : Ordering) → pair_cmp (entry_pair x) (entry_pair y) ≡ o
     → is_gt (place_cmp (entry_place y) (entry_place x)) ≡ true → is_gt o ≡ false
-not_above x y Less e h = refl
-not_above x y Equal e h = refl
-not_above x y Greater e h =
-    let up : place_cmp (entry_place x) (entry_place y) ≡ Greater = grind arith in
-    let down : place_cmp (entry_place y) (entry_place x) ≡ Less = place_cmp_total.antisymm (entry_place y)
-    (entry_place x) ∙ ap ordering_reverse up in
-    absurd (true≢false (sym h ∙ ap is_gt down))
+not_above x y o e h = grind (arith, place_cmp_total.antisymm (entry_place y) (entry_place x))
 
 pub never_falls : (es : List EntryValue) → Rises entry_place place_cmp es → NeverFalls entry_pair pair_cmp es
 never_falls [] h = tt
@@ -84,11 +76,8 @@ one_index limit text these those h k = grind (arith, one_list)
 
 entries_stay : (low high : ℕ) → low ≤ high → (these : List (List ℕ)) (members : List Member) → map (line_entry low)
     these ≡ map Some members → map (line_entry high) these ≡ map Some members
-entries_stay low high up [] members e = grind arith
-entries_stay low high up (line ∷ these) [] e = cc
-entries_stay low high up (line ∷ these) (m ∷ members) e =
-    let rest : map (line_entry low) these ≡ map Some members = cc in
-    grind (arith, entry-higher, entries_stay low high up these members rest)
+entries_stay low high up (line ∷ these) (m ∷ members) e = grind (arith, entry-higher, entries_stay low high up these members)
+entries_stay low high up these members e = grind arith
 
 pub index_stays : (low high : ℕ) → low ≤ high → (text : List ℕ) (members : List Member) → IsIndex low text members
     → IsIndex high text members

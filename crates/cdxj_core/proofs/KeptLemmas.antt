@@ -42,10 +42,9 @@ pub plain_entry : (limit : ℕ) (text key rest stamp object : List ℕ) (t : Tex
     offset → 0 < length t.filename
     → line_entry limit text ≡ Some (record { values = line_value key stamp (values_of_texts t) offset; line = text })
 plain_entry limit text key rest stamp object t offset utf8 all short k r s o good_key good_stamp plain digits named =
-    body_entry limit text text key rest stamp object (line_value key stamp (values_of_texts t) offset) refl utf8 short
-    (sym (clean_feed text all)) k r s o
-    (cond-true _ _ _ (both _ _ good_key good_stamp) ∙ ap (line_object key stamp) plain.0 ∙ line_object-plain key stamp t
-    offset plain.1 digits named)
+    let feed = clean_feed text all in
+    let values = line_object-plain key stamp t offset plain.1 digits named in
+    grind (arith, body_entry limit text text key rest stamp object)
 
 plain_values : (key stamp : List ℕ) (t : TextsValue) (offset : ℕ) → offset < 2 ^ 63 → ArePlain t
     → ArePlain (texts_in (line_value key stamp (values_of_texts t) offset))

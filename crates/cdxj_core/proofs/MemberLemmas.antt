@@ -22,11 +22,7 @@ NoEntry entry = entry ≡ None
 
 pub entry_none : (limit : ℕ) (line : List ℕ) → (IsUtf8 (body_of line) → line_in limit (body_of line) ≡ None)
     → line_entry limit line ≡ None
-entry_none limit line none =
-    (elim (is_utf8 (body_of line)) as (λ b. is_utf8 (body_of line) ≡ b
-    → NoEntry (cond b (option_map (with_line (body_of line)) (line_in limit (body_of line))) None))
-    [ true ↦ (λ e. ap (option_map (with_line (body_of line))) (none (IsUtf8-from_is_utf8 _ e))) | false ↦ (λ e. refl) ])
-    refl
+entry_none limit line none = grind (arith, IsUtf8-from_is_utf8)
 
 map_is : {A B : Type 0} (g : A → B) (o : Option A) (v : B) → option_map g o ≡ Some v → (a : A) × (o ≡ Some a)
     × (g a ≡ v)
@@ -40,15 +36,7 @@ pub record Entered (limit : ℕ) (line : List ℕ) (member : Member) : Type 0 wh
 
 pub entered : (limit : ℕ) (line : List ℕ) (member : Member) → line_entry limit line ≡ Some member
     → Entered limit line member
-entered limit line member h =
-    let outer = if_test (is_utf8 (body_of line)) (option_map (with_line (body_of line)) (line_in limit (body_of line)))
-    member h in
-    let inner = map_is (with_line (body_of line)) (line_in limit (body_of line)) member outer.1 in
-    record {
-      utf8 = IsUtf8-from_is_utf8 _ outer.0;
-      values = inner.1 ∙ ap (λ m. Some m.values) inner.2;
-      body = sym (ap (λ m. m.line) inner.2);
-    }
+entered limit line member h = grind (arith, IsUtf8-from_is_utf8)
 
 pub entry_from : (limit : ℕ) (line : List ℕ) (member : Member) → Entered limit line member → line_entry limit line ≡
     Some member
@@ -56,33 +44,18 @@ entry_from limit line member h = grind (arith, is_utf8-from_IsUtf8)
 
 -- a body without a line feed is its own
 pub body_of-body : (body : List ℕ) → has_no_feed body ≡ true → body_of body ≡ body
-body_of-body [] h = refl
-body_of-body (b ∷ body) h = cond-false (get_or (b ∷ body) (length (b ∷ body) - 1) 0 == 10)
-    (take (length (b ∷ body) - 1) (b ∷ body)) (b ∷ body) (last_no_feed (b ∷ body) (length (b ∷ body) - 1) (omega arith)
-    h)
-  where
-    last_no_feed : (xs : List ℕ) (i : ℕ) → i < length xs → has_no_feed xs ≡ true → (get_or xs i 0 == 10) ≡ false
-    last_no_feed xs i l h = grind (arith, common_steps)
+body_of-body body h = grind (arith, common_steps)
 
 -- the body of a line with an entry has it too
 pub entry_of-body : (limit : ℕ) (line : List ℕ) (member : Member) → line_entry limit line ≡ Some member
     → line_entry limit (body_of line) ≡ Some member
-entry_of-body limit line member h =
-    let e = entered limit line member h in
-    let same = body_of-body (body_of line) (grind (arith, line_in-feed)) in
-    entry_from limit (body_of line) member (record {
-      utf8 = subst IsUtf8 (sym same) e.utf8;
-      values = ap (line_in limit) same ∙ e.values;
-      body = e.body ∙ sym same;
-    })
+entry_of-body limit line member h = grind (arith, line_in-feed, body_of-body)
 
 -- ---- laws
 
 pub entry-higher : (low high : ℕ) → low ≤ high → (line : List ℕ) (member : Member) → line_entry low line ≡ Some member
     → line_entry high line ≡ Some member
-entry-higher low high le line member h =
-    let e = entered low line member h in
-    entry_from high line member (record { utf8 = e.utf8; values = grind (arith, line_in-higher); body = e.body })
+entry-higher low high le line member h = grind (arith, line_in-higher)
 
 pub entry_pair_is : (limit : ℕ) (line : List ℕ) (member : Member) → line_entry limit line ≡ Some member
     → pair_of line ≡ Some (member_pair member)
@@ -90,12 +63,7 @@ entry_pair_is limit line member h = line_pair line limit member.values (entered 
 
 pub written_entry : (limit : ℕ) (e : EntryValue) → HasLine limit e → line_entry limit (line_text e) ≡ Some
     (entry_member e)
-written_entry limit e h =
-    entry_from limit (line_text e) (entry_member e) (record {
-      utf8 = line_utf8 e h.0;
-      values = line_law limit e h.0 h.1;
-      body = sym (body_of-feed (body_text e));
-    })
+written_entry limit e h = grind (arith, body_of-feed, line_utf8, line_law, is_utf8-from_IsUtf8)
 
 -- ---- reading
 
@@ -128,20 +96,12 @@ body_none limit body key rest stamp object k r s o none = grind arith
 -- a line whose body has an entry
 pub line_of_body : (limit : ℕ) (line body text : List ℕ) (member : Member) → text ≡ body → body ≡ body_of line
     → true ≡ has_no_feed body → line_entry limit text ≡ Some member → line_entry limit line ≡ Some member
-line_of_body limit line body text member same its whole h =
-    let e = entered limit text member h in
-    let bodies : body_of text ≡ body_of line = grind (arith, body_of-body) in
-    entry_from limit line member (record {
-      utf8 = subst IsUtf8 bodies e.utf8;
-      values = ap (line_in limit) (sym bodies)
-          ∙ e.values;
-      body = e.body ∙ bodies;
-    })
+line_of_body limit line body text member same its whole h = grind (arith, body_of-body)
 
 -- a body that is too long has no values
 long_has_none : (limit : ℕ) (body : List ℕ) → limit ≤ length body → line_in limit body ≡ None
 unfolding line_in
-long_has_none limit body long = rw (le-ltb (length body) limit long) refl
+long_has_none limit body long = grind arith
 
 -- a line that is too long has no entry
 pub long_line_none : (limit : ℕ) (line : List ℕ) → limit ≤ length (body_of line) → line_entry limit line ≡ None

@@ -24,10 +24,7 @@ key_byte b h = grind arith
 all_both : (p q : ℕ → Bool) (xs : List ℕ) → list_all p xs ≡ true → list_all q xs ≡ true → list_all (λ b. p b && q b) xs
     ≡ true
 all_both p q [] h k = refl
-all_both p q (x ∷ xs) h k =
-    let left = and_parts (p x) (list_all p xs) h in
-    let right = and_parts (q x) (list_all q xs) k in
-    grind (arith, all_both p q xs left.1 right.1)
+all_both p q (x ∷ xs) h k = grind (arith, all_both p q xs)
 
 byte_is_ascii : (b : ℕ) → is_unescaped_ascii b ≡ true → nat_lt b 128 ≡ true
 byte_is_ascii b h = grind arith
@@ -41,17 +38,14 @@ clean_feed = weaker is_clean (λ b. not (b == 10)) byte_is_no_feed
 -- what stands before the first space of a clean text is a key, if it is not empty
 pub clean_key : (key : List ℕ) → list_all is_clean key ≡ true → list_all (is_other 32) key ≡ true → 0 < length key
     → is_key key ≡ true
-clean_key key h k some =
-    both (nat_lt 0 (length key)) (list_all is_key_byte key) (lt-ltb 0 (length key) some)
-    (weaker (λ b. is_clean b && is_other 32 b) is_key_byte key_byte key (all_both is_clean (is_other 32) key h k))
+clean_key key h k some = grind (arith, weaker (λ b. is_clean b && is_other 32 b) is_key_byte key_byte key (all_both is_clean (is_other 32) key h k))
 
 all_ascii : (xs : List ℕ) → list_all is_unescaped_ascii xs ≡ true → are_ascii xs ≡ true
 all_ascii [] h = refl
-all_ascii (x ∷ xs) h = let parts = and_parts (is_unescaped_ascii x) (list_all is_unescaped_ascii xs) h in
-    both (nat_lt x 128) (are_ascii xs) (byte_is_ascii x parts.0) (all_ascii xs parts.1)
+all_ascii (x ∷ xs) h = grind (arith, byte_is_ascii, all_ascii xs)
 
 pub ascii_utf8 : (xs : List ℕ) → list_all is_unescaped_ascii xs ≡ true → IsUtf8 xs
-ascii_utf8 xs h = IsUtf8-are_ascii xs (all_ascii xs h)
+ascii_utf8 xs h = grind (arith, IsUtf8-are_ascii, all_ascii)
 
 -- the parts of a text that passes a test
 pub all_parts : (p : ℕ → Bool) (text front rest : List ℕ) (b : ℕ) → text ≡ front ++ b ∷ rest → list_all p text ≡ true

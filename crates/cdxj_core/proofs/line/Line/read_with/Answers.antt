@@ -62,24 +62,22 @@ kept : (c : In_ok-text) → IsKept LINE_LIMIT (string_bytes c.in_ok-text.text) (
 })
 kept c =
     let same = c.in-Ok.ensures.cases.0 in
-    let stamp : c.in-Ok-try_from.stamp ≡ c.cut_first-2.result.0.now = grind arith in
     json_kept LINE_LIMIT (string_bytes c.in_ok-text.text) c.in-Ok.body.now c.cut_first.result.0.now
     c.cut_first.result.1.now c.cut_first-2.result.0.now c.cut_first-2.result.1.now c.in-Some-filename.filename.now
     (found_view c.in-Some.found) c.in-Some-offset.offset _ (IsUtf8-string_bytes c.in_ok-text.text)
-    (subst IsUtf8 (sym same) c.in-Ok.ensures.cases.1)
-    (subst (λ b. length b < LINE_LIMIT) (sym same) c.if-body-ge-LINE_LIMIT.false)
-    (c.if-not-has_no_feed.ensures ∙ ap has_no_feed c.as_bytes.ensures.value) c.cut_first.ensures.before
-    c.cut_first.ensures.after c.cut_first-2.ensures.before c.cut_first-2.ensures.after
-    (ap is_key (sym c.as_bytes-2.ensures.value) ∙ sym c.if-not-is_key.ensures) (grind arith)
-    (sym c.in_ok-found.ensures ∙ ap (option_map found_view) c.in-Some.is) (sym c.in-Some-filename.ensures.value)
-    (sym c.in-Some-offset.ensures.value) c.in-Some-filename.ensures.some c.in-Some-offset.ensures.small
-    c.in_ok-text.ensures refl refl stamp refl refl
+    (rw same c.in-Ok.ensures.cases.1)
+    (grind arith)
+    (grind arith) (grind arith)
+    (grind arith) (grind arith) (grind arith)
+    (grind arith) (grind arith)
+    (grind arith) (grind arith)
+    (grind arith) (grind arith) (grind arith)
+    c.in_ok-text.ensures refl refl (grind arith) refl refl
 
 pub invariant_of-result : goal.invariant_of-result
-invariant_of-result c = kept_in LINE_LIMIT _ _ _ (kept (goal.at.invariant_of-result c).In_ok-text)
+invariant_of-result c = grind (arith, kept (goal.at.invariant_of-result c).In_ok-text)
 
 pub returns : goal.returns
 returns c =
     let here = (goal.at.returns c).In_ok-text in
-    line_of_body LINE_LIMIT c.args.line.now c.body_of-body.result.now c.in-Ok.body.now _ c.in-Ok.ensures.cases.0
-    c.body_of-body.ensures (grind arith) (kept_entry LINE_LIMIT _ _ _ (kept here))
+    grind (arith, line_of_body, kept_entry, kept here)
