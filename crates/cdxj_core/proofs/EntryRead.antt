@@ -1,18 +1,17 @@
 -- The line of a good entry is read as that entry.
+use Rattle.std.proofs.Common.{All, ◌≢◌}
 use Rattle.std.proofs.lemmas.Grind.{common_steps}
 use Rattle.std.proofs.Common.{◌≡◌, ℕ, ◌<◌, ◌≤◌, ◌==◌, Bool, true, not, List, [], ◌∷◌, ◌++◌, length, Some}
-use Rattle.std.proofs.Common.{option_and_then, refl, ap, ◌∙◌, arith, flat_map, ⊎_elim}
-use Rattle.std.specs.List.{before_first, after_first}
+use Rattle.std.proofs.Common.{refl, arith, flat_map}
 use Rattle.std.specs.Char.{is_ascii_digit}
-use Rattle.std.proofs.lemmas.Bool.{ne_eqb, eq-eqb, and_parts, cond-true, lt-ltb, cases_lt}
+use Rattle.std.proofs.lemmas.Bool.{eq-eqb, and_parts, cond-true}
 use Rattle.std.proofs.lemmas.List.{length-append}
 use Rattle.std.proofs.lemmas.List.Folds.{list_all-append}
 use Rattle.std.proofs.Math.Seq.{take-append_seam, get_or-append_seam}
 use Rattle.std.proofs.lemmas.Fmt.{digits_value-decimal, decimal_nonempty}
 use Rattle.json.specs.Print.{quoted, escape, escape_byte}
-use Rattle.json.proofs.Printed.Strings.{escape_byte_plain}
-use Rattle.cdxj_places.specs.Pair.{is_space, is_key_byte}
-use Rattle.cdxj_places.proofs.PlaceLaw.{key_no_space, digits_no_space, before_first_at, after_first_at, both}
+use Rattle.cdxj_places.specs.Pair.{is_key_byte}
+use Rattle.cdxj_places.proofs.PlaceLaw.{key_no_space, digits_no_space, before_first_at, after_first_at}
 use Rattle.cdxj_places.proofs.PlaceLaw.{offset_text}
 use Rattle.cdxj_places.proofs.Offsets.{own}
 use Rattle.cdxj_objects.specs.Objects.{member_text, object_text}
@@ -21,7 +20,7 @@ use Rattle.cdxj_objects.proofs.PlainBytes.{weaker}
 use Rattle.cdxj_objects.proofs.SpellingLemmas.{text_stands}
 use Rattle.cdxj_objects.proofs.TextsLaw.{first_of, later_of, data_of, read_texts}
 use Rattle.cdxj_core.specs.Entries.{EntryValue, IsGood, entry_texts, members_of, body_text, line_text}
-use Rattle.cdxj_core.specs.Lines.{has_no_feed, body_of, line_parts, line_from, line_in, entry_values}
+use Rattle.cdxj_core.specs.Lines.{has_no_feed, body_of, line_from, line_in, entry_values}
 
 -- ---- no line feed
 
@@ -41,15 +40,9 @@ abbrev Escapes : ℕ → Type 0
 Escapes x = has_no_feed (escape_byte x) ≡ true
 
 -- by a computation over the bytes up to the backslash; no other is escaped
-low_escapes : (x : ℕ) → x < 93 → Escapes x
-unfolding escape_byte
-low_escapes x low = grind arith
-
-high_escapes : (x : ℕ) → 93 ≤ x → Escapes x
-high_escapes x high = grind (arith, escape_byte_plain, ne_eqb)
-
 escapes : (x : ℕ) → Escapes x
-escapes x = grind (arith, low_escapes, high_escapes, cases_lt)
+unfolding escape_byte
+escapes x = grind arith
 
 escaped : (s : List ℕ) → has_no_feed (escape s) ≡ true
 escaped [] = refl
@@ -67,16 +60,10 @@ object_feed m ms = grind (arith, joined, quoted_feed, later_feed ms)
 
 pub body_feed : (e : EntryValue) → IsGood e → has_no_feed (body_text e) ≡ true
 body_feed e h =
-    grind (
-      arith,
-      joined,
-      weaker,
-      key_feed,
-      and_parts,
-      digit_feed,
-      object_feed (first_of (entry_texts e))
-          (later_of (entry_texts e)),
-    )
+    let key = weaker is_key_byte no_feed key_feed e.key (and_parts _ _ h.key).1 in
+    let stamp = weaker is_ascii_digit no_feed digit_feed e.stamp (and_parts _ _ h.stamp).1 in
+    let object = object_feed (first_of (entry_texts e)) (later_of (entry_texts e)) in
+    grind (arith, joined)
 
 -- ---- the body
 
@@ -94,11 +81,7 @@ unfolding line_in
 line_in-body_text limit e h short =
     let object = object_text (members_of e) in
     let key_free = key_no_space e.key h.key in
-    let stamp_free = digits_no_space e.stamp (and_parts _ _ h.stamp).1 in
-    let after_key = after_first_at e.key (e.stamp ++ 32 ∷ object) key_free in
-    let key_is = before_first_at e.key (e.stamp ++ 32 ∷ object) key_free in
-    let stamp_is = before_first_at e.stamp object stamp_free in
-    let object_is = after_first_at e.stamp object stamp_free in
+    let stamp_free : All (λ b. b ≢ 32) e.stamp = grind (arith, digits_no_space) in
     let below : length (body_text e) < limit = omega (arith, length-append (body_text e) (10 ∷ []), short) in
     let whole = body_feed e h in
-    grind (arith, read_texts (entry_texts e), values_read)
+    grind (arith, before_first_at, after_first_at, read_texts (entry_texts e), values_read)

@@ -1,8 +1,7 @@
 -- The file name of a line is no longer than the line: it is a string of the line's object.
-use Rattle.std.proofs.Common.{◌≡◌, ℕ, zero, suc, ◌+◌, ◌≤◌, ◌&&◌, nat_lt, List, ◌∷◌, length, Ordering}
-use Rattle.std.proofs.Common.{Option, Some, option_map, ap, ◌∙◌, arith}
+use Rattle.std.proofs.Common.{◌≡◌, ℕ, zero, suc, ◌≤◌, List, length, Ordering}
+use Rattle.std.proofs.Common.{Option, Some, arith}
 use Rattle.std.specs.Prelude.{⊤}
-use Rattle.std.specs.List.{before_first, after_first}
 use Rattle.std.specs.Ordering.{match_ordering}
 use Rattle.std.proofs.lemmas.List.{length-append}
 use Rattle.json.specs.Token.{Token}
@@ -11,14 +10,10 @@ use Rattle.json.specs.Json as json
 use Rattle.json.specs.Json.{Json, Parse, after_end_array, items, members, value_with, value, if_last}
 use Rattle.serde_json.specs.Data.{Data, Members, put}
 use Rattle.serde_json.specs.Read.{of_json, of_members, max_depth, read}
-use Rattle.serde_json.specs.Find.{get_member, get}
-use Rattle.cdxj_places.specs.Pair.{is_space, is_key, is_stamp}
-use Rattle.cdxj_places.proofs.PairLemmas.{around}
-use Rattle.cdxj_core.specs.Lines.{LineValue, has_no_feed, line_object, line_parts, line_from, line_in, object_values}
-use Rattle.cdxj_objects.specs.MemberValues.{offset_value, filename_value}
-use Rattle.cdxj_objects.specs.Names.{offset_name, filename_name}
+use Rattle.serde_json.specs.Find.{get_member}
+use Rattle.cdxj_core.specs.Lines.{LineValue, line_object}
 use Rattle.cdxj_core.specs.Members.{Member, line_entry}
-use Rattle.cdxj_core.proofs.PairLaw.{if_test, and_then_some, map_some, some_read}
+use Rattle.cdxj_core.proofs.MemberLemmas.{entry_valued}
 use Rattle.cdxj_objects.proofs.StringLength.{Each, each_then, UpTo, AreShort, short_tokens}
 
 -- ---- the value that the tokens are: a string, or the strings of an object
@@ -117,8 +112,7 @@ short_texts : (n : ℕ) (ms : json.Members) (found : Members) → ShortStrings n
     → Each (ShortTexts n) (of_members ms found)
 short_texts n json.no_members found h hs = hs
 short_texts n (json.member k j ms) found h hs =
-    each_then (ShortText n) (ShortTexts n) (λ d. of_members ms (put k d found)) (λ d x. short_texts n ms (put k d found)
-    h.1 (short_put n k d found x hs)) (of_json j) (short_text n j h.0)
+    each_then (ShortText n) (ShortTexts n) (λ d. of_members ms (put k d found)) (λ d x. grind (arith, short_texts n ms (put k d found), short_put)) _ (short_text n j h.0)
 
 short_data : (n : ℕ) (j : Json) → ShortJson n j → Each (ShortData n) (of_json j)
 short_data n j h = grind (arith, short_texts)
@@ -137,35 +131,12 @@ short_member : (n : ℕ) (k : List ℕ) (ms : Members) → ShortTexts n ms → E
 short_member n k Members.no_members h = tt
 short_member n k (Members.member l e ms) h = grind (arith, short_member n k ms)
 
--- the file name of an object is no longer than the object's text
-filename_in : (text filename : List ℕ) (d : Data) → read text ≡ Some d → filename_value (get filename_name d) ≡
-    Some filename → length filename ≤ length text
-filename_in text filename d is named = grind (arith, short_read, short_member)
-
-filename_in_body : (limit : ℕ) (body : List ℕ) (v : LineValue) → line_in limit body ≡ Some v
-    → length v.filename ≤ length body
-unfolding line_in
-filename_in_body limit body v h =
-    let key = before_first is_space body in
-    let rest = after_first is_space body in
-    let stamp = before_first is_space rest in
-    let object = after_first is_space rest in
-    let outer = if_test (nat_lt (length body) limit && has_no_feed body) (line_parts key stamp object) v h in
-    let inner = if_test (is_key key && is_stamp stamp) (line_object key stamp object) v outer.1 in
-    let was_read = and_then_some (line_from key stamp) (read object) v inner.1 in
-    let named = and_then_some (λ filename. option_map (object_values key stamp was_read.0 filename)
-    (offset_value (get offset_name was_read.0))) (filename_value (get filename_name was_read.0)) v
-    was_read.2 in
-    let made = map_some (object_values key stamp was_read.0 named.0) (offset_value (get offset_name was_read.0)) v
-    named.2 in
-    let filename_is : named.0 ≡ v.filename = ap (λ w. w.filename) made.1 in
-    let within = filename_in object named.0 was_read.0 was_read.1 named.1 in
-    let rest_is = around rest (some_read object was_read.0 was_read.1) in
-    let long : length rest ≡ length stamp + length (32 ∷ object) = ap length rest_is
-    ∙ length-append stamp (32 ∷ object) in
-    let body_is = around body (omega (arith, long)) in
-    omega (arith, within, ap length filename_is, long, ap length body_is, length-append key (32 ∷ rest))
+filename_in : (key stamp object : List ℕ) (v : LineValue) → line_object key stamp object ≡ Some v
+    → length v.filename ≤ length object
+filename_in key stamp object v h = grind (arith, short_read, short_member)
 
 pub filename_short : (limit : ℕ) (line : List ℕ) (member : Member) → line_entry limit line ≡ Some member
     → length member.values.filename ≤ length member.line
-filename_short limit line member h = grind (arith, filename_in_body)
+filename_short limit line member h =
+    let its = entry_valued limit line member h in
+    grind (arith, filename_in, length-append)

@@ -1,12 +1,9 @@
 -- What is found in an object decides what its line says.
-use Rattle.std.proofs.Common.{arith, ◌≡◌, ℕ, List, decimal, Option, Some, None, option_map, option_and_then}
+use Rattle.std.proofs.Common.{arith, ◌≡◌, ℕ, List, decimal, Option, Some, option_map, option_and_then}
 use Rattle.serde_json.specs.Data.{Data, object}
 use Rattle.serde_json.specs.Data.{Members}
-use Rattle.serde_json.specs.Find.{get_member}
 use Rattle.cdxj_objects.specs.FoundMembers.{FoundValue, member_data, found_of, members_in}
 use Rattle.cdxj_objects.specs.MemberValues.{value_text, filename_value, offset_value}
-use Rattle.cdxj_objects.specs.Names.{url_name, mime_name, status_name, digest_name, length_name, offset_name}
-use Rattle.cdxj_objects.specs.Names.{filename_name}
 use Rattle.cdxj_objects.specs.Texts.{TextsValue}
 use Rattle.cdxj_core.specs.Lines.{LineValue, line_value, line_from, line_object}
 
@@ -47,13 +44,6 @@ members_line key stamp ms = grind (arith, value_text-seen)
 pub line_found : (key stamp text : List ℕ) (found : FoundValue) → members_in text ≡ Some found → line_object key stamp
     text ≡ found_line key stamp found
 line_found key stamp text found h = grind (arith, members_line)
-
-pub no_filename : (key stamp : List ℕ) (f : FoundValue) → filename_value f.filename ≡ None → found_line key stamp f ≡
-    None
-no_filename key stamp f e = grind arith
-
-pub no_offset : (key stamp : List ℕ) (f : FoundValue) → offset_value f.offset ≡ None → found_line key stamp f ≡ None
-no_offset key stamp f e = grind arith
 
 -- the texts of the members that were found are those of their line
 pub line_made : (key stamp : List ℕ) (f : FoundValue) (offset : ℕ) (t : TextsValue) → filename_value f.filename ≡ Some

@@ -1,9 +1,7 @@
 -- The lines of entries are an index.
-use Rattle.std.proofs.Common.{arith, ◌≡◌, ◌≤◌, ℕ, ◌==◌, true, false, not, List, [], ◌∷◌, ◌++◌, map, flat_map, Some}
-use Rattle.std.proofs.Common.{refl, sym, ap, ap₂, ◌∙◌, append_assoc, Ordering, Less, Equal, Greater, is_gt}
+use Rattle.std.proofs.Common.{arith, ◌≡◌, ◌≤◌, ℕ, true, false, List, [], ◌∷◌, ◌++◌, map, flat_map, Some}
+use Rattle.std.proofs.Common.{refl, append_assoc, Ordering, is_gt}
 use Rattle.std.specs.List.{AllByRecursion}
-use Rattle.std.specs.Ordering.{ordering_reverse}
-use Rattle.std.proofs.lemmas.Bool.{and_parts, true≢false}
 use Rattle.cdxj_places.specs.Pairs.{pair_cmp}
 use Rattle.cdxj_places.specs.Places.{place_cmp}
 use Rattle.cdxj_places.specs.Rising.{Rises, NeverFalls}
@@ -60,13 +58,11 @@ never_falls (e ∷ es) h = grind (arith, each_weaker, not_above, never_falls es 
 -- ---- members
 
 pub one_list : (xs ys : List Member) → map Some xs ≡ map Some ys → xs ≡ ys
-one_list [] [] e = refl
-one_list [] (y ∷ ys) e = cc
-one_list (x ∷ xs) [] e = cc
 one_list (x ∷ xs) (y ∷ ys) e =
-    let first : x ≡ y = cc in
     let rest : map Some xs ≡ map Some ys = cc in
-    ap₂ (λ z zs. z ∷ zs) first (one_list xs ys rest)
+    grind (arith, one_list xs ys rest)
+one_list [] [] e = refl
+one_list xs ys e = cc
 
 pub one_index : (limit : ℕ) (text : List ℕ) (these those : List Member) → IsIndex limit text these
     → IsIndex limit text those → these ≡ those

@@ -4,7 +4,6 @@ pub mod KeptLemmas
 pub mod FilenameLength
 pub mod IndexLemmas
 pub mod EntryUtf8
-pub mod EntryWrite
 pub mod EntryRead
 pub mod FoundLines
 pub mod LineCuts

@@ -1,18 +1,17 @@
 -- The entry of a line.
 use Rattle.std.proofs.lemmas.Grind.{common_steps}
-use Rattle.std.proofs.Common.{◌≡◌, ℕ, ◌-◌, ◌<◌, ◌≤◌, ◌==◌, true, false, cond, List, [], ◌∷◌, length, take, get_or}
-use Rattle.std.proofs.Common.{Option, Some, None, option_map, refl, sym, ap, ◌∙◌, subst, arith}
-use Rattle.std.specs.Str.{IsUtf8, is_utf8}
-use Rattle.std.proofs.lemmas.Bool.{cond-false, le-ltb}
+use Rattle.std.proofs.Common.{◌≡◌, ℕ, ◌<◌, ◌≤◌, true, List, length}
+use Rattle.std.proofs.Common.{Option, Some, None, option_map, arith}
+use Rattle.std.specs.Str.{IsUtf8}
 use Rattle.std.proofs.lemmas.Str.{IsUtf8-from_is_utf8, is_utf8-from_IsUtf8}
 use Rattle.std.specs.List.{before_first, after_first}
 use Rattle.cdxj_places.specs.Pair.{is_space, pair_of}
-use Rattle.cdxj_core.specs.Entries.{EntryValue, HasLine, body_text, line_text}
+use Rattle.cdxj_core.specs.Entries.{EntryValue, HasLine, line_text}
 use Rattle.cdxj_core.specs.Lines.{LineValue, has_no_feed, line_object, line_parts, line_in, body_of}
 use Rattle.cdxj_core.specs.Members.{Member, member_pair, entry_member, line_entry}
 use Rattle.cdxj_core.proofs.EntryRead.{body_of-feed}
 use Rattle.cdxj_core.proofs.EntryUtf8.{line_law, line_utf8}
-use Rattle.cdxj_core.proofs.PairLaw.{if_test, line_pair, line_in-higher, line_in-feed, line_in-short}
+use Rattle.cdxj_core.proofs.PairLaw.{Valued, valued, line_pair, line_in-higher, line_in-feed, line_in-short}
 
 abbrev with_line : List ℕ → LineValue → Member
 with_line body values = record { values = values; line = body }
@@ -42,6 +41,13 @@ pub entry_from : (limit : ℕ) (line : List ℕ) (member : Member) → Entered l
     Some member
 entry_from limit line member h = grind (arith, is_utf8-from_IsUtf8)
 
+-- the values of an entry are those of its line
+pub entry_valued : (limit : ℕ) (line : List ℕ) (member : Member) → line_entry limit line ≡ Some member
+    → Valued member.line member.values
+entry_valued limit line member h =
+    let e = entered limit line member h in
+    rw e.body (valued limit (body_of line) member.values e.values)
+
 -- a body without a line feed is its own
 pub body_of-body : (body : List ℕ) → has_no_feed body ≡ true → body_of body ≡ body
 body_of-body body h = grind (arith, common_steps)
@@ -67,24 +73,14 @@ written_entry limit e h = grind (arith, body_of-feed, line_utf8, line_law, is_ut
 
 -- ---- reading
 
-body_values : (limit : ℕ) (body key rest stamp object : List ℕ) (v : LineValue) → length body < limit
-    → has_no_feed body ≡ true
-    → key ≡ before_first is_space body → rest ≡ after_first is_space body → stamp ≡ before_first is_space rest
-    → object ≡ after_first is_space rest
-    → line_parts key stamp object ≡ Some v → line_in limit body ≡ Some v
-unfolding line_in
-body_values limit body key rest stamp object v short whole k r s o read = grind arith
-
 -- a body that was cut at its first two spaces
-pub body_entry : (limit : ℕ) (body text key rest stamp object : List ℕ) (v : LineValue) → text ≡ body → IsUtf8 body
-    → length body < limit → true ≡ has_no_feed body
-    → key ≡ before_first is_space text → rest ≡ after_first is_space text → stamp ≡ before_first is_space rest
-    → object ≡ after_first is_space rest
-    → line_parts key stamp object ≡ Some v → line_entry limit text ≡ Some (record { values = v; line = text })
-body_entry limit body text key rest stamp object v same utf8 short whole k r s o read =
-    let feed : has_no_feed text ≡ true = ap has_no_feed same ∙ sym whole in
-    let its = body_of-body text feed in
-    entry_from limit text (record { values = v; line = text }) (grind (arith, utf8, body_values, body))
+pub body_entry : (limit : ℕ) (body key rest stamp object : List ℕ) (v : LineValue) → IsUtf8 body → length body < limit
+    → has_no_feed body ≡ true → key ≡ before_first is_space body → rest ≡ after_first is_space body
+    → stamp ≡ before_first is_space rest → object ≡ after_first is_space rest → line_parts key stamp object ≡ Some v
+    → line_entry limit body ≡ Some (record { values = v; line = body })
+unfolding line_in
+body_entry limit body key rest stamp object v utf8 short whole k r s o read =
+    grind (arith, body_of-body, is_utf8-from_IsUtf8)
 
 -- a body that was cut so, whose object has no values
 pub body_none : (limit : ℕ) (body key rest stamp object : List ℕ) → key ≡ before_first is_space body

@@ -1,19 +1,14 @@
 -- A line that has values begins with their pair.
-use Rattle.std.proofs.Common.{◌≡◌, ℕ, ◌-◌, ◌<◌, ◌≤◌, ◌==◌, ◌&&◌, Bool, true, false, cond, List, [], ◌∷◌, ◌++◌, length}
-use Rattle.std.proofs.Common.{take, drop, Option, Some, None, option_map, option_and_then, get_or, append-nil, nat_lt}
-use Rattle.std.proofs.Common.{refl, sym, ap, arith, append_assoc, take-append-drop}
+use Rattle.std.proofs.Common.{◌≡◌, ℕ, ◌-◌, ◌<◌, ◌^◌, ◌≤◌, ◌==◌, Bool, true, false, cond, List, [], ◌∷◌, ◌++◌, length}
+use Rattle.std.proofs.Common.{take, drop, Option, Some, None, option_map, option_and_then, get_or, append-nil}
+use Rattle.std.proofs.Common.{refl, sym, arith, append_assoc, take-append-drop}
 use Rattle.std.specs.List.{before_first, after_first}
-use Rattle.std.proofs.lemmas.Bool.{and_parts}
 use Rattle.std.proofs.lemmas.List.{length-append}
 use Rattle.serde_json.specs.Data.{Data}
-use Rattle.serde_json.specs.Find.{get}
 use Rattle.serde_json.specs.Read.{read}
 use Rattle.serde_json.proofs.OnLiterals.{serde_json_on_literals}
 use Rattle.cdxj_places.specs.Pair.{is_space, is_key, is_stamp, pair_of}
-use Rattle.cdxj_core.specs.Lines.{LineValue, has_no_feed, body_of, line_object, line_parts, line_from, line_in}
-use Rattle.cdxj_core.specs.Lines.{object_values}
-use Rattle.cdxj_objects.specs.MemberValues.{offset_value, filename_value}
-use Rattle.cdxj_objects.specs.Names.{offset_name, filename_name}
+use Rattle.cdxj_core.specs.Lines.{LineValue, has_no_feed, body_of, line_object, line_in}
 use Rattle.cdxj_places.proofs.PairLemmas.{pair_of-parts, around}
 
 pub if_test : {A : Type 0} (b : Bool) (x : Option A) (v : A) → cond b x None ≡ Some v → (b ≡ true) × (x ≡ Some v)
@@ -34,33 +29,54 @@ pub some_read : (text : List ℕ) (d : Data) → read text ≡ Some d → 0 < le
 some_read [] d h = grind (arith, read_nil)
 some_read (x ∷ xs) d h = omega arith
 
+-- a body that has values: a key, a stamp and an object, and spaces between them
+pub record Valued (body : List ℕ) (v : LineValue) : Type 0 where
+  pub object : List ℕ
+  pub cut : body ≡ v.key ++ 32 ∷ (v.stamp ++ 32 ∷ object)
+  pub key_rule : is_key v.key ≡ true
+  pub stamp_rule : is_stamp v.stamp ≡ true
+  pub filename_rule : 0 < length v.filename
+  pub offset_rule : v.offset < 2 ^ 63
+  pub values : line_object v.key v.stamp object ≡ Some v
+
+object_values_are : (key stamp text : List ℕ) (v : LineValue) → line_object key stamp text ≡ Some v
+    → (v.key ≡ key) × ((v.stamp ≡ stamp) × (0 < length text))
+object_values_are key stamp text v h = grind (arith, some_read)
+
+filename_some : (key stamp text : List ℕ) (v : LineValue) → line_object key stamp text ≡ Some v → 0 < length v.filename
+filename_some key stamp text v h = grind arith
+
+offset_small : (key stamp text : List ℕ) (v : LineValue) → line_object key stamp text ≡ Some v → v.offset < 2 ^ 63
+offset_small key stamp text v h = grind arith
+
+pub valued : (limit : ℕ) (body : List ℕ) (v : LineValue) → line_in limit body ≡ Some v → Valued body v
+unfolding line_in
+valued limit body v h =
+    let rest = after_first is_space body in
+    let object = after_first is_space rest in
+    let its : line_object (before_first is_space body) (before_first is_space rest) object ≡ Some v = grind arith in
+    let pair = object_values_are _ _ object v its in
+    let rest_is = around rest pair.1.1 in
+    let body_is = around body (grind (arith, length-append)) in
+    record {
+      object = object;
+      cut = grind arith;
+      key_rule = grind arith;
+      stamp_rule = grind arith;
+      filename_rule = grind (arith, filename_some);
+      offset_rule = grind (arith, offset_small);
+      values = grind arith;
+    }
+
 body_split : (b : Bool) (line : List ℕ) → (t : List ℕ) × (line ≡ cond b (take (length line - 1) line) line ++ t)
 body_split true line = (drop (length line - 1) line, sym (take-append-drop (length line - 1) line))
 body_split false line = ([], sym (append-nil line))
 
 pub line_pair : (line : List ℕ) (limit : ℕ) (v : LineValue) → line_in limit (body_of line) ≡ Some v
     → pair_of line ≡ Some (v.key, v.stamp)
-unfolding line_in
 line_pair line limit v h =
-    let body = body_of line in
-    let key = before_first is_space body in
-    let rest = after_first is_space body in
-    let stamp = before_first is_space rest in
-    let object = after_first is_space rest in
-    let outer = if_test (nat_lt (length body) limit && has_no_feed body) (line_parts key stamp object) v h in
-    let inner = if_test (is_key key && is_stamp stamp) (line_object key stamp object) v outer.1 in
-    let tests = and_parts (is_key key) (is_stamp stamp) inner.0 in
-    let was_read = and_then_some (line_from key stamp) (read object) v inner.1 in
-    let named = and_then_some (λ filename. option_map (object_values key stamp was_read.0 filename)
-    (offset_value (get offset_name was_read.0))) (filename_value (get filename_name was_read.0)) v
-    was_read.2 in
-    let made = map_some (object_values key stamp was_read.0 named.0) (offset_value (get offset_name was_read.0)) v
-    named.2 in
-    let object_some : 0 < length object = some_read object was_read.0 was_read.1 in
-    let rest_is : rest ≡ stamp ++ 32 ∷ object = around rest object_some in
-    let rest_some : 0 < length rest = omega (arith, ap length rest_is, length-append stamp (32 ∷ object)) in
-    let body_is : body ≡ key ++ 32 ∷ rest = around body rest_some in
     let split = body_split (get_or line (length line - 1) 0 == 10) line in
+    let its = valued limit (body_of line) v h in
     grind (arith, append_assoc, pair_of-parts)
 
 -- a line keeps its values under a higher limit

@@ -2,11 +2,9 @@
 use Rattle.std.proofs.Common.{◌≡◌, ℕ, ◌<◌, ◌==◌, ◌&&◌, Bool, true, not, nat_lt, List, [], ◌∷◌, ◌++◌, length, refl}
 use Rattle.std.proofs.Common.{arith, IsUtf8}
 use Rattle.std.specs.List.{list_all}
-use Rattle.std.proofs.lemmas.Bool.{and_parts, lt-ltb}
 use Rattle.std.proofs.lemmas.List.Folds.{list_all-append}
-use Rattle.json.proofs.Printed.Utf8.{are_ascii, IsUtf8-are_ascii}
+use Rattle.json.proofs.Printed.Utf8.{IsUtf8-are_ascii}
 use Rattle.cdxj_places.specs.Pair.{is_key_byte, is_key}
-use Rattle.cdxj_places.proofs.PlaceLaw.{both}
 use Rattle.cdxj_objects.specs.Plain.{is_other}
 use Rattle.cdxj_objects.proofs.PlainBytes.{weaker}
 use Rattle.cdxj_core.specs.Clean.{is_clean, is_unescaped_ascii}
@@ -40,12 +38,8 @@ pub clean_key : (key : List ℕ) → list_all is_clean key ≡ true → list_all
     → is_key key ≡ true
 clean_key key h k some = grind (arith, weaker (λ b. is_clean b && is_other 32 b) is_key_byte key_byte key (all_both is_clean (is_other 32) key h k))
 
-all_ascii : (xs : List ℕ) → list_all is_unescaped_ascii xs ≡ true → are_ascii xs ≡ true
-all_ascii [] h = refl
-all_ascii (x ∷ xs) h = grind (arith, byte_is_ascii, all_ascii xs)
-
 pub ascii_utf8 : (xs : List ℕ) → list_all is_unescaped_ascii xs ≡ true → IsUtf8 xs
-ascii_utf8 xs h = grind (arith, IsUtf8-are_ascii, all_ascii)
+ascii_utf8 xs h = grind (arith, IsUtf8-are_ascii, weaker is_unescaped_ascii (λ b. nat_lt b 128) byte_is_ascii)
 
 -- the parts of a text that passes a test
 pub all_parts : (p : ℕ → Bool) (text front rest : List ℕ) (b : ℕ) → text ≡ front ++ b ∷ rest → list_all p text ≡ true

@@ -1,1 +1,0 @@
--- The pieces of a line, one after another.
