@@ -26,11 +26,14 @@ after : (b : ℕ) (s : List ℕ) → b < 128 → IsUtf8 s → IsUtf8 (b ∷ s)
 after b s h u = IsUtf8-append (b ∷ []) s (byte b h) u
 
 member_utf8 : (m : Pair) → IsUtf8 m.0 → IsUtf8 m.1 → IsUtf8 (member_text m)
-member_utf8 m a b = IsUtf8-append _ (quoted m.1) (IsUtf8-append (quoted m.0) _ (IsUtf8-quoted m.0 a) (after 58 _ (omega arith) (byte 32 (omega arith)))) (IsUtf8-quoted m.1 b)
+member_utf8 m a b =
+    let between = after 58 _ (omega arith) (byte 32 (omega arith)) in
+    IsUtf8-append _ (quoted m.1) (IsUtf8-append (quoted m.0) _ (IsUtf8-quoted m.0 a) between) (IsUtf8-quoted m.1 b)
 
 later_utf8 : (ms : List Pair) → AreTexts ms → IsUtf8 (flat_map (λ m. (44 ∷ 32 ∷ []) ++ member_text m) ms)
 later_utf8 [] h = IsUtf8-nil
-later_utf8 (m ∷ ms) h = after 44 _ (omega arith) (after 32 _ (omega arith) (IsUtf8-append (member_text m) _ (member_utf8 m h.0 h.1.0) (later_utf8 ms h.1.1)))
+later_utf8 (m ∷ ms) h = after 44 _ (omega arith) (after 32 _ (omega arith)
+    (IsUtf8-append (member_text m) _ (member_utf8 m h.0 h.1.0) (later_utf8 ms h.1.1)))
 
 object_utf8 : (m : Pair) (ms : List Pair) → AreTexts (m ∷ ms) → IsUtf8 (object_text (m ∷ ms))
 object_utf8 m ms h =
@@ -51,7 +54,8 @@ body_utf8 e h =
     let texts : AreValues (members_of e) = grind (arith, digits_utf8, digits_decimal, own, decimal) in
     let object = object_utf8 (first_of (entry_texts e)) (later_of (entry_texts e)) (named (members_of e) refl texts) in
     let stamp : IsUtf8 e.stamp = grind (arith, digits_utf8) in
-    IsUtf8-append e.key _ h.utf8_key (after 32 _ (omega arith) (IsUtf8-append e.stamp _ stamp (after 32 _ (omega arith) object)))
+    IsUtf8-append e.key _ h.utf8_key (after 32 _ (omega arith)
+    (IsUtf8-append e.stamp _ stamp (after 32 _ (omega arith) object)))
 
 pub line_law : (limit : ℕ) (e : EntryValue) → IsGood e → length (line_text e) ≤ limit
     → line_in limit (body_of (line_text e)) ≡ Some (entry_values e)

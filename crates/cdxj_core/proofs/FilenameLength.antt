@@ -73,8 +73,9 @@ parses_value : (n depth : ℕ) → Parses n (ShortJson n) (value depth)
 unfolding value
 parses_value n zero = grind arith
 parses_value n (suc depth) =
-    one_level n _ _ (λ ts. parses_items n (value depth) (parses_value n depth) (length ts) ts) (λ ts. parses_members n (value depth)
-    (parses_value n depth) (length ts) ts)
+    let items_short = parses_items n (value depth) (parses_value n depth) in
+    let members_short = parses_members n (value depth) (parses_value n depth) in
+    grind (arith, one_level)
 
 -- ---- the data that the value is
 
@@ -112,7 +113,8 @@ short_texts : (n : ℕ) (ms : json.Members) (found : Members) → ShortStrings n
     → Each (ShortTexts n) (of_members ms found)
 short_texts n json.no_members found h hs = hs
 short_texts n (json.member k j ms) found h hs =
-    each_then (ShortText n) (ShortTexts n) (λ d. of_members ms (put k d found)) (λ d x. grind (arith, short_texts n ms (put k d found), short_put)) _ (short_text n j h.0)
+    each_then (ShortText n) (ShortTexts n) (λ d. of_members ms (put k d found))
+    (λ d x. grind (arith, short_texts n ms (put k d found), short_put)) _ (short_text n j h.0)
 
 short_data : (n : ℕ) (j : Json) → ShortJson n j → Each (ShortData n) (of_json j)
 short_data n j h = grind (arith, short_texts)

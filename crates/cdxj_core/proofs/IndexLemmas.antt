@@ -72,7 +72,8 @@ one_index limit text these those h k = grind (arith, one_list)
 
 entries_stay : (low high : ℕ) → low ≤ high → (these : List (List ℕ)) (members : List Member) → map (line_entry low)
     these ≡ map Some members → map (line_entry high) these ≡ map Some members
-entries_stay low high up (line ∷ these) (m ∷ members) e = grind (arith, entry-higher, entries_stay low high up these members)
+entries_stay low high up (line ∷ these) (m ∷ members) e =
+    grind (arith, entry-higher, entries_stay low high up these members)
 entries_stay low high up these members e = grind arith
 
 pub index_stays : (low high : ℕ) → low ≤ high → (text : List ℕ) (members : List Member) → IsIndex low text members

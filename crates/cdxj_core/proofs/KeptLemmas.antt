@@ -36,18 +36,19 @@ plain_values t v small same h = grind (arith, plain_decimal)
 
 -- a line, and a plain object with its texts in it or behind it
 kept_line : (limit : ℕ) (text tail : List ℕ) (member : Member) (t : TextsValue) (at : ℕ) (s : Spans) → IsUtf8 text
-    → line_entry limit member.line ≡ Some member → text ≡ member.line ++ tail → values_of_texts t ≡ texts_in member.values
-    → s.size ≡ length member.line → IsCharBoundary text s.size → s.key ≡ length member.values.key
-    → s.stamp ≡ member.values.stamp → s.offset ≡ member.values.offset → GoesOn text at (plain_text t)
-    → s.start ≡ at + OPEN → AreEndsOf s.start t s.ends → (s.size ≡ length text → ArePlain t)
+    → line_entry limit member.line ≡ Some member → text ≡ member.line ++ tail
+    → values_of_texts t ≡ texts_in member.values → s.size ≡ length member.line → IsCharBoundary text s.size
+    → s.key ≡ length member.values.key → s.stamp ≡ member.values.stamp → s.offset ≡ member.values.offset
+    → GoesOn text at (plain_text t) → s.start ≡ at + OPEN → AreEndsOf s.start t s.ends
+    → (s.size ≡ length text → ArePlain t)
     → IsKept limit text s (member_in limit (take s.size text))
 kept_line limit text tail member t at s utf8 entry seam values size line_ends key_size stamp_is offset_is here begins
     ends plain =
     let its = entry_valued limit member.line member entry in
     let key = member.values.key in
     let whole : text ≡ key ++ 32 ∷ (member.values.stamp ++ 32 ∷ (its.object ++ tail)) = grind (arith, append_assoc) in
-    let there = next text utf8 32 (omega arith) 0 key member.values.stamp (its.object ++ tail) (s.key + TO_STAMP) (s.key + TO_STAMP_END)
-    (omega arith, whole) (omega arith) (grind arith) in
+    let there = next text utf8 32 (omega arith) 0 key member.values.stamp (its.object ++ tail) (s.key + TO_STAMP)
+    (s.key + TO_STAMP_END) (omega arith, whole) (omega arith) (grind arith) in
     let parts = parts_there text utf8 at t s.start s.ends here begins ends in
     let texts = texts_there text utf8 at t s.start s.ends here begins ends in
     grind (arith, plain_values, IsCharBoundary-before_ascii, take-append_seam, get_or-append_seam, length-append)
@@ -66,7 +67,8 @@ pub plain_kept : (limit : ℕ) (text key rest stamp object : List ℕ) (t : Text
       start = length key + TO_URL;
       ends = ends;
     }) (member_in limit (take (length text) text))
-plain_kept limit text key rest stamp object t offset ends utf8 all short first some second plain value digits named begins =
+plain_kept limit text key rest stamp object t offset ends utf8 all short first some second plain value digits
+    named begins =
     let good_key = clean_key key (all_parts is_clean text key rest 32 first.0 all).0 first.1 some in
     let keys = first_cut text key rest first in
     let stamps = first_stamp rest stamp object second in
@@ -104,11 +106,12 @@ json_kept limit text body key rest stamp object filename f offset ends utf8 body
     let texts = raw_texts f offset filename in
     let line = line_found key stamp object f found in
     let member : Member = record { values = line_value key stamp (values_of_texts texts) offset; line = body } in
-    let entry = body_entry limit body key rest stamp object member.values body_utf8 short whole k r t o (grind (arith, line_made)) in
+    let entry = body_entry limit body key rest stamp object member.values body_utf8 short whole k r t o
+    (grind (arith, line_made)) in
     let long : length text ≡ length body + length (plain_text texts) = grind (arith, length-append) in
     kept_line limit text (plain_text texts) member texts (length body) _ utf8 entry spelled.text_is (grind arith) refl
-    (grind (arith, IsCharBoundary-before_ascii, get_or-append_seam)) refl refl refl (grind (arith, drop-append_seam)) refl spelled.ends
-    (λ e. absurd (omega arith))
+    (grind (arith, IsCharBoundary-before_ascii, get_or-append_seam)) refl refl refl (grind (arith, drop-append_seam))
+    refl spelled.ends (λ e. absurd (omega arith))
 
 -- the key ends before its line
 pub key_short : (limit : ℕ) (line : List ℕ) (member : Member) → line_entry limit line ≡ Some member

@@ -36,7 +36,9 @@ clean_feed = weaker is_clean (λ b. not (b == 10)) byte_is_no_feed
 -- what stands before the first space of a clean text is a key, if it is not empty
 pub clean_key : (key : List ℕ) → list_all is_clean key ≡ true → list_all (is_other 32) key ≡ true → 0 < length key
     → is_key key ≡ true
-clean_key key h k some = grind (arith, weaker (λ b. is_clean b && is_other 32 b) is_key_byte key_byte key (all_both is_clean (is_other 32) key h k))
+clean_key key h k some =
+    let both_pass = all_both is_clean (is_other 32) key h k in
+    grind (arith, weaker (λ b. is_clean b && is_other 32 b) is_key_byte key_byte key)
 
 pub ascii_utf8 : (xs : List ℕ) → list_all is_unescaped_ascii xs ≡ true → IsUtf8 xs
 ascii_utf8 xs h = grind (arith, IsUtf8-are_ascii, weaker is_unescaped_ascii (λ b. nat_lt b 128) byte_is_ascii)

@@ -28,10 +28,16 @@ invariant_of-result c =
 pub returns : goal.returns
 returns c = grind (arith, line_of_body, take-append_seam, invariant_of-result c)
 
-refused : (c : In-Some) → found_line c.cut_first.result.0.now c.cut_first-2.result.0.now (found_view c.in-Some.found) ≡ None
+refused : (c : In-Some) → found_line c.cut_first.result.0.now c.cut_first-2.result.0.now (found_view c.in-Some.found)
+    ≡ None
     → (length (body_of c.args.line.now) < LINE_LIMIT) × (line_entry LINE_LIMIT c.args.line.now ≡ None)
 refused c none =
-    grind (arith, body_none, line_found c.cut_first.result.0.now c.cut_first-2.result.0.now c.cut_first-2.result.1.now (found_view c.in-Some.found))
+    grind (
+      arith,
+      body_none,
+      line_found c.cut_first.result.0.now c.cut_first-2.result.0.now c.cut_first-2.result.1.now
+          (found_view c.in-Some.found),
+    )
 
 pub returns-in_default-filename : goal.returns-in_default-filename
 returns-in_default-filename c = refused (goal.at.returns-in_default-filename c).In-Some (grind arith)
