@@ -1,6 +1,6 @@
 -- What is found in an object, as its members and its tokens are read.
 use Rattle.std.proofs.Common.{◌≡◌, ℕ, List, [], ◌∷◌, length, Option, Some, None}
-use Rattle.std.proofs.Common.{option_map, option_and_then, refl, arith}
+use Rattle.std.proofs.Common.{option_map, option_and_then, arith}
 use Rattle.std.proofs.lemmas.Slice.Eq.{bytes_eq-Decides}
 use Rattle.json.specs.Token.{Token}
 use Rattle.json.specs.Json as json
@@ -53,9 +53,7 @@ no_more x f t r e = grind arith
 
 more : (o : Option (json.Members × List Token)) (f : FoundValue) (t : Token) (r : List Token)
     → parse_map found_of (converted read_all o) ≡ Some (f, t ∷ r) → whole_found (parse_map json.object o) ≡ None
-more None f t r e = refl
-more (Some (ms, [])) f t r e = absurd (no_more (read_all ms) f t r e)
-more (Some (ms, u ∷ s)) f t r e = refl
+more o f t r e = grind (arith, no_more)
 
 refused_at : (x : Option Members) → parse_map found_of (option_map (λ ms. (ms, [])) x) ≡ None
     → option_and_then object_found (option_map object x) ≡ None

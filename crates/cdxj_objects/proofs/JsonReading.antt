@@ -1,6 +1,6 @@
 -- Tokens that are read for a value, for items and for members, a turn at a time.
 use Rattle.std.proofs.Common.{◌≡◌, ℕ, ◌-◌, ◌<◌, ◌≤◌, List, [], ◌∷◌, length, Option, Some, None}
-use Rattle.std.proofs.Common.{option_map, ap, ◌∙◌, arith}
+use Rattle.std.proofs.Common.{option_map, ap, arith}
 use Rattle.json.specs.Token.{Token}
 use Rattle.json.specs.Json as json
 use Rattle.json.specs.Json.{parse_map, after_end_array, read_key, items, members, value}
@@ -16,7 +16,7 @@ abbrev pub seen : Option (json.Json × List Token) → Option (Data × List Toke
 seen o = parse_map member_data (converted of_json o)
 
 pub read_nothing : (depth : ℕ) → value_read depth [] ≡ None
-read_nothing depth = ap seen (value_is depth [])
+read_nothing depth = grind (arith, value_is)
 
 pub read_null : (depth : ℕ) (r : List Token) → value_read depth (Token.null ∷ r) ≡ Some (null, r)
 read_null depth r = ap seen (value_is depth (Token.null ∷ r))
@@ -52,10 +52,7 @@ pub record Parsed (o : Option (json.Json × List Token)) (v : Data) (r : List To
   pub kept : member_data found ≡ v
 
 parsed : (o : Option (json.Json × List Token)) (v : Data) (r : List Token) → seen o ≡ Some (v, r) → Parsed o v r
-parsed None v r e = absurd (cc)
-parsed (Some p) v r e =
-    let m = mapped_at p.1 r (of_json p.0) v e in
-    record { json = p.0; found = m.0; is = ap (λ s. Some (p.0, s)) m.2; converts = m.1; kept = m.3 }
+parsed o v r e = grind arith
 
 -- ---- items
 
@@ -70,8 +67,8 @@ pub item_passed : (depth n : ℕ) (ts r : List Token) (v : Data) → 0 < n → a
     → value_read depth ts ≡ Some (v, r) → items_left depth n ts ≡ items_left depth (n - 1) r
 item_passed depth n ts r v some going e =
     let p = parsed (value depth ts) v r e in
-    ap (λ o. left (converted of_items o)) (items_more (value depth) n ts r p.json some going p.is)
-    ∙ after_item p.json p.found p.converts (items (value depth) (n - 1) r)
+    let more = items_more (value depth) n ts r p.json some going p.is in
+    grind (arith, after_item)
 
 pub item_not_passed : (depth n : ℕ) (ts : List Token) → after_end_array ts ≡ None → value_read depth ts ≡ None
     → items_left depth n ts ≡ None
@@ -98,12 +95,9 @@ pub member_put : (depth n : ℕ) (found : Members) (k : List ℕ) (ts s r : List
     → read_key ts ≡ Some (Some k, s) → value_read depth s ≡ Some (v, r)
     → (d : Data) × (member_data d ≡ v) × (members_from depth n found ts ≡ members_from depth (n - 1) (put k d found) r)
 member_put depth n found k ts s r v some key e =
-    let p = parsed (value depth s) v r e in (
-      p.found,
-      p.kept,
-      ap (converted (λ ms. of_members ms found)) (members_more (value depth) n k ts s r p.json some key p.is)
-          ∙ after_member k p.json p.found found p.converts (members (value depth) (n - 1) r),
-    )
+    let p = parsed (value depth s) v r e in
+    let more = members_more (value depth) n k ts s r p.json some key p.is in
+    grind (arith, after_member k p.json p.found found p.converts)
 
 pub no_member : (depth n : ℕ) (found : Members) (k : List ℕ) (ts s : List Token) → read_key ts ≡ Some (Some k, s)
     → value_read depth s ≡ None → members_from depth n found ts ≡ None

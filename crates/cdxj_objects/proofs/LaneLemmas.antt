@@ -1,6 +1,6 @@
 -- From vectors that were compared to the fronts of lists.
-use Rattle.std.proofs.Common.{◌≡◌, ℕ, zero, suc, ◌+◌, ◌≤◌, ◌%◌, ◌^◌, ◌||◌, Bool, true, false, not, cond, List, [], ◌∷◌}
-use Rattle.std.proofs.Common.{map, length, take, drop, bit_or, refl, eqb, ltb, arith}
+use Rattle.std.proofs.Common.{◌≡◌, ℕ, suc, ◌+◌, ◌≤◌, ◌%◌, ◌^◌, ◌||◌, Bool, not, cond, List, ◌∷◌}
+use Rattle.std.proofs.Common.{map, length, take, drop, bit_or, eqb, ltb, arith}
 use Rattle.std.specs.Char.{is_ascii_digit}
 use Rattle.std.specs.List.{prefix_len}
 use Rattle.std.proofs.lemmas.List.{length-map}
@@ -14,28 +14,14 @@ differ x y = not (eqb x y)
 
 -- lists that differ nowhere in a front have that front in common
 pub same_front : (n : ℕ) (xs ys : List ℕ) → n ≤ prefix_len not (zip2 differ xs ys) → take n xs ≡ take n ys
-same_front zero xs ys h = refl
-same_front (suc n) [] ys h = absurd (omega arith)
-same_front (suc n) (x ∷ xs) [] h = absurd (omega arith)
-same_front (suc n) (x ∷ xs) (y ∷ ys) h = by (eqb x y) refl (same_front n xs ys) h
-  where
-    by : (b : Bool) → eqb x y ≡ b → (n ≤ prefix_len not (zip2 differ xs ys) → take n xs ≡ take n ys)
-        → suc n ≤ cond (not (not b)) (1 + prefix_len not (zip2 differ xs ys)) 0 → take (suc n) (x ∷ xs) ≡ take (suc n)
-        (y ∷ ys)
-    by true e rest more = grind arith
-    by false e rest more = absurd (omega arith)
+same_front (suc n) (x ∷ xs) (y ∷ ys) h = grind (arith, same_front n xs ys)
+same_front n xs ys h = grind arith
 
 -- the front of bytes that pass a test, as it goes on behind some of them
 pub front_behind : (p : ℕ → Bool) (k : ℕ) (xs : List ℕ) → k ≤ prefix_len p xs → k + prefix_len p (drop k xs) ≡
     prefix_len p xs
-front_behind p zero xs h = omega arith
-front_behind p (suc k) [] h = absurd (omega arith)
-front_behind p (suc k) (x ∷ xs) h = by (p x) (front_behind p k xs) h
-  where
-    by : (b : Bool) → (k ≤ prefix_len p xs → k + prefix_len p (drop k xs) ≡ prefix_len p xs)
-        → suc k ≤ cond b (1 + prefix_len p xs) 0 → suc k + prefix_len p (drop k xs) ≡ cond b (1 + prefix_len p xs) 0
-    by true rest more = grind arith
-    by false rest more = absurd (omega arith)
+front_behind p (suc k) (x ∷ xs) h = grind (arith, front_behind p k xs)
+front_behind p k xs h = grind arith
 
 -- ---- digits
 

@@ -1,12 +1,12 @@
 -- The text of an object is read as its members.
-use Rattle.std.proofs.Common.{◌≡◌, ℕ, ◌≤◌, true, false, cond, List, [], ◌∷◌, ◌++◌, map, Option, Some, option_map}
-use Rattle.std.proofs.Common.{option_and_then, refl, sym, ap, ◌∙◌, arith, append_assoc, append-nil, bytes_eq, flat_map}
-use Rattle.std.proofs.Common.{inl, max}
+use Rattle.std.proofs.Common.{◌≡◌, ℕ, true, false, cond, List, [], ◌∷◌, ◌++◌, map, Option, Some}
+use Rattle.std.proofs.Common.{option_and_then, refl, ap, arith, append_assoc, append-nil, bytes_eq, flat_map}
+use Rattle.std.proofs.Common.{max}
 use Rattle.json.specs.Token.{Token, begin_object, end_object}
 use Rattle.json.specs.Token as tok
 use Rattle.json.specs.Lex.{tokens}
 use Rattle.json.specs.Json as json
-use Rattle.json.specs.Tree.{json_tokens, members_tokens, depth, members_depth}
+use Rattle.json.specs.Tree.{json_tokens, members_tokens, members_depth}
 use Rattle.json.specs.Print.{ArePrintable}
 use Rattle.json.specs.Spaced.{print_spaced, AreGaps, IsGap}
 use Rattle.json.proofs.Printed.Tokens.{tokens-print_spaced}
@@ -53,16 +53,16 @@ tokens_spaced gap (m ∷ ms) = grind (arith, tokens_spaced (32 ∷ []) ms)
 
 gaps : (gap : List ℕ) (ms : List Pair) → IsGap gap → AreGaps (spaced gap ms)
 gaps gap [] h = (tt, tt)
-gaps gap (m ∷ ms) h = (h, ((inl refl, tt), gaps (32 ∷ []) ms (inl refl, tt)))
+gaps gap (m ∷ ms) h = grind (arith, gaps (32 ∷ []) ms)
 
 printable : (gap : List ℕ) (ms : List Pair) → ArePrintable (map (λ p. p.1) (spaced gap ms))
 unfolding ArePrintable
 printable gap [] = (tt, tt)
-printable gap (m ∷ ms) = (tt, (tt, printable (32 ∷ []) ms))
+printable gap (m ∷ ms) = grind (arith, printable (32 ∷ []) ms)
 
 printable_object : (ms : List Pair) → ArePrintable (map (λ p. p.1) (([], begin_object) ∷ spaced [] ms))
 unfolding ArePrintable
-printable_object ms = (tt, printable [] ms)
+printable_object ms = grind (arith, printable)
 
 flat : (ms : List Pair) → members_depth (jmembers ms) ≡ 0
 flat [] = refl
@@ -71,9 +71,9 @@ flat (m ∷ ms) = ap (max 0) (flat ms)
 pub tokens_object : (m : Pair) (ms : List Pair) → tokens (object_text (m ∷ ms)) ≡ json_tokens
     (json.object (jmembers (m ∷ ms)))
 tokens_object m ms =
-    ap tokens (sym (object_spaced m ms)) ∙ tokens-print_spaced (([], begin_object) ∷ spaced [] (m ∷ ms))
-    (tt, gaps [] (m ∷ ms) tt) (printable_object (m ∷ ms))
-    ∙ ap (λ ts. begin_object ∷ ts) (tokens_spaced [] (m ∷ ms))
+    let spaces = gaps [] (m ∷ ms) tt in
+    let texts = printable_object (m ∷ ms) in
+    grind (arith, object_spaced, tokens_spaced, tokens-print_spaced (([], begin_object) ∷ spaced [] (m ∷ ms)))
 
 -- ---- the members that are read
 
@@ -83,7 +83,7 @@ put_all (m ∷ ms) found = put_all ms (put m.0 (string m.1) found)
 
 read_members : (ms : List Pair) (found : Members) → of_members (jmembers ms) found ≡ Some (put_all ms found)
 read_members [] found = refl
-read_members (m ∷ ms) found = read_members ms (put m.0 (string m.1) found)
+read_members (m ∷ ms) found = grind (arith, read_members ms)
 
 abbrev whole : Option (json.Json × List Token) → Option Data
 whole o = option_and_then of_json (option_and_then (λ p. json.if_last p.0 p.1) o)
@@ -92,10 +92,8 @@ pub read_object : (m : Pair) (ms : List Pair) → read (object_text (m ∷ ms)) 
     (object (put_all (m ∷ ms) no_members))
 read_object m ms =
     let j = json.object (jmembers (m ∷ ms)) in
-    let shallow : depth j ≤ max_depth = omega (arith, flat (m ∷ ms)) in
-    ap whole (ap (json.value max_depth) (tokens_object m ms ∙ sym (append-nil (json_tokens j)))
-    ∙ value-json_tokens j max_depth [] shallow)
-    ∙ ap (option_map object) (read_members (m ∷ ms) no_members)
+    let shallow = flat (m ∷ ms) in
+    grind (arith, tokens_object, append-nil, read_members, value-json_tokens j max_depth [])
 
 -- the last text of a name, or what was there
 abbrev pub found_in : List ℕ → List Pair → Option Data → Option Data

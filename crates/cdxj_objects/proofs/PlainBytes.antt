@@ -1,10 +1,9 @@
 -- Plain bytes are those that are no quote, no backslash and no control.
 use Rattle.std.proofs.lemmas.Grind.{common_steps}
 use Rattle.std.proofs.Common.{◌≡◌, ℕ, ◌<◌, ◌^◌, decimal, Bool, true, not, ◌&&◌, nat_lt, nat_le, List}
-use Rattle.std.proofs.Common.{[], ◌∷◌, refl, ◌∙◌, arith}
+use Rattle.std.proofs.Common.{[], ◌∷◌, refl, arith}
 use Rattle.std.specs.List.{list_all}
 use Rattle.std.specs.Char.{is_ascii_digit}
-use Rattle.std.proofs.lemmas.Bool.{and_parts}
 use Rattle.std.proofs.lemmas.Bool.Decides.{nat_tests}
 use Rattle.std.proofs.lemmas.List.Folds.{list_all-append}
 use Rattle.std.proofs.lemmas.Fmt.{digits_decimal}
@@ -12,13 +11,12 @@ use Rattle.json.specs.Run.{is_plain}
 use Rattle.cdxj_objects.specs.Texts.{TextsValue}
 use Rattle.cdxj_objects.specs.Plain.{is_open, is_unescaped, AreOpen, ArePlain, after, plain_text}
 use Rattle.cdxj_places.proofs.Offsets.{own}
-use Rattle.cdxj_places.proofs.PlaceLaw.{both}
 
 -- what passes a test passes a weaker one
 pub weaker : (p q : ℕ → Bool) → ((b : ℕ) → p b ≡ true → q b ≡ true) → (xs : List ℕ) → list_all p xs ≡ true
     → list_all q xs ≡ true
 weaker p q f [] h = refl
-weaker p q f (x ∷ xs) h = let parts = and_parts (p x) (list_all p xs) h in grind (arith, weaker p q f xs parts.1)
+weaker p q f (x ∷ xs) h = grind (arith, weaker p q f xs)
 
 not_below : (b : ℕ) → not (nat_lt b 32) ≡ nat_le 32 b
 not_below b = grind (arith, nat_tests)
@@ -34,9 +32,7 @@ regroup a b c d = grind arith
 
 pub list_all_plain : (xs : List ℕ) → list_all is_plain xs ≡ (list_all is_open xs && list_all is_unescaped xs)
 list_all_plain [] = refl
-list_all_plain (x ∷ xs) =
-    (λ i. plain_byte x i && list_all_plain xs i) ∙ regroup (is_open x) (is_unescaped x) (list_all is_open xs)
-    (list_all is_unescaped xs)
+list_all_plain (x ∷ xs) = grind (arith, plain_byte, list_all_plain xs)
 
 -- ---- the texts of an object that has no control
 
@@ -45,7 +41,7 @@ within : (front text rest : List ℕ) → list_all is_unescaped (after front tex
 within front text rest h = grind (arith, list_all-append)
 
 plain_from : (xs : List ℕ) → list_all is_open xs ≡ true → list_all is_unescaped xs ≡ true → list_all is_plain xs ≡ true
-plain_from xs h k = list_all_plain xs ∙ both _ _ h k
+plain_from xs h k = grind (arith, list_all_plain)
 
 pub plain_where_unescaped : (t : TextsValue) → AreOpen t → list_all is_unescaped (plain_text t) ≡ true → ArePlain t
 plain_where_unescaped t h k = grind (arith, common_steps, plain_from)
@@ -59,4 +55,4 @@ pub digits_plain : (digits : List ℕ) → list_all is_ascii_digit digits ≡ tr
 digits_plain = weaker is_ascii_digit is_plain digit_is_plain
 
 pub plain_decimal : (n : ℕ) → n < 2 ^ 63 → list_all is_plain (decimal n) ≡ true
-plain_decimal n h = digits_plain (decimal n) (digits_decimal own n (omega (arith, h)))
+plain_decimal n h = grind (arith, digits_plain, digits_decimal, own)

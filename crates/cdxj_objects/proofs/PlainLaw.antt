@@ -1,15 +1,13 @@
 -- What a plain object is read as.
-use Rattle.std.proofs.Common.{◌≡◌, ℕ, ◌<◌, ◌^◌, Bool, true, cond, List, [], ◌∷◌, ◌++◌, length, decimal}
-use Rattle.std.proofs.Common.{Some, None, get_or, append_assoc, flat_map, codes, refl, sym, ap, ◌∙◌, arith}
+use Rattle.std.proofs.Common.{◌≡◌, ℕ, Bool, true, cond, List, [], ◌∷◌, ◌++◌, length, decimal}
+use Rattle.std.proofs.Common.{Some, None, get_or, append_assoc, flat_map, codes, refl, arith}
 use Rattle.std.specs.List.{list_all}
-use Rattle.std.specs.Str.Parse.{digits_value}
-use Rattle.std.proofs.lemmas.Bool.{and_parts, eqb-false, ltb-false, ltb-true}
 use Rattle.std.proofs.lemmas.Fmt.{decimal-digits_value}
 use Rattle.json.specs.Print.{quoted, escape}
 use Rattle.json.specs.Run.{is_plain}
 use Rattle.json.proofs.Printed.Strings.{escape_byte_plain}
 use Rattle.serde_json.specs.Read.{read}
-use Rattle.cdxj_places.specs.Places.{offset_of, is_offset}
+use Rattle.cdxj_places.specs.Places.{offset_of}
 use Rattle.cdxj_places.proofs.Offsets.{own}
 use Rattle.cdxj_objects.specs.Names.{url_name, mime_name, status_name, digest_name, length_name, offset_name}
 use Rattle.cdxj_objects.specs.Names.{filename_name}
@@ -23,9 +21,7 @@ use Rattle.cdxj_objects.proofs.TextsLaw.{first_of, later_of, data_of, read_texts
 
 pub escape_plain : (s : List ℕ) → list_all is_plain s ≡ true → escape s ≡ s
 escape_plain [] h = refl
-escape_plain (x ∷ xs) h =
-    let parts = and_parts (is_plain x) (list_all is_plain xs) h in
-    grind (arith, escape_byte_plain, eqb-false, ltb-false, escape_plain xs parts.1)
+escape_plain (x ∷ xs) h = grind (arith, escape_byte_plain, escape_plain xs)
 
 -- ---- the text, as that of members
 
@@ -59,10 +55,10 @@ object_is m ms h = grind (arith, append_assoc, rest_is, escape_plain, regroup)
 -- ---- the seven members
 
 plain_text_is : (t : TextsValue) → ArePlain t → plain_text t ≡ object_text (first_of t ∷ later_of t)
-plain_text_is t h = sym (object_is (first_of t) (later_of t) (grind arith))
+plain_text_is t h = grind (arith, object_is (first_of t) (later_of t))
 
 pub read_plain : (t : TextsValue) → ArePlain t → read (plain_text t) ≡ Some (data_of t)
-read_plain t h = ap read (plain_text_is t h) ∙ read_texts t
+read_plain t h = grind (arith, plain_text_is, read_texts)
 
 -- ---- the offset
 
@@ -71,13 +67,7 @@ if_some b v n h = grind arith
 
 pub canonical_decimal : (ds : List ℕ) (n : ℕ) → offset_of ds ≡ Some n → (get_or ds 0 0 ≡ 48 → length ds ≡ 1)
     → ds ≡ decimal n
-canonical_decimal ds n h single =
-    let parts = if_some (is_offset ds) (digits_value 10 ds) n h in
-    let outer = and_parts _ _ parts.0 in
-    let small : digits_value 10 ds < 2 ^ 63 = ltb-true _ _ outer.1 in
-    let inner = and_parts _ _ outer.0 in
-    let some : 0 < length ds = ltb-true _ _ (and_parts _ _ inner.0).0 in
-    sym (decimal-digits_value own ds inner.1 some single (omega (arith, small))) ∙ ap decimal parts.1
+canonical_decimal ds n h single = grind (arith, decimal-digits_value own ds)
 
 -- ---- writing
 
@@ -101,4 +91,4 @@ pub in_one : (old : List ℕ) (t : TextsValue) → in_pieces old t ≡ old ++ pl
 in_one old t = simp append_assoc
 
 pub plain_object : (old : List ℕ) (t : TextsValue) → ArePlain t → in_pieces old t ≡ old ++ object_text (text_members t)
-plain_object old t h = in_one old t ∙ ap (λ o. old ++ o) (plain_text_is t h)
+plain_object old t h = grind (arith, in_one, plain_text_is)

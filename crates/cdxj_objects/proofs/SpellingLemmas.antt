@@ -18,7 +18,7 @@ text_stands s some = grind arith
 
 -- a number has a text
 pub number_stands : (n : ℕ) → n < 2 ^ 64 → or_missing (decimal n) ≡ decimal n
-number_stands n small = text_stands (decimal n) (decimal_nonempty n small)
+number_stands n small = grind (arith, text_stands, decimal_nonempty)
 
 -- the texts that were pushed one after another, and the lengths after each
 pub is_spelled : (line filename : List ℕ) (found : FoundValue) (offset : ℕ) (s0 s1 s2 s3 s4 s5 s6 s7 s8 : List ℕ)

@@ -9,9 +9,9 @@ use Rattle.json.specs.Text.{code_unit, is_high_surrogate, is_low_surrogate, surr
 use Rattle.json.specs.Text.{after_backslash, after_u, after_high, prepend, content}
 use Rattle.json.specs.Token.{Token}
 use Rattle.json.specs.Word.{head, after_number, number_before, literal, word}
-use Rattle.json.specs.Lex.{Lexeme, token, comma, colon, Class, quote, backslash, operator, space, other, class}
-use Rattle.json.specs.Lex.{Mode, between, in_word, in_string, in_escape, lex_byte, lex, Place, fresh}
-use Rattle.json.specs.Lex.{after_value, after_comma, after_key, begins_colon, place_token, punctuate, tokens}
+use Rattle.json.specs.Lex.{Lexeme, token, comma, colon, Class, quote, other, class}
+use Rattle.json.specs.Lex.{Mode, between, in_word, lex_byte, lex, Place, fresh}
+use Rattle.json.specs.Lex.{place_token, punctuate, tokens}
 
 -- ---- what an option may have
 
@@ -56,26 +56,18 @@ short_content n after_backslash [] le = tt
 short_content n after_backslash (x ∷ xs) le =
     either (Each (UpTo n)) (x == 117) _ _ (short_content n after_u xs (omega arith))
     (grind (arith, short_content (length xs) plain xs (omega arith)))
-short_content n after_u [] le = tt
-short_content n after_u (a ∷ []) le = tt
-short_content n after_u (a ∷ b ∷ []) le = tt
-short_content n after_u (a ∷ b ∷ c ∷ []) le = tt
 short_content n after_u (a ∷ b ∷ c ∷ d ∷ xs) le =
     after_unit n _ (code_unit a b c d) (λ u. either (Each (UpTo n)) (is_high_surrogate u) _ _
     (short_content n (after_high u) xs (omega arith))
     (either (Each (UpTo n)) (is_low_surrogate u) _ _ tt (prepended n (length xs) (encode_utf8 u) _
     (omega (arith, length-encode u)) (short_content (length xs) plain xs (omega arith)))))
-short_content n (after_high h) [] le = tt
-short_content n (after_high h) (s ∷ []) le = tt
-short_content n (after_high h) (s ∷ u ∷ []) le = tt
-short_content n (after_high h) (s ∷ u ∷ a ∷ []) le = tt
-short_content n (after_high h) (s ∷ u ∷ a ∷ b ∷ []) le = tt
-short_content n (after_high h) (s ∷ u ∷ a ∷ b ∷ c ∷ []) le = tt
+short_content n after_u xs le = tt
 short_content n (after_high h) (s ∷ u ∷ a ∷ b ∷ c ∷ d ∷ xs) le =
     either (Each (UpTo n)) ((s == 92) && (u == 117)) _ _ (after_unit n _ (code_unit a b c d)
     (λ l. either (Each (UpTo n)) (is_low_surrogate l) _ _
     (prepended n (length xs) (encode_utf8 (surrogate_pair h l)) _ (omega (arith, length-encode (surrogate_pair h l)))
     (short_content (length xs) plain xs (omega arith))) tt)) tt
+short_content n (after_high h) xs le = tt
 
 -- ---- the tokens of a text
 
@@ -116,21 +108,8 @@ short_word n t =
 short_byte : (n : ℕ) (m : Mode) (c : Class) (x : ℕ) (xs : List ℕ) (k : Mode → List Lexeme) → length xs ≤ n
     → ((next : Mode) → AllByRecursion (ShortLexeme n) (k next)) → AllByRecursion (ShortLexeme n) (lex_byte m c x xs k)
 short_byte n between quote x xs k le h = grind (arith, short_content)
-short_byte n between backslash x xs k le h = (tt, h in_word)
-short_byte n between operator x xs k le h = grind (arith, between)
-short_byte n between space x xs k le h = h between
 short_byte n between other x xs k le h = (short_word n (x ∷ xs), h in_word)
-short_byte n in_word quote x xs k le h = h in_word
-short_byte n in_word backslash x xs k le h = h in_word
-short_byte n in_word operator x xs k le h = grind (arith, between)
-short_byte n in_word space x xs k le h = h between
-short_byte n in_word other x xs k le h = h in_word
-short_byte n in_string quote x xs k le h = h between
-short_byte n in_string backslash x xs k le h = h in_escape
-short_byte n in_string operator x xs k le h = h in_string
-short_byte n in_string space x xs k le h = h in_string
-short_byte n in_string other x xs k le h = h in_string
-short_byte n in_escape c x xs k le h = h in_string
+short_byte n m c x xs k le h = grind (arith, between)
 
 short_lex : (n : ℕ) (m : Mode) (xs : List ℕ) → length xs ≤ n → AllByRecursion (ShortLexeme n) (lex m xs)
 unfolding lex
@@ -145,25 +124,10 @@ short_placed n p t b k h rest = grind arith
 short_punctuated : (n : ℕ) (p : Place) (ls : List Lexeme) → AllByRecursion (ShortLexeme n) ls
     → AreShort n (punctuate p ls)
 unfolding punctuate
-short_punctuated n fresh [] h = tt
-short_punctuated n after_value [] h = tt
-short_punctuated n after_comma [] h = (tt, tt)
-short_punctuated n after_key [] h = (tt, tt)
-short_punctuated n fresh (token t ∷ ls) h = short_placed n fresh t (begins_colon ls) (λ next. punctuate next ls) h.0
-    (λ next. short_punctuated n next ls h.1)
-short_punctuated n after_value (token t ∷ ls) h = short_placed n after_value t (begins_colon ls)
-    (λ next. punctuate next ls) h.0 (λ next. short_punctuated n next ls h.1)
-short_punctuated n after_comma (token t ∷ ls) h = short_placed n after_comma t (begins_colon ls)
-    (λ next. punctuate next ls) h.0 (λ next. short_punctuated n next ls h.1)
-short_punctuated n after_key (token t ∷ ls) h = grind arith
-short_punctuated n fresh (comma ∷ ls) h = (tt, tt)
-short_punctuated n after_value (comma ∷ ls) h = short_punctuated n after_comma ls h.1
-short_punctuated n after_comma (comma ∷ ls) h = (tt, tt)
-short_punctuated n after_key (comma ∷ ls) h = (tt, tt)
-short_punctuated n fresh (colon ∷ ls) h = (tt, tt)
-short_punctuated n after_value (colon ∷ ls) h = (tt, tt)
-short_punctuated n after_comma (colon ∷ ls) h = (tt, tt)
-short_punctuated n after_key (colon ∷ ls) h = short_punctuated n fresh ls h.1
+short_punctuated n p [] h = grind arith
+short_punctuated n p (l ∷ ls) h =
+    let rest = λ (next : Place) (h : AllByRecursion (ShortLexeme n) ls). short_punctuated n next ls h in
+    grind arith
 
 pub short_tokens : (text : List ℕ) → AreShort (length text) (tokens text)
 short_tokens text = short_punctuated (length text) fresh (lex between text) (grind (arith, short_lex))

@@ -1,4 +1,4 @@
-use Rattle.std.proofs.Common.{◌≡◌, ◌-◌, ◌<◌, length, Some, None, refl, arith}
+use Rattle.std.proofs.Common.{◌≡◌, ◌<◌, length, Some, None, refl, arith}
 use Rattle.json.specs.Json.{after_end_array, read_key}
 use Rattle.json.proofs.Grammar.{value_is, read_key-shorter}
 use Rattle.serde_json.specs.Data.{no_members}
@@ -61,14 +61,9 @@ pass_items-items-preserved t c =
     let l = c.items in
     let n = l.invariant.0 in
     let going : (after_end_array l.reader ≡ None) × (c.take_end_array.new.self ≡ l.reader) = grind arith in
-    let done = c.in_ok-read_value.ensures in
-    let r = c.read_value.new.reader in
-    let less : length r < length l.reader = rw (← going.1) done.shorter in (
-      n - 1,
-      omega (arith, l.invariant.1),
-      grind (arith, item_passed),
-      omega (arith, l.invariant.3),
-    )
+    let less : length c.read_value.new.reader < length l.reader = rw (← going.1) c.in_ok-read_value.ensures.shorter in
+    let one = item_passed c.args.depth n l.reader c.read_value.new.reader in
+    grind arith
 
 pub pass_items-returns-clause-value : goal.pass_items-returns-clause-value
 pass_items-returns-clause-value t c = grind (arith, items_end)
@@ -85,15 +80,10 @@ pass_members-returns-in_err-read_value-clause-value t c = grind (arith, no_membe
 pub pass_members-members-preserved : goal.pass_members-members-preserved
 pass_members-members-preserved t c =
     let l = c.members in
-    let n = l.invariant.0 in
-    let k = c.in-Some._name.now in
-    let s = c.next_key.new.self in
-    let named : read_key l.reader ≡ Some (Some k, s) = grind arith in
-    let done = c.in_ok-read_value.ensures in
-    let r = c.read_value.new.reader in
-    let less = read_key-shorter l.reader (Some k) s named in
-    let one = member_put c.args.depth n l.invariant.1 k l.reader s r (value_view c.in_ok-read_value.field-0)
-    (omega (arith, l.invariant.2)) named done.value in grind arith
+    let named : read_key l.reader ≡ Some (Some c.in-Some._name.now, c.next_key.new.self) = grind arith in
+    let less = read_key-shorter l.reader (Some c.in-Some._name.now) c.next_key.new.self named in
+    let one = member_put c.args.depth l.invariant.0 l.invariant.1 c.in-Some._name.now l.reader c.next_key.new.self
+    c.read_value.new.reader (value_view c.in_ok-read_value.field-0) (omega (arith, l.invariant.2)) named c.in_ok-read_value.ensures.value in grind arith
 
 pub pass_members-returns-clause-value : goal.pass_members-returns-clause-value
 pass_members-returns-clause-value t c = grind (arith, members_end)

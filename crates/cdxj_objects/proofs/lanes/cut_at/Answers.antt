@@ -1,4 +1,4 @@
-use Rattle.std.proofs.Common.{◌≡◌, ◌++◌, ◌∷◌, take, get_or, sym, ◌∙◌, arith}
+use Rattle.std.proofs.Common.{◌≡◌, get_or, arith}
 use Rattle.std.specs.List.{prefix_len}
 use Rattle.std.proofs.lemmas.List.Sums.{prefix_len_stops}
 use Rattle.std.proofs.lemmas.Str.{IsCharBoundary-after_ascii}
@@ -18,17 +18,13 @@ range-requires-clause-end_boundary c = grind (arith, byte_at)
 
 pub range_from-requires : goal.range_from-requires
 range_from-requires c =
-    let here = (goal.at.range_from-requires c).Then-end-text in
-    λ some. IsCharBoundary-after_ascii c.args.text.now c.length_before-end.result c.utf8.text c.if-end-text.true
-    (omega (arith, byte_at here, c.requires))
+    let byte = byte_at (goal.at.range_from-requires c).Then-end-text in
+    grind (arith, IsCharBoundary-after_ascii, c.utf8.text)
 
 pub returns-then-end-text : goal.returns-then-end-text
 returns-then-end-text c =
-    let here = (goal.at.returns-then-end-text c).Then-end-text in
-    let text = c.args.text.now in
-    let end = c.length_before-end.result in
-    let front : c.range.result.now ≡ take end text = grind arith in
-    let back = c.range_from.ensures.value in (
-      cut_at text end c.if-end-text.true ∙ (λ i. sym front i ++ byte_at here i ∷ sym back i),
-      grind (arith, length_is, front_passes),
-    )
+    let byte = byte_at (goal.at.returns-then-end-text c).Then-end-text in
+    let cut = cut_at c.args.text.now c.length_before-end.result c.if-end-text.true in
+    let front = front_passes (is_other c.args.byte) c.args.text.now in
+    let length = length_is (goal.at.returns-then-end-text c).Then-end-text in
+    grind arith

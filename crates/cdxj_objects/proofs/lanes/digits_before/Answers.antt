@@ -1,5 +1,4 @@
-use Rattle.std.proofs.Common.{ap, ◌∙◌, cond, eqb, ltb, arith}
-use lib.Count.{count_trailing_zeros}
+use Rattle.std.proofs.Common.{ltb, arith}
 use lib.Lanes.{chunk}
 use Rattle.std.proofs.lemmas.Simd.{length-chunk, zip2_splat, zip2_splat_left, first_set_mask_l}
 use Rattle.cdxj_objects.proofs.LaneLemmas.{no_digit, digit_masks, digit_runs}
@@ -9,6 +8,4 @@ pub returns : goal.returns
 returns c =
     let v = chunk 0 16 c.args.bytes.now in
     let all = length-chunk 0 16 c.args.bytes.now c.requires in
-    c.first_set.ensures ∙ ap (λ m. cond (eqb m 0) 16 (count_trailing_zeros 64 m))
-    (grind (arith, digit_masks, zip2_splat, zip2_splat_left, ltb)) ∙ first_set_mask_l no_digit v 16 all (omega arith)
-    ∙ digit_runs v
+    grind (arith, digit_masks, zip2_splat, zip2_splat_left, ltb, first_set_mask_l no_digit v 16 all, digit_runs v)

@@ -1,4 +1,4 @@
-use Rattle.std.proofs.Common.{◌≡◌, ◌+◌, ◌-◌, length, drop, length-drop, take_all, ap, ◌∙◌, ◌≤◌, arith}
+use Rattle.std.proofs.Common.{◌≡◌, ◌+◌, ◌-◌, length, drop, length-drop, take_all, ap, ◌∙◌, arith}
 use Rattle.std.proofs.lemmas.Bool.{cond-true, eq-eqb}
 use Rattle.std.specs.List.{prefix_len}
 use lib.Lanes.{chunk}
@@ -15,24 +15,14 @@ by_lanes-preserved c =
     let other = is_other c.args.byte in
     let end = c.by_lanes.end in
     let lanes = chunk end 16 bytes in
-    let room : end + 16 ≤ length bytes = omega (arith, c.by_lanes.invariant.0, c.by_lanes-test.true) in
-    let all = length-chunk end 16 bytes room in
-    let whole : prefix_len other lanes ≡ length lanes = omega (
-      arith,
-      c.run_before-run.ensures,
-      c.if-run-lt-LANES.false,
-      prefix_len-le-length other lanes,
-      all,
-    ) in
+    let all = length-chunk end 16 bytes (omega arith) in
+    let whole : prefix_len other lanes ≡ length lanes = omega (arith, prefix_len-le-length other lanes) in
     let cut = ap (prefix_len other) (chunk-drop end 16 bytes) ∙ prefix_len-append other lanes (drop (end + 16) bytes)
     ∙ cond-true _ _ _ (eq-eqb _ _ whole) in
     grind arith
 
 pub returns-then-bytes-ge-LANES : goal.returns-then-bytes-ge-LANES
 returns-then-bytes-ge-LANES c =
-    let bytes = c.args.bytes.now in
-    let other = is_other c.args.byte in
-    let last = length bytes - 16 in
-    let early : last ≤ prefix_len other bytes = omega (arith, c.by_lanes.invariant.1, c.by_lanes-test.false) in
-    let whole = take_all 16 (drop last bytes) (omega (arith, length-drop last bytes, c.if-bytes-ge-LANES.true)) in
-    omega (arith, c.run_before.ensures ∙ ap (prefix_len other) whole, front_behind other last bytes early)
+    let last = length c.args.bytes.now - 16 in
+    let whole = take_all 16 (drop last c.args.bytes.now) (grind (arith, length-drop)) in
+    grind (arith, front_behind (is_other c.args.byte) last c.args.bytes.now)

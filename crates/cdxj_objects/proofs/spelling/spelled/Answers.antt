@@ -13,12 +13,7 @@ returns c =
     let digest = c.in_ok-digest.ensures in
     let size = c.in_ok-length.ensures in
     let offset = c.in_ok-offset.ensures in
-    is_spelled c.args.line.now c.args.filename.now (found_view c.args.found) c.args.offset
-    (string_bytes c.push_str.new.self) (string_bytes c.push_member.new.text) (string_bytes c.push_member-2.new.text)
-    (string_bytes c.push_member-3.new.text)
-    (string_bytes c.push_member-4.new.text) (string_bytes c.push_member-5.new.text) (string_bytes c.push_value.new.text)
-    (string_bytes c.push_value-2.new.text)
-    (string_bytes c.push_str-2.new.self) _
+    is_spelled c.args.line.now c.args.filename.now (found_view c.args.found) c.args.offset _ _ _ _ _ _ _ _ _ _
     (c.in_ok-push_str.ensures.bytes ∙ ap (λ l. l ++ c.args.line.now) c.in_ok-text.ensures.bytes)
     url.bytes mime.bytes status.bytes digest.bytes size.bytes
     (offset.bytes ∙ ap (λ n. string_bytes c.push_member-5.new.text ++ (between offset_name ++ n))

@@ -5,13 +5,7 @@ use Rattle.cdxj_objects.proofs.found_members.FoundMembers.of_tokens.Goals.{in_de
 use Rattle.cdxj_objects.proofs.found_members.FoundMembers.of_tokens.Goals.{in_default-via-in_default}
 
 pub returns-in_default : goal.returns-in_default
-returns-in_default c =
-    elim c.in_default.branch [
-      | in_default-via-in-Some+in_default w ↦ no_brace c.next.result c.args.reader.now c.next.new.self
-          c.next.ensures.value (λ e. grind arith)
-      | in_default-via-in_default w ↦ no_brace c.next.result c.args.reader.now c.next.new.self c.next.ensures.value
-          (λ e. grind arith)
-    ]
+returns-in_default c = no_brace c.next.result c.args.reader.now c.next.new.self c.next.ensures.value (λ e. grind arith)
 
 pub returns-in_err-found : goal.returns-in_err-found
 returns-in_err-found c = grind (arith, object_refused)

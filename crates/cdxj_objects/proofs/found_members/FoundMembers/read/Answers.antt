@@ -1,8 +1,7 @@
-use Rattle.std.proofs.Common.{◌≡◌, ◌-◌, length, Some, None, sym, ap, ◌∙◌, refl, arith}
-use Rattle.json.specs.Json.{read_key, parse_map}
+use Rattle.std.proofs.Common.{◌≡◌, ◌-◌, length, Some, None, refl, arith}
+use Rattle.json.specs.Json.{read_key}
 use Rattle.json.proofs.Grammar.{read_key-shorter}
 use Rattle.serde_json.specs.Data.{no_members, put}
-use Rattle.cdxj_objects.specs.FoundMembers.{found_of}
 use Rattle.cdxj_objects.specs.FoundViews.{value_view}
 use Rattle.cdxj_objects.proofs.JsonReading.{member_put, no_member, members_end}
 use Rattle.cdxj_objects.proofs.FoundLaw.{found_put}
@@ -21,26 +20,16 @@ returns-in_err-value c = grind (arith, no_member)
 pub members-preserved : goal.members-preserved
 members-preserved c =
     let l = c.members in
-    let n = l.invariant.0 in
-    let k = c.in-Some.name.now in
-    let s = c.next_key.new.self in
-    let named : read_key l.reader ≡ Some (Some k, s) = grind arith in
+    let named : read_key l.reader ≡ Some (Some c.in-Some.name.now, c.next_key.new.self) = grind arith in
     let done = c.in_ok-value.ensures in
-    let r = c.read_value.new.reader in
-    let less = read_key-shorter l.reader (Some k) s named in
-    let one = member_put 126 n l.invariant.1 k l.reader s r (value_view c.in_ok-value.value)
-    (omega (arith, l.invariant.2)) named done.value in (
-      n - 1,
-      put k one.0 l.invariant.1,
-      omega (arith, l.invariant.2),
-      l.invariant.3 ∙ one.2,
-      grind (arith, found_put),
-    )
+    let less = read_key-shorter l.reader (Some c.in-Some.name.now) c.next_key.new.self named in
+    let one = member_put 126 l.invariant.0 l.invariant.1 c.in-Some.name.now l.reader c.next_key.new.self
+    c.read_value.new.reader (value_view c.in_ok-value.value) (omega (arith, l.invariant.2)) named done.value in
+    (l.invariant.0 - 1, put c.in-Some.name.now one.0 l.invariant.1, omega arith, grind arith, grind (arith, found_put))
 
 pub returns : goal.returns
 returns c =
     let l = c.members in
-    let r = c.next_key.new.self in
-    let over : read_key l.reader ≡ Some (None, r) = grind arith in
-    ap (parse_map found_of) (l.invariant.3 ∙ members_end 126 l.invariant.0 l.invariant.1 l.reader r l.invariant.2 over)
-    ∙ ap (λ f. Some (f, r)) (sym l.invariant.4)
+    let over : read_key l.reader ≡ Some (None, c.next_key.new.self) = grind arith in
+    let ends = members_end 126 l.invariant.0 l.invariant.1 l.reader c.next_key.new.self l.invariant.2 over in
+    grind arith
