@@ -1,8 +1,7 @@
 -- The file name of a line is no longer than the line: it is a string of the line's object.
-use Rattle.std.proofs.Common.{◌≡◌, ℕ, zero, suc, ◌≤◌, List, length, Ordering}
-use Rattle.std.proofs.Common.{Option, Some, arith}
+use Rattle.std.proofs.Common.{◌≡◌, ℕ, zero, suc, ◌≤◌, List, length}
+use Rattle.std.proofs.Common.{Some, arith}
 use Rattle.std.specs.Prelude.{⊤}
-use Rattle.std.specs.Ordering.{match_ordering}
 use Rattle.std.proofs.lemmas.List.{length-append}
 use Rattle.json.specs.Token.{Token}
 use Rattle.json.specs.Lex.{tokens}
@@ -41,18 +40,12 @@ ShortJson n (json.object ms) = ShortStrings n ms
 abbrev Any : {A : Type 0} → A → Type 0
 Any a = ⊤
 
-each_any : {A : Type 0} (o : Option A) → Each Any o
-each_any o = grind arith
-
 -- what was parsed, and the tokens after it
 abbrev Parsed : {A : Type 0} → ℕ → (A → Type 0) → A × List Token → Type 0
 Parsed n P p = P p.0 × AreShort n p.1
 
 abbrev Parses : {A : Type 0} → ℕ → (A → Type 0) → Parse A → Type 0
 Parses n P parse = (ts : List Token) → AreShort n ts → Each (Parsed n P) (parse ts)
-
-after_end : (n : ℕ) (ts : List Token) → AreShort n ts → Each (AreShort n) (after_end_array ts)
-after_end n ts h = grind arith
 
 module _ (n : ℕ) (p : Parse Json) (parses : Parses n (ShortJson n) p) where
   parses_items : (k : ℕ) → Parses n Any (items p k)
@@ -78,9 +71,6 @@ parses_value n (suc depth) =
     grind (arith, one_level)
 
 -- ---- the data that the value is
-
-ordered : {A : Type 0} (P : A → Type 0) (o : Ordering) (x y z : A) → P x → P y → P z → P (match_ordering o x y z)
-ordered P o x y z p q r = grind arith
 
 abbrev ShortText : ℕ → Data → Type 0
 ShortText n Data.null = ⊤

@@ -28,15 +28,6 @@ abbrev pub found_line : List ℕ → List ℕ → FoundValue → Option LineValu
 found_line key stamp f = line_of key stamp (value_text f.url) (value_text f.mime) (value_text f.status)
     (value_text f.digest) (value_text f.length) (offset_value f.offset) (filename_value f.filename)
 
-seven : (key stamp : List ℕ) (url mime status digest length offset filename : Option Data)
-    → line_of key stamp (value_text url) (value_text mime) (value_text status) (value_text digest) (value_text length)
-    (offset_value offset) (filename_value filename)
-    ≡ line_of key stamp (value_text (option_map member_data url)) (value_text (option_map member_data mime))
-    (value_text (option_map member_data status)) (value_text (option_map member_data digest))
-    (value_text (option_map member_data length)) (offset_value (option_map member_data offset))
-    (filename_value (option_map member_data filename))
-seven key stamp url mime status digest length offset filename = grind (arith, value_text-seen)
-
 members_line : (key stamp : List ℕ) (ms : Members) → line_from key stamp (object ms) ≡ found_line key stamp
     (found_of ms)
 members_line key stamp ms = grind (arith, value_text-seen)

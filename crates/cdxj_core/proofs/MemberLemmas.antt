@@ -1,7 +1,7 @@
 -- The entry of a line.
 use Rattle.std.proofs.lemmas.Grind.{common_steps}
 use Rattle.std.proofs.Common.{◌≡◌, ℕ, ◌<◌, ◌≤◌, true, List, length}
-use Rattle.std.proofs.Common.{Option, Some, None, option_map, arith}
+use Rattle.std.proofs.Common.{Some, None, arith}
 use Rattle.std.specs.Str.{IsUtf8}
 use Rattle.std.proofs.lemmas.Str.{IsUtf8-from_is_utf8, is_utf8-from_IsUtf8}
 use Rattle.std.specs.List.{before_first, after_first}
@@ -11,21 +11,11 @@ use Rattle.cdxj_core.specs.Lines.{LineValue, has_no_feed, line_object, line_part
 use Rattle.cdxj_core.specs.Members.{Member, member_pair, entry_member, line_entry}
 use Rattle.cdxj_core.proofs.EntryRead.{body_of-feed}
 use Rattle.cdxj_core.proofs.EntryUtf8.{line_law, line_utf8}
-use Rattle.cdxj_core.proofs.PairLaw.{Valued, valued, line_pair, line_in-higher, line_in-feed, line_in-short}
-
-abbrev with_line : List ℕ → LineValue → Member
-with_line body values = record { values = values; line = body }
-
-abbrev NoEntry : Option Member → Type 0
-NoEntry entry = entry ≡ None
+use Rattle.cdxj_core.proofs.PairLaw.{Valued, valued, line_pair, line_in-higher, line_in-short}
 
 pub entry_none : (limit : ℕ) (line : List ℕ) → (IsUtf8 (body_of line) → line_in limit (body_of line) ≡ None)
     → line_entry limit line ≡ None
 entry_none limit line none = grind (arith, IsUtf8-from_is_utf8)
-
-map_is : {A B : Type 0} (g : A → B) (o : Option A) (v : B) → option_map g o ≡ Some v → (a : A) × (o ≡ Some a)
-    × (g a ≡ v)
-map_is g o v h = grind arith
 
 -- what a line with an entry is
 pub record Entered (limit : ℕ) (line : List ℕ) (member : Member) : Type 0 where
@@ -37,10 +27,6 @@ pub entered : (limit : ℕ) (line : List ℕ) (member : Member) → line_entry l
     → Entered limit line member
 entered limit line member h = grind (arith, IsUtf8-from_is_utf8)
 
-pub entry_from : (limit : ℕ) (line : List ℕ) (member : Member) → Entered limit line member → line_entry limit line ≡
-    Some member
-entry_from limit line member h = grind (arith, is_utf8-from_IsUtf8)
-
 -- the values of an entry are those of its line
 pub entry_valued : (limit : ℕ) (line : List ℕ) (member : Member) → line_entry limit line ≡ Some member
     → Valued member.line member.values
@@ -51,11 +37,6 @@ entry_valued limit line member h =
 -- a body without a line feed is its own
 pub body_of-body : (body : List ℕ) → has_no_feed body ≡ true → body_of body ≡ body
 body_of-body body h = grind (arith, common_steps)
-
--- the body of a line with an entry has it too
-pub entry_of-body : (limit : ℕ) (line : List ℕ) (member : Member) → line_entry limit line ≡ Some member
-    → line_entry limit (body_of line) ≡ Some member
-entry_of-body limit line member h = grind (arith, line_in-feed, body_of-body)
 
 -- ---- laws
 

@@ -1,6 +1,6 @@
 -- A line that has values begins with their pair.
 use Rattle.std.proofs.Common.{◌≡◌, ℕ, ◌-◌, ◌<◌, ◌^◌, ◌≤◌, ◌==◌, Bool, true, false, cond, List, [], ◌∷◌, ◌++◌, length}
-use Rattle.std.proofs.Common.{take, drop, Option, Some, None, option_map, option_and_then, get_or, append-nil}
+use Rattle.std.proofs.Common.{take, drop, Some, None, get_or, append-nil}
 use Rattle.std.proofs.Common.{refl, sym, arith, append_assoc, take-append-drop}
 use Rattle.std.specs.List.{before_first, after_first}
 use Rattle.std.proofs.lemmas.List.{length-append}
@@ -11,19 +11,9 @@ use Rattle.cdxj_places.specs.Pair.{is_space, is_key, is_stamp, pair_of}
 use Rattle.cdxj_core.specs.Lines.{LineValue, has_no_feed, body_of, line_object, line_in}
 use Rattle.cdxj_places.proofs.PairLemmas.{pair_of-parts, around}
 
-pub if_test : {A : Type 0} (b : Bool) (x : Option A) (v : A) → cond b x None ≡ Some v → (b ≡ true) × (x ≡ Some v)
-if_test b x v h = grind arith
-
 read_nil : read [] ≡ None
 unfolding serde_json_on_literals
 read_nil = refl
-
-pub and_then_some : {A B : Type 0} (f : A → Option B) (o : Option A) (v : B) → option_and_then f o ≡ Some v → (a : A)
-    × (o ≡ Some a) × (f a ≡ Some v)
-and_then_some f o v h = grind arith
-
-pub map_some : {A B : Type 0} (g : A → B) (o : Option A) (v : B) → option_map g o ≡ Some v → (a : A) × (g a ≡ v)
-map_some g o v h = grind arith
 
 pub some_read : (text : List ℕ) (d : Data) → read text ≡ Some d → 0 < length text
 some_read [] d h = grind (arith, read_nil)

@@ -9,8 +9,8 @@ use Rattle.json.specs.Reads.{token_of, Yields}
 use Rattle.json.specs.declared.token.Token.TheVariants as read
 use Rattle.json.specs.declared.token.Token.{Token as ReadToken}
 use Rattle.json.proofs.Grammar.{value_is, value-begin_array, value-begin_object}
-use Rattle.serde_json.specs.Data.{Data, object, Members, no_members, put}
-use Rattle.serde_json.specs.Read.{of_json, of_members, converted}
+use Rattle.serde_json.specs.Data.{Data, Members, put}
+use Rattle.serde_json.specs.Read.{of_json}
 use Rattle.serde_json.proofs.Views.{get_member-put, get_member-put_other}
 use Rattle.cdxj_objects.specs.FoundMembers.{FoundValue, member_data, found_of, with_member, object_found}
 use Rattle.cdxj_objects.specs.FoundMembers.{object_read, members_found}
@@ -39,29 +39,6 @@ other token ts h = grind (arith, value_is, value-begin_array, none_of)
 pub no_brace : (first : Option ReadToken) (ts rest : List Token) → Yields ts first rest
     → (first ≡ Some read.BeginObject → ⊥) → object_read ts ≡ None
 no_brace first ts rest h never = grind (arith, value_is, other)
-
-abbrev read_all : json.Members → Option Members
-read_all ms = of_members ms no_members
-
-ended : (o : Option (json.Members × List Token)) (f : FoundValue) → parse_map found_of (converted read_all o) ≡ Some
-    (f, []) → whole_found (parse_map json.object o) ≡ Some f
-ended o f e = grind arith
-
-no_more : (x : Option Members) (f : FoundValue) (t : Token) (r : List Token)
-    → parse_map found_of (option_map (λ ms. (ms, [])) x) ≡ Some (f, t ∷ r) → ⊥
-no_more x f t r e = grind arith
-
-more : (o : Option (json.Members × List Token)) (f : FoundValue) (t : Token) (r : List Token)
-    → parse_map found_of (converted read_all o) ≡ Some (f, t ∷ r) → whole_found (parse_map json.object o) ≡ None
-more o f t r e = grind (arith, no_more)
-
-refused_at : (x : Option Members) → parse_map found_of (option_map (λ ms. (ms, [])) x) ≡ None
-    → option_and_then object_found (option_map object x) ≡ None
-refused_at x e = grind arith
-
-refused : (o : Option (json.Members × List Token)) → parse_map found_of (converted read_all o) ≡ None
-    → whole_found (parse_map json.object o) ≡ None
-refused o e = grind (arith, refused_at)
 
 opened : (ts : List Token) → object_read (Token.begin_object ∷ ts) ≡ whole_found
     (parse_map json.object (members (value 126) (length ts) ts))

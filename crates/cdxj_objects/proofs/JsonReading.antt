@@ -39,10 +39,6 @@ no_object depth ts e = grind arith
 
 -- ---- what was read, and its data
 
-mapped_at : (r s : List Token) (x : Option Data) (v : Data) → parse_map member_data (option_map (λ d. (d, r)) x) ≡ Some
-    (v, s) → (d : Data) × (x ≡ Some d) × (r ≡ s) × (member_data d ≡ v)
-mapped_at r s x v e = grind arith
-
 -- a value that is seen was parsed, and has data
 pub record Parsed (o : Option (json.Json × List Token)) (v : Data) (r : List Token) : Type 0 where
   pub json : json.Json

@@ -1,6 +1,6 @@
 -- The text of an object is read as its members.
-use Rattle.std.proofs.Common.{◌≡◌, ℕ, true, false, cond, List, [], ◌∷◌, ◌++◌, map, Option, Some}
-use Rattle.std.proofs.Common.{option_and_then, refl, ap, arith, append_assoc, append-nil, bytes_eq, flat_map}
+use Rattle.std.proofs.Common.{◌≡◌, ℕ, true, false, List, [], ◌∷◌, ◌++◌, map, Some}
+use Rattle.std.proofs.Common.{refl, ap, arith, append_assoc, append-nil, flat_map}
 use Rattle.std.proofs.Common.{max}
 use Rattle.json.specs.Token.{Token, begin_object, end_object}
 use Rattle.json.specs.Token as tok
@@ -11,8 +11,8 @@ use Rattle.json.specs.Print.{ArePrintable}
 use Rattle.json.specs.Spaced.{print_spaced, AreGaps, IsGap}
 use Rattle.json.proofs.Printed.Tokens.{tokens-print_spaced}
 use Rattle.json.proofs.Printed.Trees.{value-json_tokens}
-use Rattle.serde_json.specs.Data.{Data, string, object, Members, no_members, put}
-use Rattle.serde_json.specs.Read.{read, of_json, of_members, max_depth}
+use Rattle.serde_json.specs.Data.{string, object, Members, no_members, put}
+use Rattle.serde_json.specs.Read.{read, of_members, max_depth}
 use Rattle.cdxj_objects.specs.Objects.{member_text, object_text}
 
 abbrev pub Pair : Type 0
@@ -27,9 +27,6 @@ spaced gap (m ∷ ms) = (gap, tok.key m.0) ∷ (32 ∷ [], tok.string m.1) ∷ s
 
 abbrev later_text : List Pair → List ℕ
 later_text ms = flat_map (λ m. (44 ∷ 32 ∷ []) ++ member_text m) ms
-
-regroup : (n v p : List ℕ) → (n ++ 58 ∷ []) ++ (32 ∷ (v ++ p)) ≡ (n ++ (58 ∷ 32 ∷ []) ++ v) ++ p
-regroup n v p = simp append_assoc
 
 spaced_later : (ms : List Pair) → print_spaced true (spaced (32 ∷ []) ms) ≡ later_text ms ++ 125 ∷ []
 unfolding print_spaced
@@ -85,17 +82,9 @@ read_members : (ms : List Pair) (found : Members) → of_members (jmembers ms) f
 read_members [] found = refl
 read_members (m ∷ ms) found = grind (arith, read_members ms)
 
-abbrev whole : Option (json.Json × List Token) → Option Data
-whole o = option_and_then of_json (option_and_then (λ p. json.if_last p.0 p.1) o)
-
 pub read_object : (m : Pair) (ms : List Pair) → read (object_text (m ∷ ms)) ≡ Some
     (object (put_all (m ∷ ms) no_members))
 read_object m ms =
     let j = json.object (jmembers (m ∷ ms)) in
     let shallow = flat (m ∷ ms) in
     grind (arith, tokens_object, append-nil, read_members, value-json_tokens j max_depth [])
-
--- the last text of a name, or what was there
-abbrev pub found_in : List ℕ → List Pair → Option Data → Option Data
-found_in name [] before = before
-found_in name (m ∷ ms) before = found_in name ms (cond (bytes_eq name m.0) (Some (string m.1)) before)

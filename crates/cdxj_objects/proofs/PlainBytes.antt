@@ -1,15 +1,14 @@
 -- Plain bytes are those that are no quote, no backslash and no control.
 use Rattle.std.proofs.lemmas.Grind.{common_steps}
-use Rattle.std.proofs.Common.{◌≡◌, ℕ, ◌<◌, ◌^◌, decimal, Bool, true, not, ◌&&◌, nat_lt, nat_le, List}
+use Rattle.std.proofs.Common.{◌≡◌, ℕ, ◌<◌, ◌^◌, decimal, Bool, true, ◌&&◌, List}
 use Rattle.std.proofs.Common.{[], ◌∷◌, refl, arith}
 use Rattle.std.specs.List.{list_all}
 use Rattle.std.specs.Char.{is_ascii_digit}
 use Rattle.std.proofs.lemmas.Bool.Decides.{nat_tests}
-use Rattle.std.proofs.lemmas.List.Folds.{list_all-append}
 use Rattle.std.proofs.lemmas.Fmt.{digits_decimal}
 use Rattle.json.specs.Run.{is_plain}
 use Rattle.cdxj_objects.specs.Texts.{TextsValue}
-use Rattle.cdxj_objects.specs.Plain.{is_open, is_unescaped, AreOpen, ArePlain, after, plain_text}
+use Rattle.cdxj_objects.specs.Plain.{is_open, is_unescaped, AreOpen, ArePlain, plain_text}
 use Rattle.cdxj_places.proofs.Offsets.{own}
 
 -- what passes a test passes a weaker one
@@ -18,27 +17,14 @@ pub weaker : (p q : ℕ → Bool) → ((b : ℕ) → p b ≡ true → q b ≡ tr
 weaker p q f [] h = refl
 weaker p q f (x ∷ xs) h = grind (arith, weaker p q f xs)
 
-not_below : (b : ℕ) → not (nat_lt b 32) ≡ nat_le 32 b
-not_below b = grind (arith, nat_tests)
-
-moved : (a b c : Bool) → ((a && b) && c) ≡ (a && (c && b))
-moved a b c = grind arith
-
 plain_byte : (b : ℕ) → is_plain b ≡ (is_open b && is_unescaped b)
 plain_byte b = grind arith
-
-regroup : (a b c d : Bool) → ((a && b) && (c && d)) ≡ ((a && c) && (b && d))
-regroup a b c d = grind arith
 
 pub list_all_plain : (xs : List ℕ) → list_all is_plain xs ≡ (list_all is_open xs && list_all is_unescaped xs)
 list_all_plain [] = refl
 list_all_plain (x ∷ xs) = grind (arith, plain_byte, list_all_plain xs)
 
 -- ---- the texts of an object that has no control
-
-within : (front text rest : List ℕ) → list_all is_unescaped (after front text rest) ≡ true
-    → (list_all is_unescaped text ≡ true) × (list_all is_unescaped rest ≡ true)
-within front text rest h = grind (arith, list_all-append)
 
 plain_from : (xs : List ℕ) → list_all is_open xs ≡ true → list_all is_unescaped xs ≡ true → list_all is_plain xs ≡ true
 plain_from xs h k = grind (arith, list_all_plain)

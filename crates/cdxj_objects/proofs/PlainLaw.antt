@@ -1,6 +1,6 @@
 -- What a plain object is read as.
-use Rattle.std.proofs.Common.{◌≡◌, ℕ, Bool, true, cond, List, [], ◌∷◌, ◌++◌, length, decimal}
-use Rattle.std.proofs.Common.{Some, None, get_or, append_assoc, flat_map, codes, refl, arith}
+use Rattle.std.proofs.Common.{◌≡◌, ℕ, true, List, [], ◌∷◌, ◌++◌, length, decimal}
+use Rattle.std.proofs.Common.{Some, get_or, append_assoc, flat_map, codes, refl, arith}
 use Rattle.std.specs.List.{list_all}
 use Rattle.std.proofs.lemmas.Fmt.{decimal-digits_value}
 use Rattle.json.specs.Print.{quoted, escape}
@@ -61,9 +61,6 @@ pub read_plain : (t : TextsValue) → ArePlain t → read (plain_text t) ≡ Som
 read_plain t h = grind (arith, plain_text_is, read_texts)
 
 -- ---- the offset
-
-if_some : (b : Bool) (v n : ℕ) → cond b (Some v) None ≡ Some n → (b ≡ true) × (v ≡ n)
-if_some b v n h = grind arith
 
 pub canonical_decimal : (ds : List ℕ) (n : ℕ) → offset_of ds ≡ Some n → (get_or ds 0 0 ≡ 48 → length ds ≡ 1)
     → ds ≡ decimal n

@@ -1,6 +1,6 @@
 -- No string among the tokens of a text is longer than the text.
 use Rattle.std.proofs.Common.{ℕ, ◌+◌, ◌≤◌, Bool, true, false, cond, ◌&&◌, ◌==◌, List, [], ◌∷◌, length, codes, Option}
-use Rattle.std.proofs.Common.{Some, None, option_map, option_and_then, arith}
+use Rattle.std.proofs.Common.{Some, None, option_and_then, arith}
 use Rattle.std.specs.Prelude.{⊤}
 use Rattle.std.specs.List.{AllByRecursion}
 use Rattle.std.specs.Char.{encode_utf8}
@@ -11,17 +11,13 @@ use Rattle.json.specs.Token.{Token}
 use Rattle.json.specs.Word.{head, after_number, number_before, literal, word}
 use Rattle.json.specs.Lex.{Lexeme, token, comma, colon, Class, quote, other, class}
 use Rattle.json.specs.Lex.{Mode, between, in_word, lex_byte, lex, Place, fresh}
-use Rattle.json.specs.Lex.{place_token, punctuate, tokens}
+use Rattle.json.specs.Lex.{punctuate, tokens}
 
 -- ---- what an option may have
 
 abbrev pub Each : {A : Type 0} → (A → Type 0) → Option A → Type 0
 Each P None = ⊤
 Each P (Some a) = P a
-
-pub each_map : {A B : Type 0} (P : A → Type 0) (Q : B → Type 0) (f : A → B) → ((a : A) → P a → Q (f a)) → (o : Option A)
-    → Each P o → Each Q (option_map f o)
-each_map P Q f h o x = grind arith
 
 pub each_then : {A B : Type 0} (P : A → Type 0) (Q : B → Type 0) (f : A → Option B) → ((a : A) → P a → Each Q (f a))
     → (o : Option A) → Each P o → Each Q (option_and_then f o)
@@ -116,10 +112,6 @@ unfolding lex
 short_lex n m [] le = tt
 short_lex n m (x ∷ xs) le = short_byte n m (class x) x xs (λ next. lex next xs) (omega arith)
     (λ next. short_lex n next xs (omega arith))
-
-short_placed : (n : ℕ) (p : Place) (t : Token) (before_colon : Bool) (k : Place → List Token) → ShortToken n t
-    → ((next : Place) → AreShort n (k next)) → AreShort n (place_token p t before_colon k)
-short_placed n p t b k h rest = grind arith
 
 short_punctuated : (n : ℕ) (p : Place) (ls : List Lexeme) → AllByRecursion (ShortLexeme n) ls
     → AreShort n (punctuate p ls)

@@ -83,7 +83,8 @@ pass_members-members-preserved t c =
     let named : read_key l.reader ≡ Some (Some c.in-Some._name.now, c.next_key.new.self) = grind arith in
     let less = read_key-shorter l.reader (Some c.in-Some._name.now) c.next_key.new.self named in
     let one = member_put c.args.depth l.invariant.0 l.invariant.1 c.in-Some._name.now l.reader c.next_key.new.self
-    c.read_value.new.reader (value_view c.in_ok-read_value.field-0) (omega (arith, l.invariant.2)) named c.in_ok-read_value.ensures.value in grind arith
+    c.read_value.new.reader (value_view c.in_ok-read_value.field-0) (omega (arith, l.invariant.2)) named
+    c.in_ok-read_value.ensures.value in grind arith
 
 pub pass_members-returns-clause-value : goal.pass_members-returns-clause-value
 pass_members-returns-clause-value t c = grind (arith, members_end)
