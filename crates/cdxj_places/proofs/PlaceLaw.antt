@@ -1,5 +1,5 @@
 -- The form text of a place is read as that place.
-use Rattle.std.proofs.Common.{◌≡◌, ◌≢◌, ℕ, ◌+◌, ◌-◌, ◌<◌, ◌≤◌, ◌^◌, ◌&&◌, Bool, true, false, not, List, [], ◌∷◌, ◌++◌}
+use Rattle.std.proofs.Common.{◌≡◌, ◌≢◌, ℕ, ◌+◌, ◌-◌, ◌<◌, ◌≤◌, ◌^◌, ◌&&◌, Bool, true, not, List, [], ◌∷◌, ◌++◌}
 use Rattle.std.proofs.Common.{length, decimal, Some, refl, ap, ◌∙◌, arith, All, IsUtf8}
 use Rattle.std.proofs.lemmas.Bool.{ne_eqb, and_parts, lt-ltb, le-leb}
 use Rattle.std.proofs.Math.Seq.{take-append_seam, drop-append-add, get_or-append_right}
@@ -47,10 +47,10 @@ first_at (x ∷ xs) ys none =
     rw (ne_eqb x 32 head, first_at xs ys (All-tail (λ b. b ≢ 32) x xs none)) (omega arith)
 
 pub before_first_at : (xs ys : List ℕ) → All (λ b. b ≢ 32) xs → before_first is_space (xs ++ 32 ∷ ys) ≡ xs
-before_first_at xs ys none = rw (first_at xs ys none) (take-append_seam xs (32 ∷ ys))
+before_first_at xs ys none = grind (arith, first_at, take-append_seam)
 
 pub after_first_at : (xs ys : List ℕ) → All (λ b. b ≢ 32) xs → after_first is_space (xs ++ 32 ∷ ys) ≡ ys
-after_first_at xs ys none = rw (first_at xs ys none) (drop-append-add xs (32 ∷ ys) 1)
+after_first_at xs ys none = grind (arith, first_at, drop-append-add)
 
 last_here : (xs ys : List ℕ) → All (λ b. b ≢ 32) ys → suffix_len (λ x. not (is_space x)) (xs ++ 32 ∷ ys) ≡ length
     (xs ++ 32 ∷ ys) - (length xs + 1)
@@ -75,8 +75,7 @@ after_last_at xs ys none =
 -- ---- the offset
 
 pub both : (a b : Bool) → a ≡ true → b ≡ true → (a && b) ≡ true
-both true b p q = q
-both false b p q = cc
+both a b p q = grind arith
 
 pub offset_text : (n : ℕ) → n < 2 ^ 63 → is_offset (decimal n) ≡ true
 offset_text n small =
