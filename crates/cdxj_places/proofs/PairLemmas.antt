@@ -1,11 +1,9 @@
 -- The pair of a line, and the order of pairs.
 use Rattle.std.proofs.Common.{◌≡◌, ℕ, ◌<◌, ◌&&◌, Bool, true, cond, List, ◌∷◌, ◌++◌, length, take, Some}
-use Rattle.std.proofs.Common.{None, unwrap_or, get_or, refl, sym, ap, ◌∙◌, arith, append_assoc, Ordering, Less}
+use Rattle.std.proofs.Common.{None, get_or, refl, sym, ap, ◌∙◌, arith, append_assoc, Less}
 use Rattle.std.proofs.Common.{Greater}
 use Rattle.std.specs.List.{position_or_len, before_first, after_first}
 use Rattle.std.specs.Cmp.{IsTotalOrder}
-use Rattle.std.specs.Ordering.{nat_cmp, ordering_then}
-use Rattle.std.specs.Cmp.Lexicographic.{slice_cmp}
 use Rattle.std.proofs.lemmas.Bool.{and_parts, eqb-true, cases_lt}
 use Rattle.std.proofs.lemmas.Cmp.{nat_list_cmp_total}
 use Rattle.std.proofs.lemmas.List.{length-append, drop_all}
@@ -75,14 +73,6 @@ begun x p h =
       pair = has.1 ∙ sym h;
     }
 
--- a text begins with its key and a space
-pub pair_front : (x : List ℕ) (p : Pair) → pair_of x ≡ Some p → (rest : List ℕ) × (x ≡ p.0 ++ 32 ∷ rest)
-pair_front x p h =
-    let b = begun x p h in
-    let both_are : Some (key_part x, stamp_part x) ≡ Some p = b.pair ∙ h in
-    let key : key_part x ≡ p.0 = ap (λ o. (unwrap_or o p).0) both_are in
-    grind arith
-
 -- the pair of a text is that of each longer text
 pub pair_longer : (x y : List ℕ) (p : Pair) → pair_of x ≡ Some p → pair_of (x ++ y) ≡ Some p
 pair_longer x y p h =
@@ -94,17 +84,7 @@ pair_longer x y p h =
 pub pair_cmp_total : IsTotalOrder pair_cmp
 pair_cmp_total = grind (arith, nat_list_cmp_total)
 
--- a pair that decides
-abbrev Decides : Ordering → Type 0
-Decides o = (a b c : Ordering) → ordering_then a b ≡ o → ordering_then a (ordering_then b c) ≡ o
-
-less : Decides Less
-less a b c e = grind arith
-
 module _ (p q : PlaceValue) where
-  abbrev later : Ordering
-  later = ordering_then (slice_cmp nat_cmp p.filename q.filename) (nat_cmp p.offset q.offset)
-
   -- places of a lower pair are lower
   pub lower_pair : pair_cmp (place_pair p) (place_pair q) ≡ Less → place_cmp p q ≡ Less
   lower_pair e = grind arith

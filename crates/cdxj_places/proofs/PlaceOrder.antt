@@ -1,7 +1,6 @@
 -- Places are totally ordered.
-use Rattle.std.proofs.Common.{arith, ◌≡◌, Ordering, Equal}
+use Rattle.std.proofs.Common.{arith, ◌≡◌, Equal}
 use Rattle.std.specs.FinMap.{slice_cmp-IsAntisymmetric}
-use Rattle.std.specs.Ordering.{ordering_then}
 use Rattle.std.specs.Cmp.{IsTotalOrder}
 use Rattle.std.proofs.lemmas.Cmp.{nat_cmp_total, nat_list_cmp_total, on_total, then_total}
 use Rattle.cdxj_places.specs.Places.{PlaceValue, place_cmp}
@@ -11,9 +10,6 @@ place_cmp_total =
     then_total (on_total (λ (p : PlaceValue). p.key) nat_list_cmp_total)
     (then_total (on_total (λ (p : PlaceValue). p.stamp) nat_list_cmp_total)
     (then_total (grind (arith, nat_list_cmp_total)) (on_total (λ (p : PlaceValue). p.offset) nat_cmp_total)))
-
-both_equal : (a b : Ordering) → ordering_then a b ≡ Equal → (a ≡ Equal) × (b ≡ Equal)
-both_equal a b e = grind arith
 
 -- places that compare as equal are the same
 pub same_place : (p q : PlaceValue) → place_cmp p q ≡ Equal → p ≡ q
