@@ -1,5 +1,5 @@
 -- An archive that was added under its file name.
-use Rattle.std.proofs.Common.{◌≡◌, ◌↔◌, ℕ, List, Option, true, Result, Err, subst}
+use Rattle.std.proofs.Common.{arith, ◌≡◌, ◌↔◌, ℕ, List, Option, true, Result, Err}
 use Rattle.warc_core.specs.declared.next.TheConstants.{HEAD_LIMIT}
 use Rattle.capture_core.specs.Types.{includes}
 use Rattle.capture_core.specs.CaptureAnswer.{usual_limits}
@@ -17,11 +17,4 @@ pub adds_archive : (named name : List ℕ) (archive : Option (List ℕ)) (old ne
     ↔ (IsName named × (is_among old.names named ≡ true))
     → Adds (includes old.types) usual_limits HEAD_LIMIT named archive old new answer
     → AddsArchive name archive old new outcome
-adds_archive named name archive old new answer outcome same is bad duplicate adds = record {
-  answer = answer;
-  outcome_is = is;
-  bad = subst (λ n. (answer ≡ Err faults.BadName) ↔ ¬ (IsName n)) same bad;
-  duplicate = subst (λ n. (answer ≡ Err faults.DuplicateName) ↔ (IsName n × (is_among old.names n ≡ true))) same
-      duplicate;
-  adds = subst (λ n. Adds (includes old.types) usual_limits HEAD_LIMIT n archive old new answer) same adds;
-}
+adds_archive named name archive old new answer outcome same is bad duplicate adds = grind arith

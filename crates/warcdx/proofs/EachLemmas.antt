@@ -1,5 +1,5 @@
 -- What is done with one file after another.
-use Rattle.std.proofs.Common.{◌≡◌, ℕ, Bool, true, false, List, [], ◌∷◌, MatchBool, Bor, MutBor, ap, refl, subst}
+use Rattle.std.proofs.Common.{arith, ◌≡◌, ℕ, Bool, true, false, List, [], ◌∷◌, MatchBool, Bor, MutBor, ap, subst}
 use Rattle.std.specs.Fn.{Shared}
 use Rattle.warcdx.specs.declared.outcome.Outcome.{Outcome}
 use Rattle.warcdx.specs.Each.{GoesOver, ReturnsWithState}
@@ -7,13 +7,11 @@ use Rattle.warcdx.specs.Outcome.{ends_command, worse_of}
 
 -- what follows from a fact in either case
 match_bool-map : {A B C D : Type 0} (b : Bool) → (A → C) → (B → D) → MatchBool b A B → MatchBool b C D
-match_bool-map true f g a = f a
-match_bool-map false f g b = g b
+match_bool-map b f g a = grind arith
 
 -- each case of a test
 pub match_bool-of : {A B : Type 0} (b : Bool) → (b ≡ true → A) → (b ≡ false → B) → MatchBool b A B
-match_bool-of true f g = f refl
-match_bool-of false f g = g refl
+match_bool-of b f g = grind arith
 
 -- steps that are steps of another kind, of what is seen of the state
 goes_over-map : {S T : Type 0} (P : S → List ℕ → Outcome → S → Type 0) (Q : T → List ℕ → Outcome → T → Type 0)

@@ -1,6 +1,6 @@
 -- Where a name is cut at its last `/`.
 use Rattle.std.proofs.Common.{◌≡◌, ◌≢◌, ℕ, ◌+◌, ◌-◌, ◌<◌, ◌==◌, not, List, length, drop, Option, Some, None}
-use Rattle.std.proofs.Common.{MatchOption, get_or, Bor, sym, ap, ◌∙◌, arith}
+use Rattle.std.proofs.Common.{MatchOption, get_or, Bor, ap, ◌∙◌, arith}
 use Rattle.std.proofs.lemmas.Bool.{ne_eqb, eq-eqb}
 use Rattle.std.proofs.lemmas.List.{get_or-drop}
 use Rattle.std.proofs.lemmas.List.Sums.{suffix_len_is}
@@ -28,10 +28,7 @@ none_at name none =
 pub cut_at_last : (name : List ℕ) (cut : Option (Bor (List ℕ) × Bor (List ℕ)))
     → MatchOption cut (RFindsChar 47 name None) (λ x. SplitsAroundMatch (RFindsChar 47) name x.0.now x.1.now)
     → MatchOption cut (name ≡ file_name name) (λ x. x.1.now ≡ file_name name)
-cut_at_last name None h =
-    let e = none_at name (λ i. NoCharPasses-char 47 name i h (omega arith)) in
-    let back : length name - suffix_len (λ b. not (is_slash b)) name ≡ 0 = omega (arith, e) in
-    sym (ap (λ n. drop n name) back)
+cut_at_last name None h = grind (arith, none_at name (λ i. NoCharPasses-char 47 name i h (omega arith)))
 cut_at_last name (Some x) h =
     let i = h.0 in
     let j = h.1 in
@@ -40,7 +37,7 @@ cut_at_last name (Some x) h =
     let later : (q : ℕ) → i < q → q < length name → get_or name q 0 ≢ 47 = λ q low high e.
     let shifted : j + (q - j) ≡ q = omega (arith, next) in
     NoCharPasses-char 47 (drop j name) (q - j) h.2.0 (omega arith) (omega (arith, h.7, h.4, ap length h.4, next))
-    (get_or-drop j name (q - j) 0 ∙ ap (λ n. get_or name n 0) shifted ∙ e) in
+    (get_or-drop j name (q - j) 0 ∙ rw shifted e) in
     let e = last_at name i within (h.2.1.byte (omega arith)) later in
     let back : length name - suffix_len (λ b. not (is_slash b)) name ≡ j = omega (arith, e, within, next) in
-    h.4 ∙ sym (ap (λ n. drop n name) back)
+    rw back h.4
