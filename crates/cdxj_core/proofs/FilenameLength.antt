@@ -6,7 +6,7 @@ use Rattle.std.proofs.lemmas.List.{length-append}
 use Rattle.json.specs.Token.{Token}
 use Rattle.json.specs.Lex.{tokens}
 use Rattle.json.specs.Json as json
-use Rattle.json.specs.Json.{Json, Parse, after_end_array, items, members, value_with, value, if_last}
+use Rattle.json.specs.Json.{Json, Parse, items, members, value_with, value, if_last}
 use Rattle.serde_json.specs.Data.{Data, Members, put}
 use Rattle.serde_json.specs.Read.{of_json, of_members, max_depth, read}
 use Rattle.serde_json.specs.Find.{get_member}

@@ -8,7 +8,7 @@ use Rattle.serde_json.specs.Data.{Data}
 use Rattle.serde_json.specs.Read.{read}
 use Rattle.serde_json.proofs.OnLiterals.{serde_json_on_literals}
 use Rattle.cdxj_places.specs.Pair.{is_space, is_key, is_stamp, pair_of}
-use Rattle.cdxj_core.specs.Lines.{LineValue, has_no_feed, body_of, line_object, line_in}
+use Rattle.cdxj_core.specs.Lines.{LineValue, body_of, line_object, line_in}
 use Rattle.cdxj_places.proofs.PairLemmas.{pair_of-parts, around}
 
 read_nil : read [] ≡ None
@@ -74,11 +74,6 @@ pub line_in-higher : (low high : ℕ) → low ≤ high → (body : List ℕ) (v 
     → line_in high body ≡ Some v
 unfolding line_in
 line_in-higher low high le body v h = grind arith
-
--- a body that has values has no line feed
-pub line_in-feed : (limit : ℕ) (body : List ℕ) (v : LineValue) → line_in limit body ≡ Some v → has_no_feed body ≡ true
-unfolding line_in
-line_in-feed limit body v h = grind arith
 
 -- and is below the limit
 pub line_in-short : (limit : ℕ) (body : List ℕ) (v : LineValue) → line_in limit body ≡ Some v → length body < limit

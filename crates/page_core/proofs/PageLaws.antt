@@ -1,7 +1,7 @@
 -- The laws of pages.
 use Rattle.std.proofs.Common.{◌≡◌, ℕ, zero, suc, ◌<◌, List, [], ◌∷◌, ◌++◌, Bool, true, false, cond, length, take, drop}
 use Rattle.std.proofs.Common.{refl, sym, ap, ◌∙◌, subst, arith, Ordering, Less, Greater, is_gt, filter}
-use Rattle.std.proofs.Common.{Some, None, Option, MatchOption, take-append-drop, append-nil, length-drop, length-take}
+use Rattle.std.proofs.Common.{Some, None, Option, take-append-drop, append-nil, length-drop, length-take}
 use Rattle.std.specs.List.{AllByRecursion, flat_map}
 use Rattle.std.specs.Cmp.{IsTotalOrder}
 use Rattle.std.proofs.lemmas.Cmp.{tied_itself}
@@ -131,10 +131,6 @@ module _ {X P : Type 0} (place : X → P) (R : P → P → Ordering) (same : P �
   chain_one l p sizes (a ∷ us) (b ∷ vs) h k =
       let rest = λ (q : P). chain_one l (Some q) (later_sizes sizes) us vs in grind arith
   chain_one l p sizes us vs h k = grind arith
-
-  -- MatchOption at a value that is known
-  match_at : {A : Type 0} (v w : Option A) (N : Type 0) (S : A → Type 0) → v ≡ w → MatchOption w N S → MatchOption v N S
-  match_at v w N S e h = grind arith
 
   chain_at : (fuel : ℕ) (l : List X) (p : Option P) (sizes : List ℕ) → Rises place R l → AllPositive sizes
       → length (collapsed place R same l p) < fuel

@@ -1,6 +1,6 @@
 -- Pages over indexes in memory.
 use Rattle.std.specs.List.{AllZip}
-use Rattle.std.proofs.Common.{◌≡◌, ℕ, zero, suc, ◌≤◌, true, List, [], ◌∷◌, map, get_or}
+use Rattle.std.proofs.Common.{◌≡◌, ℕ, suc, ◌≤◌, true, List, [], ◌∷◌, map, get_or}
 use Rattle.std.proofs.Common.{Option, Some, Result, Ok, Err, IfErr, refl, arith}
 use Rattle.std.proofs.lemmas.Bool.Decides.{nat_tests}
 use Rattle.cdxj_core.specs.declared.limit.TheConstants.{LINE_LIMIT}

@@ -15,29 +15,10 @@ GoesOn f g None now = Unit {0}
 GoesOn f g (Some z) None = ⊥
 GoesOn f g (Some z) (Some w) = f z ≡ g w
 
-pub GoesOn-start : {A : Type 0} (f : List ℕ → Result A Cause) (now : Option (List ℕ)) → GoesOn f f now now
-GoesOn-start f now = grind arith
-
--- keeping the bytes keeps the place
-pub GoesOn-keeps : {A : Type 0} (f g : List ℕ → Result A Cause) (before now next : Option (List ℕ))
-    → GoesOn f g before now → Keeps now next → GoesOn f g before next
-GoesOn-keeps f g before now next h k = grind arith
-
 -- reading on gives what reading from the start gives
 pub GoesOn-reads : {A : Type 0} (f g : List ℕ → Result (A × List ℕ) Cause) (r : Result A Cause)
     (before now after : Option (List ℕ)) → GoesOn f g before now → Reads g r now after → Reads f r before after
 GoesOn-reads f g r before now after h k = grind arith
-
--- the held bytes b became d, and g of the one is what h is of the other
-pub GoesOn-held : {A : Type 0} (f g h : List ℕ → Result A Cause) (before left : Option (List ℕ)) (b d : List ℕ)
-    → ((z : List ℕ) → g (b ++ z) ≡ h (d ++ z)) → GoesOn f g before (prepend_known b left)
-    → GoesOn f h before (prepend_known d left)
-GoesOn-held f g h before left b d e k = grind arith
-
--- the end of the reading
-pub GoesOn-done : {A : Type 0} (f g : List ℕ → Result (A × List ℕ) Cause) (x : A) (before now : Option (List ℕ))
-    → GoesOn f g before now → ((w : List ℕ) → g w ≡ Ok (x, w)) → Reads f (Ok x) before now
-GoesOn-done f g x before now h e = grind arith
 
 -- equal answers have equal values and equal rests
 pub answered : {A B : Type 0} (x y : A) (v w : B) → ◌≡◌ {A = Result (A × B) Cause} (Ok (x, v)) (Ok (y, w)) → (x ≡ y)

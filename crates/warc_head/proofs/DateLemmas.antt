@@ -1,6 +1,6 @@
 -- The forms of a date.
 use Rattle.std.proofs.Common.{◌≡◌, ℕ, ◌<◌, ◌≤◌, Bool, true, false, ◌&&◌, List, ◌∷◌, length, take, drop, refl}
-use Rattle.std.proofs.Common.{arith, Option, Some, if◌then◌else◌, codes, zero, suc, ◌+◌, ◌++◌, get_or}
+use Rattle.std.proofs.Common.{arith, Some, codes, zero, suc, ◌+◌, ◌++◌, get_or}
 use Rattle.std.proofs.Common.{lit≤, append-nil}
 use Rattle.std.specs.List.{list_all, zip}
 use Rattle.std.specs.Prelude.{◌==◌}
@@ -44,10 +44,6 @@ unfolding fits
 fits_filled (f ∷ fs) (g ∷ gs) (c ∷ cs) (b ∷ bs) (suc n) h k e l = grind (arith, fits_filled fs gs cs bs n)
 fits_filled f g z t zero h k e l = h
 fits_filled f g z t n h k e l = grind arith
-
-if_some : (b : Bool) (m : ℕ) (rest : Option ℕ) (P : ℕ → Type 0) → (b ≡ true → P m) → ((n : ℕ) → rest ≡ Some n → P n)
-    → (n : ℕ) → (if b then Some m else rest) ≡ Some n → P n
-if_some b m rest P f g n h = grind arith
 
 zeros_fit : fits to_the_second (codes "0000-01-01T00:00:00") ≡ true
 unfolding fits
