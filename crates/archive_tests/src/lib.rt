@@ -10,6 +10,7 @@ mod captures;
 mod fetches;
 #[cfg(test)]
 mod indexes;
+mod lengths;
 #[cfg(test)]
 mod prefixes;
 #[cfg(test)]

@@ -4,6 +4,7 @@ use Rattle.std.specs.Prelude.{IsSome, option_map}
 use Rattle.httparse.specs.Grammar.{ResponseHead}
 use Rattle.warc_core.specs.HeadView.{HeadView, record_length}
 use Rattle.cdxj_core.specs.Entries.{EntryValue, IsGood, line_text}
+use Rattle.cdxj_keys.specs.Key.{key_of}
 use Rattle.cdxj_core.specs.declared.limit.TheConstants.{LINE_LIMIT}
 use Rattle.capture_core.specs.declared.http_head.TheConstants.{HTTP_HEAD_LIMIT, HTTP_FIELD_LIMIT}
 use Rattle.capture_core.specs.declared.fault.CaptureFault.{CaptureFault}
@@ -58,6 +59,8 @@ pub record PartsBlock (limits : Limits) (h : HeadView) (front : List ℕ) (respo
 pub record IsEntryOf (h : HeadView) (name : List ℕ) (limit : ℕ) (e : EntryValue) : Type 0 where
   pub good : IsGood e
   pub filename : e.filename ≡ name
+  pub key : e.key ≡ key_of e.url
+  pub stamp : e.stamp ≡ h.parts.stamp
   pub offset : e.offset ≡ h.start
   pub size : e.length ≡ record_length h
   pub fits : length (line_text e) ≤ limit

@@ -47,6 +47,12 @@ LineSoFar most (Some text) None line = ⊥
 LineSoFar most (Some text) (Some rest) line = (seen : List ℕ) × (text ≡ seen ++ rest) × HasNoLineFeed seen
     × (line ≡ take most seen)
 
+-- Of the input a part of one line was taken, up to these bytes that are left.
+abbrev pub StopsInLine : Option (List ℕ) → Option (List ℕ) → Type 0
+StopsInLine None left = ⊤
+StopsInLine (Some text) None = ⊥
+StopsInLine (Some text) (Some left) = (part : List ℕ) × (text ≡ part ++ left) × HasNoLineFeed part
+
 -- an input of this many bytes after those that were taken is too long
 abbrev pub IsTooLong : Option (List ℕ) → ℕ → Type 0
 IsTooLong None taken = ⊤

@@ -1,5 +1,5 @@
 //! Bytes that were read from an input and not yet consumed.
-ghost use Rattle.std.specs.Prelude.{◌≡◌, Option, ℕ, ◌+◌, ◌-◌, ◌<◌, ◌≤◌, List, [], length, drop, take, min, IfOk, OnOk, MatchResult};
+ghost use Rattle.std.specs.Prelude.{◌≡◌, Option, ℕ, ◌+◌, ◌-◌, ◌<◌, ◌≤◌, List, [], length, drop, take, min, IfOk, OnOk, OnErr, MatchResult};
 ghost use Rattle.std.specs.Io.KnownBytes.{Keeps, ConsumesCount, IsAtEnd, prepend_known};
 ghost use Rattle.devices.specs.Device.{CountsFailure};
 
@@ -63,6 +63,7 @@ impl Buffer {
         ensures bytes { Keeps (prepend_known self.old (I.remaining input.old))
             (prepend_known self.new (I.remaining input.new)) }
         ensures end { OnOk result (self.new ≡ [] → IsAtEnd (I.remaining input.new)) }
+        ensures empty { OnErr result (self.new ≡ []) }
         ensures failures { CountsFailure result (I.failures input.old) (I.failures input.new) }
     {
         if self.from == self.to {

@@ -1,9 +1,9 @@
 //! The lines of an input, read piece by piece.
-ghost use Rattle.std.specs.Prelude.{drop, true, ◌≡◌, ◌≢◌, Option, Some, ℕ, ◌+◌, ◌-◌, ◌^◌, ◌<◌, ◌≤◌, List, [], length, IfOk, IfErr, OnOk, MatchResult, ◌⊎◌};
+ghost use Rattle.std.specs.Prelude.{drop, true, ◌≡◌, ◌≢◌, Option, Some, ℕ, ◌+◌, ◌-◌, ◌^◌, ◌<◌, ◌≤◌, List, [], length, IfOk, IfErr, OnOk, Err, MatchResult, ◌⊎◌};
 ghost use Rattle.std.specs.Io.KnownBytes.{Keeps, IsAtEnd, prepend_known};
 ghost use Rattle.devices.specs.Device.{next_count};
 ghost use Rattle.devices.specs.LineCuts.{without_carriage_return};
-ghost use Rattle.devices.specs.LineReading.{LineState, TakesPart, TakesLine, CountsTaken, CountsInputLine};
+ghost use Rattle.devices.specs.LineReading.{LineState, StopsInLine, TakesPart, TakesLine, CountsTaken, CountsInputLine};
 
 use crate::buffer::Buffer;
 use crate::device::{DeviceFault, Input};
@@ -90,7 +90,7 @@ impl Model for InputLines {
 
 impl InputLines {
     ghost use Rattle.devices.specs.declared.input_lines.Part.TheVariants.{AtEnd};
-    ghost use Rattle.devices.specs.declared.input_lines.InputLineFault.TheVariants.{Memory, TooLong};
+    ghost use Rattle.devices.specs.declared.input_lines.InputLineFault.TheVariants.{Memory, Read, TooLong};
 
     /// Creates a reader of lines that has read nothing. It will hold at most the first `most` bytes of each line. The only
     /// error is refused memory.
@@ -182,6 +182,8 @@ impl InputLines {
         ensures some { IfOk result (λ part. part ≢ AtEnd → self.old.taken < self.new.taken) }
         ensures end { IfOk result (λ part. part ≡ AtEnd → (self.new.line ≡ self.old.line)
             × (self.new.taken ≡ self.old.taken)) }
+        ensures stopped { result ≡ Err Read →
+            Keeps (prepend_known self.old.buffer (I.remaining input.old)) (I.remaining input.new) }
         ensures failures { CountsInputLine result (I.failures input.old) (I.failures input.new)
             (prepend_known self.old.buffer (I.remaining input.old)) self.old.taken }
     {
@@ -192,7 +194,8 @@ impl InputLines {
     /// Reads the next line. Returns `true` if there was one. A line that is longer than the bytes held is still read to
     /// its end.
     ///
-    /// Errors are `Memory`, `Read` if the input failed, and `TooLong` at 2^63 - 1 bytes of input.
+    /// Errors are `Memory`, `Read` if the input failed, and `TooLong` at 2^63 - 1 bytes of input. If the input failed,
+    /// every line that it gave whole was returned by an earlier call.
     pub fn next<I: Input>(&mut self, input: &mut I) -> Result<bool, InputLineFault>
         ensures within { OnOk result (self.new.taken < 2 ^ 63 - 1) }
         ensures most { self.new.most ≡ self.old.most }
@@ -204,6 +207,9 @@ impl InputLines {
             (CountsTaken (prepend_known self.old.buffer (I.remaining input.old))
             (prepend_known self.new.buffer (I.remaining input.new)) self.old.taken self.new.taken) }
         ensures some { IfOk result (λ found. found ≡ true → self.old.taken < self.new.taken) }
+        ensures stopped { result ≡ Err Read →
+            StopsInLine (prepend_known self.old.buffer (I.remaining input.old))
+            (I.remaining input.new) }
         ensures failures { CountsInputLine result (I.failures input.old) (I.failures input.new)
             (prepend_known self.old.buffer (I.remaining input.old)) self.old.taken }
     {

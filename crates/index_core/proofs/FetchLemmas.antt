@@ -52,7 +52,7 @@ module _ (limit : ℕ) where
   -- ---- what comes next
 
   -- the head that was read is that of the record which begins these bytes
-  record_head : (o : ℕ) (h k : HeadView) (bytes y z : List ℕ) → next_at limit o bytes ≡ Ok (Some h, y)
+  pub record_head : (o : ℕ) (h k : HeadView) (bytes y z : List ℕ) → next_at limit o bytes ≡ Ok (Some h, y)
       → record_at limit o bytes ≡ Ok (Some k, z) → h ≡ k
   unfolding record_at
   record_head o h k bytes y z n r = grind arith

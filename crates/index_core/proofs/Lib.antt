@@ -10,6 +10,8 @@ mod OneIndexLemmas
 mod WholeLemmas
 mod CopyLemmas
 mod FetchLemmas
+mod FetchAtLemmas
+mod FetchedLemmas
 mod OffsetLemmas
 pub mod LimitLemmas
 mod AcceptedWhole

@@ -1,6 +1,6 @@
 -- The captures of an archive that is accepted, whole or up to a fault's offset.
 use Rattle.std.specs.Prelude.{◌≡◌, ℕ, ◌<◌, ◌≤◌, Bool, List, [], ◌∷◌, ◌++◌, length, drop, option_to_list, Option, Some}
-use Rattle.std.specs.Prelude.{Ok, IfSome}
+use Rattle.std.specs.Prelude.{Ok, IfSome, IsSome}
 use Rattle.std.specs.List.{AllByRecursion}
 use Rattle.warc_core.specs.Kind.{Kind}
 use Rattle.warc_core.specs.HeadView.{HeadView, block_at}
@@ -11,6 +11,7 @@ use Rattle.capture_core.specs.declared.fault.CaptureFault.{CaptureFault}
 use Rattle.capture_core.specs.declared.fault.CaptureFault.TheVariants.{Archive, LineTooLong, KeyTooLong}
 use Rattle.capture_core.specs.Fault.{fault_offset}
 use Rattle.capture_core.specs.Capture.{IsCapture}
+use Rattle.capture_core.specs.Indexed.{url_of}
 use Rattle.capture_core.specs.CaptureAnswer.{Limits}
 
 -- the types of records that are indexed, the limits of captures and of a head, and the archive's name
@@ -45,7 +46,7 @@ module _ (types : Kind → Bool) (limits : Limits) (limit : ℕ) (name : List �
       (h : HeadView) × (rest : List ℕ) × (record_at limit offset bytes ≡ Ok (Some h, rest))
       × (e : EntryValue) × IsCaptureAt h bytes (Some e) × (limits.line < length (line_text e))
   IsRefused offset bytes (KeyTooLong o) = (h : HeadView) × (rest : List ℕ)
-      × (record_at limit offset bytes ≡ Ok (Some h, rest))
+      × (record_at limit offset bytes ≡ Ok (Some h, rest)) × IsSome (url_of types h)
 
   -- The archive is accepted up to the fault's offset, with these captures of the whole records before it.
   pub record IsAcceptedTo (fault : CaptureFault) (archive : List ℕ) (captures : List EntryValue) : Type 0 where

@@ -1,13 +1,15 @@
 -- Laws of the definitions that the contracts cite.
-use Rattle.std.specs.Prelude.{◌≡◌, ℕ, ◌≤◌, ⊤, Bool, List, Result}
+use Rattle.std.specs.Prelude.{◌≡◌, ℕ, ◌≤◌, ⊤, Bool, List, drop, Some, Result}
+use Rattle.cdxj_places.specs.Rising.{IsIn}
+use Rattle.warc_core.specs.HeadView.{HeadView, record_length}
 use Rattle.warc_core.specs.Kind.{Kind}
 use Rattle.cdxj_core.specs.Entries.{EntryValue}
 use Rattle.capture_core.specs.declared.fault.CaptureFault.{CaptureFault}
 use Rattle.capture_core.specs.declared.fault.CaptureFault.TheVariants.{Archive, LineTooLong, KeyTooLong}
 use Rattle.capture_core.specs.CaptureAnswer.{Limits}
 use Rattle.index_core.specs.declared.fault.IndexFault.{IndexFault}
-use Rattle.index_core.specs.Accepted.{IsAccepted, IsAcceptedTo, IsAcceptedWhole}
-use Rattle.index_core.specs.Fetching.{StandsIn}
+use Rattle.index_core.specs.Accepted.{IsAccepted, IsAcceptedTo, IsAcceptedWhole, IsCaptureAt}
+use Rattle.index_core.specs.Fetching.{IsRecordOf, StandsIn}
 use Rattle.index_core.specs.Report.{IsNoDamage}
 
 -- an archive is accepted with one list of captures
@@ -52,6 +54,14 @@ OneStands = (limit offset : ℕ) (archive : List ℕ) (this that : Result (List 
 abbrev pub SomeStands : Type 0
 SomeStands = (limit offset : ℕ) (archive : List ℕ) → (answer : Result (List ℕ) IndexFault)
     × StandsIn limit archive offset answer
+
+-- at the offset of each capture of an archive stands a record of the capture's length, and the capture is that record's
+abbrev pub CapturesStand : Type 0
+CapturesStand = (types : Kind → Bool) (limits : Limits) (limit : ℕ) (name archive : List ℕ)
+    (captures : List EntryValue) (e : EntryValue)
+    → IsAccepted types limits limit name archive captures → IsIn e captures
+    → (h : HeadView) × IsRecordOf limit archive e.offset h × (record_length h ≡ e.length)
+    × IsCaptureAt types limits limit name h (drop h.start archive) (Some e)
 
 -- an archive that is accepted whole is so under higher limits of lines and heads
 abbrev pub WholeStays : Type 0

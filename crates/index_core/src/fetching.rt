@@ -5,12 +5,18 @@ ghost use Rattle.warc_core.specs.Answers.{causes_of, CountsRead};
 ghost use Rattle.index_core.specs.Counting.{CountsIndex, CountsIndexWrite};
 ghost use Rattle.index_core.specs.Copying.{CopiesNext, Reaches};
 ghost use Rattle.index_core.specs.Fetching.{Fetches, IsFetchFault, IsMetBefore};
+ghost use Rattle.index_core.specs.FetchingAt.{CopiesNextOf, CopiesRecordOf, FetchesAt, PassesRecord};
+ghost use Rattle.warc_core.specs.declared.phase.Phase.TheVariants.{Open};
+ghost use Rattle.warc_core.specs.ReaderView.{HasLeft, IsUnread};
 
 use crate::copying::copy_record;
 use crate::fault::IndexFault;
 use crate::walk::next_record;
 use std::alloc::Global;
-use warc_core::{Fault, HEAD_LIMIT, Input, Output, Phase, Reader};
+use warc_core::{Fault, HEAD_LIMIT, Head, Input, Output, Phase, Reader};
+
+/// The greatest offset of a record.
+const GREATEST_OFFSET: u64 = (1 << 63) - 1;
 
 /// Writes the record that begins at `offset`, in bytes from the archive's start, as it is stored, and returns its
 /// length in bytes. The input is not called for anything after that record.
@@ -36,6 +42,95 @@ pub fn get<I: Input, O: Output>(
     match reader_at(alloc, input, offset)? {
         Some(mut reader) => copy_next(&mut reader, input, out),
         None => Err(IndexFault::NoRecord),
+    }
+}
+
+/// Writes the record of `length` bytes that begins at `offset`, in bytes from the archive's start, as it is stored, and
+/// returns its length. What precedes the offset is passed over, and not read as records.
+///
+/// Errors are `NoRecord` if a record of another length begins at the offset, if the archive ends at the offset or
+/// before it, or if the offset is 2^63 or more; the fault of the record at the offset, `Memory` and `Read` included; and
+/// `Write` at the output's first failure. After `NoRecord` nothing was written. After any other error, the first bytes
+/// from the offset on may have been written, but none past the end of the record that begins there.
+pub fn get_at<I: Input, O: Output>(
+    alloc: Global,
+    offset: u64,
+    length: u64,
+    input: &mut I,
+    out: &mut O,
+) -> Result<u64, IndexFault>
+    ensures fetches { FetchesAt HEAD_LIMIT offset length (I.remaining input.old) result
+        (O.written out.old) (O.written out.new) }
+    ensures refusals { IfErr result IsFetchFault }
+    ensures unwritten { IfErr result (λ fault. IsMetBefore offset fault → out.new ≡ out.old) }
+    ensures reads { CountsIndex result (I.failures input.old) (I.failures input.new) }
+    ensures writes { CountsIndexWrite result (O.failures out.old) (O.failures out.new) }
+{
+    if offset > GREATEST_OFFSET {
+        return Err(IndexFault::NoRecord);
+    }
+    let mut reader = Reader::at(alloc, input, offset)?;
+    copy_next_of(&mut reader, input, length, out)
+}
+
+/// Writes the next record if it has this length in bytes, and returns the length.
+fn copy_next_of<I: Input, O: Output>(
+    reader: &mut Reader,
+    input: &mut I,
+    length: u64,
+    out: &mut O,
+) -> Result<u64, IndexFault>
+    requires { reader.old.phase ≡ Phase.Between }
+    ensures copies { CopiesNextOf HEAD_LIMIT reader.old.offset length result
+        (prepend_known reader.old.held (I.remaining input.old)) (O.written out.old)
+        (O.written out.new) }
+    ensures unwritten { result ≡ Err IndexFault.NoRecord → out.new ≡ out.old }
+    ensures reads { CountsIndex result (I.failures input.old) (I.failures input.new) }
+    ensures writes { CountsIndexWrite result (O.failures out.old) (O.failures out.new) }
+{
+    match reader.next(input)? {
+        Some(head) => copy_record_of(reader, input, &head, length, out),
+        None => Err(IndexFault::NoRecord),
+    }
+}
+
+/// Writes the record with this head if it has this length in bytes, and returns the length. None of its block was read.
+/// Otherwise reads it to its end.
+fn copy_record_of<I: Input, O: Output>(
+    reader: &mut Reader,
+    input: &mut I,
+    head: &Head,
+    length: u64,
+    out: &mut O,
+) -> Result<u64, IndexFault>
+    requires { IsUnread reader.old head.now }
+    ensures copies { CopiesRecordOf head.now length result
+        (prepend_known reader.old.held (I.remaining input.old))
+        (prepend_known reader.new.held (I.remaining input.new)) (O.written out.old)
+        (O.written out.new) }
+    ensures unwritten { result ≡ Err IndexFault.NoRecord → out.new ≡ out.old }
+    ensures reads { CountsIndex result (I.failures input.old) (I.failures input.new) }
+    ensures writes { CountsIndexWrite result (O.failures out.old) (O.failures out.new) }
+{
+    if head.record_length() == length {
+        copy_record(reader, input, head, out)
+    } else {
+        pass_record(reader, input)
+    }
+}
+
+/// Reads the open record to its end. The error is its fault, or else `NoRecord`.
+fn pass_record<I: Input>(reader: &mut Reader, input: &mut I) -> Result<u64, IndexFault>
+    requires { HasLeft 0 reader.old.phase }
+    ensures passes { (left len : ℕ) → reader.old.phase ≡ Open left len →
+        PassesRecord left reader.old.offset result
+        (prepend_known reader.old.held (I.remaining input.old))
+        (prepend_known reader.new.held (I.remaining input.new)) }
+    ensures reads { CountsIndex result (I.failures input.old) (I.failures input.new) }
+{
+    match reader.finish(input) {
+        Ok(_length) => Err(IndexFault::NoRecord),
+        Err(fault) => Err(IndexFault::from(fault)),
     }
 }
 

@@ -1,5 +1,5 @@
 //! Laws of the definitions that the contracts cite. These functions do nothing: each law is a contract.
-ghost use Rattle.index_core.specs.Laws.{AcceptedIsWhole, OneIndexed, OneIndexedTo, OneStands, SomeStands, WholeIsNotRefused, WholeStays, CapturesStay};
+ghost use Rattle.index_core.specs.Laws.{AcceptedIsWhole, OneIndexed, OneIndexedTo, CapturesStand, OneStands, SomeStands, WholeIsNotRefused, WholeStays, CapturesStay};
 
 /// An archive has one list of captures, whether it is accepted whole or only up to a fault's offset.
 pub fn archive_has_one_list_of_captures()
@@ -11,6 +11,12 @@ pub fn archive_has_one_list_of_captures()
 pub fn one_thing_stands_at_an_offset()
     ensures one { OneStands }
     ensures some { SomeStands }
+{}
+
+/// At the offset of each capture of an archive that is accepted, a record stands. It has the capture's length, and the
+/// capture is that record's.
+pub fn captures_stand_at_their_offsets()
+    ensures { CapturesStand }
 {}
 
 /// An archive that is accepted with captures is accepted whole.

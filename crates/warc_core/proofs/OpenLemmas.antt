@@ -1,11 +1,12 @@
 -- Calls in an open record.
-use Rattle.std.proofs.Common.{◌≡◌, ℕ, ◌-◌, ◌<◌, ◌≤◌, List, ◌++◌, Option, Err, length, arith}
+use Rattle.std.proofs.Common.{◌≡◌, ℕ, ◌+◌, ◌-◌, ◌<◌, ◌≤◌, List, [], ◌++◌, Option, Ok, Err, length, arith}
+use Rattle.std.proofs.Math.Seq.{drop-append-add}
 use Rattle.std.proofs.lemmas.List.{drop_all}
 use Rattle.std.specs.Io.KnownBytes.{Consumes}
 use Rattle.warc_core.specs.declared.fault.Cause.{Cause}
 use Rattle.warc_core.specs.declared.phase.Phase.{Phase}
 use Rattle.warc_core.specs.declared.phase.Phase.TheVariants.{Open}
-use Rattle.warc_core.specs.Reading.{Reads, IsFoundAt}
+use Rattle.warc_core.specs.Reading.{Reads, IsFoundAt, past}
 use Rattle.warc_core.specs.Record.{after_block, after_record}
 use Rattle.warc_core.proofs.ReadingLemmas.{GoesOn}
 use Rattle.warc_core.proofs.RecordLemmas.{after_block-part}
@@ -34,6 +35,15 @@ found-of-record c left before after f = grind arith
 pub block-part : (n : ℕ) (front w : List ℕ) → length front ≤ n → after_block n (front ++ w)
     ≡ after_block (n - length front) w
 block-part n front w l = grind (arith, drop_all (length front) front, after_block-part n (length front) front w)
+
+pub past-part : (n : ℕ) (front w : List ℕ) → length front ≤ n → past n (front ++ w) ≡ past (n - length front) w
+past-part n front w l =
+    let e : length front + (n - length front) ≡ n = omega arith in
+    grind (arith, drop-append-add front w (n - length front))
+
+-- nothing is behind the end
+pub past-end : (n : ℕ) → past n [] ≡ Ok (tt, [])
+past-end n = grind arith
 
 record-part : (n : ℕ) (front w : List ℕ) → length front ≤ n → after_record n (front ++ w)
     ≡ after_record (n - length front) w

@@ -1,5 +1,5 @@
 -- How bytes are read from the front of a text, and what a call that reads owes to the bytes it is given.
-use Rattle.std.specs.Prelude.{◌≡◌, ℕ, ⊤, List, [], ◌∷◌, Option, None, Some, Result, Ok, Err}
+use Rattle.std.specs.Prelude.{◌≡◌, ℕ, ⊤, List, [], ◌∷◌, drop, Option, None, Some, Result, Ok, Err}
 use Rattle.warc_core.specs.declared.fault.Cause.{Cause}
 use Rattle.warc_core.specs.declared.fault.Cause.TheVariants as causes
 
@@ -12,6 +12,10 @@ abbrev pub ◌>>=◌ : {A B : Type 0} → Result A Cause → (A → Result B Cau
 abbrev pub first_of : List ℕ → Result (Option ℕ × List ℕ) Cause
 first_of [] = Ok (None, [])
 first_of (b ∷ bytes) = Ok (Some b, bytes)
+
+-- what is behind the first n bytes, or nothing if there are fewer
+abbrev pub past : ℕ → List ℕ → Result (Unit {0} × List ℕ) Cause
+past n bytes = Ok (tt, drop n bytes)
 
 -- A cause other than Memory and Read is the one that the bytes give.
 abbrev pub IsFoundIn : {A : Type 0} → Cause → Result A Cause → Type 0

@@ -1,7 +1,7 @@
 //! The bytes of a block.
 ghost use Rattle.std.specs.Prelude.{◌≡◌, Option, ℕ, ◌+◌, ◌-◌, ◌<◌, ◌≤◌, List, [], length, drop, take, IfOk, IfErr, OnOk, MatchResult};
 ghost use Rattle.std.specs.Io.KnownBytes.{Consumes, ReadConsumes, prepend_known};
-ghost use Rattle.warc_core.specs.Reading.{Reads, IsFoundAt};
+ghost use Rattle.warc_core.specs.Reading.{Reads, IsFoundAt, past};
 ghost use Rattle.warc_core.specs.Answers.{CountsRead};
 ghost use Rattle.warc_core.specs.Record.{after_block};
 ghost use Rattle.warc_core.specs.Cause.{StopsBlock};
@@ -67,6 +67,25 @@ pub fn skip_block<I: Input>(buffer: &mut Buffer, input: &mut I, length: u64) -> 
         let skipped = buffer.skip(input, left)?;
         if skipped == 0 {
             return Err(Cause::ShortBlock);
+        }
+        left -= skipped;
+    }
+    Ok(())
+}
+
+/// Passes over the next `count` bytes, or all if there are fewer. The only error is `Read`.
+pub fn pass_over<I: Input>(buffer: &mut Buffer, input: &mut I, count: u64) -> Result<(), Cause>
+    ensures bytes { Reads (past count) result
+        (prepend_known buffer.old (I.remaining input.old))
+        (prepend_known buffer.new (I.remaining input.new)) }
+    ensures cause { IfErr result (λ c. c ≡ Cause.Read) }
+    ensures failures { CountsRead result (I.failures input.old) (I.failures input.new) }
+{
+    let mut left = count;
+    while left > 0 {
+        let skipped = buffer.skip(input, left)?;
+        if skipped == 0 {
+            return Ok(());
         }
         left -= skipped;
     }

@@ -1,7 +1,7 @@
 //! A reader of records, one after another, that takes the input at each call.
-ghost use Rattle.std.specs.Prelude.{◌≡◌, ℕ, ◌-◌, ◌^◌, ◌≤◌, [], length, Ok, Err, IfOk, IfErr, OnOk};
+ghost use Rattle.std.specs.Prelude.{◌≡◌, ℕ, ◌-◌, ◌^◌, ◌≤◌, ◌⊎◌, [], length, Ok, Err, IfOk, IfErr, OnOk};
 
-use crate::block::give_block;
+use crate::block::{give_block, pass_over};
 use crate::closing::skip_record;
 use crate::fault::{Cause, Fault};
 use crate::head::Head;
@@ -36,7 +36,10 @@ impl Model for Reader {
 impl Reader {
     ghost use Rattle.warc_core.specs.declared.fault.Fault.{Fault};
     ghost use Rattle.warc_core.specs.declared.fault.Cause.{Cause};
-    ghost use Rattle.warc_core.specs.ReaderView.{HasLeft, state_of};
+    ghost use Rattle.std.specs.Io.KnownBytes.{prepend_known};
+    ghost use Rattle.warc_core.specs.Answers.{causes_of, CountsRead};
+    ghost use Rattle.warc_core.specs.Reading.{Reads, past};
+    ghost use Rattle.warc_core.specs.ReaderView.{HasLeft, StandsAt, state_of};
     ghost use Rattle.warc_core.specs.Calls.{Finishes, GivesBlock, Fills, GoesNext, FinishesAndGoesNext};
 
     /// Creates a reader at the start of an archive, with a buffer of 8,192 bytes.
@@ -58,6 +61,36 @@ impl Reader {
                 offset: 0,
                 cause: Cause::Memory,
             }),
+        }
+    }
+
+    /// Creates a reader at an offset of an archive, in bytes from its start, after it has passed over the bytes before
+    /// it. If the archive has fewer, the reader is at its end.
+    ///
+    /// Errors are `Memory` and `Read`, at this offset.
+    pub fn at<I: Input>(alloc: Global, input: &mut I, offset: u64) -> Result<Reader, Fault>
+        requires { offset ≤ 2 ^ 63 - 1 }
+        ensures stands { IfOk result (λ r. StandsAt r offset Phase.Between) }
+        ensures bytes { IfOk result (λ r. Reads (past offset) (Ok tt) (I.remaining input.old)
+            (prepend_known r.held (I.remaining input.new))) }
+        ensures fault { IfErr result (λ f. f.offset ≡ offset) }
+        ensures cause { IfErr result (λ f. (f.cause ≡ Cause.Memory) ⊎ (f.cause ≡ Cause.Read)) }
+        ensures reads { CountsRead (causes_of result) (I.failures input.old) (I.failures input.new) }
+    {
+        let Ok(mut buffer) = Buffer::new(alloc) else {
+            return Err(Fault {
+                offset,
+                cause: Cause::Memory,
+            });
+        };
+        match pass_over(&mut buffer, input, offset) {
+            Ok(()) => Ok(Reader {
+                alloc,
+                offset,
+                phase: Phase::Between,
+                buffer,
+            }),
+            Err(cause) => Err(Fault { offset, cause }),
         }
     }
 

@@ -1,0 +1,54 @@
+-- The record of a length at an offset.
+use Rattle.std.proofs.Common.{◌≡◌, ◌≢◌, ℕ, List, [], ◌++◌, Option, None, Some, Result, Ok, Err, IfSome, arith, refl, inr}
+use Rattle.warc_core.specs.HeadView.{HeadView, record_length}
+use Rattle.warc_core.specs.Next.{next_at}
+use Rattle.warc_core.specs.Reading.{Reads}
+use Rattle.warc_core.proofs.WalkLemmas.{record-whole}
+use Rattle.capture_core.specs.declared.fault.CaptureFault.TheVariants.{Archive}
+use Rattle.devices.proofs.DeviceLemmas.{Appends-none}
+use Rattle.index_core.specs.declared.fault.IndexFault.{IndexFault}
+use Rattle.index_core.specs.declared.fault.IndexFault.TheVariants as faults
+use Rattle.index_core.specs.Counting.{CountsIndexWrite}
+use Rattle.index_core.specs.Copying.{WroteFront, CopiesRecord}
+use Rattle.index_core.specs.FetchingAt.{CopiesNextOf, CopiesRecordOf, PassesRecord}
+use Rattle.index_core.proofs.FetchLemmas.{next_copied, record_head}
+
+-- a record of this length was copied
+pub copied_of : (h : HeadView) (len : ℕ) (r : Result ℕ IndexFault) (before after w u : Option (List ℕ))
+    → record_length h ≡ len → CopiesRecord h r before after w u → CopiesRecordOf h len r before after w u
+copied_of h len r before after w u e c = grind arith
+
+in_front : (known : Option (List ℕ)) → IfSome known (λ bytes. (more : List ℕ) × (bytes ≡ [] ++ more))
+in_front None = tt
+in_front (Some bytes) = (bytes, refl)
+
+nothing : (n : ℕ) (known w : Option (List ℕ)) → WroteFront n known w w
+nothing n known w = record { front = []; most = grind arith; begins = in_front known; grown = Appends-none w }
+
+-- a record of another length was passed over
+pub passed_of : (h : HeadView) (len : ℕ) (r : Result ℕ IndexFault) (before after w : Option (List ℕ))
+    → record_length h ≢ len → PassesRecord h.parts.length h.start r before after
+    → CopiesRecordOf h len r before after w w
+passed_of h len (Err faults.NoRecord) before after w e p = record { other = e; whole = p }
+passed_of h len (Err (faults.Capture (Archive f))) before after w e p =
+    record { wrote = nothing (record_length h) _ w; ends = p }
+passed_of h len r before after w e p = grind arith
+
+-- nothing is written of it
+pub passes_writing : (left o : ℕ) (r : Result ℕ IndexFault) (before after : Option (List ℕ)) (n : ℕ)
+    → PassesRecord left o r before after → CountsIndexWrite r n n
+passes_writing left o r before after n p = grind arith
+
+module _ (limit : ℕ) where
+  pub next_copied_of : (o : ℕ) (h : HeadView) (len : ℕ) (r : Result ℕ IndexFault)
+      (before mid after w u : Option (List ℕ)) → Reads (next_at limit o) (Ok (Some h)) before mid → h.start ≡ o
+      → CopiesRecordOf h len r mid after w u → CopiesNextOf limit o len r before w u
+  next_copied_of o h len (Ok m) before mid after w u n e c =
+      let k = next_copied limit o h (Ok m) before mid after w u n e c.1 in grind (arith, record_head)
+  next_copied_of o h len (Err faults.NoRecord) (Some z) (Some y) (Some x) w u n e c =
+      inr (h, x, record-whole limit o (Some z) (Some y) (Some x) h n c.whole, c.other)
+  next_copied_of o h len (Err (faults.Capture (Archive f))) before mid after w u n e c =
+      next_copied limit o h (Err (faults.Capture (Archive f))) before mid after w u n e c
+  next_copied_of o h len (Err faults.Write) before mid after w u n e c =
+      next_copied limit o h (Err faults.Write) before mid after w u n e c.1
+  next_copied_of o h len r before mid after w u n e c = grind arith

@@ -1,0 +1,59 @@
+-- A capture's record stands at its offset.
+use Rattle.std.proofs.Common.{arith, ◌≡◌, ℕ, ◌+◌, List, [], ◌∷◌, ◌++◌, Bool, Option, Some, Ok, drop, refl}
+use Rattle.std.proofs.Common.{◌⊎◌, option_to_list}
+use Rattle.cdxj_places.specs.Rising.{IsIn}
+use Rattle.cdxj_core.specs.Entries.{EntryValue}
+use Rattle.capture_core.specs.Capture.{IsCaptureUnder}
+use Rattle.capture_core.specs.CaptureAnswer.{Limits}
+use Rattle.capture_core.specs.Indexed.{url_of}
+use Rattle.warc_core.specs.HeadView.{HeadView, record_length, block_at}
+use Rattle.warc_core.specs.Kind.{Kind}
+use Rattle.warc_core.specs.Walk.{record_at, Walks}
+use Rattle.warc_core.proofs.SpelledLemmas.{read-spelled}
+use Rattle.warc_core.proofs.WalkLemmas.{Walks-more}
+use Rattle.index_core.specs.Accepted.{IsAccepted, IsCaptureAt, AreCaptured}
+use Rattle.index_core.specs.Fetching.{IsRecordOf}
+
+joined_in : {X : Type 0} (x : X) (us vs : List X) → IsIn x (us ++ vs) → IsIn x us ⊎ IsIn x vs
+joined_in x [] vs i = grind arith
+joined_in x (u ∷ us) vs i = grind (arith, joined_in x us vs)
+
+module _ (types : Kind → Bool) (limits : Limits) (limit : ℕ) (name archive : List ℕ) (e : EntryValue) where
+  abbrev Fetched : Type 0
+  Fetched = (h : HeadView) × IsRecordOf limit archive e.offset h × (record_length h ≡ e.length)
+      × IsCaptureAt types limits limit name h (drop h.start archive) (Some e)
+
+  -- the offset and the length of a record's capture
+  under : (u : Option (List ℕ)) (h : HeadView) (block : List ℕ)
+      → IsCaptureUnder u limits.http_head limits.http_fields h block name (Some e)
+      → (e.offset ≡ h.start) × (e.length ≡ record_length h)
+  under u h block c = grind arith
+
+  here : (before : List HeadView) (start : ℕ) (bytes later : List ℕ) (h : HeadView)
+      → Walks limit 0 archive before start bytes → record_at limit start bytes ≡ Ok (Some h, later)
+      → IsCaptureAt types limits limit name h (drop h.start archive) (Some e) → Fetched
+  here before start bytes later h w r c =
+      let starts : h.start ≡ start = (read-spelled limit start bytes later h r).2.start_is in
+      let is = under (url_of types h) h (block_at h (drop h.start archive)) c in
+      let at : e.offset ≡ start = grind arith in
+      let size : record_length h ≡ e.length = grind arith in
+      let record_is : IsRecordOf limit archive e.offset h =
+      rw at (record { before = before; bytes = bytes; rest = later; walks = w; whole = r }) in
+      (h, record_is, size, c)
+
+  go : (before heads : List HeadView) (start end : ℕ) (bytes : List ℕ) (captures : List EntryValue)
+      → Walks limit 0 archive before start bytes → Walks limit start bytes heads end []
+      → AreCaptured types limits limit name archive heads captures → IsIn e captures → Fetched
+  go before [] start end bytes captures w v c i = grind arith
+  go before (h ∷ heads) start end bytes captures w v (captured, others, here_is, rest, is) i =
+      grind (
+        arith,
+        joined_in e (option_to_list captured) others,
+        here before start bytes v.0 h w v.1,
+        Walks-more limit 0 archive before start bytes h v.0 w v.1,
+        go (before ++ h ∷ []) heads (start + record_length h) end v.0 others,
+      )
+
+  pub fetched : (captures : List EntryValue) → IsAccepted types limits limit name archive captures → IsIn e captures
+      → Fetched
+  fetched captures a i = go [] a.heads 0 a.whole.end archive captures (refl, refl) a.whole.walks a.captured i
