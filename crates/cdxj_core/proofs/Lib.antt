@@ -9,3 +9,4 @@ pub mod FoundLines
 pub mod LineCuts
 pub mod ObjectLines
 pub mod UnescapedAscii
+pub mod SortedLines

@@ -2,10 +2,13 @@
 //! contract.
 ghost use Rattle.std.specs.Prelude.{◌≡◌, ◌≤◌, ◌<◌, ◌++◌, ℕ, List, None, Some, length, map, flat_map};
 ghost use Rattle.std.specs.List.{AllByRecursion};
+ghost use Rattle.std.specs.Cmp.Lexicographic.{slice_cmp};
+ghost use Rattle.std.specs.Ordering.{nat_cmp};
 ghost use Rattle.cdxj_places.specs.Pair.{pair_of};
 ghost use Rattle.cdxj_places.specs.Pairs.{pair_cmp};
 ghost use Rattle.cdxj_places.specs.Places.{place_cmp};
 ghost use Rattle.cdxj_places.specs.Rising.{Rises, NeverFalls};
+ghost use Rattle.cdxj_places.specs.TextLines.{lines};
 ghost use Rattle.cdxj_core.specs.Entries.{EntryValue, HasLine, entry_pair, entry_place, line_text};
 ghost use Rattle.cdxj_core.specs.Lines.{body_of};
 ghost use Rattle.cdxj_core.specs.Members.{Member, entry_member, line_entry, member_pair};
@@ -57,6 +60,14 @@ pub fn written_lines_are_an_index()
         → AllByRecursion (HasLine limit) entries
         → Rises entry_place place_cmp entries
         → IsIndex limit (flat_map line_text entries) (map entry_member entries) }
+{}
+
+/// A text whose lines all have entries, in the order of their bytes, is an index: so is what `LC_ALL=C sort` makes of
+/// such lines.
+pub fn sorted_lines_are_an_index()
+    ensures { (limit : ℕ) → (text : List ℕ) → (members : List Member)
+        → map (line_entry limit) (lines text) ≡ map Some members
+        → NeverFalls body_of (slice_cmp nat_cmp) (lines text) → IsIndex limit text members }
 {}
 
 /// An index has one list of members.

@@ -25,7 +25,7 @@ pub use crate::field::Field;
 pub use crate::laws::{
     index_has_one_list_of_members, key_and_file_name_are_no_longer_than_their_line,
     line_begins_with_its_pair, line_stays_under_higher_limit, long_line_has_no_entry,
-    written_line_is_read, written_lines_are_an_index,
+    sorted_lines_are_an_index, written_line_is_read, written_lines_are_an_index,
 };
 pub use crate::limit::LINE_LIMIT;
 pub use crate::line::Line;

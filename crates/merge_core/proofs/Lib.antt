@@ -18,3 +18,4 @@ pub mod CountLemmas
 pub mod SourceLemmas
 pub mod SpendLemmas
 pub mod ByteLemmas
+pub mod OnceLemmas

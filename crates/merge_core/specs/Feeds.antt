@@ -118,6 +118,7 @@ pub record Moved (old_text text : Option (List ℕ)) (old_extent extent old_gave
   pub extent_kept : extent ≡ old_extent
   pub spent : gave + reach old ≤ old_gave + reach now
   pub start_kept : now.start ≡ old.start
+  pub inside : reach old ≤ old_extent → reach now ≤ extent
 
 -- the same of each source and its feed
 abbrev pub AllMoved : {S : Type 0} → (S → Option (List ℕ)) → (S → ℕ) → (S → ℕ) → List S → List Feed → List S

@@ -1,6 +1,6 @@
 -- How far sources were read.
 use Rattle.std.specs.Prelude.{◌≡◌, ℕ, ◌+◌, ◌*◌, ◌≤◌, List, [], ◌∷◌, ◌++◌, length, map, drop, Bool, false, Option, Some}
-use Rattle.std.specs.List.{AllByRecursion, filter, zip}
+use Rattle.std.specs.List.{AllByRecursion, AllZip, filter, zip}
 use Rattle.cdxj_places.specs.Pairs.{Pair}
 use Rattle.cdxj_places.specs.TextLines.{lines}
 use Rattle.cdxj_core.specs.Members.{Member, member_pair, line_entry}
@@ -42,6 +42,18 @@ OpenedWithin text extent old new = (t : List ℕ) → text ≡ Some t
 -- read
 abbrev pub CameWithin : Option (List ℕ) → ℕ → ℕ → ℕ → CursorState → Type 0
 CameWithin text extent old new c = (t : List ℕ) → text ≡ Some t → new + c.start ≤ old + search_most extent t + reach c
+
+-- a source gave each of its bytes at most once
+abbrev pub GaveOnce : ℕ → ℕ → ℕ → Type 0
+GaveOnce extent old new = new ≤ old + extent
+
+-- each of its bytes up to the offset up to which it was read
+abbrev pub CameOnce : ℕ → ℕ → CursorState → Type 0
+CameOnce old new c = new ≤ old + reach c
+
+-- each of the sources gave each of its bytes at most once
+abbrev pub AllGaveOnce : {S : Type 0} → (S → ℕ) → (S → ℕ) → List S → List S → Type 0
+AllGaveOnce extent gave = AllZip (λ old new. GaveOnce (extent old) (gave old) (gave new))
 
 -- Sources gave no more than the bytes of those of their lines that pass, what a search takes, two lines and a piece: by
 -- their texts, their indexes, and the sources before and after

@@ -80,6 +80,7 @@ impl Feed {
         ensures extent { S.extent source.new ≡ S.extent source.old }
         ensures gave { S.gave source.new + reach self.old.cursor
             ≤ S.gave source.old + reach self.new.cursor }
+        ensures inside { reach self.new.cursor ≤ S.extent source.old }
         ensures failures { CountsFeed result (S.failures source.old) (S.failures source.new) }
         ensures start { self.new.cursor.start ≡ self.old.cursor.start }
         ensures fed { IfOk result (λ o.
@@ -125,6 +126,7 @@ impl Feed {
         ensures extent { S.extent source.new ≡ S.extent source.old }
         ensures gave { S.gave source.new + reach self.old.cursor
             ≤ S.gave source.old + reach self.new.cursor }
+        ensures inside { reach self.new.cursor ≤ S.extent source.old }
         ensures failures { CountsFeed result (S.failures source.old) (S.failures source.new) }
         ensures start { self.new.cursor.start ≡ self.old.cursor.start }
         ensures fed { IfOk result (λ o.

@@ -7,6 +7,7 @@ ghost use Rattle.merge_core.specs.Counts.{ShareAtMost};
 ghost use Rattle.merge_core.specs.Failures.{CountsMerge};
 ghost use Rattle.merge_core.specs.LineFaults.{IsMergeFaultOf};
 ghost use Rattle.merge_core.specs.SourceLines.{WritesLinesOf};
+ghost use Rattle.merge_core.specs.Spending.{AllGaveOnce};
 ghost use Rattle.merge_core.specs.Written.{lines_text};
 
 use crate::fault::MergeFault;
@@ -48,6 +49,7 @@ pub fn merge_indexes<S: Source, O: Output>(
         AppendsPrefix (O.written out.old) (O.written out.new) (lines_text (collection indexes))) }
     ensures lines { WritesLinesOf LINE_LIMIT (λ merged. merged.count) (map S.text sources.old)
         result (O.written out.old) (O.written out.new) }
+    ensures bytes { AllGaveOnce S.extent S.gave sources.old sources.new }
     ensures held { OverIndexes LINE_LIMIT (map S.text sources.old) (λ texts indexes.
         (most : ℕ) → ShareAtMost most (all_lines indexes)
         → IfOk result (λ merged. merged.held ≤ length sources.old + most)) }

@@ -11,7 +11,7 @@ ghost use Rattle.source_core.specs.IndexLines.{BeginsAfter, lines, longest};
 ghost use Rattle.source_core.specs.Search.{IsCut};
 ghost use Rattle.merge_core.specs.Failures.{CountsFeed, CountsReads};
 ghost use Rattle.merge_core.specs.LineFaults.{NamesLine, IsMergeFaultOf};
-ghost use Rattle.merge_core.specs.Spending.{search_most, CameWithin, OpenedWithin};
+ghost use Rattle.merge_core.specs.Spending.{search_most, AllGaveOnce, CameOnce, CameWithin, GaveOnce, OpenedWithin};
 
 use crate::fault::{FeedFault, MergeFault};
 use crate::feed::{Feed, Progress};
@@ -37,6 +37,7 @@ fn find_start<S: Source>(
     ensures fresh { IfOk result (λ r. r.0.count ≡ 0) }
     ensures first { IfOk result (λ r. (r.0.at ≡ r.0.start) × (reach r.0 ≡ r.0.start)) }
     ensures start { key.now ≡ [] → stamp.now ≡ [] → IfOk result (λ r. r.0.start ≡ 0) }
+    ensures unread { key.now ≡ [] → stamp.now ≡ [] → source.new ≡ source.old }
     ensures gave { (t : List ℕ) → S.text source.old ≡ Some t → S.gave source.new
         ≤ S.gave source.old + search_most (S.extent source.old) t }
     ensures begins { (t : List ℕ) → S.text source.old ≡ Some t
@@ -92,6 +93,7 @@ impl Streams {
             self.old.feeds.items self.new.feeds.items self.old.waiting self.new.waiting) }
         ensures spent { (t : List ℕ) → S.text source.old ≡ Some t → S.gave source.new + reach cursor
             ≤ S.gave source.old + cursor.start + 2 * longest (lines t) + 8192 }
+        ensures once { GaveOnce (S.extent source.old) (S.gave source.old) (S.gave source.new) }
     {
         let mut feed = Feed {
             cursor,
@@ -128,10 +130,13 @@ impl Streams {
             (λ c. IsCutAt LINE_LIMIT (key.now, stamp.now) (S.text source.new) c
             × CameWithin (S.text source.old) (S.extent source.old) (S.gave source.old)
             (S.gave source.new) c
-            × (key.now ≡ [] → stamp.now ≡ [] → c.start ≡ 0))
+            × (key.now ≡ [] → stamp.now ≡ [] → c.start ≡ 0)
+            × (key.now ≡ [] → stamp.now ≡ [] → CameOnce (S.gave source.old) (S.gave source.new) c))
             self.old.feeds.items self.new.feeds.items self.old.waiting self.new.waiting) }
         ensures spent { OpenedWithin (S.text source.old) (S.extent source.old) (S.gave source.old)
             (S.gave source.new) }
+        ensures once { key.now ≡ [] → stamp.now ≡ []
+            → GaveOnce (S.extent source.old) (S.gave source.old) (S.gave source.new) }
     {
         let (cursor, probes) = find_start(alloc, source, key, stamp)?;
         self.add(source, cursor, range)?;
@@ -155,6 +160,11 @@ impl Streams {
             (map S.failures sources.new) }
         ensures spent { AllZip (λ x y.
             OpenedWithin (S.text x) (S.extent x) (S.gave x) (S.gave y)) sources.old sources.new }
+        ensures once { key.now ≡ [] → stamp.now ≡ []
+            → AllGaveOnce S.extent S.gave sources.old sources.new }
+        ensures came_once { key.now ≡ [] → stamp.now ≡ [] → IfOk result (λ o.
+            AllZip (λ x y. CameOnce (S.gave x) (S.gave y.0) y.1.cursor)
+            sources.old (zip sources.new o.streams.feeds.items)) }
         ensures came { IfOk result (λ o.
             AllZip (λ x y. CameWithin (S.text x) (S.extent x) (S.gave x) (S.gave y.0) y.1.cursor)
             sources.old (zip sources.new o.streams.feeds.items)) }

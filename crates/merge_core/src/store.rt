@@ -104,6 +104,7 @@ impl Store {
         ensures most { (t : List ℕ) → S.text source.old ≡ Some t → cursor.new.at
             ≤ cursor.old.at + first_length (lines (drop cursor.old.at t)) }
         ensures ahead { length cursor.new.ahead ≤ 8192 }
+        ensures inside { reach cursor.new ≤ S.extent source.old }
         ensures fault { (t : List ℕ) → S.text source.old ≡ Some t
             → IfErr result (IsFeedFaultAt LINE_LIMIT (lines (drop cursor.old.at t)) cursor.old.at) }
     {

@@ -8,3 +8,8 @@ pub mod LineReplies
 pub mod ReplyLemmas
 pub mod ReachLemmas
 pub mod PageReach
+pub mod RisingParts
+pub mod ComposeLemmas
+pub mod MergedLemmas
+pub mod AddLemmas
+pub mod PageIndexes

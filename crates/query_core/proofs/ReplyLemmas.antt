@@ -1,7 +1,7 @@
 -- The replies to the lines of an input, so far and at its end.
 use Rattle.std.proofs.Common.{◌≡◌, ℕ, ◌+◌, ◌-◌, ◌^◌, ◌<◌, ◌≤◌, List, [], ◌∷◌, ◌++◌, map, length, length-append}
 use Rattle.std.proofs.Common.{length-take, take, refl, sym, ap, ◌∙◌, subst, arith, cond, Bool, true, false, Option}
-use Rattle.std.proofs.Common.{Some, None, append_assoc, append-nil, lt-ltb, ltb-false, nat_lt, slice_index, ltb-true}
+use Rattle.std.proofs.Common.{Some, None, append_assoc, append-nil, lt-ltb, ltb-false, nat_lt, slice_index, ltb-true, ◌⊎◌}
 use Rattle.std.specs.Prelude.{flat_map}
 use Rattle.std.specs.List.{AllZip}
 use Rattle.std.proofs.lemmas.List.{length-map, map-append, take_all}
@@ -12,10 +12,10 @@ use Rattle.devices.specs.Device.{AppendsPrefix}
 use Rattle.devices.proofs.DeviceLemmas.{Appends-none, Appends-join}
 use Rattle.devices.proofs.WritingLemmas.{prefix_longer, prefix_after, prefix_whole}
 use Rattle.devices.specs.LineCuts.{cut_lines, without_carriage_return}
-use Rattle.devices.specs.LineReading.{TakesLine, CountsTaken}
+use Rattle.devices.specs.LineReading.{IsTooLong, StopsInLine, TakesLine, CountsTaken}
 use Rattle.query_core.specs.Replies.{marked_reply}
-use Rattle.query_core.specs.Conversations.{IsMarkedReply, IsOneReply, Replied, RepliedInPart, RepliedSoFar}
-use Rattle.query_core.specs.Conversations.{RepliedToAll, RepliedToFirst}
+use Rattle.query_core.specs.Conversations.{AreLeft, IsMarkedReply, IsOneReply, Replied, RepliedInPart, RepliedSoFar}
+use Rattle.query_core.specs.Conversations.{RepliedToAll, RepliedToFirst, RepliedToTaken}
 
 -- ---- lists of lines and of their replies
 
@@ -35,6 +35,12 @@ joined-more texts text = grind (arith, flat_map-append, append-nil)
 shorter : (t : Bool) (l : List ℕ) → length l ≤ length (cond t (take (length l - 1) l) l) + 1
 shorter t l = grind (arith, length-take)
 
+-- what is left of an input that isn't too long
+left_behind : (now : List ℕ) (left : Option (List ℕ)) (whole taken : ℕ) → 0 + whole ≡ taken + length now
+    → StopsInLine (Some now) left ⊎ IsTooLong (Some now) taken → whole < 2 ^ 63 - 1 → AreLeft left (cut_lines now)
+left_behind now None whole taken k stopped short = absurd (grind arith)
+left_behind now (Some left) whole taken k stopped short = grind arith
+
 module _ (limit : ℕ) (IsReply : List ℕ → List ℕ → Type 0) where
   abbrev Marked : List ℕ → List ℕ → Type 0
   Marked line text = IsMarkedReply limit IsReply (without_carriage_return line) text
@@ -47,13 +53,14 @@ module _ (limit : ℕ) (IsReply : List ℕ → List ℕ → Type 0) where
 
   pub replied-none : (left : Option (List ℕ)) (buffer : List ℕ) (old : Option (List ℕ)) → buffer ≡ []
       → RepliedSoFar limit IsReply left (prepend_known buffer left) 0 old old
-  replied-none None buffer old e = tt
+  replied-none None buffer old e = ([], [], refl, tt, Appends-none old)
   replied-none (Some input) buffer old e =
       ([], [], ap (λ b. cut_lines (b ++ input)) (sym e), refl, tt, Appends-none old)
 
   pub replied-front : (input now : Option (List ℕ)) (count : ℕ) (old new : Option (List ℕ))
       → RepliedSoFar limit IsReply input now count old new → RepliedToFirst limit IsReply input old new
-  replied-front None now count old new s = tt
+  replied-front None now count old new (done, texts, counted, each, written) =
+      (done, texts, each, grind (arith, append-nil, prefix_whole))
   replied-front (Some input) None count old new s = absurd s
   replied-front (Some input) (Some now) count old new (done, texts, cut, counted, each, written) = (
     map without_carriage_return done,
@@ -70,7 +77,15 @@ module _ (limit : ℕ) (IsReply : List ℕ → List ℕ → Type 0) where
       → Marked line text
       → (Appends new last text → RepliedSoFar limit IsReply input after (count + 1) old last)
       × (AppendsPrefix new last text → RepliedToFirst limit IsReply input old last)
-  replied None now after count old new last line text s t m = (λ a. tt, λ p. tt)
+  replied None now after count old new last line text (done, texts, counted, each, written) t m =
+      let shown = without_carriage_return line in
+      let lines = done ++ shown ∷ [] in
+      let all = texts ++ text ∷ [] in
+      let e = joined-more texts text in
+      let more = AllZip-push (IsMarkedReply limit IsReply) done texts shown text each m in (
+        λ a. (lines, all, grind (arith, length-append), more, rw e (Appends-join old new last (joined texts) text written a)),
+        λ p. (lines, all, more, rw e (prefix_after old new last (joined texts) text written p)),
+      )
   replied (Some input) None after count old new last line text s t m = absurd s
   replied (Some input) (Some now) None count old new last line text s t m = absurd t
   replied (Some input) (Some now) (Some rest) count old new last line text
@@ -101,7 +116,7 @@ module _ (limit : ℕ) (IsReply : List ℕ → List ℕ → Type 0) where
       (line : List ℕ) (found : Bool) → RepliedSoFar limit IsReply input now count old new
       → TakesLine (limit + 2) found now after line → found ≡ false → CountsTaken input now 0 before
       → CountsTaken now after before taken → taken < 2 ^ 63 - 1 → RepliedToAll limit IsReply input count old new
-  line-none None now after count before taken old new line found s t none n k small = tt
+  line-none None now after count before taken old new line found s t none n k small = s
   line-none (Some input) None after count before taken old new line found s t none n k small = absurd s
   line-none (Some input) (Some now) None count before taken old new line found s t none n k small = absurd k
   line-none (Some input) (Some now) (Some rest) count before taken old new line found
@@ -115,6 +130,16 @@ module _ (limit : ℕ) (IsReply : List ℕ → List ℕ → Type 0) where
             (rw all each),
         written,
       )
+
+  -- the input failed in a line, or is too long
+  pub replied-taken : (input now left : Option (List ℕ)) (count taken : ℕ) (old new : Option (List ℕ))
+      → RepliedSoFar limit IsReply input now count old new → CountsTaken input now 0 taken
+      → StopsInLine now left ⊎ IsTooLong now taken → RepliedToTaken limit IsReply input left old new
+  replied-taken None now left count taken old new (done, texts, counted, each, written) k stopped =
+      (done, texts, each, written)
+  replied-taken (Some input) None left count taken old new s k stopped = absurd s
+  replied-taken (Some input) (Some now) left count taken old new (done, texts, cut, counted, each, written) k stopped =
+      (done, cut_lines now, texts, cut, grind (arith, left_behind), grind (arith, zip_map), written)
 
   pub nothing_replied : (input old : Option (List ℕ)) → RepliedToFirst limit IsReply input old old
   nothing_replied input old =

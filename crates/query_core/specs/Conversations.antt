@@ -1,11 +1,11 @@
 -- The replies to an input, all of them or a front of them.
-use Rattle.std.specs.Prelude.{◌≡◌, ℕ, ◌-◌, ◌^◌, ◌<◌, ⊤, List, ◌++◌, length, flat_map, nat_lt, codes, MatchBool, Option}
+use Rattle.std.specs.Prelude.{◌≡◌, ℕ, ◌-◌, ◌^◌, ◌<◌, ⊤, List, ◌++◌, length, flat_map, map, nat_lt, codes, MatchBool, Option}
 use Rattle.std.specs.Prelude.{None, Some, Result, MatchResult}
 use Rattle.std.specs.List.{AllZip}
 use Rattle.std.specs.Str.{is_utf8}
 use Rattle.std.specs.Io.KnownBytes.{Appends}
 use Rattle.devices.specs.Device.{AppendsPrefix}
-use Rattle.devices.specs.LineCuts.{input_lines, cut_lines, without_carriage_return}
+use Rattle.devices.specs.LineCuts.{HasNoLineFeed, input_lines, cut_lines, without_carriage_return}
 use Rattle.query_core.specs.declared.fault.AnswerFault.{AnswerFault}
 use Rattle.query_core.specs.Replies.{refusal_text, replies}
 
@@ -26,6 +26,11 @@ RepliedInPart limit reply (Some input) old new = AppendsPrefix old new (replies 
 abbrev pub IsOneReply : (List ℕ → List ℕ) → List ℕ → List ℕ → Type 0
 IsOneReply reply text given = given ≡ reply text
 
+-- these lines are left behind those that were taken: those of these bytes, after a part of one line
+abbrev pub AreLeft : Option (List ℕ) → List (List ℕ) → Type 0
+AreLeft None later = ⊥
+AreLeft (Some left) later = (part : List ℕ) × HasNoLineFeed part × (later ≡ cut_lines (part ++ left))
+
 -- ---- by what is a reply to a text within the limit, in bytes
 
 module _ (limit : ℕ) (IsReply : List ℕ → List ℕ → Type 0) where
@@ -40,7 +45,8 @@ module _ (limit : ℕ) (IsReply : List ℕ → List ℕ → Type 0) where
 
   -- a reply to each line of an input was written, and so many lines were answered
   abbrev pub RepliedToAll : Option (List ℕ) → ℕ → Option (List ℕ) → Option (List ℕ) → Type 0
-  RepliedToAll None count old new = ⊤
+  RepliedToAll None count old new =
+      (lines : List (List ℕ)) × (texts : List (List ℕ)) × (count ≡ length lines) × AllZip IsMarkedReply lines texts × Appends old new (flat_map (λ text. text) texts)
   RepliedToAll (Some input) count old new =
       (length input < 2 ^ 63 - 1) × (count ≡ length (input_lines input))
       × (texts : List (List ℕ)) × AllZip IsMarkedReply (input_lines input) texts
@@ -48,10 +54,21 @@ module _ (limit : ℕ) (IsReply : List ℕ → List ℕ → Type 0) where
 
   -- a front of replies to the first lines was written
   abbrev pub RepliedToFirst : Option (List ℕ) → Option (List ℕ) → Option (List ℕ) → Type 0
-  RepliedToFirst None old new = ⊤
+  RepliedToFirst None old new = (first : List (List ℕ)) × (texts : List (List ℕ)) × AllZip IsMarkedReply first texts
+      × AppendsPrefix old new (flat_map (λ text. text) texts)
   RepliedToFirst (Some input) old new =
       (first : List (List ℕ)) × (later : List (List ℕ)) × (texts : List (List ℕ)) × (input_lines input ≡ first ++ later)
       × AllZip IsMarkedReply first texts × AppendsPrefix old new (flat_map (λ text. text) texts)
+
+  -- A reply to each line that was taken of an input was written. These bytes of the input are left, unless it is too
+  -- long.
+  abbrev pub RepliedToTaken : Option (List ℕ) → Option (List ℕ) → Option (List ℕ) → Option (List ℕ) → Type 0
+  RepliedToTaken None left old new = (lines : List (List ℕ)) × (texts : List (List ℕ))
+      × AllZip IsMarkedReply lines texts × Appends old new (flat_map (λ text. text) texts)
+  RepliedToTaken (Some input) left old new =
+      (lines : List (List ℕ)) × (later : List (List ℕ)) × (texts : List (List ℕ)) × (cut_lines input ≡ lines ++ later)
+      × (length input < 2 ^ 63 - 1 → AreLeft left later)
+      × AllZip IsMarkedReply (map without_carriage_return lines) texts × Appends old new (flat_map (λ text. text) texts)
 
   -- the replies to the input were written, or after a fault a front of replies
   abbrev pub Converses : Result ℕ AnswerFault → Option (List ℕ) → Option (List ℕ) → Option (List ℕ) → Type 0
@@ -60,7 +77,8 @@ module _ (limit : ℕ) (IsReply : List ℕ → List ℕ → Type 0) where
 
   -- so many lines were answered, and these bytes of the input are left
   abbrev pub RepliedSoFar : Option (List ℕ) → Option (List ℕ) → ℕ → Option (List ℕ) → Option (List ℕ) → Type 0
-  RepliedSoFar None now count old new = ⊤
+  RepliedSoFar None now count old new = (done : List (List ℕ)) × (texts : List (List ℕ)) × (count ≡ length done)
+      × AllZip IsMarkedReply done texts × Appends old new (flat_map (λ text. text) texts)
   RepliedSoFar (Some input) None count old new = ⊥
   RepliedSoFar (Some input) (Some rest) count old new =
       (done : List (List ℕ)) × (texts : List (List ℕ)) × (cut_lines input ≡ done ++ cut_lines rest)

@@ -9,6 +9,7 @@ pub mod Starts
 pub mod StartViews
 pub mod Paging
 pub mod QueryLaws
+pub mod MergeLaws
 pub mod Replies
 pub mod AnyReplies
 pub mod Conversations

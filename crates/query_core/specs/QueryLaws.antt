@@ -1,12 +1,14 @@
 -- Laws of the definitions that the contracts cite.
-use Rattle.std.specs.Prelude.{◌≡◌, ◌↔◌, ℕ, ◌≤◌, List, length, flat_map, true, Option, None, Some, Ok}
-use Rattle.std.specs.List.{AllByRecursion, filter}
+use Rattle.std.specs.Prelude.{◌≡◌, ◌↔◌, ℕ, ◌≤◌, List, ◌++◌, length, flat_map, true, Option, None, Some, Ok}
+use Rattle.std.specs.List.{AllByRecursion, AllZip, filter}
 use Rattle.cdxj_places.specs.Places.{PlaceValue, place_cmp, resume_text}
 use Rattle.cdxj_places.specs.Rising.{IsFirst, IsIn, Rises}
 use Rattle.cdxj_core.specs.declared.field.Field.{Field}
 use Rattle.cdxj_core.specs.declared.limit.TheConstants.{LINE_LIMIT}
+use Rattle.cdxj_core.specs.Indexes.{IsIndex}
 use Rattle.cdxj_core.specs.Members.{Member, member_place}
 use Rattle.query_text.specs.declared.query.TheConstants.{QUERY_LIMIT}
+use Rattle.query_text.specs.declared.output.OutputFormat.TheVariants.{Cdxj}
 use Rattle.query_text.specs.Collapses.{same_part}
 use Rattle.query_text.specs.Matching.{matches}
 use Rattle.query_text.specs.Queries.{QueryValue, query_of}
@@ -19,7 +21,7 @@ use Rattle.query_core.specs.declared.fault.AnswerFault.{AnswerFault}
 use Rattle.query_core.specs.IndexFaults.{IsAnswerFaultOf, NamesNoLine}
 use Rattle.page_writers.specs.PageWriting.{is_wanted}
 use Rattle.page_writers.specs.WrittenPages.{EndsWithKey}
-use Rattle.page_writers.specs.QueryPages.{IsQueryChain, selected}
+use Rattle.page_writers.specs.QueryPages.{IsQueryChain, answer_text, query_page, selected, shown_key}
 
 -- without `collapse` nothing is left out
 abbrev pub AllAreKept : Type 0
@@ -37,6 +39,18 @@ abbrev pub SelectedAreFirst : Type 0
 SelectedAreFirst = (q : QueryValue) (indexes : List (List Member)) (m : Member)
     → IsIn m (selected q (collection indexes))
     ↔ (IsFirst member_place place_cmp m (all_lines indexes) × (matches q m.values ≡ true))
+
+-- a line that a query selects of some indexes is selected too if further indexes follow them
+abbrev pub AddedOnlyAdd : Type 0
+AddedOnlyAdd = (q : QueryValue) (some others : List (List Member)) (m : Member)
+    → IsIn m (selected q (collection some)) → IsIn m (selected q (collection (some ++ others)))
+
+-- over indexes, the text of a page in cdxj without a key is an index of its captures
+abbrev pub CdxjPageIsIndex : Type 0
+CdxjPageIsIndex = (limit : ℕ) (texts : List (List ℕ)) (indexes : List (List Member)) (q : QueryValue)
+    → AllZip (IsIndex limit) texts indexes → q.output ≡ Cdxj
+    → shown_key q.show_resume_key (query_page q (collection indexes)).next ≡ None
+    → IsIndex limit (answer_text q (query_page q (collection indexes))) (query_page q (collection indexes)).members
 
 -- the captures of the pages of lines that rise by place rise too, match the query and stand above the place that the
 -- first page begins after

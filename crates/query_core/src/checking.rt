@@ -1,5 +1,5 @@
 //! The checking of an index.
-ghost use Rattle.std.specs.Prelude.{◌≡◌, ⊤, ℕ, List, true, false, option_map, IfErr, MatchBool, Some};
+ghost use Rattle.std.specs.Prelude.{◌≡◌, ◌+◌, ◌≤◌, ⊤, ℕ, List, true, false, option_map, IfErr, MatchBool, Some};
 ghost use Rattle.cdxj_core.specs.declared.limit.TheConstants.{LINE_LIMIT};
 ghost use Rattle.query_core.specs.AnswerCounts.{CountsSource};
 ghost use Rattle.query_core.specs.Checking.{FallsAfter, IsChecked, IsCheckFault};
@@ -35,6 +35,8 @@ pub fn check<S: Source>(alloc: Global, source: &mut S) -> Result<u64, AnswerFaul
         → IsChecked LINE_LIMIT text result }
     ensures fault { IfErr result IsCheckFault }
     ensures failures { CountsSource result (S.failures source.old) (S.failures source.new) }
+    // Each byte of the source is read at most once.
+    ensures bytes { S.gave source.new ≤ S.gave source.old + S.extent source.old }
 {
     let _size = source.size();
     let mut cursor = Cursor::new(alloc, 0)?;

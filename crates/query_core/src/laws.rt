@@ -3,7 +3,8 @@
 ghost use Rattle.std.specs.Prelude.{◌≡◌};
 ghost use Rattle.query_core.specs.declared.merging.TheConstants.{SOURCES_LIMIT};
 ghost use Rattle.query_core.specs.Limits.{LINE_LIMIT, QUERY_LIMIT};
-ghost use Rattle.query_core.specs.QueryLaws.{AllAreKept, KeysContinue, NamesNameFields, NoLineIsAtFault, PagesRise, SelectedAreFirst, SelectedRise};
+ghost use Rattle.query_core.specs.MergeLaws.{MergedIsIndex, MergesCommute, MergesGroup};
+ghost use Rattle.query_core.specs.QueryLaws.{AddedOnlyAdd, AllAreKept, CdxjPageIsIndex, KeysContinue, NamesNameFields, NoLineIsAtFault, PagesRise, SelectedAreFirst, SelectedRise};
 
 use query_text::resume_key_is_put_into_query;
 
@@ -13,6 +14,31 @@ pub fn pages_are_selected()
     ensures rise { SelectedRise }
     ensures members { SelectedAreFirst }
     ensures plain { AllAreKept }
+{}
+
+/// A capture that a query selects of some indexes is also selected if further indexes follow them: what is added to the
+/// indexes only adds captures.
+pub fn added_indexes_only_add()
+    ensures { AddedOnlyAdd }
+{
+    pages_are_selected();
+}
+
+/// Over indexes, a page in cdxj that ends without a resume key is an index of its captures.
+pub fn cdxj_pages_are_indexes()
+    ensures { CdxjPageIsIndex }
+{}
+
+/// The lines that a merge of indexes writes are an index, with these lines.
+pub fn merged_lines_are_an_index()
+    ensures { MergedIsIndex }
+{}
+
+/// A merge may take the merge of some indexes in their stead. If the indexes have one line at each place, their order is
+/// of no account either.
+pub fn merges_compose()
+    ensures group { MergesGroup }
+    ensures order { MergesCommute }
 {}
 
 /// The captures of consecutive pages, whatever the bytes of the sources, rise by place, match the query, and are above

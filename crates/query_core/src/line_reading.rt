@@ -1,10 +1,10 @@
 //! The lines of one index, read one after another.
-ghost use Rattle.std.specs.Prelude.{◌≡◌, ◌+◌, ◌<◌, ℕ, List, ⊤, option_map, IfOk, IfErr, OnOk, MatchOption, Some};
+ghost use Rattle.std.specs.Prelude.{◌≡◌, ◌+◌, ◌<◌, ◌≤◌, ℕ, List, ⊤, option_map, IfOk, IfErr, OnOk, MatchOption, Some};
 ghost use Rattle.std.specs.Ordering.{is_gt};
 ghost use Rattle.cdxj_core.specs.declared.limit.TheConstants.{LINE_LIMIT};
 ghost use Rattle.cdxj_core.specs.Members.{member_pair};
 ghost use Rattle.cdxj_places.specs.Pairs.{pair_cmp};
-ghost use Rattle.source_core.specs.Cursors.{Stands};
+ghost use Rattle.source_core.specs.Cursors.{Stands, reach};
 ghost use Rattle.merge_core.specs.NextLine.{IsNextLine};
 ghost use Rattle.query_core.specs.AnswerCounts.{CountsSource};
 ghost use Rattle.query_core.specs.Checking.{IsCheckFault, IsLineFaultAt};
@@ -35,6 +35,8 @@ pub(crate) fn next_line<S: Source>(
     ensures fault { (t : List ℕ) → S.text source.old ≡ Some t
         → IfErr result (IsLineFaultAt LINE_LIMIT t cursor.old.at) }
     ensures kind { IfErr result IsCheckFault }
+    ensures gave { S.gave source.new + reach cursor.old ≤ S.gave source.old + reach cursor.new }
+    ensures inside { reach cursor.new ≤ S.extent source.old }
     ensures failures { CountsSource result (S.failures source.old) (S.failures source.new) }
 {
     match store.next_line(source, cursor) {

@@ -1,15 +1,19 @@
 //! The merging of indexes.
-ghost use Rattle.std.specs.Prelude.{◌≡◌, length, map, IfOk, IfErr};
+ghost use Rattle.std.specs.Prelude.{◌≡◌, List, length, map, IfOk, IfErr};
 ghost use Rattle.cdxj_core.specs.declared.limit.TheConstants.{LINE_LIMIT};
+ghost use Rattle.cdxj_core.specs.Members.{Member};
 ghost use Rattle.devices.specs.Device.{AppendsPrefix};
 ghost use Rattle.merge_core.specs.Collections.{KeepsSources, Merged, OverIndexes, OverTexts, collection};
 ghost use Rattle.merge_core.specs.SourceLines.{WritesLinesOf};
+ghost use Rattle.merge_core.specs.Spending.{AllGaveOnce};
 ghost use Rattle.merge_core.specs.Written.{lines_text};
 ghost use Rattle.query_core.specs.AnswerCounts.{CountsAnswer};
 ghost use Rattle.query_core.specs.IndexFaults.{IsAnswerFaultOf};
+ghost use Rattle.query_core.specs.MergeLaws.{WroteIndex};
 ghost use Rattle.query_core.specs.Refusals.{Refuses, too_many};
 
 use crate::fault::AnswerFault;
+use crate::laws::merged_lines_are_an_index;
 use devices::Output;
 use merge_core::merge_indexes;
 use source_core::Source;
@@ -40,14 +44,20 @@ pub fn merge<S: Source, O: Output>(
     ensures fault { IfErr result (IsAnswerFaultOf LINE_LIMIT (map S.text sources.old)) }
     ensures merged { OverTexts (map S.text sources.old) (λ texts.
         IfOk result (Merged LINE_LIMIT texts (O.written out.old) (O.written out.new))) }
+    // What was written of indexes is an index.
+    ensures index { OverTexts (map S.text sources.old) (λ texts. IfOk result (λ _.
+        (lines : List Member) × WroteIndex LINE_LIMIT lines (O.written out.old) (O.written out.new))) }
     ensures part { OverIndexes LINE_LIMIT (map S.text sources.old) (λ texts indexes.
         AppendsPrefix (O.written out.old) (O.written out.new) (lines_text (collection indexes))) }
+    // Each byte of a source is read at most once.
+    ensures bytes { AllGaveOnce S.extent S.gave sources.old sources.new }
     ensures lines { WritesLinesOf LINE_LIMIT (λ number. number) (map S.text sources.old) result
         (O.written out.old) (O.written out.new) }
 {
     if sources.len() > SOURCES_LIMIT {
         return Err(AnswerFault::TooManySources);
     }
+    merged_lines_are_an_index();
     let merged = merge_indexes(alloc, sources, out)?;
     Ok(merged.count)
 }

@@ -1,8 +1,8 @@
 //! A conversation: a reply to each line of an input.
-ghost use Rattle.std.specs.Prelude.{◌≡◌, ◌≢◌, ◌-◌, ◌^◌, ◌<◌, ◌≤◌, ℕ, List, length, map, true, Option, Result, Err, IfOk, IfErr, OnOk};
+ghost use Rattle.std.specs.Prelude.{◌≡◌, ◌≢◌, ◌⊎◌, ◌-◌, ◌^◌, ◌<◌, ◌≤◌, ℕ, List, length, map, true, Option, Result, Err, IfOk, IfErr, OnOk};
 ghost use Rattle.std.specs.Io.KnownBytes.{prepend_known};
 ghost use Rattle.cdxj_core.specs.declared.limit.TheConstants.{LINE_LIMIT};
-ghost use Rattle.devices.specs.LineReading.{CountsTaken, TakesLine};
+ghost use Rattle.devices.specs.LineReading.{CountsTaken, IsTooLong, StopsInLine, TakesLine};
 ghost use Rattle.devices.specs.Writing.{WritesText};
 ghost use Rattle.cdxj_core.specs.Members.{Member};
 ghost use Rattle.query_text.specs.declared.query.TheConstants.{QUERY_LIMIT};
@@ -14,7 +14,7 @@ ghost use Rattle.page_writers.specs.QueryPages.{query_page, answer_text};
 ghost use Rattle.query_core.specs.Refusals.{IsBeforeReading, Refuses, too_many};
 ghost use Rattle.query_core.specs.Replies.{reply_of, reply_to};
 ghost use Rattle.query_core.specs.AnyReplies.{IsPageReply, IsQueryReply, IsTextReply};
-ghost use Rattle.query_core.specs.Conversations.{Converses, IsLineReply, IsMarkedReply, IsOneReply, Replied, RepliedInPart, WritesSome};
+ghost use Rattle.query_core.specs.Conversations.{Converses, IsLineReply, IsMarkedReply, IsOneReply, Replied, RepliedInPart, RepliedToTaken, WritesSome};
 ghost use Rattle.query_core.specs.ReplyFaults.{CountsReply, CountsReplying, CountsLine, CountsServing};
 
 use crate::answering::answer;
@@ -163,6 +163,9 @@ fn read_line<I: Input>(lines: &mut InputLines, input: &mut I) -> Result<bool, An
     ensures some { IfOk result (λ found. found ≡ true → lines.old.taken < lines.new.taken) }
     ensures within { OnOk result (lines.new.taken < 2 ^ 63 - 1) }
     ensures late { IfErr result (λ e. IsBeforeReading e → ⊥) }
+    ensures stopped { result ≡ Err AnswerFault.Input →
+        StopsInLine (prepend_known lines.old.buffer (I.remaining input.old)) (I.remaining input.new)
+        ⊎ IsTooLong (prepend_known lines.old.buffer (I.remaining input.old)) lines.old.taken }
     ensures failures { CountsLine result (I.failures input.old) (I.failures input.new)
         (prepend_known lines.old.buffer (I.remaining input.old)) lines.old.taken }
 {
@@ -183,7 +186,8 @@ fn read_line<I: Input>(lines: &mut InputLines, input: &mut I) -> Result<bool, An
 /// of the line. Each reply is followed by a line `.`, which is passed to the output in a call of its own.
 ///
 /// Returns `TooManySources` for more than `SOURCES_LIMIT` indexes, before it reads. `Memory`, `Read` of an index, `Write`
-/// and `Input` end the conversation. `Input` comes if the input failed, and for an input of 2^63 - 1 bytes.
+/// and `Input` end the conversation. `Input` comes if the input failed, and for an input of 2^63 - 1 bytes. Then each line
+/// that was taken whole has its reply.
 pub fn serve<S: Source, I: Input, O: Output>(
     alloc: Global,
     sources: &mut [S],
@@ -203,9 +207,16 @@ pub fn serve<S: Source, I: Input, O: Output>(
     ensures part { OverIndexes LINE_LIMIT (map S.text sources.old) (λ texts indexes.
         RepliedInPart QUERY_LIMIT (reply_of QUERY_LIMIT (collection indexes))
         (I.remaining input.old) (O.written out.old) (O.written out.new)) }
+    ensures taken { OverIndexes LINE_LIMIT (map S.text sources.old) (λ texts indexes.
+        result ≡ Err AnswerFault.Input →
+        RepliedToTaken QUERY_LIMIT (IsOneReply (reply_of QUERY_LIMIT (collection indexes)))
+        (I.remaining input.old) (I.remaining input.new) (O.written out.old) (O.written out.new)) }
     // Whatever the sources' bytes, each page is that of lines of theirs that rise by place.
     ensures lines { Converses QUERY_LIMIT (IsTextReply (map S.text sources.old)) result
         (I.remaining input.old) (O.written out.old) (O.written out.new) }
+    ensures taken_lines { result ≡ Err AnswerFault.Input →
+        RepliedToTaken QUERY_LIMIT (IsTextReply (map S.text sources.old))
+        (I.remaining input.old) (I.remaining input.new) (O.written out.old) (O.written out.new) }
 {
     if sources.len() > SOURCES_LIMIT {
         return Err(AnswerFault::TooManySources);

@@ -1,81 +1,18 @@
 -- The collection of several indexes is that of all captures.
-use Rattle.std.proofs.Common.{arith, ◌≡◌, List, [], ◌∷◌, ◌++◌, map, ◌⊎◌, inr, refl, ap, Ordering, Equal}
-use Rattle.std.specs.List.{AllByRecursion, flat_map}
-use Rattle.std.specs.Cmp.{IsTotalOrder}
-use Rattle.std.proofs.lemmas.Cmp.{tied_back}
+use Rattle.std.proofs.Common.{arith, ◌≡◌, List, [], ◌∷◌, map, refl, append-nil}
+use Rattle.std.specs.List.{flat_map}
 use Rattle.std.proofs.lemmas.List.{map-append}
 use Rattle.cdxj_places.specs.Places.{place_cmp}
-use Rattle.cdxj_places.specs.Rising.{IsIn, IsFirst, Rises, put, rising}
 use Rattle.cdxj_places.proofs.PlaceOrder.{place_cmp_total}
 use Rattle.cdxj_places.proofs.RisingAlike.{rising_referred}
-use Rattle.cdxj_places.proofs.RisingLaws.{each_at, each_rising, rises_rising, rising_members, rising_same}
 use Rattle.cdxj_core.specs.Entries.{EntryValue}
 use Rattle.cdxj_core.specs.Members.{entry_member, member_place}
-use Rattle.index_core.specs.Indexing.{in_places}
+use Rattle.index_core.specs.Indexing.{entries_text, in_places, index_text}
 use Rattle.merge_core.specs.Collections.{collection}
+use Rattle.merge_core.specs.Written.{lines_text}
+use Rattle.query_core.proofs.RisingParts.{rising_parts}
 use Rattle.scan_core.specs.Archives.{index_members}
-use Rattle.scan_core.specs.Captures.{captured_lines}
-
-module _ {X P : Type 0} (place : X → P) (R : P → P → Ordering) (o : IsTotalOrder R) where
-  -- none of the list has the place of x
-  abbrev Absent : X → List X → Type 0
-  Absent x us = AllByRecursion (λ y. R (place x) (place y) ≡ Equal → ⊥) us
-
-  absent_put : (x y : X) (c : List X) → Absent x (put place R y c) → (R (place x) (place y) ≡ Equal → ⊥) × Absent x c
-  absent_put x y [] h = (h.0, tt)
-  absent_put x y (z ∷ zs) h = grind (arith, o.congr, tied_back o, absent_put x y zs)
-
-  absent_rising : (x : X) (us : List X) → Absent x (rising place R us) → Absent x us
-  absent_rising x [] h = tt
-  absent_rising x (u ∷ us) h = let r = absent_put x u (rising place R us) h in (r.0, absent_rising x us r.1)
-
-  -- the first with its place of two lists
-  first_of : (x : X) (us vs : List X) → IsFirst place R x (us ++ vs) → IsFirst place R x us
-      ⊎ (Absent x us × IsFirst place R x vs)
-  first_of x [] vs h = inr (tt, h)
-  first_of x (u ∷ us) vs h = grind (arith, first_of x us vs)
-
-  of_first : (x : X) (us vs : List X) → IsFirst place R x us ⊎ (Absent x us × IsFirst place R x vs)
-      → IsFirst place R x (us ++ vs)
-  of_first x [] vs h = grind arith
-  of_first x (u ∷ us) vs h = grind (arith, of_first x us vs)
-
-  in_list : (x : X) (us : List X) → IsFirst place R x us → IsIn x us
-  in_list x [] h = h
-  in_list x (u ∷ us) h = grind (arith, in_list x us)
-
-  -- of a rising list each is the first with its place
-  is_first : (x : X) (us : List X) → Rises place R us → IsIn x us → IsFirst place R x us
-  is_first x [] h i = i
-  is_first x (u ∷ us) h i = grind (arith, each_at, is_first x us h.1)
-
-  -- what rises already may stand in the stead of a list
-  rising_left : (us vs : List X) → rising place R (rising place R us ++ vs) ≡ rising place R (us ++ vs)
-  rising_left us vs =
-      rising_same place R o (rising place R (rising place R us ++ vs)) (rising place R (us ++ vs))
-      (grind (arith, rises_rising)) (rises_rising place R o (us ++ vs)) (λ x. grind (
-        arith,
-        rising_members,
-        of_first x us vs,
-        of_first x (rising place R us) vs,
-        first_of x us vs,
-        first_of x (rising place R us) vs,
-        is_first,
-        rises_rising,
-        in_list,
-        absent_rising,
-        each_rising,
-      ))
-
-  rising_right : (xs us vs : List X) → rising place R us ≡ rising place R vs → rising place R (xs ++ us)
-      ≡ rising place R (xs ++ vs)
-  rising_right [] us vs e = e
-  rising_right (x ∷ xs) us vs e = ap (put place R x) (rising_right xs us vs e)
-
-  pub rising_parts : (parts : List (List X)) → rising place R (flat_map (rising place R) parts)
-      ≡ rising place R (flat_map (λ part. part) parts)
-  rising_parts [] = refl
-  rising_parts (part ∷ parts) = grind (arith, rising_left, rising_right, rising_parts parts)
+use Rattle.scan_core.specs.Captures.{all_captures, captured_lines}
 
 all_members : (archives : List (List EntryValue)) → flat_map (λ members. members) (map index_members archives)
     ≡ map entry_member (flat_map in_places archives)
@@ -92,3 +29,15 @@ collected archives =
       rising_parts,
       place_cmp_total,
     )
+
+lines_of : (entries : List EntryValue) → lines_text (map entry_member entries) ≡ entries_text entries
+lines_of [] = refl
+lines_of (entry ∷ entries) = grind (arith, lines_of entries)
+
+pub index_is_merge : (archives : List (List EntryValue)) → index_text (all_captures archives)
+    ≡ lines_text (collection (map index_members archives))
+index_is_merge archives = grind (arith, collected archives, lines_of (in_places (all_captures archives)))
+
+pub scan_is_over_index : (archives : List (List EntryValue)) → captured_lines archives
+    ≡ collection (index_members (all_captures archives) ∷ [])
+scan_is_over_index archives = grind (arith, append-nil, collected (all_captures archives ∷ []))

@@ -1,6 +1,6 @@
 -- Laws of the definitions that the contracts cite.
 use Rattle.std.specs.List.{AllZip}
-use Rattle.std.specs.Prelude.{◌≡◌, ℕ, ◌-◌, ◌^◌, ◌<◌, ⊤, Bool, List, [], length, Option, Err}
+use Rattle.std.specs.Prelude.{◌≡◌, ℕ, ◌-◌, ◌^◌, ◌<◌, ⊤, Bool, List, [], ◌∷◌, length, map, Option, Err}
 use Rattle.std.specs.List.{AllByRecursion}
 use Rattle.warc_core.specs.Kind.{Kind}
 use Rattle.warc_core.specs.declared.fault.Cause.TheVariants as causes
@@ -9,13 +9,17 @@ use Rattle.capture_core.specs.declared.fault.CaptureFault.TheVariants as capture
 use Rattle.capture_core.specs.CaptureAnswer.{usual_limits}
 use Rattle.index_core.specs.declared.fault.IndexFault.TheVariants as index
 use Rattle.index_core.specs.Accepted.{IsAcceptedWhole}
-use Rattle.merge_core.specs.Collections.{Known}
+use Rattle.cdxj_core.specs.Entries.{EntryValue}
+use Rattle.index_core.specs.Indexing.{index_text}
+use Rattle.merge_core.specs.Collections.{Known, collection}
+use Rattle.merge_core.specs.Written.{lines_text}
 use Rattle.query_text.specs.declared.fault.QueryFault.TheVariants as refusal
 use Rattle.query_text.specs.Queries.{QueryValue}
 use Rattle.query_core.specs.declared.fault.AnswerFault.TheVariants as answer
 use Rattle.scan_core.specs.declared.fault.ScanFault.{ScanFault}
 use Rattle.scan_core.specs.declared.fault.ScanFault.TheVariants.{Query, Archive, Answer}
-use Rattle.scan_core.specs.Archives.{AreNewNames}
+use Rattle.scan_core.specs.Archives.{AreNewNames, index_members}
+use Rattle.scan_core.specs.Captures.{all_captures, captured_lines}
 use Rattle.scan_core.specs.Failures.{CountsInputs, CountsOutput}
 use Rattle.scan_core.specs.Scanning.{IsAsked, IsScanFault}
 
@@ -39,6 +43,16 @@ IsWantOfMemory other = ⊥
 -- a count of failures that isn't at its end, and so rises with each failure
 abbrev pub MayRise : ℕ → Type 0
 MayRise count = count < 2 ^ 64 - 1
+
+-- the index of several archives is, byte for byte, the merge of the archives' indexes
+abbrev pub IndexIsMerge : Type 0
+IndexIsMerge = (archives : List (List EntryValue))
+    → index_text (all_captures archives) ≡ lines_text (collection (map index_members archives))
+
+-- the lines of a scan's pages are those of the index of all its archives
+abbrev pub ScanIsOverIndex : Type 0
+ScanIsOverIndex = (archives : List (List EntryValue))
+    → captured_lines archives ≡ collection (index_members (all_captures archives) ∷ [])
 
 -- where nothing is at fault and no device failed, a scan is refused only for want of memory
 abbrev pub OnlyMemoryIsWanting : Type 0

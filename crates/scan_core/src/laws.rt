@@ -1,5 +1,5 @@
 //! Laws of the definitions that the contracts cite. These functions do nothing: each law is a contract.
-ghost use Rattle.scan_core.specs.Laws.{OnlyMemoryIsWanting};
+ghost use Rattle.scan_core.specs.Laws.{IndexIsMerge, OnlyMemoryIsWanting, ScanIsOverIndex};
 
 use index_core::accepted_archive_is_not_refused;
 
@@ -10,3 +10,13 @@ pub fn accepted_archives_are_scanned()
 {
     accepted_archive_is_not_refused();
 }
+
+/// The index of several archives is the merge of the archives' indexes, byte for byte.
+pub fn index_of_archives_is_merge()
+    ensures { IndexIsMerge }
+{}
+
+/// The pages of a scan are those of the index of all its archives: `scan` writes what `index` and `pages` write.
+pub fn scan_is_index_and_pages()
+    ensures { ScanIsOverIndex }
+{}

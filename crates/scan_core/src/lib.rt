@@ -10,7 +10,9 @@ mod named;
 mod scanning;
 
 pub use crate::fault::ScanFault;
-pub use crate::laws::accepted_archives_are_scanned;
+pub use crate::laws::{
+    accepted_archives_are_scanned, index_of_archives_is_merge, scan_is_index_and_pages,
+};
 pub use crate::named::Named;
 pub use crate::scanning::scan;
 pub use capture_core::{CaptureFault, Types};

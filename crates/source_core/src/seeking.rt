@@ -333,6 +333,7 @@ pub fn search<S: Source>(
     ensures extent { S.extent source.new ≡ S.extent source.old }
     ensures within { IfOk result (λ found. found.offset ≤ S.extent source.old) }
     ensures first { key.now ≡ [] → stamp.now ≡ [] → IfOk result (λ found. found.offset ≡ 0) }
+    ensures unread { key.now ≡ [] → stamp.now ≡ [] → source.new ≡ source.old }
     ensures begins { (t : List ℕ) → S.text source.old ≡ Some t
         → IfOk result (λ found. (before : List (List ℕ)) × BeginsAfter t found.offset before) }
     ensures stops { (t : List ℕ) → S.text source.old ≡ Some t

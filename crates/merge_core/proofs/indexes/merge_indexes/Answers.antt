@@ -17,9 +17,11 @@ use Rattle.merge_core.specs.declared.feed.Feed.{Feed}
 use Rattle.line_queue.specs.WaitingLines.{WaitingLine}
 use Rattle.merge_core.specs.Collections.{OverIndexes, collection}
 use Rattle.merge_core.specs.Reached.{Reached}
+use Rattle.merge_core.specs.Spending.{AllGaveOnce}
 use Rattle.merge_core.specs.Written.{lines_text}
 use Rattle.merge_core.specs.SourceLines.{AreLinesOf}
 use Rattle.merge_core.proofs.ReadLemmas.{took_of_indexes}
+use Rattle.merge_core.proofs.OnceLemmas.{gave_once}
 use Rattle.merge_core.proofs.TakenLemmas.{taken_first}
 use Rattle.source_core.proofs.SortedCuts.{none_below_least}
 use Rattle.merge_core.proofs.SourceLemmas.{taken_lines}
@@ -93,6 +95,23 @@ returns-in_err-merge-clause-lines g c =
     let b = c.in_err-merge.ensures.broke in
     grind (arith, err_from_is_err_and, lines, broke)
 
+-- each byte of each source was given at most once
+once : (g : Over) (c : After-merge g) → AllGaveOnce g.S.Source.extent g.S.Source.gave c.args.sources.now
+    c.merge.new.sources
+once g c =
+    let opened = c.in_ok-opened.ensures in
+    let long : length c.merge.new.sources ≡ length c.open_at.new.sources = grind arith in
+    gave_once g.S.Source.text g.S.Source.extent g.S.Source.gave c.args.sources.now c.open_at.new.sources
+    c.in_ok-opened.opened.streams.feeds.items c.merge.new.sources c.merge.new.streams.feeds.items
+    LINE_LIMIT never 0 c.in_ok-opened.opened.streams.waiting opened.extent opened.ready.fed opened.ready.same
+    (opened.came_once refl refl) c.merge.ensures.moved long
+
+pub returns-in_err-opened-clause-bytes : goal.returns-in_err-opened-clause-bytes
+returns-in_err-opened-clause-bytes g c = c.open_at.ensures.once refl refl
+
+pub returns-in_err-merge-clause-bytes : goal.returns-in_err-merge-clause-bytes
+returns-in_err-merge-clause-bytes g c = once g (goal.at.returns-in_err-merge-clause-bytes g c).After-merge
+
 pub returns-in_err-merge-clause-kept : goal.returns-in_err-merge-clause-kept
 returns-in_err-merge-clause-kept g c = grind (arith, texts_kept, extents_kept)
 
@@ -127,6 +146,7 @@ returns g c =
             text = rw (← all) wrote.0;
             count = rw (← all) wrote.1;
           };
+      bytes = once g at.After-merge;
       part = front g at.After-merge reached _ _ (rw append-nil at (prefix_whole _ _ _ [] wrote.0));
       lines = (taken, grind (arith, lines), wrote);
       held = λ texts indexes known are most share.

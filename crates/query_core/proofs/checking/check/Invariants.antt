@@ -1,6 +1,6 @@
-use Rattle.std.proofs.Common.{◌≡◌, ◌-◌, ℕ, List, length, Some, option_map}
+use Rattle.std.proofs.Common.{◌≡◌, ◌-◌, ◌+◌, ◌≤◌, ℕ, List, length, Some, option_map}
 use Rattle.cdxj_core.specs.declared.limit.TheConstants.{LINE_LIMIT}
-use Rattle.source_core.specs.Cursors.{Stands}
+use Rattle.source_core.specs.Cursors.{Stands, reach}
 use Rattle.query_core.proofs.CheckLemmas.{CheckedTo}
 use Rattle.query_core.proofs.checking.check.Given as goal
 
@@ -11,6 +11,8 @@ invariant-loop-previous g l = record {
   failures : g.S.Source.failures l.source ≡ g.S.Source.failures l.fn.source;
   stands : Stands (g.S.Source.text l.source) (g.S.Source.extent l.source) l.cursor;
   start : l.cursor.start ≡ 0;
+  gave : g.S.Source.gave l.source ≤ g.S.Source.gave l.fn.source + reach l.cursor;
+  inside : reach l.cursor ≤ g.S.Source.extent l.fn.source;
   offset : l.offset ≡ l.cursor.at;
   long : (t : List ℕ) → g.S.Source.text l.fn.source ≡ Some t → length t ≡ g.S.Source.extent l.fn.source;
   told : (t : List ℕ) → g.S.Source.text l.fn.source ≡ Some t

@@ -1,6 +1,7 @@
 use Rattle.std.proofs.Common.{arith, []}
 use Rattle.std.proofs.lemmas.Result.{err_from_is_err_and}
 use Rattle.devices.proofs.WritingLemmas.{wrote_nothing}
+use Rattle.merge_core.proofs.OnceLemmas.{once_none}
 use Rattle.query_core.proofs.ConversionLemmas.{merge_line}
 use Rattle.query_core.proofs.merging.merge.Goals as goal
 
@@ -9,6 +10,10 @@ returns-in_err-merged-clause-fault g c = grind (arith, err_from_is_err_and, merg
 
 pub returns-then-sources-gt-SOURCES_LIMIT-clause-part : goal.returns-then-sources-gt-SOURCES_LIMIT-clause-part
 returns-then-sources-gt-SOURCES_LIMIT-clause-part g c = grind (arith, wrote_nothing)
+
+pub returns-then-sources-gt-SOURCES_LIMIT-clause-bytes : goal.returns-then-sources-gt-SOURCES_LIMIT-clause-bytes
+returns-then-sources-gt-SOURCES_LIMIT-clause-bytes g c =
+    once_none g.S.Source.text g.S.Source.extent g.S.Source.gave c.args.sources.now
 
 pub returns-then-sources-gt-SOURCES_LIMIT-clause-lines : goal.returns-then-sources-gt-SOURCES_LIMIT-clause-lines
 returns-then-sources-gt-SOURCES_LIMIT-clause-lines g c = ([], grind arith, grind (arith, wrote_nothing))

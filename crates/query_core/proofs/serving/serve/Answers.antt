@@ -7,7 +7,7 @@ use Rattle.merge_core.specs.Collections.{collection}
 use Rattle.query_core.specs.Conversations.{IsOneReply}
 use Rattle.query_core.specs.Replies.{reply_of}
 use Rattle.query_core.proofs.ReplyLemmas.{Turn, line-more, line-none, line-within, nothing_replied, one_reply}
-use Rattle.query_core.proofs.ReplyLemmas.{one_reply_part, replied-front, replied-none}
+use Rattle.query_core.proofs.ReplyLemmas.{one_reply_part, replied-front, replied-none, replied-taken}
 use Rattle.std.proofs.lemmas.Result.{err_from_is_err_and}
 use Rattle.query_core.proofs.serving.serve.Given.{Over}
 use Rattle.query_core.proofs.serving.serve.Goals.{After-reply_and_mark}
@@ -37,6 +37,12 @@ returns-in_err-read_line-clause-part g c = grind (arith, one_reply_part, replied
 
 pub returns-in_err-read_line-clause-lines : goal.returns-in_err-read_line-clause-lines
 returns-in_err-read_line-clause-lines g c = grind (arith, err_from_is_err_and, replied-front)
+
+pub returns-in_err-read_line-clause-taken : goal.returns-in_err-read_line-clause-taken
+returns-in_err-read_line-clause-taken g c = grind (arith, err_from_is_err_and, replied-taken)
+
+pub returns-in_err-read_line-clause-taken_lines : goal.returns-in_err-read_line-clause-taken_lines
+returns-in_err-read_line-clause-taken_lines g c = grind (arith, err_from_is_err_and, replied-taken)
 
 -- ---- a reply ends in a fault
 

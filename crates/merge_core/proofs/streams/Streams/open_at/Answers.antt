@@ -1,10 +1,11 @@
 use Rattle.std.specs.List.{sum}
 use Rattle.std.proofs.lemmas.List.Concat.{flat_map-append}
-use Rattle.std.proofs.Common.{append-nil, ◌≡◌, get_or, take, ◌<◌, length, map, ap, zip, length-append, arith}
+use Rattle.std.proofs.Common.{append-nil, ◌≡◌, [], get_or, take, ◌<◌, length, map, ap, zip, length-append, arith}
 use Rattle.std.proofs.lemmas.Slice.Zip.{all_zipped_more}
 use Rattle.std.proofs.lemmas.List.{take_all, take_more}
 use Rattle.cdxj_core.specs.declared.limit.TheConstants.{LINE_LIMIT}
 use Rattle.source_core.specs.Halving.{digits}
+use Rattle.merge_core.proofs.OnceLemmas.{once_none}
 use Rattle.merge_core.proofs.SpendLemmas.{opened_none, left_here, left_after}
 use Rattle.merge_core.proofs.FailLemmas.{raised_by_feed}
 use Rattle.cdxj_places.proofs.RisingLaws.{each_join}
@@ -14,7 +15,9 @@ use Rattle.merge_core.proofs.OpenLemmas.{fed_nil, fed_added, zip_none, zip_push,
 use Rattle.merge_core.proofs.streams.Streams.open_at.Goals as goal
 
 pub loop-i-init : goal.loop-i-init
-loop-i-init g c = grind (arith, fed_nil, zip_none, opened_none)
+loop-i-init g c =
+    let once = once_none g.S.Source.text g.S.Source.extent g.S.Source.gave c.args.sources.now in
+    grind (arith, fed_nil, zip_none, opened_none)
 
 pub loop-i-preserved : goal.loop-i-preserved
 loop-i-preserved g c =
@@ -43,6 +46,10 @@ loop-i-preserved g c =
       probes = grind (arith, sum_turn (λ s. digits (extent s)) ss i s inside);
       left = grind (arith, left_after);
       spent = grind (arith, two_put);
+      once = λ k z. grind (arith, two_put, inv.once k z, ok.once);
+      came_once = λ k z. rw (added.feeds_are, zip_push ss fs i s f inv.count inside, take_more olds i a (omega arith))
+          (all_zipped_more _ (take i olds) (zip ss fs) (get_or olds i a) (s, f) (inv.came_once k z)
+          (rw same_here at (added.cursor_is.3 k z)));
       came = rw (added.feeds_are, zip_push ss fs i s f inv.count inside, take_more olds i a (omega arith))
           (all_zipped_more _ (take i olds) (zip ss fs) (get_or olds i a) (s, f) inv.came
           (rw same_here at added.cursor_is.1));
@@ -63,10 +70,20 @@ returns-in-Err-clause-spent g c =
     c.loop-i.invariant.left in
     grind (arith, two_put)
 
+pub returns-in-Err-clause-once : goal.returns-in-Err-clause-once
+returns-in-Err-clause-once g c = λ k z.
+    let here = left_here c.args.sources.now c.loop-i.sources c.loop-i.i c.index-sources-i.result
+    c.loop-i.invariant.left in
+    grind (arith, two_put, c.loop-i.invariant.once k z)
+
 pub returns : goal.returns
 returns g c =
     let inv = c.loop-i.invariant in
     let e = g.S.Source.extent in
     let whole = take_all c.loop-i.i c.loop-i.sources (omega (arith, ap length inv.extent, inv.count)) in
     let same = ap sum (simp map-map at (ap (map digits) inv.extent)) in
-    grind (arith, take_all)
+    let olds : take c.loop-i.i c.args.sources.now ≡ c.args.sources.now = take_all c.loop-i.i c.args.sources.now
+    (omega (arith, ap length inv.extent, inv.count)) in
+    let came = rw olds at inv.came in
+    let came_once = λ (k : c.args.key.now ≡ []) (z : c.args.stamp.now ≡ []). rw olds at (inv.came_once k z) in
+    grind arith

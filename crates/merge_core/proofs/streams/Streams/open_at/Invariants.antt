@@ -6,7 +6,7 @@ use Rattle.merge_core.specs.declared.feed.Feed.{Feed}
 use Rattle.line_queue.specs.WaitingLines.{WaitingLine}
 use Rattle.merge_core.specs.Feeds.{AreFed, AreSettled}
 use Rattle.merge_core.specs.Gathering.{all_done}
-use Rattle.merge_core.specs.Spending.{CameWithin, OpenedWithin}
+use Rattle.merge_core.specs.Spending.{AllGaveOnce, CameOnce, CameWithin, OpenedWithin}
 use Rattle.merge_core.specs.Openings.{IsCutAt}
 use Rattle.merge_core.proofs.streams.Streams.open_at.Given as goal
 
@@ -31,4 +31,8 @@ invariant-loop-i g l = record {
       l.fn.sources l.sources;
   came : AllZip (λ x y. CameWithin (g.S.Source.text x) (g.S.Source.extent x) (g.S.Source.gave x) (g.S.Source.gave y.0)
       y.1.cursor) (take l.i l.fn.sources) (zip l.sources l.streams.feeds.items);
+  once : l.key ≡ [] → l.stamp ≡ [] → AllGaveOnce g.S.Source.extent g.S.Source.gave l.fn.sources l.sources;
+  came_once : l.key ≡ [] → l.stamp ≡ []
+      → AllZip (λ x y. CameOnce (g.S.Source.gave x) (g.S.Source.gave y.0) y.1.cursor) (take l.i l.fn.sources)
+      (zip l.sources l.streams.feeds.items);
 }

@@ -1,0 +1,82 @@
+-- The lines of a merge are an index.
+use Rattle.std.proofs.Common.{arith, ◌≡◌, ℕ, true, false, List, [], ◌∷◌, map, Some, refl, append_assoc}
+use Rattle.std.proofs.Common.{Ordering, is_gt}
+use Rattle.std.specs.List.{AllByRecursion, AllZip}
+use Rattle.std.proofs.lemmas.Str.{is_utf8-from_IsUtf8}
+use Rattle.cdxj_places.specs.Pairs.{pair_cmp}
+use Rattle.cdxj_places.specs.Places.{place_cmp}
+use Rattle.cdxj_places.specs.Rising.{Rises, NeverFalls}
+use Rattle.cdxj_places.specs.TextLines.{lines}
+use Rattle.cdxj_places.proofs.PlaceOrder.{place_cmp_total}
+use Rattle.cdxj_places.proofs.RisingLaws.{each_weaker, each_join, each_rising, rises_rising}
+use Rattle.cdxj_core.specs.Lines.{has_no_feed, line_in, body_of}
+use Rattle.cdxj_core.specs.Members.{Member, member_pair, member_place, line_entry, line_row}
+use Rattle.cdxj_core.specs.Indexes.{IsIndex}
+use Rattle.cdxj_core.proofs.EntryRead.{body_of-feed}
+use Rattle.cdxj_core.proofs.IndexLemmas.{lines_front}
+use Rattle.cdxj_core.proofs.MemberLemmas.{entered}
+use Rattle.merge_core.specs.Collections.{all_lines, collection}
+use Rattle.merge_core.specs.Written.{lines_text}
+
+-- the line of a member, with a line feed, says the member
+abbrev pub IsRow : ℕ → Member → Type 0
+IsRow limit m = (has_no_feed m.line ≡ true) × (line_entry limit (line_row m) ≡ Some m)
+
+in_no_feed : (limit : ℕ) (body : List ℕ) (m : Member) → line_in limit body ≡ Some m.values → has_no_feed body ≡ true
+unfolding line_in
+in_no_feed limit body m h = grind arith
+
+is_row : (limit : ℕ) (line : List ℕ) (m : Member) → line_entry limit line ≡ Some m → IsRow limit m
+is_row limit line m h =
+    let e = entered limit line m h in
+    let whole : has_no_feed (body_of line) ≡ true = in_no_feed limit (body_of line) m e.values in
+    grind (arith, body_of-feed, is_utf8-from_IsUtf8)
+
+rows_of : (limit : ℕ) (these : List (List ℕ)) (ms : List Member) → map (line_entry limit) these ≡ map Some ms
+    → AllByRecursion (IsRow limit) ms
+rows_of limit these [] e = tt
+rows_of limit (line ∷ these) (m ∷ ms) e = grind (arith, is_row limit line m, rows_of limit these ms)
+rows_of limit [] (m ∷ ms) e = cc
+
+all_rows : (limit : ℕ) (texts : List (List ℕ)) (indexes : List (List Member)) → AllZip (IsIndex limit) texts indexes
+    → AllByRecursion (IsRow limit) (all_lines indexes)
+all_rows limit (t ∷ texts) (i ∷ indexes) h =
+    each_join (IsRow limit) i (all_lines indexes) (rows_of limit (lines t) i h.0.entries)
+    (all_rows limit texts indexes h.1)
+all_rows limit texts indexes h = grind arith
+
+lines_rows : (limit : ℕ) (ms : List Member) → AllByRecursion (IsRow limit) ms → lines (lines_text ms) ≡ map line_row ms
+lines_rows limit [] h = refl
+lines_rows limit (m ∷ ms) h = grind (arith, append_assoc, lines_front, lines_rows limit ms h.1)
+
+entries_rows : (limit : ℕ) (ms : List Member) → AllByRecursion (IsRow limit) ms
+    → map (line_entry limit) (map line_row ms) ≡ map Some ms
+entries_rows limit [] h = refl
+entries_rows limit (m ∷ ms) h = grind (arith, entries_rows limit ms h.1)
+
+not_above : (x y : Member) (o : Ordering) → pair_cmp (member_pair x) (member_pair y) ≡ o
+    → is_gt (place_cmp (member_place y) (member_place x)) ≡ true → is_gt o ≡ false
+not_above x y o e h = grind (arith, place_cmp_total.antisymm (member_place y) (member_place x))
+
+falls_never : (ms : List Member) → Rises member_place place_cmp ms → NeverFalls member_pair pair_cmp ms
+falls_never [] h = tt
+falls_never (m ∷ ms) h = grind (arith, each_weaker, not_above, falls_never ms h.1)
+
+-- rows that rise are an index
+pub rows_index : (limit : ℕ) (ms : List Member) → AllByRecursion (IsRow limit) ms → Rises member_place place_cmp ms
+    → IsIndex limit (lines_text ms) ms
+rows_index limit ms rows rise = record {
+  entries = grind (arith, lines_rows limit ms rows, entries_rows limit ms rows);
+  ordered = falls_never ms rise;
+}
+
+pub collection_rows : (limit : ℕ) (texts : List (List ℕ)) (indexes : List (List Member))
+    → AllZip (IsIndex limit) texts indexes → AllByRecursion (IsRow limit) (collection indexes)
+collection_rows limit texts indexes h =
+    each_rising member_place place_cmp place_cmp_total (IsRow limit) (all_lines indexes) (all_rows limit texts indexes h)
+
+pub merged_index : (limit : ℕ) (texts : List (List ℕ)) (indexes : List (List Member))
+    → AllZip (IsIndex limit) texts indexes → IsIndex limit (lines_text (collection indexes)) (collection indexes)
+merged_index limit texts indexes h =
+    rows_index limit (collection indexes) (collection_rows limit texts indexes h)
+    (rises_rising member_place place_cmp place_cmp_total (all_lines indexes))

@@ -1,0 +1,56 @@
+-- A page in cdxj is an index.
+use Rattle.std.proofs.Common.{arith, ◌≡◌, ℕ, suc, List, ◌∷◌, Option, None, take, append-nil, filter}
+use Rattle.std.specs.List.{AllByRecursion, AllZip}
+use Rattle.cdxj_places.specs.Places.{place_cmp}
+use Rattle.cdxj_places.specs.Rising.{Rises}
+use Rattle.cdxj_places.proofs.PlaceOrder.{place_cmp_total}
+use Rattle.cdxj_places.proofs.RisingLaws.{rises_rising}
+use Rattle.cdxj_core.specs.Indexes.{IsIndex}
+use Rattle.cdxj_core.specs.Members.{Member, member_place}
+use Rattle.query_text.specs.declared.output.OutputFormat.TheVariants.{Cdxj}
+use Rattle.query_text.specs.Collapses.{same_part}
+use Rattle.query_text.specs.Matching.{matches}
+use Rattle.query_text.specs.Queries.{QueryValue}
+use Rattle.page_core.specs.Pages.{at_most, is_above}
+use Rattle.page_core.proofs.PageLaws.{each_filter, each_kept, rises_collapsed, rises_filter}
+use Rattle.page_writers.specs.QueryPages.{answer_text, query_captures, query_page, selected, shown_key}
+use Rattle.merge_core.specs.Collections.{all_lines, collection}
+use Rattle.merge_core.specs.Written.{lines_text}
+use Rattle.merge_core.proofs.Filters.{each_take}
+use Rattle.query_core.proofs.MergedLemmas.{IsRow, collection_rows, rows_index}
+
+rises_take : (n : ℕ) (ms : List Member) → Rises member_place place_cmp ms → Rises member_place place_cmp (take n ms)
+rises_take (suc n) (m ∷ ms) h = (each_take _ n ms h.0, rises_take n ms h.1)
+rises_take n ms h = grind arith
+
+each_at_most : (A : Member → Type 0) (n : Option ℕ) (ms : List Member) → AllByRecursion A ms
+    → AllByRecursion A (at_most member_place n ms).members
+each_at_most A n ms h = grind (arith, each_take)
+
+rises_at_most : (n : Option ℕ) (ms : List Member) → Rises member_place place_cmp ms
+    → Rises member_place place_cmp (at_most member_place n ms).members
+rises_at_most n ms h = grind (arith, rises_take)
+
+cdxj_text : (q : QueryValue) (lines : List Member) → q.output ≡ Cdxj
+    → shown_key q.show_resume_key (query_page q lines).next ≡ None → answer_text q (query_page q lines)
+    ≡ lines_text (query_page q lines).members
+cdxj_text q lines is none = rw (is, none) (append-nil (lines_text (query_page q lines).members))
+
+pub cdxj_page_index : (limit : ℕ) (texts : List (List ℕ)) (indexes : List (List Member)) (q : QueryValue)
+    → AllZip (IsIndex limit) texts indexes → q.output ≡ Cdxj
+    → shown_key q.show_resume_key (query_page q (collection indexes)).next ≡ None
+    → IsIndex limit (answer_text q (query_page q (collection indexes))) (query_page q (collection indexes)).members
+cdxj_page_index limit texts indexes q h is none =
+    let lines = collection indexes in
+    let test = λ (m : Member). matches q m.values in
+    let same = same_part q.collapse in
+    let rows = each_at_most (IsRow limit) q.limit (query_captures q lines)
+    (each_kept member_place place_cmp same place_cmp_total (IsRow limit) q.resume
+    (filter (is_above member_place place_cmp q.resume) (selected q lines))
+    (each_filter (IsRow limit) (is_above member_place place_cmp q.resume) (selected q lines)
+    (each_filter (IsRow limit) test lines (collection_rows limit texts indexes h)))) in
+    let rise = rises_at_most q.limit (query_captures q lines)
+    (rises_collapsed member_place place_cmp same place_cmp_total (selected q lines) q.resume
+    (rises_filter member_place place_cmp place_cmp_total test lines
+    (rises_rising member_place place_cmp place_cmp_total (all_lines indexes)))) in
+    rw (cdxj_text q lines is none) (rows_index limit (query_page q lines).members rows rise)
