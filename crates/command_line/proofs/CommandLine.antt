@@ -9,14 +9,14 @@ use Rattle.clap.specs.Faults.{walk_fault, defaults_fault}
 use Rattle.clap.specs.declared.error.kind.ErrorKind.{ErrorKind}
 use Rattle.clap.specs.declared.error.kind.ErrorKind.TheVariants as kind
 use Rattle.command_line.specs.Words.{Text, asks_for_help, is_unknown_option}
-use Rattle.command_line.specs.Commands.{Meaning, ToIndex, ToScan, Form, Typed, TypedSizes, Refusal, Help, Usage, asked}
-use Rattle.command_line.specs.Commands.{help_or_usage, task_of, operands_task, command_of, commands, takes_types}
-use Rattle.command_line.specs.Commands.{is_typed_command, chooses_types, other_words}
+use Rattle.command_line.specs.Commands.{Meaning, ToGet, ToIndex, ToScan, Form, Offset, Typed, TypedSizes, Refusal}
+use Rattle.command_line.specs.Commands.{Help, Usage, asked, help_or_usage, task_of, operands_task, command_of}
+use Rattle.command_line.specs.Commands.{commands, other_words, takes_option}
 use Rattle.command_line.specs.Clap.{warcdx, matches_task, refusal_for}
 use Rattle.command_line.proofs.PlainWords.{IsPlain, AllPlain, plain_word}
-use Rattle.command_line.proofs.OtherWords.{choice, typed_command, types_option}
+use Rattle.command_line.proofs.OtherWords.{choice, taken}
 use Rattle.command_line.proofs.OperandWalk.{fits, is_usage, are_usage}
-use Rattle.command_line.proofs.Operands.{choice_words, MayChoose, rows_of, values, reads, unfit_task, level_fits}
+use Rattle.command_line.proofs.Operands.{choice_words, has_option, option_word, MayChoose, rows_of, values, reads, unfit_task, level_fits}
 use Rattle.command_line.proofs.Operands.{level_unfit, level_help, without_text}
 use Rattle.command_line.proofs.CommandName.{is_named, same_name, given, below, unknown, top_help}
 
@@ -33,20 +33,20 @@ no_words : Tells []
 unfolding walk_fault defaults_fault
 no_words = inl (refl, refl)
 
--- the operands of a command, after `--types` and its text where it takes them
+-- the operands of a command, after its option and a text where it takes them
 operands_told : (word : Text) (form : Form) (choice : Option Text) (rest : List Text)
     → find (is_named word) commands ≡ Some (word, form) → MayChoose form choice → AllPlain rest → length rest < 2 ^ 64
     → (b : Bool) → fits form rest ≡ b
-    → Told (operands_task form (choice_words choice ++ rest)) (fault_of warcdx (word ∷ choice_words choice ++ rest))
-    (subcommand_of warcdx (word ∷ choice_words choice ++ rest))
+    → Told (operands_task form (choice_words form choice ++ rest)) (fault_of warcdx (word ∷ choice_words form choice ++ rest))
+    (subcommand_of warcdx (word ∷ choice_words form choice ++ rest))
 operands_told word form choice rest e m p short true f = inl (
-  below word form commands (choice_words choice ++ rest) e ∙ level_fits word form choice rest m f p short,
-  ap matches_task (given word form commands (choice_words choice ++ rest) (rows_of form choice rest) e
+  below word form commands (choice_words form choice ++ rest) e ∙ level_fits word form choice rest m f p short,
+  ap matches_task (given word form commands (choice_words form choice ++ rest) (rows_of form choice rest) e
       (values form choice rest m f p))
       ∙ rw e (reads form choice rest m f p),
 )
 operands_told word form choice rest e m p short false f = inr (
-  ap are_usage (below word form commands (choice_words choice ++ rest) e) ∙ level_unfit word form choice rest m f p,
+  ap are_usage (below word form commands (choice_words form choice ++ rest) e) ∙ level_unfit word form choice rest m f p,
   unfit_task form choice rest m f p,
 )
 
@@ -56,29 +56,32 @@ first_told word rest q p short None n = inr (unknown word commands rest n q, rw 
 first_told word rest q p short (Some c) n =
     rw n (operands_told word c.1 None rest (same_name word commands c n) tt p short _ refl)
 
-types_told : (word : Text) (form : Form) (rest : List Text) → find (is_named word) commands ≡ Some (word, form)
-    → takes_types form ≡ true
+option_told : (word : Text) (form : Form) (rest : List Text) → find (is_named word) commands ≡ Some (word, form)
+    → has_option form ≡ true
     → AllPlain rest → length rest < 2 ^ 64
-    → Told (operands_task form (codes "--types" ∷ rest)) (fault_of warcdx (word ∷ codes "--types" ∷ rest))
-    (subcommand_of warcdx (word ∷ codes "--types" ∷ rest))
-types_told word form [] e t p short =
-    inr (ap are_usage (below word form commands (codes "--types" ∷ []) e) ∙ without_text word form t, grind arith)
-types_told word form (text ∷ rest) e t p short =
+    → Told (operands_task form (option_word form ∷ rest)) (fault_of warcdx (word ∷ option_word form ∷ rest))
+    (subcommand_of warcdx (word ∷ option_word form ∷ rest))
+option_told word form [] e t p short = inr (
+  ap are_usage (below word form commands (option_word form ∷ []) e) ∙ without_text word form t,
+  grind arith,
+)
+option_told word form (text ∷ rest) e t p short =
     operands_told word form (Some text) rest e (t, p.0) p.1 (omega arith) _ refl
 
-typed_told : (word option : Text) (rest : List Text) → is_typed_command word ≡ true → chooses_types option ≡ true
-    → AllPlain rest → length rest < 2 ^ 64
+taken_told : (word option : Text) (rest : List Text) → takes_option word option ≡ true → AllPlain rest
+    → length rest < 2 ^ 64
     → Tells (word ∷ option ∷ rest)
-typed_told word option rest n o p short = elim (typed_command word n) [
-  | inl e ↦ rw (e, types_option option o) (types_told (codes "index") (Typed ToIndex) rest refl refl p short)
-  | inr e ↦ rw (e, types_option option o) (types_told (codes "scan") (TypedSizes ToScan) rest refl refl p short)
+taken_told word option rest t p short = elim (taken word option t) [
+  | inl e ↦ rw (e.named, e.taken) (option_told (codes "index") (Typed ToIndex) rest refl refl p short)
+  | inr (inl e) ↦ rw (e.named, e.taken) (option_told (codes "scan") (TypedSizes ToScan) rest refl refl p short)
+  | inr (inr e) ↦ rw (e.named, e.taken) (option_told (codes "get") (Offset ToGet) rest refl refl p short)
 ]
 
 two_told : (word option : Text) (rest : List Text) → AllPlain (other_words (word ∷ option ∷ rest))
     → length (option ∷ rest) < 2 ^ 64
     → Tells (word ∷ option ∷ rest)
 two_told word option rest p short = elim (choice word option rest) [
-  | inl c ↦ typed_told word option rest c.takes c.chooses (rw c.others at p) (omega arith)
+  | inl c ↦ taken_told word option rest c.takes (rw c.others at p) (omega arith)
   | inr e ↦ let q = rw e at p in first_told word (option ∷ rest) q.0 q.1 short _ refl
 ]
 

@@ -1,6 +1,6 @@
 -- What clap makes of the words after a command's name.
 use Rattle.std.proofs.Common.{arith, refl, ◌≡◌, ◌<◌, ◌^◌, List, [], ◌∷◌, ◌++◌, Some, None, true, false, codes}
-use Rattle.std.proofs.Common.{length, ◌∙◌, fold, Option, option_map, option_and_then}
+use Rattle.std.proofs.Common.{length, ◌∙◌, fold, Bool, Option, option_map, option_and_then}
 use Rattle.std.proofs.lemmas.Slice.Eq.{bytes_eq-Decides}
 use Rattle.std.specs.Char.{encode_utf8}
 use Rattle.std.specs.Str.{chars}
@@ -11,43 +11,59 @@ use Rattle.clap.specs.declared.error.kind.ErrorKind.TheVariants as kind
 use Rattle.capture_core.specs.Types.{usual_types}
 use Rattle.command_line.specs.Words.{Text, asks_for_help}
 use Rattle.command_line.specs.Commands.{Form, Names as OfNames, Query as OfQuery, Sizes as OfSizes, Offset as OfOffset}
-use Rattle.command_line.specs.Commands.{Typed as OfTyped, TypedSizes as OfTypedSizes, takes_types, chooses_types}
-use Rattle.command_line.specs.Commands.{typed_operands, operands_task}
+use Rattle.command_line.specs.Commands.{Typed as OfTyped, TypedSizes as OfTypedSizes, chooses_types, gives_length}
+use Rattle.command_line.specs.Commands.{length_operands, typed_operands, operands_task}
 use Rattle.command_line.specs.Clap.{values_task}
 use Rattle.command_line.proofs.PlainWords.{IsPlain, AllPlain, help_word}
 use Rattle.command_line.proofs.OperandWalk.{shaped, rules_of, fits, row, after, walk_on, walk_clear, query_row}
 use Rattle.command_line.proofs.OperandWalk.{sizes_rows, in_range, any_text, are_usage}
 
--- ---- a choice of types
+-- ---- the option of a command
 
--- `--types` and its text, or nothing
-abbrev pub choice_words : Option Text → List Text
-choice_words None = []
-choice_words (Some text) = codes "--types" ∷ text ∷ []
+-- the form has an option
+abbrev pub has_option : Form → Bool
+has_option (OfTyped make) = true
+has_option (OfTypedSizes make) = true
+has_option (OfOffset make) = true
+has_option _ = false
 
-abbrev choice_rows : Option Text → List Row
-choice_rows None = []
-choice_rows (Some text) = row (codes "types") (text ∷ []) ∷ []
+-- the name of the option
+abbrev pub option_name : Form → Text
+option_name (OfOffset make) = codes "length"
+option_name form = codes "types"
 
--- the command takes the choice, and the text is no option
+abbrev pub option_word : Form → Text
+option_word (OfOffset make) = codes "--length"
+option_word form = codes "--types"
+
+-- the option and its text, or nothing
+abbrev pub choice_words : Form → Option Text → List Text
+choice_words form None = []
+choice_words form (Some text) = option_word form ∷ text ∷ []
+
+abbrev choice_rows : Form → Option Text → List Row
+choice_rows form None = []
+choice_rows form (Some text) = row (option_name form) (text ∷ []) ∷ []
+
+-- the command takes the option, and the text is no option
 abbrev pub MayChoose : Form → Option Text → Type 0
 MayChoose form None = Unit {0}
-MayChoose form (Some text) = (takes_types form ≡ true) × IsPlain text
+MayChoose form (Some text) = (has_option form ≡ true) × IsPlain text
 
 -- before the operands
-abbrev start : Option Text → Walk
-start None = walk_from nothing_held
-start (Some text) = walk_from (record { rows = []; pending = Some (codes "types", text ∷ []); skip = 0 })
+abbrev start : Form → Option Text → Walk
+start form None = walk_from nothing_held
+start form (Some text) = walk_from (record { rows = []; pending = Some (option_name form, text ∷ []); skip = 0 })
 
 begun : (form : Form) (choice : Option Text) (words : List Text) → MayChoose form choice
-    → walk (rules_of form) [] nothing_held (choice_words choice ++ words)
-    ≡ fold (walked (rules_of form) []) (start choice) words
+    → walk (rules_of form) [] nothing_held (choice_words form choice ++ words)
+    ≡ fold (walked (rules_of form) []) (start form choice) words
 unfolding walked
 begun form choice words m = grind arith
 
 begun_clear : (name : Text) (form : Form) (choice : Option Text) (words : List Text) → MayChoose form choice
-    → walk_fault (shaped (name, form)) [] (walk_from nothing_held) (choice_words choice ++ words)
-    ≡ walk_fault (shaped (name, form)) [] (start choice) words
+    → walk_fault (shaped (name, form)) [] (walk_from nothing_held) (choice_words form choice ++ words)
+    ≡ walk_fault (shaped (name, form)) [] (start form choice) words
 unfolding walk_fault walked
 begun_clear name form choice words m = grind arith
 
@@ -67,9 +83,13 @@ names_among (OfTypedSizes make) (a ∷ b ∷ more) = more
 names_among form words = words
 
 -- after an offset and a name
-abbrev after_offset : Text → Text → Walk
-after_offset offset name = record {
-  held = record { rows = row (codes "offset") (offset ∷ []) ∷ []; pending = Some (codes "name", name ∷ []); skip = 0 };
+abbrev after_offset : List Row → Text → Text → Walk
+after_offset rows offset name = record {
+  held = record {
+    rows = rows ++ row (codes "offset") (offset ∷ []) ∷ [];
+    pending = Some (codes "name", name ∷ []);
+    skip = 0;
+  };
   waiting = idle;
   position = 3;
   is_trailing = false;
@@ -77,11 +97,11 @@ after_offset offset name = record {
 }
 
 abbrev end_of : Form → Option Text → List Text → Walk
-end_of (OfOffset make) choice (a ∷ b ∷ more) = after_offset a b
-end_of form choice words = after form (choice_rows choice ++ operand_rows form words) (names_among form words)
+end_of (OfOffset make) choice (a ∷ b ∷ more) = after_offset (choice_rows (OfOffset make) choice) a b
+end_of form choice words = after form (choice_rows form choice ++ operand_rows form words) (names_among form words)
 
 operands_in : (form : Form) (choice : Option Text) (words : List Text) → MayChoose form choice → fits form words ≡ true
-    → AllPlain words → fold (walked (rules_of form) []) (start choice) words ≡ end_of form choice words
+    → AllPlain words → fold (walked (rules_of form) []) (start form choice) words ≡ end_of form choice words
 unfolding walked
 operands_in (OfNames make) None (a ∷ more) m f p =
     let rest = walk_on (OfNames make) [] (a ∷ []) more refl p.1 in grind arith
@@ -89,22 +109,22 @@ operands_in (OfQuery make) None (a ∷ b ∷ more) m f p =
     let rest = walk_on (OfQuery make) (query_row a) (b ∷ []) more refl p.1.1 in grind arith
 operands_in (OfSizes make) None (a ∷ b ∷ c ∷ more) m f p =
     let rest = walk_on (OfSizes make) (sizes_rows a b) (c ∷ []) more refl p.1.1.1 in grind arith
-operands_in (OfOffset make) None (a ∷ b ∷ []) m f p = grind arith
+operands_in (OfOffset make) choice (a ∷ b ∷ []) m f p = grind arith
 operands_in (OfTyped make) choice (a ∷ more) m f p =
-    let rest = walk_on (OfTyped make) (choice_rows choice) (a ∷ []) more refl p.1 in grind arith
+    let rest = walk_on (OfTyped make) (choice_rows (OfTyped make) choice) (a ∷ []) more refl p.1 in grind arith
 operands_in (OfTypedSizes make) None (a ∷ b ∷ c ∷ more) m f p =
     let rest = walk_on (OfTypedSizes make) (sizes_rows a b) (c ∷ []) more refl p.1.1.1 in grind arith
 operands_in (OfTypedSizes make) (Some text) (a ∷ b ∷ c ∷ more) m f p =
-    let rest = walk_on (OfTypedSizes make) (choice_rows (Some text) ++ sizes_rows a b) (c ∷ []) more refl p.1.1.1 in
+    let rest = walk_on (OfTypedSizes make) (choice_rows (OfTypedSizes make) (Some text) ++ sizes_rows a b) (c ∷ []) more refl p.1.1.1 in
     grind arith
 operands_in _ _ _ m f p = cc
 
 ends : (form : Form) (choice : Option Text) (words : List Text) → MayChoose form choice → fits form words ≡ true
-    → AllPlain words → walk (rules_of form) [] nothing_held (choice_words choice ++ words) ≡ end_of form choice words
+    → AllPlain words → walk (rules_of form) [] nothing_held (choice_words form choice ++ words) ≡ end_of form choice words
 ends form choice words m f p = grind (arith, begun, operands_in)
 
 operands_clear : (name : Text) (form : Form) (choice : Option Text) (words : List Text) → MayChoose form choice
-    → fits form words ≡ true → AllPlain words → walk_fault (shaped (name, form)) [] (start choice) words ≡ []
+    → fits form words ≡ true → AllPlain words → walk_fault (shaped (name, form)) [] (start form choice) words ≡ []
 unfolding walk_fault walked
 operands_clear name (OfNames make) None (a ∷ more) m f p =
     let rest = walk_clear name (OfNames make) [] (a ∷ []) more refl p.1 in grind arith
@@ -112,33 +132,33 @@ operands_clear name (OfQuery make) None (a ∷ b ∷ more) m f p =
     let rest = walk_clear name (OfQuery make) (query_row a) (b ∷ []) more refl p.1.1 in grind arith
 operands_clear name (OfSizes make) None (a ∷ b ∷ c ∷ more) m f p =
     let rest = walk_clear name (OfSizes make) (sizes_rows a b) (c ∷ []) more refl p.1.1.1 in grind arith
-operands_clear name (OfOffset make) None (a ∷ b ∷ []) m f p = grind arith
+operands_clear name (OfOffset make) choice (a ∷ b ∷ []) m f p = grind arith
 operands_clear name (OfTyped make) choice (a ∷ more) m f p =
-    let rest = walk_clear name (OfTyped make) (choice_rows choice) (a ∷ []) more refl p.1 in grind arith
+    let rest = walk_clear name (OfTyped make) (choice_rows (OfTyped make) choice) (a ∷ []) more refl p.1 in grind arith
 operands_clear name (OfTypedSizes make) None (a ∷ b ∷ c ∷ more) m f p =
     let rest = walk_clear name (OfTypedSizes make) (sizes_rows a b) (c ∷ []) more refl p.1.1.1 in grind arith
 operands_clear name (OfTypedSizes make) (Some text) (a ∷ b ∷ c ∷ more) m f p =
-    let rest = walk_clear name (OfTypedSizes make) (choice_rows (Some text) ++ sizes_rows a b) (c ∷ []) more refl
+    let rest = walk_clear name (OfTypedSizes make) (choice_rows (OfTypedSizes make) (Some text) ++ sizes_rows a b) (c ∷ []) more refl
     p.1.1.1 in
     grind arith
 operands_clear _ _ _ _ m f p = cc
 
 clear : (name : Text) (form : Form) (choice : Option Text) (words : List Text) → MayChoose form choice
     → fits form words ≡ true → AllPlain words
-    → walk_fault (shaped (name, form)) [] (walk_from nothing_held) (choice_words choice ++ words) ≡ []
+    → walk_fault (shaped (name, form)) [] (walk_from nothing_held) (choice_words form choice ++ words) ≡ []
 clear name form choice words m f p = begun_clear name form choice words m ∙ operands_clear name form choice words m f p
 
 -- ---- a command's fault
 
 pub level_fits : (name : Text) (form : Form) (choice : Option Text) (words : List Text) → MayChoose form choice
     → fits form words ≡ true → AllPlain words → length words < 2 ^ 64
-    → level_fault (shaped (name, form)) [] nothing_held (choice_words choice ++ words) false [] ≡ []
+    → level_fault (shaped (name, form)) [] nothing_held (choice_words form choice ++ words) false [] ≡ []
 unfolding defaults_fault
 level_fits name form choice words m f p short = grind (arith, ends, clear, in_range, any_text)
 
 pub level_unfit : (name : Text) (form : Form) (choice : Option Text) (words : List Text) → MayChoose form choice
     → fits form words ≡ false → AllPlain words
-    → are_usage (level_fault (shaped (name, form)) [] nothing_held (choice_words choice ++ words) false []) ≡ true
+    → are_usage (level_fault (shaped (name, form)) [] nothing_held (choice_words form choice ++ words) false []) ≡ true
 unfolding walk_fault walked defaults_fault
 level_unfit name (OfNames make) None [] m f p = refl
 level_unfit name (OfQuery make) None words m f p = grind arith
@@ -150,6 +170,11 @@ level_unfit name (OfOffset make) None [] m f p = refl
 level_unfit name (OfOffset make) None (a ∷ []) m f (p, e) = rw (p.dashes, p.long, p.short) refl
 level_unfit name (OfOffset make) None (a ∷ b ∷ c ∷ more) m f (p, (q, (r, e))) =
     rw (p.dashes, p.long, p.short, q.dashes, q.long, q.short, r.dashes, r.long, r.short) refl
+level_unfit name (OfOffset make) (Some text) [] (t, c) f p = rw (c.dashes, c.long, c.short) refl
+level_unfit name (OfOffset make) (Some text) (a ∷ []) (t, c) f (p, e) =
+    rw (c.dashes, c.long, c.short, p.dashes, p.long, p.short) refl
+level_unfit name (OfOffset make) (Some text) (a ∷ b ∷ x ∷ more) (t, c) f (p, (q, (r, e))) =
+    rw (c.dashes, c.long, c.short, p.dashes, p.long, p.short, q.dashes, q.long, q.short, r.dashes, r.long, r.short) refl
 level_unfit name (OfTyped make) choice [] m f p = grind arith
 level_unfit name (OfTypedSizes make) None [] m f p = refl
 level_unfit name (OfTypedSizes make) None (a ∷ []) m f (p, e) = rw (p.dashes, p.long, p.short) refl
@@ -162,9 +187,9 @@ level_unfit name (OfTypedSizes make) (Some text) (a ∷ b ∷ []) (t, c) f (p, (
     rw (c.dashes, c.long, c.short, p.dashes, p.long, p.short, q.dashes, q.long, q.short) refl
 level_unfit _ _ _ _ m f p = cc
 
--- `--types` alone
-pub without_text : (name : Text) (form : Form) → takes_types form ≡ true
-    → are_usage (level_fault (shaped (name, form)) [] nothing_held (codes "--types" ∷ []) false []) ≡ true
+-- an option alone
+pub without_text : (name : Text) (form : Form) → has_option form ≡ true
+    → are_usage (level_fault (shaped (name, form)) [] nothing_held (option_word form ∷ []) false []) ≡ true
 unfolding walk_fault walked defaults_fault
 without_text name form t = grind arith
 
@@ -177,13 +202,14 @@ level_help name form help h = grind (arith, help_word)
 -- ---- the values of a command
 
 abbrev pub rows_of : Form → Option Text → List Text → List Row
-rows_of (OfOffset make) choice (a ∷ more) = row (codes "offset") (a ∷ []) ∷ row (codes "name") more ∷ []
+rows_of (OfOffset make) choice (a ∷ more) =
+    choice_rows (OfOffset make) choice ++ row (codes "offset") (a ∷ []) ∷ row (codes "name") more ∷ []
 rows_of form choice words =
-    choice_rows choice ++ operand_rows form words ++ row (codes "names") (names_among form words) ∷ []
+    choice_rows form choice ++ operand_rows form words ++ row (codes "names") (names_among form words) ∷ []
 
 pub values : (form : Form) (choice : Option Text) (words : List Text) → MayChoose form choice → fits form words ≡ true
     → AllPlain words
-    → finished (rules_of form) (walk (rules_of form) [] nothing_held (choice_words choice ++ words)).held
+    → finished (rules_of form) (walk (rules_of form) [] nothing_held (choice_words form choice ++ words)).held
     ≡ rows_of form choice words
 values form choice words m f p = grind (arith, ends)
 
@@ -205,15 +231,24 @@ nowhere o g h e = grind arith
 no_choice : (word : Text) → IsPlain word → chooses_types word ≡ false
 no_choice word p = grind (arith, bytes_eq-Decides)
 
+no_length : (word : Text) → IsPlain word → gives_length word ≡ false
+no_length word p = grind (arith, bytes_eq-Decides)
+
 -- plain words are all operands, of the usual types
 usual : (words : List Text) → AllPlain words → typed_operands words ≡ Some (usual_types, words)
 usual words p = grind (arith, no_choice)
 
+-- plain words are all operands, without a length
+unmeasured : (words : List Text) → AllPlain words → length_operands words ≡ Some (None, words)
+unmeasured words p = grind (arith, no_length)
+
 pub reads : (form : Form) (choice : Option Text) (words : List Text) → MayChoose form choice → fits form words ≡ true
-    → AllPlain words → values_task form (rows_of form choice words) ≡ operands_task form (choice_words choice ++ words)
+    → AllPlain words → values_task form (rows_of form choice words) ≡ operands_task form (choice_words form choice ++ words)
+reads (OfOffset make) None (a ∷ b ∷ []) m f p = grind (arith, unmeasured)
+reads (OfOffset make) (Some text) (a ∷ b ∷ []) m f p = grind arith
 reads form choice words m f p = grind (arith, usual, alike, in_turn)
 
 -- operands that don't fit have no task, whatever the types
 pub unfit_task : (form : Form) (choice : Option Text) (words : List Text) → MayChoose form choice
-    → fits form words ≡ false → AllPlain words → operands_task form (choice_words choice ++ words) ≡ None
-unfit_task form choice words m f p = grind (arith, nowhere, usual)
+    → fits form words ≡ false → AllPlain words → operands_task form (choice_words form choice ++ words) ≡ None
+unfit_task form choice words m f p = grind (arith, nowhere, usual, unmeasured)

@@ -29,18 +29,21 @@ names_rule = record (word_rule (codes "names")) {
   range = Some (record { start_inclusive = 1; end_inclusive = usize_max });
 }
 
--- the option `--types`, with a word
-abbrev pub types_rule : Rule
-types_rule = record (new_rule (codes "types")) {
-  long = Some (codes "types");
+-- the option `--` and this name, with a word
+abbrev pub option_rule : Text → Rule
+option_rule id = record (new_rule id) {
+  long = Some id;
   value_names = 1;
 }
+
+abbrev types_rule : Rule
+types_rule = option_rule (codes "types")
 
 abbrev pub rules_for : Form → List Rule
 rules_for (Names make) = names_rule ∷ []
 rules_for (Query make) = word_rule (codes "query") ∷ names_rule ∷ []
 rules_for (Sizes make) = word_rule (codes "sizes") ∷ word_rule (codes "query") ∷ names_rule ∷ []
-rules_for (Offset make) = word_rule (codes "offset") ∷ word_rule (codes "name") ∷ []
+rules_for (Offset make) = option_rule (codes "length") ∷ word_rule (codes "offset") ∷ word_rule (codes "name") ∷ []
 rules_for (Typed make) = types_rule ∷ names_rule ∷ []
 rules_for (TypedSizes make) = types_rule ∷ word_rule (codes "sizes") ∷ word_rule (codes "query") ∷ names_rule ∷ []
 
@@ -77,6 +80,20 @@ given_types (Some text) = types_of text
 abbrev pub chosen_types : List Row → Option Types
 chosen_types rows = given_types (first_of (codes "types") rows)
 
+-- the length of the option's word, or none where it isn't given
+abbrev pub given_length : Option Text → Option (Option ℕ)
+given_length None = Some None
+given_length (Some text) = option_map Some (offset_of text)
+
+abbrev pub chosen_length : List Row → Option (Option ℕ)
+chosen_length rows = given_length (first_of (codes "length") rows)
+
+-- the offset and the name of a record
+abbrev pub offset_and_name : List Row → Option (ℕ × Text)
+offset_and_name rows = option_and_then
+    (λ offset. option_and_then (λ name. option_map (λ n. (n, name)) (offset_of offset)) (first_of (codes "name") rows))
+    (first_of (codes "offset") rows)
+
 -- the task that the values of a command make
 abbrev pub values_task : Form → List Row → Option Meaning
 values_task (Names make) rows = option_map make (all_of (codes "names") rows)
@@ -84,9 +101,7 @@ values_task (Query make) rows = option_and_then
     (λ query. option_map (make query) (all_of (codes "names") rows)) (first_of (codes "query") rows)
 values_task (Sizes make) rows = option_map (λ asked. make asked.0 asked.1 asked.2) (sized_query rows)
 values_task (Offset make) rows = option_and_then
-    (λ offset. option_and_then (λ name. option_map (λ n. make n name) (offset_of offset))
-    (first_of (codes "name") rows))
-    (first_of (codes "offset") rows)
+    (λ length. option_map (λ place. make length place.0 place.1) (offset_and_name rows)) (chosen_length rows)
 values_task (Typed make) rows = option_and_then
     (λ types. option_map (make types) (all_of (codes "names") rows)) (chosen_types rows)
 values_task (TypedSizes make) rows = option_and_then

@@ -26,16 +26,17 @@ pub data Meaning : Type 0 where
   ToQuery : Text → List Text → Meaning
   ToPages : List ℕ → Text → List Text → Meaning
   ToServe : List Text → Meaning
-  ToGet : ℕ → Text → Meaning
+  ToGet : Option ℕ → ℕ → Text → Meaning
   ToScan : Types → List ℕ → Text → List Text → Meaning
 
 -- which operands a command takes, and the task that they make: one name or more; those after a query, or after sizes
--- and a query; an offset and a name; names, or sizes, a query and names, with the types that an option may choose
+-- and a query; an offset and a name, with the length that an option may give; names, or sizes, a query and names, with
+-- the types that an option may choose
 pub data Form : Type 0 where
   Names : (List Text → Meaning) → Form
   Query : (Text → List Text → Meaning) → Form
   Sizes : (List ℕ → Text → List Text → Meaning) → Form
-  Offset : (ℕ → Text → Meaning) → Form
+  Offset : (Option ℕ → ℕ → Text → Meaning) → Form
   Typed : (Types → List Text → Meaning) → Form
   TypedSizes : (Types → List ℕ → Text → List Text → Meaning) → Form
 
@@ -70,12 +71,31 @@ abbrev pub typed_operands : List Text → Option (Types × List Text)
 typed_operands [] = Some (usual_types, [])
 typed_operands (word ∷ words) = if chooses_types word then types_first words else Some (usual_types, word ∷ words)
 
+-- `--length`
+abbrev pub gives_length : Text → Bool
+gives_length option = bytes_eq option (codes "--length")
+
+-- the length that a text gives, and the words after it
+abbrev pub length_first : List Text → Option (Option ℕ × List Text)
+length_first [] = None
+length_first (text ∷ words) = option_map (λ n. (Some n, words)) (offset_of text)
+
+-- the length and the operands of the words after a command: `--length` and its text come first, or there is no length
+abbrev pub length_operands : List Text → Option (Option ℕ × List Text)
+length_operands [] = Some (None, [])
+length_operands (word ∷ words) = if gives_length word then length_first words else Some (None, word ∷ words)
+
+abbrev pub offset_task : (ℕ → Text → Meaning) → List Text → Option Meaning
+offset_task make (offset ∷ name ∷ []) = option_map (λ n. make n name) (offset_of offset)
+offset_task make _ = None
+
 -- the task of the words after a command
 abbrev pub operands_task : Form → List Text → Option Meaning
 operands_task (Names make) operands = names_task make operands
 operands_task (Query make) (query ∷ name ∷ names) = Some (make query (name ∷ names))
 operands_task (Sizes make) operands = sizes_task make operands
-operands_task (Offset make) (offset ∷ name ∷ []) = option_map (λ n. make n name) (offset_of offset)
+operands_task (Offset make) words = option_and_then (λ given. offset_task (make given.0) given.1)
+    (length_operands words)
 operands_task (Typed make) words = option_and_then (λ typed. names_task (make typed.0) typed.1) (typed_operands words)
 operands_task (TypedSizes make) words = option_and_then (λ typed. sizes_task (make typed.0) typed.1)
     (typed_operands words)
@@ -88,26 +108,28 @@ command_of word = find (λ c. bytes_eq c.0 word) commands
 abbrev pub list_input : Meaning
 list_input = ToList (codes "-" ∷ [])
 
--- the task of words with no option but a choice of types
+-- the task of words with no option but that of their command
 abbrev pub task_of : List Text → Option Meaning
 task_of [] = Some list_input
 task_of (word ∷ operands) = option_and_then (λ c. operands_task c.1 operands) (command_of word)
 
 -- ---- any words
 
-abbrev pub takes_types : Form → Bool
-takes_types (Typed make) = true
-takes_types (TypedSizes make) = true
-takes_types _ = false
+-- the word is the option of a command of this form
+abbrev pub is_option_of : Form → Text → Bool
+is_option_of (Typed make) word = chooses_types word
+is_option_of (TypedSizes make) word = chooses_types word
+is_option_of (Offset make) word = gives_length word
+is_option_of _ word = false
 
--- the word is the name of a command that takes types
-abbrev pub is_typed_command : Text → Bool
-is_typed_command word = list_any (λ c. takes_types c.1 && bytes_eq word c.0) commands
+-- the command takes this option, directly after its name
+abbrev pub takes_option : Text → Text → Bool
+takes_option command option = list_any (λ c. bytes_eq command c.0 && is_option_of c.1 option) commands
 
--- the words but for a command that takes types and `--types` directly after it
+-- the words but for a command and its option directly after it
 abbrev pub other_words : List Text → List Text
 other_words (command ∷ option ∷ words) =
-    if is_typed_command command && chooses_types option then words else command ∷ option ∷ words
+    if takes_option command option then words else command ∷ option ∷ words
 other_words words = words
 
 pub data Refusal : Type 0 where
@@ -136,7 +158,7 @@ view (task.Check names) = ToCheck (texts names.items)
 view (task.Query query names) = ToQuery (string_bytes query) (texts names.items)
 view (task.Pages sizes query names) = ToPages sizes.items (string_bytes query) (texts names.items)
 view (task.Serve names) = ToServe (texts names.items)
-view (task.Get offset name) = ToGet offset (string_bytes name)
+view (task.Get length offset name) = ToGet length offset (string_bytes name)
 view (task.Scan types sizes query names) = ToScan types sizes.items (string_bytes query) (texts names.items)
 
 -- nothing for want of memory

@@ -2,19 +2,21 @@
 ghost use Rattle.std.specs.Prelude.{◌≡◌, IfOk, false, map};
 ghost use Rattle.clap.specs.Words.{app_of, rule_of, with_subcommand};
 ghost use Rattle.command_line.specs.Arguments.{rule_for};
-ghost use Rattle.command_line.specs.Clap.{word_rule, names_rule, types_rule, command_with, warcdx};
+ghost use Rattle.command_line.specs.Clap.{word_rule, names_rule, option_rule, command_with, warcdx};
 
 use crate::help::archives::{GET, INDEX, LIST, SCAN, VERIFY};
 use crate::help::indexes::{CHECK, MERGE, PAGES, QUERY, SERVE};
-use crate::help::{ARCHIVE, CDXJ, OFFSET, Operand, PROGRAM, Page, QUERY_TEXT, SIZES, TYPES};
+use crate::help::{
+    ARCHIVE, CDXJ, LENGTH, OFFSET, Operand, PROGRAM, Page, QUERY_TEXT, SIZES, TYPES,
+};
 use clap::{Arg, Command};
 use std::alloc::{AllocError, Global};
 
 /// An argument of a command.
 #[derive(Clone, Copy)]
 enum Argument<'a> {
-    /// The option `--types`, which takes a value.
-    Types,
+    /// An option that takes a value, under this name of clap's, which is written after `--`.
+    Option(&'a str, Operand<'a>),
     /// An operand that is given once, under this name of clap's.
     Word(&'a str, Operand<'a>),
     /// The last operand, which is given once or more.
@@ -31,22 +33,24 @@ pub fn command_line<'a>(alloc: Global) -> Result<Command<'a>, AllocError>
         .after_help(PROGRAM.details)
         .no_binary_name(true)
         .disable_help_subcommand(true);
+    let types = Argument::Option("types", TYPES);
     let text = Argument::Word("query", QUERY_TEXT);
     let sizes = Argument::Word("sizes", SIZES);
     let indexes = Argument::Names(CDXJ);
     let archives = Argument::Names(ARCHIVE);
+    let length = Argument::Option("length", LENGTH);
     let offset = Argument::Word("offset", OFFSET);
     let archive = Argument::Word("name", ARCHIVE);
     let list = with_command(program, alloc, "list", LIST, &[archives])?;
     let verify = with_command(list, alloc, "verify", VERIFY, &[archives])?;
-    let index = with_command(verify, alloc, "index", INDEX, &[Argument::Types, archives])?;
+    let index = with_command(verify, alloc, "index", INDEX, &[types, archives])?;
     let merge = with_command(index, alloc, "merge", MERGE, &[indexes])?;
     let check = with_command(merge, alloc, "check", CHECK, &[indexes])?;
     let query = with_command(check, alloc, "query", QUERY, &[text, indexes])?;
     let pages = with_command(query, alloc, "pages", PAGES, &[sizes, text, indexes])?;
     let serve = with_command(pages, alloc, "serve", SERVE, &[indexes])?;
-    let get = with_command(serve, alloc, "get", GET, &[offset, archive])?;
-    let all = &[Argument::Types, sizes, text, archives];
+    let get = with_command(serve, alloc, "get", GET, &[length, offset, archive])?;
+    let all = &[types, sizes, text, archives];
     let scan = with_command(get, alloc, "scan", SCAN, all)?;
     Ok(scan)
 }
@@ -76,21 +80,21 @@ fn clap_argument<'a>(alloc: Global, argument: Argument<'a>) -> Arg<'a>
     ensures local { result.global ≡ false }
 {
     match argument {
-        Argument::Types => types(alloc),
+        Argument::Option(id, operand) => option(alloc, id, operand),
         Argument::Word(id, operand) => word(alloc, id, operand),
         Argument::Names(operand) => names(alloc, operand),
     }
 }
 
-/// Returns the option `--types`, which takes a value.
-fn types<'a>(alloc: Global) -> Arg<'a>
-    ensures rule { rule_of result ≡ types_rule }
+/// Returns an option that takes a value.
+fn option<'a>(alloc: Global, id: &'a str, operand: Operand<'a>) -> Arg<'a>
+    ensures rule { rule_of result ≡ option_rule id.entry.now }
     ensures local { result.global ≡ false }
 {
-    Arg::new(alloc, "types")
-        .long("types")
-        .value_name(TYPES.name)
-        .help(TYPES.help)
+    Arg::new(alloc, id)
+        .long(id)
+        .value_name(operand.name)
+        .help(operand.help)
 }
 
 /// Returns an operand that is given once or more.

@@ -86,3 +86,9 @@ pub const OFFSET: Operand = Operand {
     name: "OFFSET",
     help: "Where the record begins, in bytes from the archive's start",
 };
+
+/// The operand `LENGTH`.
+pub const LENGTH: Operand = Operand {
+    name: "LENGTH",
+    help: "The record's length in bytes, to read it alone",
+};

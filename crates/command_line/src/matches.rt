@@ -3,7 +3,7 @@ ghost use Rattle.std.specs.Prelude.{◌≡◌, IfOk, Some, option_map, codes, ma
 ghost use Rattle.clap.specs.Words.{all_of, first_of, found_of, rows_of, subcommand_rows_of};
 ghost use Rattle.command_line.specs.Words.{texts};
 ghost use Rattle.command_line.specs.Commands.{Offset, Query, Sizes, ToGet, ToIndex, ToPages, ToQuery, ToScan, Typed, TypedSizes, list_input, view};
-ghost use Rattle.command_line.specs.Clap.{chosen_types, matches_task, sized_query, values_task};
+ghost use Rattle.command_line.specs.Clap.{chosen_length, chosen_types, matches_task, offset_and_name, sized_query, values_task};
 
 use crate::sizes::read_sizes;
 use crate::task::Task;
@@ -146,6 +146,23 @@ fn get_task(alloc: Global, values: &ArgMatches) -> Result<Option<Task>, AllocErr
     ensures { IfOk result (λ task. option_map view task
         ≡ values_task (Offset ToGet) (rows_of (found_of values.now))) }
 {
+    let Some(length) = chosen_length(values) else {
+        return Ok(None);
+    };
+    match offset_and_name(alloc, values)? {
+        Some((offset, name)) => Ok(Some(Task::Get {
+            length,
+            offset,
+            name,
+        })),
+        None => Ok(None),
+    }
+}
+
+fn offset_and_name(alloc: Global, values: &ArgMatches) -> Result<Option<(u64, String)>, AllocError>
+    ensures { IfOk result (λ place. option_map (λ p. (p.0, string_bytes p.1)) place
+        ≡ offset_and_name (rows_of (found_of values.now))) }
+{
     let Some(offset) = value_of(values, "offset") else {
         return Ok(None);
     };
@@ -153,8 +170,19 @@ fn get_task(alloc: Global, values: &ArgMatches) -> Result<Option<Task>, AllocErr
         return Ok(None);
     };
     match text_of(alloc, values, "name")? {
-        Some(name) => Ok(Some(Task::Get { offset, name })),
+        Some(name) => Ok(Some((offset, name))),
         None => Ok(None),
+    }
+}
+
+/// Returns the length that the option gives, or no length if the option isn't given. `None` is for a value that isn't
+/// a length.
+fn chosen_length(values: &ArgMatches) -> Option<Option<u64>>
+    ensures { result ≡ chosen_length (rows_of (found_of values.now)) }
+{
+    match value_of(values, "length") {
+        Some(text) => read_offset(text).map(Some),
+        None => Some(None),
     }
 }
 

@@ -1,28 +1,26 @@
 //! Which arguments are options.
-ghost use Rattle.std.specs.Prelude.{◌≡◌, ◌&&◌, find, option_map, string_bytes};
+ghost use Rattle.std.specs.Prelude.{◌≡◌, find, option_map, string_bytes};
 ghost use Rattle.command_line.specs.Words.{texts, is_option, asks_for_help, is_unknown_option};
-ghost use Rattle.command_line.specs.Commands.{chooses_types, is_typed_command, other_words};
+ghost use Rattle.command_line.specs.Commands.{other_words, takes_option};
 
-/// Returns the arguments without a command that takes types and `--types` directly after it.
+/// Returns the arguments without a command and its option directly after it.
 pub fn other_words(words: &[String]) -> &[String]
     ensures { texts result.now ≡ other_words (texts words.now) }
 {
     match words {
-        [command, option, rest @ ..] if takes_types(command, option) => rest,
+        [command, option, rest @ ..] if takes_option(command, option) => rest,
         _ => words,
     }
 }
 
-fn takes_types(command: &str, option: &str) -> bool
-    ensures { result ≡ (is_typed_command command.now && chooses_types option.now) }
+fn takes_option(command: &str, option: &str) -> bool
+    ensures { result ≡ takes_option command.now option.now }
 {
-    is_typed_command(command) && option == "--types"
-}
-
-fn is_typed_command(word: &str) -> bool
-    ensures { result ≡ is_typed_command word.now }
-{
-    word == "index" || word == "scan"
+    match command {
+        "index" | "scan" => option == "--types",
+        "get" => option == "--length",
+        _ => false,
+    }
 }
 
 /// Returns the first argument that begins with `-`, except `-` alone and arguments that ask for help.

@@ -40,8 +40,10 @@ pub enum Task {
     Serve {
         names: Vec<String>,
     },
-    /// Write the record that begins at the offset, in bytes from the archive's start.
+    /// Write the record that begins at the offset, in bytes from the archive's start. With a length, only a record of
+    /// this length in bytes, and without reading what precedes it.
     Get {
+        length: Option<u64>,
         offset: u64,
         name: String,
     },

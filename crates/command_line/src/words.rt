@@ -13,6 +13,7 @@ use crate::matches::{operand_word, task_of};
 use crate::options::{help_option, other_words, unknown_option};
 use crate::task::Task;
 use capture_core::Types;
+use cdxj_places::read_offset;
 use clap::error::ErrorKind;
 use clap::{ArgMatches, Error};
 use std::alloc::{AllocError, Global};
@@ -20,15 +21,15 @@ use std::alloc::{AllocError, Global};
 /// Reads the arguments after the program's name. No arguments at all mean `list -`.
 ///
 /// `-h` and `--help` ask for help: as the first argument for the program's help, after a command for the command's
-/// help, whatever the number of its arguments. `--types` is an option of `index` and `scan` only, and stands directly
-/// after the command.
+/// help, whatever the number of its arguments. `--types` is an option of `index` and `scan` only, and `--length` one of
+/// `get`. Each stands directly after the command.
 ///
 /// # Errors
 ///
 /// - `Help` if an argument is `-h` or `--help`.
 /// - `Usage` for another argument that begins with `-`, except `-` alone, wherever it stands. Otherwise for a first
-///   argument that isn't a command, for a wrong number of arguments, for an offset that isn't 1 to 19 digits below
-///   2^63, for sizes that aren't 1 to 1,000 numbers from 1 to 1,000,000, each of at most 7 digits, separated by commas,
+///   argument that isn't a command, for a wrong number of arguments, for an offset or a length that isn't 1 to 19
+///   digits below 2^63, for sizes that aren't 1 to 1,000 numbers from 1 to 1,000,000, each of at most 7 digits, separated by commas,
 ///   and for types that `Types::read` doesn't accept.
 /// - `Memory` if memory could not be allocated.
 pub fn read_words(alloc: Global, words: &[String]) -> Result<Task, WordsFault>
@@ -120,6 +121,8 @@ fn unexpected(alloc: Global, option: &str) -> WordsFault
 fn tip_for(option: &str) -> &'static str {
     if option.starts_with("--types") {
         "'--types TYPES' stands once, directly after 'index' or 'scan'"
+    } else if option.starts_with("--length") {
+        "'--length LENGTH' stands once, directly after 'get'"
     } else if option == "--version" || option == "-V" {
         "the first line of 'warcdx --help' has the version"
     } else {
@@ -127,7 +130,7 @@ fn tip_for(option: &str) -> &'static str {
     }
 }
 
-/// Returns the usage error for types, sizes or an offset. clap accepts any argument for them; the texts are in its
+/// Returns the usage error for types, sizes, a length or an offset. clap accepts any argument for them; the texts are in its
 /// style.
 fn no_task(alloc: Global, matches: &ArgMatches) -> WordsFault
     ensures { IsUsage result }
@@ -143,8 +146,26 @@ fn no_numbers(alloc: Global, matches: &ArgMatches) -> WordsFault
 {
     match operand_word(matches, "sizes") {
         Some(word) => no_sizes(alloc, word),
-        None => no_offset(alloc, operand_word(matches, "offset").unwrap_or("")),
+        None => no_place(alloc, matches),
     }
+}
+
+fn no_place(alloc: Global, matches: &ArgMatches) -> WordsFault
+    ensures { IsUsage result }
+{
+    match operand_word(matches, "length") {
+        Some(word) if read_offset(word).is_none() => no_length(alloc, word),
+        _ => no_offset(alloc, operand_word(matches, "offset").unwrap_or("")),
+    }
+}
+
+fn no_length(alloc: Global, word: &str) -> WordsFault
+    ensures { IsUsage result }
+{
+    usage(format!(in alloc;
+        "error: invalid value '{word}' for '--length <LENGTH>': a length is 1 to 19 digits, below 2^63\n\n\
+         For more information, try '--help'.\n"
+    ))
 }
 
 fn no_types(alloc: Global, word: &str) -> WordsFault

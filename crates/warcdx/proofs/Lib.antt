@@ -4,3 +4,5 @@ pub mod LastSlash
 pub mod NamedLemmas
 pub mod OpeningLemmas
 mod WordsLemmas
+pub mod WriteCounts
+pub mod FailedNames

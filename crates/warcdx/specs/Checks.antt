@@ -34,12 +34,14 @@ pub record ChecksIndex (name : List ℕ) (index : Option (List ℕ)) (outcome : 
       (λ fault. (outcome ≡ outcomes.Answer fault) × (after ≡ before))
 
 -- the index of this name was checked, unless it couldn't be opened
-abbrev pub ChecksOne : (List ℕ → Option (List ℕ)) → Option (List ℕ) → List ℕ → Outcome → Option (List ℕ) → Type 0
-ChecksOne bytes_of before name outcome after =
-    OpensFirst (IsUnopenedIndex outcome) (after ≡ before) (ChecksIndex name (bytes_of name) outcome before after)
+abbrev pub ChecksOne : (List ℕ → Option (List ℕ)) → (List ℕ → Type 0) → Option (List ℕ) → List ℕ → Outcome
+    → Option (List ℕ) → Type 0
+ChecksOne bytes_of Failed before name outcome after =
+    OpensFirst (IsUnopenedIndex (Failed name) outcome) (after ≡ before)
+    (ChecksIndex name (bytes_of name) outcome before after)
 
 -- the indexes of these names were checked, one after another
-abbrev pub ChecksIndexes : (List ℕ → Option (List ℕ)) → List (List ℕ) → Option (List ℕ) → Option (List ℕ) → Outcome
-    → Type 0
-ChecksIndexes bytes_of names before after outcome = GoesOver (ChecksOne bytes_of) outcomes.Done before names outcome
-    after
+abbrev pub ChecksIndexes : (List ℕ → Option (List ℕ)) → (List ℕ → Type 0) → List (List ℕ) → Option (List ℕ)
+    → Option (List ℕ) → Outcome → Type 0
+ChecksIndexes bytes_of Failed names before after outcome =
+    GoesOver (ChecksOne bytes_of Failed) outcomes.Done before names outcome after

@@ -45,9 +45,9 @@ WritesIndex held added before after outcome =
     × WritesText answer before after (index_text held.captures)
 
 -- the archive of this name was added, unless it couldn't be opened
-abbrev pub AddsOne : (List ℕ → Option (List ℕ)) → Held → List ℕ → Outcome → Held → Type 0
-AddsOne bytes_of old name outcome new =
-    OpensFirst (IsUnopened outcome) (new ≡ old) (AddsArchive name (bytes_of name) old new outcome)
+abbrev pub AddsOne : (List ℕ → Option (List ℕ)) → (List ℕ → Type 0) → Held → List ℕ → Outcome → Held → Type 0
+AddsOne bytes_of Failed old name outcome new =
+    OpensFirst (IsUnopened (Failed name) outcome) (new ≡ old) (AddsArchive name (bytes_of name) old new outcome)
 
 -- nothing, of these types
 abbrev pub nothing_of : Types → Held
@@ -55,8 +55,9 @@ nothing_of chosen = record { types = chosen; names = []; captures = [] }
 
 -- the archives of these names were added, one after another, and the index of what was added was written, unless adding
 -- ended the command
-abbrev pub IndexesArchives : (List ℕ → Option (List ℕ)) → Types → List (List ℕ) → Option (List ℕ) → Option (List ℕ)
-    → Type 0 → Outcome → Type 0
-IndexesArchives bytes_of types names before after unchanged outcome =
-    (held : Held) × (added : Outcome) × GoesOver (AddsOne bytes_of) outcomes.Done (nothing_of types) names added held
+abbrev pub IndexesArchives : (List ℕ → Option (List ℕ)) → (List ℕ → Type 0) → Types → List (List ℕ)
+    → Option (List ℕ) → Option (List ℕ) → Type 0 → Outcome → Type 0
+IndexesArchives bytes_of Failed types names before after unchanged outcome =
+    (held : Held) × (added : Outcome)
+    × GoesOver (AddsOne bytes_of Failed) outcomes.Done (nothing_of types) names added held
     × MatchBool (ends_command added) ((outcome ≡ added) × unchanged) (WritesIndex held added before after outcome)

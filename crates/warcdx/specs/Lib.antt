@@ -1,4 +1,5 @@
 pub mod Checks
+pub mod Writes
 pub mod Each
 pub mod Fetching
 pub mod Indexing

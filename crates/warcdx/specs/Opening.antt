@@ -1,25 +1,25 @@
 -- Files that can't be opened, and what a command does with those that can.
-use Rattle.std.specs.Prelude.{◌≡◌, ◌⊎◌, ⊤}
+use Rattle.std.specs.Prelude.{◌≡◌, ◌⊎◌, ⊤, List, ℕ, Any}
 use Rattle.index_core.specs.declared.fault.IndexFault.TheVariants as faults
 use Rattle.query_core.specs.declared.fault.AnswerFault.TheVariants as answers
 use Rattle.warcdx.specs.declared.outcome.Outcome.{Outcome}
 use Rattle.warcdx.specs.declared.outcome.Outcome.TheVariants as outcomes
 
--- a file can't be opened, or memory failed
-abbrev pub IsUnopened : Outcome → Type 0
-IsUnopened (outcomes.Index faults.Memory) = ⊤
-IsUnopened outcomes.CannotOpen = ⊤
-IsUnopened outcome = ⊥
+-- a file isn't opened: its opening failed, as this says, or memory did
+abbrev pub IsUnopened : Type 0 → Outcome → Type 0
+IsUnopened failed (outcomes.Index faults.Memory) = ⊤
+IsUnopened failed outcomes.CannotOpen = failed
+IsUnopened failed outcome = ⊥
 
 -- the same of an index, whose size may not be determined either
-abbrev pub IsUnopenedIndex : Outcome → Type 0
-IsUnopenedIndex (outcomes.Answer (answers.Read index)) = index ≡ 0
-IsUnopenedIndex outcome = IsUnopened outcome
+abbrev pub IsUnopenedIndex : Type 0 → Outcome → Type 0
+IsUnopenedIndex failed (outcomes.Answer (answers.Read index)) = (index ≡ 0) × failed
+IsUnopenedIndex failed outcome = IsUnopened failed outcome
 
--- one of several indexes can't be opened, or memory failed
-abbrev pub AreUnopenedIndexes : Outcome → Type 0
-AreUnopenedIndexes (outcomes.Answer answers.Memory) = ⊤
-AreUnopenedIndexes outcome = IsUnopenedIndex outcome
+-- one of several indexes isn't opened, or memory failed
+abbrev pub AreUnopenedIndexes : (List ℕ → Type 0) → List (List ℕ) → Outcome → Type 0
+AreUnopenedIndexes Failed names (outcomes.Answer answers.Memory) = ⊤
+AreUnopenedIndexes Failed names outcome = IsUnopenedIndex (Any Failed names) outcome
 
 -- files were opened and this was done with them, or they can't be opened and nothing was written
 abbrev pub OpensFirst : Type 0 → Type 0 → Type 0 → Type 0

@@ -14,25 +14,38 @@ use Rattle.warcdx.specs.Queries.{AnswersLines, AnswersPages, AnswersQuery, Reads
 use Rattle.warcdx.specs.Reports.{ReportsOn}
 use Rattle.warcdx.specs.Scanning.{ScansNamed}
 
--- the bytes of the archive and of the index of a name, and those of standard input, as far as they are known; what was
--- written before and after; that the output is unchanged; and the outcome
-module _ (archive_of index_of : List ℕ → Option (List ℕ)) (input before after : Option (List ℕ)) (unchanged : Type 0)
-    (outcome : Outcome) where
+-- What opens files tells: the bytes of the archive and of the index of a name, as far as they are known; that the
+-- opening of one failed; and the bytes of standard input.
+pub record Openings : Type 1 where
+  pub archive_of : List ℕ → Option (List ℕ)
+  pub index_of : List ℕ → Option (List ℕ)
+  pub ArchiveFailed : List ℕ → Type 0
+  pub IndexFailed : List ℕ → Type 0
+  pub input : Option (List ℕ)
+
+-- what was written before and after; that the output is unchanged; and the outcome
+module _ (files : Openings) (before after : Option (List ℕ)) (unchanged : Type 0) (outcome : Outcome) where
+  -- the indexes of these names were opened, and this was done with them
+  abbrev pub OverIndexFiles : List (List ℕ) → Type 0 → Type 0
+  OverIndexFiles names done = OpensFirst (AreUnopenedIndexes files.IndexFailed names outcome) unchanged done
+
   abbrev pub Performs : Meaning → Type 0
-  Performs (ToList names) = ReportsOn archive_of reports.Listing names before after outcome
-  Performs (ToVerify names) = ReportsOn archive_of reports.Verdicts names before after outcome
-  Performs (ToIndex types names) = IndexesArchives archive_of types names before after unchanged outcome
+  Performs (ToList names) = ReportsOn files.archive_of files.ArchiveFailed reports.Listing names before after outcome
+  Performs (ToVerify names) =
+      ReportsOn files.archive_of files.ArchiveFailed reports.Verdicts names before after outcome
+  Performs (ToIndex types names) =
+      IndexesArchives files.archive_of files.ArchiveFailed types names before after unchanged outcome
   Performs (ToMerge names) =
-      OpensFirst (AreUnopenedIndexes outcome) unchanged (MergesIndexes (map index_of names) before after outcome)
-  Performs (ToCheck names) = ChecksIndexes index_of names before after outcome
+      OverIndexFiles names (MergesIndexes (map files.index_of names) before after unchanged outcome)
+  Performs (ToCheck names) = ChecksIndexes files.index_of files.IndexFailed names before after outcome
   Performs (ToQuery text names) = ReadsFirst text outcome unchanged (λ query.
-      OpensFirst (AreUnopenedIndexes outcome) unchanged (AnswersQuery query (map index_of names) before after outcome))
+      OverIndexFiles names (AnswersQuery query (map files.index_of names) before after unchanged outcome))
   Performs (ToPages sizes text names) = ReadsFirst text outcome unchanged (λ query.
-      OpensFirst (AreUnopenedIndexes outcome) unchanged
-      (AnswersPages query sizes (map index_of names) before after outcome))
+      OverIndexFiles names (AnswersPages query sizes (map files.index_of names) before after unchanged outcome))
   Performs (ToServe names) =
-      OpensFirst (AreUnopenedIndexes outcome) unchanged (AnswersLines (map index_of names) input before after outcome)
-  Performs (ToGet offset name) =
-      OpensFirst (IsUnopened outcome) unchanged (WritesRecord offset (archive_of name) outcome before after)
+      OverIndexFiles names (AnswersLines (map files.index_of names) files.input before after unchanged outcome)
+  Performs (ToGet len offset name) =
+      OpensFirst (IsUnopened (files.ArchiveFailed name) outcome) unchanged
+      (WritesRecord len offset (files.archive_of name) before after unchanged outcome)
   Performs (ToScan types sizes text names) =
-      ScansNamed archive_of (includes types) sizes text names before after unchanged outcome
+      ScansNamed files.archive_of files.ArchiveFailed (includes types) sizes text names before after unchanged outcome

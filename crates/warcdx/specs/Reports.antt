@@ -39,14 +39,14 @@ WritesBelow heading report archive outcome before after =
     ⊎ ((outcome ≡ outcomes.Index faults.Write) × AppendsPrefix before after heading)
 
 -- the report on the archive of this name, which is one of so many, was written, unless it couldn't be opened
-abbrev pub ReportsOnOne : (List ℕ → Option (List ℕ)) → ArchiveReport → ℕ → Option (List ℕ) → List ℕ → Outcome
-    → Option (List ℕ) → Type 0
-ReportsOnOne bytes_of report count before name outcome after =
-    OpensFirst (IsUnopened outcome) (after ≡ before)
+abbrev pub ReportsOnOne : (List ℕ → Option (List ℕ)) → (List ℕ → Type 0) → ArchiveReport → ℕ → Option (List ℕ)
+    → List ℕ → Outcome → Option (List ℕ) → Type 0
+ReportsOnOne bytes_of Failed report count before name outcome after =
+    OpensFirst (IsUnopened (Failed name) outcome) (after ≡ before)
     (WritesBelow (heading_among count name) report (bytes_of name) outcome before after)
 
 -- the reports on the archives of these names were written, one after another
-abbrev pub ReportsOn : (List ℕ → Option (List ℕ)) → ArchiveReport → List (List ℕ) → Option (List ℕ) → Option (List ℕ)
-    → Outcome → Type 0
-ReportsOn bytes_of report names before after outcome =
-    GoesOver (ReportsOnOne bytes_of report (length names)) outcomes.Done before names outcome after
+abbrev pub ReportsOn : (List ℕ → Option (List ℕ)) → (List ℕ → Type 0) → ArchiveReport → List (List ℕ)
+    → Option (List ℕ) → Option (List ℕ) → Outcome → Type 0
+ReportsOn bytes_of Failed report names before after outcome =
+    GoesOver (ReportsOnOne bytes_of Failed report (length names)) outcomes.Done before names outcome after

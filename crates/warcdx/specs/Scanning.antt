@@ -1,5 +1,5 @@
 -- The pages of a query over archives that a command writes.
-use Rattle.std.specs.Prelude.{◌≡◌, ℕ, Bool, List, map, Option, Result, Ok, Err, IfOk, IfErr, string_bytes}
+use Rattle.std.specs.Prelude.{◌≡◌, ℕ, Any, Bool, List, map, Option, Result, Ok, Err, IfOk, IfErr, string_bytes}
 use Rattle.warc_core.specs.Kind.{Kind}
 use Rattle.scan_core.specs.declared.fault.ScanFault.{ScanFault}
 use Rattle.scan_core.specs.declared.fault.ScanFault.TheVariants as scans
@@ -46,8 +46,8 @@ pub record ScansArchives (types : Kind → Bool) (names : List (List ℕ)) (inpu
 
 -- the query text was read, the archives of these names were opened, and then they were scanned under their file names;
 -- or nothing was written, as the query is refused or an archive can't be opened
-abbrev pub ScansNamed : (List ℕ → Option (List ℕ)) → (Kind → Bool) → List ℕ → List ℕ → List (List ℕ) → Option (List ℕ)
-    → Option (List ℕ) → Type 0 → Outcome → Type 0
-ScansNamed bytes_of types sizes query names before after unchanged outcome = ReadsFirst query outcome unchanged (λ _.
-    OpensFirst (IsUnopened outcome) unchanged
+abbrev pub ScansNamed : (List ℕ → Option (List ℕ)) → (List ℕ → Type 0) → (Kind → Bool) → List ℕ → List ℕ
+    → List (List ℕ) → Option (List ℕ) → Option (List ℕ) → Type 0 → Outcome → Type 0
+ScansNamed bytes_of Failed types sizes query names before after unchanged outcome = ReadsFirst query outcome unchanged
+    (λ _. OpensFirst (IsUnopened (Any Failed names) outcome) unchanged
     (ScansArchives types (map file_name names) (map bytes_of names) sizes query before after outcome))

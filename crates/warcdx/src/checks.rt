@@ -4,6 +4,7 @@ ghost use Rattle.devices.specs.Device.{CountsFailure};
 ghost use Rattle.devices.specs.Writing.{WritesText};
 ghost use Rattle.command_line.specs.Words.{texts};
 ghost use Rattle.warcdx.specs.Checks.{ChecksIndex, ChecksIndexes, ChecksOne, WritesCount, checked_line, count_text};
+ghost use Rattle.warcdx.specs.Writes.{CountsWrites};
 
 use crate::each::with_each;
 use crate::faults::say_answer_fault;
@@ -23,15 +24,18 @@ pub fn check_all<R: Runtime + AllocGlobal, F: Opener, O: Output>(
     names: &[String],
     out: &mut O,
 ) -> Outcome
-    ensures { ChecksIndexes (F.index_bytes files.now) (texts names.now)
-        (O.written out.old) (O.written out.new) result }
+    ensures checks { ChecksIndexes (F.index_bytes files.now) (F.index_failed files.now)
+        (texts names.now) (O.written out.old) (O.written out.new) result }
+    ensures writes { CountsWrites result (O.failures out.old) (O.failures out.new) }
 {
     with_each(
         names,
         out,
         |out, name|
-            ensures { ChecksOne (F.index_bytes files.entry.now)
+            ensures checks { ChecksOne (F.index_bytes files.entry.now)
+                (F.index_failed files.entry.now)
                 (O.written out.old) name.now result (O.written out.new) }
+            ensures writes { CountsWrites result (O.failures out.old) (O.failures out.new) }
         { check_opened(rt, name, files.open_index(name), out) },
     )
 }
@@ -43,10 +47,13 @@ fn check_opened<R: Runtime + AllocGlobal, S: Source + Drop, O: Output>(
     opened: Result<S, Outcome>,
     out: &mut O,
 ) -> Outcome
-    ensures { MatchResult opened
+    ensures checks { MatchResult opened
         (λ source. ChecksIndex name.now (S.text source) result (O.written out.old)
         (O.written out.new))
         (λ outcome. (result ≡ outcome) × (out.new ≡ out.old)) }
+    ensures writes { MatchResult opened
+        (λ _. CountsWrites result (O.failures out.old) (O.failures out.new))
+        (λ _. out.new ≡ out.old) }
 {
     match opened {
         Ok(mut source) => match check(rt.alloc(), &mut source) {
@@ -61,7 +68,8 @@ fn check_opened<R: Runtime + AllocGlobal, S: Source + Drop, O: Output>(
 }
 
 fn write_count<O: Output>(name: &str, count: u64, out: &mut O) -> Outcome
-    ensures { WritesCount name.now count result (O.written out.old) (O.written out.new) }
+    ensures line { WritesCount name.now count result (O.written out.old) (O.written out.new) }
+    ensures writes { CountsWrites result (O.failures out.old) (O.failures out.new) }
 {
     match put_count(name, count, out) {
         Ok(()) => Outcome::Done,

@@ -3,6 +3,7 @@ ghost use Rattle.std.specs.Prelude.{◌≡◌, map};
 ghost use Rattle.command_line.specs.Words.{texts};
 ghost use Rattle.warcdx.specs.Opening.{OpensFirst, AreUnopenedIndexes};
 ghost use Rattle.warcdx.specs.Queries.{AnswersLines};
+ghost use Rattle.warcdx.specs.Writes.{CountsWrites};
 
 use crate::faults::say_source_fault;
 use crate::opening::{Opener, open_indexes};
@@ -20,9 +21,11 @@ pub fn serve_all<R: Runtime + AllocGlobal, F: Opener, I: Input, O: Output>(
     input: &mut I,
     out: &mut O,
 ) -> Outcome
-    ensures { OpensFirst (AreUnopenedIndexes result) (out.new ≡ out.old)
+    ensures answers { OpensFirst (AreUnopenedIndexes (F.index_failed files.now) (texts names.now) result)
+        (out.new ≡ out.old)
         (AnswersLines (map (F.index_bytes files.now) (texts names.now)) (I.remaining input.old)
-        (O.written out.old) (O.written out.new) result) }
+        (O.written out.old) (O.written out.new) (out.new ≡ out.old) result) }
+    ensures writes { CountsWrites result (O.failures out.old) (O.failures out.new) }
 {
     match open_indexes(rt.alloc(), files, names) {
         Ok(mut indexes) => serve_opened(rt, names, &mut indexes, input, out),
@@ -38,8 +41,9 @@ fn serve_opened<R: Runtime + AllocGlobal, S: Source, I: Input, O: Output>(
     input: &mut I,
     out: &mut O,
 ) -> Outcome
-    ensures { AnswersLines (map S.text sources.old) (I.remaining input.old) (O.written out.old)
-        (O.written out.new) result }
+    ensures answers { AnswersLines (map S.text sources.old) (I.remaining input.old) (O.written out.old)
+        (O.written out.new) (out.new ≡ out.old) result }
+    ensures writes { CountsWrites result (O.failures out.old) (O.failures out.new) }
 {
     match serve(rt.alloc(), sources, input, out) {
         Ok(_count) => Outcome::Done,

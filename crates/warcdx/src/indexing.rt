@@ -1,9 +1,9 @@
 //! The indexing of archives.
 ghost use Rattle.std.specs.Prelude.{◌≡◌, true, false, MatchResult};
-ghost use Rattle.index_core.specs.Counting.{CountsIndexWrite};
 ghost use Rattle.command_line.specs.Words.{texts};
 ghost use Rattle.warcdx.specs.Indexing.{AddsArchive, AddsOne, IndexesArchives, WritesIndex};
-ghost use Rattle.warcdx.specs.Outcome.{answer_of, ends_command};
+ghost use Rattle.warcdx.specs.Outcome.{ends_command};
+ghost use Rattle.warcdx.specs.Writes.{CountsWrites};
 
 use crate::archive_names::file_name;
 use crate::each::with_each;
@@ -25,16 +25,20 @@ pub fn index_all<R: Runtime + AllocGlobal, F: Opener, O: Output>(
     names: &[String],
     out: &mut O,
 ) -> Outcome
-    ensures { IndexesArchives (F.archive_bytes files.now) types (texts names.now)
-        (O.written out.old) (O.written out.new) (out.new ≡ out.old) result }
+    ensures indexes { IndexesArchives (F.archive_bytes files.now) (F.archive_failed files.now)
+        types (texts names.now) (O.written out.old) (O.written out.new) (out.new ≡ out.old)
+        result }
+    ensures writes { CountsWrites result (O.failures out.old) (O.failures out.new) }
 {
     let mut indexer = Indexer::new(rt.alloc(), types);
     let added = with_each(
         names,
         &mut indexer,
         |indexer, name|
-            ensures { AddsOne (F.archive_bytes files.entry.now)
+            ensures adds { AddsOne (F.archive_bytes files.entry.now)
+                (F.archive_failed files.entry.now)
                 indexer.old name.now result indexer.new }
+            ensures unwritten { CountsWrites result 0 0 }
         { add_opened(rt, indexer, name, files.open_archive(name)) },
     );
     write_index(&indexer, added, out)
@@ -47,9 +51,11 @@ fn add_opened<R: Runtime, I: Input + Drop>(
     name: &str,
     opened: Result<I, Outcome>,
 ) -> Outcome
-    ensures { MatchResult opened
+    ensures adds { MatchResult opened
         (λ archive. AddsArchive name.now (I.remaining archive) indexer.old indexer.new result)
         (λ outcome. (result ≡ outcome) × (indexer.new ≡ indexer.old)) }
+    ensures unwritten { MatchResult opened (λ _. CountsWrites result 0 0)
+        (λ outcome. result ≡ outcome) }
 {
     match opened {
         Ok(mut archive) => {
@@ -65,8 +71,8 @@ fn write_index<O: Output>(indexer: &Indexer, added: Outcome, out: &mut O) -> Out
     ensures ended { ends_command added ≡ true → (result ≡ added) × (out.new ≡ out.old) }
     ensures written { ends_command added ≡ false →
         WritesIndex indexer.now added (O.written out.old) (O.written out.new) result }
-    ensures failures { ends_command added ≡ false →
-        CountsIndexWrite (answer_of result) (O.failures out.old) (O.failures out.new) }
+    ensures writes { ends_command added ≡ false →
+        CountsWrites result (O.failures out.old) (O.failures out.new) }
 {
     if ends_command(&added) {
         return added;

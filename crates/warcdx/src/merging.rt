@@ -3,6 +3,7 @@ ghost use Rattle.std.specs.Prelude.{◌≡◌, map};
 ghost use Rattle.command_line.specs.Words.{texts};
 ghost use Rattle.warcdx.specs.Merging.{MergesIndexes};
 ghost use Rattle.warcdx.specs.Opening.{OpensFirst, AreUnopenedIndexes};
+ghost use Rattle.warcdx.specs.Writes.{CountsWrites};
 
 use crate::faults::say_source_fault;
 use crate::opening::{Opener, open_indexes};
@@ -19,9 +20,11 @@ pub fn merge_all<R: Runtime + AllocGlobal, F: Opener, O: Output>(
     names: &[String],
     out: &mut O,
 ) -> Outcome
-    ensures { OpensFirst (AreUnopenedIndexes result) (out.new ≡ out.old)
+    ensures merges { OpensFirst (AreUnopenedIndexes (F.index_failed files.now) (texts names.now) result)
+        (out.new ≡ out.old)
         (MergesIndexes (map (F.index_bytes files.now) (texts names.now))
-        (O.written out.old) (O.written out.new) result) }
+        (O.written out.old) (O.written out.new) (out.new ≡ out.old) result) }
+    ensures writes { CountsWrites result (O.failures out.old) (O.failures out.new) }
 {
     match open_indexes(rt.alloc(), files, names) {
         Ok(mut indexes) => merge_opened(rt, names, &mut indexes, out),
@@ -36,8 +39,9 @@ fn merge_opened<R: Runtime + AllocGlobal, S: Source, O: Output>(
     sources: &mut [S],
     out: &mut O,
 ) -> Outcome
-    ensures { MergesIndexes (map S.text sources.old) (O.written out.old) (O.written out.new)
-        result }
+    ensures merges { MergesIndexes (map S.text sources.old) (O.written out.old) (O.written out.new)
+        (out.new ≡ out.old) result }
+    ensures writes { CountsWrites result (O.failures out.old) (O.failures out.new) }
 {
     match merge(rt.alloc(), sources, out) {
         Ok(_count) => Outcome::Done,

@@ -1,5 +1,5 @@
 //! The opening of archives and indexes by name.
-ghost use Rattle.std.specs.Prelude.{◌≡◌, ℕ, List, Option, None, IfErr, MatchResult, map};
+ghost use Rattle.std.specs.Prelude.{◌≡◌, ℕ, List, Option, None, ⊤, IfErr, MatchResult, map};
 ghost use Rattle.command_line.specs.Words.{texts};
 ghost use Rattle.warcdx.specs.Opening.{IsUnopened, IsUnopenedIndex, AreUnopenedIndexes};
 
@@ -33,25 +33,31 @@ pub trait Opener {
     /// The bytes of standard input, if they are known.
     ghost input_bytes: { Self → Option (List ℕ) };
 
+    /// That the archive of a name couldn't be opened.
+    ghost archive_failed: { Self → List ℕ → Type 0 };
+
+    /// That the index of a name couldn't be opened, or its size couldn't be determined.
+    ghost index_failed: { Self → List ℕ → Type 0 };
+
     /// Opens the archive of this name; `-` is standard input. Reports on standard error that it can't be opened.
     fn open_archive(&self, name: &str) -> Result<Self::Archive, Outcome>
         ensures { MatchResult result
             (λ archive. Self.Archive.remaining archive ≡ archive_bytes self.now name.now)
-            IsUnopened };
+            (IsUnopened (archive_failed self.now name.now)) };
 
     /// Opens the index of this name. Reports on standard error that it can't be opened, or that its size can't be
     /// determined.
     fn open_index(&self, name: &str) -> Result<Self::Index, Outcome>
         ensures { MatchResult result
             (λ index. Self.Index.text index ≡ index_bytes self.now name.now)
-            IsUnopenedIndex };
+            (IsUnopenedIndex (index_failed self.now name.now)) };
 
     /// Returns standard input.
     fn input(&self) -> Self::Lines
         ensures { Self.Lines.remaining result ≡ input_bytes self.now };
 }
 
-/// The files of the system, whose bytes the contracts don't know.
+/// The files of the system. The contracts don't know their bytes, nor what becomes of an opening.
 #[derive(Drop)]
 pub struct System<'a, R> {
     rt: &'a R,
@@ -76,6 +82,10 @@ impl<R: Runtime + AllocGlobal> Opener for System<'_, R> {
     ghost index_bytes = { λ _ _. None };
 
     ghost input_bytes = { λ _. None };
+
+    ghost archive_failed = { λ _ _. ⊤ };
+
+    ghost index_failed = { λ _ _. ⊤ };
 
     fn open_archive(&self, name: &str) -> Result<Self::Archive, Outcome> {
         if name == "-" {
@@ -112,7 +122,7 @@ pub fn open_indexes<F: Opener>(
     ensures { MatchResult result
         (λ indexes.
         map F.Index.text indexes.items ≡ map (F.index_bytes files.now) (texts names.now))
-        AreUnopenedIndexes }
+        (AreUnopenedIndexes (F.index_failed files.now) (texts names.now)) }
 {
     let mut indexes = Vec::new(alloc);
     for name in names {
@@ -125,7 +135,7 @@ pub fn open_indexes<F: Opener>(
 }
 
 fn open_file<R: Runtime + AllocGlobal>(rt: &R, name: &str) -> Result<<R as Files>::File, Outcome>
-    ensures { IfErr result IsUnopened }
+    ensures { IfErr result (IsUnopened ⊤) }
 {
     match File::open(rt, name) {
         Ok(file) => Ok(file),

@@ -5,6 +5,7 @@ ghost use Rattle.command_line.specs.Words.{texts};
 ghost use Rattle.warcdx.specs.Outcome.{IsHelpOutcome};
 ghost use Rattle.warcdx.specs.Performing.{Performs};
 ghost use Rattle.warcdx.specs.Words.{EndsWords};
+ghost use Rattle.warcdx.specs.Writes.{CountsWrites};
 
 use crate::checks::check_all;
 use crate::conversing::serve_all;
@@ -127,9 +128,15 @@ pub fn perform<R: Runtime + AllocGlobal, F: Opener, O: Output>(
     task: &Task,
     out: &mut O,
 ) -> Outcome
-    ensures { Performs
-        (F.archive_bytes files.now) (F.index_bytes files.now) (F.input_bytes files.now)
+    ensures performs { Performs (record {
+      archive_of = F.archive_bytes files.now;
+      index_of = F.index_bytes files.now;
+      ArchiveFailed = F.archive_failed files.now;
+      IndexFailed = F.index_failed files.now;
+      input = F.input_bytes files.now;
+    })
         (O.written out.old) (O.written out.new) (out.new ≡ out.old) result (view task.now) }
+    ensures writes { CountsWrites result (O.failures out.old) (O.failures out.new) }
 {
     match task {
         Task::List { names } => report_on(rt, files, names, ArchiveReport::Listing, out),
@@ -144,7 +151,11 @@ pub fn perform<R: Runtime + AllocGlobal, F: Opener, O: Output>(
             names,
         } => write_pages(rt, files, sizes, query, names, out),
         Task::Serve { names } => serve_all(rt, files, names, &mut files.input(), out),
-        Task::Get { offset, name } => fetch(rt, files, *offset, name, out),
+        Task::Get {
+            length,
+            offset,
+            name,
+        } => fetch(rt, files, *length, *offset, name, out),
         Task::Scan {
             types,
             sizes,

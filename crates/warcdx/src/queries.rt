@@ -3,6 +3,7 @@ ghost use Rattle.std.specs.Prelude.{◌≡◌, map};
 ghost use Rattle.command_line.specs.Words.{texts};
 ghost use Rattle.warcdx.specs.Opening.{OpensFirst, AreUnopenedIndexes};
 ghost use Rattle.warcdx.specs.Queries.{AnswersPages, AnswersQuery, ReadsFirst, ReadsQuery};
+ghost use Rattle.warcdx.specs.Writes.{CountsWrites};
 
 use crate::faults::{say_query_fault, say_source_fault};
 use crate::opening::{Opener, open_indexes};
@@ -19,10 +20,12 @@ pub fn answer_query<R: Runtime + AllocGlobal, F: Opener, O: Output>(
     names: &[String],
     out: &mut O,
 ) -> Outcome
-    ensures { ReadsFirst query.now result (out.new ≡ out.old) (λ query.
-        OpensFirst (AreUnopenedIndexes result) (out.new ≡ out.old)
+    ensures answers { ReadsFirst query.now result (out.new ≡ out.old) (λ query.
+        OpensFirst (AreUnopenedIndexes (F.index_failed files.now) (texts names.now) result)
+        (out.new ≡ out.old)
         (AnswersQuery query (map (F.index_bytes files.now) (texts names.now))
-        (O.written out.old) (O.written out.new) result)) }
+        (O.written out.old) (O.written out.new) (out.new ≡ out.old) result)) }
+    ensures writes { CountsWrites result (O.failures out.old) (O.failures out.new) }
 {
     match read_query(rt, query) {
         Ok(query) => open_and_answer(rt, files, &query, names, out),
@@ -38,9 +41,11 @@ fn open_and_answer<R: Runtime + AllocGlobal, F: Opener, O: Output>(
     names: &[String],
     out: &mut O,
 ) -> Outcome
-    ensures { OpensFirst (AreUnopenedIndexes result) (out.new ≡ out.old)
+    ensures answers { OpensFirst (AreUnopenedIndexes (F.index_failed files.now) (texts names.now) result)
+        (out.new ≡ out.old)
         (AnswersQuery query.now (map (F.index_bytes files.now) (texts names.now))
-        (O.written out.old) (O.written out.new) result) }
+        (O.written out.old) (O.written out.new) (out.new ≡ out.old) result) }
+    ensures writes { CountsWrites result (O.failures out.old) (O.failures out.new) }
 {
     match open_indexes(rt.alloc(), files, names) {
         Ok(mut indexes) => answer_opened(rt, query, names, &mut indexes, out),
@@ -58,10 +63,12 @@ pub fn write_pages<R: Runtime + AllocGlobal, F: Opener, O: Output>(
     names: &[String],
     out: &mut O,
 ) -> Outcome
-    ensures { ReadsFirst query.now result (out.new ≡ out.old) (λ query.
-        OpensFirst (AreUnopenedIndexes result) (out.new ≡ out.old)
+    ensures answers { ReadsFirst query.now result (out.new ≡ out.old) (λ query.
+        OpensFirst (AreUnopenedIndexes (F.index_failed files.now) (texts names.now) result)
+        (out.new ≡ out.old)
         (AnswersPages query sizes.now (map (F.index_bytes files.now) (texts names.now))
-        (O.written out.old) (O.written out.new) result)) }
+        (O.written out.old) (O.written out.new) (out.new ≡ out.old) result)) }
+    ensures writes { CountsWrites result (O.failures out.old) (O.failures out.new) }
 {
     match read_query(rt, query) {
         Ok(query) => open_and_write_pages(rt, files, sizes, &query, names, out),
@@ -78,9 +85,11 @@ fn open_and_write_pages<R: Runtime + AllocGlobal, F: Opener, O: Output>(
     names: &[String],
     out: &mut O,
 ) -> Outcome
-    ensures { OpensFirst (AreUnopenedIndexes result) (out.new ≡ out.old)
+    ensures answers { OpensFirst (AreUnopenedIndexes (F.index_failed files.now) (texts names.now) result)
+        (out.new ≡ out.old)
         (AnswersPages query.now sizes.now (map (F.index_bytes files.now) (texts names.now))
-        (O.written out.old) (O.written out.new) result) }
+        (O.written out.old) (O.written out.new) (out.new ≡ out.old) result) }
+    ensures writes { CountsWrites result (O.failures out.old) (O.failures out.new) }
 {
     match open_indexes(rt.alloc(), files, names) {
         Ok(mut indexes) => pages_opened(rt, sizes, query, names, &mut indexes, out),
@@ -109,8 +118,9 @@ fn answer_opened<R: Runtime + AllocGlobal, S: Source, O: Output>(
     sources: &mut [S],
     out: &mut O,
 ) -> Outcome
-    ensures { AnswersQuery query.now (map S.text sources.old) (O.written out.old)
-        (O.written out.new) result }
+    ensures answers { AnswersQuery query.now (map S.text sources.old) (O.written out.old)
+        (O.written out.new) (out.new ≡ out.old) result }
+    ensures writes { CountsWrites result (O.failures out.old) (O.failures out.new) }
 {
     match answer(rt.alloc(), sources, query, out) {
         Ok(_report) => Outcome::Done,
@@ -130,8 +140,9 @@ fn pages_opened<R: Runtime + AllocGlobal, S: Source, O: Output>(
     sources: &mut [S],
     out: &mut O,
 ) -> Outcome
-    ensures { AnswersPages query.now sizes.now (map S.text sources.old) (O.written out.old)
-        (O.written out.new) result }
+    ensures answers { AnswersPages query.now sizes.now (map S.text sources.old) (O.written out.old)
+        (O.written out.new) (out.new ≡ out.old) result }
+    ensures writes { CountsWrites result (O.failures out.old) (O.failures out.new) }
 {
     match pages(rt.alloc(), sources, query, sizes, out) {
         Ok(_count) => Outcome::Done,

@@ -2,10 +2,11 @@
 ghost use Rattle.std.specs.Prelude.{◌≡◌, MatchResult};
 ghost use Rattle.devices.specs.Device.{CountsFailure};
 ghost use Rattle.devices.specs.Writing.{WritesText};
-ghost use Rattle.index_core.specs.Counting.{CountsIndexWrite, CountsInput};
+ghost use Rattle.index_core.specs.Counting.{CountsInput};
 ghost use Rattle.command_line.specs.Words.{texts};
 ghost use Rattle.warcdx.specs.Outcome.{answer_of};
 ghost use Rattle.warcdx.specs.Reports.{ReportsOn, ReportsOnOne, WritesReport, WritesBelow, heading, heading_among};
+ghost use Rattle.warcdx.specs.Writes.{CountsWrites};
 
 use crate::each::with_each;
 use crate::opening::Opener;
@@ -33,16 +34,19 @@ pub fn report_on<R: Runtime + AllocGlobal, F: Opener, O: Output>(
     report: ArchiveReport,
     out: &mut O,
 ) -> Outcome
-    ensures { ReportsOn (F.archive_bytes files.now) report (texts names.now)
-        (O.written out.old) (O.written out.new) result }
+    ensures report { ReportsOn (F.archive_bytes files.now) (F.archive_failed files.now) report
+        (texts names.now) (O.written out.old) (O.written out.new) result }
+    ensures writes { CountsWrites result (O.failures out.old) (O.failures out.new) }
 {
     let among = names.len();
     with_each(
         names,
         out,
         |out, name|
-            ensures { ReportsOnOne (F.archive_bytes files.entry.now) report among
+            ensures report { ReportsOnOne (F.archive_bytes files.entry.now)
+                (F.archive_failed files.entry.now) report among
                 (O.written out.old) name.now result (O.written out.new) }
+            ensures writes { CountsWrites result (O.failures out.old) (O.failures out.new) }
         {
             report_on_opened(
                 rt.alloc(),
@@ -69,8 +73,8 @@ fn report_on_opened<I: Input + Drop, O: Output>(
         (λ archive. WritesBelow (heading_among among name.now) report (I.remaining archive)
         result (O.written out.old) (O.written out.new))
         (λ outcome. (result ≡ outcome) × (out.new ≡ out.old)) }
-    ensures failures { MatchResult opened
-        (λ _. CountsIndexWrite (answer_of result) (O.failures out.old) (O.failures out.new))
+    ensures writes { MatchResult opened
+        (λ _. CountsWrites result (O.failures out.old) (O.failures out.new))
         (λ _. out.new ≡ out.old) }
 {
     match opened {
@@ -92,7 +96,7 @@ fn report_below<I: Input, O: Output>(
         result (O.written out.old) (O.written out.new) }
     ensures reads { CountsInput (answer_of result) (I.failures archive.old)
         (I.failures archive.new) }
-    ensures writes { CountsIndexWrite (answer_of result) (O.failures out.old) (O.failures out.new) }
+    ensures writes { CountsWrites result (O.failures out.old) (O.failures out.new) }
 {
     match put_heading_among(among, name, out) {
         Ok(()) => write_report(alloc, report, archive, out),
@@ -132,7 +136,7 @@ fn write_report<I: Input, O: Output>(
         (O.written out.new) }
     ensures reads { CountsInput (answer_of result) (I.failures archive.old)
         (I.failures archive.new) }
-    ensures writes { CountsIndexWrite (answer_of result) (O.failures out.old) (O.failures out.new) }
+    ensures writes { CountsWrites result (O.failures out.old) (O.failures out.new) }
 {
     match report {
         ArchiveReport::Listing => outcome_of(list(alloc, archive, out)),

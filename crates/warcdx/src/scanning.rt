@@ -1,10 +1,11 @@
 //! Queries over archives.
-ghost use Rattle.std.specs.Prelude.{◌≡◌, ◌∷◌, ◌++◌, [], IfOk, MatchResult, map};
+ghost use Rattle.std.specs.Prelude.{◌≡◌, Any, ◌∷◌, ◌++◌, [], IfOk, MatchResult, map};
 ghost use Rattle.capture_core.specs.Types.{includes};
 ghost use Rattle.command_line.specs.Words.{texts};
 ghost use Rattle.warcdx.specs.Indexing.{file_name};
 ghost use Rattle.warcdx.specs.Opening.{IsUnopened, OpensFirst};
 ghost use Rattle.warcdx.specs.Scanning.{AreOpened, ScansArchives, ScansNamed, archive_names, inputs, scan_outcome};
+ghost use Rattle.warcdx.specs.Writes.{CountsWrites};
 
 use crate::archive_names::file_name;
 use crate::faults::say_scan_fault;
@@ -29,9 +30,10 @@ pub fn scan_all<R: Runtime + AllocGlobal, F: Opener, O: Output>(
     names: &[String],
     out: &mut O,
 ) -> Outcome
-    ensures { ScansNamed (F.archive_bytes files.now) (includes types)
-        sizes.now query.now (texts names.now)
+    ensures scans { ScansNamed (F.archive_bytes files.now) (F.archive_failed files.now)
+        (includes types) sizes.now query.now (texts names.now)
         (O.written out.old) (O.written out.new) (out.new ≡ out.old) result }
+    ensures writes { CountsWrites result (O.failures out.old) (O.failures out.new) }
 {
     match read_query(rt, query) {
         Ok(_query) => open_and_scan(rt, files, types, sizes, query, names, out),
@@ -49,10 +51,13 @@ fn open_and_scan<R: Runtime + AllocGlobal, F: Opener, O: Output>(
     names: &[String],
     out: &mut O,
 ) -> Outcome
-    ensures { OpensFirst (IsUnopened result) (out.new ≡ out.old)
+    ensures scans { OpensFirst
+        (IsUnopened (Any (F.archive_failed files.now) (texts names.now)) result)
+        (out.new ≡ out.old)
         (ScansArchives (includes types) (map file_name (texts names.now))
         (map (F.archive_bytes files.now) (texts names.now)) sizes.now query.now
         (O.written out.old) (O.written out.new) result) }
+    ensures writes { CountsWrites result (O.failures out.old) (O.failures out.new) }
 {
     match open_archives(rt.alloc(), files, names) {
         Ok(mut archives) => scan_opened(rt, types, sizes, query, names, &mut archives, out),
@@ -70,7 +75,7 @@ fn open_archives<F: Opener>(
     ensures { MatchResult result
         (λ archives. AreOpened F.Archive.remaining (F.archive_bytes files.now)
         (texts names.now) archives.items)
-        IsUnopened }
+        (IsUnopened (Any (F.archive_failed files.now) (texts names.now))) }
 {
     let mut archives = Vec::new(alloc);
     for name in names {
@@ -108,9 +113,10 @@ fn scan_opened<R: Runtime + AllocGlobal, I: Input, O: Output>(
     archives: &mut [Named<I>],
     out: &mut O,
 ) -> Outcome
-    ensures { ScansArchives (includes types) (archive_names archives.old)
+    ensures scans { ScansArchives (includes types) (archive_names archives.old)
         (map (λ a. I.remaining a.input) archives.old) sizes.now query.now (O.written out.old)
         (O.written out.new) result }
+    ensures writes { CountsWrites result (O.failures out.old) (O.failures out.new) }
 {
     let answer = scan(rt.alloc(), archives, types, sizes, query, out);
     if let Err(fault) = answer {

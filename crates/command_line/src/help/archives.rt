@@ -137,13 +137,18 @@ Writes the record that begins at OFFSET as it is stored, from its version line
 through the two line breaks after its block. An index contains the offset of
 each record, and 'warcdx list' prints it.
 
-The archive is read from its start. If no record begins at OFFSET, nothing is
-written, and this is reported on standard error:
+The archive is read from its start. With --length, nothing before OFFSET is
+read, and the record is written only if it has LENGTH bytes. An index contains
+this length too. Over an archive that isn't damaged, both forms write the same.
+
+If no record begins at OFFSET, or none of LENGTH bytes, nothing is written, and
+this is reported on standard error:
 
   warcdx: NAME: NoRecord
 
 If the archive is damaged at OFFSET or before it, this is reported, with the
-offset of the record at fault. 'warcdx list --help' has the causes:
+offset of the record at fault. With --length, damage before OFFSET isn't
+noticed. 'warcdx list --help' has the causes:
 
   warcdx: NAME: fault OFFSET CAUSE
 
@@ -153,6 +158,7 @@ Otherwise nothing is written.
 Examples:
   warcdx get 0 crawl.warc
   warcdx get 4096 crawl.warc > record.warc
+  warcdx get --length 1042 4096 crawl.warc
   gunzip -c crawl.warc.gz | warcdx get 4096 -
 
 Exit status:

@@ -4,12 +4,13 @@ use Rattle.command_line.specs.Words.{texts}
 use Rattle.warcdx.specs.Scanning.{ScansNamed}
 use Rattle.warcdx.proofs.program.perform.Goals as goal
 
-pub returns-in-Scan : goal.returns-in-Scan
-returns-in-Scan g c =
+pub returns-in-Scan-clause-performs : goal.returns-in-Scan-clause-performs
+returns-in-Scan-clause-performs g c =
     let task = c.in-Scan in
     let old = c.args.out.now in
     let new = c.scan_all.new.out in
-    let scans = ScansNamed (g.F.Opener.archive_bytes c.args.files.now) (includes task.types) in
+    let scans = ScansNamed (g.F.Opener.archive_bytes c.args.files.now)
+    (g.F.Opener.archive_failed c.args.files.now) (includes task.types) in
     let ends : List ℕ → List ℕ → List (String Global)
     → Type 0 = λ sizes query names. scans sizes query (texts names) (g.O.Output.written old)
     (g.O.Output.written new) (new ≡ old) c.scan_all.result in
@@ -17,4 +18,4 @@ returns-in-Scan g c =
     (subst (λ sizes. ends sizes (string_bytes task.query) task.names.items) c.deref-in-Scan.ensures.value
     (subst (λ query. ends c.deref-in-Scan.result.now query task.names.items) c.deref-in-Scan-2.ensures
     (subst (λ names. ends c.deref-in-Scan.result.now c.deref-in-Scan-2.result.now names) c.deref-in-Scan-3.ensures.value
-    c.scan_all.ensures)))
+    c.scan_all.ensures.scans)))

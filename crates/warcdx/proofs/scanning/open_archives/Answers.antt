@@ -1,7 +1,16 @@
-use Rattle.std.proofs.Common.{sym, ◌∙◌, ap, string_bytes}
+use Rattle.std.proofs.Common.{arith, sym, ◌∙◌, ap, string_bytes}
 use Rattle.warcdx.specs.Indexing.{file_name}
+use Rattle.std.proofs.lemmas.Result.{err_from_is_err_and}
+use Rattle.warcdx.proofs.FailedNames.{unopened_archive}
 use Rattle.warcdx.proofs.NamedLemmas.{map-more, of_ok, opened-more}
 use Rattle.warcdx.proofs.scanning.open_archives.Goals as goal
+
+pub returns-in_err-input : goal.returns-in_err-input
+returns-in_err-input g c =
+    let failed = unopened_archive (g.F.Opener.archive_failed c.args.files.now) c.args.names.now c.loop-name.name-index
+    c.name-item.result c.deref.result.now c.loop-name-test.true (sym c.name-item.is) c.deref.ensures
+    c.in_err-input.field-0.0 c.in_err-input.ensures in
+    grind (arith, err_from_is_err_and)
 
 pub loop-name-preserved : goal.loop-name-preserved
 loop-name-preserved g c =
