@@ -8,29 +8,43 @@ body is what follows the HTTP head in the block, and chunks, gzip and deflate ar
 other record, the body is the block.
 
 Stands on the Python package of this repository. Record and body are held in memory. The exit status
-is 0; 1 if the record or a coding can't be read, and then nothing is written; or 2 after a usage error.
+is 0; 1 if the record or a coding can't be read, and then nothing is written; 2 after a usage error; or
+3 if reading, writing or memory failed.
 """
-import argparse
-import pathlib
 import sys
+
+if not (sys.flags.isolated or getattr(sys.flags, "safe_path", False)):
+    del sys.path[0]  # the folder of this script, which has no modules
+
+import signal
+
+if signal.getsignal(signal.SIGINT) is signal.default_int_handler:
+    signal.signal(signal.SIGINT, signal.SIG_DFL)
+
+import pathlib
+from typing import BinaryIO
 
 sys.path.insert(0, str(pathlib.Path(__file__).resolve().parents[1] / "python"))
 
-from warcdx import Unreadable, payload
+try:
+    from warcdx import Unreadable, command, payload
+except (ImportError, MemoryError) as error:
+    print("body.py:", str(error) or "Memory", file=sys.stderr)
+    sys.exit(3)
+
+NAME = "body.py"
 
 
-def main() -> int:
-    parser = argparse.ArgumentParser(usage=argparse.SUPPRESS, description=__doc__)
-    parser.formatter_class = argparse.RawDescriptionHelpFormatter
-    parser.parse_args()
+def work(output: BinaryIO) -> int:
+    command.Parser(NAME, __doc__).parse()
     try:
         body = payload(sys.stdin.buffer.read())
     except Unreadable as fault:
-        print(f"body.py: {fault}", file=sys.stderr)
+        command.report(NAME, str(fault))
         return 1
-    sys.stdout.buffer.write(body)
+    output.write(body)
     return 0
 
 
 if __name__ == "__main__":
-    sys.exit(main())
+    sys.exit(command.run(NAME, work))

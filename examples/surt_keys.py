@@ -7,16 +7,35 @@ If the `url` of a line begins with http:// or https://, the key is replaced by s
 other bytes of the line, and all other lines, are written as they are. The new keys may have another
 order, so the output has to be sorted.
 
-Needs the package surt. The exit status is 0; 1 if a line isn't that of a capture; 2 after a usage
-error; or 77 if the package is missing.
+Needs the package surt, and the Python package of this repository. The exit status is 0; 1 if a line
+isn't that of a capture; 2 after a usage error; 3 if reading, writing or memory failed; or 77 if the
+package surt is missing.
 """
-import argparse
-import json
-import re
 import sys
-from collections.abc import Callable
-from typing import Optional
 
+if not (sys.flags.isolated or getattr(sys.flags, "safe_path", False)):
+    del sys.path[0]  # the folder of this script, which has no modules
+
+import signal
+
+if signal.getsignal(signal.SIGINT) is signal.default_int_handler:
+    signal.signal(signal.SIGINT, signal.SIG_DFL)
+
+import json
+import pathlib
+import re
+from collections.abc import Callable
+from typing import BinaryIO, Optional
+
+sys.path.insert(0, str(pathlib.Path(__file__).resolve().parents[1] / "python"))
+
+try:
+    from warcdx import command
+except (ImportError, MemoryError) as error:
+    print("surt_keys.py:", str(error) or "Memory", file=sys.stderr)
+    sys.exit(3)
+
+NAME = "surt_keys.py"
 MISSING = 77
 NOT_IN_A_KEY = re.compile(r"[\x00-\x20\x7f]")
 WEB = ("http://", "https://")
@@ -40,22 +59,20 @@ def find_surt() -> Optional[Callable[[str], str]]:
     return surt
 
 
-def main() -> int:
-    parser = argparse.ArgumentParser(usage=argparse.SUPPRESS, description=__doc__)
-    parser.formatter_class = argparse.RawDescriptionHelpFormatter
-    parser.parse_args()
+def work(output: BinaryIO) -> int:
+    command.Parser(NAME, __doc__).parse()
     key_of = find_surt()
     if key_of is None:
-        print("surt_keys.py: Python's package surt is missing", file=sys.stderr)
+        command.report(NAME, "Python's package surt is missing")
         return MISSING
     for number, line in enumerate(sys.stdin.buffer, 1):
         try:
-            sys.stdout.buffer.write(with_key(line, key_of))
-        except (AttributeError, ValueError) as fault:
-            print(f"surt_keys.py: line {number}: {fault}", file=sys.stderr)
+            output.write(with_key(line, key_of))
+        except (AttributeError, RecursionError, ValueError) as fault:
+            command.report(NAME, f"line {number}: {command.printable(str(fault))}")
             return 1
     return 0
 
 
 if __name__ == "__main__":
-    sys.exit(main())
+    sys.exit(command.run(NAME, work))

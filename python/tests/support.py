@@ -1,12 +1,15 @@
 """What the tests share. They run the program that the variable WARCDX names, or else `warcdx` of the PATH."""
 import os
 import pathlib
+import signal
 import tempfile
 import unittest
 from collections.abc import Callable
 from typing import Any
 
 from warcdx import Index
+
+signal.signal(signal.SIGINT, signal.default_int_handler)  # a job in the background ignores it, and so would its commands
 
 PROGRAM = os.environ.get("WARCDX", "warcdx")
 SAMPLES = pathlib.Path(__file__).resolve().parents[2] / "samples"

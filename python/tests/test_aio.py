@@ -7,7 +7,7 @@ import subprocess
 import tempfile
 import time
 import unittest
-from typing import Any
+from typing import Any, Optional
 
 from warcdx import ProgramEnded, ProgramMissing, faults, refusals
 from warcdx.aio import AsyncIndex
@@ -20,6 +20,18 @@ WAITS = f'[ "$1" = serve ] || exec "{PROGRAM}" "$@"\nread query\necho "["\nexec 
 
 def processes_of(index: AsyncIndex) -> list[int]:
     return [serve._process.pid for serve in index._idle if serve._process is not None]
+
+
+class Counted(AsyncIndex):
+    """An index that is asked at most 100 queries."""
+
+    asked = 0
+
+    async def _text(self, line: str, is_json: bool, most: Optional[int]) -> bytes:
+        self.asked += 1
+        if self.asked > 100:
+            raise AssertionError("more than 100 queries were asked")
+        return await super()._text(line, is_json, most)
 
 
 class Queries(unittest.IsolatedAsyncioTestCase):
@@ -151,6 +163,15 @@ class Queries(unittest.IsolatedAsyncioTestCase):
         self.put(text)
         index = self.open(self.folder / "index", most=20_000)
         for output in ("text", "json", "cdxj"):
+            query = f"{ALL}&output={output}"
+            self.assertEqual(self.page(query), await self.joined(index, query))
+
+    async def test_pieces_end_over_keys_that_fit_no_query(self) -> None:
+        text = "".join(LINE % (f"{number:04}" + "x" * 66_000, "a", 1, number) for number in range(20))
+        index = Counted([self.put(text)], program=PROGRAM, most=200_000)
+        self.addAsyncCleanup(index.close)
+        for output in ("text", "json", "cdxj"):
+            index.asked = 0
             query = f"{ALL}&output={output}"
             self.assertEqual(self.page(query), await self.joined(index, query))
 

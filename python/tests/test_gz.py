@@ -8,6 +8,7 @@ import random
 import subprocess
 import sys
 import unittest
+import unittest.mock
 from collections.abc import Sequence
 
 from warcdx import Archive, Fault, ProgramEnded, faults
@@ -21,6 +22,12 @@ SAMPLE = SAMPLES / "wget.warc"
 RECORD = (
     b"WARC/1.0\r\nWARC-Type: resource\r\nWARC-Record-ID: <urn:x>\r\nWARC-Date: 2016-01-01T00:00:00Z\r\n"
     b"WARC-Target-URI: http://example.com/%d\r\nContent-Type: text/plain\r\nContent-Length: %d\r\n\r\n%s\r\n\r\n"
+)
+
+# A process of its own, because a process that is started has at least the peak memory of the one that starts it.
+MEASURE = (
+    "import resource, subprocess, sys; subprocess.run(sys.argv[1:], stdout=-3, stderr=-3); "
+    "print(resource.getrusage(resource.RUSAGE_CHILDREN).ru_maxrss)"
 )
 
 
@@ -104,7 +111,8 @@ class Good(Gz):
     def test_members_without_bytes_are_passed_over(self) -> None:
         members = packed(resource(1), resource(2))
         empty = packed(b"")[0]
-        for texts in ([empty], [empty, empty], [empty, members[0]], [members[0], empty], [members[0], empty, members[1], empty]):
+        one, two = members
+        for texts in ([empty], [empty, empty], [empty, one], [one, empty], [one, empty, two, empty]):
             archive = self.archive(texts)
             wanted, at = [], 0
             for text in texts:
@@ -116,7 +124,8 @@ class Good(Gz):
 
     def test_many_small_members_and_a_large_one(self) -> None:
         block = random.Random(1).randbytes(3_000_000)
-        members = packed(*(resource(number) for number in range(5000)), resource(5000, block), resource(5001, bytes(1 << 25)))
+        large = (resource(5000, block), resource(5001, bytes(1 << 25)))
+        members = packed(*map(resource, range(5000)), *large)
         self.expect(members, len(members), "")
         self.assertEqual(block, self.archive(members).get(sum(map(len, members[:5000]))).block)
 
@@ -125,6 +134,11 @@ class Good(Gz):
         with gzip.GzipFile("a name", "wb", 9, output, 1) as file:
             file.write(resource(1))
         self.expect([output.getvalue(), *packed(resource(2))], 2, "")
+
+
+@unittest.mock.patch("warcdx.members.library", lambda: None)
+class GoodByZlib(Good):
+    pass
 
 
 class Bad(Gz):
@@ -213,7 +227,13 @@ class Bad(Gz):
         for command in ("list", "index"):
             text = f'[ "$1" = {command} ] || exec "{PROGRAM}" "$@"\nread line; kill -9 $$'
             archive = CompressedArchive(self.folder / "a.warc.gz", program=self.script(text))
-            self.assertEqual(-9, self.raises(ProgramEnded, archive.index, io.BytesIO()).status)
+            read = {"list": lambda: list(archive.list()), "index": lambda: archive.index(io.BytesIO())}[command]
+            self.assertEqual(-9, self.raises(ProgramEnded, read).status)
+
+
+@unittest.mock.patch("warcdx.members.library", lambda: None)
+class BadByZlib(Bad):
+    pass
 
 
 class Commands(Gz):
@@ -222,6 +242,9 @@ class Commands(Gz):
         done = subprocess.run(command, stdout=subprocess.PIPE, stderr=subprocess.PIPE, cwd=self.folder)
         return done.returncode, done.stdout, done.stderr.decode()
 
+    def merged(self, *indexes: str) -> bytes:
+        return subprocess.run((PROGRAM, "merge", *indexes), cwd=self.folder, stdout=subprocess.PIPE, check=True).stdout
+
     def test_several_archives_have_one_index(self) -> None:
         for name in ("a", "b"):
             self.archive(packed(*self.records()), f"{name}.warc.gz")
@@ -229,25 +252,64 @@ class Commands(Gz):
         parts = [self.run_command("index", name)[1] for name in names]
         for number, part in enumerate(parts):
             (self.folder / f"{number}.cdxj").write_bytes(part)
-        merged = subprocess.run((PROGRAM, "merge", "0.cdxj", "1.cdxj"), cwd=self.folder, stdout=subprocess.PIPE, check=True)
-        self.assertEqual((0, merged.stdout, ""), self.run_command("index", *names))
-        self.assertEqual(66, merged.stdout.count(b"\n"))
+        merged = self.merged("0.cdxj", "1.cdxj")
+        self.assertEqual((0, merged, ""), self.run_command("index", *names))
+        self.assertEqual(66, merged.count(b"\n"))
         status, found, said = self.run_command("index", "a.warc.gz", "nosuch", "./a.warc.gz", "b.warc.gz")
         wanted = "warcdx-gz: nosuch: cannot open\nwarcdx-gz: ./a.warc.gz: DuplicateName\n"
-        self.assertEqual((3, merged.stdout, wanted), (status, found, said))
+        self.assertEqual((3, merged, wanted), (status, found, said))
         self.assertEqual(1, self.run_command("index", "--types", "metadata", "a.warc.gz")[1].count(b"\n"))
 
     def test_reports_have_the_lines_of_the_program(self) -> None:
         one, two = packed(resource(1), resource(2))
         self.archive([one, two[:-1]])
         at = len(one)
-        self.assertEqual((1, b"0 %d resource\nfault %d CutMember\n" % (at, at), ""), self.run_command("list", "a.warc.gz"))
+        lines = b"0 %d resource\nfault %d CutMember\n" % (at, at)
+        self.assertEqual((1, lines, ""), self.run_command("list", "a.warc.gz"))
         status, found, said = self.run_command("verify", "a.warc.gz", "nosuch", "a.warc.gz")
         text = b"a.warc.gz:\n0 absent\nfault %d CutMember\n" % at
         self.assertEqual((3, text + text, "warcdx-gz: nosuch: cannot open\n"), (status, found, said))
-        self.assertEqual((1, f"warcdx-gz: a.warc.gz: fault {at} CutMember\n"), self.run_command("index", "a.warc.gz")[::2])
+        said = f"warcdx-gz: a.warc.gz: fault {at} CutMember\n"
+        self.assertEqual((1, said), self.run_command("index", "a.warc.gz")[::2])
         self.assertEqual((0, resource(1), ""), self.run_command("get", 0, "a.warc.gz"))
         self.assertEqual((1, b"", "warcdx-gz: a.warc.gz: NoRecord\n"), self.run_command("get", 1, "a.warc.gz"))
+
+    def test_a_plain_archive_is_read_as_by_the_program(self) -> None:
+        for name, sample in (("a.warc.gz", "wget.warc"), ("b", "damaged.warc")):
+            (self.folder / name).write_bytes((SAMPLES / sample).read_bytes())
+        self.put("", "c")
+        self.archive(packed(*self.records()), "d.warc")
+        for words in (
+            ("index", "a.warc.gz"),
+            ("index", "b"),
+            ("index", "--types", "metadata", "a.warc.gz"),
+            ("index", "a.warc.gz", "b", "c", "nosuch", "./a.warc.gz"),
+            ("list", "a.warc.gz"),
+            ("list", "b", "nosuch", "c", "a.warc.gz"),
+            ("verify", "a.warc.gz", "b"),
+            ("get", "11387", "a.warc.gz"),
+            ("get", "11388", "a.warc.gz"),
+            ("get", "448", "b"),
+        ):
+            done = subprocess.run((PROGRAM, *words), cwd=self.folder, stdout=subprocess.PIPE, stderr=subprocess.PIPE)
+            said = done.stderr.decode().replace("warcdx: ", "warcdx-gz: ")
+            self.assertEqual((done.returncode, done.stdout, said), self.run_command(*words), words)
+        for number, name in enumerate(("a.warc.gz", "b", "d.warc")):
+            (self.folder / f"{number}.cdxj").write_bytes(self.run_command("index", name)[1])
+        merged = self.merged("0.cdxj", "1.cdxj", "2.cdxj")
+        said = "warcdx-gz: b: fault 448 ShortBlock\n"
+        self.assertEqual((1, merged, said), self.run_command("index", "a.warc.gz", "b", "d.warc"))
+
+    def test_a_pipe_is_read_as_a_compressed_archive(self) -> None:
+        path = self.archive(packed(resource(1), resource(2))).path
+        plain = (1, b"fault 0 NotCompressed\n", "")
+        for text, wanted in ((f"cat {path}", self.run_command("list", path)), (f"cat {SAMPLE}", plain)):
+            command = (sys.executable, COMMAND, "--warcdx", PROGRAM, "list", "pipe")
+            os.mkfifo(self.folder / "pipe")
+            with subprocess.Popen(f"{text} > pipe 2> /dev/null", shell=True, cwd=self.folder):
+                done = subprocess.run(command, cwd=self.folder, stdout=subprocess.PIPE, stderr=subprocess.PIPE)
+            self.assertEqual(wanted, (done.returncode, done.stdout, done.stderr.decode()))
+            (self.folder / "pipe").unlink()
 
     def test_usage_errors(self) -> None:
         for arguments in ((), ("index",), ("get", "x", "a"), ("get", "0"), ("get", 1 << 63, "a"), ("nosuch", "a")):
@@ -262,23 +324,27 @@ class Commands(Gz):
             with open("/dev/full", "wb") as full:
                 done = subprocess.run(arguments, stdout=full, stderr=subprocess.PIPE, cwd=self.folder)
             self.assertEqual((3, b"warcdx-gz: Write: No space left on device\n"), (done.returncode, done.stderr))
-            with subprocess.Popen(arguments, stdout=subprocess.PIPE, stderr=subprocess.PIPE, cwd=self.folder) as process:
+            pipes = {"stdout": subprocess.PIPE, "stderr": subprocess.PIPE}
+            with subprocess.Popen(arguments, **pipes, cwd=self.folder) as process:
                 assert process.stdout is not None and process.stderr is not None
                 process.stdout.close()
                 self.assertEqual(b"warcdx-gz: Write: Broken pipe\n", process.stderr.read())
             self.assertEqual(3, process.returncode)
 
+    def memory_of(self, command: str) -> int:
+        """Returns the peak memory of the command on an archive, or of the program, whichever is more, in kB."""
+        words = (sys.executable, str(COMMAND), "--warcdx", PROGRAM, command, str(self.folder / "a.warc.gz"))
+        done = subprocess.run((sys.executable, "-c", MEASURE, *words), stdout=subprocess.PIPE, check=True)
+        return int(done.stdout)
+
     def test_memory_is_bounded(self) -> None:
-        """A member of 200 MB, which is packed into 200 kB, and 50,000 small ones."""
+        """A member of 200 MB, which is packed into 200 kB, and 50,000 small ones. Then a million of one byte."""
         self.archive([*packed(resource(0, bytes(200_000_000))), *packed(*map(resource, range(50_000)))])
-        pid = os.fork()
-        if not pid:
-            with open(os.devnull, "wb") as null:
-                os.dup2(null.fileno(), 1)
-            os.execv(sys.executable, [sys.executable, str(COMMAND), "--warcdx", PROGRAM, "index", str(self.folder / "a.warc.gz")])
-        _, status, usage = os.wait4(pid, 0)
-        self.assertEqual(0, status)
-        self.assertLess(usage.ru_maxrss, 50_000)  # kB
+        self.assertLess(self.memory_of("index"), 40_000)
+        self.assertLess(self.memory_of("list"), 30_000)
+        self.archive(packed(b"W") * 1_000_000)
+        for command in ("index", "list", "verify"):
+            self.assertLess(self.memory_of(command), 30_000)
 
 
 if __name__ == "__main__":

@@ -6,7 +6,7 @@ import resource
 import subprocess
 import unittest
 
-from warcdx import Capture, faults, refusals
+from warcdx import Capture, Refused, faults, refusals
 
 from .support import ALL, LINE, PROGRAM, SAMPLES, Case, lines
 
@@ -137,6 +137,33 @@ class Faults(Case):
             self.assertEqual(2, index.count(ALL))
         self.assertEqual(set(REFUSED), set(refusals.BY_NAME))
 
+    def test_a_refusal_names_the_first_parameter_that_is_refused(self) -> None:
+        index = self.open(self.put(lines(2)))
+        for query, wanted in (
+            ("url=a&page=0&size=1", "page"), ("url=a&%70age=0", "page"), ("a%0A&url=a", "a\n"), ("URL=a", "URL"),
+            ("=", ""),
+            ("url=a&from=1&url=b&from=2", "url"), ("filter=urlkey:a&filter=urlkey:b&url=a&to=1&from=2&to=3", "to"),
+            ("limit=5&limit=0&url=a", "limit"), ("url=a&to=2016&from=2o16", "from"), ("url=a&to=2o16&from=x", "to"),
+            ("url=a&from=", "from"), ("url=a&is=urlkey:a&has=status:5&isnot=x", "has"),
+            ("url=a&filter=urlkey", "filter"), ("url=a&filter=!!urlkey:a", "filter"),
+            ("url=a&isnot=!urlkey:a", "isnot"), ("url=a&filter=urlkey:a&filter=urlkey:.", "filter"),
+            ("url=a&matchType=all", "matchType"), ("url=a&limit=x", "limit"), ("url=a&resumeKey=x", "resumeKey"),
+            ("url=a&collapse=digest", "collapse"), ("url=*", "url"), ("", None), ("url=a&key=a", None), ("url=\udcff", None),
+            ("url=" + "a" * 65_536, None),
+        ):  # fmt: skip
+            for call in (index.page, index.text, index.count):
+                with self.assertRaises(Refused) as caught:
+                    call(query)
+                self.assertEqual(wanted, caught.exception.parameter, query)
+        for query, kind, wanted in (
+            ("url=a&fl=url", refusals.BadField, "fl"),
+            ("url=a&output=xml", refusals.BadOutput, "output"),
+            ("url=a&showResumeKey=1", refusals.BadFlag, "showResumeKey"),
+        ):
+            self.assertEqual(wanted, self.raises(kind, index.text, query).parameter)
+        refusal = self.raises(refusals.BadStamp, index.page, url="a", from_="x")
+        self.assertEqual(("from", "the query is refused: BadStamp in 'from'"), (refusal.parameter, str(refusal)))
+
     def test_a_line_that_is_no_text_is_named(self) -> None:
         good = lines(1).encode()
         path = self.folder / "bad"
@@ -154,9 +181,13 @@ class Faults(Case):
         self.assertEqual(len(LINE % ("b", "b", 1, 0)), self.raises(faults.OutOfOrder, self.open(path).count, ALL).offset)
 
     def test_an_index_that_can_not_be_opened_is_named(self) -> None:
-        index = self.open(self.folder / "nosuch")
+        path = self.put(lines(1))
+        found = self.raises(faults.CannotOpen, self.open, path, self.folder / "nosuch")
+        self.assertEqual(str(self.folder / "nosuch"), found.file)
+        index = self.open(path)
+        path.unlink()
         for _ in range(2):
-            self.assertEqual(str(self.folder / "nosuch"), self.raises(faults.CannotOpen, index.count, ALL).file)
+            self.assertEqual(str(path), self.raises(faults.CannotOpen, index.count, ALL).file)
 
     def test_an_index_that_is_cut_can_not_be_read(self) -> None:
         path = self.put(lines(1000))

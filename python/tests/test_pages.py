@@ -6,6 +6,8 @@ import shutil
 import subprocess
 import unittest
 
+import warcdx
+
 from .support import PROGRAM, SAMPLES, Case
 
 PYTHON = pathlib.Path(__file__).resolve().parents[1]
@@ -31,6 +33,7 @@ class Pages(Case):
     def test_licence_and_version_are_those_of_the_repository(self) -> None:
         for name in ("LICENSE", "VERSION"):
             self.assertEqual((PYTHON.parent / name).read_bytes(), (PYTHON / name).read_bytes(), name)
+        self.assertEqual((PYTHON / "VERSION").read_text().strip(), warcdx.__version__)
 
 
 if __name__ == "__main__":

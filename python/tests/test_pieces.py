@@ -2,13 +2,15 @@
 import subprocess
 import unittest
 from typing import Optional
+from unittest import mock
 
-from warcdx import Index, refusals
+from warcdx import Index, faults, refusals
 from warcdx.pieces import Pieces
 
 from .support import ALL, LINE, PROGRAM, Case, lines
 
 OUTPUTS = ("text", "json", "cdxj")
+MOST_ASKED = 150
 KEY = "com%2Cexample%29%2F0000450+20160101000000+a.warc+450"
 
 
@@ -20,6 +22,21 @@ def in_pieces(index: Index, query: str, size: int) -> bytes:
             found += piece
             pieces._size = size
     return found
+
+
+def in_short_pieces(index: Index, query: str, most: int) -> bytes:
+    """Returns the pieces of a page joined, of whose replies those of more bytes are refused if they may be."""
+    pieces, found = Pieces(query), b""
+    for _ in range(MOST_ASKED):
+        asked = pieces.next_query()
+        if asked is None:
+            return found
+        page = index.text(asked)
+        if pieces.is_bounded and len(page) > most:
+            pieces.shrink()
+        else:
+            found += pieces.add(page)
+    raise AssertionError(f"more than {MOST_ASKED} queries were asked")
 
 
 class PiecesOfPages(Case):
@@ -95,6 +112,39 @@ class PiecesOfPages(Case):
             query = f"{ALL}&output={output}&fl=offset"
             for size in (1, 3, 4, 5):
                 self.assertEqual(self.page(query), in_pieces(index, query, size))
+
+    def test_the_pieces_end_whatever_is_too_long(self) -> None:
+        """A piece whose reply is too long is made shorter, and one whose resume key is too long is made longer."""
+        for long in (range(20), range(3, 9), range(12, 20), range(0, 20, 2), range(0, 20, 7)):
+            names = [f"{number:04}" + "x" * (66_000 if number in long else 1) for number in range(20)]
+            index = self.open(self.put("".join(LINE % (name, "a", 1, number) for number, name in enumerate(names))))
+            for output in OUTPUTS:
+                for fields in ("urlkey", "offset"):
+                    query = f"{ALL}&output={output}&fl={fields}"
+                    for most in (500, 100_000, 300_000):
+                        with self.subTest(long=long, query=query, most=most):
+                            self.assertEqual(self.page(query), in_short_pieces(index, query, most))
+
+    def test_what_no_limit_reaches_is_asked_without_one(self) -> None:
+        names = [f"{number:04}" + "x" * (66_000 if number > 2 else 1) for number in range(30)]
+        index = self.open(self.put("".join(LINE % (name, "a", 1, number) for number, name in enumerate(names))))
+        with mock.patch.multiple("warcdx.pieces", MOST_LIMIT=8, REST=9):
+            for output in OUTPUTS:
+                query = f"{ALL}&output={output}&fl=offset"
+                self.assertEqual(self.page(query), in_short_pieces(index, query, 1 << 20))
+
+    def test_of_an_index_out_of_order_captures_may_be_missing(self) -> None:
+        """The index is searched anew for each piece, and the search may end behind the fault. One query finds it."""
+        text = lines(500).splitlines(keepends=True)
+        moved = text[124:245]
+        del text[124:245]
+        text[206:206] = moved
+        index = self.open(self.put("".join(text)))
+        query = f"{ALL}&fl=offset"
+        self.raises(faults.OutOfOrder, index.text, query)
+        offsets = list(map(int, b"".join(index.pieces(query)).split()))
+        self.assertEqual(sorted(set(offsets)), offsets)
+        self.assertLess(len(offsets), 500)
 
     def test_pieces_grow_to_some_hundred_kilobytes(self) -> None:
         index = self.open(self.put(lines(20_000)))

@@ -1,9 +1,11 @@
 """Queries over the indexes of web archives, and their records, by the program `warcdx`."""
 from . import faults, refusals
 from .archive import Archive, Listed, Verified
+from .collection import Collection
 from .errors import (
     Error,
     Fault,
+    NoArchive,
     ProgramEnded,
     ProgramError,
     ProgramMissing,
@@ -12,18 +14,24 @@ from .errors import (
     ReplyTooLate,
     ReplyTooLong,
 )
+from .gz import CompressedArchive, open_archive
 from .index import Index
 from .query import FIELDS, Capture, Page
 from .record import Record, Unreadable, payload
+
+__version__ = "0.1.0"
 
 __all__ = [
     "FIELDS",
     "Archive",
     "Capture",
+    "Collection",
+    "CompressedArchive",
     "Error",
     "Fault",
     "Index",
     "Listed",
+    "NoArchive",
     "Page",
     "ProgramEnded",
     "ProgramError",
@@ -36,6 +44,7 @@ __all__ = [
     "Unreadable",
     "Verified",
     "faults",
+    "open_archive",
     "payload",
     "refusals",
 ]

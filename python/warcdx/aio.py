@@ -160,7 +160,8 @@ class AsyncIndex:
     It is created while its event loop runs. `processes` is how many queries are answered at a time,
     each by a run of `warcdx serve` at this niceness. If a reply takes more than `seconds`, its
     program is ended and ReplyTooLate is raised; None is no bound. `most` is how many bytes a reply
-    may have; the pieces of a page are made shorter to have no more, except one of a single capture.
+    may have. The pieces of a page are made shorter to have no more, except those that can't be: one
+    of a single capture, and one in which no capture but the last has a key that fits a query.
     """
 
     def __init__(
@@ -209,13 +210,12 @@ class AsyncIndex:
 
     async def piece(self, pieces: Pieces) -> bytes:
         """Returns the next piece, which may be empty."""
-        most = self._most
         while (asked := pieces.next_query()) is not None:
+            most = self._most if pieces.is_bounded else None
             try:
                 return pieces.add(await self._text(asked, pieces.is_json, most))
             except ReplyTooLong:
-                if not pieces.shrink():
-                    most = None  # a single capture
+                pieces.shrink()
         return b""
 
     async def page(

@@ -4,14 +4,17 @@ import re
 import subprocess
 from collections.abc import Iterator
 from dataclasses import dataclass
+from typing import Optional
 
-from .errors import fault
+from .errors import ProgramError, fault
 from .program import Path, find_program, operand, running
 from .record import Record, RecordStream, Unreadable
 
 FAULTY = 1  # the exit status after a fault that is on the output, and after a digest that differs
 _VERDICT = re.compile("0 ([a-z0-9-]+)\n")
-_FAULT = re.compile("fault ([0-9]+) ([A-Za-z0-9]+)")
+_LISTED = re.compile(b"([0-9]+) ([0-9]+) ([a-z]+)\n")
+_VERIFIED = re.compile(b"([0-9]+) ([a-z0-9-]+)\n")
+_FAULT = re.compile(b"fault ([0-9]+) ([A-Za-z0-9]+)\n")
 
 
 @dataclass(frozen=True)
@@ -44,33 +47,33 @@ class Archive:
 
     def list(self) -> Iterator[Listed]:
         """Yields each record."""
-        for line in self._lines("list"):
-            offset, length, kind = line.split(" ")
-            yield Listed(int(offset), int(length), kind)
+        for found in self._lines("list", _LISTED):
+            yield Listed(int(found[1]), int(found[2]), found[3])
 
     def verify(self) -> Iterator[Verified]:
         """Yields each record, with the verdict on the digest of its block."""
-        for line in self._lines("verify"):
-            offset, verdict = line.split(" ")
-            yield Verified(int(offset), verdict)
+        for found in self._lines("verify", _VERIFIED):
+            yield Verified(int(found[1]), found[2])
 
-    def get(self, offset: int) -> Record:
+    def get(self, offset: int, *, length: Optional[int] = None) -> Record:
         """Returns the record that begins at an offset, in bytes from the start of the archive.
 
-        Raises `faults.NoRecord` if none does. The record is held in memory.
+        The program reads the archive from its start to the end of the record. If the `length` of the record is
+        given, in bytes as an index has it, nothing before the record is read. Raises `faults.NoRecord` if no record,
+        or one of another length, begins at the offset, or else the archive's fault. The record is held in memory.
         """
-        with running(self._program, "get", str(offset), self.path) as output:
-            record = output.read()
+        with self.stream(offset, length=length) as stream:
+            record = b"".join(stream.whole())
         return Record.read(record)
 
     @contextlib.contextmanager
-    def stream(self, offset: int) -> Iterator[RecordStream]:
-        """Opens the record that begins at an offset. It needn't be read to its end, and none of it is held.
+    def stream(self, offset: int, *, length: Optional[int] = None) -> Iterator[RecordStream]:
+        """Opens the record that begins at an offset, as `get` does, to be read in pieces.
 
-        Raises `faults.NoRecord` if no record begins there. If the record is read to its end, and the archive
-        is damaged in it, the fault is raised at the end.
+        It needn't be read to its end. If it is, and the archive is damaged in it, the fault is raised at the end.
         """
-        with running(self._program, "get", str(offset), self.path) as output:
+        only = () if length is None else ("--length", str(length))
+        with running(self._program, "get", *only, str(offset), self.path) as output:
             record = RecordStream.read(output)
             if record is not None:
                 yield record
@@ -87,14 +90,13 @@ class Archive:
             raise Unreadable("the program has given no verdict")
         return found[1]
 
-    def _lines(self, command: str) -> Iterator[str]:
-        found = None
+    def _lines(self, command: str, pattern: "re.Pattern[bytes]") -> Iterator[tuple[str, ...]]:
+        """Yields each line of a report with its groups."""
         with running(self._program, command, self.path, good=(0, FAULTY)) as output:
             for line in output:
-                text = line.decode()
-                found = _FAULT.fullmatch(text.rstrip("\n"))
-                if found or not text.endswith("\n"):  # the program was ended in the middle of a line
-                    break
-                yield text.rstrip("\n")
-            if found:
-                raise fault(found[2], self.path, int(found[1]))
+                if found := pattern.fullmatch(line):
+                    yield found[0].decode(), *(group.decode() for group in found.groups())
+                elif found := _FAULT.fullmatch(line):
+                    raise fault(found[2].decode(), self.path, int(found[1]))
+                elif line.endswith(b"\n"):  # otherwise the program was ended in it
+                    raise ProgramError(f"warcdx {command} has written {line!r:.100}")

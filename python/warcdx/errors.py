@@ -44,15 +44,31 @@ class ReplyTooLong(ProgramError):
     """The program was ended because its reply has too many bytes."""
 
 
-class Refused(Error):
-    """A query is refused. The classes of the module `refusals` are named as the program names the causes."""
+class NoArchive(Error):
+    """No archive of a collection has this `name`."""
 
     def __init__(self, name: str) -> None:
         super().__init__(name)
         self.name = name
 
     def __str__(self) -> str:
-        return f"the query is refused: {self.name}"
+        return f"the collection has no archive {self.name!r}"
+
+
+class Refused(Error):
+    """A query is refused. The classes of the module `refusals` are named as the program names the causes.
+
+    `parameter` is the name of the parameter that is refused. It is None if the cause isn't that of one parameter:
+    QueryTooLong, NotText, NoUrl and UrlAndKey.
+    """
+
+    def __init__(self, name: str, parameter: Optional[str] = None) -> None:
+        super().__init__(name, parameter)
+        self.name = name
+        self.parameter = parameter
+
+    def __str__(self) -> str:
+        return f"the query is refused: {self.name}" + (f" in {self.parameter!r}" if self.parameter is not None else "")
 
 
 class Fault(Error):
@@ -85,11 +101,11 @@ _ALONE = re.compile(r"warcdx: ([A-Za-z0-9]+|cannot flush)\n?")
 _NAMES = {"cannot open": "CannotOpen", "cannot flush": "CannotFlush"}
 
 
-def refused(name: str) -> Refused:
+def refused(name: str, parameter: Optional[str] = None) -> Refused:
     """Returns the refusal of this name."""
     from . import refusals
 
-    return refusals.BY_NAME.get(name, Refused)(name)
+    return refusals.BY_NAME.get(name, Refused)(name, parameter)
 
 
 def fault(

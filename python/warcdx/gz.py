@@ -4,30 +4,30 @@ The program reads the unpacked members from its standard input. The offsets and 
 replaced by those of the members in the compressed file. A file of another form is refused, with the
 offset of the member at which it is; what is before it is kept.
 """
-import array
-import bisect
+import collections
 import contextlib
-import json
 import os
-import re
+import shutil
+import stat
 import subprocess
+import sys
 import tempfile
 from collections.abc import Iterator
-from typing import IO, Optional, Union
+from typing import IO, NoReturn, Optional, Union
 
 from .archive import Archive, Listed, Verified
+from .command import temporary_file
 from .errors import Fault, error_of, fault
-from .faults import BadName, CannotOpen, NoMember, NoRecord, NotCompressed, SeveralMembers, SeveralRecords
-from .members import MAGIC, Member, Unpacker, close
-from .program import Path, end_of, find_program, start
-from .record import Record, RecordStream, Unreadable
+from .faults import BadName, CannotOpen, Closing, NoMember, NoRecord, NotCompressed, Read
+from .faults import SeveralMembers, SeveralRecords, ShortBlock, ShortHead
+from .feeding import BATCH, Run, fed
+from .members import MAGIC, MOST_TEXT, Member, Members, Piece
+from .places import Places
+from .program import Path, close, find_program, started
+from .record import Record, RecordStream, Unreadable, size_of_record
 
 MOST_NAME = 255  # bytes
 GOOD = (0, 1)  # the exit statuses of the program if its output is complete
-_FAULT = re.compile(rb"fault ([0-9]+) ([A-Za-z0-9]+)\n")
-# How each line ends that `warcdx index -` writes.
-_TAIL_BEGINS = b', "length": "'
-_TAIL = re.compile(rb', "length": "[0-9]+", "offset": "([0-9]+)", "filename": "-"}\n')
 
 
 class CompressedArchive:
@@ -43,15 +43,13 @@ class CompressedArchive:
 
     def list(self) -> Iterator[Listed]:
         """Yields each record, with the length of its member."""
-        with self._reading("list") as reading:
-            for member, said in reading.records():
-                yield Listed(member.packed_start, member.packed_end - member.packed_start, said.split()[1].decode())
+        for member, said in self._records("list"):
+            yield Listed(member.packed_start, member.packed_end - member.packed_start, said.split()[1].decode())
 
     def verify(self) -> Iterator[Verified]:
         """Yields each record, with the verdict on the digest of its block."""
-        with self._reading("verify") as reading:
-            for member, said in reading.records():
-                yield Verified(member.packed_start, said.decode().rstrip("\n"))
+        for member, said in self._records("verify"):
+            yield Verified(member.packed_start, said.decode().rstrip("\n"))
 
     def index(self, output: IO[bytes], *, name: Optional[str] = None, types: Optional[str] = None) -> None:
         """Writes an index of the captures, with this file name, or that of the archive.
@@ -62,148 +60,231 @@ class CompressedArchive:
         if not 1 <= len(shown.encode(errors="surrogateescape")) <= MOST_NAME:
             raise BadName("BadName", self.path)
         command = (self._program, "index", *(("--types", types) if types else ()), "-")
-        with tempfile.TemporaryFile() as lines, tempfile.TemporaryFile() as said:
-            places, found = Places(), None
-            process = subprocess.Popen(command, stdin=subprocess.PIPE, stdout=lines, stderr=said)
-            try:
-                with self._reading("list", process.stdin) as reading:
-                    for member, _ in reading.records():
-                        places.add(member)
-            except Fault as error:
-                found = error
-            finally:
-                if process.stdin is not None:
-                    close(process.stdin)
+        places, found = Places(), None
+        with self.open() as file, temporary_file() as lines, temporary_file() as said:
+            with started(command, said, subprocess.PIPE, lines, BATCH) as process:
+                assert process.stdin is not None
+                try:
+                    self._index_members(file, process.stdin, places)
+                except Fault as error:
+                    found = error
+                close(process.stdin)
                 status = process.wait()
             said.seek(0)
             reported = error_of(status, said.read().decode(errors="surrogateescape")) if status else None
-            if reported is not None and not isinstance(reported, Fault):
+            if reported is not None and not (isinstance(reported, Fault) and reported.offset is not None):
                 raise reported
             lines.seek(0)
             places.write(lines, output, shown)
-        if reported is not None and reported.offset is None:
-            raise reported
-        if reported is not None and (place := places.find(reported.offset or 0)) is not None:
+        if isinstance(reported, Fault) and (place := places.find(reported.offset or 0)) is not None:
             raise fault(reported.name, self.path, place[0])
         if found is not None:
             raise found
+        if reported is not None:
+            raise Unreadable(f"{self.path}: {reported.name}, at no member that the package has read")
 
-    def get(self, offset: int) -> Record:
-        """Returns the record of the member that begins at an offset of the compressed file."""
+    def get(self, offset: int, *, length: Optional[int] = None) -> Record:
+        """Returns the record of the member that begins at an offset of the compressed file. Raises as `copy` does."""
         with tempfile.SpooledTemporaryFile(1 << 24) as record:
-            self.copy(offset, record)
+            self.copy(offset, record, length=length)
             record.seek(0)
             return Record.read(record.read())
 
-    def copy(self, offset: int, output: IO[bytes]) -> None:
+    def copy(self, offset: int, output: IO[bytes], *, length: Optional[int] = None) -> None:
         """Writes the record of the member that begins at an offset, after it was read once to be checked.
 
-        Raises NoRecord if no member begins there. Only that member is read.
+        Raises NoRecord if no member begins there, or after it one of another length than that which is given, in
+        bytes of the compressed file. Only that member is read.
         """
-        self._only("list", offset)
         with self.open() as file:
-            file.seek(offset)
-            unpacker = Unpacker(file, self.path, [], 1)
-            output.writelines(unpacker.pieces())
+            self._only("list", file, offset)
+            members = Members(file, self.path, offset)
+            output.writelines(members.one(offset))
+            self._check_length(members, length)
 
     def verdict(self, offset: int) -> str:
         """Returns the verdict of `verify` on the record of the member that begins at an offset."""
-        return self._only("verify", offset).decode().rstrip("\n")
+        with self.open() as file:
+            return self._only("verify", file, offset).decode().rstrip("\n")
 
     @contextlib.contextmanager
-    def stream(self, offset: int) -> Iterator[RecordStream]:
+    def stream(self, offset: int, *, length: Optional[int] = None) -> Iterator[RecordStream]:
         """Opens the record of the member that begins at an offset, as `Archive.stream` does.
 
-        What follows the record in its member isn't noticed.
+        What follows the record in its member isn't noticed. If the record is read to its end, and the member has another
+        length than that which is given, raises NoRecord.
         """
-        with self._running(("get", "0", "-"), at=offset, most=1) as (process, said, unpacker):
-            assert process.stdout is not None
-            record = RecordStream.read(process.stdout)
-            if record is not None:
-                yield record
-            if not process.stdout.read(1):
-                process.wait()
-                unpacker.join()
-                self._check_end(unpacker.fault, process, said, offset)
+        with self.open() as file:
+            members = Members(file, self.path, offset)
+            with fed((self._program, "get", "0", "-"), members.one(offset)) as run:
+                record = RecordStream.read(run.output)
+                if record is not None:
+                    yield record
+                if not run.output.read(1):
+                    self._check_end(run, members, offset)
+                    self._check_length(members, length)
         if record is None:
             raise Unreadable("the program has written no record")
 
-    def _check_end(
-        self, found: Optional[Fault], process: subprocess.Popen[bytes], said: IO[bytes], offset: int
-    ) -> None:
-        """Raises why the program has written a part of the record at an offset, or none of it."""
-        if isinstance(found, (NoMember, NotCompressed)):
+    def _check_length(self, members: Members, length: Optional[int]) -> None:
+        """Raises NoRecord if the member that was read to its end hasn't this length."""
+        member = members.member
+        if length is not None and members.is_whole and member.packed_end - member.packed_start != length:
             raise NoRecord("NoRecord", self.path)
-        if found is not None:
-            raise found
-        if process.returncode:
-            error = end_of(process, said)
+
+    def _check_end(self, run: Run, members: Members, offset: int) -> None:
+        """Raises why the program has written a part of the record at an offset, or none of it."""
+        status = run.status()
+        if isinstance(run.fault, (NoMember, NotCompressed)) or members.packed_start != offset:
+            raise NoRecord("NoRecord", self.path)
+        if run.fault is not None:
+            raise run.fault
+        if status:
+            error = run.error()
             if isinstance(error, Fault):
                 raise fault(error.name, self.path, None if error.offset is None else offset)
             raise error
 
-    def _only(self, command: str, offset: int) -> bytes:
-        """Returns what a command prints of the record of the member at an offset. Raises NoRecord."""
-        try:
-            with self._reading(command, at=offset, most=1) as reading:
-                found = [said for _, said in reading.records()]
-        except (NoMember, NotCompressed):
-            found = []
-        if not found:
-            raise NoRecord("NoRecord", self.path)
-        return found[0]
-
     def open(self) -> IO[bytes]:
-        """Opens the compressed file."""
+        """Opens the compressed file, unbuffered. What can't be set back, such as a pipe, is copied first."""
         try:
-            return open(self.path, "rb")
+            file = open(self.path, "rb", buffering=0)
         except OSError as error:
             raise CannotOpen("CannotOpen", self.path) from error
-
-    @contextlib.contextmanager
-    def _reading(
-        self, command: str, also: Optional[IO[bytes]] = None, at: int = 0, most: Optional[int] = None
-    ) -> Iterator["Reading"]:
-        """Reads the records of an archive by a command. What is unpacked is written to another input too."""
-        with self._running((command, "-"), also, at, most) as (process, said, unpacker):
-            yield Reading(self.path, process, said, unpacker)
-
-    @contextlib.contextmanager
-    def _running(
-        self, words: tuple[str, ...], also: Optional[IO[bytes]] = None, at: int = 0, most: Optional[int] = None
-    ) -> Iterator[tuple[subprocess.Popen[bytes], IO[bytes], Unpacker]]:
-        """Runs the program on a number of unpacked members, from one on. Ends the program at the end."""
-        with self.open() as file, tempfile.TemporaryFile() as said:
-            file.seek(at)
-            process = start((self._program, *words), said, subprocess.PIPE)
-            assert process.stdin is not None and process.stdout is not None
-            inputs = [process.stdin] if also is None else [process.stdin, also]
-            unpacker = Unpacker(file, self.path, inputs, most)
-            unpacker.start()
+        if file.seekable():
+            return file
+        with file:
+            copy = tempfile.TemporaryFile(buffering=0)
             try:
-                with process.stdout:
-                    yield process, said, unpacker
-            finally:
-                process.kill()
-                process.wait()
-                unpacker.abandon()
+                shutil.copyfileobj(file, copy)
+                copy.seek(0)
+            except BaseException:
+                copy.close()
+                raise
+            return copy
+
+    @contextlib.contextmanager
+    def _reading(self, command: str, also: Optional[IO[bytes]] = None) -> Iterator["Reading"]:
+        """Reads the records of the archive by a command. What is unpacked goes to another pipe too, which is closed."""
+        try:
+            with self.open() as file:
+                source = _Source(Members(file, self.path), also)
+                with fed((self._program, command, "-"), source.pieces()) as run:
+                    yield Reading(self, file, source, run)
+        finally:
+            if also is not None:
+                close(also)
+
+    def _records(self, command: str) -> Iterator[tuple[Member, bytes]]:
+        with self._reading(command) as reading:
+            yield from reading.records()
+
+    def _index_members(self, file: IO[bytes], output: IO[bytes], places: Places) -> None:
+        """Writes what the members hold, and adds those that are one whole record each.
+
+        Raises a Fault at another one.
+        """
+        members, is_read, add = Members(file, self.path), True, places.add
+        for piece in members:
+            size = size_of_record(piece)
+            try:
+                output.write(piece)
+                if not members.is_whole:
+                    output.writelines(members.rest())
+            except BrokenPipeError:  # the program has ended at a fault, here or before
+                is_read = False
+                collections.deque(members.rest(), 0)
+            if members.size - members.start != size:
+                self.refuse(file, members.packed_start)
+            add(members.start, members.packed_start, members.position - members.packed_start)
+            if not is_read:
+                return
+
+    def _only(self, command: str, file: IO[bytes], offset: int) -> bytes:
+        """Returns what a command prints of the record of the member at an offset. Raises NoRecord."""
+        try:
+            return self._one(command, file, offset)
+        except (NoMember, NotCompressed):
+            raise NoRecord("NoRecord", self.path) from None
+
+    def _one(self, command: str, file: IO[bytes], offset: int) -> bytes:
+        """Returns what a command prints of the one record of the member at an offset.
+
+        Raises why the member isn't one whole record.
+        """
+        members = Members(file, self.path, offset)
+        with fed((self._program, command, "-"), members.one(offset)) as run:
+            first, second = run.line(), run.line()
+            if first is None:
+                if run.fault is None and run.status() in GOOD:
+                    raise NoRecord("NoRecord", self.path)
+                raise run.fault or run.error()
+            if first.is_fault:
+                run.skip(sys.maxsize)
+                raise run.fault or fault(first.said.decode(), self.path, offset)
+            if second is not None:  # so much of what follows the record is read as a damage may be in
+                run.skip(MOST_TEXT)
+                raise run.fault or SeveralRecords("SeveralRecords", self.path, offset)
+            if run.status() not in GOOD:
+                raise run.error()
+            if run.fault is not None:
+                raise run.fault
+        return first.said
+
+    def refuse(self, file: IO[bytes], offset: int) -> NoReturn:
+        """Raises why the member at an offset isn't one whole record."""
+        with contextlib.suppress(ShortHead, ShortBlock, Closing):
+            self._one("list", file, offset)
+            raise Unreadable(f"the member at {offset} is one record whose head the package can't read")
+        with fed((self._program, "list", "-"), Members(file, self.path, offset).all()) as run:
+            first = run.line()
+            if first is None:
+                raise run.error()
+            if first.is_fault:
+                raise fault(first.said.decode(), self.path, offset)
+        raise SeveralMembers("SeveralMembers", self.path, offset)
 
 
-def open_archive(path: Path, *, program: str = "warcdx") -> Union[Archive, CompressedArchive]:
-    """Returns an archive, which is compressed if its first bytes are those of gzip. Raises CannotOpen."""
-    with CompressedArchive(path, program=program).open() as file:
-        is_compressed = file.read(len(MAGIC)) == MAGIC
-    return CompressedArchive(path, program=program) if is_compressed else Archive(path, program=program)
+class _Source:
+    """The members of an archive that are one whole record each, up to the first one that isn't seen to be that."""
+
+    def __init__(self, members: Members, also: Optional[IO[bytes]]) -> None:
+        self.members = members
+        self.whole: collections.deque[Member] = collections.deque()  # those of which no line was read
+        self.is_done = False  # whether these are all members
+        self._also = also
+
+    def pieces(self) -> Iterator[Piece]:
+        """Yields what these members hold. A short one is checked before it is yielded, a long one meanwhile."""
+        for piece in self.members:
+            size = size_of_record(piece)
+            if self.members.is_whole and len(piece) != size:
+                return
+            yield self._copied(piece)
+            for piece in self.members.rest():
+                yield self._copied(piece)
+            if self.members.size - self.members.start != size:
+                return
+            self.whole.append(self.members.member)
+        self.is_done = True
+
+    def _copied(self, piece: Piece) -> Piece:
+        if self._also is not None:
+            try:
+                self._also.write(piece)
+            except BrokenPipeError:
+                self._also = None
+        return piece
 
 
 class Reading:
-    """A run of the program on the unpacked members of an archive."""
+    """A run of the program on the members of an archive."""
 
-    def __init__(self, path: str, process: subprocess.Popen[bytes], said: IO[bytes], unpacker: Unpacker) -> None:
-        self._path = path
-        self._process = process
-        self._said = said
-        self._unpacker = unpacker
+    def __init__(self, archive: CompressedArchive, file: IO[bytes], source: _Source, run: Run) -> None:
+        self._archive = archive
+        self._file = file
+        self._source = source
+        self._run = run
 
     def records(self) -> Iterator[tuple[Member, bytes]]:
         """Yields the member of each record, and what the program has printed after the record's offset.
@@ -211,77 +292,50 @@ class Reading:
         After them raises the first fault, if there is one.
         """
         last: Optional[bytes] = None
-        reported = None
-        assert self._process.stdout is not None
-        for line in self._process.stdout:
-            start, _, said = line.partition(b" ")
-            if start == b"fault" or not line.endswith(b"\n"):
-                reported = _FAULT.fullmatch(line)
-                break
+        while (line := self._run.line()) is not None and not line.is_fault:
+            # The program has read another record, so the member of this one was read to its end.
             if last is not None:
-                yield self._member_to(int(start)), last
-            last = said
-        if not reported and self._process.wait() not in GOOD:
-            raise end_of(self._process, self._said)
-        self._unpacker.stop()
-        self._unpacker.join()
+                yield self._next_member(), last
+            last = line.said
+        if line is None and self._run.status() not in GOOD:
+            raise self._run.error()
         if last is not None:
-            yield self._member_to(int(reported[1]) if reported else self._unpacker.size), last
-        if reported:
-            raise self._fault_of(int(reported[1]), reported[2].decode())
-        if self._unpacker.fault is not None:
-            raise self._unpacker.fault
+            yield self._next_member(), last
+        if line is not None:
+            raise fault(line.said.decode(), self._archive.path, self._next_member().packed_start)
+        if self._run.fault is not None:
+            raise self._run.fault
+        if not self._source.is_done:
+            self._refuse()
 
-    def _member_to(self, end: int) -> Member:
-        """Returns the next member, of a record that ends here in the unpacked stream.
+    def _next_member(self) -> Member:
+        if not self._source.whole:
+            self._refuse()
+        return self._source.whole.popleft()
 
-        Another record has been read after it, or the reading has ended. So a member that isn't whole yet
-        holds more than the record, or it is at fault.
-        """
-        place = self._unpacker.last[1]
+    def _refuse(self) -> NoReturn:
+        """Raises why the member that is being read isn't one whole record."""
+        self._archive.refuse(self._file, self._source.members.packed_start)
+
+
+def open_archive(path: Path, *, program: str = "warcdx") -> Union[Archive, CompressedArchive]:
+    """Returns an archive, which is compressed if its first bytes are those of gzip. Raises CannotOpen.
+
+    A named pipe can be read only once, and is taken for a compressed archive.
+    """
+    archive = CompressedArchive(path, program=program)
+    if stat.S_ISFIFO(_mode_of(archive.path)):
+        return archive
+    with archive.open() as file:
         try:
-            member = self._unpacker.members.popleft()
-        except IndexError:
-            raise self._unpacker.fault or SeveralRecords("SeveralRecords", self._path, place) from None
-        if end < member.end:
-            raise SeveralRecords("SeveralRecords", self._path, member.packed_start)
-        if end > member.end:
-            raise SeveralMembers("SeveralMembers", self._path, member.packed_start)
-        return member
-
-    def _fault_of(self, start: int, name: str) -> Fault:
-        """Returns the fault of the record that begins here in the unpacked stream, or of its member."""
-        members, (last_start, place) = self._unpacker.members, self._unpacker.last
-        if self._unpacker.fault is not None and last_start <= start:
-            return self._unpacker.fault
-        return fault(name, self._path, members[0].packed_start if members else place)
+            first = file.read(len(MAGIC))
+        except OSError:
+            raise Read("Read", archive.path) from None
+    return archive if first and MAGIC.startswith(first) else Archive(path, program=program)
 
 
-class Places:
-    """Where the records of an archive begin in the unpacked stream, and where their members are."""
-
-    def __init__(self) -> None:
-        self._starts, self._offsets, self._lengths = array.array("Q"), array.array("Q"), array.array("Q")
-
-    def add(self, member: Member) -> None:
-        self._starts.append(member.start)
-        self._offsets.append(member.packed_start)
-        self._lengths.append(member.packed_end - member.packed_start)
-
-    def find(self, start: int) -> Optional[tuple[int, int]]:
-        """Returns the offset and the length of the member of the record that begins here, or None."""
-        at = bisect.bisect_left(self._starts, start)
-        if at == len(self._starts) or self._starts[at] != start:
-            return None
-        return self._offsets[at], self._lengths[at]
-
-    def write(self, lines: IO[bytes], output: IO[bytes], name: str) -> None:
-        """Writes the lines of the records that are here, with their offsets and lengths and this file name."""
-        tail = b', "length": "%d", "offset": "%d", "filename": ' + json.dumps(name, ensure_ascii=False).encode() + b"}\n"
-        for line in lines:
-            at = line.rindex(_TAIL_BEGINS)
-            found = _TAIL.fullmatch(line, at)
-            assert found is not None
-            place = self.find(int(found[1]))
-            if place is not None:
-                output.write(line[:at] + tail % (place[1], place[0]))
+def _mode_of(path: str) -> int:
+    try:
+        return os.stat(path).st_mode
+    except (OSError, ValueError) as error:
+        raise CannotOpen("CannotOpen", path) from error

@@ -2,16 +2,20 @@
 import contextlib
 import os
 import queue
-from collections.abc import Iterator, Sequence
+from collections.abc import Callable, Iterator, Sequence
 from types import TracebackType
-from typing import Optional, Union
+from typing import Any, Optional, Union
 
+from .errors import Refused, refused
+from .faults import CannotOpen
+from .parameters import parameter_of
 from .pieces import Pieces
 from .program import Path, find_program, operand
-from .query import FIELDS, Capture, Page, Query, Value, one_line, rows_query, split_rows
+from .query import FIELDS, Capture, Page, Query, Value, length_of, one_line, rows_query, split_rows
 from .serve import Serve
 
 PAGE_SIZE = 5000  # captures that an iterator holds at a time
+_VALUES: dict[str, Callable[[str], object]] = {"length": length_of, "offset": int}
 
 
 class Index:
@@ -25,9 +29,10 @@ class Index:
             for capture in index.captures(url="*.example.com", from_=2016, filter=["statuscode:200"]):
                 print(capture.timestamp, capture.original)
 
-    A query that the program refuses raises the class of `warcdx.refusals` that is named as the program
-    names the cause, an index that is at fault one of `warcdx.faults`, and a program that has ended
-    ProgramEnded. After each of these the next query is answered as usual.
+    The constructor raises `faults.CannotOpen` if an index can't be opened. A query that the program refuses
+    raises the class of `warcdx.refusals` that is named as the program names the cause, an index that is at
+    fault one of `warcdx.faults`, and a program that has ended ProgramEnded. After each of these the next query
+    is answered as usual.
 
     Threads may share an Index. `processes` is how many queries are answered at a time. A process is
     started when it is first needed. Other processes need an Index of their own.
@@ -44,6 +49,8 @@ class Index:
             raise ValueError("no index is given")
         names = tuple(operand(path) for path in paths)
         found = find_program(program)
+        for name in names:
+            _check_that_it_opens(name)
         self._processes = processes
         self._is_closed = False
         # The last one that was used is used next, so that no more are started than are needed.
@@ -79,6 +86,21 @@ class Index:
             if key is not None:
                 asked = asked.take("resumeKey")[1].with_parameters(resumeKey=key)
 
+    def columns(
+        self, fields: Sequence[str], query: Optional[str] = None, *, page_size: int = PAGE_SIZE, **parameters: Value
+    ) -> dict[str, list[Any]]:
+        """Returns a list for each of these fields: its values of all captures that a query selects, up to its `limit`.
+
+        The lists have the order of the captures, and values as those of a Capture. All of them are held in memory.
+        """
+        columns: dict[str, list[Any]] = {field: [] for field in fields}
+        for row in self.rows(tuple(columns), query, page_size=page_size, **parameters):
+            for column, value in zip(columns.values(), row):
+                column.append(value)
+        for field in columns.keys() & _VALUES.keys():
+            columns[field] = list(map(_VALUES[field], columns[field]))
+        return columns
+
     def page(self, query: Optional[str] = None, **parameters: Value) -> Page:
         """Returns one page: the captures that a query selects, and the resume key of the next page.
 
@@ -95,8 +117,9 @@ class Index:
     def text(self, query: str) -> bytes:
         """Returns a page as `warcdx query` writes it."""
         line = one_line(query)
-        is_json = Query.of(line, {}).has("output", "json")
-        with self._serve() as serve:
+        asked = Query.of(line, {})
+        is_json = asked.has("output", "json")
+        with _naming_parameters(asked), self._serve() as serve:
             return serve.text(line.encode(errors="surrogateescape"), is_json)
 
     def pieces(self, query: str) -> Iterator[bytes]:
@@ -106,7 +129,7 @@ class Index:
         """
         pieces = Pieces(query)
         while (asked := pieces.next_query()) is not None:
-            with self._serve() as serve:
+            with _naming_parameters(Query.of(asked, {})), self._serve() as serve:
                 page = serve.text(asked.encode(errors="surrogateescape"), pieces.is_json)
             piece = pieces.add(page)
             if piece:
@@ -131,8 +154,9 @@ class Index:
 
     def _page(self, query: Query, fields: Sequence[str], size: Optional[int]) -> tuple[list[list[str]], Optional[str]]:
         """Returns the rows of a page of at most `size` captures, and the resume key of the next."""
-        with self._serve() as serve:
-            return split_rows(serve.rows(rows_query(query, fields, size).encoded()))
+        asked = rows_query(query, fields, size)
+        with _naming_parameters(asked), self._serve() as serve:
+            return split_rows(serve.rows(asked.encoded()))
 
     @contextlib.contextmanager
     def _serve(self) -> Iterator[Serve]:
@@ -144,3 +168,19 @@ class Index:
             yield serve
         finally:
             self._idle.put(serve)
+
+
+def _check_that_it_opens(path: str) -> None:
+    try:
+        os.close(os.open(path, os.O_RDONLY | os.O_NONBLOCK | os.O_CLOEXEC))
+    except OSError as error:
+        raise CannotOpen("CannotOpen", path) from error
+
+
+@contextlib.contextmanager
+def _naming_parameters(query: Query) -> Iterator[None]:
+    """Lets the refusal of a query name its parameter."""
+    try:
+        yield
+    except Refused as refusal:
+        raise refused(refusal.name, parameter_of(refusal.name, query)) from None

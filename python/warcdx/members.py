@@ -1,19 +1,21 @@
-"""The members of a compressed archive, and their unpacking into the inputs of programs."""
-import collections
-import contextlib
-import threading
+"""The members of a compressed archive, which are unpacked one after another."""
 import zlib
 from collections.abc import Iterator
-from typing import IO, NamedTuple, Optional
+from typing import IO, NamedTuple, Optional, Union
 
 from .errors import Fault
 from .faults import BadMember, CutMember, NoMember, NotCompressed, Read
+from .libdeflate import Decompressor, Room, library
 
 MAGIC = b"\x1f\x8b"
-# Bytes that are read at once. What follows a member is copied for the next one, so more would cost time.
-PIECE = 1 << 15
-BATCH = 1 << 18  # unpacked bytes that are written at once, at least
+MOST_AT_ONCE = 1 << 20  # packed bytes of a member that libdeflate may unpack
+MOST_TEXT = 1 << 22  # bytes that such a member may hold
+PIECE = 1 << 18  # bytes that zlib unpacks at once, and that are read at once
+_LEAST = 1 << 16  # packed bytes that are held at first
+_STEP = 1 << 15  # packed bytes that zlib gets at once. It copies what follows a member, so more would cost time.
 _GZIP = 16 + zlib.MAX_WBITS
+
+Piece = Union[bytes, memoryview]
 
 
 class Member(NamedTuple):
@@ -25,104 +27,131 @@ class Member(NamedTuple):
     packed_end: int
 
 
-class Unpacker(threading.Thread):
-    """Unpacks a compressed archive into the inputs of programs, in a thread of its own, and closes them.
+class Members:
+    """Reads the members of a compressed file from its position on. Those without bytes are left out.
 
-    Each whole member is in `members` before a byte of the next one is written. Members without bytes are left
-    out. After the thread has ended, `fault` is what ended the file before its end, if anything did, and
-    `last` where the member began that was read last.
+    Raises a Fault at the member that can't be read, with the offset of this member in the file.
     """
 
-    def __init__(self, file: IO[bytes], name: str, inputs: list[IO[bytes]], most: Optional[int] = None) -> None:
-        """Reads from the position of the file, at most `most` members."""
-        super().__init__(daemon=True)
-        self.members: collections.deque[Member] = collections.deque()
-        self.fault: Optional[Fault] = None
-        self.size = 0  # unpacked bytes
-        self.packed_size = file.tell()
-        self.last = (0, self.packed_size)  # in the unpacked stream, and in the file
+    def __init__(self, file: IO[bytes], name: str, position: int = 0) -> None:
+        """Reads an unbuffered file from a position on. Only one reads it at a time."""
+        self.packed_start = position  # of the member that was begun last
+        self.size = 0  # bytes that were unpacked, of all members
+        self.is_whole = True  # whether that member was read to its end
+        self.start = 0  # of that member, in the unpacked stream
+        self.position = position  # of the next byte of the file that isn't unpacked yet
         self._file = file
         self._name = name
-        self._inputs = inputs
-        self._most = most
-        self._is_stopped = self._is_abandoned = False
+        self._packed = Room(MOST_AT_ONCE + PIECE)
+        self._from = self._to = 0  # the bytes of it that aren't unpacked yet
+        self._is_at_end = False
+        self._least = _LEAST
+        file.seek(position)
+        found = library()
+        self._decompressor = None if found is None else Decompressor(found, self._packed, MOST_TEXT)
+        self._stream: Optional["zlib._Decompress"] = None
 
-    def run(self) -> None:
-        batch = bytearray()
-        try:
-            for piece in self.pieces():
-                batch += piece
-                if len(batch) >= BATCH:
-                    self._write(batch)
-                    batch = bytearray()
-        except Fault as fault:
-            self.fault = fault
-        except OSError:
-            self.fault = Read("Read", self._name, self.last[1])
-        finally:
-            self._write(batch)
-            for each in self._inputs:
-                close(each)
+    def __iter__(self) -> Iterator[Piece]:
+        """Yields the first piece of each member. It is good until the next one is begun, after `rest` was read.
 
-    def stop(self) -> None:
-        """Ends the reading after the member that is being read."""
-        self._is_stopped = True
+        What all members need is done here, as calls take as long as the unpacking of a small member.
+        """
+        decompressor = self._decompressor
+        while True:
+            if self._to - self._from < self._least:
+                self._fill(self._least)
+            self.packed_start, self.start = self.position, self.size
+            self.is_whole = self._from == self._to
+            if self.is_whole:
+                return
+            text = None if decompressor is None else decompressor.unpack(self._from, self._to)
+            if text is not None:
+                assert decompressor is not None
+                packed_size = decompressor.packed_size.value
+                self._from += packed_size
+                self.position += packed_size
+                self.size += len(text)
+                self.is_whole = True
+                if text:
+                    yield text
+            elif not self._needs_more():
+                self._check_magic()
+                self._stream = zlib.decompressobj(_GZIP)
+                for piece in self.rest():
+                    yield piece
+                    break
 
-    def abandon(self) -> None:
-        """Ends the reading at once, and waits for the end."""
-        self._is_stopped = self._is_abandoned = True
-        self.join()
-
-    def _write(self, batch: bytearray) -> None:
-        """Writes to all programs that still read."""
-        for each in self._inputs[:]:
+    def rest(self) -> Iterator[Piece]:
+        """Yields what follows in the member, in pieces. It ends at once if the member was read to its end."""
+        while not self.is_whole:
+            assert self._stream is not None
+            if self._from == self._to and not self._fill(1):
+                raise self._at(CutMember)
+            given = bytes(self._packed.view[self._from : min(self._to, self._from + _STEP)])
             try:
-                each.write(batch)
-            except BrokenPipeError:
-                self._inputs.remove(each)
-                close(each)
-        if not self._inputs:
-            self.stop()
-
-    def pieces(self) -> Iterator[bytes]:
-        """Yields what the members hold, in pieces. Whole members are in `members` before the next one is read."""
-        data = self._file.read(PIECE)
-        count = 0
-        while data and not self._is_stopped and count != self._most:
-            self.last = (self.size, self.packed_size)
-            if len(data) < len(MAGIC):
-                data += self._file.read(PIECE)
-            if not data.startswith(MAGIC):
-                if data == MAGIC[:1]:
-                    raise self._at(CutMember)
-                raise self._at(NoMember if self.packed_size else NotCompressed)
-            member = zlib.decompressobj(_GZIP)
-            while not member.eof:
-                if self._is_abandoned:
-                    return
-                if not data:
-                    data = self._file.read(PIECE)
-                if not data:
-                    raise self._at(CutMember)
-                try:
-                    piece = member.decompress(data, BATCH)
-                except zlib.error:
-                    raise self._at(BadMember) from None
-                rest = member.unused_data if member.eof else member.unconsumed_tail
-                self.packed_size += len(data) - len(rest)
-                self.size += len(piece)
-                data = rest
-                if member.eof and self.size > self.last[0]:
-                    self.members.append(Member(self.last[0], self.size, self.last[1], self.packed_size))
+                piece = self._stream.decompress(given, PIECE)
+            except zlib.error:
+                raise self._at(BadMember) from None
+            self.is_whole = self._stream.eof
+            left = self._stream.unused_data if self.is_whole else self._stream.unconsumed_tail
+            self._take(len(given) - len(left), len(piece))
+            if piece:
                 yield piece
-            count += 1
-            data = data or self._file.read(PIECE)
+
+    @property
+    def member(self) -> Member:
+        """The member that was read last, to its end."""
+        return Member(self.start, self.size, self.packed_start, self.position)
+
+    def one(self, offset: int) -> Iterator[Piece]:
+        """Yields what the next member holds, if it begins at an offset."""
+        piece = next(iter(self), None)
+        if piece is not None and self.packed_start == offset:
+            yield piece
+            yield from self.rest()
+
+    def all(self) -> Iterator[Piece]:
+        """Yields what all members hold."""
+        for piece in self:
+            yield piece
+            yield from self.rest()
+
+    def _needs_more(self) -> bool:
+        """Returns whether the member may be unpacked at once after more of the file was read, and reads it."""
+        held = self._to - self._from
+        if self._decompressor is None or held >= MOST_AT_ONCE or self._is_at_end:
+            return False
+        self._least = min(2 * held, MOST_AT_ONCE)
+        return self._fill(self._least)
+
+    def _check_magic(self) -> None:
+        """Raises NoMember or NotCompressed if no member begins here."""
+        first = self._packed.bytes[self._from : min(self._to, self._from + len(MAGIC))]
+        if first == MAGIC:
+            return
+        if first == MAGIC[:1] and self._is_at_end:
+            raise self._at(CutMember)
+        raise self._at(NoMember if self.position else NotCompressed)
+
+    def _take(self, packed: int, unpacked: int) -> None:
+        self._from += packed
+        self.position += packed
+        self.size += unpacked
+
+    def _fill(self, least: int) -> bool:
+        """Reads until at least `least` bytes are held, or the file ends. Returns whether any are."""
+        view, held = self._packed.view, self._to - self._from
+        if self._from:
+            view[:held] = view[self._from : self._to]
+            self._from, self._to = 0, held
+        while self._to < least and not self._is_at_end:
+            try:
+                count = self._file.readinto(view[self._to : self._to + PIECE])  # type: ignore[attr-defined]
+            except OSError:
+                raise self._at(Read) from None
+            self._is_at_end = not count
+            self._to += count
+        return self._to > 0
 
     def _at(self, kind: type[Fault]) -> Fault:
-        return kind(kind.__name__, self._name, self.last[1])
-
-
-def close(pipe: IO[bytes]) -> None:
-    """Closes the input of a program, which may have ended."""
-    with contextlib.suppress(BrokenPipeError):
-        pipe.close()
+        return kind(kind.__name__, self._name, self.packed_start)

@@ -1,9 +1,9 @@
 """Merges any number of indexes by `warcdx merge`."""
 import pathlib
-import tempfile
 from collections.abc import Sequence
 from typing import IO
 
+from .command import temporary_folder
 from .program import Path, find_program, operand, running
 
 MOST = 1000  # indexes that are merged at a time: the program takes 1,024, and many systems as many open files
@@ -16,10 +16,10 @@ def merge(indexes: Sequence[Path], output: IO[bytes], *, program: str = "warcdx"
         if indexes:
             write_output(output, find_program(program), "merge", *map(operand, indexes))
         return
-    with tempfile.TemporaryDirectory() as name:
-        groups = []
+    with temporary_folder() as folder:
+        groups: list[pathlib.Path] = []
         for start in range(0, len(indexes), MOST):
-            groups.append(pathlib.Path(name, str(start)))
+            groups.append(folder / str(start))
             with open(groups[-1], "wb") as group:
                 merge(indexes[start : start + MOST], group, program=program)
         merge(groups, output, program=program)

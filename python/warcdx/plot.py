@@ -19,19 +19,19 @@ after a usage error; or 3 if a file can't be written, or the program failed.
 Only --output needs matplotlib (Debian's package python3-matplotlib).
 """
 import argparse
-import contextlib
 import datetime
-import os
 import sys
 from collections import Counter
 from collections.abc import Callable, Sequence
 from dataclasses import dataclass
 from typing import Any, Optional
 
-from . import counting
+from . import command, counting
+from .command import OutputError, printable
 from .errors import Error, Fault, Refused
 from .index import Index
 
+NAME = "warcdx.plot"
 FORMATS = (".png", ".svg")
 SHOWN = 20  # bars of a plot of values
 MOST_YEARS = 40  # of a plot of days; the last ones are shown
@@ -314,15 +314,12 @@ def main(arguments: Optional[Sequence[str]] = None) -> int:
     given = read_arguments(arguments)
     try:
         return run(given)
-    except BrokenPipeError as error:
-        with contextlib.suppress(OSError):  # standard output, which would be flushed again at the end
-            os.dup2(os.open(os.devnull, os.O_WRONLY), 1)
-        print(f"warcdx.plot: Write: {error.strerror}", file=sys.stderr)
-        return 3
+    except OutputError:
+        raise
     except (Error, OSError) as error:
-        print(f"warcdx.plot: {error}", file=sys.stderr)
+        print(f"{NAME}: {printable(str(error))}", file=sys.stderr)
         return 1 if isinstance(error, Refused) or isinstance(error, Fault) and error.offset is not None else 3
 
 
 if __name__ == "__main__":
-    sys.exit(main())
+    sys.exit(command.run(NAME, lambda output: main()))

@@ -5,10 +5,11 @@ import os
 import re
 import shutil
 import subprocess
-import tempfile
+import sys
 from collections.abc import Iterator
-from typing import IO, Union
+from typing import IO, Optional, Union
 
+from .command import deferred, temporary_file
 from .errors import Error, ProgramMissing, ProgramTooOld, error_of
 
 Path = Union[str, os.PathLike[str]]
@@ -20,9 +21,12 @@ _HELP = re.compile(rb"warcdx ([0-9]+)\.([0-9]+)\.([0-9]+)")
 def find_program(name: str) -> str:
     """Returns the path of a program that is warcdx, and not too old.
 
-    A name without `/` is looked up on the PATH. Raises ProgramMissing or ProgramTooOld.
+    A name without `/` is looked up on the PATH, and then in the folder of Python. Raises ProgramMissing or
+    ProgramTooOld.
     """
     path = shutil.which(name)
+    if path is None and "/" not in name:  # a wheel has the program beside its Python
+        path = shutil.which(name, path=os.path.dirname(sys.executable))
     if path is None:
         raise ProgramMissing(f"{name}: no such program")
     path = os.path.abspath(path)
@@ -53,12 +57,48 @@ def operand(path: Path) -> str:
     return f"./{name}" if name.startswith("-") else name
 
 
-def start(command: tuple[str, ...], said: IO[bytes], stdin: int) -> subprocess.Popen[bytes]:
-    """Starts the program, whose standard error goes to the file `said`."""
+def start(
+    command: tuple[str, ...],
+    said: IO[bytes],
+    stdin: int,
+    stdout: Union[int, IO[bytes]] = subprocess.PIPE,
+    room: int = -1,
+) -> subprocess.Popen[bytes]:
+    """Starts the program, whose standard error goes to the file `said`. A pipe to it has a buffer of `room` bytes."""
     try:
-        return subprocess.Popen(command, stdin=stdin, stdout=subprocess.PIPE, stderr=said)
+        return subprocess.Popen(command, room, stdin=stdin, stdout=stdout, stderr=said)
     except OSError as error:
         raise ProgramMissing(f"{command[0]}: {error.strerror}") from error
+
+
+@contextlib.contextmanager
+def started(
+    command: tuple[str, ...],
+    said: IO[bytes],
+    stdin: int,
+    stdout: Union[int, IO[bytes]] = subprocess.PIPE,
+    room: int = -1,
+) -> Iterator[subprocess.Popen[bytes]]:
+    """Starts the program as `start` does, and ends it at the end of the block, also if a signal ends the command."""
+    process = None
+    try:
+        with deferred():
+            process = start(command, said, stdin, stdout, room)
+        yield process
+    finally:
+        if process is not None:
+            with deferred():
+                process.kill()
+                process.wait()
+                for pipe in (process.stdin, process.stdout):
+                    if pipe is not None:
+                        close(pipe)
+
+
+def close(pipe: IO[bytes]) -> None:
+    """Closes a pipe to or from a program, which may have ended."""
+    with contextlib.suppress(BrokenPipeError):
+        pipe.close()
 
 
 def end_of(process: subprocess.Popen[bytes], said: IO[bytes]) -> Error:
@@ -75,19 +115,8 @@ def running(*command: str, good: tuple[int, ...] = (0,)) -> Iterator[IO[bytes]]:
     If the output was read to its end, raises what the program has reported, unless its exit status is one
     of the good ones. A program whose output isn't read to its end is ended.
     """
-    with tempfile.TemporaryFile() as said:
-        process = start(command, said, subprocess.DEVNULL)
+    with temporary_file() as said, started(command, said, subprocess.DEVNULL) as process:
         assert process.stdout is not None
-        with process.stdout as output:
-            try:
-                yield output
-                is_whole = not output.read(1)
-            except BaseException:
-                process.kill()
-                process.wait()
-                raise
-        if not is_whole:
-            process.kill()
-            process.wait()
-        elif process.wait() not in good:
+        yield process.stdout
+        if not process.stdout.read(1) and process.wait() not in good:
             raise end_of(process, said)

@@ -1,8 +1,9 @@
 """Query texts, and the captures that a query selects."""
+import datetime
 import re
 from collections.abc import Iterable, Sequence
 from dataclasses import dataclass
-from typing import Optional, Union
+from typing import NamedTuple, Optional, Union
 from urllib.parse import quote_plus, unquote_plus
 
 Value = Union[str, int, bool, Iterable[str]]
@@ -12,12 +13,11 @@ _LIMIT = re.compile("[0-9]{1,7}")
 _MOST_DIGITS = 20
 
 
-@dataclass(frozen=True)
-class Capture:
+class Capture(NamedTuple):
     """A line of an index, by the names of the fields of a query. What a line doesn't have is `-`.
 
-    `offset` is in bytes from the start of the archive `filename`. `length` is the record's length in
-    bytes, or None if the line has no such number.
+    `timestamp` is 14 digits, in UTC. `offset` is in bytes from the start of the archive `filename`. `length` is
+    the record's length in bytes, or None if the line has no such number.
     """
 
     urlkey: str
@@ -34,8 +34,20 @@ class Capture:
     def of(cls, row: Sequence[str]) -> "Capture":
         """Returns the capture with these values of all fields, in the order of FIELDS."""
         key, stamp, url, mime, status, digest, length, offset, name = row
-        is_number = length.isascii() and length.isdigit() and len(length) <= _MOST_DIGITS
-        return cls(key, stamp, url, mime, status, digest, int(length) if is_number else None, int(offset), name)
+        return cls(key, stamp, url, mime, status, digest, length_of(length), int(offset), name)
+
+    @property
+    def datetime(self) -> Optional[datetime.datetime]:
+        """The timestamp as a date and time in UTC, or None if there is no such date: indexes may have any 14 digits."""
+        try:
+            return datetime.datetime.strptime(self.timestamp, "%Y%m%d%H%M%S").replace(tzinfo=datetime.timezone.utc)
+        except ValueError:
+            return None
+
+
+def length_of(text: str) -> Optional[int]:
+    """Returns the length that a line has, or None if it isn't a number."""
+    return int(text) if text.isascii() and text.isdigit() and len(text) <= _MOST_DIGITS else None
 
 
 @dataclass(frozen=True)
@@ -76,7 +88,7 @@ class Query:
         """Returns the limit, and the query without it. A limit that is to be refused stays in the query."""
         value, rest = self.take("limit")
         digits = unquote_plus(value or "")
-        if not _LIMIT.fullmatch(digits) or not 1 <= int(digits) <= 1_000_000:
+        if not _LIMIT.fullmatch(digits) or not 1 <= int(digits) <= 1_000_000 or rest.take("limit")[0] is not None:
             return None, self
         return int(digits), rest
 

@@ -13,10 +13,13 @@ CLOSING = b"\r\n\r\n"
 HTTP_TYPE = "application/http"
 HEAD_LIMIT = 1_048_576  # bytes of a record's head
 _PIECE = 1 << 16
-_FOLD = re.compile(r"[ \t]*\r\n[ \t]+")
+_BLANKS = (" ", "\t")
 _HTTP_LINE_BREAK = re.compile(r"\r?\n")
-_HTTP_FOLD = re.compile(r"[ \t]*\r?\n[ \t]+")
 _LENGTH = re.compile("[0-9]{1,19}")
+_USUAL_HEAD = 2048  # bytes in which most heads end
+_LAST_LENGTH = b"\r\nContent-Length: "  # how the last field begins of most heads
+_USUAL_LENGTH = re.compile(rb"\r\nContent-Length: ([0-9]{1,19})\r\n(?![ \t])")
+_CLOSINGS = 2 * len(CLOSING)
 
 
 Fields = tuple[tuple[str, str], ...]
@@ -28,7 +31,8 @@ class _WithFields:
 
     def field(self, name: str) -> Optional[str]:
         """Returns the value of the first field of a name, in any case, or None."""
-        return next((value for found, value in self.fields if found.lower() == name.lower()), None)
+        wanted = name.lower()
+        return next((value for found, value in self.fields if found.lower() == wanted), None)
 
 
 @dataclass(frozen=True)
@@ -40,7 +44,7 @@ class Head(_WithFields):
         """Returns the fields of the text of a head, without the empty line at its end. Raises Unreadable."""
         if not text.startswith(b"WARC/"):
             raise Unreadable("the input isn't a record")
-        lines = _FOLD.sub(" ", text.decode(errors="surrogateescape")).split("\r\n")[1:]
+        _, *lines = _unfolded(text.decode(errors="surrogateescape").split("\r\n"))
         return tuple(map(_field_of, lines))
 
     @property
@@ -66,9 +70,23 @@ class HttpHead(_WithFields):
     @classmethod
     def of(cls, text: bytes) -> "HttpHead":
         """Returns the head of a text without the empty line at its end. No text is refused."""
-        unfolded = _HTTP_FOLD.sub(" ", text.decode(errors="surrogateescape"))
-        line, *lines = _HTTP_LINE_BREAK.split(unfolded)
+        line, *lines = _unfolded(_HTTP_LINE_BREAK.split(text.decode(errors="surrogateescape")))
         return cls(tuple(map(_field_of, lines)), line)
+
+
+def _unfolded(lines: list[str]) -> list[str]:
+    """Returns the lines of a head, each with those that continue it, which begin with a blank.
+
+    One space stands for a line break and the blanks around it.
+    """
+    joined = [[lines[0]]]
+    for line in lines[1:]:
+        if line.startswith(_BLANKS):
+            joined[-1][-1] = joined[-1][-1].rstrip(" \t")
+            joined[-1].append(line.lstrip(" \t"))
+        else:
+            joined.append([line])
+    return [" ".join(parts) for parts in joined]
 
 
 def _field_of(line: str) -> tuple[str, str]:
@@ -142,6 +160,36 @@ class RecordStream:
     def payload(self, limits: Limits = UNLIMITED) -> Iterator[bytes]:
         """Yields the body without its codings, as `payload` returns it. One beyond the limits is Unreadable."""
         return _payload(self.head, self.http_head, self._body, limits)
+
+
+def size_of_record(start: Union[bytes, memoryview]) -> Optional[int]:
+    """Returns the size of the record that begins so, in bytes, or None if its head isn't whole or has no length.
+
+    If `warcdx` accepts the record, this is its size.
+    """
+    text = bytes(start[:_USUAL_HEAD])
+    end = text.find(CLOSING)
+    if end < 0:
+        text = bytes(start[:HEAD_LIMIT])
+        end = text.find(CLOSING)
+        if end < 0:
+            return None
+    at = text.rfind(_LAST_LENGTH, 0, end)
+    digits = text[at + len(_LAST_LENGTH) : end]
+    if at >= 0 and digits.isdigit() and len(digits) < 20:
+        return end + int(digits) + _CLOSINGS
+    length = _length_in(text[:end])
+    return None if length is None else end + length + _CLOSINGS
+
+
+def _length_in(head: bytes) -> Optional[int]:
+    found = _USUAL_LENGTH.search(head)
+    if found:
+        return int(found[1])
+    try:
+        return _length_of(Head(Head.fields_of(head)))
+    except Unreadable:
+        return None
 
 
 def _length_of(head: Head) -> int:

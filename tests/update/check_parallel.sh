@@ -1,7 +1,7 @@
 #!/usr/bin/env bash
-# Runs the lines of README.md that index archives by GNU parallel over ssh, and compares their index with that of all archives.
+# Runs the lines of docs/MANY_MACHINES.md that index archives by GNU parallel over ssh, and compares their index with that of all archives.
 #
-# usage: test_parallel.sh [PROGRAM]
+# usage: check_parallel.sh [PROGRAM]
 #
 # The machines are two names of this one. They are reached by an SSH server that listens at 127.0.0.1 on a free port with keys of its own, and
 # ends with the test.
@@ -14,7 +14,6 @@ read_program "$@"
 PATH=$PATH:/usr/sbin
 need parallel ssh:openssh-client sshd:openssh-server
 
-here=$(dirname "$(readlink -f "$0")")
 work=$(mktemp -d)
 
 trap 'if [ -f "$work/sshd.pid" ]; then kill "$(< "$work/sshd.pid")"; fi; rm -rf "$work"' EXIT
@@ -67,7 +66,7 @@ END
 }
 
 take_lines() { # the three of the page, on the folder of this test
-    grep --extended-regexp '^    (parallel --sshloginfile|awk|warcdx merge) ' "$here/README.md" | sed "s:/data:$work/data:g" > "$work/lines"
+    grep --extended-regexp '^    (parallel --sshloginfile|awk|warcdx merge) ' "$root/docs/MANY_MACHINES.md" | sed "s:/data:$work/data:g" > "$work/lines"
 }
 
 run_lines() {
@@ -77,7 +76,7 @@ run_lines() {
 make_archives
 make_program
 take_lines
-expect "number of lines of README.md" 3 "$(wc -l < "$work/lines")"
+expect "number of lines of docs/MANY_MACHINES.md" 3 "$(wc -l < "$work/lines")"
 start_server
 run_lines > "$work/faulty" 2> "$work/errors" || say_differs "exit status of the lines" "$(< "$work/errors")"
 expect "exit statuses of archives that failed" "1 3" "$(cut -f 7 "$work/faulty" | sort | paste -sd' ')"

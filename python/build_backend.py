@@ -1,0 +1,143 @@
+"""Builds the wheel and the source archive of the Python package, with the standard library alone.
+
+usage: python3 build_backend.py PROGRAM LIBRARY FOLDER
+
+`pip` calls the functions build_wheel, build_editable and build_sdist (PEP 517 and PEP 660), and needs no network for
+it. As a script this file writes a wheel for Linux on x86-64 with the program PROGRAM to FOLDER, and prints its name.
+LIBRARY is the version of the GNU C library that the program needs, such as 2.34.
+
+The same files make the same bytes. All times are SOURCE_DATE_EPOCH, or else the start of 1980.
+"""
+import base64
+import gzip
+import hashlib
+import io
+import os
+import pathlib
+import re
+import sys
+import tarfile
+import time
+import zipfile
+from collections.abc import Iterator
+from typing import NamedTuple, Optional
+
+HERE = pathlib.Path(__file__).resolve().parent
+VERSION = (HERE / "VERSION").read_text().strip()
+INFO = f"warcdx-{VERSION}.dist-info"
+SCRIPTS = f"warcdx-{VERSION}.data/scripts"
+FIRST_TIME = 315_532_800  # of a zip file: 1980-01-01
+METADATA = f"""\
+Metadata-Version: 2.1
+Name: warcdx
+Version: {VERSION}
+Summary: Queries over the indexes of web archives, and their records, by the program warcdx
+License: Apache-2.0
+Classifier: License :: OSI Approved :: Apache Software License
+Classifier: Operating System :: POSIX :: Linux
+Classifier: Programming Language :: Python :: 3 :: Only
+Classifier: Typing :: Typed
+Requires-Python: >=3.9
+Provides-Extra: plot
+Requires-Dist: matplotlib>=3.6; extra == "plot"
+Description-Content-Type: text/markdown
+
+"""
+_SETTINGS = Optional[dict[str, object]]
+_FIRST_LINE = re.compile(rb"#!.*")
+
+
+class File(NamedTuple):
+    """A file of a wheel or of a source archive."""
+
+    name: str
+    content: bytes
+    mode: int = 0o644
+
+
+def build_wheel(folder: str, config_settings: _SETTINGS = None, metadata_directory: Optional[str] = None) -> str:
+    """Writes the wheel of the package, without the program, and returns its name."""
+    return write_wheel(folder, "py3-none-any", [*modules(), *scripts()])
+
+
+def build_editable(folder: str, config_settings: _SETTINGS = None, metadata_directory: Optional[str] = None) -> str:
+    """Writes a wheel that makes Python read the package in this folder, and returns its name."""
+    path = File("warcdx.pth", os.fsencode(f"{HERE}\n"))
+    return write_wheel(folder, "py3-none-any", [path, *scripts()])
+
+
+def build_sdist(folder: str, config_settings: _SETTINGS = None) -> str:
+    """Writes the source archive, and returns its name."""
+    names = ("LICENSE", "README.md", "VERSION", "build_backend.py", "pyproject.toml")
+    files = [File("PKG-INFO", metadata()), *modules(), *(File(name, (HERE / name).read_bytes()) for name in names)]
+    files += [File(f"bin/{path.name}", path.read_bytes(), 0o755) for path in script_paths()]
+    root = f"warcdx-{VERSION}"
+    output = io.BytesIO()
+    with tarfile.open(fileobj=output, mode="w", format=tarfile.PAX_FORMAT) as archive:
+        for file in sorted(files):
+            member = tarfile.TarInfo(f"{root}/{file.name}")
+            member.size, member.mode, member.mtime = len(file.content), file.mode, source_time()
+            archive.addfile(member, io.BytesIO(file.content))
+    pathlib.Path(folder, f"{root}.tar.gz").write_bytes(gzip.compress(output.getvalue(), mtime=0))
+    return f"{root}.tar.gz"
+
+
+def build_program_wheel(folder: str, program: pathlib.Path, library: str) -> str:
+    """Writes a wheel with the program, which needs this version of the C library, and returns its name."""
+    tag = f"py3-none-manylinux_{library.replace('.', '_')}_x86_64"
+    return write_wheel(folder, tag, [*modules(), *scripts(), File(f"{SCRIPTS}/warcdx", program.read_bytes(), 0o755)])
+
+
+def modules() -> Iterator[File]:
+    for path in sorted((HERE / "warcdx").iterdir()):
+        if path.suffix == ".py" or path.name == "py.typed":
+            yield File(f"warcdx/{path.name}", path.read_bytes())
+
+
+def script_paths() -> list[pathlib.Path]:
+    return sorted(path for path in (HERE / "bin").iterdir() if path.is_file())
+
+
+def scripts() -> Iterator[File]:
+    """Yields the commands. `pip` replaces their first line by one that names its Python."""
+    for path in script_paths():
+        yield File(f"{SCRIPTS}/{path.name}", _FIRST_LINE.sub(b"#!python", path.read_bytes(), count=1), 0o755)
+
+
+def metadata() -> bytes:
+    return METADATA.encode() + (HERE / "README.md").read_bytes()
+
+
+def write_wheel(folder: str, tag: str, files: list[File]) -> str:
+    """Writes a wheel of these files (the binary distribution format of PyPA), and returns its name."""
+    is_pure = "true" if tag.endswith("-any") else "false"
+    about = f"Wheel-Version: 1.0\nGenerator: warcdx\nRoot-Is-Purelib: {is_pure}\nTag: {tag}\n"
+    files += [
+        File(f"{INFO}/LICENSE", (HERE / "LICENSE").read_bytes()),
+        File(f"{INFO}/METADATA", metadata()),
+        File(f"{INFO}/WHEEL", about.encode()),
+    ]
+    lines = [f"{file.name},sha256={digest(file.content)},{len(file.content)}\n" for file in files]
+    files.append(File(f"{INFO}/RECORD", "".join([*lines, f"{INFO}/RECORD,,\n"]).encode()))
+    name = f"warcdx-{VERSION}-{tag}.whl"
+    with zipfile.ZipFile(pathlib.Path(folder, name), "w", zipfile.ZIP_DEFLATED) as wheel:
+        for file in files:
+            member = zipfile.ZipInfo(file.name, time.gmtime(source_time())[:6])
+            member.compress_type, member.create_system = zipfile.ZIP_DEFLATED, 3
+            member.external_attr = (0o100000 | file.mode) << 16
+            wheel.writestr(member, file.content)
+    return name
+
+
+def digest(content: bytes) -> str:
+    return base64.urlsafe_b64encode(hashlib.sha256(content).digest()).rstrip(b"=").decode()
+
+
+def source_time() -> int:
+    return max(int(os.environ.get("SOURCE_DATE_EPOCH", FIRST_TIME)), FIRST_TIME)
+
+
+if __name__ == "__main__":
+    if len(sys.argv) != 4:
+        sys.exit("usage: python3 build_backend.py PROGRAM LIBRARY FOLDER")
+    print(build_program_wheel(sys.argv[3], pathlib.Path(sys.argv[1]), sys.argv[2]))

@@ -1,0 +1,97 @@
+"""What archived bytes may cost: twice as many take at most about twice the time."""
+import itertools
+import re
+import time
+import unittest
+from collections.abc import Callable
+from typing import NamedTuple
+
+from warcdx.codings import Unreadable, codings, decoded
+from warcdx.errors import error_of
+from warcdx.record import Head, HttpHead, Record, payload
+from warcdx.reply import refusal_of, text_of
+
+SIZE = 5_000  # bytes of the smallest input
+LEAST_SECONDS = 0.01  # what is shorter can't be measured
+LINEAR = 3  # the most that doubling may cost; a quadratic expression costs 4
+TRIES = 3
+FIRST = b"WARC/1.1\r\n"
+# How heads were unfolded once. These are quadratic in runs of blanks.
+FOLD = re.compile(r"[ \t]*\r\n[ \t]+")
+HTTP_FOLD = re.compile(r"[ \t]*\r?\n[ \t]+")
+
+
+class Shape(NamedTuple):
+    """What reads an input, and the texts before, within and after its repeated part."""
+
+    read: Callable[[bytes], object]
+    before: bytes
+    repeated: bytes
+    after: bytes = b""
+
+
+def body_of(head: bytes) -> Callable[[bytes], object]:
+    return lambda body: b"".join(decoded(head, iter((body,))))
+
+
+CHUNKED = body_of(b"HTTP/1.1 200\r\nTransfer-Encoding: chunked")
+GZIP = body_of(b"HTTP/1.1 200\r\nContent-Encoding: gzip")
+LINE_BREAKS = (b" \r\n", b"\r\n ", b"\r\n \r\n", b"\n", b"\n ", b" \n", b"\r", b"\r\r\n ")
+BLANKS = (b" ", b"\t", b" \t", b"a ", *LINE_BREAKS, b":", b"x: y\r\n")
+CODINGS = (b",", b" ", b"Content-Encoding: a,\n", b"Content-Encoding:,\n", b":\n")
+SAID = (b": fault 1 ", b": ", b": fault ", b"1", b": BadLine 1")
+SHAPES = (
+    *(Shape(Head.fields_of, FIRST + b"X: a", each, after) for each in BLANKS for after in (b"", b"b")),
+    *(Shape(HttpHead.of, b"HTTP/1.1 200\r\nX: a", each, after) for each in BLANKS for after in (b"", b"b")),
+    *(Shape(Record.read, FIRST + b"X: a", each, b"\r\n\r\nblock\r\n\r\n") for each in BLANKS),
+    *(Shape(payload, FIRST + b"Content-Type: application/http\r\n\r\n", each, b"\r\n\r\n") for each in BLANKS),
+    *(Shape(codings, b"HTTP/1.1 200\r\n", each) for each in CODINGS),
+    *(Shape(CHUNKED, b"", each) for each in (b" ", b"1", b"1 ", b"1;", b"1\r", b"1\r\na\r\n", b"1;;\r\na\r\n", b"0")),
+    *(Shape(CHUNKED, b"1 ", each, b"x") for each in (b" ", b";", b"\r")),
+    Shape(GZIP, b"", bytes.fromhex("1f8b08000000000000030300000000000000000000")[:20]),
+    *(Shape(lambda text: error_of(3, text.decode()), b"warcdx: ", each, b"\n\n") for each in SAID),
+    *(Shape(refusal_of, b"refused ", each) for each in (b"a", b"\n")),
+    *(Shape(lambda text: text_of(text, False, ()), b"fault ", each) for each in (b"1", b"\n", b"1 ")),
+)
+
+
+def seconds(shape: Shape, size: int) -> float:
+    """Returns the time of the processor for an input of about `size` bytes."""
+    text = shape.before + shape.repeated * (size // len(shape.repeated)) + shape.after
+    start = time.process_time()
+    try:
+        shape.read(text)
+    except Unreadable:
+        pass
+    return time.process_time() - start + LEAST_SECONDS
+
+
+class Costs(unittest.TestCase):
+    """No count of the steps of an expression can be had, so these are ratios of times of one run, each with retries."""
+
+    def test_doubling_an_input_doubles_its_cost(self) -> None:
+        for shape in SHAPES:
+            with self.subTest(before=shape.before, repeated=shape.repeated, after=shape.after):
+                for size in (2 * SIZE, 16 * SIZE):
+                    ratios = (seconds(shape, 2 * size) / seconds(shape, size) for _ in range(TRIES))
+                    self.assertTrue(any(ratio < LINEAR for ratio in ratios), size)
+
+
+def field_of(line: str) -> tuple[str, str]:
+    name, _, value = line.partition(":")
+    return name, value.strip(" \t")
+
+
+class Folds(unittest.TestCase):
+    def test_heads_are_unfolded_as_by_the_expressions(self) -> None:
+        for length in range(8):
+            for letters in itertools.product("a: \t\r\n" if length < 6 else "a \r\n", repeat=length):
+                text = "".join(letters)
+                _, *lines = FOLD.sub(" ", f"WARC/1.1\r\n{text}").split("\r\n")
+                self.assertEqual(tuple(map(field_of, lines)), Head.fields_of(FIRST + text.encode()), repr(text))
+                line, *lines = re.split(r"\r?\n", HTTP_FOLD.sub(" ", text))
+                self.assertEqual(HttpHead(tuple(map(field_of, lines)), line), HttpHead.of(text.encode()), repr(text))
+
+
+if __name__ == "__main__":
+    unittest.main()

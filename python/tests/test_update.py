@@ -1,0 +1,134 @@
+"""Tests of what warcdx-update is made of. tests/update in the repository runs the command."""
+import io
+import json
+import pathlib
+import subprocess
+import tempfile
+import unittest
+from collections import Counter
+from collections.abc import Sequence
+from unittest import mock
+
+from warcdx import update, update_command
+from warcdx.update import Programs, Update, local_workers, message_of
+from warcdx.update_counts import Counts
+from warcdx.update_log import HEAD, Identity, Log, Part
+from warcdx.update_results import Results
+from warcdx.update_task import _add_hosts, _whole_lines
+
+from .support import PROGRAM, SAMPLES
+
+
+class LogTest(unittest.TestCase):
+    def setUp(self) -> None:
+        folder = tempfile.TemporaryDirectory()
+        self.addCleanup(folder.cleanup)
+        self.path = pathlib.Path(folder.name, "log.jsonl")
+
+    def part(self, archive: str, file: str = "f") -> Part:
+        return Part(archive, Identity(1, 2, 3), 1, "warcdx: ./a: fault 0 Version", file, 4, 5)
+
+    def test_a_log_is_read_back(self) -> None:
+        log = Log(self.path)
+        log.start([])
+        names = ("a.warc", "b\n\u2028é.warc", "\udcff.warc")
+        for name in names:
+            log.add(self.part(name))
+        log.add(self.part("a.warc", "g"))
+        log.close()
+        self.assertEqual(Log(self.path).parts, {name: self.part(name) for name in names} | {"a.warc": self.part("a.warc", "g")})
+
+    def test_lines_that_are_not_whole_are_left_out(self) -> None:
+        log = Log(self.path)
+        log.start([])
+        log.add(self.part("a.warc"))
+        log.add(self.part("b.warc"))
+        log.close()
+        with open(self.path, "a") as file:
+            file.write('["c.warc", [1, 2, 3]]\n\0\0\n7\nnull\n["d.warc", [1,')
+        self.assertEqual(set(Log(self.path).parts), {"a.warc", "b.warc"})
+
+    def test_a_log_of_another_form_is_empty(self) -> None:
+        self.path.write_text(HEAD.replace("1", "2") + json.dumps(self.part("a.warc")) + "\n")
+        self.assertEqual(Log(self.path).parts, {})
+
+
+class CountsTest(unittest.TestCase):
+    def counts(self, captures: int, **hosts: int) -> Counts:
+        empty: dict[str, int] = {}
+        return Counts.of({"captures": captures, "hosts": hosts, "years": empty, "types": empty, "statuses": empty})
+
+    def test_what_is_added_can_be_removed(self) -> None:
+        counts = self.counts(3, a=1, b=2)
+        counts.add(self.counts(5, b=4, c=1))
+        self.assertEqual((counts.captures, dict(counts.fields["hosts"])), (8, {"a": 1, "b": 6, "c": 1}))
+        counts.remove(self.counts(3, a=1, b=2))
+        self.assertEqual((counts.captures, dict(counts.fields["hosts"])), (5, {"b": 4, "c": 1}))
+
+    def test_the_hosts_of_keys(self) -> None:
+        hosts = {
+            b"com,example)/": b"example.com",
+            b"com,example:8080)/a)/b": b"example.com:8080",
+            b"192.0.2.7)/x": b"192.0.2.7",
+            b"[2001:db8::1]:8080)/": b"[2001:db8::1]:8080",
+            b"dns:example.com": b"dns:",
+            b"dns:example.com)": b"dns:",
+            b"urn:x:a)b)/": b"urn:",
+            b"not%20a%20url": b"not%20a%20url:",
+            b"": b":",
+        }
+        for key, host in hosts.items():
+            counts = Counter[bytes]()
+            _add_hosts(counts, [key, key])
+            self.assertEqual(counts, {host: 2}, key)
+        sorted_keys = [b"com,a)/", b"com,a)/x", b"com,a)/x", b"com,a,b)/", b"com,a:80)/", b"com,ab)/", b"dns:a", b"dns:b"]
+        counts = Counter[bytes]()
+        _add_hosts(counts, sorted_keys)
+        self.assertEqual(counts, {b"a.com": 3, b"b.a.com": 1, b"a.com:80": 1, b"ab.com": 1, b"dns:": 2})
+
+
+class TaskTest(unittest.TestCase):
+    def test_pieces_end_with_lines(self) -> None:
+        text = b"a" * (3 << 20) + b"\nb\n\nc\n"
+        pieces = list(_whole_lines(io.BytesIO(text)))
+        self.assertEqual(b"".join(pieces), text)
+        self.assertTrue(all(piece.endswith(b"\n") for piece in pieces))
+        self.assertEqual(list(_whole_lines(io.BytesIO(b""))), [])
+
+    def test_what_the_program_says(self) -> None:
+        self.assertEqual(message_of("warcdx: ./a: b\nc.warc: fault 448 ShortBlock"), "fault 448 ShortBlock")
+        self.assertEqual(message_of("warcdx-gz: ./a.warc.gz: fault 0 BadMember"), "fault 0 BadMember")
+        self.assertEqual(message_of("warcdx: ./a.warc: cannot open"), "cannot open")
+        self.assertEqual(message_of("warcdx: Memory"), "warcdx: Memory")
+
+
+class LevelsTest(unittest.TestCase):
+    def test_parts_are_merged_in_levels(self) -> None:
+        """Ten parts are merged by at most three at a time, in three levels: of 4 merges, of 2 and of 1."""
+        with tempfile.TemporaryDirectory() as name, mock.patch.object(update, "MOST", 3):
+            folder = pathlib.Path(name, "archives")
+            folder.mkdir()
+            sample = (SAMPLES / "response.warc").read_bytes()
+            for number in range(10):
+                (folder / f"{number}.warc").write_bytes(sample)
+            merges = []
+            usual = update.merge_parts
+
+            def merge(program: object, place: str, parts: Sequence[str], output: str, **options: object) -> None:
+                merges.append(len(parts))
+                usual(program, place, parts, output, **options)  # type: ignore[arg-type]
+
+            results = Results(str(pathlib.Path(name, "all.cdxj")))
+            programs = Programs((PROGRAM,), (PROGRAM,))
+            with mock.patch.object(update, "merge_parts", merge):
+                work = Update(str(folder), results, programs, lambda: local_workers(2), update_command.Silent())
+                reports, failure = work.run(recursive=False)
+            self.assertIsNone(failure)
+            wanted = subprocess.run((PROGRAM, "index", *sorted(folder.iterdir())), stdout=subprocess.PIPE, check=True).stdout
+            self.assertEqual(results.index.read_bytes(), wanted)
+            self.assertEqual(sorted(merges), [1, 1, 2, 3, 3, 3, 3])
+            self.assertEqual([report.captures for report in reports], [1] * 10)
+
+
+if __name__ == "__main__":
+    unittest.main()

@@ -1,0 +1,92 @@
+"""Indexes and the archives that they name: from a capture to its record in one call."""
+import contextlib
+import os
+from collections.abc import Mapping, Sequence
+from types import TracebackType
+from typing import Optional, Union
+
+from .archive import Archive
+from .errors import NoArchive
+from .gz import CompressedArchive, open_archive
+from .index import Index
+from .program import Path
+from .query import Capture
+from .record import Record, RecordStream
+
+Archives = Union[Path, Mapping[str, Path]]
+
+
+class Collection:
+    """Indexes, and the archives that they name.
+
+    `archives` is the folder of the archives, or a mapping from the file names in the indexes to paths. In a
+    folder, a file name in an index may name a file in a folder below, as in `2016/a.warc.gz`. One that begins
+    with `/`, or has an empty part, `.` or `..` between its slashes, names no archive, so that no name leads out
+    of the folder. Symbolic links in the folder are followed.
+
+        with Collection("all.cdxj", "archives") as collection:
+            for capture in collection.index.captures(url="example.com/*"):
+                record = collection.record(capture)
+
+    `index` is the Index, with as many `processes`.
+    """
+
+    def __init__(
+        self,
+        indexes: Union[Path, Sequence[Path]],
+        archives: Archives,
+        *,
+        program: str = "warcdx",
+        processes: int = 1,
+    ) -> None:
+        self.index = Index(indexes, program=program, processes=processes)
+        self._archives = archives
+        self._program = program
+
+    def record(self, capture: Capture) -> Record:
+        """Returns the record of a capture, which is held in memory.
+
+        Nothing of a plain archive before the record is read, unless the capture has no length, and of a
+        compressed one only its member. Raises NoArchive if no archive has the name of the capture's,
+        `faults.CannotOpen` if it can't be opened, and `faults.NoRecord` if the record isn't there.
+        """
+        return self.archive(capture.filename).get(capture.offset, length=capture.length)
+
+    def stream(self, capture: Capture) -> contextlib.AbstractContextManager[RecordStream]:
+        """Opens the record of a capture, to be read in pieces as by `Archive.stream`. Raises as `record` does."""
+        return self.archive(capture.filename).stream(capture.offset, length=capture.length)
+
+    def archive(self, name: str) -> Union[Archive, CompressedArchive]:
+        """Returns the archive of a file name in an index. Raises NoArchive, or `faults.CannotOpen`."""
+        return open_archive(self.path(name), program=self._program)
+
+    def path(self, name: str) -> Path:
+        """Returns the path of the archive of a file name in an index. There may be no such file. Raises NoArchive."""
+        if isinstance(self._archives, Mapping):
+            if name not in self._archives:
+                raise NoArchive(name)
+            return self._archives[name]
+        if not _is_below(name):
+            raise NoArchive(name)
+        return os.path.join(os.fspath(self._archives), name)
+
+    def close(self) -> None:
+        """Ends the processes of the index."""
+        self.index.close()
+
+    def __enter__(self) -> "Collection":
+        return self
+
+    def __exit__(
+        self, kind: Optional[type[BaseException]], error: Optional[BaseException], trace: Optional[TracebackType]
+    ) -> None:
+        self.close()
+
+
+def _is_below(name: str) -> bool:
+    """Returns whether a name is that of a file in a folder or below, without `..` and the like."""
+    try:
+        os.fsencode(name)
+    except UnicodeEncodeError:
+        return False
+    return "\0" not in name and not any(part in ("", ".", "..") for part in name.split("/"))

@@ -1,0 +1,264 @@
+"""What the commands of this package share: their arguments, output and messages, and how a signal ends them."""
+import argparse
+import contextlib
+import io
+import json
+import os
+import pathlib
+import signal
+import sys
+import tempfile
+import threading
+from collections.abc import Callable, Iterator, Sequence
+from types import FrameType
+from typing import IO, BinaryIO, NoReturn, Optional
+
+USAGE = 2  # the exit status after a usage error
+FAILED = 3  # the exit status if a file, memory, the output or a program failed
+NO_THREAD = "can't start new thread"  # the message of a RuntimeError if there is no memory for a thread
+_BUFFER = 1 << 16  # bytes
+_AGAIN = 0.001  # seconds
+
+
+class Ended(BaseException):
+    """A signal ends the command. No command handles it, but each one cleans up as it passes."""
+
+
+class OutputError(OSError):
+    """Standard output can't be written."""
+
+
+class _Signals:
+    """The signals that end a command. The first one raises Ended, where that is allowed. Later ones do nothing."""
+
+    def __init__(self) -> None:
+        self.number: Optional[int] = None
+        self._deferrals = 1
+
+    def catch(self) -> None:
+        """Handles the signals that aren't ignored."""
+        for number in (signal.SIGINT, signal.SIGTERM, signal.SIGHUP):
+            if signal.getsignal(number) is not signal.SIG_IGN:
+                signal.signal(number, self._handle)
+        signal.signal(signal.SIGALRM, self._handle_alarm)
+        sys.unraisablehook = self._handle_unraisable
+
+    @contextlib.contextmanager
+    def raising(self) -> Iterator[None]:
+        """Allows Ended to be raised in a block."""
+        self._deferrals -= 1
+        try:
+            if self.number is not None:
+                self._raise()
+            yield
+        finally:
+            self._deferrals += 1
+
+    @contextlib.contextmanager
+    def deferred(self) -> Iterator[None]:
+        """Raises Ended only after a block."""
+        was_ended = self.number is not None
+        self._deferrals += 1
+        try:
+            yield
+        finally:
+            self._deferrals -= 1
+        if not was_ended and self.number is not None:
+            self._raise()
+
+    def end(self) -> None:
+        """Ends the process by the signal that was handled, if any was."""
+        signal.setitimer(signal.ITIMER_REAL, 0)
+        if self.number is not None:
+            signal.signal(self.number, signal.SIG_DFL)
+            os.kill(os.getpid(), self.number)
+
+    def _handle(self, number: int, frame: Optional[FrameType]) -> None:
+        if self.number is None:
+            self.number = number
+            self._raise()
+
+    def _handle_unraisable(self, arguments: "sys.UnraisableHookArgs") -> None:
+        """Handles an exception in a finalizer, which ends there. Ended is raised again, a little later."""
+        if issubclass(arguments.exc_type, Ended):
+            signal.setitimer(signal.ITIMER_REAL, _AGAIN)
+        else:
+            sys.__unraisablehook__(arguments)
+
+    def _handle_alarm(self, number: int, frame: Optional[FrameType]) -> None:
+        if self._deferrals:
+            signal.setitimer(signal.ITIMER_REAL, _AGAIN)
+        self._raise()
+
+    def _raise(self) -> None:
+        if not self._deferrals:
+            raise Ended
+
+
+_signals = _Signals()
+
+
+def deferred() -> contextlib.AbstractContextManager[None]:
+    """Lets a signal end the command only after a block, such as one that makes what has to be removed later."""
+    return _signals.deferred()
+
+
+@contextlib.contextmanager
+def temporary_file() -> Iterator[IO[bytes]]:
+    """Makes a file without a name, which is gone when the block ends, also if a signal ends the command."""
+    with contextlib.ExitStack() as stack:
+        with deferred():
+            file = stack.enter_context(tempfile.TemporaryFile())
+        yield file
+
+
+@contextlib.contextmanager
+def temporary_folder() -> Iterator[pathlib.Path]:
+    """Makes a folder, and removes it and all that is in it, also if a signal ends the command."""
+    with contextlib.ExitStack() as stack:
+        with deferred():
+            name = stack.enter_context(tempfile.TemporaryDirectory(prefix="warcdx-"))
+        yield pathlib.Path(name)
+
+
+class Parser(argparse.ArgumentParser):
+    """Arguments of a command, whose description has its usage. A usage error is one line."""
+
+    def __init__(self, prog: str, description: Optional[str] = None) -> None:
+        super().__init__(
+            prog,
+            argparse.SUPPRESS,
+            description,
+            formatter_class=argparse.RawDescriptionHelpFormatter,
+            allow_abbrev=False,
+        )
+
+    def parse(self, arguments: Optional[Sequence[str]] = None) -> argparse.Namespace:
+        """Returns the arguments of the command. Those that aren't UTF-8 are usage errors, as in the program."""
+        words = sys.argv[1:] if arguments is None else arguments
+        for number, word in enumerate(words, 1):
+            if not _is_text(word):
+                self.error(f"argument {number} isn't UTF-8")
+        return self.parse_args(words)
+
+    def error(self, message: str) -> NoReturn:
+        report(self.prog, f"error: {printable(message)}")
+        sys.exit(USAGE)
+
+
+def _is_text(word: str) -> bool:
+    try:
+        word.encode()
+    except UnicodeEncodeError:
+        return False
+    return True
+
+
+class _StandardOutput(io.FileIO):
+    def write(self, data: "bytes | bytearray | memoryview") -> int:  # type: ignore[override]
+        try:
+            return super().write(data)
+        except OSError as error:
+            raise OutputError(error.errno, error.strerror) from None
+
+
+class _StandardError(io.RawIOBase):
+    """Standard error. What can't be written is lost, as there is no other place for it."""
+
+    def writable(self) -> bool:
+        return True
+
+    def write(self, data: "bytes | bytearray | memoryview") -> int:  # type: ignore[override]
+        left = memoryview(data)
+        with contextlib.suppress(OSError):
+            while left:
+                left = left[os.write(2, left) :]
+        return len(data)
+
+
+def run(name: str, work: Callable[[BinaryIO], int]) -> int:
+    """Runs a command, whose standard output is handed to `work`, and returns its exit status.
+
+    All bytes that `work` writes or prints are on standard output, or a line of standard error says why they
+    aren't and the status is 3. The same is true of memory that can't be allocated, and of a file that can't be
+    used. INT, TERM and HUP end the process as they do by default, after what `work` has made is removed and its
+    programs are ended.
+    """
+    _open_closed_streams()
+    _signals.catch()
+    threading.excepthook = _end_of_thread
+    # Unbuffered, a file of Python writes a part of what it is given. This one writes all of it.
+    output = io.BufferedWriter(_StandardOutput(1, "wb", closefd=False), _BUFFER)
+    if sys.stdin is None:  # it was closed
+        sys.stdin = io.TextIOWrapper(io.BufferedReader(io.FileIO(0, closefd=False)))
+    sys.stdout = io.TextIOWrapper(output, "utf-8", "surrogateescape", "\n", write_through=True)
+    errors = io.BufferedWriter(_StandardError())
+    sys.stderr = io.TextIOWrapper(errors, "utf-8", "backslashreplace", "\n", line_buffering=True)
+    try:
+        with _signals.raising():
+            try:
+                status = work(output)
+            except SystemExit as end:
+                status = end.code if isinstance(end.code, int) else 0
+            output.flush()
+    except Ended:
+        status = FAILED
+    except OutputError as error:
+        report(name, f"Write: {error.strerror}")
+        status = FAILED
+    except OSError as error:
+        report(name, _reason(error))
+        status = FAILED
+    except MemoryError:
+        report(name, "Memory")
+        status = FAILED
+    except RuntimeError as error:
+        if str(error) != NO_THREAD:
+            raise
+        report(name, "Memory")
+        status = FAILED
+    with contextlib.suppress(OSError, ValueError):  # what couldn't be written isn't written again
+        output.raw.close()
+        output.close()
+    _signals.end()
+    return status
+
+
+_usual_end_of_thread = threading.excepthook
+
+
+def _end_of_thread(arguments: threading.ExceptHookArgs) -> None:
+    """Handles an exception that has ended a thread. If memory couldn't be allocated, who waits for the thread says so."""
+    if not issubclass(arguments.exc_type, MemoryError):
+        _usual_end_of_thread(arguments)
+
+
+def _reason(error: OSError) -> str:
+    reason = error.strerror or str(error)
+    return reason if error.filename is None else f"{printable(os.fsdecode(error.filename))}: {reason}"
+
+
+def _open_closed_streams() -> None:
+    """Opens files that can't be used as the standard streams that are closed.
+
+    So no other file takes their places.
+    """
+    for number, mode in ((0, os.O_WRONLY), (1, os.O_RDONLY), (2, os.O_RDONLY)):
+        try:
+            os.fstat(number)
+        except OSError:
+            opened = os.open(os.devnull, mode)
+            if opened != number:
+                os.dup2(opened, number)
+                os.close(opened)
+            os.set_inheritable(number, True)
+
+
+def report(name: str, text: str) -> None:
+    """Writes a line to standard error, if that is possible."""
+    _StandardError().write(f"{name}: {text}\n".encode(errors="surrogateescape"))
+
+
+def printable(text: str) -> str:
+    """Returns a text as it is if a terminal shows it as one line and as it is, and else as a JSON string."""
+    return text if text.isprintable() else json.dumps(text)

@@ -1,0 +1,129 @@
+"""Work of a command that processes do side by side, with their outputs in order."""
+import contextlib
+import os
+import pathlib
+import shutil
+import signal
+from collections.abc import Callable, Sequence
+from typing import IO, BinaryIO, NoReturn
+
+from .command import FAILED, deferred, printable, report, run, temporary_folder
+from .errors import Error
+
+Work = Callable[[BinaryIO], int]
+BROKEN = 64  # is added to the exit status of a process whose work has failed by an exception
+_MOST_SAID = 1 << 16  # bytes that a pipe holds
+
+
+def run_in_order(name: str, works: Sequence[Work], most: int, output: BinaryIO) -> int:
+    """Runs each work of a command in a process of its own, at most `most` at a time. Returns the largest exit status.
+
+    Writes their outputs in the order of the works. Until then they are in temporary files. A work that fails by
+    an exception is the last, and is reported.
+    """
+    status = 0
+    with temporary_folder() as folder, contextlib.closing(_Workers(name, works, folder)) as workers:
+        for number in range(len(works)):
+            output.flush()  # so that no process has a copy of what isn't written yet
+            while number not in workers.statuses:
+                workers.start_to(most)
+                workers.wait()
+            status = max(status, workers.statuses[number] % BROKEN)
+            with open(workers.part(number), "rb") as part:
+                shutil.copyfileobj(part, output)
+            os.remove(workers.part(number))
+            workers.report(number)
+            if workers.statuses[number] >= BROKEN:
+                break
+    return status
+
+
+def failure(name: str, error: Error) -> int:
+    """Reports an exception that ends a command on one line, and returns the exit status."""
+    report(name, printable(str(error).partition("\n")[0]))
+    return FAILED
+
+
+class _Workers:
+    """The processes: those that run, and the exit statuses of those that have ended, by the numbers of their works."""
+
+    def __init__(self, name: str, works: Sequence[Work], folder: pathlib.Path) -> None:
+        self.statuses: dict[int, int] = {}
+        self._name = name
+        self._works = works
+        self._folder = folder
+        self._started = 0
+        self._running: dict[int, int] = {}  # the numbers of the works, by process IDs
+        self._errors: dict[int, IO[bytes]] = {}  # pipes from the standard errors of those that run
+        self._said: dict[int, bytes] = {}  # what those that have ended have written there
+
+    def part(self, number: int) -> pathlib.Path:
+        """Returns the file with the output of a work."""
+        return self._folder / str(number)
+
+    def start_to(self, most: int) -> None:
+        """Starts processes until `most` run, or each work has one."""
+        while len(self._running) < most and self._started < len(self._works):
+            with deferred(), open(self.part(self._started), "wb") as part:
+                reading_end, writing_end = os.pipe()
+                self._errors[self._started] = open(reading_end, "rb", buffering=0)
+                try:
+                    identifier = os.fork()
+                    if not identifier:
+                        self._work(self._started, part.fileno(), writing_end)
+                finally:
+                    os.close(writing_end)
+                self._running[identifier] = self._started
+                self._started += 1
+
+    def wait(self) -> None:
+        """Waits until a process ends. One that a signal has ended is reported, and has no output."""
+        found = os.waitid(os.P_ALL, 0, os.WEXITED | os.WNOWAIT)
+        assert found is not None
+        with deferred():
+            number = self._running.pop(found.si_pid)
+            status = os.waitstatus_to_exitcode(os.waitpid(found.si_pid, 0)[1])
+            if status < 0:
+                report(self._name, f"a process has ended with signal {-status}")
+                os.truncate(self.part(number), 0)
+            with self._errors.pop(number) as error:
+                self._said[number] = error.read(_MOST_SAID)
+            self.statuses[number] = BROKEN + FAILED if status < 0 else status
+
+    def report(self, number: int) -> None:
+        """Writes what a work has written to standard error, which is less than a pipe holds."""
+        text = self._said.pop(number)
+        with contextlib.suppress(OSError):
+            while text:
+                text = text[os.write(2, text) :]
+
+    def close(self) -> None:
+        """Ends the processes that run."""
+        with deferred():
+            for identifier in self._running:
+                os.kill(identifier, signal.SIGTERM)
+            for identifier in self._running:
+                os.waitpid(identifier, 0)
+            for error in self._errors.values():
+                error.close()
+
+    def _work(self, number: int, part: int, said: int) -> NoReturn:
+        """Does a work as a command of its own, whose standard output and error are these files."""
+        status, is_done = FAILED, False
+
+        def work(output: BinaryIO) -> int:
+            nonlocal is_done
+            try:
+                status = self._works[number](output)
+            except Error as error:
+                return failure(self._name, error)
+            output.flush()
+            is_done = True
+            return status
+
+        try:
+            os.dup2(part, 1)
+            os.dup2(said, 2)
+            status = run(self._name, work)
+        finally:
+            os._exit(status if is_done else BROKEN + status)

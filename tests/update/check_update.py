@@ -1,0 +1,488 @@
+#!/usr/bin/python3
+"""Runs warcdx-update over folders of archives, and compares its index with what `warcdx index` writes of all of them.
+
+usage: check_update.py [--seed N] [PROGRAM]
+
+Prints a line for each case, and the counts. The exit status is 0, or 1 if a case differs. Some cases need root, or Debian's packages
+strace and python3-tqdm; without these they are left out. The moments at which runs are killed follow from N.
+"""
+import contextlib
+import importlib.util
+import json
+import os
+import pathlib
+import pty
+import random
+import re
+import shutil
+import signal
+import subprocess
+import sys
+import tempfile
+import time
+
+from update_trial import (
+    FAILING, SLOW, WAIT, Differs, Trial, children_of, compressed, copy_sample, expect, index_of, index_of_folders, kill_group, merged, sample, until
+)
+
+from program import Report, add_program, find_program, parser_of  # isort: skip
+
+MANY = 1000
+KILLS = 20
+
+
+def many_archives(program: pathlib.Path, folder: pathlib.Path, number: int) -> Trial:
+    """Returns a trial with this number of archives. Of twenty, one is compressed, and two are damaged."""
+    trial = Trial(program, folder)
+    for path in trial.archives.iterdir():
+        path.unlink()
+    record = sample("response")
+    for each in range(number):
+        archive = record.replace(b"http://example.com/", b"http://example.com/%d" % each) * 3
+        kind = each % 20
+        name = f"{each:04}.warc" + (".gz" if kind == 3 else "")
+        archive = archive[:-5] if kind in (9, 19) else compressed(archive) if kind == 3 else archive
+        (trial.archives / name).write_bytes(archive)
+    trial.wanted = index_of_many(program, trial, folder)
+    return trial
+
+
+def index_of_many(program: pathlib.Path, trial: Trial, folder: pathlib.Path) -> bytes:
+    """Returns the index of the archives of a folder, by one run for the plain ones and one for the others."""
+    plain, packed = folder / "plain.cdxj", folder / "packed.cdxj"
+    plain.write_bytes(trial.index_of("*.warc"))
+    command = (str(pathlib.Path(__file__).resolve().parents[2] / "python/bin/warcdx-gz"), "--warcdx", str(program), "index")
+    packed.write_bytes(subprocess.run((*command, *sorted(trial.archives.glob("*.gz"))), stdout=subprocess.PIPE).stdout)
+    return merged(program, [plain, packed])
+
+
+def damaged_of(trial: Trial) -> dict[str, int]:
+    return {path.name: 1 for path in trial.archives.glob("*9.warc")}
+
+
+def the_index_of_a_thousand_archives(program: pathlib.Path, folder: pathlib.Path) -> None:
+    """Nothing is read again by a second run. One more archive is the only one that a third run reads."""
+    trial = many_archives(program, folder, MANY)
+    expect("captures", trial.wanted.count(b"\n"), 3 * MANY - MANY // 10)  # a damaged one has two
+    expect("status", trial.run(), 1)
+    trial.expect_results(damaged_of(trial), trial.wanted)
+    lines = [line for line in trial.said if re.search(r"archives, [0-9]+ %$", line)]
+    expect("lines of progress", (len(lines) <= 101, lines[-1]), (True, "warcdx-update: 1,000 of 1,000 archives, 100 %"))
+    trial.forget()
+    identity = os.stat(trial.index)
+    expect("status of a second run", trial.run(), 1)
+    expect("archives of a second run", trial.begun, [])
+    expect("index of a second run", os.stat(trial.index), identity)
+    trial.expect_results(damaged_of(trial), trial.wanted)
+
+
+def only_a_new_archive_is_read(program: pathlib.Path, folder: pathlib.Path) -> None:
+    if shutil.which("strace") is None:
+        print("skipped  only a new archive is read: strace is missing (Debian's package strace)")
+        return
+    trial = many_archives(program, folder, 50)
+    expect("status", trial.run(), 1)
+    copy_sample("wget", trial.archives / "new.warc")
+    trace = folder / "trace"
+    calls = ("strace", "--follow-forks", "--decode-fds=path", "--trace=read,pread64,readv", "--output", str(trace))
+    subprocess.run((*calls, *trial.command("--quiet")), stderr=subprocess.DEVNULL)
+    reads: dict[str, int] = {}
+    for path, count in re.findall(r"\(\d+<([^>]*)>.* = (\d+)$", trace.read_text(errors="replace"), re.MULTILINE):
+        if path.startswith(str(trial.archives)):
+            reads[pathlib.Path(path).name] = reads.get(pathlib.Path(path).name, 0) + int(count)
+    size = (trial.archives / "new.warc").stat().st_size
+    expect("archives that are read", list(reads), ["new.warc"])
+    expect("bytes that are read", reads["new.warc"] <= size + 2, True)
+    trial.expect_results(damaged_of(trial), index_of_many(program, trial, folder))
+
+
+def a_run_that_is_killed_loses_nothing(program: pathlib.Path, folder: pathlib.Path) -> None:
+    """Runs over more and more archives are killed at random moments. After each, the index is the one of before, or the new one."""
+    trial = many_archives(program, folder, 60)
+    begin = time.monotonic()
+    expect("status", trial.run(), 1)
+    seconds = time.monotonic() - begin
+    for number in range(KILLS):
+        before = trial.index.read_bytes()
+        for each in RANDOM.sample(sorted(trial.archives.iterdir()), 20):
+            archive = each.read_bytes()
+            each.write_bytes(archive + (compressed(sample("response")) if each.suffix == ".gz" else sample("response")))
+        (trial.archives / f"new-{number}.warc").write_bytes(sample("wget"))
+        wanted = index_of_many(program, trial, folder)
+        work = trial.start(start_new_session=True)
+        time.sleep(RANDOM.uniform(0.02, seconds))
+        kill_group(work, signal.SIGKILL)
+        work.wait()
+        expect(f"index after kill {number}", trial.index.read_bytes() in (before, wanted), True)
+        if number % 4 == 3:
+            expect("status", trial.run(), 1)
+            trial.expect_results({path.name: 1 for path in trial.archives.iterdir() if trial.reports[path.name]["status"]}, wanted)
+
+
+def a_signal_ends_a_run(program: pathlib.Path, folder: pathlib.Path) -> None:
+    """It ends as the signal says, without a word. No program goes on, and nothing is left but the parts that are whole."""
+    trial = Trial(program, folder, SLOW)
+    temporary = folder / "temporary"
+    temporary.mkdir()
+    for number in (signal.SIGINT, signal.SIGTERM):
+        for delay in (0.1, 0.2, 0.4, 0.7, 1.0):
+            shutil.rmtree(trial.parts, ignore_errors=True)
+            work = trial.start("--quiet", "--jobs", "2", env={**os.environ, "TMPDIR": str(temporary)})
+            time.sleep(delay)
+            children = children_of(work.pid)
+            os.kill(work.pid, number)
+            expect("status", work.wait(WAIT), -number)
+            expect("lines", trial.said, [])
+            for child in children:
+                until("the end of the programs", lambda: not os.path.exists(f"/proc/{child}"))
+            expect("temporary files", list(temporary.iterdir()), [])
+            expect("unfinished files", (trial.parts / "unfinished").exists(), False)
+    kept = trial.done
+    trial.forget()
+    expect("status", trial.run(), 1)
+    expect("archives of the last run", {name for _, name in trial.begun} & kept, set())
+    trial.expect_results({"07.warc": 1}, trial.wanted)
+
+
+def an_archive_that_fails_is_tried_again_and_reported(program: pathlib.Path, folder: pathlib.Path) -> None:
+    """Without an earlier part it is left out."""
+    trial = Trial(program, folder, FAILING)
+    (trial.archives / "below").mkdir()
+    (trial.archives / "05.warc").rename(trial.archives / "below/05.warc")
+    expect("status", trial.run("--recursive"), 3)
+    expect("tries", [name for _, name in trial.begun if name.endswith("05.warc")], ["below/05.warc"] * 3)
+    trial.expect_results({"below/05.warc": 3, "07.warc": 1}, trial.index_of("*.warc"))
+    expect("line", "warcdx-update: below/05.warc: cannot open; left out" in trial.said, True)
+
+
+def an_archive_that_cannot_be_read_keeps_its_part(program: pathlib.Path, folder: pathlib.Path) -> None:
+    trial = Trial(program, folder)
+    expect("status", trial.run(), 1)
+    (trial.archives / "05.warc").unlink()
+    (trial.archives / "05.warc").symlink_to("nothing")
+    expect("status", trial.run(), 3)
+    trial.expect_results({"05.warc": 3, "07.warc": 1}, trial.wanted)
+    expect("line", "warcdx-update: 05.warc: No such file or directory; the index keeps its captures" in trial.said, True)
+    (trial.archives / "05.warc").unlink()
+    expect("status without the archive", trial.run(), 1)
+    trial.expect_results({"07.warc": 1}, trial.index_of("*.warc"))
+    expect("action", trial.reports["05.warc"]["action"], "removed")
+
+
+def a_file_may_have_any_name(program: pathlib.Path, folder: pathlib.Path) -> None:
+    """Only one that isn't UTF-8 can't be indexed. Each archive at fault has one line, which a terminal shows as it is."""
+    trial = Trial(program, folder)
+    good = ("-x.warc", ".hidden.warc", ".warc", "a b.warc", "a\nb.warc", "\x1b[31m.warc", "*.warc", "$(false).warc", f"{'n' * 250}.warc", 'é"\\.warc')
+    for name in (*good, os.fsdecode(b"\xff.warc")):
+        copy_sample("response", trial.archives / name)
+    copy_sample("damaged", trial.archives / "damaged\n\x1b.warc")
+    (trial.archives / "folder.warc").mkdir()
+    os.mkfifo(trial.archives / "pipe.warc")
+    archives = sorted(path for path in trial.archives.iterdir() if path.is_file() and path.name != os.fsdecode(b"\xff.warc"))
+    expect("status", trial.run(), 3)
+    faulty = {"07.warc": 1, "damaged\n\x1b.warc": 1, "pipe.warc": 3, os.fsdecode(b"\xff.warc"): 3}
+    trial.expect_results(faulty, index_of(program, archives))
+    expect("lines of faults", sum(": fault " in line or "; left out" in line for line in trial.said), len(faulty))
+    said = (folder / "said").read_text()
+    expect("characters", [each for each in set(said) - {"\n"} if not each.isprintable()], [])
+
+
+def archives_are_told_apart_by_their_first_bytes(program: pathlib.Path, folder: pathlib.Path) -> None:
+    trial = Trial(program, folder)
+    (trial.archives / "packed.warc").write_bytes(compressed(sample("response")))
+    (trial.archives / "plain.warc.gz").write_bytes(sample("response"))
+    (trial.archives / "empty.warc").touch()
+    (trial.archives / "empty.warc.gz").touch()
+    expect("status", trial.run(), 1)
+    trial.expect_results({"07.warc": 1}, index_of_folders(program, trial.archives, folder))
+
+
+def files_have_the_modes_of_the_umask(program: pathlib.Path, folder: pathlib.Path) -> None:
+    """An index that was there keeps its mode."""
+    trial = Trial(program, folder)
+    expect("status", trial.start(umask=0o027).wait(WAIT), 1)
+    made = [trial.index, trial.folder / "all.cdxj.summary.json", *trial.parts.iterdir()]
+    expect("modes", {oct(path.stat().st_mode & 0o777) for path in made}, {"0o640"})
+    trial.index.chmod(0o604)
+    (trial.archives / "03.warc").unlink()
+    expect("status", trial.run(), 1)
+    expect("mode", oct(trial.index.stat().st_mode & 0o777), "0o604")
+
+
+def folders_below_are_read_if_they_are_to_be(program: pathlib.Path, folder: pathlib.Path) -> None:
+    """An archive has the name of its path, so that those of the same file name in several folders are distinct."""
+    trial = Trial(program, folder)
+    below = trial.archives / "a" / 'b "\\é\n'
+    below.mkdir(parents=True)
+    for name in ("00.warc", "below.warc"):
+        copy_sample("wget", below / name)
+    for name in ("00.warc.gz", ".warc.gz"):
+        (below / name).write_bytes(compressed(sample("response")))
+    (trial.archives / "00.cdxj").mkdir()
+    (trial.archives / "00.cdxj" / "damaged.warc.gz").write_bytes(compressed(sample("damaged")))
+    (trial.archives / "cycle").symlink_to(".")
+    expect("status", trial.run("--recursive"), 1)
+    faulty = {"07.warc": 1, "00.cdxj/damaged.warc.gz": 1}
+    (trial.archives / "cycle").unlink()
+    trial.expect_results(faulty, index_of_folders(program, trial.archives, folder))
+    expect("status without --recursive", trial.run(), 1)
+    trial.expect_results({"07.warc": 1}, trial.wanted)
+
+
+def a_folder_that_cannot_be_read_keeps_its_captures(program: pathlib.Path, folder: pathlib.Path) -> None:
+    """As root can read each folder, the command is run by another user."""
+    if os.getuid():
+        print("skipped  a folder that cannot be read: only root can run a command as another user")
+        return
+    trial = Trial(program, folder)
+    (trial.archives / "below").mkdir()
+    copy_sample("wget", trial.archives / "below/a.warc")
+    (trial.folder / "said").touch()
+    for path in (folder, *folder.rglob("*")):
+        os.chown(path, 65534, 65534)
+    nobody = {"user": 65534, "group": 65534, "extra_groups": ()}
+    expect("status", trial.start("--recursive", **nobody).wait(WAIT), 1)
+    wanted = index_of_folders(program, trial.archives, folder)
+    (trial.archives / "below").chmod(0)
+    (trial.archives / "03.warc").chmod(0)
+    os.utime(trial.archives / "03.warc")
+    expect("status", trial.start("--recursive", **nobody).wait(WAIT), 3)
+    trial.expect_results({"07.warc": 1, "below/": 3, "below/a.warc": 3, "03.warc": 3}, wanted)
+    trial.archives.chmod(0)
+    before = trial.index.stat()
+    expect("status of a folder that is unreadable", trial.start("--recursive", **nobody).wait(WAIT), 3)
+    expect("lines", trial.said, [f"warcdx-update: {trial.archives}: Permission denied"])
+    expect("index", trial.index.stat(), before)
+
+
+def a_further_run_indexes_what_is_new(program: pathlib.Path, folder: pathlib.Path) -> None:
+    """That is a new archive, and one that was changed, if only in its size or its inode. What was damaged is still reported."""
+    trial = Trial(program, folder)
+    expect("status", trial.run(), 1)
+    (trial.archives / "03.warc").unlink()
+    usual = (trial.archives / "09.warc").stat().st_mtime_ns
+    for name in ("05.warc", "09.warc", "new.warc"):
+        copy_sample("response", trial.archives / name)
+    os.utime(trial.archives / "09.warc", ns=(usual, usual))
+    same = (trial.archives / "11.warc").stat().st_mtime_ns
+    shutil.copy2(trial.archives / "11.warc", folder / "11.warc")
+    os.replace(folder / "11.warc", trial.archives / "11.warc")
+    expect("time", (trial.archives / "11.warc").stat().st_mtime_ns, same)
+    trial.forget()
+    dry = subprocess.run(trial.command("--dry-run"), stdout=subprocess.PIPE, check=True).stdout.decode()
+    expect("what would be done", dry, "index 05.warc\nindex 09.warc\nindex 11.warc\nindex new.warc\nremove 03.warc\n")
+    expect("status", trial.run(), 1)
+    expect("archives", {name for _, name in trial.begun}, {"05.warc", "09.warc", "11.warc", "new.warc"})
+    trial.expect_results({"07.warc": 1}, trial.index_of("*.warc"))
+
+
+def a_line_of_the_log_that_is_broken_off_is_indexed_again(program: pathlib.Path, folder: pathlib.Path) -> None:
+    trial = Trial(program, folder)
+    expect("status", trial.run(), 1)
+    log = trial.parts / "log.jsonl"
+    *lines, last, _ = log.read_text().split("\n")
+    log.write_text("\n".join([*lines, "\0\0\0", last[:20]]))
+    trial.forget()
+    expect("status", trial.run(), 1)
+    expect("archives", [name for _, name in trial.begun], [json.loads(last)[0]])
+    trial.expect_results({"07.warc": 1}, trial.wanted)
+
+
+def a_terminal_shows_the_bytes(program: pathlib.Path, folder: pathlib.Path) -> None:
+    trial = Trial(program, folder)
+    if importlib.util.find_spec("tqdm") is None:
+        print("skipped  a terminal shows the bytes: the module tqdm is missing (Debian's package python3-tqdm)")
+        return
+    size = sum(path.stat().st_size for path in trial.archives.iterdir())
+    terminal, device = pty.openpty()
+    with subprocess.Popen(trial.command(), stdin=subprocess.DEVNULL, stderr=device) as work:
+        os.close(device)
+        shown = bytearray()
+        with contextlib.suppress(OSError):  # the end of a terminal
+            while piece := os.read(terminal, 1024):
+                shown += piece
+    os.close(terminal)
+    expect("status", work.returncode, 1)
+    lines = re.split(rb"[\r\n]+", bytes(shown))
+    expect("lines", all(line.startswith((b"12 archives: ", b"warcdx-update: ")) or not line.strip() for line in lines), True)
+    expect("bytes", any(b"/%.2fM " % (size / 1e6) in line for line in lines), True)
+    trial.expect_results({"07.warc": 1}, trial.wanted)
+
+
+def a_second_run_is_refused(program: pathlib.Path, folder: pathlib.Path) -> None:
+    trial = Trial(program, folder, SLOW)
+    first = trial.start()
+    until("the first run", lambda: trial.begun)
+    second = subprocess.run(trial.command(), stderr=subprocess.PIPE)
+    expect("status", second.returncode, 3)
+    expect("line", second.stderr.decode(), f"warcdx-update: {trial.index}: another process updates this index\n")
+    expect("status of the first run", first.wait(WAIT), 1)
+    trial.expect_results({"07.warc": 1}, trial.wanted)
+
+
+def another_file_is_not_replaced(program: pathlib.Path, folder: pathlib.Path) -> None:
+    trial = Trial(program, folder)
+    copy_sample("wget", trial.index)
+    expect("status", trial.run(), 3)
+    expect("line", trial.said, [f"warcdx-update: {trial.index}: this file isn't an index, and isn't replaced"])
+    expect("file", trial.index.read_bytes(), sample("wget"))
+    expect("parts", trial.parts.exists(), False)
+    trial.index.write_bytes(trial.wanted[: trial.wanted.index(b"\n") + 1])
+    expect("status over an index", trial.run(), 1)
+    trial.expect_results({"07.warc": 1}, trial.wanted)
+
+
+def parts_that_are_damaged_leave_the_index(program: pathlib.Path, folder: pathlib.Path) -> None:
+    """`warcdx check` doesn't accept an index of a part that something else has changed."""
+    trial = Trial(program, folder)
+    expect("status", trial.run(), 1)
+    part = next(path for path in trial.parts.iterdir() if not path.suffix and path.stat().st_size > 1000)
+    part.write_bytes(bytes(part.stat().st_size))
+    copy_sample("response", trial.archives / "new.warc")
+    expect("status", trial.run(), 3)
+    expect("index", trial.index.read_bytes() == trial.wanted, True)
+    part.unlink()
+    expect("status without the part", trial.run(), 1)
+    trial.expect_results({"07.warc": 1}, trial.index_of("*.warc"))
+
+
+def a_full_disk_is_reported(program: pathlib.Path, folder: pathlib.Path) -> None:
+    """What doesn't fit isn't in the index, or the index stays as it was. With room, a further run adds the rest."""
+    trial = Trial(program, folder)
+    disk = folder / "disk"
+    disk.mkdir()
+    if subprocess.run(("mount", "-t", "tmpfs", "-o", "size=64k", "tmpfs", disk), stderr=subprocess.DEVNULL).returncode:
+        print("skipped  a full disk: only root can make one")
+        return
+    try:
+        trial.index, trial.parts = disk / "all.cdxj", disk / "all.cdxj.parts"
+        for setting in ({}, {"PYTHONUNBUFFERED": "1"}):
+            expect("status", trial.start(env={**os.environ, **setting}).wait(WAIT), 3)
+            expect("reason", "No space left on device" in "\n".join(trial.said), True)
+            expect("tracebacks", "Traceback" in "\n".join(trial.said), False)
+            expect("index", trial.index.exists(), False)
+        subprocess.run(("mount", "-o", "remount,size=64m", disk), check=True)
+        expect("status with room", trial.run(), 1)
+        expect("index", trial.index.read_bytes() == trial.wanted, True)
+        trial.expect_parts()
+    finally:
+        subprocess.run(("umount", disk), check=True)
+
+
+def streams_may_be_closed(program: pathlib.Path, folder: pathlib.Path) -> None:
+    trial = Trial(program, folder)
+    for closed in ("<&-", ">&-", "2>&-", "<&- >&- 2>&-"):
+        for setting in ({}, {"PYTHONUNBUFFERED": "1"}):
+            shell = ("sh", "-c", f'exec "$@" {closed}', "sh", *trial.command())
+            with open(folder / "said", "wb") as said:
+                expect(closed, subprocess.run(shell, stderr=said, env={**os.environ, **setting}).returncode, 1)
+            trial.expect_results({"07.warc": 1}, trial.wanted)
+            shutil.rmtree(trial.parts)
+            trial.index.unlink()
+
+
+def memory_may_be_refused(program: pathlib.Path, folder: pathlib.Path) -> None:
+    """A run fails, or has the whole result. Each one says why, and a run with memory goes on."""
+    trial = Trial(program, folder)
+    statuses = set()
+    for megabytes in range(16, 112, 8):
+        limit = ("prlimit", f"--as={megabytes << 20}", *trial.command("--jobs", "2", "--quiet"))
+        done = subprocess.run(limit, stderr=subprocess.PIPE, stdout=subprocess.DEVNULL)
+        started = b"warcdx" in done.stderr or done.returncode in (0, 1)
+        if not started:  # Python itself had no memory
+            continue
+        statuses.add(done.returncode)
+        expect(f"status with {megabytes} MB", done.returncode in (1, 3), True)
+        expect(f"lines with {megabytes} MB", b"Traceback" in done.stderr, False)
+        expect("unfinished files", (trial.parts / "unfinished").exists(), False)
+    expect("statuses", statuses, {1, 3})
+    expect("status", trial.run(), 1)
+    trial.expect_results({"07.warc": 1}, trial.wanted)
+
+
+def the_summary_counts_the_captures(program: pathlib.Path, folder: pathlib.Path) -> None:
+    """The values are those of the samples, by hand: response.warc has one capture of 2016."""
+    trial = Trial(program, folder)
+    for path in trial.archives.iterdir():
+        path.unlink()
+    for name in ("a", "b", "c"):
+        copy_sample("response", trial.archives / f"{name}.warc")
+    copy_sample("damaged", trial.archives / "damaged.warc")
+    expect("status", trial.run(), 1)
+    trial_summary = lambda: json.loads((folder / "all.cdxj.summary.json").read_text())  # noqa: E731
+    summary = trial_summary()
+    damage = subprocess.run((program, "list", trial.archives / "damaged.warc"), stdout=subprocess.PIPE, text=True).stdout.split()
+    wanted = {
+        "archives": 4,
+        "bytes": 3 * len(sample("response")) + len(sample("damaged")),
+        "damaged": [{"archive": "damaged.warc", "offset": int(damage[-2]), "cause": damage[-1]}],
+    }
+    expect("summary", {name: summary[name] for name in wanted}, wanted)
+    (trial.archives / "damaged.warc").unlink()
+    (trial.archives / "c.warc").unlink()
+    expect("status", trial.run(), 0)
+    summary = trial_summary()
+    made = summary.pop("made")
+    expect("time", bool(re.fullmatch(r"20[0-9]{2}-[0-9]{2}-[0-9]{2}T[0-9]{2}:[0-9]{2}:[0-9]{2}Z", made)), True)
+    expect(
+        "summary",
+        summary,
+        {
+            "archives": 2,
+            "bytes": 2 * len(sample("response")),
+            "captures": 2,
+            "years": {"2016": 2},
+            "hosts": {"example.com": 2},
+            "types": {"text/html": 2},
+            "statuses": {"200": 2},
+            "damaged": [],
+        },
+    )
+
+
+CASES = (
+    the_index_of_a_thousand_archives,
+    only_a_new_archive_is_read,
+    a_run_that_is_killed_loses_nothing,
+    a_signal_ends_a_run,
+    an_archive_that_fails_is_tried_again_and_reported,
+    an_archive_that_cannot_be_read_keeps_its_part,
+    a_file_may_have_any_name,
+    archives_are_told_apart_by_their_first_bytes,
+    files_have_the_modes_of_the_umask,
+    folders_below_are_read_if_they_are_to_be,
+    a_folder_that_cannot_be_read_keeps_its_captures,
+    a_further_run_indexes_what_is_new,
+    a_line_of_the_log_that_is_broken_off_is_indexed_again,
+    a_terminal_shows_the_bytes,
+    a_second_run_is_refused,
+    another_file_is_not_replaced,
+    parts_that_are_damaged_leave_the_index,
+    a_full_disk_is_reported,
+    streams_may_be_closed,
+    memory_may_be_refused,
+    the_summary_counts_the_captures,
+)
+RANDOM = random.Random(1)
+
+
+def main() -> int:
+    parser, report = parser_of(__doc__), Report()
+    parser.add_argument("--seed", type=int, default=1, metavar="N", help="default: 1")
+    add_program(parser)
+    given = parser.parse_args()
+    RANDOM.seed(given.seed)
+    program = find_program(given.program)
+    for case in CASES:
+        title = case.__name__.replace("_", " ")
+        with tempfile.TemporaryDirectory() as name:
+            try:
+                case(program, pathlib.Path(name))
+                report.add_ok(title)
+            except Differs as difference:
+                report.add_difference(title, difference)
+    return report.end()
+
+
+if __name__ == "__main__":
+    sys.exit(main())

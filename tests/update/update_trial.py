@@ -1,0 +1,190 @@
+"""A folder of archives, and runs of warcdx-update over it, for the scripts of this folder."""
+import contextlib
+import gzip
+import json
+import os
+import pathlib
+import shutil
+import signal
+import subprocess
+import sys
+import time
+from collections.abc import Callable, Iterable, Sequence
+from typing import Any
+
+sys.path.insert(0, str(pathlib.Path(__file__).resolve().parents[1]))
+
+from program import ROOT
+
+signal.signal(signal.SIGINT, signal.default_int_handler)  # a job in the background ignores it, and so would its commands
+
+COMMAND = ROOT / "python/bin/warcdx-update"
+GZ = ROOT / "python/bin/warcdx-gz"
+WAIT = 120  # seconds for what takes a few
+RECORD_END = b"\r\n\r\n"
+# Notes its parent and the archive that it begins, and then takes half a second.
+SLOW = """#!/bin/sh
+[ "$1" = index ] || exec "%(program)s" "$@"
+echo "$PPID ${2#./}" >> "%(folder)s/begun"
+sleep 0.5
+exec "%(program)s" "$@"
+"""
+FAST = SLOW.replace("sleep 0.5\n", "")
+# Fails as on a machine that can't reach a file.
+FAILING = """#!/bin/sh
+[ "$1" = index ] || exec "%(program)s" "$@"
+echo "$PPID ${2#./}" >> "%(folder)s/begun"
+case $2 in */05.warc) echo "warcdx: $2: cannot open" >&2; exit 3;; esac
+exec "%(program)s" "$@"
+"""
+
+
+class Differs(Exception):
+    """What differs."""
+
+
+def expect(name: str, found: object, wanted: object) -> None:
+    if found != wanted:
+        raise Differs(f"{name}: {found} for {wanted}")
+
+
+def until(name: str, holds: Callable[[], Any]) -> Any:
+    """Waits until something holds, and returns it."""
+    end = time.monotonic() + WAIT
+    while time.monotonic() < end:
+        if found := holds():
+            return found
+        time.sleep(0.02)
+    raise Differs(f"{name}: not within {WAIT} s")
+
+
+def index_of(program: pathlib.Path, archives: Iterable[pathlib.Path]) -> bytes:
+    """Returns what the program writes of plain archives."""
+    return subprocess.run((program, "index", *archives), stdout=subprocess.PIPE, stderr=subprocess.PIPE).stdout
+
+
+def index_of_folders(program: pathlib.Path, folder: pathlib.Path, work: pathlib.Path) -> bytes:
+    """Returns the index of all archives below a folder: that of each, with its path as the file name, merged."""
+    parts = []
+    for archive in sorted(folder.rglob("*.warc*")):
+        name = json.dumps(str(archive.relative_to(folder)), ensure_ascii=False)
+        is_compressed = archive.read_bytes()[:2] == b"\x1f\x8b"
+        command = (GZ, "--warcdx", program) if is_compressed else (program,)
+        lines = subprocess.run((*command, "index", archive), stdout=subprocess.PIPE, stderr=subprocess.PIPE).stdout
+        parts.append(work / f"{len(parts)}.part")
+        old = f'"filename": {json.dumps(archive.name, ensure_ascii=False)}}}\n'
+        parts[-1].write_bytes(lines.replace(old.encode(), f'"filename": {name}}}\n'.encode()))
+    return merged(program, parts)
+
+
+def merged(program: pathlib.Path, indexes: Sequence[pathlib.Path]) -> bytes:
+    return subprocess.run((program, "merge", *indexes), stdout=subprocess.PIPE, check=True).stdout
+
+
+def sample(name: str) -> bytes:
+    return (ROOT / f"samples/{name}.warc").read_bytes()
+
+
+def compressed(archive: bytes) -> bytes:
+    """Returns a compressed archive with these records, each of which is a member."""
+    parts = [b"WARC/1." + part for part in archive.split(RECORD_END + b"WARC/1.")]
+    parts[0] = parts[0][len(b"WARC/1.") :]
+    return b"".join(gzip.compress(part + RECORD_END, mtime=0) for part in parts[:-1]) + gzip.compress(parts[-1], mtime=0)
+
+
+class Trial:
+    """A folder with twelve archives, one of them damaged, a program, and what warcdx-update makes of them."""
+
+    def __init__(self, program: pathlib.Path, folder: pathlib.Path, script: str = FAST) -> None:
+        self.folder, self.archives, self.index = folder, folder / "archives", folder / "all.cdxj"
+        self.parts = folder / "all.cdxj.parts"
+        self.archives.mkdir()
+        for number in range(12):
+            name = "damaged" if number == 7 else "wget" if number % 2 else "response"
+            (self.archives / f"{number:02}.warc").write_bytes(sample(name))
+        self.program = folder / "program"
+        self.program.write_text(script % {"folder": folder, "program": program})
+        self.program.chmod(0o755)
+        self._built = program
+        self.wanted = self.index_of("*.warc")
+
+    def index_of(self, pattern: str) -> bytes:
+        """Returns the index of the plain archives of this pattern."""
+        return index_of(self._built, sorted(self.archives.glob(pattern)))
+
+    def command(self, *words: object) -> list[str]:
+        options = ("--warcdx", self.program, "--warcdx-gz", GZ, "--report", self.folder / "report")
+        return [*map(str, (COMMAND, *options, *words)), str(self.archives), str(self.index)]
+
+    def start(self, *words: object, **options: Any) -> "subprocess.Popen[bytes]":
+        with open(self.folder / "said", "wb") as said:
+            return subprocess.Popen(self.command(*words), stdin=subprocess.DEVNULL, stderr=said, **options)
+
+    def run(self, *words: object) -> int:
+        """Runs warcdx-update, and returns its exit status."""
+        return self.start(*words).wait(WAIT)
+
+    @property
+    def said(self) -> list[str]:
+        """The lines of standard error of the last run."""
+        return (self.folder / "said").read_text().splitlines()
+
+    @property
+    def begun(self) -> list[tuple[str, str]]:
+        """The parent and the archive of each run of the program that has begun to index."""
+        with contextlib.suppress(FileNotFoundError):
+            lines = (self.folder / "begun").read_text().splitlines()
+            return [(parent, archive) for parent, _, archive in (line.partition(" ") for line in lines)]
+        return []
+
+    def forget(self) -> None:
+        """Forgets what has begun."""
+        with contextlib.suppress(FileNotFoundError):
+            (self.folder / "begun").unlink()
+
+    @property
+    def done(self) -> set[str]:
+        """The archives that the log has."""
+        with contextlib.suppress(FileNotFoundError):
+            lines = (self.parts / "log.jsonl").read_text().split("\n")[1:-1]
+            return {json.loads(line)[0] for line in lines}
+        return set()
+
+    @property
+    def reports(self) -> dict[str, dict[str, Any]]:
+        return {report["archive"]: report for report in map(json.loads, (self.folder / "report").read_text().splitlines())}
+
+    def expect_results(self, faulty: dict[str, int], wanted: bytes) -> None:
+        """Expects this index, these archives to be reported with these statuses, and no other file beside the index."""
+        expect("index", self.index.read_bytes() == wanted, True)
+        reports = self.reports
+        expect("report", {name: each["status"] for name, each in reports.items() if each["status"]}, faulty)
+        captures = sum(each["captures"] for each in reports.values())
+        expect("captures of the report", captures, wanted.count(b"\n"))
+        expect("captures of the summary", json.loads((self.folder / "all.cdxj.summary.json").read_text())["captures"], captures)
+        self.expect_parts()
+
+    def expect_parts(self) -> None:
+        """Expects the files of the parts in the log, and no others."""
+        lines = (self.parts / "log.jsonl").read_text().split("\n")[1:-1]
+        current = {json.loads(line)[0]: json.loads(line)[4] for line in lines}.values()
+        wanted = {"lock", "log.jsonl", "made.json", *current, *(f"{file}.json" for file in current)}
+        expect("files", {path.name for path in self.parts.iterdir()}, wanted)
+
+
+def copy_sample(name: str, path: pathlib.Path) -> None:
+    shutil.copy(ROOT / f"samples/{name}.warc", path)
+
+
+def children_of(pid: int) -> list[str]:
+    """Returns the processes that a process has started, by any of its threads."""
+    found = []
+    for path in pathlib.Path(f"/proc/{pid}/task").glob("*/children"):
+        with contextlib.suppress(OSError):
+            found += path.read_text().split()
+    return found
+
+
+def kill_group(process: "subprocess.Popen[bytes]", number: int) -> None:
+    with contextlib.suppress(ProcessLookupError):
+        os.killpg(process.pid, number)
