@@ -14,9 +14,13 @@ _warcdx() {
         fi
         operand=$((operand - 2))
     fi
+    if [[ $command == get && ${COMP_WORDS[2]} == --length ]] && ((COMP_CWORD > 2)); then
+        operand=$((operand - 2))
+    fi
     if [[ $word == -* ]]; then
         _warcdx_offer -h --help
         if [[ $command:$COMP_CWORD == index:2 || $command:$COMP_CWORD == scan:2 ]]; then _warcdx_offer --types; fi
+        if [[ $command:$COMP_CWORD == get:2 ]]; then _warcdx_offer --length; fi
         return
     fi
     case $command:$operand in

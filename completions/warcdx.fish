@@ -1,6 +1,6 @@
 # Completion of the words of warcdx for fish.
 
-# What may stand at the cursor: command, types-option, types, archive, index, query or nothing.
+# What may stand at the cursor: command, types-option, types, length-option, archive, index, query or nothing.
 function __warcdx_place
     set -l words (commandline -opc)
     set -l command $words[2]
@@ -17,6 +17,13 @@ function __warcdx_place
                     echo types
                     return
                 end
+                set given $given[3..]
+            end
+        case get
+            if not set -q given[1]
+                echo length-option
+            else if test "$given[1]" = --length
+                set -q given[2] || return
                 set given $given[3..]
             end
     end
@@ -49,6 +56,7 @@ end
 complete -c warcdx -f
 complete -c warcdx -s h -l help -d 'Print help'
 complete -c warcdx -n '__warcdx_at types-option' -l types -d 'Index records of these types'
+complete -c warcdx -n '__warcdx_at length-option' -l length -d 'Write a record of this length only'
 complete -c warcdx -n '__warcdx_at types' -a '(__warcdx_types)' -d Types
 complete -c warcdx -n '__warcdx_at archive' -k -a '(__fish_complete_suffix .warc)'
 complete -c warcdx -n '__warcdx_at index' -k -a '(__fish_complete_suffix .cdxj)'

@@ -42,6 +42,14 @@ need() {
     done
 }
 
+# need_module MODULE PACKAGE: ends the script with status 77 if Debian's Python hasn't a module.
+need_module() {
+    if ! /usr/bin/python3 -c "import $1" 2> /dev/null; then
+        echo "$script: $1 is missing (Debian's package $2)" >&2
+        exit 77
+    fi
+}
+
 say_ok() { # CASE
     ok=$((ok + 1))
     echo "ok       $1"

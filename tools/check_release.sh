@@ -1,30 +1,33 @@
 #!/usr/bin/env bash
-# Unpacks the tar file and the Debian package of a release, and checks what is in them.
+# Unpacks the tar file, the Debian package and the wheel of a release, and checks what is in them.
 #
 # usage: check_release.sh [FOLDER [PROGRAM]]
 #
 # FOLDER has what `tools/release` made; the default is release/ at the top of the repository. These
 # are checked: the checksums, the modes, the files, each in the place that docs/INSTALL.md names,
-# the links of the pages, the program, the manual page, and the package by lintian. With PROGRAM the
-# release is made of it once more, with another umask, locale and time zone, and has to be the same.
+# the links of the pages, the program, the manual page, the commands, the wheel in a new virtual environment,
+# and the package by lintian. With PROGRAM the release is made of it once more, with another umask, locale and
+# time zone, and has to be the same.
 #
 # The program is run with an environment that has neither the Rattle kit nor this repository.
 # tools/check_package.sh installs the package. tests/cli/install.sh runs the lines of docs/INSTALL.md,
 # and tests/cli/manual.sh and tests/cli/completions.sh check the manual page and the completions.
 #
 # Prints a line for each check, and the counts. The exit status is 0, or 1 if a check fails. Needs
-# python3 and Debian's packages binutils, dpkg, lintian and man-db.
+# python3 and Debian's packages binutils, dpkg, lintian, man-db and python3-venv.
 set -euo pipefail
 source "$(dirname "$0")/../tests/program.sh"
 read_help "$@"
 need dpkg-deb:dpkg lintian man:man-db objdump:binutils python3
+need_module ensurepip python3-venv
 if [ $# -gt 2 ]; then stop_usage "unexpected argument '$3'"; fi
 version=$(< "$root/VERSION")
 name=warcdx-$version-x86_64-linux
 folder=$(readlink -f "${1:-$root/release}")
 tar_file=$folder/$name.tar.gz
 package=$folder/warcdx_${version}_amd64.deb
-for file in "$tar_file" "$package"; do
+wheel=$folder/warcdx-$version-py3-none-manylinux_2_34_x86_64.whl
+for file in "$tar_file" "$package" "$wheel"; do
     if [ ! -f "$file" ]; then stop_usage "$file: no such file"; fi
 done
 
@@ -48,7 +51,8 @@ library_versions() {
 
 other_modes() { # FOLDER: files of other modes than 644, programs and folders of others than 755
     find "$1" ! -type l ! -perm 755 ! \( -type f -perm 644 \) -printf '%m %P\n'
-    find "$1" -type f -perm 755 ! -name warcdx ! -name warcdx-gz ! -name warcdx-gateway ! -name '*.py' -printf '%m %P\n'
+    find "$1" -type f -perm 755 ! -path '*/bin/*' ! -path '*/share/warcdx/*' ! -name '*.py' -printf '%m %P\n'
+    find "$1" -type f -path '*/bin/*' ! -perm 755 -printf '%m %P\n'
 }
 
 other_owners() { # on standard input, as `tar --verbose` prints the files
@@ -64,7 +68,7 @@ differing_files() { # those that differ from the file of this repository, each a
 
 absent_scripts() { # that the pages of the examples and samples name, and that aren't beside these pages
     local page name
-    for page in "$doc"/{examples,examples/cluster,samples}/README.md; do
+    find "$doc"/{examples,samples} -name README.md | while read -r page; do
         grep --only-matching --extended-regexp "\`[a-z_/]+\.(py|sh)\`" "$page" | tr --delete "\`" | while read -r name; do
             if [ ! -f "${page%/*}/$name" ]; then echo "$name"; fi
         done
@@ -86,7 +90,7 @@ check_tar_file() {
     expect "checksums of the contents" "" "$(cd "$prefix" && sha256sum --quiet --check share/doc/warcdx/SHA256SUMS 2>&1)"
     expect "number of checksums" "$(find "$prefix" -type f ! -name SHA256SUMS | wc -l)" "$(wc -l < "$doc/SHA256SUMS")"
     expect "files of the repository" "" "$(differing_files << END
-bin/warcdx-gz:python/bin/warcdx-gz
+share/doc/warcdx/python/bin/warcdx-gz:python/bin/warcdx-gz
 share/man/man1/warcdx.1:docs/warcdx.1
 share/man/man1/warcdx-gz.1:docs/warcdx-gz.1
 share/bash-completion/completions/warcdx:completions/warcdx.bash
@@ -96,7 +100,7 @@ share/doc/warcdx/LICENSE:LICENSE
 share/doc/warcdx/README.md:README.md
 share/doc/warcdx/docs/COMMANDS.md:docs/COMMANDS.md
 share/doc/warcdx/samples/wget.warc:samples/wget.warc
-bin/warcdx-gateway:gateway/bin/warcdx-gateway
+share/doc/warcdx/gateway/bin/warcdx-gateway:gateway/bin/warcdx-gateway
 share/man/man1/warcdx-gateway.1:docs/warcdx-gateway.1
 share/doc/warcdx/gateway/service/warcdx-gateway.service:gateway/service/warcdx-gateway.service
 share/doc/warcdx/gateway/warcdx_gateway/server.py:gateway/warcdx_gateway/server.py
@@ -122,6 +126,8 @@ check_program() {
     expect "Python package of the tar file" "1 gone" "$(installed warcdx get 11387 "$doc/samples/wget.warc" | "$doc/examples/body.py" | sed 's/^/1 /')"
     gzip --stdout "$doc/samples/response.warc" > "$work/response.warc.gz"
     expect "warcdx-gz of the tar file" "0 $(stat --format=%s "$work/response.warc.gz") response" "$(installed warcdx-gz list "$work/response.warc.gz")"
+    expect "files of each command" "" "$(absent_files)"
+    expect "commands of the tar file" "" "$(silent_commands installed "$prefix/bin")"
     installed warcdx index "$doc/samples/wget.warc" > "$found"
     expect "index of a sample" "$found 33" "$(installed warcdx check "$found")"
     expect "query on it" "http://127.0.0.1:8000/odd/gone 410" \
@@ -134,36 +140,45 @@ package_differences() {
 }
 
 wanted_package_differences() {
-    cat << 'END'
+    local script page
+    {
+        for script in "$root"/{python,gateway}/bin/*; do
+            echo "Files tar/bin/${script##*/} and debian/usr/bin/${script##*/} differ"
+        done
+        for page in "$root"/docs/*.1; do
+            printf '%s\n' "Only in debian/usr/share/man/man1: ${page##*/}.gz" "Only in tar/share/man/man1: ${page##*/}"
+        done
+        cat << 'END'
 Only in debian/usr/share/doc/warcdx: changelog.gz
 Only in debian/usr/share/doc/warcdx: copyright
-Only in debian/usr/share/man/man1: warcdx-gateway.1.gz
-Only in debian/usr/share/man/man1: warcdx-gz.1.gz
-Only in debian/usr/share/man/man1: warcdx.1.gz
 Only in debian/usr/share/zsh: vendor-completions
+Only in debian/usr/share: warcdx
 Only in debian/usr: lib
 Only in tar/share/doc/warcdx/gateway/service: warcdx-gateway.service
+Only in tar/share/doc/warcdx/gateway: bin
 Only in tar/share/doc/warcdx/gateway: warcdx_gateway
 Only in tar/share/doc/warcdx/python: LICENSE
 Only in tar/share/doc/warcdx/python: VERSION
+Only in tar/share/doc/warcdx/python: bin
+Only in tar/share/doc/warcdx/python: build_backend.py
 Only in tar/share/doc/warcdx/python: pyproject.toml
 Only in tar/share/doc/warcdx/python: warcdx
 Only in tar/share/doc/warcdx: SHA256SUMS
-Only in tar/share/man/man1: warcdx-gateway.1
-Only in tar/share/man/man1: warcdx-gz.1
-Only in tar/share/man/man1: warcdx.1
 Only in tar/share/zsh: site-functions
 END
+    } | LC_ALL=C sort
 }
 
 check_debian_package() {
     expect "package: name, version, architecture" "warcdx $version amd64" "$(field Package) $(field Version) $(field Architecture)"
-    expect "package: depends" "libc6 (>= $(library_versions | sed -n '$s/GLIBC_//p'))" "$(field Depends)"
-    expect "package: scripts of its own" "control md5sums postinst prerm" "$(dpkg-deb --ctrl-tarfile "$package" | tar --list | sed -n 's:^\./\(.\):\1:p' | in_a_line)"
+    expect "package: depends" "adduser, libc6 (>= $(library_versions | sed -n '$s/GLIBC_//p'))" "$(field Depends)"
+    expect "package: recommends" "libdeflate0, python3 (>= 3.9)" "$(field Recommends)"
+    expect "package: scripts of its own" "control md5sums postinst postrm prerm" "$(dpkg-deb --ctrl-tarfile "$package" | tar --list | sed -n 's:^\./\(.\):\1:p' | in_a_line)"
     expect "package: modes" "" "$(other_modes "$debian")"
     expect "package: owners" "" "$(dpkg-deb --contents "$package" | other_owners)"
     expect "package: files" "$(wanted_package_differences)" "$(package_differences)"
     expect "package: Python package" "" "$(diff --recursive "$doc/python/warcdx" "$debian/usr/lib/python3/dist-packages/warcdx" 2>&1)"
+    expect "package: scripts" "" "$(for script in "$root"/{python,gateway}/bin/*; do diff "$script" "$debian/usr/share/warcdx/${script##*/}" 2>&1; done)"
     expect "package: gateway" "" "$(diff --recursive "$doc/gateway/warcdx_gateway" "$debian/usr/lib/python3/dist-packages/warcdx_gateway" 2>&1)"
     expect "package: unit of systemd" "" "$(diff "$root/gateway/service/warcdx-gateway.service" "$debian/lib/systemd/system/warcdx-gateway.service" 2>&1)"
     expect "package: version of the Python package" "$version" "$(PYTHONPATH=$debian/usr/lib/python3/dist-packages PYTHONDONTWRITEBYTECODE=1 \
@@ -175,18 +190,87 @@ check_debian_package() {
     check_command "package: links of its pages" "$root/tools/check_links.py" "$debian/usr/share"
 }
 
+# The wheel in a new virtual environment, without an index of packages, and by a Python that finds no `warcdx` on the PATH.
+check_wheel() {
+    local environment=$work/environment found=$work/wheel.cdxj
+    /usr/bin/python3 -m venv "$environment"
+    check_command "wheel: installed by pip" "$environment/bin/pip" install --no-index --quiet --disable-pip-version-check "$wheel"
+    expect "wheel: version" "$version" "$(in_environment python -c 'import warcdx; print(warcdx.__version__)')"
+    expect "wheel: version for pip" "Version: $version" "$(in_environment pip show warcdx | grep '^Version')"
+    expect "wheel: program" "" "$(diff "$prefix/bin/warcdx" "$environment/bin/warcdx" 2>&1)"
+    expect "wheel: modes" "" "$(find "$environment/bin" -name 'warcdx*' ! -perm 755)"
+    expect "wheel: commands" "$(cd "$root/python/bin" && echo warcdx *)" "$(cd "$environment/bin" && echo warcdx*)"
+    expect "wheel: what the commands print" "" "$(silent_commands in_environment "$environment/bin")"
+    "$environment/bin/warcdx" index "$doc/samples/wget.warc" > "$found"
+    expect "wheel: the program is found without the PATH" 33 "$(env --ignore-environment PATH=/usr/bin:/bin "$environment/bin/python" -c \
+        'import sys, warcdx; print(warcdx.Index(sys.argv[1]).count("key=&matchType=prefix"))' "$found" 2>&1)"
+    expect "wheel: links of its tag" "manylinux_2_34" "manylinux_$(library_versions | sed -n '$s/GLIBC_//p' | tr . _)"
+    in_environment pip uninstall --quiet --yes warcdx
+    expect "wheel: what is left of it" "" "$(find "$environment" -name '*warcdx*')"
+}
+
+in_environment() { # COMMAND ARGUMENT..
+    env --ignore-environment HOME="$work" PATH=/usr/bin:/bin PYTHONDONTWRITEBYTECODE=1 "$work/environment/bin/$1" "${@:2}" 2>&1
+}
+
+# silent_commands RUN FOLDER: the commands of a folder that don't print their usage for --help. RUN runs them.
+silent_commands() {
+    local command found
+    for command in "$2"/warcdx*; do
+        command=${command##*/}
+        found=$("$1" "$command" --help) || true
+        if ! grep --quiet --ignore-case "^usage: $command " <<< "$found"; then echo "$command"; fi
+    done
+}
+
+absent_files() { # manual pages, and completions of the commands that have them in the repository
+    local command
+    for command in "$prefix"/bin/*; do
+        command=${command##*/}
+        if [ ! -f "$prefix/share/man/man1/$command.1" ]; then echo "$command.1"; fi
+    done
+    find "$root/completions" -type f | wc -l > "$work/wanted"
+    find "$prefix"/share/{bash-completion,zsh,fish} -type f | wc -l | diff "$work/wanted" -
+}
+
+# No command runs a module of a folder that isn't its own: of the current folder, of that of the program, of one above or beside.
+check_planted_modules() {
+    local shared=$work/shared command folder module
+    mkdir -p "$shared/release"
+    cp --recursive "$prefix/." "$shared/release"
+    for folder in "$shared" "$shared"/{python,gateway} "$shared/release" "$shared/release"/{bin,python,gateway} "$work/current"; do
+        for module in warcdx warcdx_gateway; do
+            if [ -f "$folder/$module" ]; then continue; fi # the program
+            mkdir -p "$folder/$module"
+            echo "print('PLANTED'); raise SystemExit" | tee "$folder/$module"/{__init__,aio,command,gz_command,verify_command,update_command}.py > "$work/output"
+        done
+        for module in argparse asyncio json pathlib re signal subprocess; do
+            echo "print('PLANTED $module'); raise SystemExit" > "$folder/$module.py"
+        done
+    done
+    for command in "$shared"/release/bin/*; do
+        expect "what ${command##*/} runs in a shared folder" "" "$(cd "$work/current" && installed "$command" --help | grep PLANTED)"
+    done
+    for command in body surt_keys; do
+        expect "what $command.py runs in a shared folder" "" \
+            "$(cd "$work/current" && installed "$shared/release/share/doc/warcdx/examples/$command.py" --help | grep PLANTED)"
+    done
+}
+
 check_same_again() { # PROGRAM
     (umask 077 && TZ=Pacific/Kiritimati LC_ALL=C "$root/tools/release" --output "$work/again" "$1" > "$work/output")
     expect "the same release again" "" "$(diff "$folder/SHA256SUMS" "$work/again/SHA256SUMS" 2>&1)"
+    expect "modes of the files of a release" "" "$(find "$work/again" -type f ! -perm 644)"
 }
 
-expect "checksums" $'warcdx_'"$version"$'_amd64.deb: OK\n'"$name.tar.gz: OK" \
-    "$(cd "$folder" && sha256sum --check SHA256SUMS 2>&1 | LC_ALL=C sort --reverse)"
+expect "checksums" "$(printf '%s: OK\n' "${tar_file##*/}" "${package##*/}" "${wheel##*/}")" "$(cd "$folder" && sha256sum --check SHA256SUMS 2>&1)"
 tar --extract --file "$tar_file" --directory "$work"
 dpkg-deb --extract "$package" "$debian"
 install -D --mode=644 "$root/LICENSE" "$debian/usr/share/common-licenses/Apache-2.0" # as Debian has it
 check_tar_file
 check_program
 check_debian_package
+check_wheel
+check_planted_modules
 if [ $# = 2 ]; then check_same_again "$2"; fi
 end_script

@@ -7,29 +7,26 @@ Answers the clients of Wayback CDX servers over indexes, by HTTP. SETTINGS is a 
 the collections. With --indexes there is one collection, named main.
 
 Prints the address when it answers. SIGTERM and SIGINT end it after the answers that are being sent.
-The exit status is 0, 1 if it can't start, with the reason on one line, or 2 after a usage error.
+The exit status is 0; 1 if it can't start, with the reason on one line; 2 after a usage error; or 3 if
+standard output or memory failed.
 """
-import argparse
 import asyncio
 import dataclasses
 import pathlib
-import sys
 from collections.abc import Sequence
 from typing import Optional
 
-from warcdx import Error
+from warcdx import Error, __version__, command
 
 from .settings import BadSettings, CollectionSettings, Settings, read_settings
+
+NAME = "warcdx-gateway"
 
 
 def read_arguments(arguments: Optional[Sequence[str]]) -> Settings:
     """Returns the settings of the command line. Raises BadSettings."""
-    parser = argparse.ArgumentParser(
-        prog="warcdx-gateway",
-        usage=argparse.SUPPRESS,
-        description=__doc__,
-        formatter_class=argparse.RawDescriptionHelpFormatter,
-    )
+    parser = command.Parser(NAME, __doc__)
+    parser.add_argument("--version", action="version", version=f"{NAME} {__version__}")
     parser.add_argument("settings", metavar="SETTINGS", nargs="?", help="a file in TOML")
     parser.add_argument(
         "--indexes", metavar="INDEX", nargs="+", help="the indexes of one collection"
@@ -42,7 +39,7 @@ def read_arguments(arguments: Optional[Sequence[str]]) -> Settings:
     )
     parser.add_argument("--port", type=int, help="the port, 0 for any that is free")
     parser.add_argument("--program", help="the program warcdx")
-    given = parser.parse_args(arguments)
+    given = parser.parse(arguments)
     if (given.settings is None) == (given.indexes is None):
         parser.error("either SETTINGS or --indexes has to be given")
     if given.settings is not None:
@@ -61,7 +58,7 @@ def read_arguments(arguments: Optional[Sequence[str]]) -> Settings:
     return dataclasses.replace(settings, **changed)
 
 
-def main(arguments: Optional[Sequence[str]] = None) -> int:
+def work(arguments: Optional[Sequence[str]]) -> int:
     try:
         settings = read_arguments(arguments)
         # Imported here, because help and usage errors don't need the packages of the service.
@@ -70,9 +67,15 @@ def main(arguments: Optional[Sequence[str]] = None) -> int:
         asyncio.run(run(settings))
     except ModuleNotFoundError as error:
         packages = "Debian's packages python3-aiohttp and python3-regex"
-        print(f"warcdx-gateway: {error.name} is missing ({packages})", file=sys.stderr)
+        command.report(NAME, f"{error.name} is missing ({packages})")
         return 1
-    except (BadSettings, Error, OSError) as error:
-        print(f"warcdx-gateway: {error}", file=sys.stderr)
+    except command.OutputError:
+        raise
+    except (BadSettings, Error, OSError, OverflowError) as error:
+        command.report(NAME, command.printable(str(error)))
         return 1
     return 0
+
+
+def main(arguments: Optional[Sequence[str]] = None) -> int:
+    return command.run(NAME, lambda output: work(arguments))

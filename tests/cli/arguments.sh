@@ -53,6 +53,16 @@ misplaced() { # OPTION
         "For more information, try '--help'."
 }
 
+no_length() { # WORD
+    lines "error: invalid value '$1' for '--length <LENGTH>': a length is 1 to 19 digits, below 2^63" "" \
+        "For more information, try '--help'."
+}
+
+misplaced_length() { # OPTION
+    lines "error: unexpected option '$1'" "" "  tip: '--length LENGTH' stands once, directly after 'get'" "" \
+        "For more information, try '--help'."
+}
+
 # check_help CASE LINES ARGUMENT..
 # Expects help that begins with these lines and has no line of more than 80 columns, and nothing on standard error.
 check_help() {
@@ -78,10 +88,12 @@ no_query_of_pages=$(refusal "the following required arguments were not provided:
 no_scan=$(refusal "the following required arguments were not provided:"$'\n  <SIZES>\n  <QUERY>\n  <WARC>...' "scan <SIZES> <QUERY> <WARC>...")
 no_get=$(refusal "the following required arguments were not provided:"$'\n  <OFFSET>\n  <WARC>' "get <OFFSET> <WARC>")
 no_archive=$(refusal "the following required arguments were not provided:"$'\n  <WARC>' "get <OFFSET> <WARC>")
-one_too_many=$(refusal "unexpected argument 'q.warc' found" "get <OFFSET> <WARC>")
+one_too_many=$(refusal "unexpected argument 'q.warc' found" "get [OPTIONS] <OFFSET> <WARC>")
 misspelt=$(refusal "unrecognized subcommand 'lst'"$'\n\n  tip: a similar subcommand exists: \'list\'' "[COMMAND]")
 no_typed=$(refusal "the following required arguments were not provided:"$'\n  <WARC>...' "index --types <TYPES> <WARC>...")
 no_value=$(lines "error: a value is required for '--types <TYPES>' but none was supplied" "" "For more information, try '--help'.")
+no_length_value=$(lines "error: a value is required for '--length <LENGTH>' but none was supplied" "" "For more information, try '--help'.")
+no_archive_of_length=$(refusal "the following required arguments were not provided:"$'\n  <WARC>' "get --length <LENGTH> <OFFSET> <WARC>")
 long_name=$(printf '%04096d' 0)
 
 #     case                              output error           status, arguments and input
@@ -113,6 +125,20 @@ check "--types=metadata"                "" "$(misplaced --types=metadata)" 2 ind
 check "--types of another command"      "" "$(misplaced --types)"         2 list --types metadata m.warc
 check "--types of an option"            "" "$(unexpected -x)"              2 index --types -x m.warc
 check "--types behind -h"               "" "$(misplaced --types)"         2 index -h --types metadata m.warc
+for length in "" x +1 -1 1.5 0x10 9223372036854775808 00000000000000000001; do
+    if [ "$length" = -1 ]; then continue; fi # an option
+    check "get --length $length"        "" "$(no_length "$length")"        2 get --length "$length" 0 missing
+done
+check "get --length, a bad offset"      "" "$(no_offset x)"                2 get --length 5 x missing
+check "get --length of an option"       "" "$(unexpected -1)"              2 get --length -1 0 missing
+check "get --length, nothing"           "" "$no_length_value"              2 get --length
+check "get --length, no archive"        "" "$no_archive_of_length"         2 get --length 5 0
+check "--length behind an offset"       "" "$(misplaced_length --length)"  2 get 0 --length 5 r.warc
+check "--length twice"                  "" "$(misplaced_length --length)"  2 get --length 5 --length 5 0 r.warc
+check "--length before a command"       "" "$(misplaced_length --length)"  2 --length 5 get 0 r.warc
+check "--length of another command"     "" "$(misplaced_length --length)"  2 list --length 5 r.warc
+check "--length=5"                      "" "$(misplaced_length --length=5)" 2 get --length=5 0 r.warc
+check "--types of get"                  "" "$(misplaced --types)"          2 get --types metadata 0 r.warc
 check "--types alone"                   "" "$no_value"                     2 index --types
 check "--types without an archive"      "" "$no_typed"                     2 index --types metadata
 check "get alone"                       "" "$no_get"                       2 get
@@ -155,7 +181,7 @@ check "of more than 4,096 bytes"        "" "$(not_utf8 "an argument")"     2 lis
 of_program=$(lines "warcdx 0.1.0: indexes web archives, answers queries, and fetches records" "" "Usage: warcdx [COMMAND]")
 of_list=$(lines "Lists the records of archives" "" "Usage: warcdx list <WARC>...")
 of_index=$(lines "Writes an index of the captures of archives" "" "Usage: warcdx index [OPTIONS] <WARC>...")
-of_get=$(lines "Writes the record at an offset of an archive" "" "Usage: warcdx get <OFFSET> <WARC>")
+of_get=$(lines "Writes the record at an offset of an archive" "" "Usage: warcdx get [OPTIONS] <OFFSET> <WARC>")
 of_check=$(lines "Checks that indexes are sorted, and counts their lines" "" "Usage: warcdx check <INDEX>...")
 of_query=$(lines "Writes the captures that a query selects" "" "Usage: warcdx query <QUERY> <INDEX>...")
 of_pages=$(lines "Writes the captures that a query selects, page by page" "" "Usage: warcdx pages <SIZES> <QUERY> <INDEX>...")

@@ -117,6 +117,22 @@ check "get: behind a fault"             ""               "$torn"           1 get
 check "get: a missing file"             ""               "$missing"        3 get 0 missing
 check "get: a folder"       "" "warcdx: folder: fault 0 Read"              3 get 0 folder
 
+here="warcdx: both.warc: NoRecord"
+check "get --length: the first record"  "$r"             ""                0 get --length 158 0 both.warc
+check "get --length: the second record" "$q"             ""                0 get --length 158 158 both.warc
+check "get --length: zeros before it"   "$q"             ""                0 get --length 00158 158 both.warc
+check "get --length: -"                 "$q"             ""                0 get --length 158 158 - < both.warc
+check "get --length: before a fault"    "$q"             ""                0 get --length 158 158 torn.warc
+check "get --length: another length"    ""               "$here"           1 get --length 157 158 both.warc
+check "get --length: no length"         ""               "$here"           1 get --length 0 158 both.warc
+check "get --length: of both records"   ""               "$here"           1 get --length 316 0 both.warc
+check "get --length: at the end"        ""               "$here"           1 get --length 158 316 both.warc
+check "get --length: behind the end"    ""  "$here"  1 get --length 158 9223372036854775807 both.warc
+check "get --length: inside a record" "" "warcdx: both.warc: fault 1 Version" 1 get --length 157 1 both.warc
+check "get --length: a fault"           ""               "$torn"           1 get --length 158 316 torn.warc
+check "get --length: a missing file"    ""               "$missing"        3 get --length 158 0 missing
+check "get --length: a folder"          "" "warcdx: folder: fault 0 Read"  3 get --length 158 0 folder
+
 first=$(head --lines=1 bad.cdxj | wc --bytes)
 falling="warcdx: falling.cdxj: OutOfOrder $(head --lines=1 falling.cdxj | wc --bytes)"
 bad="warcdx: bad.cdxj: BadLine $first"

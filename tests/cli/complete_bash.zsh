@@ -1,22 +1,27 @@
 # Prints the completions that bash offers after the start of a command line, one per line. completions.sh runs it.
 #
-# usage: zsh complete_bash.zsh FILE LINE      FILE has the completion function _warcdx
+# usage: zsh complete_bash.zsh FILE LINE      FILE has the completion function of the first word of the line
 #
 # The line is typed into a bash at a pseudo-terminal, which zsh opens. There the answer of the function is printed.
 zmodload zsh/zpty
 setup=$(mktemp)
 trap 'rm -f $setup' EXIT
-cat > $setup << 'END'
-[[ $(complete -p warcdx) == "complete -F _warcdx warcdx" ]] || exit
+command=${2%% *}
+function=_${command//-/_}
+cat > $setup << END
+[[ \$(complete -p $command) == "complete -F $function $command" ]] || exit
+function=$function command=$command
+END
+cat >> $setup << 'END'
 print_offered() {
-    _warcdx "$@"
+    "$function" "$@"
     {
         echo
         if ((${#COMPREPLY[@]})); then printf 'OFFERED %s\n' "${COMPREPLY[@]}"; fi
         echo 'END''ED'
     } > /dev/tty
 }
-complete -F print_offered warcdx
+complete -F print_offered "$command"
 END
 zpty shell "bash --norc -i"
 zpty -w shell "PS1=; source ${(q)1}; source $setup; echo REA''DY"

@@ -1,5 +1,5 @@
 #!/usr/bin/env bash
-# Asks a shell for the completions of command lines of warcdx, and compares them with the table in this file.
+# Asks a shell for the completions of command lines of warcdx, warcdx-gz, warcdx-update and warcdx-verify, and compares them with the table in this file.
 #
 # usage: completions.sh SHELL [PROGRAM]      SHELL is bash, zsh or fish
 #
@@ -28,10 +28,11 @@ sorted() {
 fish_offers='source $argv[1]; complete -C $argv[2] | cut -f 1'
 
 offered_after() { # LINE: the completions that the shell offers, in order
+    local command=${1%% *}
     case $shell in
-        bash) zsh "$root/tests/cli/complete_bash.zsh" "$completions/warcdx.bash" "$1" ;;
+        bash) zsh "$root/tests/cli/complete_bash.zsh" "$completions/$command.bash" "$1" ;;
         zsh) zsh "$root/tests/cli/complete_zsh.zsh" "$completions" "$1" ;;
-        fish) fish --no-config -c "$fish_offers" "$completions/warcdx.fish" "$1" ;;
+        fish) fish --no-config -c "$fish_offers" "$completions/$command.fish" "$1" ;;
     esac < /dev/null | sorted
 }
 
@@ -45,11 +46,13 @@ expect_offers() { # on standard input lines, each with the completions that are 
 # The shell finds the program, and neither reads nor writes the files of the user.
 mkdir "$work/bin" "$work/home" "$work/archives" "$work/indexes"
 ln -s "$program" "$work/bin/warcdx"
+ln -s "$root"/python/bin/* "$work/bin"
 export PATH=$work/bin:$PATH HOME=$work/home
 unset XDG_CONFIG_HOME XDG_DATA_HOME XDG_CACHE_HOME ZDOTDIR
 commands=$(warcdx --help | sed -n '/^Commands:/,/^$/s/^  \([a-z]*\) .*/\1/p' | sorted)
 
-touch "$work/archives/a.warc" "$work/indexes/a.cdxj"
+mkdir "$work/both"
+touch "$work/archives/a.warc" "$work/indexes/a.cdxj" "$work"/both/{a.warc,b.warc.gz}
 cd "$work/archives"
 expect_offers << END
 warcdx |$commands
@@ -67,6 +70,10 @@ warcdx index |a.warc
 warcdx scan 5 url=x |a.warc
 warcdx get 0 |a.warc
 warcdx get |
+warcdx get --l|--length
+warcdx get --length |
+warcdx get --length 5 0 |a.warc
+warcdx list --l|
 warcdx query |key= url=
 END
 cd "$work/indexes"
@@ -77,6 +84,34 @@ warcdx serve |a.cdxj
 warcdx query url=x |a.cdxj
 warcdx pages 5 url=x |a.cdxj
 warcdx pages 5 url=x a.cdxj |a.cdxj
+END
+
+cd "$work/both"
+expect_offers << END
+warcdx-verify |a.warc b.warc.gz
+warcdx-verify --|--help --jobs --version --warcdx
+warcdx-verify --j|--jobs
+warcdx-verify --jobs |
+warcdx-verify --jobs 2 |a.warc b.warc.gz
+warcdx-verify a.warc --v|--version
+warcdx-update --|--dry-run --help --jobs --quiet --recursive --report --scheduler --version --warcdx --warcdx-gz
+warcdx-update --re|--recursive --report
+warcdx-update --jobs |
+warcdx-update --scheduler |
+warcdx-gz |get index list verify
+warcdx-gz --w|--warcdx
+warcdx-gz --warcdx a.warc i|index
+warcdx-gz index |a.warc b.warc.gz
+warcdx-gz index --t|--types
+warcdx-gz index --types re|resource response revisit
+warcdx-gz index --types response,re|response,resource response,revisit
+warcdx-gz index --types resource |a.warc b.warc.gz
+warcdx-gz list |a.warc b.warc.gz
+warcdx-gz list --t|
+warcdx-gz verify a.warc |a.warc b.warc.gz
+warcdx-gz get |
+warcdx-gz get 0 |a.warc b.warc.gz
+warcdx-gz --warcdx x get 0 |a.warc b.warc.gz
 END
 
 expect_none_run() { # on standard input lines with a command that would make the file `run`
@@ -93,6 +128,10 @@ warcdx scan --types resource,\`touch\ run\`,re
 warcdx list '$(touch run)'
 warcdx list \`touch\ run\`/
 warcdx query 'url=$(touch run)'
+warcdx-verify '$(touch run)'
+warcdx-verify --jobs '$(touch run)'
+warcdx-gz index --types '$(touch run)',
+warcdx-gz list \`touch\ run\`/
 END
 if [ "$shell" != zsh ]; then # zsh itself expands a word that isn't quoted, or is so in double quotes
     expect_none_run << 'END'

@@ -8,12 +8,13 @@
 # for the package.
 #
 # Prints a line for each step, and the counts. The exit status is 0, or 1 if a step fails. Needs git
-# and Debian's packages binutils, dpkg and man-db.
+# and Debian's packages binutils, dpkg, man-db and python3-venv.
 set -euo pipefail
 source "$(dirname "$0")/../program.sh"
 source "$root/tests/cli/pages.sh"
 read_program "$@"
 need dpkg-deb:dpkg git man:man-db objdump:binutils strip:binutils
+need_module ensurepip python3-venv
 
 work=$(mktemp -d)
 trap 'rm -rf "$work"' EXIT
@@ -35,7 +36,8 @@ files_of() { # FOLDER
 
 mkdir "$home" "$work/local"
 "$root/tools/release" --output "$release" "$program" > "$work/output"
-printf '%s: OK\n' "warcdx-$version-x86_64-linux.tar.gz" "warcdx_${version}_amd64.deb" > "$work/wanted"
+printf '%s: OK\n' "warcdx-$version-x86_64-linux.tar.gz" "warcdx_${version}_amd64.deb" \
+    "warcdx-$version-py3-none-manylinux_2_34_x86_64.whl" > "$work/wanted"
 run_blocks 'sha256sum --check --ignore-missing' > "$work/found"
 expect_file "the checksums" "$work/wanted" "$work/found"
 
@@ -48,6 +50,8 @@ run_blocks 'mkdir -p ~/.local' > "$work/output"
 expect "the mode of a folder that was there" 700 "$(stat --format=%a "$home/.local/share")"
 expect "what is removed" "" "$(run_blocks 'cd ~/.local')"
 expect "what is left of it" "" "$(files_of "$home")"
+
+expect "the wheel" "$version" "$(run_blocks 'python3 -m venv' "environment/bin/python -c" | tail --lines=1)"
 
 expect "for all users" "" "$(run_blocks 'sudo tar --extract')"
 expect "the program for all users" "$listed" "$("$work/local/bin/warcdx" list "$work/local/share/doc/warcdx/samples/response.warc")"

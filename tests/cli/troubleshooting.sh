@@ -130,6 +130,26 @@ sees "within a block" "$two"$'\nfault 448 ShortBlock' "" 1 list damaged.warc
 head -c 300 damaged.warc > head.warc
 sees "within a head" $'0 264 response\nfault 264 ShortHead' "" 1 list head.warc
 
+gz() {
+    "$root/python/bin/warcdx-gz" --warcdx "$program" "$@"
+}
+
+row "\`SeveralRecords\` of \`warcdx-gz\`"
+cat response.warc response.warc | gzip --no-name > whole.warc.gz
+prints "an archive in one member" "fault 0 SeveralRecords" gz list whole.warc.gz
+gunzip whole.warc.gz
+prints "unpacked" $'0 264 response\n264 264 response' gz list whole.warc
+
+row "\`CutMember\`, \`BadMember\`, \`NoMember\` of \`warcdx-gz\`"
+gzip --no-name --stdout response.warc > good.warc.gz
+size=$(stat --format=%s good.warc.gz)
+{ cat good.warc.gz && head --bytes=-1 good.warc.gz; } > cut.warc.gz
+{ cat good.warc.gz && head --bytes=-8 good.warc.gz && printf '\0\0\0\0\0\0\0\0'; } > bad.warc.gz
+{ cat good.warc.gz && echo; } > longer.warc.gz
+for case in cut:CutMember bad:BadMember longer:NoMember; do
+    prints "${case%:*}" $'0 '"$size"$' response\nfault '"$size ${case#*:}" gz list "${case%:*}.warc.gz"
+done
+
 row "\`verify\` prints \`differs\` for revisits"
 crawl_twice
 prints "the first crawl" "" verdicts_on_revisits first.warc

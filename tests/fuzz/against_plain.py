@@ -6,11 +6,12 @@ usage: against_plain.py [--cases N | --seconds N | --case NUMBER] [--seed N] [--
 A case is one to four indexes, a query and sizes of pages. The indexes share places, have lines of equal keys and stamps in any order, and lines
 in other spellings than warcdx writes. One query in five or so is refused. `query` and `pages` have to write the same bytes as the plain program,
 or be refused in the same way, and `serve` has to reply with either. What `query` writes page by page, with the resume keys as they were
-printed, has to be what `pages` writes.
+printed, has to be what `pages` writes. `check` has to count the lines, and `merge` to write the plain collection.
 
 Every third case is one to three archives, a choice of types, a query and sizes. The records are responses with HTTP heads of all kinds, and
 others; two archives in five have a record at fault, often in several ways, and with them come six that have nothing else. `list` and `verify`
-have to report what the plain reader does, `index` has to write the plain index, and `scan` the pages of its lines.
+have to report what the plain reader does, `index` has to write the plain index, `scan` the pages of its lines, and `get` the bytes of a record.
+Half of the archives are named by a path with a folder.
 
 Prints what was tried, the numbers of the cases that differ, what is wrong in the first of them, and
 the counts. The files of the first are kept in the system's temporary folder. The exit status is 0,
@@ -24,12 +25,12 @@ from typing import NamedTuple, Optional
 
 sys.path.insert(0, str(pathlib.Path(__file__).resolve().parents[1]))
 
-from archive_trials import expect_index, expect_reports, faults_said, option, read_all, some_types
+from archive_trials import captures_of, expect_index, expect_record, expect_reports, faults_said, option, read_all, some_types
 from case_runs import run_cases
+from index_trials import expect_checks, expect_merge
 from plain import captures, keys, lines, queries
 from plain.captures import Capture
 from plain.lines import Line
-from plain.records import USUAL
 from random_archives import archive, record_at_fault
 from random_indexes import dealt, few_values, line
 from random_queries import query
@@ -83,6 +84,8 @@ def try_queries(trial: Trial) -> None:
     trial.tally["indexes"] += len(names)
     trial.tally["lines"] += len(all_lines)
     tally_query(trial, asked)
+    expect_checks(trial, names, texts, [None] * len(names))
+    expect_merge(trial, names, texts, [None] * len(names))
     expect_answer(trial, asked, all_lines, names)
     expect_pages(trial, asked, all_lines, names)
     if choice.random() < 0.1 and asked.query is not None:
@@ -142,12 +145,13 @@ def try_archives(trial: Trial) -> None:
     faults = [record_at_fault(choice) for _ in range(6)]
     expect_reports(trial, trial.write(faults, "fault"), read_all(trial, faults))
     texts = [archive(choice, 8, share_at_fault=0.4) for _ in range(choice.randint(1, 3))]
-    names = trial.write(texts, "warc")
+    names = trial.write(texts, "warc", choice.choice((".", "folder")))
     reads = read_all(trial, texts)
     types = some_types(choice)
     expect_reports(trial, names, reads)
     expect_index(trial, names, reads, types)
-    made = [each for name, read in zip(names, reads) for each in captures.captures_of(read.records, name, types or USUAL)]
+    expect_record(trial, names[0], texts[0], reads[0])
+    made = captures_of(names, reads, types)
     if any(each.key is None for each in made):
         trial.tally["archives that aren't scanned, as the plain reader doesn't know a key"] += 1
         return

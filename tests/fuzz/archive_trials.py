@@ -1,5 +1,6 @@
 """What a fuzzer compares of archives: what the commands say of them with plain readers, and with each other."""
 import json
+import posixpath
 import random
 from collections.abc import Sequence
 from typing import Callable, NamedTuple, Optional
@@ -103,7 +104,7 @@ def expect_index(trial: Trial, names: Sequence[str], reads: Sequence[Read], type
     done = trial.run("index", *option(types), *names)
     errors = faults_said(names, reads)
     trial.check(done.status == int(bool(errors)) and done.error == b"".join(errors), f"index {names}: {done}")
-    wanted = [each for name, read in zip(names, reads) for each in captures.captures_of(read.records, name, types or records.USUAL)]
+    wanted = captures_of(names, reads, types)
     unknown = sum(each.key is None for each in wanted)
     trial.tally["captures"] += len(wanted)
     trial.tally["captures of which the plain reader doesn't know the key"] += unknown
@@ -114,6 +115,12 @@ def expect_index(trial: Trial, names: Sequence[str], reads: Sequence[Read], type
         expect_captures(trial, wanted, done.output)
         trial.check(False, f"index {names}: {done.output!r} has its lines in another order than {captures.index(wanted)!r}")
     return done.output
+
+
+def captures_of(names: Sequence[str], reads: Sequence[Read], types: Optional[Sequence[str]] = None) -> list[Capture]:
+    """The captures of archives, each with the last part of the archive's path as the file name."""
+    named = [(posixpath.basename(name), read) for name, read in zip(names, reads)]
+    return [each for name, read in named for each in captures.captures_of(read.records, name, types or records.USUAL)]
 
 
 def expect_captures(trial: Trial, wanted: Sequence[Capture], index: bytes) -> None:
@@ -147,14 +154,16 @@ def expect_order(trial: Trial, index: bytes) -> None:
 
 
 def expect_record(trial: Trial, name: str, text: bytes, read: Read) -> None:
-    """`get` of each kind of offset: of a record, of the damage, and of any byte."""
+    """`get` of each kind of offset: of a record, of the damage, and of any byte. Both its forms write the same of a record."""
     choice, fault = trial.choice, read.fault
     lengths = {record.offset: record.length for record in read.records}
     offsets = some(choice, sorted(lengths), 1, 1) + [choice.choice((choice.randint(0, len(text)), fault[0] if fault else 1))]
     for offset in offsets:
         arguments = ("get", str(offset), name)
         if offset in lengths:
-            trial.expect(0, text[offset : offset + lengths[offset]], b"", *arguments)
+            record = text[offset : offset + lengths[offset]]
+            trial.expect(0, record, b"", *arguments)
+            expect_record_of_length(trial, name, text, offset, lengths[offset])
         elif not fault or offset < fault[0]:
             trial.expect(1, b"", f"warcdx: {name}: NoRecord\n".encode(), *arguments)
         else:
@@ -162,6 +171,16 @@ def expect_record(trial: Trial, name: str, text: bytes, read: Read) -> None:
             is_said = done.status == 1 and done.error == b"".join(faults_said([name], [read]))
             front = text[offset:] if offset == fault[0] else b""
             trial.check(is_said and front.startswith(done.output), f"{arguments}: {done}")
+
+
+def expect_record_of_length(trial: Trial, name: str, text: bytes, offset: int, length: int) -> None:
+    """`get --length` writes the record, also from standard input, and whatever precedes it. No other length is accepted."""
+    record = text[offset : offset + length]
+    trial.expect(0, record, b"", "get", "--length", str(length), str(offset), name)
+    trial.expect(0, record, b"", "get", "--length", str(length), str(offset), "-", lines=text)
+    trial.expect(0, record, b"", "get", "--length", str(length), str(offset), "-", lines=b"x" * offset + text[offset:])
+    other = length + trial.choice.choice((-1, 1, length))
+    trial.expect(1, b"", f"warcdx: {name}: NoRecord\n".encode(), "get", "--length", str(other), str(offset), name)
 
 
 def expect_scan(trial: Trial, names: Sequence[str], reads: Sequence[Read], types: Optional[Sequence[str]]) -> None:

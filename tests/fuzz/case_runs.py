@@ -69,8 +69,9 @@ def work(arguments: argparse.Namespace, try_case: Callable[[Trial, int], None], 
             differences.append(Difference(number, folder, f"{wrong!s:.{SHOWN}}\n{traceback.format_exc(limit=-3):.{SHOWN}}"))
             folder = pathlib.Path(tempfile.mkdtemp(prefix="fuzz-")) if len(differences) == 1 else folder
         tally["cases"] += 1
-        for path in folder.iterdir():
-            path.unlink()
+        for path in folder.rglob("*"):
+            if not path.is_dir():
+                path.unlink()
     shutil.rmtree(folder)
     return JobEnd(tally, differences)
 

@@ -52,12 +52,13 @@ class Trial:
         self.choice = choice
         self.tally = tally
 
-    def write(self, texts: Iterable[bytes], ending: str) -> list[str]:
-        """Files with these texts. Their names."""
-        names = [f"{letter}.{ending}" for letter, _ in zip(string.ascii_lowercase, texts)]
-        for name, text in zip(names, texts):
-            (self.folder / name).write_bytes(text)
-        return names
+    def write(self, texts: Iterable[bytes], ending: str, folder: str = ".") -> list[str]:
+        """Files with these texts, in a folder below that of the case. Their paths."""
+        paths = [pathlib.Path(folder, f"{letter}.{ending}") for letter, _ in zip(string.ascii_lowercase, texts)]
+        (self.folder / folder).mkdir(exist_ok=True)
+        for path, text in zip(paths, texts):
+            (self.folder / path).write_bytes(text)
+        return list(map(str, paths))
 
     def run(self, *arguments: Argument, lines: bytes = b"") -> Done:
         self.tally["runs"] += 1

@@ -18,6 +18,7 @@ move_to_debian_places() { # PREFIX
     mv "$1/share/zsh/site-functions" "$1/share/zsh/vendor-completions"
     ln --symbolic --force ../../common-licenses/Apache-2.0 "$documents/LICENSE"
     cp "$root/tools/debian/copyright" "$documents/copyright"
+    move_scripts "$documents" "$1"
     move_python_package "$documents/python" "$1/lib/python3/dist-packages"
     mv "$documents/gateway/warcdx_gateway" "$1/lib/python3/dist-packages"
     mkdir --parents "${1%/usr}/lib/systemd/system"
@@ -25,17 +26,40 @@ move_to_debian_places() { # PREFIX
     print_changelog | gzip --no-name -9 > "$documents/changelog.gz"
 }
 
+move_scripts() { # DOCUMENTS PREFIX
+    local script
+    mkdir --parents "$2/share/warcdx"
+    for script in "$1"/{python,gateway}/bin/*; do
+        mv "$script" "$2/share/warcdx"
+        print_start "$script" "/usr/share/warcdx/${script##*/}" > "$2/bin/${script##*/}"
+    done
+    rmdir "$1"/{python,gateway}/bin
+}
+
+# print_start SCRIPT PATH: prints a start for a Python script, whose path is a word of sh.
+print_start() {
+    cat << END
+#!/bin/sh
+# Runs the Python script ${1##*/}.
+if [ ! -x /usr/bin/python3 ]; then
+    echo "${1##*/}: python3 is missing (Debian's package python3)" >&2
+    exit 3
+fi
+exec /usr/bin/python3 $2 "\$@"
+END
+}
+
 # move_python_package FOLDER MODULES: moves the Python package to Debian's modules, with the files that give other programs its version.
 move_python_package() {
     mkdir --parents "$2"
     mv "$1/warcdx" "$2"
-    rm "$1"/{LICENSE,VERSION,pyproject.toml}
+    rm "$1"/{LICENSE,VERSION,build_backend.py,pyproject.toml}
     printf '%s\n' "Metadata-Version: 2.1" "Name: warcdx" "Version: $version" > "$2/warcdx-$version.egg-info"
 }
 
 put_metadata() { # FOLDER
     mkdir "$1/DEBIAN"
-    install --mode=755 "$root"/tools/debian/{postinst,prerm} "$1/DEBIAN"
+    install --mode=755 "$root"/tools/debian/{postinst,prerm,postrm} "$1/DEBIAN"
     (cd "$1" && find usr lib -type f -print0 | LC_ALL=C sort --zero-terminated | xargs -0 md5sum) > "$1/DEBIAN/md5sums"
     print_control "$1" > "$1/DEBIAN/control"
 }
@@ -57,8 +81,9 @@ Version: $version
 Architecture: amd64
 Maintainer: $(maintainer)
 Installed-Size: $(installed_size "$1")
-Depends: libc6 (>= $(c_library_version "$1/usr/bin/warcdx"))
-Suggests: python3 (>= 3.9), python3-aiohttp, python3-matplotlib, python3-regex
+Depends: adduser, libc6 (>= $(c_library_version "$1/usr/bin/warcdx"))
+Recommends: libdeflate0, python3 (>= 3.9)
+Suggests: python3-aiohttp, python3-distributed, python3-matplotlib, python3-regex, python3-tqdm
 Section: web
 Priority: optional
 Description: indexer of web archives, with queries over the indexes
@@ -69,8 +94,9 @@ Description: indexer of web archives, with queries over the indexes
  makes, merges and checks indexes, and answers queries in the manner of the
  Wayback CDX Server API, page by page. It fetches records from their offsets.
  The command warcdx-gz does the same for compressed archives, and a Python
- package from programs. The command warcdx-gateway is an HTTP server for the
- clients of Wayback CDX servers; it needs python3-aiohttp and python3-regex.
+ package from programs. The command warcdx-verify checks the digests of blocks
+ and payloads. The command warcdx-gateway is an HTTP server for the clients of
+ Wayback CDX servers; it needs python3-aiohttp and python3-regex.
 END
 }
 
