@@ -22,6 +22,7 @@ _EACH = "key=&matchType=prefix&fl=urlkey,timestamp,mimetype,statuscode"
 _YEAR = operator.itemgetter(slice(4))  # of a timestamp
 _GZIP = b"\x1f\x8b"
 _PIECE = 1 << 20  # bytes
+_ROOM = 1 << 16  # bytes, more than the block of a file that the program has begun
 
 Start = Callable[..., "subprocess.Popen[bytes]"]
 
@@ -55,8 +56,9 @@ def index_archive(
 ) -> Indexed:
     """Indexes the archive at the path `name` below a folder, into a new file of the folder `output`.
 
-    `plain` and `compressed` are the commands for plain and for compressed archives. In the index, the file name of the archive is `name`. The counts of the captures are in the file of
-    the index's path and ".json". Raises Failed or OSError, and then leaves no file.
+    `plain` and `compressed` are the commands for plain and for compressed archives. In the index, the file name of the archive is
+    `name`. The counts of the captures are in the file of the index's path and ".json". Raises Failed or OSError, and then leaves no
+    file.
     """
     path = os.path.join(folder, name)
     part = os.path.join(output, uuid.uuid4().hex)
@@ -86,6 +88,8 @@ def _write_part(command: Sequence[str], folder: str, name: str, part: str, start
             if process.stdout is not None:
                 _write_renamed(process.stdout, output, base, name)
             status = process.wait()
+            if status not in (0, FAULT):
+                _expect_room(output)
             output.flush()
             os.fsync(output.fileno())
             return status, _text_of(said)
@@ -161,6 +165,8 @@ def merge_parts(
     with open(path, "xb") as file:
         if parts:
             with _running((*program, "merge", *parts), folder, start, file) as (process, said):
+                if process.wait():
+                    _expect_room(file)
                 _expect_success(process, said)
         os.fsync(file.fileno())
 
@@ -172,6 +178,13 @@ def check_index(program: Sequence[str], folder: str, name: str, start: Start = s
         found = process.stdout.read()
         _expect_success(process, said)
     return int(found.rpartition(b" ")[2])
+
+
+def _expect_room(file: IO[bytes]) -> None:
+    """Raises the error of a file that takes no more bytes. The program doesn't print it."""
+    file.write(bytes(_ROOM))
+    file.flush()
+    os.fsync(file.fileno())
 
 
 def _expect_success(process: "subprocess.Popen[bytes]", said: IO[bytes]) -> None:
