@@ -1,0 +1,47 @@
+#!/usr/bin/env bash
+# Runs each command in a stack of 128 KiB, of the 8 MiB that Linux usually gives a program.
+#
+# usage: small_stack.sh [PROGRAM]
+#
+# Prints a line for each case, and the counts. The exit status is 0, or 1 if a case differs.
+set -euo pipefail
+source "$(dirname "$0")/../program.sh"
+read_program "$@"
+
+readonly KIBIBYTES=128
+samples=$root/samples
+work=$(mktemp -d)
+trap 'rm -rf "$work"' EXIT
+
+nested() { # DEPTH: a line of an index with this many arrays in one another
+    printf 'com,example)/ 20250318093000 {"url": "http://example.com/", "filename": "a", "offset": "0", "x": '
+    head -c "$1" /dev/zero | tr '\0' '['
+    head -c "$1" /dev/zero | tr '\0' ']'
+    printf '}\n'
+}
+
+runs() { # NAME STATUS ARGUMENT..: whether the command ends with this status in a small stack, as it does in a large one
+    local name=$1 wanted=$2 status=0
+    shift 2
+    (ulimit -s "$KIBIBYTES" && exec "$program" "$@") > "$work/out" 2>&1 < "$work/queries" || status=$?
+    expect "$name" "$wanted" "$status"
+}
+
+echo 'url=example.com' > "$work/queries"
+"$program" index "$samples/wget.warc" > "$work/index"
+nested 100 > "$work/nested"
+nested 1000000 > "$work/deep"
+
+runs list 0 list "$samples/wget.warc"
+runs verify 0 verify "$samples/wget.warc"
+runs index 0 index "$samples/wget.warc"
+runs merge 0 merge "$work/index" "$work/nested"
+runs check 0 check "$work/index" "$work/nested"
+runs "check of a million arrays" 1 check "$work/deep"
+runs query 0 query "key=&matchType=prefix" "$work/index"
+runs pages 0 pages 1,2 "key=&matchType=prefix" "$work/index"
+runs serve 0 serve "$work/index"
+runs get 0 get 0 "$samples/wget.warc"
+runs scan 0 scan 2 "key=&matchType=prefix" "$samples/wget.warc"
+runs help 0 --help
+end_script
