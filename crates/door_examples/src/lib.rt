@@ -10,3 +10,4 @@ pub mod records;
 pub mod scans;
 #[cfg(test)]
 mod tests;
+pub mod witnesses;

@@ -1,0 +1,3 @@
+mod ReadArchives
+mod ReadTexts
+mod ScannedArchives

@@ -1,0 +1,3 @@
+pub mod Archives
+pub mod Texts
+pub mod Scans

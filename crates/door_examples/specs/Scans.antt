@@ -1,0 +1,16 @@
+-- A scan of two archives, and the text that it writes.
+use Rattle.std.specs.Prelude.{ℕ, List, [], ◌∷◌, codes, Some}
+use Rattle.capture_core.specs.Types.{includes, usual_types}
+use Rattle.scan_core.specs.Scanning.{Scanned}
+use Rattle.door_examples.specs.Archives.{a_archive, b_archive}
+use Rattle.door_examples.specs.Texts.{orgs_text}
+
+-- two pages of one capture each; the first ends with the key of the second
+abbrev pub scanned_text : List ℕ
+scanned_text = codes "org,a)/ 0\n\norg%2Ca%29%2F+20250102030405+a.warc+0\norg,b)/ 0\n"
+
+-- The scan of the two archives, the later one first, writes the two pages.
+abbrev pub TwoAreScanned : Type 0
+TwoAreScanned =
+    Scanned (includes usual_types) (codes "b.warc" ∷ codes "a.warc" ∷ []) (Some b_archive ∷ Some a_archive ∷ [])
+    (1 ∷ []) orgs_text (Some []) (Some scanned_text) 2
