@@ -1,5 +1,6 @@
 //! Callers of the library's doors. Each module uses one crate alone, and its contracts follow from
 //! the contracts of that crate. `records::count_records` and `scans::in_memory` have no contract.
+//! `witnesses` shows what the definitions of all of them say of small archives.
 #![tactic(auto)]
 
 pub mod captures;
