@@ -4,10 +4,11 @@
 usage: check_proved.py
 
 Each clause that a table names for a call has to be in its contract. If the tables name a clause of a
-call, they have to name all of them. A call without a clause stands for its whole contract.
+call, they have to name all of them. A call without a clause stands for its whole contract. The row of
+the calls that have a condition for the caller has to name each call of a door that has one.
 
 Prints a line for each clause, and the counts. The exit status is 0, or 1 if a call or a clause
-doesn't exist, or a clause isn't named.
+doesn't exist, or a clause or a condition isn't named.
 """
 import re
 import sys
@@ -21,9 +22,14 @@ sys.path.insert(0, str(Path(__file__).resolve().parents[1] / "tests"))
 from program import ROOT, Report, parser_of
 
 OWNER = re.compile(r"(?:impl|pub trait|trait)\b(?:<.*?>)? (?:.* for )?(\w+)")
-FUNCTION = re.compile(r"\s*(?:pub )?fn (\w+)")
+FUNCTION = re.compile(r"\s*(?:pub(?:\(\w+\))? )?(?:safe )?fn (\w+)")
 CLAUSE = re.compile(r"\s*(ensures|requires)\s+(\w*)")
 DERIVED = ("cmp",)  # calls that a derive makes, which have no text in the sources
+
+DOORS = ("warc_core", "cdxj_core", "capture_core", "index_core", "query_core", "scan_core")
+PASSED_ON = re.compile(r"^pub use (\w+)::([^;]*);", re.MULTILINE)
+CONDITIONS = "these have a condition for the caller"
+REQUIRES = re.compile(r"\s*requires\b")
 
 UNNAMED = {"ensures", "requires"}  # clauses of contracts that have one
 
@@ -57,6 +63,47 @@ def contracts() -> Contracts:
             elif clause := CLAUSE.match(line):
                 clauses.add(clause[2] or clause[1])
     return found
+
+
+def passed_on() -> set[tuple[str, str]]:
+    """Returns what the doors pass on, each with the crate that a door has it from."""
+    found = set()
+    for door in DOORS:
+        for crate, names_of in PASSED_ON.findall((ROOT / f"crates/{door}/src/lib.rt").read_text()):
+            found |= {(door if crate == "crate" else crate, name) for name in re.findall(r"\w+", names_of)}
+    return found
+
+
+def conditions() -> set[Call]:
+    """Returns the public calls that a door passes on and that have a condition for the caller."""
+    shown, found = passed_on(), set[Call]()
+    types = {name for _, name in shown}
+    for source in sorted(ROOT.glob("crates/*/src/**/*.rt")):
+        crate = source.relative_to(ROOT / "crates").parts[0]
+        owner, call = None, None
+        for line in source.read_text().splitlines():
+            if line.startswith("}"):
+                owner = None
+            elif of := OWNER.match(line):
+                owner = of[1]
+            elif function := FUNCTION.match(line):
+                is_shown = owner in types if owner else (crate, function[1]) in shown
+                call = Call(crate, owner, function[1]) if is_shown and line.lstrip().startswith("pub fn ") else None
+            elif call is not None and REQUIRES.match(line):
+                found.add(call)
+    return found
+
+
+def check_conditions(report: Report) -> None:
+    """Compares the calls that have a condition with those that a row of the page names."""
+    row = next(line for line in (ROOT / "docs/PROVED.md").read_text().splitlines() if CONDITIONS in line)
+    named = [pair for cell in row.strip("|").split("|")[1:] for part in cell.split(";")[1:] for pair in calls(part.partition(": ")[0])]
+    for call in sorted(conditions(), key=str):
+        title = f"{call.crate}: {'::'.join(filter(None, (call.owner, call.name)))} has a condition"
+        if any(is_meant(call, owner, name) for owner, name in named):
+            report.add_ok(title)
+        else:
+            report.add_difference(title, "the page doesn't name it")
 
 
 def names(cell: str) -> list[str]:
@@ -133,6 +180,7 @@ def main() -> int:
     parser_of(__doc__).parse_args()
     found, report = contracts(), Report()
     check_whole(report, found, check_claims(report, found))
+    check_conditions(report)
     return report.end()
 
 
