@@ -14,8 +14,9 @@ use Rattle.cdxj_core.specs.declared.limit.TheConstants.{LINE_LIMIT}
 use Rattle.cdxj_core.specs.Entries.{HasLine}
 use Rattle.cdxj_core.specs.Members.{entry_member, member_place}
 use Rattle.cdxj_places.specs.Places.{place_in}
+use Rattle.index_core.specs.Laws.{AcceptedIsWhole}
 use Rattle.door_examples.specs.Archives.{a_entry, b_entry}
-use Rattle.door_examples.specs.Scans.{TwoAreScanned}
+use Rattle.door_examples.specs.Scans.{TwoAreScannable, TwoAreScanned}
 use Rattle.door_examples.specs.Texts.{orgs}
 use Rattle.door_examples.proofs.ReadArchives.{pages_are_accepted}
 use Rattle.door_examples.proofs.ReadTexts.{query_is_read}
@@ -96,4 +97,15 @@ two_are_scanned = record {
     text = refl;
     count = refl;
   };
+}
+
+pub two_are_scannable : AcceptedIsWhole → TwoAreScannable
+two_are_scannable whole = record {
+  scannable = record {
+    query = two_are_scanned.query;
+    asked = two_are_scanned.asked;
+    named = two_are_scanned.indexed.named;
+    whole = (whole _ _ _ _ _ _ pages_are_accepted.second, (whole _ _ _ _ _ _ pages_are_accepted.first, tt));
+  };
+  rises = leb-true _ _ refl;
 }

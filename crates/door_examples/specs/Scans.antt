@@ -1,6 +1,7 @@
 -- A scan of two archives, and the text that it writes.
 use Rattle.std.specs.Prelude.{ℕ, List, [], ◌∷◌, codes, Some}
 use Rattle.capture_core.specs.Types.{includes, usual_types}
+use Rattle.scan_core.specs.Laws.{IsScannable, MayRise}
 use Rattle.scan_core.specs.Scanning.{Scanned}
 use Rattle.door_examples.specs.Archives.{a_archive, b_archive}
 use Rattle.door_examples.specs.Texts.{orgs_text}
@@ -14,3 +15,8 @@ abbrev pub TwoAreScanned : Type 0
 TwoAreScanned =
     Scanned (includes usual_types) (codes "b.warc" ∷ codes "a.warc" ∷ []) (Some b_archive ∷ Some a_archive ∷ [])
     (1 ∷ []) orgs_text (Some []) (Some scanned_text) 2
+
+-- Nothing is at fault that is asked of the scan, and a device that never failed may fail.
+pub record TwoAreScannable : Type 0 where
+  pub scannable : IsScannable (includes usual_types) (codes "b.warc" ∷ codes "a.warc" ∷ []) (b_archive ∷ a_archive ∷ []) (1 ∷ []) orgs_text
+  pub rises : MayRise 0

@@ -1,7 +1,9 @@
 //! What the definitions say of small archives, indexes and queries. So none of them says nothing, and none is too strict.
 ghost use Rattle.door_examples.specs.Archives.{InfoIsRead, PagesAreAccepted};
-ghost use Rattle.door_examples.specs.Scans.{TwoAreScanned};
+ghost use Rattle.door_examples.specs.Scans.{TwoAreScannable, TwoAreScanned};
 ghost use Rattle.door_examples.specs.Texts.{KeyIsFound, LineIsIndex, QueryIsRead};
+
+use index_core::accepted_archive_is_whole;
 
 /// Archives of one record are read, damaged if they are cut, and accepted with their captures.
 pub fn archives_are_read()
@@ -16,7 +18,10 @@ pub fn texts_are_read()
     ensures query { QueryIsRead }
 {}
 
-/// The pages of two archives are written.
+/// The pages of two archives are written. Nothing is at fault, so a scan of them is refused for lack of memory alone.
 pub fn archives_are_scanned()
-    ensures { TwoAreScanned }
-{}
+    ensures written { TwoAreScanned }
+    ensures premises { TwoAreScannable }
+{
+    accepted_archive_is_whole();
+}
