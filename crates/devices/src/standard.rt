@@ -1,12 +1,12 @@
 //! The readers and writers of `std` as devices.
-ghost use Rattle.std.specs.Prelude.{◌≡◌, ◌≤◌, Ok, None, IfOk, MatchResult, length};
+ghost use Rattle.std.specs.Prelude.{◌≡◌, ◌≤◌, Ok, IfOk, MatchResult, length};
 ghost use Rattle.std.specs.Io.KnownBytes.{ReadConsumes, ConsumesCount, WriteAppends};
 ghost use Rattle.devices.specs.Device.{CountsFailure, TakesSome};
 
 use crate::device::{DeviceFault, Input, Output};
 use std::io;
 
-/// A reader of `std` as an input. Its bytes are not known.
+/// A reader of `std` as an input. Its bytes are those of the reader, as far as these are known.
 #[derive(Debug, Drop)]
 pub struct FromRead<R> {
     reader: R,
@@ -31,18 +31,12 @@ impl<R> FromRead<R> {
 impl<R: io::Read> Input for FromRead<R> {
     ghost use Rattle.devices.specs.FromStd.{reader_of, read_failures};
 
-    ghost remaining = { λ _. None };
+    ghost remaining = { λ f. R.remaining (reader_of f) };
 
     ghost failures = { read_failures };
 
     /// Reads as many bytes as the reader returns.
-    fn read(&mut self, piece: &mut [u8]) -> Result<usize, DeviceFault>
-        ensures bound { IfOk result (λ n. n ≤ length piece.new) }
-        ensures bytes { ReadConsumes None None result piece.new }
-        ensures failures { CountsFailure result (read_failures self.old) (read_failures self.new) }
-        ensures reader { ReadConsumes (R.remaining (reader_of self.old))
-            (R.remaining (reader_of self.new)) result piece.new }
-    {
+    fn read(&mut self, piece: &mut [u8]) -> Result<usize, DeviceFault> {
         match self.reader.read(piece) {
             Ok(count) => Ok(count),
             Err(_) => {
@@ -55,7 +49,8 @@ impl<R: io::Read> Input for FromRead<R> {
     /// Skips nothing.
     fn skip(&mut self, count: u64) -> Result<u64, DeviceFault>
         ensures bound { IfOk result (λ n. n ≤ count) }
-        ensures bytes { ConsumesCount None None result }
+        ensures bytes { ConsumesCount (R.remaining (reader_of self.old))
+            (R.remaining (reader_of self.new)) result }
         ensures failures { CountsFailure result (read_failures self.old) (read_failures self.new) }
         ensures none { (result ≡ Ok 0) × (self.new ≡ self.old) }
     {
@@ -64,8 +59,8 @@ impl<R: io::Read> Input for FromRead<R> {
     }
 }
 
-/// A writer of `std` as an output. Its bytes are not known. If the writer returns `Ok(0)` for a piece that isn't empty,
-/// the write fails.
+/// A writer of `std` as an output. Its bytes are those of the writer, as far as these are known. If the writer returns
+/// `Ok(0)` for a piece that isn't empty, the write fails.
 #[derive(Debug, Drop)]
 pub struct FromWrite<W> {
     writer: W,
@@ -90,19 +85,12 @@ impl<W> FromWrite<W> {
 impl<W: io::Write> Output for FromWrite<W> {
     ghost use Rattle.devices.specs.FromStd.{writer_of, write_failures};
 
-    ghost written = { λ _. None };
+    ghost written = { λ f. W.contents (writer_of f) };
 
     ghost failures = { write_failures };
 
     /// Writes as many bytes as the writer takes.
-    fn write(&mut self, piece: &[u8]) -> Result<usize, DeviceFault>
-        ensures some { IfOk result (TakesSome piece.now) }
-        ensures bytes { WriteAppends None None result piece.now }
-        ensures failures { CountsFailure result (write_failures self.old)
-            (write_failures self.new) }
-        ensures writer { WriteAppends (W.contents (writer_of self.old))
-            (W.contents (writer_of self.new)) result piece.now }
-    {
+    fn write(&mut self, piece: &[u8]) -> Result<usize, DeviceFault> {
         match self.writer.write(piece) {
             Ok(count) if count > 0 || piece.is_empty() => Ok(count),
             _ => {

@@ -3,6 +3,10 @@ pub mod EachLemmas
 pub mod LastSlash
 pub mod NamedLemmas
 pub mod OpeningLemmas
+pub mod ToldLemmas
+pub mod UntoldArchives
+pub mod UntoldLines
+pub mod UntoldScans
 mod WordsLemmas
 pub mod WriteCounts
 pub mod FailedNames

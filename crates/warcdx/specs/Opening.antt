@@ -1,9 +1,13 @@
 -- Files that can't be opened, and what a command does with those that can.
-use Rattle.std.specs.Prelude.{◌≡◌, ◌⊎◌, ⊤, List, ℕ, Any}
+use Rattle.std.specs.Prelude.{◌≡◌, ◌⊎◌, ⊤, List, ℕ, Any, Option, Some, IfSome}
 use Rattle.index_core.specs.declared.fault.IndexFault.TheVariants as faults
 use Rattle.query_core.specs.declared.fault.AnswerFault.TheVariants as answers
 use Rattle.warcdx.specs.declared.outcome.Outcome.{Outcome}
 use Rattle.warcdx.specs.declared.outcome.Outcome.TheVariants as outcomes
+
+-- a file has the bytes that are told of it, where they are told
+abbrev pub HasTold : Option (List ℕ) → Option (List ℕ) → Type 0
+HasTold told bytes = IfSome told (λ known. bytes ≡ Some known)
 
 -- a file isn't opened: its opening failed, as this says, or memory did
 abbrev pub IsUnopened : Type 0 → Outcome → Type 0

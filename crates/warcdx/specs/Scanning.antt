@@ -1,12 +1,13 @@
 -- The pages of a query over archives that a command writes.
 use Rattle.std.specs.Prelude.{◌≡◌, ℕ, Any, Bool, List, map, Option, Result, Ok, Err, IfOk, IfErr, string_bytes}
+use Rattle.std.specs.List.{AllZip}
 use Rattle.warc_core.specs.Kind.{Kind}
 use Rattle.scan_core.specs.declared.fault.ScanFault.{ScanFault}
 use Rattle.scan_core.specs.declared.fault.ScanFault.TheVariants as scans
 use Rattle.scan_core.specs.declared.named.Named.{Named}
 use Rattle.scan_core.specs.Scanning.{Scanned, ScannedInPart, IsScanFault, IsBeforeWriting}
 use Rattle.warcdx.specs.Indexing.{file_name}
-use Rattle.warcdx.specs.Opening.{IsUnopened, OpensFirst}
+use Rattle.warcdx.specs.Opening.{HasTold, IsUnopened, OpensFirst}
 use Rattle.warcdx.specs.Queries.{ReadsFirst}
 use Rattle.warcdx.specs.declared.outcome.Outcome.{Outcome}
 use Rattle.warcdx.specs.declared.outcome.Outcome.TheVariants as outcomes
@@ -19,11 +20,11 @@ archive_names archives = map (λ archive. string_bytes archive.name) archives
 abbrev pub inputs : {I : Type 0} → List (Named I) → List I
 inputs archives = map (λ archive. archive.input) archives
 
--- archives of these names were opened: each stands under its file name and has its bytes
+-- archives of these names were opened: each stands under its file name and has the bytes that are told of it
 pub record AreOpened {I : Type 0} (remaining : I → Option (List ℕ)) (bytes_of : List ℕ → Option (List ℕ))
     (names : List (List ℕ)) (archives : List (Named I)) : Type 0 where
   pub named : archive_names archives ≡ map file_name names
-  pub bytes : map (λ archive. remaining archive.input) archives ≡ map bytes_of names
+  pub bytes : AllZip HasTold (map bytes_of names) (map (λ archive. remaining archive.input) archives)
 
 -- how a scan ended
 abbrev pub scan_outcome : {A : Type 0} → Result A ScanFault → Outcome

@@ -1,7 +1,7 @@
 //! The opening of archives and indexes by name.
 ghost use Rattle.std.specs.Prelude.{◌≡◌, ℕ, List, Option, None, ⊤, IfErr, MatchResult, map};
 ghost use Rattle.command_line.specs.Words.{texts};
-ghost use Rattle.warcdx.specs.Opening.{IsUnopened, IsUnopenedIndex, AreUnopenedIndexes};
+ghost use Rattle.warcdx.specs.Opening.{HasTold, IsUnopened, IsUnopenedIndex, AreUnopenedIndexes};
 
 use crate::outcome::Outcome;
 use either::Either;
@@ -24,13 +24,13 @@ pub trait Opener {
     /// Standard input.
     type Lines: Input + Drop;
 
-    /// The bytes of the archive of a name, if they are known.
+    /// The bytes of the archive of a name, if they are told.
     ghost archive_bytes: { Self → List ℕ → Option (List ℕ) };
 
     /// The bytes of the index of a name, if they are known.
     ghost index_bytes: { Self → List ℕ → Option (List ℕ) };
 
-    /// The bytes of standard input, if they are known.
+    /// The bytes of standard input, if they are told.
     ghost input_bytes: { Self → Option (List ℕ) };
 
     /// That the archive of a name couldn't be opened.
@@ -42,7 +42,7 @@ pub trait Opener {
     /// Opens the archive of this name; `-` is standard input. Reports on standard error that it can't be opened.
     fn open_archive(&self, name: &str) -> Result<Self::Archive, Outcome>
         ensures { MatchResult result
-            (λ archive. Self.Archive.remaining archive ≡ archive_bytes self.now name.now)
+            (λ archive. HasTold (archive_bytes self.now name.now) (Self.Archive.remaining archive))
             (IsUnopened (archive_failed self.now name.now)) };
 
     /// Opens the index of this name. Reports on standard error that it can't be opened, or that its size can't be
@@ -54,7 +54,7 @@ pub trait Opener {
 
     /// Returns standard input.
     fn input(&self) -> Self::Lines
-        ensures { Self.Lines.remaining result ≡ input_bytes self.now };
+        ensures { HasTold (input_bytes self.now) (Self.Lines.remaining result) };
 }
 
 /// The files of the system. The contracts don't know their bytes, nor what becomes of an opening.

@@ -1,7 +1,10 @@
-use Rattle.std.proofs.Common.{◌≡◌, ℕ, List, String, Global, subst, string_bytes}
+use Rattle.std.proofs.Common.{◌≡◌, ℕ, List, String, Global, map, subst, string_bytes}
 use Rattle.capture_core.specs.Types.{includes}
 use Rattle.command_line.specs.Words.{texts}
+use Rattle.warcdx.specs.Opening.{AreUnopenedIndexes, OpensFirst}
+use Rattle.warcdx.specs.Queries.{AnswersLines}
 use Rattle.warcdx.specs.Scanning.{ScansNamed}
+use Rattle.warcdx.proofs.UntoldLines.{served_told}
 use Rattle.warcdx.proofs.program.perform.Goals as goal
 
 pub returns-in-Scan-clause-performs : goal.returns-in-Scan-clause-performs
@@ -19,3 +22,18 @@ returns-in-Scan-clause-performs g c =
     (subst (λ query. ends c.deref-in-Scan.result.now query task.names.items) c.deref-in-Scan-2.ensures
     (subst (λ names. ends c.deref-in-Scan.result.now c.deref-in-Scan-2.result.now names) c.deref-in-Scan-3.ensures.value
     c.scan_all.ensures.scans)))
+
+pub returns-in-Serve-clause-performs : goal.returns-in-Serve-clause-performs
+returns-in-Serve-clause-performs g c =
+    let opener = g.F.Opener in
+    let files = c.args.files.now in
+    let old = c.args.out.now in
+    let new = c.serve_all.new.out in
+    let result = c.serve_all.result in
+    let ends : List (String Global)
+    → Type 0 = λ names. OpensFirst (AreUnopenedIndexes (opener.index_failed files) (texts names) result) (new ≡ old)
+    (AnswersLines (map (opener.index_bytes files) (texts names)) (opener.input_bytes files) (g.O.Output.written old)
+    (g.O.Output.written new) (new ≡ old) result) in
+    rw c.in-Serve.is
+    (subst ends c.deref-in-Serve.ensures.value
+    (served_told _ _ _ _ _ _ _ _ c.input.ensures c.serve_all.ensures.answers))

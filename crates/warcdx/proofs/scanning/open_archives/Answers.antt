@@ -1,5 +1,6 @@
-use Rattle.std.proofs.Common.{arith, sym, ◌∙◌, ap, string_bytes}
+use Rattle.std.proofs.Common.{arith, sym, ◌∙◌, ap, string_bytes, subst}
 use Rattle.warcdx.specs.Indexing.{file_name}
+use Rattle.warcdx.specs.Opening.{HasTold}
 use Rattle.std.proofs.lemmas.Result.{err_from_is_err_and}
 use Rattle.warcdx.proofs.FailedNames.{unopened_archive}
 use Rattle.warcdx.proofs.NamedLemmas.{map-more, of_ok, opened-more}
@@ -20,7 +21,8 @@ loop-name-preserved g c =
     (map-more string_bytes c.args.names.now c.loop-name.name-index c.name-item.result c.loop-name-test.true
     (sym c.name-item.is))
     (c.file_name.ensures ∙ ap file_name c.deref-in-loop-name.ensures)
-    (c.in_ok-input.ensures ∙ ap bytes_of c.deref.ensures)
+    (subst (λ name. HasTold (bytes_of name) (g.F.Archive.Input.remaining c.in_ok-input.input)) c.deref.ensures
+    c.in_ok-input.ensures)
     (of_ok c.push_named.result pushed c.push_named.ensures.names)
     (of_ok c.push_named.result pushed c.push_named.ensures.inputs)
     c.loop-name.invariant
