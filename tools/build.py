@@ -49,9 +49,9 @@ SECONDS = {
     "query_text": 116,
     "scan_core": 146,
     "source_core": 104,
+    "tasks": 440,
     "warc_core": 67,
     "warc_head": 69,
-    "warcdx": 440,
 }
 OTHER_SECONDS = 80  # of a crate that isn't among these
 NEAR = 0.93  # of the longest chain: a chain of this part of it is as urgent

@@ -1,27 +1,11 @@
 //! `warcdx`: indexes web archives, answers queries, and fetches records.
 //!
-//! The definitions begin in `specs/Outcome.antt`: how a command ends, and its exit status.
+//! The program is `run` of `tasks`. Its definitions begin there.
 #![tactic(auto)]
 
-mod archive_names;
-mod checks;
-mod conversing;
-mod each;
-mod faults;
-mod fetching;
-mod indexing;
-mod merging;
-mod opening;
-mod outcome;
-mod program;
-mod queries;
-mod reports;
-mod scanning;
-mod status;
-
-use crate::status::status;
 use std::process::ExitCode;
+use tasks::{run, status};
 
 fn main(rt: HostRuntime) -> ExitCode {
-    ExitCode::from(status(&program::run(&rt)))
+    ExitCode::from(status(&run(&rt)))
 }

@@ -1,0 +1,90 @@
+-- What is promised of a scan over the bytes that its archives have is promised over those that are told of them.
+use Rattle.std.proofs.Common.{arith, ℕ, Bool, List, [], ◌∷◌, Option, None, get_or, take}
+use Rattle.std.specs.List.{AllZip}
+use Rattle.warc_core.specs.Kind.{Kind}
+use Rattle.cdxj_core.specs.Entries.{EntryValue}
+use Rattle.index_core.specs.declared.fault.IndexFault.{IndexFault}
+use Rattle.scan_core.specs.declared.fault.ScanFault.{ScanFault}
+use Rattle.scan_core.specs.Archives.{AreAcceptedAs, AreIndexed, IsAcceptedAs, IsFaultOfArchive, IsFirstFault}
+use Rattle.scan_core.specs.Scanning.{IsScanFault, Scanned, ScannedInPart}
+use Rattle.tasks.specs.declared.outcome.Outcome.{Outcome}
+use Rattle.tasks.specs.Opening.{HasTold}
+use Rattle.tasks.specs.Scanning.{ScansArchives}
+use Rattle.tasks.proofs.ToldLemmas.{of_told, told_at, told_take}
+
+module _ (types : Kind → Bool) where
+  accepted_told : (name : List ℕ) (told left : Option (List ℕ)) (captures : List EntryValue) → HasTold told left
+      → IsAcceptedAs types name left captures → IsAcceptedAs types name told captures
+  accepted_told name told left captures has accepted =
+      of_told (λ bytes. IsAcceptedAs types name bytes captures) told left has (λ known. (known.0, tt)) accepted
+
+  all_accepted_told : (names : List (List ℕ)) (told left : List (Option (List ℕ))) (captures : List (List EntryValue))
+      → AllZip HasTold told left → AreAcceptedAs types names left captures → AreAcceptedAs types names told captures
+  all_accepted_told (name ∷ names) (t ∷ told) (l ∷ left) (c ∷ captures) has accepted = (
+    accepted_told name t l c has.0 accepted.0,
+    all_accepted_told names told left captures has.1 accepted.1,
+  )
+  all_accepted_told names told left captures has accepted = grind arith
+
+  indexed_told : (names : List (List ℕ)) (told left : List (Option (List ℕ))) (captures : List (List EntryValue))
+      → AllZip HasTold told left → AreIndexed types names left captures → AreIndexed types names told captures
+  indexed_told names told left captures has indexed = record {
+    named = indexed.named;
+    accepted = all_accepted_told names told left captures has indexed.accepted;
+    lines = indexed.lines;
+  }
+
+  fault_untold : (earlier : List (List ℕ)) (name : List ℕ) (left : Option (List ℕ)) (fault : IndexFault)
+      → IsFaultOfArchive types earlier name left fault → IsFaultOfArchive types earlier name None fault
+  fault_untold earlier name left fault is = grind arith
+
+  first_told : (names : List (List ℕ)) (told left : List (Option (List ℕ))) (i : ℕ) (fault : IndexFault)
+      → AllZip HasTold told left → IsFirstFault types names left i fault → IsFirstFault types names told i fault
+  first_told names told left i fault has first = record {
+    inside = first.inside;
+    captures = first.captures;
+    before = indexed_told (take i names) (take i told) (take i left) first.captures (told_take i told left has)
+        first.before;
+    refused = of_told (λ bytes. IsFaultOfArchive types (take i names) (get_or names i []) bytes fault) _ _
+        (told_at i told left has) (fault_untold _ _ _ fault) first.refused;
+  }
+
+  module _ (names : List (List ℕ)) (told left : List (Option (List ℕ))) (has : AllZip HasTold told left)
+      (sizes query : List ℕ) where
+    scan_fault_told : (fault : ScanFault) → IsScanFault types names left sizes query fault
+        → IsScanFault types names told sizes query fault
+    scan_fault_told fault is = grind (arith, first_told)
+
+    scanned_told : (before after : Option (List ℕ)) (number : ℕ)
+        → Scanned types names left sizes query before after number
+        → Scanned types names told sizes query before after number
+    scanned_told before after number s = record {
+      query = s.query;
+      asked = s.asked;
+      captures = s.captures;
+      indexed = indexed_told names told left s.captures has s.indexed;
+      once = s.once;
+      wrote = s.wrote;
+    }
+
+    part_told : (before after : Option (List ℕ)) → ScannedInPart types names left sizes query before after
+        → ScannedInPart types names told sizes query before after
+    part_told before after s = record {
+      query = s.query;
+      asked = s.asked;
+      captures = s.captures;
+      indexed = indexed_told names told left s.captures has s.indexed;
+      part = s.part;
+    }
+
+    pub scans_told : (before after : Option (List ℕ)) (outcome : Outcome)
+        → ScansArchives types names left sizes query before after outcome
+        → ScansArchives types names told sizes query before after outcome
+    scans_told before after outcome s = record {
+      answer = s.answer;
+      outcome_is = s.outcome_is;
+      scanned = grind (arith, scanned_told);
+      fault = grind (arith, scan_fault_told);
+      part = grind (arith, part_told);
+      unwritten = s.unwritten;
+    }

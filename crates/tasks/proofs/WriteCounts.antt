@@ -1,0 +1,44 @@
+-- The output's failures, by how a command ends.
+use Rattle.std.proofs.Common.{arith, ◌≡◌, ℕ, List, [], ◌∷◌, true, false}
+use Rattle.tasks.specs.declared.outcome.Outcome.{Outcome}
+use Rattle.tasks.specs.Each.{GoesOver}
+use Rattle.tasks.specs.Opening.{IsUnopened}
+use Rattle.tasks.specs.Outcome.{ends_command, worse_of}
+use Rattle.tasks.specs.Writes.{CountsWrites}
+
+-- what isn't opened is not written
+pub unopened_counts : (failed : Type 0) (outcome : Outcome) (n : ℕ) → IsUnopened failed outcome
+    → CountsWrites outcome n n
+unopened_counts failed outcome n h = grind arith
+
+-- an outcome after which a command goes on is none of Write
+going_on : (outcome : Outcome) (old new : ℕ) → ends_command outcome ≡ false → CountsWrites outcome old new
+    → new ≡ old
+going_on outcome old new e h = grind arith
+
+goes_on : (outcome : Outcome) (n : ℕ) → ends_command outcome ≡ false → CountsWrites outcome n n
+goes_on outcome n e = grind arith
+
+worse_goes_on : (one other : Outcome) → ends_command one ≡ false → ends_command other ≡ false
+    → ends_command (worse_of one other) ≡ false
+worse_goes_on one other e f = grind arith
+
+-- what counts at each step counts in all
+pub counts_over : (result : Outcome) (last : ℕ) (names : List (List ℕ)) (reached : Outcome) (now : ℕ)
+    → ends_command reached ≡ false
+    → GoesOver (λ old name ended new. CountsWrites ended old new) reached now names result last
+    → CountsWrites result now last
+counts_over result last [] reached now e over = grind (arith, goes_on reached now e)
+counts_over result last (name ∷ names) reached now e (ended, next, step, rest) =
+    grind (
+      arith,
+      going_on ended now next,
+      worse_goes_on reached ended e,
+      counts_over result last names (worse_of reached ended) next,
+    )
+
+-- the output stays as it is if adding ended the command, and else an index is written
+pub index_counts : (added outcome : Outcome) (old new : ℕ) → CountsWrites added 0 0
+    → (ends_command added ≡ true → (outcome ≡ added) × (new ≡ old))
+    → (ends_command added ≡ false → CountsWrites outcome old new) → CountsWrites outcome old new
+index_counts added outcome old new none ended written = grind arith

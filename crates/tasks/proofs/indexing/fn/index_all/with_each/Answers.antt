@@ -1,0 +1,18 @@
+use Rattle.std.proofs.Common.{arith}
+use Rattle.tasks.specs.Indexing.{AddsArchive}
+use Rattle.tasks.specs.Opening.{IsUnopened}
+use Rattle.tasks.proofs.OpeningLemmas.{opens_first}
+use Rattle.tasks.proofs.UntoldArchives.{added_untold}
+use Rattle.tasks.proofs.WriteCounts.{unopened_counts}
+use Rattle.tasks.proofs.indexing.fn.index_all.with_each.Goals as goal
+
+pub returns : goal.returns
+returns g c =
+    let added = c.add_opened in
+    record {
+      adds = opens_first c.open_archive.result g.F.Archive.Input.remaining _
+          (IsUnopened (g.F.Opener.archive_failed c.captures.files.now c.args.name.now))
+          (λ bytes. AddsArchive c.args.name.now bytes c.args.indexer.now added.new.indexer added.result)
+          _ (λ left. added_untold left _ _ _ _) (λ same. same) c.open_archive.ensures added.ensures.adds;
+      unwritten = grind (arith, unopened_counts);
+    }

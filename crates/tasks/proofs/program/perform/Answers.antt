@@ -1,0 +1,39 @@
+use Rattle.std.proofs.Common.{◌≡◌, ℕ, List, String, Global, map, subst, string_bytes}
+use Rattle.capture_core.specs.Types.{includes}
+use Rattle.command_line.specs.Words.{texts}
+use Rattle.tasks.specs.Opening.{AreUnopenedIndexes, OpensFirst}
+use Rattle.tasks.specs.Queries.{AnswersLines}
+use Rattle.tasks.specs.Scanning.{ScansNamed}
+use Rattle.tasks.proofs.UntoldLines.{served_told}
+use Rattle.tasks.proofs.program.perform.Goals as goal
+
+pub returns-in-Scan-clause-performs : goal.returns-in-Scan-clause-performs
+returns-in-Scan-clause-performs g c =
+    let task = c.in-Scan in
+    let old = c.args.out.now in
+    let new = c.scan_all.new.out in
+    let scans = ScansNamed (g.F.Opener.archive_bytes c.args.files.now)
+    (g.F.Opener.archive_failed c.args.files.now) (includes task.types) in
+    let ends : List ℕ → List ℕ → List (String Global)
+    → Type 0 = λ sizes query names. scans sizes query (texts names) (g.O.Output.written old)
+    (g.O.Output.written new) (new ≡ old) c.scan_all.result in
+    rw task.is
+    (subst (λ sizes. ends sizes (string_bytes task.query) task.names.items) c.deref-in-Scan.ensures.value
+    (subst (λ query. ends c.deref-in-Scan.result.now query task.names.items) c.deref-in-Scan-2.ensures
+    (subst (λ names. ends c.deref-in-Scan.result.now c.deref-in-Scan-2.result.now names) c.deref-in-Scan-3.ensures.value
+    c.scan_all.ensures.scans)))
+
+pub returns-in-Serve-clause-performs : goal.returns-in-Serve-clause-performs
+returns-in-Serve-clause-performs g c =
+    let opener = g.F.Opener in
+    let files = c.args.files.now in
+    let old = c.args.out.now in
+    let new = c.serve_all.new.out in
+    let result = c.serve_all.result in
+    let ends : List (String Global)
+    → Type 0 = λ names. OpensFirst (AreUnopenedIndexes (opener.index_failed files) (texts names) result) (new ≡ old)
+    (AnswersLines (map (opener.index_bytes files) (texts names)) (opener.input_bytes files) (g.O.Output.written old)
+    (g.O.Output.written new) (new ≡ old) result) in
+    rw c.in-Serve.is
+    (subst ends c.deref-in-Serve.ensures.value
+    (served_told _ _ _ _ _ _ _ _ c.input.ensures c.serve_all.ensures.answers))

@@ -1,0 +1,63 @@
+-- The name of an archive in an index, its adding, and the writing of an index.
+use Rattle.std.specs.Prelude.{◌≡◌, ◌↔◌, ℕ, List, Option, Bool, true, ◌==◌, Result, Ok, Err, IfErr, MatchBool, []}
+use Rattle.std.specs.List.{after_last}
+use Rattle.devices.specs.Writing.{WritesText}
+use Rattle.warc_core.specs.declared.next.TheConstants.{HEAD_LIMIT}
+use Rattle.capture_core.specs.Types.{includes}
+use Rattle.capture_core.specs.declared.types.Types.{Types}
+use Rattle.capture_core.specs.CaptureAnswer.{usual_limits}
+use Rattle.index_core.specs.declared.fault.IndexFault.{IndexFault}
+use Rattle.index_core.specs.declared.fault.IndexFault.TheVariants as faults
+use Rattle.index_core.specs.Adding.{Adds}
+use Rattle.index_core.specs.Indexing.{Held, IsName, IsWriteFault, index_text, is_among}
+use Rattle.tasks.specs.declared.outcome.Outcome.{Outcome}
+use Rattle.tasks.specs.declared.outcome.Outcome.TheVariants as outcomes
+use Rattle.tasks.specs.Each.{GoesOver}
+use Rattle.tasks.specs.Opening.{IsUnopened, OpensFirst}
+use Rattle.tasks.specs.Outcome.{outcome_of, ends_command}
+
+-- `/`
+abbrev pub is_slash : ℕ → Bool
+is_slash byte = byte == 47
+
+-- what stands after the last `/`, or the whole name where there is none
+abbrev pub file_name : List ℕ → List ℕ
+file_name name = after_last is_slash name
+
+-- an archive was added under its file name, by the outcome
+pub record AddsArchive (name : List ℕ) (archive : Option (List ℕ)) (old new : Held) (outcome : Outcome) : Type 0 where
+  pub answer : Result ℕ IndexFault
+  pub outcome_is : outcome ≡ outcome_of answer
+  pub bad : (answer ≡ Err faults.BadName) ↔ ¬ (IsName (file_name name))
+  pub duplicate : (answer ≡ Err faults.DuplicateName)
+      ↔ (IsName (file_name name) × (is_among old.names (file_name name) ≡ true))
+  pub adds : Adds (includes old.types) usual_limits HEAD_LIMIT (file_name name) archive old new answer
+
+-- the outcome of the adding, unless the writing was refused
+abbrev pub unless_refused : {A : Type 0} → Outcome → Result A IndexFault → Outcome
+unless_refused added (Ok number) = added
+unless_refused added (Err fault) = outcomes.Index fault
+
+-- the index was written, whole or in part
+abbrev pub WritesIndex : Held → Outcome → Option (List ℕ) → Option (List ℕ) → Outcome → Type 0
+WritesIndex held added before after outcome =
+    (answer : Result ℕ IndexFault) × (outcome ≡ unless_refused added answer) × IfErr answer IsWriteFault
+    × WritesText answer before after (index_text held.captures)
+
+-- the archive of this name was added, unless it couldn't be opened
+abbrev pub AddsOne : (List ℕ → Option (List ℕ)) → (List ℕ → Type 0) → Held → List ℕ → Outcome → Held → Type 0
+AddsOne bytes_of Failed old name outcome new =
+    OpensFirst (IsUnopened (Failed name) outcome) (new ≡ old) (AddsArchive name (bytes_of name) old new outcome)
+
+-- nothing, of these types
+abbrev pub nothing_of : Types → Held
+nothing_of chosen = record { types = chosen; names = []; captures = [] }
+
+-- the archives of these names were added, one after another, and the index of what was added was written, unless adding
+-- ended the command
+abbrev pub IndexesArchives : (List ℕ → Option (List ℕ)) → (List ℕ → Type 0) → Types → List (List ℕ)
+    → Option (List ℕ) → Option (List ℕ) → Type 0 → Outcome → Type 0
+IndexesArchives bytes_of Failed types names before after unchanged outcome =
+    (held : Held) × (added : Outcome)
+    × GoesOver (AddsOne bytes_of Failed) outcomes.Done (nothing_of types) names added held
+    × MatchBool (ends_command added) ((outcome ≡ added) × unchanged) (WritesIndex held added before after outcome)

@@ -1,0 +1,30 @@
+-- Files that can't be opened, and what a command does with those that can.
+use Rattle.std.specs.Prelude.{◌≡◌, ◌⊎◌, ⊤, List, ℕ, Any, Option, Some, IfSome}
+use Rattle.index_core.specs.declared.fault.IndexFault.TheVariants as faults
+use Rattle.query_core.specs.declared.fault.AnswerFault.TheVariants as answers
+use Rattle.tasks.specs.declared.outcome.Outcome.{Outcome}
+use Rattle.tasks.specs.declared.outcome.Outcome.TheVariants as outcomes
+
+-- a file has the bytes that are told of it, where they are told
+abbrev pub HasTold : Option (List ℕ) → Option (List ℕ) → Type 0
+HasTold told bytes = IfSome told (λ known. bytes ≡ Some known)
+
+-- a file isn't opened: its opening failed, as this says, or memory did
+abbrev pub IsUnopened : Type 0 → Outcome → Type 0
+IsUnopened failed (outcomes.Index faults.Memory) = ⊤
+IsUnopened failed outcomes.CannotOpen = failed
+IsUnopened failed outcome = ⊥
+
+-- the same of an index, whose size may not be determined either
+abbrev pub IsUnopenedIndex : Type 0 → Outcome → Type 0
+IsUnopenedIndex failed (outcomes.Answer (answers.Read index)) = (index ≡ 0) × failed
+IsUnopenedIndex failed outcome = IsUnopened failed outcome
+
+-- one of several indexes isn't opened, or memory failed
+abbrev pub AreUnopenedIndexes : (List ℕ → Type 0) → List (List ℕ) → Outcome → Type 0
+AreUnopenedIndexes Failed names (outcomes.Answer answers.Memory) = ⊤
+AreUnopenedIndexes Failed names outcome = IsUnopenedIndex (Any Failed names) outcome
+
+-- files were opened and this was done with them, or they can't be opened and nothing was written
+abbrev pub OpensFirst : Type 0 → Type 0 → Type 0 → Type 0
+OpensFirst unopened unchanged done = done ⊎ (unopened × unchanged)

@@ -1,0 +1,51 @@
+-- What the program does for each task.
+use Rattle.std.specs.Prelude.{ℕ, List, Option, map}
+use Rattle.capture_core.specs.Types.{includes}
+use Rattle.command_line.specs.Commands.{Meaning, ToList, ToVerify, ToIndex, ToMerge, ToCheck, ToQuery, ToPages, ToServe}
+use Rattle.command_line.specs.Commands.{ToGet, ToScan}
+use Rattle.tasks.specs.declared.outcome.Outcome.{Outcome}
+use Rattle.tasks.specs.declared.reports.ArchiveReport.TheVariants as reports
+use Rattle.tasks.specs.Checks.{ChecksIndexes}
+use Rattle.tasks.specs.Fetching.{WritesRecord}
+use Rattle.tasks.specs.Indexing.{IndexesArchives}
+use Rattle.tasks.specs.Merging.{MergesIndexes}
+use Rattle.tasks.specs.Opening.{IsUnopened, AreUnopenedIndexes, OpensFirst}
+use Rattle.tasks.specs.Queries.{AnswersLines, AnswersPages, AnswersQuery, ReadsFirst}
+use Rattle.tasks.specs.Reports.{ReportsOn}
+use Rattle.tasks.specs.Scanning.{ScansNamed}
+
+-- What opens files tells: the bytes of the archive and of the index of a name, as far as they are known; that the
+-- opening of one failed; and the bytes of standard input.
+pub record Openings : Type 1 where
+  pub archive_of : List ℕ → Option (List ℕ)
+  pub index_of : List ℕ → Option (List ℕ)
+  pub ArchiveFailed : List ℕ → Type 0
+  pub IndexFailed : List ℕ → Type 0
+  pub input : Option (List ℕ)
+
+-- what was written before and after; that the output is unchanged; and the outcome
+module _ (files : Openings) (before after : Option (List ℕ)) (unchanged : Type 0) (outcome : Outcome) where
+  -- the indexes of these names were opened, and this was done with them
+  abbrev pub OverIndexFiles : List (List ℕ) → Type 0 → Type 0
+  OverIndexFiles names done = OpensFirst (AreUnopenedIndexes files.IndexFailed names outcome) unchanged done
+
+  abbrev pub Performs : Meaning → Type 0
+  Performs (ToList names) = ReportsOn files.archive_of files.ArchiveFailed reports.Listing names before after outcome
+  Performs (ToVerify names) =
+      ReportsOn files.archive_of files.ArchiveFailed reports.Verdicts names before after outcome
+  Performs (ToIndex types names) =
+      IndexesArchives files.archive_of files.ArchiveFailed types names before after unchanged outcome
+  Performs (ToMerge names) =
+      OverIndexFiles names (MergesIndexes (map files.index_of names) before after unchanged outcome)
+  Performs (ToCheck names) = ChecksIndexes files.index_of files.IndexFailed names before after outcome
+  Performs (ToQuery text names) = ReadsFirst text outcome unchanged (λ query.
+      OverIndexFiles names (AnswersQuery query (map files.index_of names) before after unchanged outcome))
+  Performs (ToPages sizes text names) = ReadsFirst text outcome unchanged (λ query.
+      OverIndexFiles names (AnswersPages query sizes (map files.index_of names) before after unchanged outcome))
+  Performs (ToServe names) =
+      OverIndexFiles names (AnswersLines (map files.index_of names) files.input before after unchanged outcome)
+  Performs (ToGet len offset name) =
+      OpensFirst (IsUnopened (files.ArchiveFailed name) outcome) unchanged
+      (WritesRecord len offset (files.archive_of name) before after unchanged outcome)
+  Performs (ToScan types sizes text names) =
+      ScansNamed files.archive_of files.ArchiveFailed (includes types) sizes text names before after unchanged outcome

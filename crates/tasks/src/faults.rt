@@ -1,0 +1,86 @@
+//! The faults of archives and indexes, and how they are reported on standard error.
+ghost use Rattle.std.specs.Prelude.{◌≡◌};
+ghost use Rattle.tasks.specs.Outcome.{outcome_of};
+
+use crate::outcome::{Outcome, outcome_of};
+use index_core::IndexFault;
+use query_core::{AnswerFault, QueryFault};
+use scan_core::ScanFault;
+use std::rt::Runtime;
+
+/// Returns the outcome of a call on the archive of this name. A fault is reported on standard error.
+pub fn said_outcome<R: Runtime>(rt: &R, name: &str, answer: Result<u64, IndexFault>) -> Outcome
+    ensures { result ≡ outcome_of answer }
+{
+    if let Err(fault) = answer {
+        say_fault(rt, name, fault);
+    }
+    outcome_of(answer)
+}
+
+/// Reports a fault of an archive. Memory and a failed output are reported at the command's end.
+fn say_fault<R: Runtime>(rt: &R, name: &str, fault: IndexFault) {
+    match fault {
+        IndexFault::Capture(fault) => {
+            let (offset, cause) = (fault.offset(), fault.name());
+            let _ = eprintln!(rt; "warcdx: {name}: fault {offset} {cause}");
+        }
+        IndexFault::BadName | IndexFault::DuplicateName | IndexFault::NoRecord => {
+            let cause = fault.name();
+            let _ = eprintln!(rt; "warcdx: {name}: {cause}");
+        }
+        IndexFault::Memory | IndexFault::Write => {}
+    }
+}
+
+/// Reports why a query is refused. Memory is reported at the command's end.
+pub fn say_query_fault<R: Runtime>(rt: &R, fault: QueryFault) {
+    if fault != QueryFault::Memory {
+        let cause = fault.name();
+        let _ = eprintln!(rt; "warcdx: query: {cause}");
+    }
+}
+
+/// Reports a fault of a call on several indexes under the name of the index concerned, if there is one.
+pub fn say_source_fault<R: Runtime>(rt: &R, names: &[String], fault: AnswerFault) {
+    let source = match fault {
+        AnswerFault::Read(source) => source,
+        AnswerFault::BadLine(source, _offset) => source,
+        AnswerFault::OutOfOrder(source, _offset) => source,
+        _ => return,
+    };
+    if let Some(name) = names.get(source) {
+        say_answer_fault(rt, name, fault);
+    }
+}
+
+/// Reports a fault of the index of this name. Memory and a failed output are reported at the command's end.
+pub fn say_answer_fault<R: Runtime>(rt: &R, name: &str, fault: AnswerFault) {
+    let cause = fault.name();
+    match fault {
+        AnswerFault::Read(_source) => {
+            let _ = eprintln!(rt; "warcdx: {name}: {cause}");
+        }
+        AnswerFault::BadLine(_source, offset) => {
+            let _ = eprintln!(rt; "warcdx: {name}: {cause} {offset}");
+        }
+        AnswerFault::OutOfOrder(_source, offset) => {
+            let _ = eprintln!(rt; "warcdx: {name}: {cause} {offset}");
+        }
+        _ => {}
+    }
+}
+
+/// Reports why archives of these names couldn't be scanned. A fault of no single archive is reported at the command's
+/// end.
+pub fn say_scan_fault<R: Runtime>(rt: &R, names: &[String], fault: ScanFault) {
+    match fault {
+        ScanFault::Query(fault) => say_query_fault(rt, fault),
+        ScanFault::Archive(archive, fault) => {
+            if let Some(name) = names.get(archive) {
+                say_fault(rt, name, fault);
+            }
+        }
+        ScanFault::Answer(_fault) => {}
+    }
+}

@@ -1,0 +1,84 @@
+//! The indexing of archives.
+ghost use Rattle.std.specs.Prelude.{◌≡◌, true, false, MatchResult};
+ghost use Rattle.command_line.specs.Words.{texts};
+ghost use Rattle.tasks.specs.Indexing.{AddsArchive, AddsOne, IndexesArchives, WritesIndex};
+ghost use Rattle.tasks.specs.Outcome.{ends_command};
+ghost use Rattle.tasks.specs.Writes.{CountsWrites};
+
+use crate::archive_names::file_name;
+use crate::each::with_each;
+use crate::faults::said_outcome;
+use crate::opening::Opener;
+use crate::outcome::Outcome;
+use crate::exit_status::ends_command;
+use capture_core::Types;
+use index_core::Indexer;
+use std::rt::Runtime;
+use warc_core::{Input, Output};
+
+/// Writes one index of the archives' records of these types. An archive that can't be read to its end is indexed up to
+/// the fault. If memory failed before the index is written, nothing is written.
+pub fn index_all<R: Runtime + AllocGlobal, F: Opener, O: Output>(
+    rt: &R,
+    files: &F,
+    types: Types,
+    names: &[String],
+    out: &mut O,
+) -> Outcome
+    ensures indexes { IndexesArchives (F.archive_bytes files.now) (F.archive_failed files.now)
+        types (texts names.now) (O.written out.old) (O.written out.new) (out.new ≡ out.old)
+        result }
+    ensures writes { CountsWrites result (O.failures out.old) (O.failures out.new) }
+{
+    let mut indexer = Indexer::new(rt.alloc(), types);
+    let added = with_each(
+        names,
+        &mut indexer,
+        |indexer, name|
+            ensures adds { AddsOne (F.archive_bytes files.entry.now)
+                (F.archive_failed files.entry.now)
+                indexer.old name.now result indexer.new }
+            ensures unwritten { CountsWrites result 0 0 }
+        { add_opened(rt, indexer, name, files.open_archive(name)) },
+    );
+    write_index(&indexer, added, out)
+}
+
+/// Adds an archive under its file name, unless it couldn't be opened.
+fn add_opened<R: Runtime, I: Input + Drop>(
+    rt: &R,
+    indexer: &mut Indexer,
+    name: &str,
+    opened: Result<I, Outcome>,
+) -> Outcome
+    ensures adds { MatchResult opened
+        (λ archive. AddsArchive name.now (I.remaining archive) indexer.old indexer.new result)
+        (λ outcome. (result ≡ outcome) × (indexer.new ≡ indexer.old)) }
+    ensures unwritten { MatchResult opened (λ _. CountsWrites result 0 0)
+        (λ outcome. result ≡ outcome) }
+{
+    match opened {
+        Ok(mut archive) => {
+            let answer = indexer.add(file_name(name), &mut archive);
+            said_outcome(rt, name, answer)
+        }
+        Err(outcome) => outcome,
+    }
+}
+
+/// Writes the index, unless the command has ended.
+fn write_index<O: Output>(indexer: &Indexer, added: Outcome, out: &mut O) -> Outcome
+    ensures ended { ends_command added ≡ true → (result ≡ added) × (out.new ≡ out.old) }
+    ensures written { ends_command added ≡ false →
+        WritesIndex indexer.now added (O.written out.old) (O.written out.new) result }
+    ensures writes { ends_command added ≡ false →
+        CountsWrites result (O.failures out.old) (O.failures out.new) }
+{
+    if ends_command(&added) {
+        return added;
+    }
+    match indexer.write(out) {
+        Ok(_count) => added,
+        Err(fault) => Outcome::Index(fault),
+    }
+}

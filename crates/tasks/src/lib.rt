@@ -1,0 +1,25 @@
+//! The tasks of the command line: what each command does, over anything that opens files by name.
+//!
+//! The definitions begin in `specs/Performing.antt`: what the program does for each task.
+#![tactic(auto)]
+
+mod archive_names;
+mod checks;
+mod conversing;
+mod each;
+mod exit_status;
+mod faults;
+mod fetching;
+mod indexing;
+mod merging;
+mod opening;
+mod outcome;
+mod program;
+mod queries;
+mod reports;
+mod scanning;
+
+pub use crate::exit_status::status;
+pub use crate::opening::{Opener, System};
+pub use crate::outcome::Outcome;
+pub use crate::program::{perform, run};

@@ -1,0 +1,166 @@
+//! What the program does with its arguments and its output.
+ghost use Rattle.std.specs.Prelude.{◌≡◌};
+ghost use Rattle.command_line.specs.Commands.{asked, view};
+ghost use Rattle.command_line.specs.Words.{texts};
+ghost use Rattle.tasks.specs.Outcome.{IsHelpOutcome};
+ghost use Rattle.tasks.specs.Performing.{Performs};
+ghost use Rattle.tasks.specs.Words.{EndsWords};
+ghost use Rattle.tasks.specs.Writes.{CountsWrites};
+
+use crate::checks::check_all;
+use crate::conversing::serve_all;
+use crate::fetching::fetch;
+use crate::indexing::index_all;
+use crate::merging::merge_all;
+use crate::opening::{Opener, System};
+use crate::outcome::{Outcome, flushed_outcome, message};
+use crate::queries::{answer_query, write_pages};
+use crate::reports::{ArchiveReport, report_on};
+use crate::scanning::scan_all;
+use command_line::{Task, WordsFault, read_words};
+use devices::Prompt;
+use index_core::IndexFault;
+use std::env::{self, Env, FillError};
+use std::io::{self, BufWriter, ErrorKind, Write};
+use std::rt::Runtime;
+use warc_core::{FromWrite, Output};
+
+const MEMORY: Outcome = Outcome::Index(IndexFault::Memory);
+
+// The bytes of output that are written at once.
+const OUTPUT_ROOM: usize = 65_536;
+
+// The bytes of an argument that are looked at: Linux has no longer file names.
+const ARGUMENT_ROOM: usize = 4_096;
+
+/// Runs the program, and returns its outcome.
+pub fn run<R: Runtime + AllocGlobal>(rt: &R) -> Outcome {
+    match words(rt) {
+        Ok(words) => run_words(rt, &words),
+        Err(error) if error.kind() == ErrorKind::OutOfMemory => say_outcome(rt, MEMORY),
+        Err(_error) => {
+            say_not_utf8(rt);
+            Outcome::Usage
+        }
+    }
+}
+
+/// Reports on standard error that an argument isn't UTF-8.
+fn say_not_utf8<R: Runtime>(rt: &R) {
+    let _ = match first_not_utf8(rt) {
+        Some(number) => eprint!(rt; "error: argument {number} isn't UTF-8"),
+        None => eprint!(rt; "error: an argument isn't UTF-8"),
+    };
+    let _ = eprintln!(rt; "\n\nFor more information, try '--help'.");
+}
+
+/// Returns the number of the first argument that isn't UTF-8, counted from 1. Arguments longer than the buffer are
+/// passed over.
+fn first_not_utf8<R: Runtime>(rt: &R) -> Option<usize> {
+    let mut buffer = [0; ARGUMENT_ROOM];
+    for number in 1..usize::MAX {
+        match rt.arg(number, &mut buffer) {
+            Ok(length) if !is_utf8(&buffer, length) => return Some(number),
+            Err(FillError::NotPresent) => return None,
+            _ => {}
+        }
+    }
+    None
+}
+
+fn is_utf8(buffer: &[u8], length: usize) -> bool {
+    str::from_utf8(buffer.get(..length).unwrap_or(buffer)).is_ok()
+}
+
+/// Returns the arguments after the program's name.
+fn words<R: Runtime + AllocGlobal>(rt: &R) -> io::Result<Vec<String>> {
+    Ok(env::args(rt)?.skip(1).collect(rt.alloc())?)
+}
+
+fn run_words<R: Runtime + AllocGlobal>(rt: &R, words: &[String]) -> Outcome
+    ensures { EndsWords (asked (texts words.now)) result }
+{
+    match read_words(rt.alloc(), words) {
+        Ok(task) => run_task(rt, &task),
+        Err(WordsFault::Memory) => say_outcome(rt, MEMORY),
+        Err(WordsFault::Help(text)) => help(rt, &text),
+        Err(WordsFault::Usage(text)) => {
+            let _ = eprint!(rt; "{text}");
+            Outcome::Usage
+        }
+    }
+}
+
+/// Reports on standard error what failed at a command's end, if anything did. Returns the outcome.
+fn say_outcome<R: Runtime>(rt: &R, outcome: Outcome) -> Outcome
+    ensures { result ≡ outcome }
+{
+    if let Some(message) = message(outcome) {
+        let _ = eprintln!(rt; "warcdx: {message}");
+    }
+    outcome
+}
+
+fn help<R: Runtime>(rt: &R, text: &str) -> Outcome
+    ensures { IsHelpOutcome result }
+{
+    let printed = print!(rt; "{text}");
+    say_outcome(rt, flushed_outcome(Outcome::Done, printed.is_ok()))
+}
+
+/// Performs the task. Its output is standard output.
+fn run_task<R: Runtime + AllocGlobal>(rt: &R, task: &Task) -> Outcome {
+    let Ok(mut writer) = BufWriter::with_capacity(rt.alloc(), OUTPUT_ROOM, io::writer(rt)) else {
+        return say_outcome(rt, MEMORY);
+    };
+    let outcome = match task {
+        Task::Serve { .. } => perform(rt, &System::new(rt), task, &mut Prompt::new(&mut writer)),
+        _ => perform(rt, &System::new(rt), task, &mut FromWrite::new(&mut writer)),
+    };
+    let flushed = writer.flush();
+    say_outcome(rt, flushed_outcome(outcome, flushed.is_ok()))
+}
+
+/// Performs the task with this output.
+pub fn perform<R: Runtime + AllocGlobal, F: Opener, O: Output>(
+    rt: &R,
+    files: &F,
+    task: &Task,
+    out: &mut O,
+) -> Outcome
+    ensures performs { Performs (record {
+      archive_of = F.archive_bytes files.now;
+      index_of = F.index_bytes files.now;
+      ArchiveFailed = F.archive_failed files.now;
+      IndexFailed = F.index_failed files.now;
+      input = F.input_bytes files.now;
+    })
+        (O.written out.old) (O.written out.new) (out.new ≡ out.old) result (view task.now) }
+    ensures writes { CountsWrites result (O.failures out.old) (O.failures out.new) }
+{
+    match task {
+        Task::List { names } => report_on(rt, files, names, ArchiveReport::Listing, out),
+        Task::Verify { names } => report_on(rt, files, names, ArchiveReport::Verdicts, out),
+        Task::Index { types, names } => index_all(rt, files, *types, names, out),
+        Task::Merge { names } => merge_all(rt, files, names, out),
+        Task::Check { names } => check_all(rt, files, names, out),
+        Task::Query { query, names } => answer_query(rt, files, query, names, out),
+        Task::Pages {
+            sizes,
+            query,
+            names,
+        } => write_pages(rt, files, sizes, query, names, out),
+        Task::Serve { names } => serve_all(rt, files, names, &mut files.input(), out),
+        Task::Get {
+            length,
+            offset,
+            name,
+        } => fetch(rt, files, *length, *offset, name, out),
+        Task::Scan {
+            types,
+            sizes,
+            query,
+            names,
+        } => scan_all(rt, files, *types, sizes, query, names, out),
+    }
+}

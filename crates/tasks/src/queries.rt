@@ -1,0 +1,154 @@
+//! The answers to queries.
+ghost use Rattle.std.specs.Prelude.{◌≡◌, map};
+ghost use Rattle.command_line.specs.Words.{texts};
+ghost use Rattle.tasks.specs.Opening.{OpensFirst, AreUnopenedIndexes};
+ghost use Rattle.tasks.specs.Queries.{AnswersPages, AnswersQuery, ReadsFirst, ReadsQuery};
+ghost use Rattle.tasks.specs.Writes.{CountsWrites};
+
+use crate::faults::{say_query_fault, say_source_fault};
+use crate::opening::{Opener, open_indexes};
+use crate::outcome::Outcome;
+use query_core::{Query, Source, answer, pages};
+use std::rt::Runtime;
+use warc_core::Output;
+
+/// Writes the page that the query text asks for over the indexes of these names. Faults are reported on standard error.
+pub fn answer_query<R: Runtime + AllocGlobal, F: Opener, O: Output>(
+    rt: &R,
+    files: &F,
+    query: &str,
+    names: &[String],
+    out: &mut O,
+) -> Outcome
+    ensures answers { ReadsFirst query.now result (out.new ≡ out.old) (λ query.
+        OpensFirst (AreUnopenedIndexes (F.index_failed files.now) (texts names.now) result)
+        (out.new ≡ out.old)
+        (AnswersQuery query (map (F.index_bytes files.now) (texts names.now))
+        (O.written out.old) (O.written out.new) (out.new ≡ out.old) result)) }
+    ensures writes { CountsWrites result (O.failures out.old) (O.failures out.new) }
+{
+    match read_query(rt, query) {
+        Ok(query) => open_and_answer(rt, files, &query, names, out),
+        Err(outcome) => outcome,
+    }
+}
+
+/// Opens the indexes of these names, and writes the page of the query.
+fn open_and_answer<R: Runtime + AllocGlobal, F: Opener, O: Output>(
+    rt: &R,
+    files: &F,
+    query: &Query,
+    names: &[String],
+    out: &mut O,
+) -> Outcome
+    ensures answers { OpensFirst (AreUnopenedIndexes (F.index_failed files.now) (texts names.now) result)
+        (out.new ≡ out.old)
+        (AnswersQuery query.now (map (F.index_bytes files.now) (texts names.now))
+        (O.written out.old) (O.written out.new) (out.new ≡ out.old) result) }
+    ensures writes { CountsWrites result (O.failures out.old) (O.failures out.new) }
+{
+    match open_indexes(rt.alloc(), files, names) {
+        Ok(mut indexes) => answer_opened(rt, query, names, &mut indexes, out),
+        Err(outcome) => outcome,
+    }
+}
+
+/// Writes all pages of the query text, each of its size. The last size is repeated. Faults are reported on standard
+/// error.
+pub fn write_pages<R: Runtime + AllocGlobal, F: Opener, O: Output>(
+    rt: &R,
+    files: &F,
+    sizes: &[u64],
+    query: &str,
+    names: &[String],
+    out: &mut O,
+) -> Outcome
+    ensures answers { ReadsFirst query.now result (out.new ≡ out.old) (λ query.
+        OpensFirst (AreUnopenedIndexes (F.index_failed files.now) (texts names.now) result)
+        (out.new ≡ out.old)
+        (AnswersPages query sizes.now (map (F.index_bytes files.now) (texts names.now))
+        (O.written out.old) (O.written out.new) (out.new ≡ out.old) result)) }
+    ensures writes { CountsWrites result (O.failures out.old) (O.failures out.new) }
+{
+    match read_query(rt, query) {
+        Ok(query) => open_and_write_pages(rt, files, sizes, &query, names, out),
+        Err(outcome) => outcome,
+    }
+}
+
+/// Opens the indexes of these names, and writes the pages of the query.
+fn open_and_write_pages<R: Runtime + AllocGlobal, F: Opener, O: Output>(
+    rt: &R,
+    files: &F,
+    sizes: &[u64],
+    query: &Query,
+    names: &[String],
+    out: &mut O,
+) -> Outcome
+    ensures answers { OpensFirst (AreUnopenedIndexes (F.index_failed files.now) (texts names.now) result)
+        (out.new ≡ out.old)
+        (AnswersPages query.now sizes.now (map (F.index_bytes files.now) (texts names.now))
+        (O.written out.old) (O.written out.new) (out.new ≡ out.old) result) }
+    ensures writes { CountsWrites result (O.failures out.old) (O.failures out.new) }
+{
+    match open_indexes(rt.alloc(), files, names) {
+        Ok(mut indexes) => pages_opened(rt, sizes, query, names, &mut indexes, out),
+        Err(outcome) => outcome,
+    }
+}
+
+/// Reads a query text. Why it is refused is reported on standard error.
+pub fn read_query<R: Runtime + AllocGlobal>(rt: &R, text: &str) -> Result<Query, Outcome>
+    ensures { ReadsQuery text.now result }
+{
+    match Query::read(rt.alloc(), text) {
+        Ok(query) => Ok(query),
+        Err(fault) => {
+            say_query_fault(rt, fault);
+            Err(Outcome::Query(fault))
+        }
+    }
+}
+
+/// Answers a query over sources of these names.
+fn answer_opened<R: Runtime + AllocGlobal, S: Source, O: Output>(
+    rt: &R,
+    query: &Query,
+    names: &[String],
+    sources: &mut [S],
+    out: &mut O,
+) -> Outcome
+    ensures answers { AnswersQuery query.now (map S.text sources.old) (O.written out.old)
+        (O.written out.new) (out.new ≡ out.old) result }
+    ensures writes { CountsWrites result (O.failures out.old) (O.failures out.new) }
+{
+    match answer(rt.alloc(), sources, query, out) {
+        Ok(_report) => Outcome::Done,
+        Err(fault) => {
+            say_source_fault(rt, names, fault);
+            Outcome::Answer(fault)
+        }
+    }
+}
+
+/// Writes the pages of a query over sources of these names.
+fn pages_opened<R: Runtime + AllocGlobal, S: Source, O: Output>(
+    rt: &R,
+    sizes: &[u64],
+    query: &Query,
+    names: &[String],
+    sources: &mut [S],
+    out: &mut O,
+) -> Outcome
+    ensures answers { AnswersPages query.now sizes.now (map S.text sources.old) (O.written out.old)
+        (O.written out.new) (out.new ≡ out.old) result }
+    ensures writes { CountsWrites result (O.failures out.old) (O.failures out.new) }
+{
+    match pages(rt.alloc(), sources, query, sizes, out) {
+        Ok(_count) => Outcome::Done,
+        Err(fault) => {
+            say_source_fault(rt, names, fault);
+            Outcome::Answer(fault)
+        }
+    }
+}

@@ -1,0 +1,138 @@
+//! Queries over archives.
+ghost use Rattle.std.specs.Prelude.{◌≡◌, Any, ◌∷◌, ◌++◌, [], IfOk, MatchResult, map};
+ghost use Rattle.capture_core.specs.Types.{includes};
+ghost use Rattle.command_line.specs.Words.{texts};
+ghost use Rattle.tasks.specs.Indexing.{file_name};
+ghost use Rattle.tasks.specs.Opening.{IsUnopened, OpensFirst};
+ghost use Rattle.tasks.specs.Scanning.{AreOpened, ScansArchives, ScansNamed, archive_names, inputs, scan_outcome};
+ghost use Rattle.tasks.specs.Writes.{CountsWrites};
+
+use crate::archive_names::file_name;
+use crate::faults::say_scan_fault;
+use crate::opening::Opener;
+use crate::outcome::Outcome;
+use crate::queries::read_query;
+use capture_core::Types;
+use index_core::IndexFault;
+use scan_core::{Named, ScanFault, scan};
+use std::alloc::{AllocError, Global};
+use std::rt::Runtime;
+use warc_core::{Input, Output};
+
+/// Writes the pages of the query text over the captures of these archives' records of these types. Each page has its
+/// size, and the last size is repeated. Faults are reported on standard error.
+pub fn scan_all<R: Runtime + AllocGlobal, F: Opener, O: Output>(
+    rt: &R,
+    files: &F,
+    types: Types,
+    sizes: &[u64],
+    query: &str,
+    names: &[String],
+    out: &mut O,
+) -> Outcome
+    ensures scans { ScansNamed (F.archive_bytes files.now) (F.archive_failed files.now)
+        (includes types) sizes.now query.now (texts names.now)
+        (O.written out.old) (O.written out.new) (out.new ≡ out.old) result }
+    ensures writes { CountsWrites result (O.failures out.old) (O.failures out.new) }
+{
+    match read_query(rt, query) {
+        Ok(_query) => open_and_scan(rt, files, types, sizes, query, names, out),
+        Err(outcome) => outcome,
+    }
+}
+
+/// Opens the archives of these names, and writes the pages of the query over them.
+fn open_and_scan<R: Runtime + AllocGlobal, F: Opener, O: Output>(
+    rt: &R,
+    files: &F,
+    types: Types,
+    sizes: &[u64],
+    query: &str,
+    names: &[String],
+    out: &mut O,
+) -> Outcome
+    ensures scans { OpensFirst
+        (IsUnopened (Any (F.archive_failed files.now) (texts names.now)) result)
+        (out.new ≡ out.old)
+        (ScansArchives (includes types) (map file_name (texts names.now))
+        (map (F.archive_bytes files.now) (texts names.now)) sizes.now query.now
+        (O.written out.old) (O.written out.new) result) }
+    ensures writes { CountsWrites result (O.failures out.old) (O.failures out.new) }
+{
+    match open_archives(rt.alloc(), files, names) {
+        Ok(mut archives) => scan_opened(rt, types, sizes, query, names, &mut archives, out),
+        Err(outcome) => outcome,
+    }
+}
+
+/// Opens the archives of these arguments, under their file names. Returns the outcome of the first that can't be
+/// opened, if there is one.
+fn open_archives<F: Opener>(
+    alloc: Global,
+    files: &F,
+    names: &[String],
+) -> Result<Vec<Named<F::Archive>>, Outcome>
+    ensures { MatchResult result
+        (λ archives. AreOpened F.Archive.remaining (F.archive_bytes files.now)
+        (texts names.now) archives.items)
+        (IsUnopened (Any (F.archive_failed files.now) (texts names.now))) }
+{
+    let mut archives = Vec::new(alloc);
+    for name in names {
+        let input = files.open_archive(name)?;
+        if push_named(alloc, &mut archives, file_name(name), input).is_err() {
+            return Err(Outcome::Index(IndexFault::Memory));
+        }
+    }
+    Ok(archives)
+}
+
+fn push_named<I: Drop>(
+    alloc: Global,
+    archives: &mut Vec<Named<I>>,
+    name: &str,
+    input: I,
+) -> Result<(), AllocError>
+    ensures names { IfOk result (λ _.
+        archive_names archives.new.items ≡ archive_names archives.old.items ++ name.now ∷ []) }
+    ensures inputs { IfOk result (λ _.
+        inputs archives.new.items ≡ inputs archives.old.items ++ input ∷ []) }
+{
+    let name = String::from_str(alloc, name)?;
+    archives.push(Named { name, input })?;
+    Ok(())
+}
+
+/// Writes the pages over archives that were opened by these arguments.
+fn scan_opened<R: Runtime + AllocGlobal, I: Input, O: Output>(
+    rt: &R,
+    types: Types,
+    sizes: &[u64],
+    query: &str,
+    names: &[String],
+    archives: &mut [Named<I>],
+    out: &mut O,
+) -> Outcome
+    ensures scans { ScansArchives (includes types) (archive_names archives.old)
+        (map (λ a. I.remaining a.input) archives.old) sizes.now query.now (O.written out.old)
+        (O.written out.new) result }
+    ensures writes { CountsWrites result (O.failures out.old) (O.failures out.new) }
+{
+    let answer = scan(rt.alloc(), archives, types, sizes, query, out);
+    if let Err(fault) = answer {
+        say_scan_fault(rt, names, fault);
+    }
+    scan_outcome(answer)
+}
+
+/// Returns the outcome of a scan.
+fn scan_outcome(answer: Result<u64, ScanFault>) -> Outcome
+    ensures { result ≡ scan_outcome answer }
+{
+    match answer {
+        Ok(_count) => Outcome::Done,
+        Err(ScanFault::Query(fault)) => Outcome::Query(fault),
+        Err(ScanFault::Archive(_archive, fault)) => Outcome::Index(fault),
+        Err(ScanFault::Answer(fault)) => Outcome::Answer(fault),
+    }
+}
