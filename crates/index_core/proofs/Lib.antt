@@ -15,3 +15,4 @@ mod FetchedLemmas
 mod OffsetLemmas
 pub mod LimitLemmas
 mod AcceptedWhole
+mod FormLemmas

@@ -23,7 +23,7 @@ pub use crate::fetching::{get, get_at};
 pub use crate::indexer::Indexer;
 pub use crate::laws::{
     accepted_archive_is_not_refused, accepted_archive_is_whole, accepted_archive_stays_accepted,
-    archive_has_one_list_of_captures, captures_stand_at_their_offsets,
+    archive_has_one_list_of_captures, both_forms_of_get_agree, captures_stand_at_their_offsets,
     one_thing_stands_at_an_offset,
 };
 pub use crate::listing::list;
