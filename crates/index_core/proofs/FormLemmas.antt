@@ -169,7 +169,7 @@ module _ (limit : ℕ) (archive : List ℕ) (offset : ℕ) (h : HeadView) (r : I
   stays : (s : Result (List ℕ) IndexFault) → StandsIn limit archive offset s → s ≡ Ok text_of
   stays s t = one_stands limit offset archive s (Ok text_of) t is_text
 
-  wrote : (result : Result ℕ IndexFault) (before after : Option (List ℕ))
+  pub wrote : (result : Result ℕ IndexFault) (before after : Option (List ℕ))
       → Fetches limit offset (Some archive) result before after → WroteRecord text_of result before after
   wrote (Ok n) before after (text, size, grown, t) = let e = stays (Ok text) t in grind arith
   wrote (Err faults.NoRecord) before after s = let e = stays (Err faults.NoRecord) s in absurd cc

@@ -16,3 +16,6 @@ mod OffsetLemmas
 pub mod LimitLemmas
 mod AcceptedWhole
 mod FormLemmas
+mod OneTextLemmas
+mod OneRecordLemmas
+mod OneAddLemmas
