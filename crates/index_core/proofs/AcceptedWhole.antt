@@ -9,7 +9,7 @@ use Rattle.capture_core.proofs.Captures.{one_capture}
 use Rattle.index_core.specs.Accepted.{IsTaken, AreCaptured}
 use Rattle.index_core.specs.Laws.{AcceptedIsWhole}
 
-all_taken : (types : Kind → Bool) (limits : Limits) (limit : ℕ) (name archive : List ℕ) (heads : List HeadView)
+pub all_taken : (types : Kind → Bool) (limits : Limits) (limit : ℕ) (name archive : List ℕ) (heads : List HeadView)
     (captures : List EntryValue)
     → AreCaptured types limits limit name archive heads captures
     → AllByRecursion (IsTaken types limits limit name archive) heads

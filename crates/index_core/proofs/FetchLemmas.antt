@@ -44,7 +44,7 @@ module _ (limit : ℕ) where
       (s.0, record { end = o; walks = subst (Walks limit 0 archive s.0 o) (none_at_end limit o z y r) s.1 }, l)
   ends_before o left now after offset s r l = grind arith
 
-  stops : (archive : List ℕ) (offset : ℕ) (f : Fault) (heads : List HeadView) (z : List ℕ)
+  pub stops : (archive : List ℕ) (offset : ℕ) (f : Fault) (heads : List HeadView) (z : List ℕ)
       → Walks limit 0 archive heads f.offset z → IsFoundIn f.cause (record_at limit f.offset z) → f.offset ≤ offset
       → StopsAt limit archive offset f
   stops archive offset f heads z w i l = grind arith

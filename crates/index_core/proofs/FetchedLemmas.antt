@@ -1,18 +1,20 @@
 -- A capture's record stands at its offset.
 use Rattle.std.proofs.Common.{arith, ◌≡◌, ℕ, ◌+◌, List, [], ◌∷◌, ◌++◌, Bool, Option, Some, Ok, drop, refl}
-use Rattle.std.proofs.Common.{◌⊎◌, option_to_list}
+use Rattle.std.proofs.Common.{◌⊎◌, inl, inr, option_to_list}
 use Rattle.cdxj_places.specs.Rising.{IsIn}
 use Rattle.cdxj_core.specs.Entries.{EntryValue}
 use Rattle.capture_core.specs.Capture.{IsCaptureUnder}
 use Rattle.capture_core.specs.CaptureAnswer.{Limits}
+use Rattle.capture_core.specs.Fault.{fault_offset}
 use Rattle.capture_core.specs.Indexed.{url_of}
 use Rattle.warc_core.specs.HeadView.{HeadView, record_length, block_at}
 use Rattle.warc_core.specs.Kind.{Kind}
 use Rattle.warc_core.specs.Walk.{record_at, Walks}
 use Rattle.warc_core.proofs.SpelledLemmas.{read-spelled}
 use Rattle.warc_core.proofs.WalkLemmas.{Walks-more}
-use Rattle.index_core.specs.Accepted.{IsAccepted, IsCaptureAt, AreCaptured}
+use Rattle.index_core.specs.Accepted.{IsCaptureAt, AreCaptured}
 use Rattle.index_core.specs.Fetching.{IsRecordOf}
+use Rattle.index_core.specs.Laws.{IsIndexed}
 
 joined_in : {X : Type 0} (x : X) (us vs : List X) → IsIn x (us ++ vs) → IsIn x us ⊎ IsIn x vs
 joined_in x [] vs i = grind arith
@@ -41,19 +43,21 @@ module _ (types : Kind → Bool) (limits : Limits) (limit : ℕ) (name archive :
       rw at (record { before = before; bytes = bytes; rest = later; walks = w; whole = r }) in
       (h, record_is, size, c)
 
-  go : (before heads : List HeadView) (start end : ℕ) (bytes : List ℕ) (captures : List EntryValue)
-      → Walks limit 0 archive before start bytes → Walks limit start bytes heads end []
+  go : (before heads : List HeadView) (start end : ℕ) (bytes left : List ℕ) (captures : List EntryValue)
+      → Walks limit 0 archive before start bytes → Walks limit start bytes heads end left
       → AreCaptured types limits limit name archive heads captures → IsIn e captures → Fetched
-  go before [] start end bytes captures w v c i = grind arith
-  go before (h ∷ heads) start end bytes captures w v (captured, others, here_is, rest, is) i =
+  go before [] start end bytes left captures w v c i = grind arith
+  go before (h ∷ heads) start end bytes left captures w v (captured, others, here_is, rest, is) i =
       grind (
         arith,
         joined_in e (option_to_list captured) others,
         here before start bytes v.0 h w v.1,
         Walks-more limit 0 archive before start bytes h v.0 w v.1,
-        go (before ++ h ∷ []) heads (start + record_length h) end v.0 others,
+        go (before ++ h ∷ []) heads (start + record_length h) end v.0 left others,
       )
 
-  pub fetched : (captures : List EntryValue) → IsAccepted types limits limit name archive captures → IsIn e captures
+  pub fetched : (captures : List EntryValue) → IsIndexed types limits limit name archive captures → IsIn e captures
       → Fetched
-  fetched captures a i = go [] a.heads 0 a.whole.end archive captures (refl, refl) a.whole.walks a.captured i
+  fetched captures (inl a) i = go [] a.heads 0 a.whole.end archive [] captures (refl, refl) a.whole.walks a.captured i
+  fetched captures (inr (fault, a)) i =
+      go [] a.heads 0 (fault_offset fault) archive a.rest captures (refl, refl) a.walks a.captured i

@@ -15,3 +15,7 @@ mod FetchedLemmas
 mod OffsetLemmas
 pub mod LimitLemmas
 mod AcceptedWhole
+mod FormLemmas
+mod OneTextLemmas
+mod OneRecordLemmas
+mod OneAddLemmas

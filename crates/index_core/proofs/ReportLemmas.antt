@@ -43,7 +43,7 @@ stopped_anywhere f c before after e = grind arith
 
 module _ (limit : ℕ) (line : RecordLine) where
   -- the archive's report goes on where the lines of its first records end
-  report_behind : (archive : List ℕ) (heads : List HeadView) (o : ℕ) (rest : List ℕ)
+  pub report_behind : (archive : List ℕ) (heads : List HeadView) (o : ℕ) (rest : List ℕ)
       → Walks limit 0 archive heads o rest → (tail : List ℕ)
       × IsReport limit line archive (report_lines line archive heads ++ tail)
   report_behind archive heads o rest w =

@@ -17,7 +17,7 @@ use Rattle.index_core.specs.Laws.{IsNoFaultOfArchive, WholeIsNotRefused}
 use Rattle.index_core.proofs.VerdictLemmas.{behind}
 
 -- no record is read at the end
-none_behind : (limit start : ℕ) (h : HeadView) (rest : List ℕ) → record_at limit start [] ≡ Ok (Some h, rest) → ⊥
+pub none_behind : (limit start : ℕ) (h : HeadView) (rest : List ℕ) → record_at limit start [] ≡ Ok (Some h, rest) → ⊥
 unfolding record_at next_at
 none_behind limit start h rest r = grind arith
 

@@ -1,8 +1,7 @@
 -- The record of a length that begins at an offset of an archive, whatever precedes it.
-use Rattle.std.specs.Prelude.{◌≡◌, ◌≢◌, ℕ, ◌<◌, ◌-◌, ◌^◌, ⊤, ◌⊎◌, List, [], length, take, drop, Option, None, Some}
+use Rattle.std.specs.Prelude.{◌≡◌, ◌≢◌, ℕ, ◌<◌, ◌≤◌, ◌-◌, ◌^◌, ◌⊎◌, List, [], length, take, drop, Option, Some}
 use Rattle.std.specs.Prelude.{Result, Ok, Err, IfSome, option_map}
 use Rattle.std.specs.Io.KnownBytes.{Appends}
-use Rattle.warc_core.specs.declared.fault.Cause.{Cause}
 use Rattle.devices.specs.Device.{AppendsPrefix}
 use Rattle.warc_core.specs.HeadView.{HeadView, record_length}
 use Rattle.warc_core.specs.Reading.{Reads, IsFoundIn}
@@ -44,7 +43,7 @@ CopiesNextOf limit offset len (Err other) bytes before after = ⊥
 -- is known. No record begins past the greatest offset.
 abbrev pub FetchesAt : ℕ → ℕ → ℕ → Option (List ℕ) → Result ℕ IndexFault → Option (List ℕ) → Option (List ℕ) → Type 0
 FetchesAt limit offset len left result before after = ((2 ^ 63 - 1 < offset) × (result ≡ Err faults.NoRecord))
-    ⊎ CopiesNextOf limit offset len result (option_map (drop offset) left) before after
+    ⊎ ((offset ≤ 2 ^ 63 - 1) × CopiesNextOf limit offset len result (option_map (drop offset) left) before after)
 
 -- an open record, with this much of its block left, was read to its end, or it is at fault there
 abbrev pub PassesRecord : ℕ → ℕ → Result ℕ IndexFault → Option (List ℕ) → Option (List ℕ) → Type 0

@@ -1,5 +1,5 @@
 -- Laws of the definitions that the contracts cite.
-use Rattle.std.specs.Prelude.{◌≡◌, ℕ, ◌≤◌, ⊤, Bool, List, drop, Some, Result}
+use Rattle.std.specs.Prelude.{◌≡◌, ℕ, ◌≤◌, ⊤, ◌⊎◌, Bool, List, drop, Some, Result}
 use Rattle.cdxj_places.specs.Rising.{IsIn}
 use Rattle.warc_core.specs.HeadView.{HeadView, record_length}
 use Rattle.warc_core.specs.Kind.{Kind}
@@ -55,11 +55,16 @@ abbrev pub SomeStands : Type 0
 SomeStands = (limit offset : ℕ) (archive : List ℕ) → (answer : Result (List ℕ) IndexFault)
     × StandsIn limit archive offset answer
 
+-- the archive is accepted with these captures, whole or up to a fault
+abbrev pub IsIndexed : (Kind → Bool) → Limits → ℕ → List ℕ → List ℕ → List EntryValue → Type 0
+IsIndexed types limits limit name archive captures = IsAccepted types limits limit name archive captures
+    ⊎ ((fault : CaptureFault) × IsAcceptedTo types limits limit name fault archive captures)
+
 -- at the offset of each capture of an archive stands a record of the capture's length, and the capture is that record's
 abbrev pub CapturesStand : Type 0
 CapturesStand = (types : Kind → Bool) (limits : Limits) (limit : ℕ) (name archive : List ℕ)
     (captures : List EntryValue) (e : EntryValue)
-    → IsAccepted types limits limit name archive captures → IsIn e captures
+    → IsIndexed types limits limit name archive captures → IsIn e captures
     → (h : HeadView) × IsRecordOf limit archive e.offset h × (record_length h ≡ e.length)
     × IsCaptureAt types limits limit name h (drop h.start archive) (Some e)
 

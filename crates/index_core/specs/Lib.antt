@@ -11,6 +11,8 @@ pub mod FetchingAt
 pub mod Copying
 pub mod Counting
 pub mod Laws
+pub mod FetchingLaws
+pub mod OneText
 pub mod Limits
 -- what contracts see of records
 pub use Rattle.warc_core.specs.Answers

@@ -1,0 +1,154 @@
+-- An archive decides which record is at an offset, and what is written of it.
+use Rattle.std.proofs.Common.{◌≡◌, ◌∙◌, ℕ, List, [], ◌++◌, ◌⊎◌, inl, inr, Option, Some, Result, Ok}
+use Rattle.std.proofs.Common.{Err, IfOk, length, take, drop, refl, sym, ap, arith}
+use Rattle.warc_core.specs.declared.fault.Cause.{Cause}
+use Rattle.warc_core.specs.HeadView.{HeadView, record_length}
+use Rattle.warc_core.specs.Next.{next_at}
+use Rattle.warc_core.specs.Walk.{record_at}
+use Rattle.warc_core.proofs.ReadingLemmas.{answered}
+use Rattle.capture_core.specs.declared.fault.CaptureFault.TheVariants.{Archive}
+use Rattle.index_core.specs.declared.fault.IndexFault.{IndexFault}
+use Rattle.index_core.specs.declared.fault.IndexFault.TheVariants as faults
+use Rattle.index_core.specs.Fetching.{StandsIn, most_written_at, Fetches}
+use Rattle.index_core.specs.FetchingAt.{BeginsRecord, BeginsOther, CopiesNextOf}
+use Rattle.index_core.specs.FetchingLaws.{WroteRecord}
+use Rattle.index_core.specs.OneText.{IsFailure, IsOfArchive, HasFront, IsUnwritten, IsNotDamagedAt}
+use Rattle.index_core.specs.OneText.{FetchesOneText}
+use Rattle.index_core.specs.OneText.{FetchesFront, FetchesAtOneText, FetchesAtFront}
+use Rattle.index_core.proofs.FormLemmas.{wrote}
+use Rattle.index_core.proofs.OffsetLemmas.{one_stands}
+use Rattle.index_core.proofs.WholeLemmas.{none_behind}
+use Rattle.index_core.proofs.OneTextLemmas.{grown, has_front, damage}
+
+-- how long what stands at an offset is
+abbrev length_of : Result (List ℕ) IndexFault → Result ℕ IndexFault
+length_of (Ok text) = Ok (length text)
+length_of (Err fault) = Err fault
+
+-- a result is that of what stands there, and its text was written
+abbrev Settled : (Result (List ℕ) IndexFault → Type 0) → List ℕ → Result ℕ IndexFault → Option (List ℕ) → Type 0
+Settled Stands before result text = (there : Result (List ℕ) IndexFault) × Stands there × (result ≡ length_of there)
+    × IfOk there (λ bytes. text ≡ Some (before ++ bytes))
+
+-- where one thing stands, results are the same
+settled_once : (Stands : Result (List ℕ) IndexFault → Type 0)
+    → ((this that : Result (List ℕ) IndexFault) → Stands this → Stands that → this ≡ that)
+    → (offset : ℕ) (before : List ℕ) (this that : Result ℕ IndexFault) (text other : Option (List ℕ))
+    → Settled Stands before this text → Settled Stands before that other
+    → IsUnwritten offset this (Some before) text → IsUnwritten offset that (Some before) other
+    → (this ≡ that) × (IsNotDamagedAt offset this → text ≡ other)
+settled_once Stands one offset before this that text other (a, s, e, t) (b, u, f, v) p q =
+    let same = one a b s u in
+    let results : this ≡ that = cc in
+    (results, λ n. grind arith)
+
+-- a call that failed has written a front of the record
+failed_front : (before bytes : List ℕ) (that : Result ℕ IndexFault) (text other : Option (List ℕ)) → IsFailure that
+    → text ≡ Some (before ++ bytes) → WroteRecord bytes that (Some before) other → HasFront before text other
+failed_front before bytes (Err (faults.Capture (Archive f))) text other i e (n, p) = has_front before bytes text other e p
+failed_front before bytes (Err faults.Write) text other i e p = has_front before bytes text other e p
+failed_front before bytes that text other i e w = grind arith
+
+module _ (limit offset : ℕ) (archive before : List ℕ) where
+  settled : (result : Result ℕ IndexFault) (text : Option (List ℕ)) → IsOfArchive result
+      → Fetches limit offset (Some archive) result (Some before) text
+      → Settled (StandsIn limit archive offset) before result text
+  settled (Ok n) text i (bytes, size, a, t) = (Ok bytes, t, ap Ok size, grown before bytes text a)
+  settled (Err faults.NoRecord) text i s = (Err faults.NoRecord, s, refl, tt)
+  settled (Err (faults.Capture (Archive f))) text i (l, (inl s, p)) = (Err (faults.Capture (Archive f)), s, refl, tt)
+  settled (Err (faults.Capture (Archive f))) text i (l, (inr (n, a), p)) = absurd (i n)
+  settled result text i s = grind arith
+
+pub fetches_one_text : FetchesOneText
+fetches_one_text limit offset archive before this that text other i j r s p q =
+    settled_once (StandsIn limit archive offset) (one_stands limit offset archive) offset before this that text other
+    (settled limit offset archive before this text i r) (settled limit offset archive before that other j s) p q
+
+pub fetches_front : FetchesFront
+fetches_front limit offset archive before n that text other i (bytes, size, a, (h, r, is)) s =
+    failed_front before bytes that text other i (grown before bytes text a)
+    (rw is (wrote limit archive offset h r that (Some before) other s))
+
+-- ---- records of a length
+
+-- what stands in these bytes
+abbrev StandsAs : ℕ → ℕ → ℕ → List ℕ → Result (List ℕ) IndexFault → Type 0
+StandsAs limit offset len bytes (Ok text) = BeginsRecord limit offset bytes len text
+StandsAs limit offset len bytes (Err faults.NoRecord) = (bytes ≡ []) ⊎ BeginsOther limit offset bytes len
+StandsAs limit offset len bytes (Err (faults.Capture (Archive f))) = (f.offset ≡ offset)
+    × (record_at limit offset bytes ≡ Err f.cause)
+StandsAs limit offset len bytes (Err other) = ⊥
+
+-- no damage stands at the end
+no_damage : (limit start : ℕ) (c : Cause) → record_at limit start [] ≡ Err c → ⊥
+unfolding record_at next_at
+no_damage limit start c e = grind arith
+
+module _ (limit offset len : ℕ) (bytes before : List ℕ) where
+  -- none stands where a record does
+  text_or_none : (text : List ℕ) → BeginsRecord limit offset bytes len text → (bytes ≡ [])
+      ⊎ BeginsOther limit offset bytes len → ⊥
+  text_or_none text (h, rest, r, l, t) (inl e) = none_behind limit offset h rest (rw e at r)
+  text_or_none text (h, rest, r, l, t) (inr (k, later, s, n)) =
+      let same = answered (Some h) (Some k) rest later (sym r ∙ s) in n (grind arith)
+
+  none_or_damage : (c : Cause) → (bytes ≡ []) ⊎ BeginsOther limit offset bytes len
+      → record_at limit offset bytes ≡ Err c → ⊥
+  none_or_damage c (inl e) r = no_damage limit offset c (rw e at r)
+  none_or_damage c (inr (k, later, s, n)) r = grind arith
+
+  one_stands_as : (this that : Result (List ℕ) IndexFault) → StandsAs limit offset len bytes this
+      → StandsAs limit offset len bytes that → this ≡ that
+  one_stands_as (Ok a) (Ok b) x y = grind arith
+  one_stands_as (Ok a) (Err faults.NoRecord) x y = absurd (text_or_none a x y)
+  one_stands_as (Ok a) (Err (faults.Capture (Archive g))) x y = absurd (grind arith)
+  one_stands_as (Err faults.NoRecord) (Ok b) x y = absurd (text_or_none b y x)
+  one_stands_as (Err faults.NoRecord) (Err faults.NoRecord) x y = refl
+  one_stands_as (Err faults.NoRecord) (Err (faults.Capture (Archive g))) x y = absurd (none_or_damage g.cause x y.1)
+  one_stands_as (Err (faults.Capture (Archive f))) (Ok b) x y = absurd (grind arith)
+  one_stands_as (Err (faults.Capture (Archive f))) (Err faults.NoRecord) x y = absurd (none_or_damage f.cause y x.1)
+  one_stands_as (Err (faults.Capture (Archive f))) (Err (faults.Capture (Archive g))) x y = grind arith
+  one_stands_as this that x y = grind arith
+
+  settled_at : (result : Result ℕ IndexFault) (text : Option (List ℕ)) → IsOfArchive result
+      → CopiesNextOf limit offset len result (Some bytes) (Some before) text
+      → Settled (StandsAs limit offset len bytes) before result text
+  settled_at (Ok n) text i (is, front, size, a, b) = (Ok front, b, ap Ok size, grown before front text a)
+  settled_at (Err faults.NoRecord) text i s = (Err faults.NoRecord, s, refl, tt)
+  settled_at (Err (faults.Capture (Archive f))) text i (o, (c, p)) =
+      (Err (faults.Capture (Archive f)), (o, damage f.cause (record_at limit offset bytes) i c), refl, tt)
+  settled_at result text i s = grind arith
+
+pub fetches_at_one_text : FetchesAtOneText
+fetches_at_one_text limit offset len archive before this that text other i j (inl x) (inl y) p q =
+    (x.1 ∙ sym y.1, λ n. grind arith)
+fetches_at_one_text limit offset len archive before this that text other i j (inr x) (inr y) p q =
+    let bytes = drop offset archive in
+    settled_once (StandsAs limit offset len bytes) (one_stands_as limit offset len bytes before) offset before this that
+    text other (settled_at limit offset len bytes before this text i x.1)
+    (settled_at limit offset len bytes before that other j y.1) p q
+fetches_at_one_text limit offset len archive before this that text other i j (inl x) (inr y) p q =
+    absurd (omega (arith, x.0, y.0))
+fetches_at_one_text limit offset len archive before this that text other i j (inr x) (inl y) p q =
+    absurd (omega (arith, x.0, y.0))
+
+most_of : (limit offset len : ℕ) (bytes text : List ℕ) (h : HeadView) (rest : List ℕ)
+    → record_at limit offset bytes ≡ Ok (Some h, rest) → record_length h ≡ len → text ≡ take len bytes
+    → most_written_at limit offset bytes ≡ text
+most_of limit offset len bytes text h rest r l t = rw (r, l, ← t)
+
+-- a record of this length
+wrote_at : (limit offset len : ℕ) (bytes : List ℕ) (text : List ℕ) → BeginsRecord limit offset bytes len text
+    → (result : Result ℕ IndexFault) (before after : Option (List ℕ)) → IsFailure result
+    → CopiesNextOf limit offset len result (Some bytes) before after → WroteRecord text result before after
+wrote_at limit offset len bytes text (h, rest, r, l, t) (Err (faults.Capture (Archive f))) before after i (o, (c, p)) =
+    (i, rw (most_of limit offset len bytes text h rest r l t) at p)
+wrote_at limit offset len bytes text (h, rest, r, l, t) (Err faults.Write) before after i p =
+    rw (most_of limit offset len bytes text h rest r l t) at p
+wrote_at limit offset len bytes text b result before after i c = grind arith
+
+pub fetches_at_front : FetchesAtFront
+fetches_at_front limit offset len archive before n that text other i (inr (l, s)) (inr (k, t)) =
+    failed_front before s.1 that text other i (grown before s.1 text s.3)
+    (wrote_at limit offset len (drop offset archive) s.1 s.4 that (Some before) other i t)
+fetches_at_front limit offset len archive before n that text other i r s = grind arith

@@ -1,0 +1,139 @@
+-- An archive decides what a report on it answers and writes.
+use Rattle.std.proofs.Common.{◌≡◌, ◌∙◌, ℕ, List, [], ◌++◌, ◌⊎◌, inl, inr, Option, Some, Result, Ok}
+use Rattle.std.proofs.Common.{Err, refl, ap, arith}
+use Rattle.std.specs.Io.KnownBytes.{Appends}
+use Rattle.devices.specs.Device.{AppendsPrefix}
+use Rattle.warc_core.specs.declared.fault.Cause.{Cause}
+use Rattle.warc_core.specs.declared.fault.Fault.{Fault}
+use Rattle.warc_core.specs.HeadView.{HeadView}
+use Rattle.warc_core.specs.Reading.{IsFoundIn}
+use Rattle.warc_core.specs.Walk.{record_at, Walks}
+use Rattle.warc_core.proofs.WalkLemmas.{one_list, not_both, one_fault}
+use Rattle.capture_core.specs.declared.fault.CaptureFault.TheVariants.{Archive}
+use Rattle.index_core.specs.declared.fault.IndexFault.{IndexFault}
+use Rattle.index_core.specs.declared.fault.IndexFault.TheVariants as faults
+use Rattle.index_core.specs.declared.verified.Verified.{Verified}
+use Rattle.index_core.specs.Listing.{listing_line, record_count}
+use Rattle.index_core.specs.OneText.{IsFailure, IsOfArchive, HasFront, HasCut, HasPart}
+use Rattle.index_core.specs.OneText.{ListsOneText, ListsPart, VerifiesOneText, VerifiesPart}
+use Rattle.index_core.specs.Report.{IsNoDamage, RecordLine, IsReport, Reports, report_lines, fault_line}
+use Rattle.index_core.specs.Verifying.{verification_line, verified_in}
+use Rattle.index_core.proofs.ReportLemmas.{report_behind}
+
+-- what stands behind known bytes
+pub grown : (before bytes : List ℕ) (text : Option (List ℕ)) → Appends (Some before) text bytes
+    → text ≡ Some (before ++ bytes)
+grown before bytes text a = grind arith
+
+-- and a front of it
+pub has_front : (before bytes : List ℕ) (whole part : Option (List ℕ)) → whole ≡ Some (before ++ bytes)
+    → AppendsPrefix (Some before) part bytes → HasFront before whole part
+has_front before bytes whole part e (more, w) = (
+  w.front,
+  more,
+  rw (← w.whole) e,
+  grown before w.front part w.grown,
+)
+
+-- a cause of the archive's is that of the bytes
+pub damage : {A : Type 0} (c : Cause) (r : Result A Cause) → (IsNoDamage c → ⊥) → IsFoundIn c r → r ≡ Err c
+damage c r n i = grind arith
+
+-- ---- reports
+
+module _ (A : Type 0) (limit : ℕ) (line : RecordLine) (tally : List ℕ → List HeadView → A) (archive before : List ℕ)
+  where
+    -- the whole report, or the report up to the archive's damage
+    abbrev Whole : Result A IndexFault → Option (List ℕ) → Type 0
+    Whole result text = (heads : List HeadView) × (end : ℕ) × Walks limit 0 archive heads end []
+        × (result ≡ Ok (tally archive heads)) × (text ≡ Some (before ++ report_lines line archive heads))
+
+    abbrev Damaged : Result A IndexFault → Option (List ℕ) → Type 0
+    Damaged result text = (heads : List HeadView) × (f : Fault) × (rest : List ℕ)
+        × Walks limit 0 archive heads f.offset rest × (record_at limit f.offset rest ≡ Err f.cause)
+        × (result ≡ Err (faults.Capture (Archive f)))
+        × (text ≡ Some (before ++ (report_lines line archive heads ++ fault_line f)))
+
+    either : (result : Result A IndexFault) (text : Option (List ℕ)) → IsOfArchive result
+        → Reports limit line tally (Some archive) result (Some before) text → Whole result text ⊎ Damaged result text
+    either (Ok answer) text i (heads, whole, is, a) =
+        inl (heads, whole.end, whole.walks, ap Ok is, grown before (report_lines line archive heads) text a)
+    either (Err (faults.Capture (Archive f))) text i (heads, rest, walks, met, a) = inr (
+      heads,
+      f,
+      rest,
+      walks,
+      damage f.cause (record_at limit f.offset rest) i met,
+      refl,
+      grown before (report_lines line archive heads ++ fault_line f) text a,
+    )
+    either (Err faults.Write) text i r = absurd (i tt)
+    either result text i r = grind arith
+
+    once : (this that : Result A IndexFault) (text other : Option (List ℕ)) → Whole this text ⊎ Damaged this text
+        → Whole that other ⊎ Damaged that other → (this ≡ that) × (text ≡ other)
+    once this that text other (inl x) (inl y) = let e = one_list limit 0 archive x.0 y.0 x.1 y.1 x.2 y.2 in (cc, cc)
+    once this that text other (inl x) (inr y) =
+        absurd (not_both limit 0 archive x.0 y.0 x.1 y.1.offset y.1.cause y.2 x.2 y.3 y.4)
+    once this that text other (inr x) (inl y) =
+        absurd (not_both limit 0 archive y.0 x.0 y.1 x.1.offset x.1.cause x.2 y.2 x.3 x.4)
+    once this that text other (inr x) (inr y) =
+        let e = one_fault limit 0 archive x.0 y.0 x.1.offset y.1.offset x.1.cause y.1.cause x.2 y.2 x.3 y.3 x.4 y.4 in
+        let f : x.1 ≡ y.1 = grind arith in (cc, cc)
+
+    reports_one : (this that : Result A IndexFault) (text other : Option (List ℕ)) → IsOfArchive this → IsOfArchive that
+        → Reports limit line tally (Some archive) this (Some before) text
+        → Reports limit line tally (Some archive) that (Some before) other → (this ≡ that) × (text ≡ other)
+    reports_one this that text other i j r s = once this that text other (either this text i r) (either that other j s)
+
+    -- the text of a report
+    as_report : (part : List ℕ) (text : Option (List ℕ)) (this : Result A IndexFault) → Whole this text ⊎ Damaged this text
+        → IsReport limit line archive part → text ≡ Some (before ++ part)
+    as_report part text this e (inl (heads, whole, is)) =
+        let s = once this (Ok (tally archive heads)) text (Some (before ++ part)) e
+        (inl (heads, whole.end, whole.walks, refl, grind arith)) in s.1
+    as_report part text this e (inr (heads, f, d, is)) =
+        let s = once this (Err (faults.Capture (Archive f))) text (Some (before ++ part)) e
+        (inr (heads, f, d.rest, d.walks, d.refused, refl, grind arith)) in s.1
+
+    -- the lines of the first records, and a fault's line
+    cut_report : (this : Result A IndexFault) (text : Option (List ℕ)) (f : Fault) (heads : List HeadView)
+        (rest : List ℕ) → Whole this text ⊎ Damaged this text → Walks limit 0 archive heads f.offset rest
+        → HasCut before f text (Some (before ++ (report_lines line archive heads ++ fault_line f)))
+    cut_report this text f heads rest e w =
+        let b = report_behind limit line archive heads f.offset rest w in (
+          report_lines line archive heads,
+          b.0,
+          as_report (report_lines line archive heads ++ b.0) text this e b.1,
+          refl,
+        )
+
+    reports_part : (this that : Result A IndexFault) (text other : Option (List ℕ)) → IsOfArchive this → IsFailure that
+        → Reports limit line tally (Some archive) this (Some before) text
+        → Reports limit line tally (Some archive) that (Some before) other → HasPart before that text other
+    reports_part this (Err (faults.Capture (Archive f))) text other i j r (heads, rest, walks, met, a) =
+        let e = either this text i r in
+        let c = cut_report this text f heads rest e walks in
+        (c.0, c.1, c.2, grown before (report_lines line archive heads ++ fault_line f) other a ∙ c.3)
+    reports_part this (Err faults.Write) text other i j r (part, inl is, p) =
+        inl (has_front before part text other (as_report part text this (either this text i r) is) p)
+    reports_part this (Err faults.Write) text other i j r (part, inr (heads, f, rest, n, walks, is), p) =
+        let c = cut_report this text f heads rest (either this text i r) walks in
+        inr (f, Some (before ++ part), n, (c.0, c.1, c.2, ap (λ t. Some (before ++ t)) is ∙ c.3), has_front before part _ other refl p)
+    reports_part this that text other i j r s = grind arith
+
+pub lists_one_text : ListsOneText
+lists_one_text limit archive before this that text other i j r s =
+    reports_one ℕ limit listing_line record_count archive before this that text other i j r.report s.report
+
+pub lists_part : ListsPart
+lists_part limit archive before this that text other i j r s =
+    reports_part ℕ limit listing_line record_count archive before this that text other i j r.report s.report
+
+pub verifies_one_text : VerifiesOneText
+verifies_one_text limit archive before this that text other i j r s =
+    reports_one Verified limit verification_line verified_in archive before this that text other i j r.report s.report
+
+pub verifies_part : VerifiesPart
+verifies_part limit archive before this that text other i j r s =
+    reports_part Verified limit verification_line verified_in archive before this that text other i j r.report s.report

@@ -1,0 +1,14 @@
+use Rattle.index_core.proofs.OneRecordLemmas.{fetches_one_text, fetches_front, fetches_at_one_text, fetches_at_front}
+use Rattle.index_core.proofs.laws.get_writes_one_text.Goals as goal
+
+pub returns-clause-offset : goal.returns-clause-offset
+returns-clause-offset c = fetches_one_text
+
+pub returns-clause-offset_front : goal.returns-clause-offset_front
+returns-clause-offset_front c = fetches_front
+
+pub returns-clause-length : goal.returns-clause-length
+returns-clause-length c = fetches_at_one_text
+
+pub returns-clause-length_front : goal.returns-clause-length_front
+returns-clause-length_front c = fetches_at_front
