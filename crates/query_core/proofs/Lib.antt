@@ -8,6 +8,8 @@ pub mod LineReplies
 pub mod ReplyLemmas
 pub mod ReachLemmas
 pub mod PageReach
+pub mod PagesReach
+pub mod ReplyBytes
 pub mod RisingParts
 pub mod ComposeLemmas
 pub mod MergedLemmas
