@@ -15,3 +15,4 @@ pub mod ComposeLemmas
 pub mod MergedLemmas
 pub mod AddLemmas
 pub mod PageIndexes
+pub mod OneTextLemmas

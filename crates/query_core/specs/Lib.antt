@@ -10,6 +10,7 @@ pub mod StartViews
 pub mod Paging
 pub mod QueryLaws
 pub mod MergeLaws
+pub mod OneText
 pub mod Replies
 pub mod AnyReplies
 pub mod Conversations

@@ -4,6 +4,7 @@ ghost use Rattle.std.specs.Prelude.{◌≡◌};
 ghost use Rattle.query_core.specs.declared.merging.TheConstants.{SOURCES_LIMIT};
 ghost use Rattle.query_core.specs.Limits.{LINE_LIMIT, QUERY_LIMIT};
 ghost use Rattle.query_core.specs.MergeLaws.{MergedIsIndex, MergesCommute, MergesGroup};
+ghost use Rattle.query_core.specs.OneText.{AnswerIsOne, MergeIsOne, PagesAreOne};
 ghost use Rattle.query_core.specs.QueryLaws.{AddedOnlyAdd, AllAreKept, CdxjPageIsIndex, KeysContinue, NamesNameFields, NoLineIsAtFault, PagesRise, SelectedAreFirst, SelectedRise};
 
 use query_text::resume_key_is_put_into_query;
@@ -58,6 +59,24 @@ pub fn resume_keys_continue()
 /// Over indexes, no call returns the fault of a line.
 pub fn indexes_have_no_line_at_fault()
     ensures { NoLineIsAtFault }
+{}
+
+/// Over indexes, and an output whose bytes are known, there is one text that an answer that succeeds writes, and one report
+/// of the captures.
+pub fn answer_writes_one_text()
+    ensures { AnswerIsOne }
+{}
+
+/// Over indexes, and an output whose bytes are known, there is one text that pages of the same sizes write, and one number
+/// of pages.
+pub fn pages_write_one_text()
+    ensures { PagesAreOne }
+{}
+
+/// Over sources and an output whose bytes are known, there is one text that a merge that succeeds writes, and one number
+/// of lines.
+pub fn merge_writes_one_text()
+    ensures { MergeIsOne }
 {}
 
 /// The name of a field, as pages write it, names the field in a query.
