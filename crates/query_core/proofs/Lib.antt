@@ -16,3 +16,6 @@ pub mod MergedLemmas
 pub mod AddLemmas
 pub mod PageIndexes
 pub mod OneTextLemmas
+pub mod PageRows
+pub mod PageArrays
+pub mod PageLineLemmas

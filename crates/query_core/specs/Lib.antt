@@ -11,6 +11,7 @@ pub mod Paging
 pub mod QueryLaws
 pub mod MergeLaws
 pub mod OneText
+pub mod PageLines
 pub mod Replies
 pub mod AnyReplies
 pub mod Conversations

@@ -1,5 +1,5 @@
 -- Over known indexes and a known output, a call that succeeds writes one text.
-use Rattle.std.specs.Prelude.{◌≡◌, ℕ, List, Option, Some, Result, Ok}
+use Rattle.std.specs.Prelude.{◌≡◌, ℕ, List, Option, Some, Ok}
 use Rattle.std.specs.List.{AllZip}
 use Rattle.cdxj_core.specs.declared.limit.TheConstants.{LINE_LIMIT}
 use Rattle.cdxj_core.specs.Indexes.{IsIndex}
