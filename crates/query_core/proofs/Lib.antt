@@ -18,4 +18,5 @@ pub mod PageIndexes
 pub mod OneTextLemmas
 pub mod PageRows
 pub mod PageArrays
+pub mod ValueLemmas
 pub mod PageLineLemmas

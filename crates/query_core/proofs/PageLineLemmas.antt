@@ -23,7 +23,7 @@ use Rattle.query_text.specs.Matching.{matches}
 use Rattle.query_text.specs.Queries.{QueryValue}
 use Rattle.page_core.specs.Pages.{is_above}
 use Rattle.page_core.specs.PageText.{key_lines, page_text}
-use Rattle.page_core.specs.Rows.{text_row}
+use Rattle.page_core.specs.Rows.{escaped, row_value, text_row}
 use Rattle.page_core.proofs.PageLaws.{each_filter, each_kept}
 use Rattle.page_writers.specs.QueryPages.{output_form, query_captures, query_page, selected, shown_key}
 use Rattle.merge_core.specs.SourceLines.{HasEntry}
@@ -33,7 +33,8 @@ use Rattle.query_core.proofs.MergedLemmas.{is_row}
 use Rattle.query_core.proofs.PageIndexes.{each_at_most}
 use Rattle.query_core.proofs.PageArrays.{json_lines}
 use Rattle.query_core.proofs.PageRows.{AllAbove, IsLine, above_spaces, key_above, key_long, lines_joined, spaces}
-use Rattle.query_core.proofs.PageRows.{above_line, spaces_join, text_line, text_spaces}
+use Rattle.query_core.proofs.ValueLemmas.{value_some}
+use Rattle.query_core.proofs.PageRows.{escaped_some, above_line, spaces_join, text_line, text_spaces}
 
 -- ---- the captures of a page
 
@@ -153,6 +154,11 @@ unfolding spaces
 key_unspaced None h = tt
 key_unspaced (Some k) h = (refl, (omega (arith, spaces_join k (10 ∷ []), above_spaces k h.0), tt))
 
+unspaced : (text : List ℕ) → spaces text ≡ 0 → has_no_space text ≡ true
+unfolding spaces
+unspaced [] h = refl
+unspaced (b ∷ text) h = grind (arith, nat_tests, unspaced text)
+
 -- where no row has a space
 no_spaced_row : (row : Member → List ℕ) (ms : List Member) (key : Option (List ℕ)) (F : List ℕ)
     (before after : List (List ℕ)) → KeyIsAbove key → 0 < spaces F
@@ -168,6 +174,25 @@ no_spaced_row row ms key F before after k s h e =
 fault_spaces : (name : List ℕ) (index offset : ℕ) → 0 < spaces (fault_row name index offset)
 unfolding spaces
 fault_spaces name index offset = omega arith
+
+-- where no row is an empty line, one stands before a key
+empty_is_key : (row : Member → List ℕ) (ms : List Member) (key : Option (List ℕ)) (before after : List (List ℕ))
+    → KeyIsAbove key → AllByRecursion (λ m. row m ≡ 10 ∷ [] → ⊥) ms
+    → map row ms ++ key_rows key ≡ before ++ (10 ∷ []) ∷ after
+    → (k : List ℕ) × (key ≡ Some k) × (has_no_space k ≡ true) × (after ≡ (k ++ 10 ∷ []) ∷ [])
+empty_is_key row [] None before after above h e =
+    absurd (omega (arith, ap length e, length-append before ((10 ∷ []) ∷ after)))
+empty_is_key row [] (Some k) [] after above h e = (k, refl, unspaced k (above_spaces k above.0), grind arith)
+empty_is_key row [] (Some k) (b ∷ []) after above h e =
+    let same : k ++ 10 ∷ [] ≡ 10 ∷ [] = grind arith in
+    absurd (omega (arith, ap length same, length-append k (10 ∷ []), above.1))
+empty_is_key row [] (Some k) (b ∷ c ∷ before) after above h e =
+    absurd (omega (arith, ap length e, length-append before ((10 ∷ []) ∷ after)))
+empty_is_key row (m ∷ ms) key [] after above h e =
+    let first : row m ≡ 10 ∷ [] = grind arith in
+    absurd (h.0 first)
+empty_is_key row (m ∷ ms) key (b ∷ before) after above h e =
+    empty_is_key row ms key before after above h.1 (grind arith)
 
 -- ---- rows in text
 
@@ -187,6 +212,20 @@ text_refused : (fields : List Field) (m : Member) (name : List ℕ) → has_no_s
 unfolding spaces
 text_refused fields m name none e =
     omega (arith, text_spaces fields m, ap spaces e, spaces_join name (10 ∷ []), no_spaces name none)
+
+text_some : (fields : List Field) → (fields ≡ [] → ⊥) → (m : Member)
+    → ((f : Field) → 0 < length (row_value m f)) → text_row fields m ≡ 10 ∷ [] → ⊥
+text_some [] some m full e = some refl
+text_some (f ∷ fields) some m full e =
+    let v = escaped (row_value m f) in
+    let rest = flat_map (λ g. codes " " ++ escaped (row_value m g)) fields in
+    omega (
+      arith,
+      ap length e,
+      length-append (v ++ rest) (10 ∷ []),
+      length-append v rest,
+      escaped_some (row_value m f) (full f),
+    )
 
 text_empty : (fields : List Field) (m : Member) → 1 < length fields → text_row fields m ≡ 10 ∷ [] → ⊥
 unfolding spaces
@@ -306,3 +345,24 @@ module _ (fields : List Field) (ms : List Member) (key : Option (List ℕ)) (ent
       let b = each_at BeginsWithBracket (10 ∷ []) (before ++ (10 ∷ []) ∷ fault_row name index offset ∷ after)
       (rw e at (json_lines fields ms key)) (is_there before (10 ∷ []) (fault_row name index offset ∷ after)) in
       absurd (grind arith)
+
+  text_full : (fields ≡ [] → ⊥) → (m : Member) → HasEntry LINE_LIMIT m → text_row fields m ≡ 10 ∷ [] → ⊥
+  text_full some m h = text_some fields some m (value_some m h)
+
+  pub empty_of : (o : OutputFormat) → (o ≡ output.Json → ⊥) → (fields ≡ [] → ⊥) → (before after : List (List ℕ))
+      → shown o ≡ before ++ (10 ∷ []) ∷ after
+      → (k : List ℕ) × (key ≡ Some k) × (has_no_space k ≡ true) × (after ≡ (k ++ 10 ∷ []) ∷ [])
+  empty_of output.Text other some before after e =
+      empty_is_key (text_row fields) ms key before after above (each_weaker (text_full some) ms entries)
+      (rw text_lines at e)
+  empty_of output.Cdxj other some before after e =
+      empty_is_key line_row ms key before after above
+      (each_weaker (λ m h. cdxj_short m (10 ∷ []) h (omega arith)) ms entries) (rw cdxj_lines at e)
+  empty_of output.Json other some before after e = absurd (other refl)
+
+  pub spaceless : length fields ≡ 1 → AllByRecursion (λ line. has_no_space line ≡ true) (shown output.Text)
+  spaceless one =
+      rw text_lines (each_weaker unspaced (rows (text_row fields) ms key above)
+      (each_join (λ r. spaces r ≡ 0) (map (text_row fields) ms) (key_rows key)
+      (each_mapped (λ r. spaces r ≡ 0) (text_row fields) ms
+      (every (λ m. omega (arith, text_spaces fields m, one)) ms)) (key_unspaced key above)))

@@ -68,9 +68,16 @@ digit_above d = grind (arith, nat_tests)
 byte_above : (b : ℕ) → AllAbove (escaped_byte b)
 byte_above b = grind (arith, nat_tests, digit_above)
 
+byte_some : (b : ℕ) → 0 < length (escaped_byte b)
+byte_some b = grind arith
+
 escaped_above : (text : List ℕ) → AllAbove (escaped text)
 escaped_above [] = tt
 escaped_above (b ∷ text) = each_join Above (escaped_byte b) (escaped text) (byte_above b) (escaped_above text)
+
+pub escaped_some : (text : List ℕ) → 0 < length text → 0 < length (escaped text)
+escaped_some [] h = absurd (omega (arith, h))
+escaped_some (b ∷ text) h = omega (arith, byte_some b, length-append (escaped_byte b) (escaped text))
 
 -- the values after the first
 abbrev later : Member → List Field → List ℕ

@@ -1,5 +1,5 @@
 -- Which lines a page has, beside those of a reply that isn't a page.
-use Rattle.std.specs.Prelude.{◌≡◌, ℕ, not, Bool, true, List, [], ◌∷◌, ◌++◌, length, codes, decimal}
+use Rattle.std.specs.Prelude.{◌≡◌, ℕ, not, Bool, true, List, [], ◌∷◌, ◌++◌, length, codes, decimal, Some}
 use Rattle.std.specs.List.{AllByRecursion, list_all}
 use Rattle.cdxj_places.specs.Pair.{is_space}
 use Rattle.cdxj_places.specs.Rising.{IsIn}
@@ -9,7 +9,7 @@ use Rattle.cdxj_core.specs.Members.{Member}
 use Rattle.query_text.specs.declared.output.OutputFormat.TheVariants.{Json, Text}
 use Rattle.query_text.specs.Queries.{QueryValue}
 use Rattle.merge_core.specs.SourceLines.{HasEntry}
-use Rattle.page_writers.specs.QueryPages.{answer_text, query_page}
+use Rattle.page_writers.specs.QueryPages.{answer_text, query_page, shown_key}
 use Rattle.query_core.specs.Replies.{refusal_text}
 
 -- the lines of the page of a query over these lines
@@ -43,6 +43,18 @@ abbrev pub NoPageHasFaults : Type 0
 NoPageHasFaults = (q : QueryValue) (found : List Member) (name : List ℕ) (index offset : ℕ)
     (before after : List (List ℕ)) → HaveEntries found
     → page_lines q found ≡ before ++ codes "\n" ∷ fault_row name index offset ∷ after → ⊥
+
+-- in text and cdxj an empty line stands only before a resume key, which has no space and ends the page
+abbrev pub EmptyLineIsBeforeKey : Type 0
+EmptyLineIsBeforeKey = (q : QueryValue) (found : List Member) (before after : List (List ℕ)) → HaveEntries found
+    → (q.output ≡ Json → ⊥) → (q.fields ≡ [] → ⊥) → page_lines q found ≡ before ++ codes "\n" ∷ after
+    → (key : List ℕ) × (shown_key q.show_resume_key (query_page q found).next ≡ Some key)
+    × (has_no_space key ≡ true) × (after ≡ (key ++ codes "\n") ∷ [])
+
+-- a page of one field in text has no space
+abbrev pub OneFieldHasNoSpace : Type 0
+OneFieldHasNoSpace = (q : QueryValue) (found : List Member) → HaveEntries found → q.output ≡ Text
+    → length q.fields ≡ 1 → AllByRecursion (λ line. has_no_space line ≡ true) (page_lines q found)
 
 -- in json each line begins with `[`
 abbrev pub BeginsWithBracket : List ℕ → Type 0

@@ -5,7 +5,7 @@ ghost use Rattle.query_core.specs.declared.merging.TheConstants.{SOURCES_LIMIT};
 ghost use Rattle.query_core.specs.Limits.{LINE_LIMIT, QUERY_LIMIT};
 ghost use Rattle.query_core.specs.MergeLaws.{MergedIsIndex, MergesCommute, MergesGroup};
 ghost use Rattle.query_core.specs.OneText.{AnswerIsOne, MergeIsOne, PagesAreOne};
-ghost use Rattle.query_core.specs.PageLines.{JsonLinesBeginWithBrackets, NoPageHasFaults, OneFieldHasMarks, TwoFieldsBeginAsRefusals};
+ghost use Rattle.query_core.specs.PageLines.{EmptyLineIsBeforeKey, JsonLinesBeginWithBrackets, NoPageHasFaults, OneFieldHasMarks, OneFieldHasNoSpace, TwoFieldsBeginAsRefusals};
 ghost use Rattle.query_core.specs.QueryLaws.{AddedOnlyAdd, AllAreKept, CdxjPageIsIndex, KeysContinue, NamesNameFields, NoLineIsAtFault, PagesRise, SelectedAreFirst, SelectedRise};
 
 use query_text::resume_key_is_put_into_query;
@@ -64,12 +64,14 @@ pub fn indexes_have_no_line_at_fault()
 
 /// No line of a page is one of a reply that isn't a page, or that ends a reply, but in text of one field or of two. The
 /// lines of the page have entries. A line `.` is only in a page of one field, in text. A page begins with a line of a
-/// refusal only if it has two, in text. No page has the line of a fault after an empty line. In json each line begins
-/// with `[`.
+/// refusal only if it has two, in text. No page has the line of a fault after an empty line. In text and cdxj an empty line
+/// stands only before a resume key. A page of one field, in text, has no space. In json each line begins with `[`.
 pub fn replies_are_told_from_pages()
     ensures mark { OneFieldHasMarks }
     ensures refused { TwoFieldsBeginAsRefusals }
     ensures fault { NoPageHasFaults }
+    ensures empty { EmptyLineIsBeforeKey }
+    ensures one { OneFieldHasNoSpace }
     ensures json { JsonLinesBeginWithBrackets }
 {}
 

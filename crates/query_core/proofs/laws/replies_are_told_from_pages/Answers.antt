@@ -6,7 +6,7 @@ use Rattle.merge_core.specs.SourceLines.{HasEntry}
 use Rattle.page_writers.specs.QueryPages.{query_page, shown_key}
 use Rattle.query_core.specs.PageLines.{HaveEntries}
 use Rattle.query_core.proofs.PageArrays.{json_lines}
-use Rattle.query_core.proofs.PageLineLemmas.{fault_of, mark_of, page_each, refusal_of, shown_is_above}
+use Rattle.query_core.proofs.PageLineLemmas.{empty_of, fault_of, mark_of, page_each, refusal_of, shown_is_above, spaceless}
 use Rattle.query_core.proofs.laws.replies_are_told_from_pages.Goals as goal
 
 abbrev key : QueryValue → List Member → Option (List ℕ)
@@ -32,3 +32,13 @@ returns-clause-fault c = λ q found name index offset before after entries e.
 
 pub returns-clause-json : goal.returns-clause-json
 returns-clause-json c = λ q found is. rw is (json_lines q.fields (query_page q found).members (key q found))
+
+pub returns-clause-empty : goal.returns-clause-empty
+returns-clause-empty c = λ q found before after entries other some e.
+    empty_of q.fields (query_page q found).members (key q found) (members q found entries)
+    (shown_is_above q.show_resume_key (query_page q found).next) q.output other some before after e
+
+pub returns-clause-one : goal.returns-clause-one
+returns-clause-one c = λ q found entries is one.
+    rw is (spaceless q.fields (query_page q found).members (key q found) (members q found entries)
+    (shown_is_above q.show_resume_key (query_page q found).next) one)
