@@ -8,8 +8,15 @@ pub mod LineReplies
 pub mod ReplyLemmas
 pub mod ReachLemmas
 pub mod PageReach
+pub mod PagesReach
+pub mod ReplyBytes
 pub mod RisingParts
 pub mod ComposeLemmas
 pub mod MergedLemmas
 pub mod AddLemmas
 pub mod PageIndexes
+pub mod OneTextLemmas
+pub mod PageRows
+pub mod PageArrays
+pub mod ValueLemmas
+pub mod PageLineLemmas

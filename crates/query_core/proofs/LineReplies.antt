@@ -1,5 +1,6 @@
 -- The reply to a line, by what the line is.
-use Rattle.std.proofs.Common.{arith, ◌≡◌, ℕ, List, [], ◌++◌, refl, Option, Some, Result, Ok, Err}
+use Rattle.std.proofs.Common.{arith, ◌≡◌, ◌≤◌, ℕ, List, [], ◌++◌, length, true, le-ltb, refl, Option, Some, Result, Ok, Err}
+use Rattle.std.specs.Str.{is_utf8}
 use Rattle.std.specs.Prelude.{codes}
 use Rattle.std.specs.Io.KnownBytes.{Appends}
 use Rattle.cdxj_core.specs.declared.limit.TheConstants.{LINE_LIMIT}
@@ -47,6 +48,12 @@ some_reply told (Ok q) = (answer_text q (query_page q []), record { lines = []; 
 some_reply told (Err fault) = grind arith
 
 -- ---- the reply to a line
+
+-- of a text within the limit
+pub text_reply : {A E : Type 0} (limit : ℕ) (IsReply : List ℕ → List ℕ → Type 0) (line : List ℕ) (r : Result A E)
+    (old new : Option (List ℕ)) → length line ≤ limit → is_utf8 line ≡ true → WritesSome r old new (IsReply line)
+    → WritesSome r old new (IsLineReply limit IsReply line)
+text_reply limit IsReply line r old new short utf8 h = rw (le-ltb limit (length line) short, utf8) h
 
 -- with the line `.`
 module _ (limit : ℕ) (IsReply : List ℕ → List ℕ → Type 0) (line : List ℕ) (old mid : Option (List ℕ)) where

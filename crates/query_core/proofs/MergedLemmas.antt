@@ -26,7 +26,7 @@ in_no_feed : (limit : ℕ) (body : List ℕ) (m : Member) → line_in limit body
 unfolding line_in
 in_no_feed limit body m h = grind arith
 
-is_row : (limit : ℕ) (line : List ℕ) (m : Member) → line_entry limit line ≡ Some m → IsRow limit m
+pub is_row : (limit : ℕ) (line : List ℕ) (m : Member) → line_entry limit line ≡ Some m → IsRow limit m
 is_row limit line m h =
     let e = entered limit line m h in
     let whole : has_no_feed (body_of line) ≡ true = in_no_feed limit (body_of line) m e.values in

@@ -23,7 +23,7 @@ rises_take : (n : ℕ) (ms : List Member) → Rises member_place place_cmp ms �
 rises_take (suc n) (m ∷ ms) h = (each_take _ n ms h.0, rises_take n ms h.1)
 rises_take n ms h = grind arith
 
-each_at_most : (A : Member → Type 0) (n : Option ℕ) (ms : List Member) → AllByRecursion A ms
+pub each_at_most : (A : Member → Type 0) (n : Option ℕ) (ms : List Member) → AllByRecursion A ms
     → AllByRecursion A (at_most member_place n ms).members
 each_at_most A n ms h = grind (arith, each_take)
 

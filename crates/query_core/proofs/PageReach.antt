@@ -81,6 +81,7 @@ page_reached text extent gave {q} {old} {middle} new olds news {taken} earlier t
       most = grind (arith, length-append);
       wrote = grind (arith, take-append_seam);
       within = within texts indexes known are (Some (length mine)) (grind (arith, has_all));
+      page = within texts indexes known are q.limit most;
     }
 
 -- nothing was read at all, and no capture was written

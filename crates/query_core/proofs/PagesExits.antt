@@ -3,7 +3,7 @@ use Rattle.query_core.proofs.AskedLemmas.{captures}
 use Rattle.std.proofs.Common.{◌≡◌, ◌⊎◌, inl, inr, ℕ, ◌+◌, ◌++◌, ◌-◌, ◌^◌, List, [], min, Option, None}
 use Rattle.std.specs.Io.KnownBytes.{Appends}
 use Rattle.cdxj_core.specs.Members.{Member, member_place}
-use Rattle.devices.specs.Device.{AppendsPrefix}
+use Rattle.devices.specs.Device.{AppendsPrefix, Grows}
 use Rattle.query_text.specs.Queries.{QueryValue}
 use Rattle.cdxj_places.specs.Places.{place_cmp}
 use Rattle.cdxj_places.specs.Rising.{Rises}
@@ -15,6 +15,8 @@ use Rattle.page_writers.specs.declared.pages_writer.PagesWriter.{PagesWriter}
 use Rattle.query_core.specs.declared.sinks.PagesSink.{PagesSink}
 use Rattle.page_writers.specs.QueryPages.{form_of}
 use Rattle.page_writers.specs.WriterView.{IsFront, PagesBroke, PagesWrote, from_view}
+use Rattle.query_core.specs.PagesReach.{WroteInPages}
+use Rattle.query_core.proofs.PagesReach.{in_pages}
 use Rattle.page_writers.proofs.PagesLemmas.{ended_stands, ending_front, stands_front}
 
 -- a writer that begins with this query and these sizes, and what was written then
@@ -30,6 +32,16 @@ pub record WritingPages {q : QueryValue} {sizes : List ℕ} {start mid : Option 
   pub writer : PagesWriter
   pub wrote : PagesWrote b.first.sizes.now b.first writer taken start now
 
+-- a sink passed these lines on to it
+abbrev pub stopped : {q : QueryValue} {sizes : List ℕ} {start mid : Option (List ℕ)} (b : BeginningPages q sizes start mid)
+    (now : Option (List ℕ)) (taken : List Member) (sink : PagesSink) → ((first : PagesSink) → (start : Option (List ℕ))
+    → PagesWrote first.writer.sizes.now first.writer b.first [] start mid
+    → PagesWrote first.writer.sizes.now first.writer sink.writer taken start now) → WritingPages b now taken
+stopped {start = start} b now taken sink came = record {
+  writer = sink.writer;
+  wrote = came (record { writer = b.first }) start b.began;
+}
+
 module _ {q : QueryValue} {sizes : List ℕ} {start mid now : Option (List ℕ)} {taken : List Member}
     {b : BeginningPages q sizes start mid} (w : WritingPages b now taken) where
   query_same : w.writer.selection.query.now ≡ q
@@ -40,6 +52,11 @@ module _ {q : QueryValue} {sizes : List ℕ} {start mid now : Option (List ℕ)}
 
   between : IsFront q sizes (captures q taken) start now
   between = rw (query_same, from_same, b.is.2) at (stands_front _ _ _ _ _ _ _ _ _ w.wrote.1.1 w.wrote.1.2)
+
+  -- they stand written in pages
+  pub stood_pages : (new : Option (List ℕ)) → Grows now new → WroteInPages q sizes (captures q taken) start new
+  stood_pages new grows = rw (query_same, from_same, b.is.2) at
+      (in_pages _ _ _ _ _ _ _ _ _ w.wrote.1.1 w.wrote.1.2 new grows)
 
   -- the lines that were taken have all captures of these lines
   module _ (lines : List Member) (rise : Rises member_place place_cmp lines)

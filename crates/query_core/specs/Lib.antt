@@ -10,11 +10,15 @@ pub mod StartViews
 pub mod Paging
 pub mod QueryLaws
 pub mod MergeLaws
+pub mod OneText
+pub mod PageLines
 pub mod Replies
 pub mod AnyReplies
 pub mod Conversations
 pub mod ReplyFaults
 pub mod Reach
+pub mod PagesReach
+pub mod ReplyReach
 pub mod Limits
 -- what contracts see of queries
 pub use Rattle.query_text.specs.Collapses
@@ -28,6 +32,7 @@ pub use Rattle.query_text.specs.Targets
 pub use Rattle.query_text.specs.Values
 -- what contracts see of pages
 pub use Rattle.page_writers.specs.PageWriting
+pub use Rattle.page_writers.specs.PagesWriting
 pub use Rattle.page_writers.specs.QueryPages
 pub use Rattle.page_writers.specs.WrittenPages
 pub use Rattle.page_core.specs.Form

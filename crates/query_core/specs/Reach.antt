@@ -53,7 +53,7 @@ pub record WroteFirst (old new : Option (List ℕ)) (text : List ℕ) : Type 0 w
   pub grows : Grows middle new
 
 -- So many captures of the page were written whole. Each source gave no more bytes than its lines have that a page of so
--- many reaches, and what a search takes, two lines and a piece.
+-- many reaches, and what a search takes, two lines and a piece. So it gave no more than the whole page reaches.
 pub record GaveInReach {S : Type 0} (extent gave : S → ℕ) (q : QueryValue) (texts : List (List ℕ))
     (indexes : List (List Member))
     (old new : Option (List ℕ)) (olds news : List S) : Type 0 where
@@ -61,3 +61,4 @@ pub record GaveInReach {S : Type 0} (extent gave : S → ℕ) (q : QueryValue) (
   pub most : whole ≤ length (query_page q (collection indexes)).members
   pub wrote : WroteFirst old new (captures_text (form_of q) (take whole (query_page q (collection indexes)).members))
   pub within : AllGaveWithin extent gave (in_reach q q.resume (Some whole) (collection indexes)) texts indexes olds news
+  pub page : AllGaveWithin extent gave (in_reach q q.resume q.limit (collection indexes)) texts indexes olds news

@@ -4,6 +4,8 @@ ghost use Rattle.std.specs.Prelude.{◌≡◌};
 ghost use Rattle.query_core.specs.declared.merging.TheConstants.{SOURCES_LIMIT};
 ghost use Rattle.query_core.specs.Limits.{LINE_LIMIT, QUERY_LIMIT};
 ghost use Rattle.query_core.specs.MergeLaws.{MergedIsIndex, MergesCommute, MergesGroup};
+ghost use Rattle.query_core.specs.OneText.{AnswerIsOne, MergeIsOne, PagesAreOne};
+ghost use Rattle.query_core.specs.PageLines.{EmptyLineIsBeforeKey, JsonLinesBeginWithBrackets, NoPageHasFaults, OneFieldHasMarks, OneFieldHasNoSpace, TwoFieldsBeginAsRefusals};
 ghost use Rattle.query_core.specs.QueryLaws.{AddedOnlyAdd, AllAreKept, CdxjPageIsIndex, KeysContinue, NamesNameFields, NoLineIsAtFault, PagesRise, SelectedAreFirst, SelectedRise};
 
 use query_text::resume_key_is_put_into_query;
@@ -58,6 +60,37 @@ pub fn resume_keys_continue()
 /// Over indexes, no call returns the fault of a line.
 pub fn indexes_have_no_line_at_fault()
     ensures { NoLineIsAtFault }
+{}
+
+/// No line of a page is one of a reply that isn't a page, or that ends a reply, but in text of one field or of two. The
+/// lines of the page have entries. A line `.` is only in a page of one field, in text. A page begins with a line of a
+/// refusal only if it has two, in text. No page has the line of a fault after an empty line. In text and cdxj an empty line
+/// stands only before a resume key. A page of one field, in text, has no space. In json each line begins with `[`.
+pub fn replies_are_told_from_pages()
+    ensures mark { OneFieldHasMarks }
+    ensures refused { TwoFieldsBeginAsRefusals }
+    ensures fault { NoPageHasFaults }
+    ensures empty { EmptyLineIsBeforeKey }
+    ensures one { OneFieldHasNoSpace }
+    ensures json { JsonLinesBeginWithBrackets }
+{}
+
+/// Over indexes, and an output whose bytes are known, there is one text that an answer that succeeds writes, and one report
+/// of the captures.
+pub fn answer_writes_one_text()
+    ensures { AnswerIsOne }
+{}
+
+/// Over indexes, and an output whose bytes are known, there is one text that pages of the same sizes write, and one number
+/// of pages.
+pub fn pages_write_one_text()
+    ensures { PagesAreOne }
+{}
+
+/// Over sources and an output whose bytes are known, there is one text that a merge that succeeds writes, and one number
+/// of lines.
+pub fn merge_writes_one_text()
+    ensures { MergeIsOne }
 {}
 
 /// The name of a field, as pages write it, names the field in a query.

@@ -8,6 +8,7 @@ ghost use Rattle.merge_core.specs.Spending.{AllGaveWithin};
 ghost use Rattle.query_core.specs.AnswerCounts.{CountsAnswer};
 ghost use Rattle.query_core.specs.IndexFaults.{IsAnswerFaultOf};
 ghost use Rattle.query_core.specs.Paging.{WritesPages, WrotePagesOfParts};
+ghost use Rattle.query_core.specs.PagesReach.{GaveInPages};
 ghost use Rattle.query_core.specs.Reach.{in_reach};
 ghost use Rattle.query_core.specs.Refusals.{Refuses, bad_sizes_or_too_many};
 
@@ -26,7 +27,8 @@ use std::alloc::Global;
 /// one. Each page but the last ends with its resume key. The query's limit isn't used, nor whether it shows a resume key.
 ///
 /// The indexes are searched once, and each line of the target's range is read once, whatever the sizes. A page ends when
-/// its next capture is read.
+/// its next capture is read. Each capture is written before a line is read that stands behind the next key and stamp of
+/// its index.
 ///
 /// Returns `BadSizes` if there are no sizes, or one of them is 0; then `TooManySources` for more than `SOURCES_LIMIT`
 /// indexes. Both come before it reads or writes. The other errors are those of `answer`: `BadLine`, `OutOfOrder`, `Read`,
@@ -57,6 +59,10 @@ pub fn pages<S: Source, O: Output>(
         AllGaveWithin S.extent S.gave
         (in_reach query.now query.now.resume None (collection indexes))
         texts indexes sources.old sources.new) }
+    // Each capture stands written before a line is read behind the next pair of its index.
+    ensures reach { OverIndexes LINE_LIMIT (map S.text sources.old) (λ texts indexes.
+        GaveInPages S.extent S.gave query.now sizes.now texts indexes (O.written out.old)
+        (O.written out.new) sources.old sources.new) }
 {
     if !are_sizes(sizes) {
         return Err(AnswerFault::BadSizes);

@@ -1,5 +1,5 @@
 //! A conversation: a reply to each line of an input.
-ghost use Rattle.std.specs.Prelude.{◌≡◌, ◌≢◌, ◌⊎◌, ◌-◌, ◌^◌, ◌<◌, ◌≤◌, ℕ, List, length, map, true, Option, Result, Err, IfOk, IfErr, OnOk};
+ghost use Rattle.std.specs.Prelude.{◌≡◌, ◌≢◌, ◌⊎◌, ◌+◌, ◌-◌, ◌^◌, ◌<◌, ◌≤◌, ℕ, List, length, map, true, Option, Result, Err, IfOk, IfErr, OnOk};
 ghost use Rattle.std.specs.Io.KnownBytes.{prepend_known};
 ghost use Rattle.cdxj_core.specs.declared.limit.TheConstants.{LINE_LIMIT};
 ghost use Rattle.devices.specs.LineReading.{CountsTaken, IsTooLong, StopsInLine, TakesLine};
@@ -7,12 +7,13 @@ ghost use Rattle.devices.specs.Writing.{WritesText};
 ghost use Rattle.cdxj_core.specs.Members.{Member};
 ghost use Rattle.query_text.specs.declared.query.TheConstants.{QUERY_LIMIT};
 ghost use Rattle.query_text.specs.declared.fault.QueryFault.{QueryFault};
-ghost use Rattle.query_text.specs.Queries.{QueryValue};
+ghost use Rattle.query_text.specs.Queries.{QueryValue, query_of};
 ghost use Rattle.merge_core.specs.Collections.{KeepsSources, OverIndexes, collection};
 ghost use Rattle.query_core.specs.declared.merging.TheConstants.{SOURCES_LIMIT};
 ghost use Rattle.page_writers.specs.QueryPages.{query_page, answer_text};
 ghost use Rattle.query_core.specs.Refusals.{IsBeforeReading, Refuses, too_many};
 ghost use Rattle.query_core.specs.Replies.{reply_of, reply_to};
+ghost use Rattle.query_core.specs.ReplyReach.{AllGaveAtMost, GaveForLines, asked_most, line_most, query_most};
 ghost use Rattle.query_core.specs.AnyReplies.{IsPageReply, IsQueryReply, IsTextReply};
 ghost use Rattle.query_core.specs.Conversations.{Converses, IsLineReply, IsMarkedReply, IsOneReply, Replied, RepliedInPart, RepliedToTaken, WritesSome};
 ghost use Rattle.query_core.specs.ReplyFaults.{CountsReply, CountsReplying, CountsLine, CountsServing};
@@ -46,6 +47,9 @@ fn reply_to_query<S: Source, O: Output>(
         (answer_text query.now (query_page query.now (collection indexes)))) }
     ensures lines { WritesSome result (O.written out.old) (O.written out.new)
         (IsPageReply (map S.text sources.old) query.now) }
+    ensures bytes { OverIndexes LINE_LIMIT (map S.text sources.old) (λ texts indexes.
+        AllGaveAtMost S.extent S.gave (query_most query.now (collection indexes)) texts
+        indexes sources.old sources.new) }
 {
     match answer(alloc, sources, query, out) {
         Ok(_) => Ok(()),
@@ -95,6 +99,9 @@ fn reply_to_text<S: Source, O: Output>(
         (reply_of QUERY_LIMIT (collection indexes) text.now)) }
     ensures lines { WritesSome result (O.written out.old) (O.written out.new)
         (IsTextReply (map S.text sources.old) text.now) }
+    ensures bytes { OverIndexes LINE_LIMIT (map S.text sources.old) (λ texts indexes.
+        AllGaveAtMost S.extent S.gave (asked_most (query_of QUERY_LIMIT text.now) (collection indexes)) texts
+        indexes sources.old sources.new) }
 {
     match Query::read(alloc, text) {
         Ok(query) => reply_to_query(alloc, sources, &query, out),
@@ -119,6 +126,9 @@ fn reply_to_line<S: Source, O: Output>(
         line.now)) }
     ensures lines { WritesSome result (O.written out.old) (O.written out.new)
         (IsLineReply QUERY_LIMIT (IsTextReply (map S.text sources.old)) line.now) }
+    ensures bytes { OverIndexes LINE_LIMIT (map S.text sources.old) (λ texts indexes.
+        AllGaveAtMost S.extent S.gave (line_most QUERY_LIMIT (collection indexes) line.now) texts
+        indexes sources.old sources.new) }
 {
     if line.len() > QUERY_LIMIT {
         return put_refusal(alloc, "QueryTooLong", out);
@@ -146,6 +156,9 @@ fn reply_and_mark<S: Source, O: Output>(
         line.now)) }
     ensures lines { WritesSome result (O.written out.old) (O.written out.new)
         (IsMarkedReply QUERY_LIMIT (IsTextReply (map S.text sources.old)) line.now) }
+    ensures bytes { OverIndexes LINE_LIMIT (map S.text sources.old) (λ texts indexes.
+        AllGaveAtMost S.extent S.gave (line_most QUERY_LIMIT (collection indexes) line.now) texts
+        indexes sources.old sources.new) }
 {
     reply_to_line(alloc, sources, line, out)?;
     put_text(b".\n", out)
@@ -153,6 +166,8 @@ fn reply_and_mark<S: Source, O: Output>(
 
 /// Reads a further line of the input, and holds it. Returns `true` if there was one.
 fn read_line<I: Input>(lines: &mut InputLines, input: &mut I) -> Result<bool, AnswerFault>
+    // No more is held of a line than shows that it is too long.
+    requires held { lines.old.most ≤ QUERY_LIMIT + 2 }
     ensures most { lines.new.most ≡ lines.old.most }
     ensures line { IfOk result (λ found.
         TakesLine lines.old.most found (prepend_known lines.old.buffer (I.remaining input.old))
@@ -184,6 +199,8 @@ fn read_line<I: Input>(lines: &mut InputLines, input: &mut I) -> Result<bool, An
 /// bytes, and `NotText` if the line isn't UTF-8. If a line is found because of which a text is not an index, what was
 /// written is followed by a line feed, and `fault` with the name of the fault, the number of the index and the offset
 /// of the line. Each reply is followed by a line `.`, which is passed to the output in a call of its own.
+///
+/// The indexes are read for each query as `answer` reads them. A line is read when the reply before it was written.
 ///
 /// Returns `TooManySources` for more than `SOURCES_LIMIT` indexes, before it reads. `Memory`, `Read` of an index, `Write`
 /// and `Input` end the conversation. `Input` comes if the input failed, and for an input of 2^63 - 1 bytes. Then each line
@@ -217,6 +234,10 @@ pub fn serve<S: Source, I: Input, O: Output>(
     ensures taken_lines { result ≡ Err AnswerFault.Input →
         RepliedToTaken QUERY_LIMIT (IsTextReply (map S.text sources.old))
         (I.remaining input.old) (I.remaining input.new) (O.written out.old) (O.written out.new) }
+    // Each source gives no more than the queries may take of the lines that were answered, and of one more.
+    ensures bytes { OverIndexes LINE_LIMIT (map S.text sources.old) (λ texts indexes.
+        GaveForLines S.extent S.gave QUERY_LIMIT (I.remaining input.old) texts indexes
+        (O.written out.old) (O.written out.new) sources.old sources.new) }
 {
     if sources.len() > SOURCES_LIMIT {
         return Err(AnswerFault::TooManySources);

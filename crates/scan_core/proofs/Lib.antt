@@ -4,3 +4,4 @@ pub mod CollectionLemmas
 pub mod ScanLemmas
 pub mod OnceLemmas
 pub mod WantLemmas
+pub mod OneScan

@@ -1,6 +1,6 @@
 -- Laws of the definitions that the contracts cite.
 use Rattle.std.specs.List.{AllZip}
-use Rattle.std.specs.Prelude.{◌≡◌, ℕ, ◌-◌, ◌^◌, ◌<◌, ⊤, Bool, List, [], ◌∷◌, length, map, Option, Err}
+use Rattle.std.specs.Prelude.{◌≡◌, ℕ, ◌-◌, ◌^◌, ◌<◌, ⊤, Bool, List, [], ◌∷◌, length, map, Option, Some, Err}
 use Rattle.std.specs.List.{AllByRecursion}
 use Rattle.warc_core.specs.Kind.{Kind}
 use Rattle.warc_core.specs.declared.fault.Cause.TheVariants as causes
@@ -21,7 +21,7 @@ use Rattle.scan_core.specs.declared.fault.ScanFault.TheVariants.{Query, Archive,
 use Rattle.scan_core.specs.Archives.{AreNewNames, index_members}
 use Rattle.scan_core.specs.Captures.{all_captures, captured_lines}
 use Rattle.scan_core.specs.Failures.{CountsInputs, CountsOutput}
-use Rattle.scan_core.specs.Scanning.{IsAsked, IsScanFault}
+use Rattle.scan_core.specs.Scanning.{IsAsked, IsScanFault, Scanned}
 
 -- nothing that is asked of a scan is at fault: the archives are accepted whole under names of their own, the sizes are
 -- given and positive, and the text means a query
@@ -62,3 +62,10 @@ OnlyMemoryIsWanting = (types : Kind → Bool) (names archives : List (List ℕ))
     → IsScanFault types names inputs sizes text fault
     → AllByRecursion MayRise counts → CountsInputs {A = Unit {0}} (Err fault) counts counts
     → MayRise count → CountsOutput {A = Unit {0}} (Err fault) count count → IsWantOfMemory fault
+
+-- over archives and an output whose bytes are known, a scan writes one text, and returns one number of pages
+abbrev pub ScanIsOne : Type 0
+ScanIsOne = (types : Kind → Bool) (names archives : List (List ℕ)) (inputs : List (Option (List ℕ)))
+    (sizes text old : List ℕ) (new new' : Option (List ℕ)) (number number' : ℕ) → Known inputs archives
+    → Scanned types names inputs sizes text (Some old) new number
+    → Scanned types names inputs sizes text (Some old) new' number' → (new ≡ new') × (number ≡ number')

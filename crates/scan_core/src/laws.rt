@@ -1,7 +1,7 @@
 //! Laws of the definitions that the contracts cite. These functions do nothing: each law is a contract.
-ghost use Rattle.scan_core.specs.Laws.{IndexIsMerge, OnlyMemoryIsWanting, ScanIsOverIndex};
+ghost use Rattle.scan_core.specs.Laws.{IndexIsMerge, OnlyMemoryIsWanting, ScanIsOne, ScanIsOverIndex};
 
-use index_core::accepted_archive_is_not_refused;
+use index_core::{accepted_archive_is_not_refused, archive_has_one_list_of_captures};
 
 /// A scan of archives that are accepted whole, with distinct names, good sizes and a good query, over inputs whose
 /// bytes are known and devices that don't fail, is refused only for lack of memory, or for a key that is too long.
@@ -20,3 +20,11 @@ pub fn index_of_archives_is_merge()
 pub fn scan_is_index_and_pages()
     ensures { ScanIsOverIndex }
 {}
+
+/// Over archives and an output whose bytes are known, there is one text that a scan that succeeds writes, and one number of
+/// pages.
+pub fn scan_writes_one_text()
+    ensures { ScanIsOne }
+{
+    archive_has_one_list_of_captures();
+}

@@ -6,14 +6,20 @@ use Rattle.cdxj_places.specs.Rising.{Rises}
 use Rattle.cdxj_places.proofs.PlaceOrder.{place_cmp_total}
 use Rattle.cdxj_places.proofs.RisingLaws.{rises_rising}
 use Rattle.cdxj_core.specs.Members.{Member, member_place}
-use Rattle.merge_core.specs.Collections.{collection}
+use Rattle.merge_core.specs.Collections.{OverIndexes, collection}
 use Rattle.page_writers.specs.WrittenPages.{WrotePagesInPart}
 use Rattle.page_writers.proofs.PageChains.{wrote_front, wrote_none}
-use Rattle.query_core.proofs.PagesExits.{BeginningPages, WritingPages, all_ended, any_front, at_end}
+use Rattle.query_core.proofs.PagesExits.{BeginningPages, WritingPages, all_ended, any_front, at_end, stood_pages, stopped}
 use Rattle.page_writers.proofs.PagesLemmas.{start_front}
 use Rattle.page_writers.proofs.SizeLemmas.{all_positive}
 use Rattle.query_core.proofs.ReachLemmas.{within_opening}
 use Rattle.merge_core.proofs.Many.{two_same}
+use Rattle.std.proofs.Common.{map, Option, ℕ}
+use Rattle.cdxj_core.specs.declared.limit.TheConstants.{LINE_LIMIT}
+use Rattle.devices.specs.Device.{Grows}
+use Rattle.devices.proofs.DeviceLemmas.{grows_by, grows_not, grows_part}
+use Rattle.query_core.specs.PagesReach.{GaveInPages}
+use Rattle.query_core.proofs.PagesReach.{no_pages_reached, pages_reached}
 use Rattle.query_core.proofs.paging.pages.Given.{Over}
 use Rattle.query_core.proofs.paging.pages.Goals.{In_err-writer, In_ok-writer, In_ok-read_lines}
 use Rattle.query_core.proofs.paging.pages.Goals as goal
@@ -43,6 +49,17 @@ returns-clause-bytes g c = λ texts indexes known are.
 pub returns-in_err-end-clause-bytes : goal.returns-in_err-end-clause-bytes
 returns-in_err-end-clause-bytes g c = λ texts indexes known are.
     c.in_ok-read_lines.ensures.took.before.within _ _ known are None tt
+
+-- ---- what stands written beside it
+
+pub returns-then-not-are_sizes-clause-reach : goal.returns-then-not-are_sizes-clause-reach
+returns-then-not-are_sizes-clause-reach g c = grind (arith, no_pages_reached, grows_not)
+
+pub returns-then-sources-gt-SOURCES_LIMIT-clause-reach : goal.returns-then-sources-gt-SOURCES_LIMIT-clause-reach
+returns-then-sources-gt-SOURCES_LIMIT-clause-reach g c = grind (arith, no_pages_reached, grows_not)
+
+pub returns-in_err-writer-clause-reach : goal.returns-in_err-writer-clause-reach
+returns-in_err-writer-clause-reach g c = grind (arith, no_pages_reached, grows_part)
 
 -- ---- the pages of lines that rise by place, of which those that were read come first
 
@@ -74,6 +91,38 @@ writing g c = record {
   wrote = c.in_ok-read_lines.ensures.took.came (record { writer = c.in_ok-writer.writer })
       (g.O.Output.written c.args.out.now) (begin g (goal.at.In_ok-read_lines g c).In_ok-writer).began;
 }
+
+-- ---- how far it was read for the captures that were written
+
+pub returns-in_err-read_lines-clause-reach : goal.returns-in_err-read_lines-clause-reach
+returns-in_err-read_lines-clause-reach g c =
+    let halted = c.in_err-read_lines.ensures.halted in
+    let before = halted.before in
+    let b = begin g (goal.at.returns-in_err-read_lines-clause-reach g c).In_ok-writer in
+    let w = stopped b before.middle halted.earlier before.state before.came in
+    pages_reached g.S.Source.text g.S.Source.extent g.S.Source.gave c.args.query.now c.args.sizes.now _
+    c.args.sources.now c.read_lines.new.sources halted.earlier halted.earlier [] (stood_pages w _ halted.grows)
+    halted.first (sym (append-nil _)) before.within
+
+-- what was written of the lines that were taken, whatever is written then
+reached : (g : Over) (c : In_ok-read_lines g) (new : Option (List ℕ))
+    → Grows (g.O.Output.written c.read_lines.new.out) new
+    → OverIndexes LINE_LIMIT (map g.S.Source.text c.args.sources.now) (λ texts indexes. GaveInPages g.S.Source.extent
+    g.S.Source.gave c.args.query.now c.args.sizes.now texts indexes (g.O.Output.written c.args.out.now) new
+    c.args.sources.now c.read_lines.new.sources)
+reached g c new grows =
+    let took = c.in_ok-read_lines.ensures.took in
+    pages_reached g.S.Source.text g.S.Source.extent g.S.Source.gave c.args.query.now c.args.sizes.now new
+    c.args.sources.now c.read_lines.new.sources took.lines took.earlier took.later
+    (stood_pages (writing g c) new grows) took.took.first took.split took.before.within
+
+pub returns-in_err-end-clause-reach : goal.returns-in_err-end-clause-reach
+returns-in_err-end-clause-reach g c =
+    reached g (goal.at.returns-in_err-end-clause-reach g c).In_ok-read_lines _ (grows_part _ _ _ c.in_err-end.ensures.text)
+
+pub returns-clause-reach : goal.returns-clause-reach
+returns-clause-reach g c =
+    reached g (goal.at.returns-clause-reach g c).In_ok-read_lines _ (grows_by _ _ _ c.in_ok-end.ensures.text)
 
 -- ---- lines of the sources
 

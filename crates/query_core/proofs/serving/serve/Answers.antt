@@ -1,4 +1,4 @@
-use Rattle.std.proofs.Common.{ℕ, List, arith}
+use Rattle.std.proofs.Common.{ℕ, List, [], arith, refl}
 use Rattle.std.specs.Io.KnownBytes.{prepend_known}
 use Rattle.cdxj_core.specs.Members.{Member}
 use Rattle.devices.proofs.Takings.{taken-join}
@@ -8,6 +8,7 @@ use Rattle.query_core.specs.Conversations.{IsOneReply}
 use Rattle.query_core.specs.Replies.{reply_of}
 use Rattle.query_core.proofs.ReplyLemmas.{Turn, line-more, line-none, line-within, nothing_replied, one_reply}
 use Rattle.query_core.proofs.ReplyLemmas.{one_reply_part, replied-front, replied-none, replied-taken}
+use Rattle.query_core.proofs.ReplyBytes.{spent_more, spent_none, spent_stop, spent_within}
 use Rattle.std.proofs.lemmas.Result.{err_from_is_err_and}
 use Rattle.query_core.proofs.serving.serve.Given.{Over}
 use Rattle.query_core.proofs.serving.serve.Goals.{After-reply_and_mark}
@@ -30,6 +31,16 @@ returns-in_err-lines-clause-part g c = grind (arith, one_reply_part, nothing_rep
 pub returns-in_err-lines-clause-lines : goal.returns-in_err-lines-clause-lines
 returns-in_err-lines-clause-lines g c = grind (arith, err_from_is_err_and, nothing_replied)
 
+pub returns-then-sources-gt-SOURCES_LIMIT-clause-bytes : goal.returns-then-sources-gt-SOURCES_LIMIT-clause-bytes
+returns-then-sources-gt-SOURCES_LIMIT-clause-bytes g c = λ texts indexes known are.
+    spent_stop (spent_none g.S.Source.text g.S.Source.extent g.S.Source.gave QUERY_LIMIT texts indexes
+    (g.I.Input.remaining c.args.input.now) [] (g.O.Output.written c.args.out.now) c.args.sources.now known are refl)
+
+pub returns-in_err-lines-clause-bytes : goal.returns-in_err-lines-clause-bytes
+returns-in_err-lines-clause-bytes g c = λ texts indexes known are.
+    spent_stop (spent_none g.S.Source.text g.S.Source.extent g.S.Source.gave QUERY_LIMIT texts indexes
+    (g.I.Input.remaining c.args.input.now) [] (g.O.Output.written c.args.out.now) c.args.sources.now known are refl)
+
 -- ---- a line isn't read
 
 pub returns-in_err-read_line-clause-part : goal.returns-in_err-read_line-clause-part
@@ -43,6 +54,10 @@ returns-in_err-read_line-clause-taken g c = grind (arith, err_from_is_err_and, r
 
 pub returns-in_err-read_line-clause-taken_lines : goal.returns-in_err-read_line-clause-taken_lines
 returns-in_err-read_line-clause-taken_lines g c = grind (arith, err_from_is_err_and, replied-taken)
+
+pub returns-in_err-read_line-clause-bytes : goal.returns-in_err-read_line-clause-bytes
+returns-in_err-read_line-clause-bytes g c = λ texts indexes known are.
+    spent_stop (c.loop-lines.invariant.spent texts indexes known are)
 
 -- ---- a reply ends in a fault
 
@@ -71,10 +86,19 @@ returns-in_err-reply_and_mark-clause-lines g c =
     let t = turn g (goal.at.returns-in_err-reply_and_mark-clause-lines g c).After-reply_and_mark in
     grind (arith, err_from_is_err_and, line-within t)
 
+pub returns-in_err-reply_and_mark-clause-bytes : goal.returns-in_err-reply_and_mark-clause-bytes
+returns-in_err-reply_and_mark-clause-bytes g c = λ texts indexes known are.
+    let inv = c.loop-lines.invariant in
+    let marked = c.in_err-reply_and_mark.ensures in
+    let t = turn g (goal.at.returns-in_err-reply_and_mark-clause-bytes g c).After-reply_and_mark in
+    spent_within (inv.spent texts indexes known are) t.after t.last t.line c.reply_and_mark.new.sources t.takes
+    inv.kept.1 (rw c.line.ensures at (marked.bytes texts indexes (rw inv.kept.0 known) are))
+    (rw c.line.ensures at (marked.text texts indexes (rw inv.kept.0 known) are))
+
 -- ---- a reply more
 
 pub loop-lines-init : goal.loop-lines-init
-loop-lines-init g c = grind (arith, replied-none)
+loop-lines-init g c = grind (arith, replied-none, spent_none)
 
 pub loop-lines-preserved : goal.loop-lines-preserved
 loop-lines-preserved g c =
@@ -94,6 +118,10 @@ loop-lines-preserved g c =
       told = λ texts indexes known are. line-more t (IsOneReply (reply indexes)) (inv.told texts indexes known are)
           (rw c.line.ensures at (marked.text texts indexes (rw inv.kept.0 known) are));
       any = grind (arith, line-more t);
+      spent = λ texts indexes known are. spent_more (inv.spent texts indexes known are) t.after t.last t.line
+          c.reply_and_mark.new.sources t.takes inv.kept.1
+          (rw c.line.ensures at (marked.bytes texts indexes (rw inv.kept.0 known) are))
+          (rw c.line.ensures at (marked.text texts indexes (rw inv.kept.0 known) are));
     }
 
 -- ---- no line is left
@@ -106,3 +134,6 @@ returns-clause-lines g c = grind (arith, line-none)
 
 pub returns-clause-part : goal.returns-clause-part
 returns-clause-part g c = grind (arith, one_reply_part, replied-front)
+
+pub returns-clause-bytes : goal.returns-clause-bytes
+returns-clause-bytes g c = λ texts indexes known are. spent_stop (c.loop-lines.invariant.spent texts indexes known are)

@@ -7,6 +7,7 @@ use Rattle.merge_core.specs.Collections.{KeepsSources, OverIndexes, collection}
 use Rattle.query_core.specs.AnyReplies.{IsTextReply}
 use Rattle.query_core.specs.Conversations.{IsOneReply, RepliedSoFar}
 use Rattle.query_core.specs.Replies.{reply_of}
+use Rattle.query_core.proofs.ReplyBytes.{Spent}
 use Rattle.query_core.proofs.serving.serve.Given as goal
 
 abbrev pub invariant-loop-lines : goal.invariant-loop-lines
@@ -27,6 +28,10 @@ invariant-loop-lines g l = record {
   any : RepliedSoFar QUERY_LIMIT (IsTextReply (map g.S.Source.text l.fn.sources)) (g.I.Input.remaining l.fn.input)
       (prepend_known l.lines.buffer (g.I.Input.remaining l.input)) l.count (g.O.Output.written l.fn.out)
       (g.O.Output.written l.out);
+  spent : OverIndexes LINE_LIMIT (map g.S.Source.text l.fn.sources) (λ texts indexes.
+      Spent g.S.Source.extent g.S.Source.gave QUERY_LIMIT (g.I.Input.remaining l.fn.input)
+      (prepend_known l.lines.buffer (g.I.Input.remaining l.input)) texts indexes (g.O.Output.written l.fn.out)
+      (g.O.Output.written l.out) l.fn.sources l.sources);
 }
 
 abbrev pub decreases-loop-lines : goal.decreases-loop-lines

@@ -1,0 +1,52 @@
+-- Over known indexes and a known output, a call that succeeds writes one text.
+use Rattle.std.proofs.Common.{◌≡◌, ℕ, List, ◌∷◌, Option, Some, arith}
+use Rattle.std.specs.List.{AllZip}
+use Rattle.std.specs.Io.KnownBytes.{Appends}
+use Rattle.cdxj_places.specs.Places.{place_cmp}
+use Rattle.cdxj_places.proofs.PlaceOrder.{place_cmp_total}
+use Rattle.cdxj_core.specs.declared.limit.TheConstants.{LINE_LIMIT}
+use Rattle.cdxj_core.specs.Indexes.{IsIndex}
+use Rattle.cdxj_core.specs.Members.{Member, member_place}
+use Rattle.cdxj_core.proofs.IndexLemmas.{one_index}
+use Rattle.query_text.specs.Collapses.{same_part}
+use Rattle.query_text.specs.Queries.{QueryValue}
+use Rattle.merge_core.specs.Collections.{collection}
+use Rattle.page_core.proofs.PageLaws.{chain_one}
+use Rattle.page_writers.specs.QueryPages.{selected}
+use Rattle.page_writers.specs.WrittenPages.{WrotePages}
+use Rattle.query_core.specs.OneText.{AnswerIsOne, MergeIsOne, PagesAreOne}
+
+-- texts are indexes with one list of members each
+one_indexes : (texts : List (List ℕ)) (these those : List (List Member)) → AllZip (IsIndex LINE_LIMIT) texts these
+    → AllZip (IsIndex LINE_LIMIT) texts those → these ≡ those
+one_indexes (t ∷ ts) (i ∷ is) (j ∷ js) h k = grind (arith, one_index, one_indexes ts)
+one_indexes texts these those h k = grind arith
+
+one_written : (old text : List ℕ) (new new' : Option (List ℕ)) → Appends (Some old) new text
+    → Appends (Some old) new' text → new ≡ new'
+one_written old text new new' a b = grind arith
+
+pub answer_one : AnswerIsOne
+answer_one texts these those q old new new' report report' are a b =
+    let same = one_indexes texts these those are.0 are.1 in
+    grind (arith, one_written)
+
+-- pages of the same lines
+pub wrote_one : (q : QueryValue) (lines : List Member) (sizes old : List ℕ) (new new' : Option (List ℕ))
+    (number number' : ℕ) → WrotePages q lines sizes (Some old) new number
+    → WrotePages q lines sizes (Some old) new' number' → (new ≡ new') × (number ≡ number')
+wrote_one q lines sizes old new new' number number' a b =
+    let same : a.pages ≡ b.pages =
+    chain_one member_place place_cmp (same_part q.collapse) place_cmp_total (selected q lines) q.resume sizes a.pages
+    b.pages a.chain b.chain in
+    grind (arith, one_written)
+
+pub pages_one : PagesAreOne
+pages_one texts these those q sizes old new new' number number' are a b =
+    let same = one_indexes texts these those are.0 are.1 in
+    wrote_one q (collection these) sizes old new new' number number' a (rw same b)
+
+pub merge_one : MergeIsOne
+merge_one texts old new new' number number' a b =
+    let same = one_indexes texts a.indexes b.indexes a.are b.are in
+    grind (arith, one_written)

@@ -1,0 +1,368 @@
+-- Which lines a page has, beside those of a reply that isn't a page.
+use Rattle.std.proofs.Common.{◌≡◌, ◌⊎◌, inl, inr, ℕ, suc, ◌+◌, ◌<◌, ◌≤◌, List, [], ◌∷◌, ◌++◌, map, length, Bool, true, false}
+use Rattle.std.proofs.Common.{Option, None, Some, refl, ap, sym, ◌∙◌, arith, append_assoc, append-nil, flat_map, filter, length-append}
+use Rattle.std.proofs.Common.{drop, zero, length-drop, cond, ◌&&◌}
+use Rattle.std.specs.Prelude.{codes, ⊤}
+use Rattle.std.specs.List.{AllByRecursion, after_first, position_or_len}
+use Rattle.std.proofs.lemmas.Bool.{cases_lt, true≢false}
+use Rattle.std.proofs.lemmas.Bool.Decides.{nat_tests}
+use Rattle.cdxj_places.specs.Pair.{begins_with_pair, begins_with_space, is_key, is_space, is_stamp, key_part, stamp_part, tail_part}
+use Rattle.cdxj_places.specs.Places.{PlaceValue, place_cmp}
+use Rattle.cdxj_places.specs.Rising.{IsIn}
+use Rattle.cdxj_places.specs.TextLines.{lines}
+use Rattle.cdxj_places.proofs.PlaceOrder.{place_cmp_total}
+use Rattle.cdxj_places.proofs.RisingLaws.{each_at, each_join, each_weaker}
+use Rattle.cdxj_core.specs.declared.field.Field.{Field}
+use Rattle.cdxj_core.specs.declared.limit.TheConstants.{LINE_LIMIT}
+use Rattle.cdxj_core.specs.Members.{Member, line_row, member_pair, member_place}
+use Rattle.cdxj_core.proofs.MemberLemmas.{entry_pair_is}
+use Rattle.query_text.specs.declared.output.OutputFormat.{OutputFormat}
+use Rattle.query_text.specs.declared.output.OutputFormat.TheVariants as output
+use Rattle.query_text.specs.Collapses.{same_part}
+use Rattle.query_text.specs.Matching.{matches}
+use Rattle.query_text.specs.Queries.{QueryValue}
+use Rattle.page_core.specs.Pages.{is_above}
+use Rattle.page_core.specs.PageText.{key_lines, page_text}
+use Rattle.page_core.specs.Rows.{escaped, row_value, text_row}
+use Rattle.page_core.proofs.PageLaws.{each_filter, each_kept}
+use Rattle.page_writers.specs.QueryPages.{output_form, query_captures, query_page, selected, shown_key}
+use Rattle.merge_core.specs.SourceLines.{HasEntry}
+use Rattle.query_core.specs.PageLines.{BeginsWithBracket, HaveEntries, fault_row, has_no_space}
+use Rattle.query_core.specs.Replies.{refusal_text}
+use Rattle.query_core.proofs.MergedLemmas.{is_row}
+use Rattle.query_core.proofs.PageIndexes.{each_at_most}
+use Rattle.query_core.proofs.PageArrays.{json_lines}
+use Rattle.query_core.proofs.PageRows.{AllAbove, IsLine, above_spaces, key_above, key_long, lines_joined, spaces}
+use Rattle.query_core.proofs.ValueLemmas.{value_some}
+use Rattle.query_core.proofs.PageRows.{escaped_some, above_line, spaces_join, text_line, text_spaces}
+
+-- ---- the captures of a page
+
+pub page_each : (A : Member → Type 0) (q : QueryValue) (found : List Member) → AllByRecursion A found
+    → AllByRecursion A (query_page q found).members
+page_each A q found h =
+    each_at_most A q.limit (query_captures q found)
+    (each_kept member_place place_cmp (same_part q.collapse) place_cmp_total A q.resume
+    (filter (is_above member_place place_cmp q.resume) (selected q found))
+    (each_filter A (is_above member_place place_cmp q.resume) (selected q found)
+    (each_filter A (λ m. matches q m.values) found h)))
+
+-- ---- a key
+
+abbrev KeyIsAbove : Option (List ℕ) → Type 0
+KeyIsAbove None = ⊤
+KeyIsAbove (Some key) = AllAbove key × (1 < length key)
+
+pub shown_is_above : (shows : Bool) (next : Option PlaceValue) → KeyIsAbove (shown_key shows next)
+shown_is_above false next = tt
+shown_is_above true None = tt
+shown_is_above true (Some place) = (key_above place, key_long place)
+
+-- ---- rows
+
+abbrev key_rows : Option (List ℕ) → List (List ℕ)
+key_rows None = []
+key_rows (Some key) = (10 ∷ []) ∷ (key ++ 10 ∷ []) ∷ []
+
+each_mapped : (A : List ℕ → Type 0) (row : Member → List ℕ) (ms : List Member) → AllByRecursion (λ m. A (row m)) ms
+    → AllByRecursion A (map row ms)
+each_mapped A row [] h = tt
+each_mapped A row (m ∷ ms) h = (h.0, each_mapped A row ms h.1)
+
+rows_text : (row : Member → List ℕ) (ms : List Member) (key : Option (List ℕ))
+    → flat_map (λ r. r) (map row ms ++ key_rows key) ≡ flat_map row ms ++ key_lines key
+rows_text row [] None = refl
+rows_text row [] (Some key) = grind (arith, append-nil)
+rows_text row (m ∷ ms) key = grind (arith, append_assoc, rows_text row ms key)
+
+key_line : (key : Option (List ℕ)) → KeyIsAbove key → AllByRecursion IsLine (key_rows key)
+key_line None h = tt
+key_line (Some key) h = (([], refl, refl), (above_line key h.0, tt))
+
+module _ (row : Member → List ℕ) (ms : List Member) (key : Option (List ℕ)) (above : KeyIsAbove key) where
+  abbrev rows : List (List ℕ)
+  rows = map row ms ++ key_rows key
+
+  pub rows_lines : AllByRecursion (λ m. IsLine (row m)) ms → lines (flat_map row ms ++ key_lines key) ≡ rows
+  rows_lines h = rw (← rows_text row ms key)
+      (lines_joined rows (each_join IsLine (map row ms) (key_rows key) (each_mapped IsLine row ms h) (key_line key above)))
+
+  -- ---- a line `.`
+
+  key_no_mark : (X : Type 0) (k : Option (List ℕ)) → KeyIsAbove k
+      → AllByRecursion (λ r. r ≡ codes ".\n" → X) (key_rows k)
+  key_no_mark X None h = tt
+  key_no_mark X (Some k) h = (
+    (λ e. absurd (omega (arith, ap length e))),
+    ((λ e. absurd (omega (arith, ap length e, length-append k (10 ∷ []), h.1))), tt),
+  )
+
+  pub marked_row : (X : Type 0) → AllByRecursion (λ m. row m ≡ codes ".\n" → X) ms → IsIn (codes ".\n") rows → X
+  marked_row X h i =
+      each_at (λ r. r ≡ codes ".\n" → X) (codes ".\n") rows
+      (each_join (λ r. r ≡ codes ".\n" → X) (map row ms) (key_rows key)
+      (each_mapped (λ r. r ≡ codes ".\n" → X) row ms h) (key_no_mark X key above)) i refl
+
+-- ---- the name of a refusal
+
+refused_rows : (row : Member → List ℕ) (ms : List Member) (key : Option (List ℕ)) (name : List ℕ)
+    (rest : List (List ℕ)) (X : Type 0) → AllByRecursion (λ m. row m ≡ refusal_text name → X) ms
+    → map row ms ++ key_rows key ≡ refusal_text name ∷ rest → X
+refused_rows row [] None name rest X h e = absurd (omega (arith, ap length e))
+refused_rows row [] (Some key) name rest X h e =
+    let first : 10 ∷ [] ≡ refusal_text name = grind arith in
+    absurd (omega (arith, ap length first))
+refused_rows row (m ∷ ms) key name rest X h e =
+    let first : row m ≡ refusal_text name = grind arith in
+    h.0 first
+
+-- ---- the line of a fault after an empty line
+
+key_no_fault : (key : Option (List ℕ)) (F : List ℕ) (before after : List (List ℕ)) → KeyIsAbove key → 0 < spaces F
+    → key_rows key ≡ before ++ (10 ∷ []) ∷ F ∷ after → ⊥
+unfolding spaces
+key_no_fault None F before after h s e =
+    omega (arith, ap length e, length-append before ((10 ∷ []) ∷ F ∷ after))
+key_no_fault (Some key) F [] after h s e =
+    let same : key ++ 10 ∷ [] ≡ F = grind arith in
+    omega (arith, s, ap spaces same, spaces_join key (10 ∷ []), above_spaces key h.0)
+key_no_fault (Some key) F (b ∷ before) after h s e =
+    omega (arith, ap length e, length-append before ((10 ∷ []) ∷ F ∷ after))
+
+pub is_there : (before : List (List ℕ)) (E : List ℕ) (after : List (List ℕ)) → IsIn E (before ++ E ∷ after)
+is_there [] E after = inl refl
+is_there (b ∷ before) E after = inr (is_there before E after)
+
+-- where no row is an empty line
+no_empty_row : (row : Member → List ℕ) (ms : List Member) (key : Option (List ℕ)) (F : List ℕ)
+    (before after : List (List ℕ)) → KeyIsAbove key → 0 < spaces F
+    → AllByRecursion (λ m. row m ≡ 10 ∷ [] → ⊥) ms
+    → map row ms ++ key_rows key ≡ before ++ (10 ∷ []) ∷ F ∷ after → ⊥
+no_empty_row row [] key F before after k s h e = key_no_fault key F before after k s e
+no_empty_row row (m ∷ ms) key F [] after k s h e =
+    let first : row m ≡ 10 ∷ [] = grind arith in
+    h.0 first
+no_empty_row row (m ∷ ms) key F (b ∷ before) after k s h e =
+    no_empty_row row ms key F before after k s h.1 (grind arith)
+
+is_second : (before after : List (List ℕ)) (E F : List ℕ) → IsIn F (before ++ E ∷ F ∷ after)
+is_second [] after E F = inr (inl refl)
+is_second (b ∷ before) after E F = inr (is_second before after E F)
+
+key_unspaced : (k : Option (List ℕ)) → KeyIsAbove k → AllByRecursion (λ r. spaces r ≡ 0) (key_rows k)
+unfolding spaces
+key_unspaced None h = tt
+key_unspaced (Some k) h = (refl, (omega (arith, spaces_join k (10 ∷ []), above_spaces k h.0), tt))
+
+unspaced : (text : List ℕ) → spaces text ≡ 0 → has_no_space text ≡ true
+unfolding spaces
+unspaced [] h = refl
+unspaced (b ∷ text) h = grind (arith, nat_tests, unspaced text)
+
+-- where no row has a space
+no_spaced_row : (row : Member → List ℕ) (ms : List Member) (key : Option (List ℕ)) (F : List ℕ)
+    (before after : List (List ℕ)) → KeyIsAbove key → 0 < spaces F
+    → AllByRecursion (λ m. spaces (row m) ≡ 0) ms
+    → map row ms ++ key_rows key ≡ before ++ (10 ∷ []) ∷ F ∷ after → ⊥
+no_spaced_row row ms key F before after k s h e =
+    let all = each_join (λ r. spaces r ≡ 0) (map row ms) (key_rows key) (each_mapped (λ r. spaces r ≡ 0) row ms h)
+    (key_unspaced key k) in
+    let none = each_at (λ r. spaces r ≡ 0) F (before ++ (10 ∷ []) ∷ F ∷ after) (rw (← e) all)
+    (is_second before after (10 ∷ []) F) in
+    omega (arith, s, none)
+
+fault_spaces : (name : List ℕ) (index offset : ℕ) → 0 < spaces (fault_row name index offset)
+unfolding spaces
+fault_spaces name index offset = omega arith
+
+-- where no row is an empty line, one stands before a key
+empty_is_key : (row : Member → List ℕ) (ms : List Member) (key : Option (List ℕ)) (before after : List (List ℕ))
+    → KeyIsAbove key → AllByRecursion (λ m. row m ≡ 10 ∷ [] → ⊥) ms
+    → map row ms ++ key_rows key ≡ before ++ (10 ∷ []) ∷ after
+    → (k : List ℕ) × (key ≡ Some k) × (has_no_space k ≡ true) × (after ≡ (k ++ 10 ∷ []) ∷ [])
+empty_is_key row [] None before after above h e =
+    absurd (omega (arith, ap length e, length-append before ((10 ∷ []) ∷ after)))
+empty_is_key row [] (Some k) [] after above h e = (k, refl, unspaced k (above_spaces k above.0), grind arith)
+empty_is_key row [] (Some k) (b ∷ []) after above h e =
+    let same : k ++ 10 ∷ [] ≡ 10 ∷ [] = grind arith in
+    absurd (omega (arith, ap length same, length-append k (10 ∷ []), above.1))
+empty_is_key row [] (Some k) (b ∷ c ∷ before) after above h e =
+    absurd (omega (arith, ap length e, length-append before ((10 ∷ []) ∷ after)))
+empty_is_key row (m ∷ ms) key [] after above h e =
+    let first : row m ≡ 10 ∷ [] = grind arith in
+    absurd (h.0 first)
+empty_is_key row (m ∷ ms) key (b ∷ before) after above h e =
+    empty_is_key row ms key before after above h.1 (grind arith)
+
+-- ---- rows in text
+
+text_marked : (fields : List Field) (m : Member) → text_row fields m ≡ codes ".\n" → length fields ≡ 1
+unfolding spaces
+text_marked [] m e = absurd (omega (arith, ap length e))
+text_marked (f ∷ []) m e = refl
+text_marked (f ∷ g ∷ fields) m e = absurd (omega (arith, text_spaces (f ∷ g ∷ fields) m, ap spaces e))
+
+no_spaces : (name : List ℕ) → has_no_space name ≡ true → spaces name ≡ 0
+unfolding spaces
+no_spaces [] h = refl
+no_spaces (b ∷ name) h = grind (arith, nat_tests, no_spaces name)
+
+text_refused : (fields : List Field) (m : Member) (name : List ℕ) → has_no_space name ≡ true
+    → text_row fields m ≡ refusal_text name → length fields ≡ 2
+unfolding spaces
+text_refused fields m name none e =
+    omega (arith, text_spaces fields m, ap spaces e, spaces_join name (10 ∷ []), no_spaces name none)
+
+text_some : (fields : List Field) → (fields ≡ [] → ⊥) → (m : Member)
+    → ((f : Field) → 0 < length (row_value m f)) → text_row fields m ≡ 10 ∷ [] → ⊥
+text_some [] some m full e = some refl
+text_some (f ∷ fields) some m full e =
+    let v = escaped (row_value m f) in
+    let rest = flat_map (λ g. codes " " ++ escaped (row_value m g)) fields in
+    omega (
+      arith,
+      ap length e,
+      length-append (v ++ rest) (10 ∷ []),
+      length-append v rest,
+      escaped_some (row_value m f) (full f),
+    )
+
+text_empty : (fields : List Field) (m : Member) → 1 < length fields → text_row fields m ≡ 10 ∷ [] → ⊥
+unfolding spaces
+text_empty fields m more e = omega (arith, more, text_spaces fields m, ap spaces e)
+
+-- ---- rows in cdxj
+
+if_some : {X : Type 0} (b : Bool) (x y : X) → cond b (Some x) None ≡ Some y → b ≡ true
+if_some b x y e = grind arith
+
+last_of_three : (a b c : Bool) → (a && b && c) ≡ true → c ≡ true
+last_of_three a b c e = grind arith
+
+-- the line has a space after its stamp
+spaced_tail : (m : Member) → HasEntry LINE_LIMIT m → begins_with_space (tail_part m.line) ≡ true
+spaced_tail m h =
+    last_of_three (is_key (key_part m.line)) (is_stamp (stamp_part m.line)) (begins_with_space (tail_part m.line))
+    (if_some (begins_with_pair m.line) (key_part m.line, stamp_part m.line) (member_pair m)
+    (entry_pair_is LINE_LIMIT m.line m h))
+
+some_left : (text : List ℕ) → begins_with_space text ≡ true → 0 < length text
+some_left [] h = absurd (grind arith)
+some_left (b ∷ text) h = omega arith
+
+cdxj_long : (m : Member) → HasEntry LINE_LIMIT m → 14 < length m.line
+cdxj_long m h =
+    let some = some_left (tail_part m.line) (spaced_tail m h) in
+    let after = after_first is_space m.line in
+    omega (arith, some, length-drop 14 after, length-drop (position_or_len is_space m.line + 1) m.line)
+
+cdxj_short : (m : Member) (row : List ℕ) → HasEntry LINE_LIMIT m → length row ≤ 2 → line_row m ≡ row → ⊥
+cdxj_short m row h short e = omega (arith, cdxj_long m h, short, ap length e, length-append m.line (10 ∷ []))
+
+same_front : (us vs : List ℕ) (b : ℕ) → us ++ b ∷ [] ≡ vs ++ b ∷ [] → us ≡ vs
+same_front [] [] b e = refl
+same_front (u ∷ us) (v ∷ vs) b e = grind (arith, same_front us vs b)
+same_front [] (v ∷ vs) b e = absurd (omega (arith, ap length e, length-append vs (b ∷ [])))
+same_front (u ∷ us) [] b e = absurd (omega (arith, ap length e, length-append us (b ∷ [])))
+
+no_space_later : (n : ℕ) (name : List ℕ) → has_no_space name ≡ true → begins_with_space (drop n name) ≡ false
+no_space_later zero [] h = refl
+no_space_later (suc n) [] h = refl
+no_space_later zero (b ∷ name) h = grind arith
+no_space_later (suc n) (b ∷ name) h = no_space_later n name (grind arith)
+
+-- the name of a refusal holds no stamp
+cdxj_refused : (m : Member) (name : List ℕ) → HasEntry LINE_LIMIT m → has_no_space name ≡ true
+    → line_row m ≡ refusal_text name → ⊥
+cdxj_refused m name h none e =
+    let line : m.line ≡ codes "refused " ++ name = same_front m.line (codes "refused " ++ name) 10 e in
+    let tail : begins_with_space (drop 14 name) ≡ true = rw line at (spaced_tail m h) in
+    true≢false (sym tail ∙ no_space_later 14 name none)
+
+cdxj_line : (m : Member) → HasEntry LINE_LIMIT m → IsLine (line_row m)
+cdxj_line m h = (m.line, refl, (is_row LINE_LIMIT m.line m h).0)
+
+-- ---- the lines of a page, by its output
+
+every : {A : Member → Type 0} → ((m : Member) → A m) → (ms : List Member) → AllByRecursion A ms
+every f [] = tt
+every f (m ∷ ms) = (f m, every f ms)
+
+module _ (fields : List Field) (ms : List Member) (key : Option (List ℕ)) (entries : HaveEntries ms)
+    (above : KeyIsAbove key) where
+  abbrev shown : OutputFormat → List (List ℕ)
+  shown o = lines (page_text (output_form o fields) ms key)
+
+  text_lines : shown output.Text ≡ rows (text_row fields) ms key above
+  text_lines = rows_lines (text_row fields) ms key above (every (text_line fields) ms)
+
+  cdxj_lines : shown output.Cdxj ≡ rows line_row ms key above
+  cdxj_lines = rows_lines line_row ms key above (each_weaker cdxj_line ms entries)
+
+  pub mark_of : (o : OutputFormat) → IsIn (codes ".\n") (shown o) → (o ≡ output.Text) × (length fields ≡ 1)
+  mark_of output.Text i = (
+    refl,
+    marked_row (text_row fields) ms key above (length fields ≡ 1) (every (text_marked fields) ms) (rw text_lines at i),
+  )
+  mark_of output.Cdxj i =
+      absurd (marked_row line_row ms key above ⊥
+      (each_weaker (λ m h. cdxj_short m (codes ".\n") h (omega arith)) ms entries) (rw cdxj_lines at i))
+  mark_of output.Json i =
+      let b = each_at BeginsWithBracket (codes ".\n") (shown output.Json) (json_lines fields ms key) i in
+      absurd (grind arith)
+
+  pub refusal_of : (o : OutputFormat) (name : List ℕ) (rest : List (List ℕ)) → has_no_space name ≡ true
+      → shown o ≡ refusal_text name ∷ rest → (o ≡ output.Text) × (length fields ≡ 2)
+  refusal_of output.Text name rest none e = (
+    refl,
+    refused_rows (text_row fields) ms key name rest (length fields ≡ 2)
+        (every (λ m. text_refused fields m name none) ms) (rw text_lines at e),
+  )
+  refusal_of output.Cdxj name rest none e =
+      absurd (refused_rows line_row ms key name rest ⊥
+      (each_weaker (λ m h. cdxj_refused m name h none) ms entries) (rw cdxj_lines at e))
+  refusal_of output.Json name rest none e =
+      let all = rw e at (json_lines fields ms key) in
+      absurd (grind arith)
+
+  text_fault : (F : List ℕ) (before after : List (List ℕ)) → 0 < spaces F → (1 < length fields) ⊎ (length fields ≤ 1)
+      → rows (text_row fields) ms key above ≡ before ++ (10 ∷ []) ∷ F ∷ after → ⊥
+  text_fault F before after s (inl more) e =
+      no_empty_row (text_row fields) ms key F before after above s (every (λ m. text_empty fields m more) ms) e
+  text_fault F before after s (inr few) e =
+      no_spaced_row (text_row fields) ms key F before after above s
+      (every (λ m. omega (arith, text_spaces fields m, few)) ms) e
+
+  pub fault_of : (o : OutputFormat) (name : List ℕ) (index offset : ℕ) (before after : List (List ℕ))
+      → shown o ≡ before ++ (10 ∷ []) ∷ fault_row name index offset ∷ after → ⊥
+  fault_of output.Text name index offset before after e =
+      text_fault (fault_row name index offset) before after (fault_spaces name index offset)
+      (cases_lt 1 (length fields)) (rw text_lines at e)
+  fault_of output.Cdxj name index offset before after e =
+      no_empty_row line_row ms key (fault_row name index offset) before after above (fault_spaces name index offset)
+      (each_weaker (λ m h. cdxj_short m (10 ∷ []) h (omega arith)) ms entries) (rw cdxj_lines at e)
+  fault_of output.Json name index offset before after e =
+      let b = each_at BeginsWithBracket (10 ∷ []) (before ++ (10 ∷ []) ∷ fault_row name index offset ∷ after)
+      (rw e at (json_lines fields ms key)) (is_there before (10 ∷ []) (fault_row name index offset ∷ after)) in
+      absurd (grind arith)
+
+  text_full : (fields ≡ [] → ⊥) → (m : Member) → HasEntry LINE_LIMIT m → text_row fields m ≡ 10 ∷ [] → ⊥
+  text_full some m h = text_some fields some m (value_some m h)
+
+  pub empty_of : (o : OutputFormat) → (o ≡ output.Json → ⊥) → (fields ≡ [] → ⊥) → (before after : List (List ℕ))
+      → shown o ≡ before ++ (10 ∷ []) ∷ after
+      → (k : List ℕ) × (key ≡ Some k) × (has_no_space k ≡ true) × (after ≡ (k ++ 10 ∷ []) ∷ [])
+  empty_of output.Text other some before after e =
+      empty_is_key (text_row fields) ms key before after above (each_weaker (text_full some) ms entries)
+      (rw text_lines at e)
+  empty_of output.Cdxj other some before after e =
+      empty_is_key line_row ms key before after above
+      (each_weaker (λ m h. cdxj_short m (10 ∷ []) h (omega arith)) ms entries) (rw cdxj_lines at e)
+  empty_of output.Json other some before after e = absurd (other refl)
+
+  pub spaceless : length fields ≡ 1 → AllByRecursion (λ line. has_no_space line ≡ true) (shown output.Text)
+  spaceless one =
+      rw text_lines (each_weaker unspaced (rows (text_row fields) ms key above)
+      (each_join (λ r. spaces r ≡ 0) (map (text_row fields) ms) (key_rows key)
+      (each_mapped (λ r. spaces r ≡ 0) (text_row fields) ms
+      (every (λ m. omega (arith, text_spaces fields m, one)) ms)) (key_unspaced key above)))
