@@ -18,5 +18,6 @@ pub mod PageIndexes
 pub mod OneTextLemmas
 pub mod PageRows
 pub mod PageArrays
+pub mod NothingLemmas
 pub mod ValueLemmas
 pub mod PageLineLemmas

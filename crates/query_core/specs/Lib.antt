@@ -12,6 +12,7 @@ pub mod QueryLaws
 pub mod MergeLaws
 pub mod OneText
 pub mod PageLines
+pub mod NothingAsked
 pub mod Replies
 pub mod AnyReplies
 pub mod Conversations

@@ -4,6 +4,7 @@ ghost use Rattle.std.specs.Prelude.{◌≡◌};
 ghost use Rattle.query_core.specs.declared.merging.TheConstants.{SOURCES_LIMIT};
 ghost use Rattle.query_core.specs.Limits.{LINE_LIMIT, QUERY_LIMIT};
 ghost use Rattle.query_core.specs.MergeLaws.{MergedIsIndex, MergesCommute, MergesGroup};
+ghost use Rattle.query_core.specs.NothingAsked.{AppendedSelectsNothing, EmptyIsRefused};
 ghost use Rattle.query_core.specs.OneText.{AnswerIsOne, MergeIsOne, PagesAreOne};
 ghost use Rattle.query_core.specs.PageLines.{EmptyLineIsBeforeKey, JsonLinesBeginWithBrackets, NoPageHasFaults, OneFieldHasMarks, OneFieldHasNoSpace, TwoFieldsBeginAsRefusals};
 ghost use Rattle.query_core.specs.QueryLaws.{AddedOnlyAdd, AllAreKept, CdxjPageIsIndex, KeysContinue, NamesNameFields, NoLineIsAtFault, PagesRise, SelectedAreFirst, SelectedRise};
@@ -73,6 +74,13 @@ pub fn replies_are_told_from_pages()
     ensures empty { EmptyLineIsBeforeKey }
     ensures one { OneFieldHasNoSpace }
     ensures json { JsonLinesBeginWithBrackets }
+{}
+
+/// A query with `&hasnot=urlkey:` after it, within the limit, selects nothing, and is refused as the query is. An empty text
+/// is refused as `NoUrl`. So either may follow a query, to end its reply.
+pub fn appended_condition_selects_nothing()
+    ensures nothing { AppendedSelectsNothing }
+    ensures empty { EmptyIsRefused }
 {}
 
 /// Over indexes, and an output whose bytes are known, there is one text that an answer that succeeds writes, and one report

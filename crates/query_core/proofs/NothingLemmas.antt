@@ -1,0 +1,131 @@
+-- The query that selects nothing, and is refused as another.
+use Rattle.std.proofs.Common.{◌≡◌, ℕ, ◌<◌, ◌≤◌, true, false, List, [], ◌∷◌, ◌++◌, length, codes}
+use Rattle.std.proofs.Common.{Ok, Err, refl, ap, ◌∙◌, arith, length-append, le-ltb, nat_lt, ◌==◌}
+use Rattle.std.specs.Prelude.{MatchResult}
+use Rattle.std.specs.List.{list_all, onto_first, slice_split}
+use Rattle.std.proofs.lemmas.Bool.{cond-false}
+use Rattle.std.proofs.lemmas.List.Folds.{list_all-append}
+use Rattle.std.proofs.lemmas.Str.{IsUtf8-from_ascii}
+use Rattle.cdxj_core.specs.declared.field.Field.TheVariants.{Urlkey}
+use Rattle.cdxj_core.specs.Lines.{LineValue}
+use Rattle.cdxj_core.specs.Members.{Member}
+use Rattle.query_text.specs.declared.filter.Test.TheVariants.{HasNot}
+use Rattle.query_text.specs.declared.query.TheConstants.{QUERY_LIMIT}
+use Rattle.query_text.specs.Filters.{FilterValue, filter_of, holds, occurs}
+use Rattle.query_text.specs.ParameterNames.{parameter_named}
+use Rattle.query_text.specs.Parameters.{ParameterValues, no_values, pieces_of, with_filter, with_parameter, with_piece}
+use Rattle.query_text.specs.Parameters.{with_pieces}
+use Rattle.query_text.specs.Parts.{decoded}
+use Rattle.query_text.specs.Queries.{QueryValue, query_of, query_with, target_of, with_target}
+use Rattle.query_text.specs.Targets.{TargetValue}
+use Rattle.query_text.specs.Readings.{Read, and_then}
+use Rattle.query_text.proofs.PlainTexts.{plain_text_stands}
+use Rattle.page_writers.specs.QueryPages.{selected}
+use Rattle.query_core.specs.NothingAsked.{AppendedSelectsNothing, nothing}
+
+-- ---- the pieces
+
+onto_more : (b : ℕ) (parts : List (List ℕ)) (tail : List ℕ) → 0 < length parts
+    → onto_first b (parts ++ tail ∷ []) ≡ onto_first b parts ++ tail ∷ []
+onto_more b [] tail h = absurd (omega (arith, h))
+onto_more b (part ∷ parts) tail h = refl
+
+onto_some : (b : ℕ) (parts : List (List ℕ)) → 0 < length (onto_first b parts)
+onto_some b [] = omega arith
+onto_some b (part ∷ parts) = omega arith
+
+split_some : (text : List ℕ) → 0 < length (slice_split (λ b. b == 38) text)
+split_some [] = omega arith
+split_some (b ∷ text) = grind (arith, onto_some)
+
+split_more : (tail : List ℕ) → slice_split (λ b. b == 38) tail ≡ tail ∷ [] → (text : List ℕ)
+    → slice_split (λ b. b == 38) (text ++ 38 ∷ tail) ≡ slice_split (λ b. b == 38) text ++ tail ∷ []
+split_more tail one [] = ap (λ parts. [] ∷ parts) one
+split_more tail one (b ∷ text) = grind (arith, split_more tail one text, onto_more, split_some)
+
+pieces_more : (text : List ℕ) → pieces_of (text ++ nothing) ≡ pieces_of text ++ codes "hasnot=urlkey:" ∷ []
+pieces_more text = split_more (codes "hasnot=urlkey:") refl text
+
+then_itself : {T : Type 0} (m : Read T) → and_then m (λ x. Ok x) ≡ m
+then_itself (Ok x) = refl
+then_itself (Err e) = refl
+
+-- a reading and two steps after it
+then_then : {T U : Type 0} (m : Read T) (f g : T → Read U) (h : U → Read U) → ((x : T) → f x ≡ and_then (g x) h)
+    → and_then m f ≡ and_then (and_then m g) h
+then_then (Ok x) f g h same = same x
+then_then (Err e) f g h same = refl
+
+with_more : (v : ParameterValues) (pieces : List (List ℕ)) (piece : List ℕ) → with_pieces v (pieces ++ piece ∷ [])
+    ≡ and_then (with_pieces v pieces) (λ w. with_piece w piece)
+with_more v [] piece = then_itself (with_piece v piece)
+with_more v (p ∷ pieces) piece =
+    then_then (with_piece v p) (λ next. with_pieces next (pieces ++ piece ∷ [])) (λ next. with_pieces next pieces)
+    (λ w. with_piece w piece) (λ next. with_more next pieces piece)
+
+-- ---- the condition
+
+abbrev no_key : FilterValue
+no_key = record { field = Urlkey; test = HasNot; text = [] }
+
+name_is : decoded (codes "hasnot") ≡ codes "hasnot"
+name_is = plain_text_stands (codes "hasnot") (IsUtf8-from_ascii (codes "hasnot") (grind arith)) refl
+
+value_is : decoded (codes "urlkey:") ≡ codes "urlkey:"
+value_is = plain_text_stands (codes "urlkey:") (IsUtf8-from_ascii (codes "urlkey:") (grind arith)) refl
+
+condition_read : (w : ParameterValues) → with_piece w (codes "hasnot=urlkey:") ≡ Ok (with_filter w no_key)
+condition_read w = ap (λ name. with_parameter (parameter_named name) w (codes "urlkey:")) name_is
+    ∙ ap (λ t. and_then (filter_of HasNot t) (λ f. Ok (with_filter w f))) value_is
+
+-- ---- the query
+
+occurs_always : (value : List ℕ) → occurs [] value ≡ true
+occurs_always [] = refl
+occurs_always (b ∷ value) = refl
+
+none_pass : (filters : List FilterValue) (line : LineValue) → list_all (holds line) (filters ++ no_key ∷ []) ≡ false
+none_pass filters line = grind (arith, list_all-append, occurs_always)
+
+none_selected : (q : QueryValue) (filters : List FilterValue) → q.filters ≡ filters ++ no_key ∷ []
+    → (lines : List Member) → selected q lines ≡ []
+none_selected q filters is [] = refl
+none_selected q filters is (m ∷ lines) = grind (arith, none_pass, none_selected q filters is lines)
+
+-- the second is read as a query that selects nothing if the first is read, and else is refused alike
+abbrev Follows : Read QueryValue → Read QueryValue → Type 0
+Follows one other = MatchResult one (λ q. (none : QueryValue) × (other ≡ Ok none)
+    × ((lines : List Member) → selected none lines ≡ [])) (λ refusal. other ≡ Err refusal)
+
+carried : (a b c d : Read QueryValue) → a ≡ b → c ≡ d → Follows b d → Follows a c
+carried a b c d e k h = rw (e, k) h
+
+of_target : (w : ParameterValues) (t : Read TargetValue) → Follows (and_then t (λ x. Ok (with_target w x)))
+    (and_then t (λ x. Ok (with_target (with_filter w no_key) x)))
+of_target w (Ok x) = (
+  with_target (with_filter w no_key) x,
+  refl,
+  none_selected (with_target (with_filter w no_key) x) w.filters refl,
+)
+of_target w (Err e) = refl
+
+of_values : (m : Read ParameterValues) → Follows (and_then m query_with)
+    (and_then (and_then m (λ w. with_piece w (codes "hasnot=urlkey:"))) query_with)
+of_values (Ok w) =
+    carried (query_with w) (query_with w) (and_then (with_piece w (codes "hasnot=urlkey:")) query_with)
+    (query_with (with_filter w no_key)) refl (ap (λ m. and_then m query_with) (condition_read w))
+    (of_target w (target_of w.url w.key w.kind))
+of_values (Err e) = refl
+
+pub appended : AppendedSelectsNothing
+appended text short =
+    let m = with_pieces no_values (pieces_of text) in
+    let within : length text ≤ QUERY_LIMIT = omega (arith, short, length-append text nothing) in
+    carried (query_of QUERY_LIMIT text) (and_then m query_with) (query_of QUERY_LIMIT (text ++ nothing))
+    (and_then (and_then m (λ w. with_piece w (codes "hasnot=urlkey:"))) query_with)
+    (cond-false (nat_lt QUERY_LIMIT (length text)) _ _ (le-ltb QUERY_LIMIT (length text) within))
+    (cond-false (nat_lt QUERY_LIMIT (length (text ++ nothing))) _ _
+    (le-ltb QUERY_LIMIT (length (text ++ nothing)) short)
+    ∙ ap (λ ps. and_then (with_pieces no_values ps) query_with) (pieces_more text)
+    ∙ ap (λ r. and_then r query_with) (with_more no_values (pieces_of text) (codes "hasnot=urlkey:")))
+    (of_values m)
