@@ -7,10 +7,10 @@ ghost use Rattle.tasks.specs.Writes.{CountsWrites};
 
 use crate::archive_names::file_name;
 use crate::each::with_each;
+use crate::exit_status::ends_command;
 use crate::faults::said_outcome;
 use crate::opening::Opener;
 use crate::outcome::Outcome;
-use crate::exit_status::ends_command;
 use capture_core::Types;
 use index_core::Indexer;
 use std::rt::Runtime;
