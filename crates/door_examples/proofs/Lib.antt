@@ -1,3 +1,7 @@
 mod ReadArchives
 mod ReadTexts
 mod ScannedArchives
+mod ShelfFiles
+mod ShelfOutcomes
+mod ShelfQueries
+mod ShelfReports

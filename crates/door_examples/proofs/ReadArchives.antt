@@ -1,5 +1,5 @@
 -- What the definitions say of archives of one record, by calculation.
-use Rattle.std.proofs.Common.{refl, [], ◌∷◌, Some, None}
+use Rattle.std.proofs.Common.{refl, [], ◌∷◌, Some, None, Ok}
 use Rattle.std.proofs.lemmas.Bool.{leb-true}
 use lib.Utf8.{encode}
 use Rattle.std.specs.Str.{is_utf8, chars}
@@ -30,7 +30,9 @@ use Rattle.url.specs.Parser as parser
 use Rattle.url.specs.Parser.{host_len, parse_port, parse_authority, leading_slashes, after_double_slash, parse_body, split_scheme, parse_url}
 use Rattle.url.specs.Path.{dot_count, is_windows_drive_letter, drive_letter_prefix, shorten_path, push_segment, parse_segments, parse_path_start}
 use Rattle.url.specs.Scheme.{default_port, scheme_type, scheme_len}
-use Rattle.door_examples.specs.Archives.{info_view, InfoIsRead, PagesAreAccepted}
+use Rattle.index_core.specs.Fetching.{StandsIn}
+use Rattle.index_core.specs.Limits.{HEAD_LIMIT}
+use Rattle.door_examples.specs.Archives.{a_archive, a_view, info_view, InfoIsRead, PagesAreAccepted}
 
 pub info_is_read : InfoIsRead
 unfolding record_at next_at head_at head_text shortest parts_or_cause parts_of parts_in kind_in stamp_in length_in
@@ -56,6 +58,7 @@ unfolding record_at next_at head_at head_text shortest parts_or_cause parts_of p
     drive_letter_prefix shorten_path push_segment parse_segments parse_path_start default_port scheme_type
     scheme_len parser.parse_parts percent_decode should_percent_encode parse_number percent_encode
 pages_are_accepted = record {
+  records = record { end = 201; walks = ([], refl, (refl, refl)) };
   first = record {
     heads = _ ∷ [];
     whole = record { end = 201; walks = ([], refl, (refl, refl)) };
@@ -67,3 +70,10 @@ pages_are_accepted = record {
     captured = (Some _, [], ((None, refl, refl), leb-true _ _ refl), refl, refl);
   };
 }
+
+-- at the start of the first archive stands its record, which is the archive
+pub a_stands : StandsIn HEAD_LIMIT a_archive 0 (Ok a_archive)
+unfolding record_at next_at head_at head_text shortest parts_or_cause parts_of parts_in kind_in stamp_in length_in
+    stamp_of date_length fits kind_of each_once required length_of lines_of at_colon field_in given_by fields_of
+    value_of after_record after_block after_text
+a_stands = (a_view, record { before = []; bytes = a_archive; rest = []; walks = (refl, refl); whole = refl }, refl)

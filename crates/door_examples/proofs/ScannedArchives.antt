@@ -1,6 +1,6 @@
 -- What a scan of two archives writes, by calculation.
 use lib.Utf8.{encode}
-use Rattle.std.proofs.Common.{refl, [], ◌∷◌, Some, None}
+use Rattle.std.proofs.Common.{refl, ℕ, List, [], ◌∷◌, Some, None}
 use Rattle.std.proofs.lemmas.Bool.{leb-true}
 use Rattle.std.proofs.lemmas.Str.{IsUtf8-from_is_utf8}
 use native.Mathlib.Omega.{arith}
@@ -16,7 +16,7 @@ use Rattle.cdxj_core.specs.Members.{entry_member, member_place}
 use Rattle.cdxj_places.specs.Places.{place_in}
 use Rattle.index_core.specs.Laws.{AcceptedIsWhole}
 use Rattle.door_examples.specs.Archives.{a_entry, b_entry}
-use Rattle.door_examples.specs.Scans.{TwoAreScannable, TwoAreScanned}
+use Rattle.door_examples.specs.Scans.{OneIsScanned, TwoAreScannable, TwoAreScanned}
 use Rattle.door_examples.specs.Texts.{orgs}
 use Rattle.door_examples.proofs.ReadArchives.{pages_are_accepted}
 use Rattle.door_examples.proofs.ReadTexts.{query_is_read}
@@ -108,4 +108,30 @@ two_are_scannable whole = record {
     whole = (whole _ _ _ _ _ _ pages_are_accepted.second, (whole _ _ _ _ _ _ pages_are_accepted.first, tt));
   };
   rises = leb-true _ _ refl;
+}
+
+-- a scan of the first archive alone
+pub one_is_scanned : (before : List ℕ) → OneIsScanned before
+unfolding escape_byte digits utf8_lossy utf8_valid_len is_utf8 chars encode percent_decode
+one_is_scanned before = record {
+  query = orgs;
+  asked = record { sizes = refl; meaning = query_is_read.meaning; few = leb-true _ _ refl };
+  captures = (a_entry ∷ []) ∷ [];
+  indexed = record {
+    named = (record { good = (leb-true _ _ refl, leb-true _ _ refl); unused = refl }, tt);
+    accepted = (((refl, tt), pages_are_accepted.first), tt);
+    lines = (record { lines = (a_has_line, tt); places = (tt, tt) }, tt);
+  };
+  once = (tt, tt);
+  wrote = record {
+    pages = record { members = entry_member a_entry ∷ []; next = None } ∷ [];
+    chain = (refl, refl);
+    joined = refl;
+    rises = (tt, tt);
+    full = refl;
+    keys = tt;
+    empty = λ e. grind arith;
+    text = refl;
+    count = refl;
+  };
 }

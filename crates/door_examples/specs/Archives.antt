@@ -56,6 +56,25 @@ page_head host = codes "WARC/1.0\r\nWARC-Type: resource\r\nWARC-Target-URI: http
 abbrev pub page_archive : List ℕ → List ℕ
 page_archive host = page_head host ++ codes "x\r\n\r\n"
 
+-- what the head says
+abbrev pub page_view : List ℕ → HeadView
+page_view host = record {
+  start = 0;
+  raw = page_head host;
+  parts = record {
+    kind = kinds.Resource;
+    stamp = codes "20250102030405";
+    length = 1;
+    fields = record { name = codes "WARC-Type"; value = codes "resource" }
+        ∷ record { name = codes "WARC-Target-URI"; value = codes "http://" ++ host ++ codes "/" }
+        ∷ record { name = codes "WARC-Payload-Digest"; value = codes "sha1:AB" }
+        ∷ record { name = codes "WARC-Record-ID"; value = codes "<a:b>" }
+        ∷ record { name = codes "WARC-Date"; value = codes "2025-01-02T03:04:05Z" }
+        ∷ record { name = codes "Content-Type"; value = codes "text/plain" }
+        ∷ record { name = codes "Content-Length"; value = codes "1" } ∷ [];
+  };
+}
+
 -- the capture of the record of a URL
 abbrev pub page_entry : List ℕ → List ℕ → List ℕ → EntryValue
 page_entry key url name = record {
@@ -73,6 +92,9 @@ page_entry key url name = record {
 abbrev pub a_archive : List ℕ
 a_archive = page_archive (codes "a.org")
 
+abbrev pub a_view : HeadView
+a_view = page_view (codes "a.org")
+
 abbrev pub b_archive : List ℕ
 b_archive = page_archive (codes "b.org")
 
@@ -82,7 +104,8 @@ a_entry = page_entry (codes "org,a)/") (codes "http://a.org/") (codes "a.warc")
 abbrev pub b_entry : EntryValue
 b_entry = page_entry (codes "org,b)/") (codes "http://b.org/") (codes "b.warc")
 
--- each archive is accepted with its capture
+-- the first archive is its record, and each is accepted with its capture
 pub record PagesAreAccepted : Type 0 where
+  pub records : AreRecords HEAD_LIMIT a_archive (a_view ∷ [])
   pub first : IsAcceptedUnder (codes "a.warc") a_archive (a_entry ∷ [])
   pub second : IsAcceptedUnder (codes "b.warc") b_archive (b_entry ∷ [])

@@ -1,3 +1,4 @@
 pub mod Archives
 pub mod Texts
 pub mod Scans
+pub mod Shelf

@@ -1,5 +1,5 @@
 -- A scan of two archives, and the text that it writes.
-use Rattle.std.specs.Prelude.{ℕ, List, [], ◌∷◌, codes, Some}
+use Rattle.std.specs.Prelude.{ℕ, List, [], ◌∷◌, ◌++◌, codes, Some}
 use Rattle.capture_core.specs.Types.{includes, usual_types}
 use Rattle.scan_core.specs.Laws.{IsScannable, MayRise}
 use Rattle.scan_core.specs.Scanning.{Scanned}
@@ -15,6 +15,12 @@ abbrev pub TwoAreScanned : Type 0
 TwoAreScanned =
     Scanned (includes usual_types) (codes "b.warc" ∷ codes "a.warc" ∷ []) (Some b_archive ∷ Some a_archive ∷ [])
     (1 ∷ []) orgs_text (Some []) (Some scanned_text) 2
+
+-- The scan of the first archive alone writes one page, behind what there was.
+abbrev pub OneIsScanned : List ℕ → Type 0
+OneIsScanned before =
+    Scanned (includes usual_types) (codes "a.warc" ∷ []) (Some a_archive ∷ []) (1 ∷ []) orgs_text (Some before)
+    (Some (before ++ codes "org,a)/ 0\n")) 1
 
 -- Nothing is at fault that is asked of the scan, and a device that never failed may fail.
 pub record TwoAreScannable : Type 0 where

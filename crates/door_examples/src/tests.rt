@@ -5,13 +5,16 @@ use crate::lines::{key, line, resume_key};
 use crate::queries::{PageFault, page, page_of_two};
 use crate::records::{count_records, first_head};
 use crate::scans::{in_memory, write_pages};
+use crate::shelf::{Shelf, perform_on_shelf};
 use capture_core::{CaptureFault, Entry};
 use cdxj_core::{KeyFault, PlaceFault};
+use command_line::Task;
 use fixtures::{LETTERS, OFFSET_5, OFFSET_10, RESPONSE, RESPONSE_LINE};
 use index_core::IndexFault;
 use query_core::{Query, Report, SliceSource};
-use std::alloc::Global;
+use std::alloc::{AllocError, Global};
 use std::test::Fail;
+use tasks::Outcome;
 use warc_core::{Fault, Gather, Head, Kind, Slice};
 
 fn is_of_response(head: &Head) -> bool {
@@ -151,5 +154,66 @@ fn two_archives_are_scanned(rt: HostRuntime) -> Result<(), Fail> {
     let count = write_pages_of_two(rt.alloc(), &mut out)?;
     assert!(rt; count == 1);
     assert!(rt; out.bytes() == b"a.warc 0\nb.warc 0\n".as_slice());
+    Ok(())
+}
+
+const ARCHIVE: &[u8] =
+    b"WARC/1.0\r\nWARC-Type: resource\r\nWARC-Target-URI: http://a.org/\r\nWARC-Payload-Digest: sha1:AB\r\nWARC-Record-ID: <a:b>\r\nWARC-Date: 2025-01-02T03:04:05Z\r\nContent-Type: text/plain\r\nContent-Length: 1\r\n\r\nx\r\n\r\n";
+
+const INDEX: &[u8] =
+    b"org,a)/ 20250102030405 {\"url\": \"http://a.org/\", \"mime\": \"text/plain\", \"status\": \"-\", \"digest\": \"AB\", \"length\": \"201\", \"offset\": \"0\", \"filename\": \"a.warc\"}\n";
+
+/// Returns this name alone.
+fn one_name(alloc: Global, name: &str) -> Result<Vec<String>, AllocError> {
+    let mut names = Vec::new(alloc);
+    names.push(String::from_str(alloc, name)?)?;
+    Ok(names)
+}
+
+/// Performs the task over the archive and the index in memory. Returns `true` if it ends as done, and has written this text.
+fn writes(rt: &HostRuntime, task: &Task, text: &[u8]) -> bool {
+    let shelf = Shelf {
+        archive: ARCHIVE,
+        index: INDEX,
+        input: b"key=org,a)/&fl=urlkey\n",
+    };
+    let mut out = Gather::new(rt.alloc());
+    let outcome = perform_on_shelf(rt, &shelf, task, &mut out);
+    matches!(outcome, Outcome::Done) && out.bytes() == text
+}
+
+#[test]
+fn tasks_on_archives_write_their_texts(rt: HostRuntime) -> Result<(), Fail> {
+    let list = Task::List {
+        names: one_name(rt.alloc(), "a.warc")?,
+    };
+    let verify = Task::Verify {
+        names: one_name(rt.alloc(), "a.warc")?,
+    };
+    let get = Task::Get {
+        length: None,
+        offset: 0,
+        name: String::from_str(rt.alloc(), "a.warc")?,
+    };
+    assert!(rt; writes(&rt, &list, b"0 201 resource\n"));
+    assert!(rt; writes(&rt, &verify, b"0 absent\n"));
+    assert!(rt; writes(&rt, &get, ARCHIVE));
+    Ok(())
+}
+
+#[test]
+fn tasks_on_indexes_write_their_texts(rt: HostRuntime) -> Result<(), Fail> {
+    let check = Task::Check {
+        names: one_name(rt.alloc(), "a.cdxj")?,
+    };
+    let merge = Task::Merge {
+        names: one_name(rt.alloc(), "a.cdxj")?,
+    };
+    let serve = Task::Serve {
+        names: one_name(rt.alloc(), "a.cdxj")?,
+    };
+    assert!(rt; writes(&rt, &check, b"a.cdxj 1\n"));
+    assert!(rt; writes(&rt, &merge, INDEX));
+    assert!(rt; writes(&rt, &serve, b"org,a)/\n.\n"));
     Ok(())
 }

@@ -1,0 +1,32 @@
+-- Files in memory as they are opened.
+use Rattle.std.proofs.Common.{◌≡◌, ℕ, List, Some, subst}
+use Rattle.command_line.specs.Commands.{Meaning}
+use Rattle.tasks.specs.declared.outcome.Outcome.{Outcome}
+use Rattle.tasks.specs.declared.outcome.Outcome.TheVariants as outcomes
+use Rattle.tasks.specs.Performing.{Openings, Performs}
+use Rattle.door_examples.specs.Archives.{a_archive}
+use Rattle.door_examples.specs.Shelf.{shelf, query_line}
+use Rattle.door_examples.specs.Texts.{a_line}
+
+-- files with these bytes
+abbrev files : List ℕ → List ℕ → List ℕ → Openings
+files archive index input = record {
+  archive_of = λ name. Some archive;
+  index_of = λ name. Some index;
+  ArchiveFailed = λ name. ⊥;
+  IndexFailed = λ name. ⊥;
+  input = Some input;
+}
+
+-- what a task does over files with the bytes of the shelf, it does over the shelf
+pub on_shelf : (archive index input before after : List ℕ) (unchanged : Type 0) (outcome : Outcome) (task other : Meaning)
+    → archive ≡ a_archive → index ≡ a_line → input ≡ query_line → outcome ≡ outcomes.Done → task ≡ other
+    → Performs (files archive index input) (Some before) (Some after) unchanged outcome task
+    → Performs shelf (Some before) (Some after) unchanged outcomes.Done other
+on_shelf archive index input before after unchanged outcome task other a i n o t p =
+    let told : Performs shelf (Some before) (Some after) unchanged outcome task =
+    subst (λ x. Performs (files a_archive a_line x) (Some before) (Some after) unchanged outcome task) n
+    (subst (λ x. Performs (files a_archive x input) (Some before) (Some after) unchanged outcome task) i
+    (subst (λ x. Performs (files x index input) (Some before) (Some after) unchanged outcome task) a p)) in
+    subst (λ x. Performs shelf (Some before) (Some after) unchanged outcomes.Done x) t
+    (subst (λ x. Performs shelf (Some before) (Some after) unchanged x task) o told)

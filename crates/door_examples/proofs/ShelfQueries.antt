@@ -1,0 +1,194 @@
+-- What the tasks on indexes write of an index in memory, and a scan of an archive in memory.
+use native.Mathlib.Omega.{arith}
+use lib.Utf8.{encode}
+use Rattle.std.proofs.Common.{◌≡◌, ◌∙◌, ℕ, List, [], ◌∷◌, ◌++◌, Option, Some, None, Result, Ok, Err, MatchResult, IfOk, codes, refl, sym, ap, subst, inl, inr}
+use Rattle.std.proofs.lemmas.Bool.{leb-true}
+use Rattle.std.specs.Fmt.{digits}
+use Rattle.std.specs.List.{AllZip}
+use Rattle.std.specs.Str.{is_utf8, chars}
+use Rattle.std.specs.Str.Lossy.{utf8_lossy, utf8_valid_len}
+use Rattle.json.specs.Print.{escape_byte}
+use Rattle.percent_encoding.specs.Percent.{percent_decode}
+use Rattle.cdxj_core.specs.declared.limit.TheConstants.{LINE_LIMIT}
+use Rattle.cdxj_core.specs.Indexes.{IsIndex}
+use Rattle.cdxj_core.specs.Members.{Member, entry_member}
+use Rattle.merge_core.specs.Collections.{Merged, collection}
+use Rattle.query_text.specs.declared.fault.QueryFault.{QueryFault}
+use Rattle.query_text.specs.declared.query.TheConstants.{QUERY_LIMIT}
+use Rattle.query_text.specs.Queries.{QueryValue, query_of}
+use Rattle.page_writers.specs.QueryPages.{answer_text, query_page}
+use Rattle.page_writers.specs.WrittenPages.{WrotePages}
+use Rattle.query_core.specs.declared.fault.AnswerFault.{AnswerFault}
+use Rattle.query_core.specs.declared.report.Report.{Report}
+use Rattle.query_core.specs.Answering.{WritesAnswer}
+use Rattle.query_core.specs.Checking.{IsChecked}
+use Rattle.query_core.specs.Conversations.{Replied}
+use Rattle.query_core.specs.OneText.{MergeIsOne, PagesAreOne}
+use Rattle.query_core.specs.Paging.{WritesPages}
+use Rattle.query_core.specs.Replies.{replies, reply_of}
+use Rattle.scan_core.specs.declared.fault.ScanFault.{ScanFault}
+use Rattle.scan_core.specs.Laws.{ScanIsOne}
+use Rattle.scan_core.specs.Scanning.{Scanned}
+use Rattle.capture_core.specs.Types.{includes, usual_types}
+use Rattle.command_line.specs.Commands.{ToCheck, ToMerge, ToPages, ToQuery, ToScan, ToServe}
+use Rattle.tasks.specs.declared.outcome.Outcome.{Outcome}
+use Rattle.tasks.specs.declared.outcome.Outcome.TheVariants as outcomes
+use Rattle.tasks.specs.Checks.{ChecksOne, WritesCount, checked_line}
+use Rattle.tasks.specs.Performing.{Performs}
+use Rattle.tasks.specs.Queries.{AnswersPages, AnswersQuery, answered_outcome}
+use Rattle.tasks.specs.Scanning.{scan_outcome}
+use Rattle.door_examples.specs.Archives.{a_archive, a_entry}
+use Rattle.door_examples.specs.Shelf.{shelf, archive_name, index_name, query_line}
+use Rattle.door_examples.specs.Texts.{a_line, orgs, orgs_text}
+use Rattle.door_examples.proofs.ReadTexts.{line_is_index, query_is_read}
+use Rattle.door_examples.proofs.ScannedArchives.{one_is_scanned}
+use Rattle.door_examples.proofs.ShelfOutcomes.{one_done}
+
+abbrev pub HasOneList : Type 0
+HasOneList = (limit : ℕ) → (text : List ℕ) → (these those : List Member) → IsIndex limit text these
+    → IsIndex limit text those → these ≡ those
+
+-- the line of the index
+abbrev member : Member
+member = entry_member a_entry
+
+-- the one list of lines
+abbrev members : List (List Member)
+members = (member ∷ []) ∷ []
+
+check_text : checked_line index_name 1 ≡ codes "a.cdxj 1\n"
+unfolding digits
+check_text = refl
+
+query_text : answer_text orgs (query_page orgs (collection members)) ≡ codes "org,a)/ 0\n"
+unfolding digits
+query_text = refl
+
+serve_text : replies QUERY_LIMIT (reply_of QUERY_LIMIT (collection members)) query_line ≡ codes "org,a)/\n.\n"
+unfolding digits utf8_lossy utf8_valid_len is_utf8 chars encode percent_decode
+serve_text = refl
+
+same_query : (this that : QueryValue) → ◌≡◌ {A = Result QueryValue QueryFault} (Ok this) (Ok that) → this ≡ that
+same_query this that e = grind arith
+
+same_bytes : (this that : List ℕ) → Some this ≡ Some that → this ≡ that
+same_bytes this that e = grind arith
+
+orgs_is : (q : QueryValue) → query_of QUERY_LIMIT orgs_text ≡ Ok q → q ≡ orgs
+orgs_is q meaning = same_query q orgs (sym meaning ∙ query_is_read.meaning)
+
+module _ (before after : List ℕ) where
+  page_written : WrotePages orgs (collection members) (1 ∷ []) (Some before) (Some (before ++ codes "org,a)/ 0\n")) 1
+  unfolding digits
+  page_written = record {
+    pages = record { members = member ∷ []; next = None } ∷ [];
+    chain = (refl, refl);
+    joined = refl;
+    rises = (tt, tt);
+    full = refl;
+    keys = tt;
+    empty = λ e. grind arith;
+    text = refl;
+    count = refl;
+  }
+
+  merge_written : Merged LINE_LIMIT (a_line ∷ a_line ∷ []) (Some before) (Some (before ++ a_line)) 1
+  unfolding digits escape_byte
+  merge_written = record {
+    indexes = (member ∷ []) ∷ (member ∷ []) ∷ [];
+    are = (line_is_index.read, (line_is_index.read, tt));
+    text = refl;
+    count = refl;
+  }
+
+  answered : (answer : Result Report AnswerFault) → outcomes.Done ≡ answered_outcome answer
+      → WritesAnswer orgs (collection members) answer (Some before) (Some after) → after ≡ before ++ codes "org,a)/ 0\n"
+  answered (Ok report) is page = page.text ∙ ap (λ t. before ++ t) query_text
+  answered (Err f) is page = grind arith
+
+  paged : PagesAreOne → (answer : Result ℕ AnswerFault) → outcomes.Done ≡ answered_outcome answer
+      → WritesPages orgs (collection members) (1 ∷ []) answer (Some before) (Some after)
+      → after ≡ before ++ codes "org,a)/ 0\n"
+  paged one (Ok n) is pages = same_bytes _ _ (one (a_line ∷ []) members members orgs (1 ∷ []) before (Some after) (Some _) n 1
+      ((line_is_index.read, tt), (line_is_index.read, tt)) pages page_written).0
+  paged one (Err f) is pages = grind arith
+
+  merged : MergeIsOne → (answer : Result ℕ AnswerFault) → outcomes.Done ≡ answered_outcome answer
+      → IfOk answer (Merged LINE_LIMIT (a_line ∷ a_line ∷ []) (Some before) (Some after)) → after ≡ before ++ a_line
+  merged one (Ok n) is merge = same_bytes _ _ (one (a_line ∷ a_line ∷ []) before (Some after) (Some _) n 1 merge
+      merge_written).0
+  merged one (Err f) is merge = grind arith
+
+  replied : (answer : Result ℕ AnswerFault) → outcomes.Done ≡ answered_outcome answer
+      → IfOk answer (λ count. Replied QUERY_LIMIT (reply_of QUERY_LIMIT (collection members)) (Some query_line) count
+      (Some before) (Some after)) → after ≡ before ++ codes "org,a)/\n.\n"
+  replied (Ok n) is (short, count, wrote) = wrote ∙ ap (λ t. before ++ t) serve_text
+  replied (Err f) is wrote = grind arith
+
+  scanned : ScanIsOne → (answer : Result ℕ ScanFault) → outcomes.Done ≡ scan_outcome answer
+      → IfOk answer (Scanned (includes usual_types) (archive_name ∷ []) (Some a_archive ∷ []) (1 ∷ []) orgs_text
+      (Some before) (Some after)) → after ≡ before ++ codes "org,a)/ 0\n"
+  scanned one (Ok n) is scan = same_bytes _ _ (one (includes usual_types) (archive_name ∷ []) (a_archive ∷ [])
+      (Some a_archive ∷ []) (1 ∷ []) orgs_text before (Some after) (Some _) n 1 (refl, tt) scan (one_is_scanned before)).0
+  scanned one (Err f) is scan = grind arith
+
+  counted : HasOneList → (answer : Result ℕ AnswerFault) → IsChecked LINE_LIMIT a_line answer
+      → MatchResult answer (λ count. WritesCount index_name count outcomes.Done (Some before) (Some after))
+      (λ fault. (outcomes.Done ≡ outcomes.Answer fault) × (Some after ≡ Some before))
+      → after ≡ before ++ codes "a.cdxj 1\n"
+  counted one (Ok n) (these, is, count) (inl (done, wrote)) =
+      let length_is : n ≡ 1 = count ∙ ap (λ l. Rattle.std.specs.Prelude.length l) (one LINE_LIMIT a_line these (member ∷ []) is line_is_index.read) in
+      wrote ∙ ap (λ k. before ++ checked_line index_name k) length_is ∙ ap (λ t. before ++ t) check_text
+  counted one (Ok n) checked (inr failed) = grind arith
+  counted one (Err f) checked written = grind arith
+
+  checked_one : HasOneList → ChecksOne shelf.index_of shelf.IndexFailed (Some before) index_name outcomes.Done (Some after)
+      → after ≡ before ++ codes "a.cdxj 1\n"
+  checked_one one (inl c) = counted one c.answer (c.checked a_line refl) c.written
+  checked_one one (inr unopened) = grind arith
+
+module _ (before after : List ℕ) (unchanged : Type 0) where
+  pub checks : HasOneList → Performs shelf (Some before) (Some after) unchanged outcomes.Done (ToCheck (index_name ∷ []))
+      → after ≡ before ++ codes "a.cdxj 1\n"
+  checks one (ended, next, step, rest) =
+      let d = one_done ended next (Some after) rest in
+      checked_one before after one (subst (λ s. ChecksOne shelf.index_of shelf.IndexFailed (Some before) index_name
+      outcomes.Done s) (sym d.1)
+      (subst (λ o. ChecksOne shelf.index_of shelf.IndexFailed (Some before) index_name o next) d.0 step))
+
+  pub merges : MergeIsOne
+      → Performs shelf (Some before) (Some after) unchanged outcomes.Done (ToMerge (index_name ∷ index_name ∷ []))
+      → after ≡ before ++ a_line
+  merges one (inl m) = merged before after one m.answer m.outcome_is (m.merged (a_line ∷ a_line ∷ []) (refl, (refl, tt)))
+  merges one (inr unopened) = grind arith
+
+  pub queries : Performs shelf (Some before) (Some after) unchanged outcomes.Done (ToQuery orgs_text (index_name ∷ []))
+      → after ≡ before ++ codes "org,a)/ 0\n"
+  queries (inl (q, meaning, inl a)) =
+      let b = subst (λ x. AnswersQuery x (Some a_line ∷ []) (Some before) (Some after) unchanged outcomes.Done)
+      (orgs_is q meaning) a in
+      answered before after b.answer b.outcome_is (b.page (a_line ∷ []) members (refl, tt) (line_is_index.read, tt))
+  queries (inl (q, meaning, inr unopened)) = grind arith
+  queries (inr refused) = grind arith
+
+  pub paginates : PagesAreOne
+      → Performs shelf (Some before) (Some after) unchanged outcomes.Done (ToPages (1 ∷ []) orgs_text (index_name ∷ []))
+      → after ≡ before ++ codes "org,a)/ 0\n"
+  paginates one (inl (q, meaning, inl a)) =
+      let b = subst (λ x. AnswersPages x (1 ∷ []) (Some a_line ∷ []) (Some before) (Some after) unchanged outcomes.Done)
+      (orgs_is q meaning) a in
+      paged before after one b.answer b.outcome_is (b.pages (a_line ∷ []) members (refl, tt) (line_is_index.read, tt))
+  paginates one (inl (q, meaning, inr unopened)) = grind arith
+  paginates one (inr refused) = grind arith
+
+  pub serves : Performs shelf (Some before) (Some after) unchanged outcomes.Done (ToServe (index_name ∷ []))
+      → after ≡ before ++ codes "org,a)/\n.\n"
+  serves (inl a) = replied before after a.answer a.outcome_is
+      (a.replies (a_line ∷ []) members (refl, tt) (line_is_index.read, tt))
+  serves (inr unopened) = grind arith
+
+  pub scans : ScanIsOne → Performs shelf (Some before) (Some after) unchanged outcomes.Done
+      (ToScan usual_types (1 ∷ []) orgs_text (archive_name ∷ [])) → after ≡ before ++ codes "org,a)/ 0\n"
+  scans one (inl (q, meaning, inl s)) = scanned before after one s.answer s.outcome_is s.scanned
+  scans one (inl (q, meaning, inr unopened)) = grind arith
+  scans one (inr refused) = grind arith

@@ -1,0 +1,153 @@
+-- What the tasks on archives write of an archive in memory.
+use native.Mathlib.Omega.{arith}
+use Rattle.std.proofs.Common.{◌≡◌, ◌∙◌, ℕ, List, [], ◌∷◌, ◌++◌, Option, Some, None, Result, Ok, Err, Bool, true, false, MatchBool, codes, refl, sym, ap, subst, inl, inr, append-nil}
+use Rattle.std.specs.Fmt.{digits}
+use Rattle.std.specs.Io.KnownBytes.{Appends}
+use Rattle.json.specs.Print.{escape_byte}
+use Rattle.warc_head.specs.Fields.{value_of}
+use Rattle.warc_core.specs.HeadView.{HeadView}
+use Rattle.warc_core.specs.Laws.{OneReading}
+use Rattle.warc_core.specs.Walk.{AreRecords}
+use Rattle.capture_core.specs.Types.{includes, usual_types}
+use Rattle.cdxj_core.specs.Entries.{EntryValue}
+use Rattle.index_core.specs.Adding.{with_archive}
+use Rattle.index_core.specs.Fetching.{StandsIn}
+use Rattle.index_core.specs.Indexing.{Held, index_text}
+use Rattle.index_core.specs.Laws.{OneIndexed, OneStands}
+use Rattle.index_core.specs.Limits.{HEAD_LIMIT}
+use Rattle.index_core.specs.declared.fault.IndexFault.{IndexFault}
+use Rattle.index_core.specs.declared.verified.Verified.{Verified}
+use Rattle.index_core.specs.Listing.{Lists, listing_line}
+use Rattle.index_core.specs.Report.{report_lines}
+use Rattle.index_core.specs.Verifying.{Verifies, verification_line}
+use Rattle.command_line.specs.Commands.{ToGet, ToIndex, ToList, ToVerify}
+use Rattle.tasks.specs.declared.outcome.Outcome.{Outcome}
+use Rattle.tasks.specs.declared.outcome.Outcome.TheVariants as outcomes
+use Rattle.tasks.specs.declared.reports.ArchiveReport.{ArchiveReport}
+use Rattle.tasks.specs.declared.reports.ArchiveReport.TheVariants as reports
+use Rattle.tasks.specs.Fetching.{FetchesRecord}
+use Rattle.tasks.specs.Indexing.{AddsOne, AddsArchive, WritesIndex, nothing_of}
+use Rattle.tasks.specs.Outcome.{ends_command, outcome_of, verification_outcome}
+use Rattle.tasks.specs.Performing.{Performs}
+use Rattle.tasks.specs.Reports.{ReportsOn, ReportsOnOne, WritesReport}
+use Rattle.door_examples.specs.Archives.{a_archive, a_entry, a_view}
+use Rattle.door_examples.specs.Shelf.{shelf, archive_name}
+use Rattle.door_examples.specs.Texts.{a_line}
+use Rattle.door_examples.proofs.ReadArchives.{pages_are_accepted, a_stands}
+use Rattle.door_examples.proofs.ShelfOutcomes.{one_done, added_done}
+
+abbrev pub HasOneReading : Type 0
+HasOneReading = (limit : ℕ) (archive : List ℕ) → OneReading limit archive
+
+list_text : listing_line a_archive a_view ++ [] ≡ codes "0 201 resource\n"
+unfolding digits
+list_text = refl
+
+verify_text : verification_line a_archive a_view ++ [] ≡ codes "0 absent\n"
+unfolding digits value_of
+verify_text = refl
+
+line_text : index_text (a_entry ∷ []) ≡ a_line
+unfolding digits escape_byte
+line_text = refl
+
+heads_are : HasOneReading → (heads : List HeadView) → AreRecords HEAD_LIMIT a_archive heads → heads ≡ a_view ∷ []
+heads_are one heads are = (one HEAD_LIMIT a_archive).one_list heads (a_view ∷ []) are pages_are_accepted.records
+
+-- ---- reports
+
+listed : HasOneReading → (start after : List ℕ) → WritesReport reports.Listing (Some a_archive) outcomes.Done (Some start)
+    (Some after) → after ≡ start ++ codes "0 201 resource\n"
+listed one start after (Ok n, is, lists) =
+    let r = lists.report in
+    r.3 ∙ ap (λ heads. start ++ report_lines listing_line a_archive heads) (heads_are one r.0 r.1)
+    ∙ ap (λ t. start ++ t) list_text
+listed one start after (Err f, is, lists) = grind arith
+
+verified : HasOneReading → (start after : List ℕ) → WritesReport reports.Verdicts (Some a_archive) outcomes.Done
+    (Some start) (Some after) → after ≡ start ++ codes "0 absent\n"
+verified one start after (Ok v, is, verifies) =
+    let r = verifies.report in
+    r.3 ∙ ap (λ heads. start ++ report_lines verification_line a_archive heads) (heads_are one r.0 r.1)
+    ∙ ap (λ t. start ++ t) verify_text
+verified one start after (Err f, is, verifies) = grind arith
+
+module _ (report : ArchiveReport) (text before after : List ℕ)
+    (whole : (start : List ℕ) → WritesReport report (Some a_archive) outcomes.Done (Some start) (Some after)
+    → after ≡ start ++ text) where
+  below : (headed : Option (List ℕ)) → Appends (Some before) headed []
+      → WritesReport report (Some a_archive) outcomes.Done headed (Some after) → after ≡ before ++ text
+  below None top written = grind arith
+  below (Some start) top written = whole start written ∙ ap (λ s. s ++ text) (top ∙ append-nil before)
+
+  on_one : ReportsOnOne shelf.archive_of shelf.ArchiveFailed report 1 (Some before) archive_name outcomes.Done (Some after)
+      → after ≡ before ++ text
+  on_one (inl (inl w)) = below w.0 w.1 w.2
+  on_one (inl (inr failed)) = grind arith
+  on_one (inr unopened) = grind arith
+
+  reported : ReportsOn shelf.archive_of shelf.ArchiveFailed report (archive_name ∷ []) (Some before) (Some after)
+      outcomes.Done → after ≡ before ++ text
+  reported (ended, next, step, rest) =
+      let d = one_done ended next (Some after) rest in
+      on_one (subst (λ s. ReportsOnOne shelf.archive_of shelf.ArchiveFailed report 1 (Some before) archive_name
+      outcomes.Done s) (sym d.1)
+      (subst (λ o. ReportsOnOne shelf.archive_of shelf.ArchiveFailed report 1 (Some before) archive_name o next) d.0 step))
+
+-- ---- the record at an offset
+
+same_text : (this that : List ℕ) → ◌≡◌ {A = Result (List ℕ) IndexFault} (Ok this) (Ok that) → this ≡ that
+same_text this that e = grind arith
+
+fetched : OneStands → (before after : List ℕ) (answer : Result ℕ IndexFault) → outcomes.Done ≡ outcome_of answer
+    → FetchesRecord None 0 (Some a_archive) answer (Some before) (Some after) → after ≡ before ++ a_archive
+fetched one before after (Ok n) is (text, count, wrote, stands) = wrote
+    ∙ ap (λ t. before ++ t) (same_text text a_archive (one HEAD_LIMIT 0 a_archive (Ok text) (Ok a_archive) stands a_stands))
+fetched one before after (Err f) is fetches = grind arith
+
+module _ (before after : List ℕ) (unchanged : Type 0) where
+  pub lists : HasOneReading
+      → Performs shelf (Some before) (Some after) unchanged outcomes.Done (ToList (archive_name ∷ []))
+      → after ≡ before ++ codes "0 201 resource\n"
+  lists one p = reported reports.Listing _ before after (λ start. listed one start after) p
+
+  pub verifies : HasOneReading
+      → Performs shelf (Some before) (Some after) unchanged outcomes.Done (ToVerify (archive_name ∷ []))
+      → after ≡ before ++ codes "0 absent\n"
+  verifies one p = reported reports.Verdicts _ before after (λ start. verified one start after) p
+
+  pub gets : OneStands → Performs shelf (Some before) (Some after) unchanged outcomes.Done (ToGet None 0 archive_name)
+      → after ≡ before ++ a_archive
+  gets one (inl w) = fetched one before after w.answer w.outcome_is w.fetches
+  gets one (inr unopened) = grind arith
+
+-- ---- the index
+
+added : OneIndexed → (held : Held)
+    → AddsOne shelf.archive_of shelf.ArchiveFailed (nothing_of usual_types) archive_name outcomes.Done held
+    → held.captures ≡ a_entry ∷ []
+added one held (inl a) = go a.answer a.outcome_is a.adds
+  where
+    go : (answer : Result ℕ IndexFault) → outcomes.Done ≡ outcome_of answer
+        → Rattle.index_core.specs.Adding.Adds (includes usual_types) Rattle.capture_core.specs.CaptureAnswer.usual_limits
+        HEAD_LIMIT archive_name (Some a_archive) (nothing_of usual_types) held answer → held.captures ≡ a_entry ∷ []
+    go (Ok n) is adds = grind (arith, one _ _ _ _ _ _ _ adds.2.2 pages_are_accepted.first)
+    go (Err f) is adds = grind arith
+added one held (inr unopened) = grind arith
+
+indexed : (before after : List ℕ) (held : Held) (outcome : Outcome) → held.captures ≡ a_entry ∷ []
+    → WritesIndex held outcome (Some before) (Some after) outcomes.Done → after ≡ before ++ a_line
+indexed before after held outcome are (Ok n, is, fault, text) = text ∙ ap (λ es. before ++ index_text es) are
+    ∙ ap (λ t. before ++ t) line_text
+indexed before after held outcome are (Err f, is, fault, text) = grind arith
+
+pub indexes : OneIndexed → (before after : List ℕ) (unchanged : Type 0)
+    → Performs shelf (Some before) (Some after) unchanged outcomes.Done (ToIndex usual_types (archive_name ∷ []))
+    → after ≡ before ++ a_line
+indexes one before after unchanged (held, reached, (ended, next, step, rest), write) =
+    let w = added_done reached unchanged held (Some before) (Some after) write in
+    let d = one_done ended next held (subst (λ r. MatchBool (ends_command ended) ((r ≡ ended) × (held ≡ next))
+    ((r ≡ Rattle.tasks.specs.Outcome.worse_of outcomes.Done ended) × (held ≡ next))) w.0 rest) in
+    indexed before after held reached (added one held (subst (λ s. AddsOne shelf.archive_of shelf.ArchiveFailed
+    (nothing_of usual_types) archive_name outcomes.Done s) (sym d.1)
+    (subst (λ o. AddsOne shelf.archive_of shelf.ArchiveFailed (nothing_of usual_types) archive_name o next) d.0 step))) w.1

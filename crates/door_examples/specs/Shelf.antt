@@ -1,0 +1,43 @@
+-- Files in memory, and what the tasks write of them.
+use Rattle.std.specs.Prelude.{◌≡◌, ℕ, List, [], ◌∷◌, ◌++◌, codes, None, Some}
+use Rattle.capture_core.specs.Types.{usual_types}
+use Rattle.command_line.specs.Commands.{Meaning, ToList, ToVerify, ToIndex, ToMerge, ToCheck, ToQuery, ToPages, ToServe}
+use Rattle.command_line.specs.Commands.{ToGet, ToScan}
+use Rattle.tasks.specs.Performing.{Openings}
+use Rattle.door_examples.specs.Archives.{a_archive}
+use Rattle.door_examples.specs.Texts.{a_line, orgs_text}
+
+-- the names of the archive and of the index
+abbrev pub archive_name : List ℕ
+archive_name = codes "a.warc"
+
+abbrev pub index_name : List ℕ
+index_name = codes "a.cdxj"
+
+-- a query, as standard input
+abbrev pub query_line : List ℕ
+query_line = codes "key=org,a)/&fl=urlkey\n"
+
+-- One archive has all names of archives, and one index all names of indexes. Nothing fails to be opened.
+abbrev pub shelf : Openings
+shelf = record {
+  archive_of = λ name. Some a_archive;
+  index_of = λ name. Some a_line;
+  ArchiveFailed = λ name. ⊥;
+  IndexFailed = λ name. ⊥;
+  input = Some query_line;
+}
+
+-- what a task has written that ended as done
+pub record WritesOfShelf (task : Meaning) (before after : List ℕ) : Type 0 where
+  pub list : task ≡ ToList (archive_name ∷ []) → after ≡ before ++ codes "0 201 resource\n"
+  pub verify : task ≡ ToVerify (archive_name ∷ []) → after ≡ before ++ codes "0 absent\n"
+  pub index : task ≡ ToIndex usual_types (archive_name ∷ []) → after ≡ before ++ a_line
+  pub merge : task ≡ ToMerge (index_name ∷ index_name ∷ []) → after ≡ before ++ a_line
+  pub check : task ≡ ToCheck (index_name ∷ []) → after ≡ before ++ codes "a.cdxj 1\n"
+  pub query : task ≡ ToQuery orgs_text (index_name ∷ []) → after ≡ before ++ codes "org,a)/ 0\n"
+  pub pages : task ≡ ToPages (1 ∷ []) orgs_text (index_name ∷ []) → after ≡ before ++ codes "org,a)/ 0\n"
+  pub serve : task ≡ ToServe (index_name ∷ []) → after ≡ before ++ codes "org,a)/\n.\n"
+  pub get : task ≡ ToGet None 0 archive_name → after ≡ before ++ a_archive
+  pub scan : task ≡ ToScan usual_types (1 ∷ []) orgs_text (archive_name ∷ [])
+      → after ≡ before ++ codes "org,a)/ 0\n"
