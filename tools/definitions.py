@@ -107,6 +107,13 @@ def hash_of(item: Item) -> str:
     return hashlib.sha256(text.encode()).hexdigest()[:HASH_DIGITS]
 
 
+@functools.cache
+def whole_hash_of(item: Item) -> str:
+    """Returns a hash of an item and of all that it reaches."""
+    hashes = [hash_of(each) for each in (item, *reached_from(item)) if isinstance(each, Item)]
+    return hashlib.sha256("\n".join(sorted(hashes)).encode()).hexdigest()[:HASH_DIGITS]
+
+
 def find(module: str, name: str) -> Reference:
     """Returns the item that a module has under a name, by its own text or by an import."""
     crate, _, rest = module.partition(".specs.")

@@ -6,13 +6,14 @@ usage: write_pages.py [--check]
 A part stands between a comment that says what it has and the comment `<!-- end -->`:
 
     <!-- definition CRATE/FILE NAME.. -->   the text of definitions of a file of specs/
-    <!-- call CRATE/FILE NAME -->           the contract of a call in a file of src/, and the definitions that it reaches
+    <!-- call CRATE/FILE NAME -->           the contract of a call or what contracts see of a type, in a file of src/, and the definitions
+                                            that it reaches
     <!-- laws -->                           the same of each law
     <!-- kit -->                            the definitions of the kit that all of these reach
     <!-- counts -->                         how many functions, clauses, tests and edits there are
 
-A definition that a page lists under one call isn't listed under the next. It is listed with a hash of its text and of what its names
-refer to.
+A definition that a page lists under one call isn't listed under the next. It is listed with a hash of its text and of the places of what
+its names refer to. A hash is the first 12 digits of SHA-256.
 
 With --check, the pages stay as they are. Then a line is printed for each part. The exit status is 0, or 1 if a part isn't what this
 script would write.
@@ -25,7 +26,7 @@ from pathlib import Path
 
 sys.path.insert(0, str(Path(__file__).resolve().parents[1] / "tests"))
 
-from definitions import CLAUSE, CRATES, ROOT, Item, hash_of, reached_from, scope_of
+from definitions import CLAUSE, CRATES, ROOT, Item, hash_of, reached_from, scope_of, whole_hash_of
 from program import Report, parser_of
 
 PAGES = ("docs/STATEMENT.md", "docs/TRUST.md")
@@ -68,7 +69,7 @@ class Page:
                 self._of_kit.setdefault(each.module, set()).add(each.name)
         new = [item for item in found if item not in self._listed]
         self._listed.update(new)
-        title = f"`{call.name}`, with the hash `{hash_of(call)}`:\n[{file_of(call)}:{call.line}](../{file_of(call)})"
+        title = f"`{call.name}`, with all that it reaches `{whole_hash_of(call)}`:\n[{file_of(call)}:{call.line}](../{file_of(call)})"
         listed = block("\n".join(row_of(item) for item in new)) if new else ""
         return "\n".join((title, "", block(call.text), f"It reaches {count_of(len(found), len(new))}", "", listed)).rstrip() + "\n"
 
