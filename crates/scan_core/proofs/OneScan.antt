@@ -1,5 +1,5 @@
 -- A scan of known archives writes one text.
-use Rattle.std.proofs.Common.{◌≡◌, ℕ, Bool, List, [], ◌∷◌, Option, arith}
+use Rattle.std.proofs.Common.{◌≡◌, ℕ, Bool, List, ◌∷◌, Option, arith}
 use Rattle.warc_core.specs.Kind.{Kind}
 use Rattle.warc_core.specs.declared.next.TheConstants.{HEAD_LIMIT}
 use Rattle.cdxj_core.specs.Entries.{EntryValue}

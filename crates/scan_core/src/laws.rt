@@ -1,4 +1,7 @@
 //! Laws of the definitions that the contracts cite. These functions do nothing: each law is a contract.
+ghost use Rattle.std.specs.Prelude.{◌≡◌};
+ghost use Rattle.capture_core.specs.CaptureAnswer.{usual_limits};
+ghost use Rattle.warc_core.specs.declared.next.TheConstants.{HEAD_LIMIT};
 ghost use Rattle.scan_core.specs.Laws.{IndexIsMerge, OnlyMemoryIsWanting, ScanIsOne, ScanIsOverIndex};
 
 use index_core::{accepted_archive_is_not_refused, archive_has_one_list_of_captures};
@@ -28,3 +31,12 @@ pub fn scan_writes_one_text()
 {
     archive_has_one_list_of_captures();
 }
+
+/// The limits of archives, as numbers: the bytes of a head, of the line of a capture and of an HTTP head, and the fields of an
+/// HTTP head.
+pub fn limits_of_archives_are_these()
+    ensures head { HEAD_LIMIT ≡ 1048576 }
+    ensures line { usual_limits.line ≡ 16777216 }
+    ensures http_head { usual_limits.http_head ≡ 65536 }
+    ensures http_fields { usual_limits.http_fields ≡ 256 }
+{}
