@@ -69,7 +69,7 @@ class Page:
                 self._of_kit.setdefault(each.module, set()).add(each.name)
         new = [item for item in found if item not in self._listed]
         self._listed.update(new)
-        title = f"`{call.name}`, with all that it reaches `{whole_hash_of(call)}`:\n[{file_of(call)}:{call.line}](../{file_of(call)})"
+        title = f"`{call.name}`, with all that it reaches `{whole_hash_of(call)}`:\n`{file_of(call)}:{call.line}`"
         listed = block("\n".join(row_of(item) for item in new)) if new else ""
         return "\n".join((title, "", block(call.text), f"It reaches {count_of(len(found), len(new))}", "", listed)).rstrip() + "\n"
 
