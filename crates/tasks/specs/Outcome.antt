@@ -1,5 +1,5 @@
 -- How commands end, and the status of the process.
-use Rattle.std.specs.Prelude.{ℕ, List, ⊤, Bool, true, false, nat_lt, if◌then◌else◌, Option, Some, None, Result, Ok, Err}
+use Rattle.std.specs.Prelude.{◌≡◌, ℕ, List, ⊤, Bool, true, false, nat_lt, if◌then◌else◌, Option, Some, None, Result, Ok, Err}
 use Rattle.std.specs.Prelude.{codes}
 use Rattle.warc_core.specs.declared.fault.Cause.{Cause}
 use Rattle.warc_core.specs.declared.fault.Cause.TheVariants as causes
@@ -106,6 +106,11 @@ flushed_outcome (outcomes.Query queries.Memory) false = outcomes.Query queries.M
 flushed_outcome (outcomes.Answer answers.Memory) false = outcomes.Answer answers.Memory
 flushed_outcome (outcomes.Answer answers.Write) false = outcomes.Answer answers.Write
 flushed_outcome outcome false = outcomes.CannotFlush
+
+-- the exit status is 0 only after what was done, with an output that could be flushed
+abbrev pub ZeroIsDone : Type 0
+ZeroIsDone = (outcome : Outcome) (flushed : Bool) → exit_status_of (flushed_outcome outcome flushed) ≡ 0
+    → (outcome ≡ outcomes.Done) × (flushed ≡ true)
 
 -- what is said at a command's end
 abbrev pub message_of : Outcome → Option (List ℕ)

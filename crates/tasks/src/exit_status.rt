@@ -1,6 +1,6 @@
 //! The exit status, and which outcomes end a command.
 ghost use Rattle.std.specs.Prelude.{◌≡◌};
-ghost use Rattle.tasks.specs.Outcome.{exit_status_of, index_status, query_status, answer_status, capture_status, cause_status, is_memory, ends_command, worse_of};
+ghost use Rattle.tasks.specs.Outcome.{exit_status_of, index_status, query_status, answer_status, capture_status, cause_status, is_memory, ends_command, worse_of, ZeroIsDone};
 
 use crate::outcome::Outcome;
 use capture_core::CaptureFault;
@@ -25,6 +25,11 @@ pub fn status(outcome: &Outcome) -> u8
         Outcome::CannotFlush => 3,
     }
 }
+
+/// The exit status of a command is 0 only if it ended as done, and its output could be flushed.
+pub fn status_zero_is_done()
+    ensures { ZeroIsDone }
+{}
 
 fn index_status(fault: IndexFault) -> u8
     ensures { result ≡ index_status fault }

@@ -19,7 +19,7 @@ mod queries;
 mod reports;
 mod scanning;
 
-pub use crate::exit_status::status;
+pub use crate::exit_status::{status, status_zero_is_done};
 pub use crate::opening::{Opener, System};
 pub use crate::outcome::Outcome;
 pub use crate::program::{perform, run};
