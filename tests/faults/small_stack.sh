@@ -1,5 +1,5 @@
 #!/usr/bin/env bash
-# Runs each command in a stack of 128 KiB, of the 8 MiB that Linux usually gives a program.
+# Runs each command in a stack of 256 KiB, of the 8 MiB that Linux usually gives a program.
 #
 # usage: small_stack.sh [PROGRAM]
 #
@@ -8,7 +8,7 @@ set -euo pipefail
 source "$(dirname "$0")/../program.sh"
 read_program "$@"
 
-readonly KIBIBYTES=128
+readonly KIBIBYTES=256
 samples=$root/samples
 work=$(mktemp -d)
 trap 'rm -rf "$work"' EXIT
@@ -23,7 +23,9 @@ nested() { # DEPTH: a line of an index with this many arrays in one another
 runs() { # NAME STATUS ARGUMENT..: whether the command ends with this status in a small stack, as it does in a large one
     local name=$1 wanted=$2 status=0
     shift 2
-    (ulimit -s "$KIBIBYTES" && exec "$program" "$@") > "$work/out" 2>&1 < "$work/queries" || status=$?
+    # The arguments and the environment take of the stack, so there is no environment.
+    # shellcheck disable=SC2016 # bash expands it
+    env -i bash -c 'ulimit -s "$0" && exec "$@"' "$KIBIBYTES" "$program" "$@" > "$work/out" 2>&1 < "$work/queries" || status=$?
     expect "$name" "$wanted" "$status"
 }
 
