@@ -73,7 +73,6 @@ class Page:
         listed = block("\n".join(row_of(item) for item in new)) if new else ""
         return "\n".join((title, "", block(call.text), f"It reaches {count_of(len(found), len(new))}", "", listed)).rstrip() + "\n"
 
-
     def _rows_of_kit(self) -> Iterator[str]:
         for module, names in sorted(self._of_kit.items()):
             yield from textwrap.wrap(f"{module}: {', '.join(sorted(names))}", 100, subsequent_indent="    ", break_on_hyphens=False)
