@@ -21,7 +21,8 @@ pub fn serve_all<R: Runtime + AllocGlobal, F: Opener, I: Input, O: Output>(
     input: &mut I,
     out: &mut O,
 ) -> Outcome
-    ensures answers { OpensFirst (AreUnopenedIndexes (F.index_failed files.now) (texts names.now) result)
+    ensures answers { OpensFirst
+        (AreUnopenedIndexes (F.index_failed files.now) (texts names.now) result)
         (out.new ≡ out.old)
         (AnswersLines (map (F.index_bytes files.now) (texts names.now)) (I.remaining input.old)
         (O.written out.old) (O.written out.new) (out.new ≡ out.old) result) }
@@ -41,7 +42,8 @@ fn serve_opened<R: Runtime + AllocGlobal, S: Source, I: Input, O: Output>(
     input: &mut I,
     out: &mut O,
 ) -> Outcome
-    ensures answers { AnswersLines (map S.text sources.old) (I.remaining input.old) (O.written out.old)
+    ensures answers { AnswersLines (map S.text sources.old) (I.remaining input.old)
+        (O.written out.old)
         (O.written out.new) (out.new ≡ out.old) result }
     ensures writes { CountsWrites result (O.failures out.old) (O.failures out.new) }
 {

@@ -20,7 +20,8 @@ pub fn merge_all<R: Runtime + AllocGlobal, F: Opener, O: Output>(
     names: &[String],
     out: &mut O,
 ) -> Outcome
-    ensures merges { OpensFirst (AreUnopenedIndexes (F.index_failed files.now) (texts names.now) result)
+    ensures merges { OpensFirst
+        (AreUnopenedIndexes (F.index_failed files.now) (texts names.now) result)
         (out.new ≡ out.old)
         (MergesIndexes (map (F.index_bytes files.now) (texts names.now))
         (O.written out.old) (O.written out.new) (out.new ≡ out.old) result) }

@@ -41,7 +41,8 @@ fn open_and_answer<R: Runtime + AllocGlobal, F: Opener, O: Output>(
     names: &[String],
     out: &mut O,
 ) -> Outcome
-    ensures answers { OpensFirst (AreUnopenedIndexes (F.index_failed files.now) (texts names.now) result)
+    ensures answers { OpensFirst
+        (AreUnopenedIndexes (F.index_failed files.now) (texts names.now) result)
         (out.new ≡ out.old)
         (AnswersQuery query.now (map (F.index_bytes files.now) (texts names.now))
         (O.written out.old) (O.written out.new) (out.new ≡ out.old) result) }
@@ -85,7 +86,8 @@ fn open_and_write_pages<R: Runtime + AllocGlobal, F: Opener, O: Output>(
     names: &[String],
     out: &mut O,
 ) -> Outcome
-    ensures answers { OpensFirst (AreUnopenedIndexes (F.index_failed files.now) (texts names.now) result)
+    ensures answers { OpensFirst
+        (AreUnopenedIndexes (F.index_failed files.now) (texts names.now) result)
         (out.new ≡ out.old)
         (AnswersPages query.now sizes.now (map (F.index_bytes files.now) (texts names.now))
         (O.written out.old) (O.written out.new) (out.new ≡ out.old) result) }
