@@ -46,7 +46,8 @@ pub fn merge<S: Source, O: Output>(
         IfOk result (Merged LINE_LIMIT texts (O.written out.old) (O.written out.new))) }
     // What was written of indexes is an index.
     ensures index { OverTexts (map S.text sources.old) (λ texts. IfOk result (λ _.
-        (lines : List Member) × WroteIndex LINE_LIMIT lines (O.written out.old) (O.written out.new))) }
+        (lines : List Member)
+        × WroteIndex LINE_LIMIT lines (O.written out.old) (O.written out.new))) }
     ensures part { OverIndexes LINE_LIMIT (map S.text sources.old) (λ texts indexes.
         AppendsPrefix (O.written out.old) (O.written out.new) (lines_text (collection indexes))) }
     // Each byte of a source is read at most once.

@@ -100,7 +100,8 @@ fn reply_to_text<S: Source, O: Output>(
     ensures lines { WritesSome result (O.written out.old) (O.written out.new)
         (IsTextReply (map S.text sources.old) text.now) }
     ensures bytes { OverIndexes LINE_LIMIT (map S.text sources.old) (λ texts indexes.
-        AllGaveAtMost S.extent S.gave (asked_most (query_of QUERY_LIMIT text.now) (collection indexes)) texts
+        AllGaveAtMost S.extent S.gave
+        (asked_most (query_of QUERY_LIMIT text.now) (collection indexes)) texts
         indexes sources.old sources.new) }
 {
     match Query::read(alloc, text) {
