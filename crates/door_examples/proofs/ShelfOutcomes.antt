@@ -1,16 +1,6 @@
 -- How a command over one file ends as done.
 use native.Mathlib.Omega.{arith}
-use Rattle.std.proofs.Common.{◌≡◌, ℕ, List, Bool, true, false, Option, Result, Ok, Err, MatchBool, refl, sym, nat_lt}
-use Rattle.capture_core.specs.declared.fault.CaptureFault.{CaptureFault}
-use Rattle.capture_core.specs.declared.fault.CaptureFault.TheVariants as captures
-use Rattle.index_core.specs.declared.fault.IndexFault.{IndexFault}
-use Rattle.index_core.specs.declared.fault.IndexFault.TheVariants as faults
-use Rattle.query_core.specs.declared.fault.AnswerFault.{AnswerFault}
-use Rattle.query_core.specs.declared.fault.AnswerFault.TheVariants as answers
-use Rattle.query_text.specs.declared.fault.QueryFault.{QueryFault}
-use Rattle.query_text.specs.declared.fault.QueryFault.TheVariants as queries
-use Rattle.warc_core.specs.declared.fault.Cause.{Cause}
-use Rattle.warc_core.specs.declared.fault.Cause.TheVariants as causes
+use Rattle.std.proofs.Common.{◌≡◌, ℕ, List, Bool, true, false, Option, Ok, Err, MatchBool, refl, sym}
 use Rattle.tasks.specs.declared.outcome.Outcome.{Outcome}
 use Rattle.tasks.specs.declared.outcome.Outcome.TheVariants as outcomes
 use Rattle.index_core.specs.Indexing.{Held}

@@ -1,8 +1,7 @@
 -- What the tasks on indexes write of an index in memory, and a scan of an archive in memory.
 use native.Mathlib.Omega.{arith}
 use lib.Utf8.{encode}
-use Rattle.std.proofs.Common.{◌≡◌, ◌∙◌, ℕ, List, [], ◌∷◌, ◌++◌, Option, Some, None, Result, Ok, Err, MatchResult, IfOk, codes, refl, sym, ap, subst, inl, inr}
-use Rattle.std.proofs.lemmas.Bool.{leb-true}
+use Rattle.std.proofs.Common.{◌≡◌, ◌∙◌, ℕ, List, [], ◌∷◌, ◌++◌, Some, None, Result, Ok, Err, MatchResult, IfOk, codes, refl, sym, ap, subst, inl, inr}
 use Rattle.std.specs.Fmt.{digits}
 use Rattle.std.specs.List.{AllZip}
 use Rattle.std.specs.Str.{is_utf8, chars}
@@ -31,7 +30,6 @@ use Rattle.scan_core.specs.Laws.{ScanIsOne}
 use Rattle.scan_core.specs.Scanning.{Scanned}
 use Rattle.capture_core.specs.Types.{includes, usual_types}
 use Rattle.command_line.specs.Commands.{ToCheck, ToMerge, ToPages, ToQuery, ToScan, ToServe}
-use Rattle.tasks.specs.declared.outcome.Outcome.{Outcome}
 use Rattle.tasks.specs.declared.outcome.Outcome.TheVariants as outcomes
 use Rattle.tasks.specs.Checks.{ChecksOne, WritesCount, checked_line}
 use Rattle.tasks.specs.Performing.{Performs}

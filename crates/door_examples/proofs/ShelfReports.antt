@@ -1,6 +1,6 @@
 -- What the tasks on archives write of an archive in memory.
 use native.Mathlib.Omega.{arith}
-use Rattle.std.proofs.Common.{◌≡◌, ◌∙◌, ℕ, List, [], ◌∷◌, ◌++◌, Option, Some, None, Result, Ok, Err, Bool, true, false, MatchBool, codes, refl, sym, ap, subst, inl, inr, append-nil}
+use Rattle.std.proofs.Common.{◌≡◌, ◌∙◌, ℕ, List, [], ◌∷◌, ◌++◌, Option, Some, None, Result, Ok, Err, MatchBool, codes, refl, sym, ap, subst, inl, inr, append-nil}
 use Rattle.std.specs.Fmt.{digits}
 use Rattle.std.specs.Io.KnownBytes.{Appends}
 use Rattle.json.specs.Print.{escape_byte}
@@ -9,24 +9,21 @@ use Rattle.warc_core.specs.HeadView.{HeadView}
 use Rattle.warc_core.specs.Laws.{OneReading}
 use Rattle.warc_core.specs.Walk.{AreRecords}
 use Rattle.capture_core.specs.Types.{includes, usual_types}
-use Rattle.cdxj_core.specs.Entries.{EntryValue}
 use Rattle.index_core.specs.Adding.{with_archive}
-use Rattle.index_core.specs.Fetching.{StandsIn}
 use Rattle.index_core.specs.Indexing.{Held, index_text}
 use Rattle.index_core.specs.Laws.{OneIndexed, OneStands}
 use Rattle.index_core.specs.Limits.{HEAD_LIMIT}
 use Rattle.index_core.specs.declared.fault.IndexFault.{IndexFault}
-use Rattle.index_core.specs.declared.verified.Verified.{Verified}
-use Rattle.index_core.specs.Listing.{Lists, listing_line}
+use Rattle.index_core.specs.Listing.{listing_line}
 use Rattle.index_core.specs.Report.{report_lines}
-use Rattle.index_core.specs.Verifying.{Verifies, verification_line}
+use Rattle.index_core.specs.Verifying.{verification_line}
 use Rattle.command_line.specs.Commands.{ToGet, ToIndex, ToList, ToVerify}
 use Rattle.tasks.specs.declared.outcome.Outcome.{Outcome}
 use Rattle.tasks.specs.declared.outcome.Outcome.TheVariants as outcomes
 use Rattle.tasks.specs.declared.reports.ArchiveReport.{ArchiveReport}
 use Rattle.tasks.specs.declared.reports.ArchiveReport.TheVariants as reports
 use Rattle.tasks.specs.Fetching.{FetchesRecord}
-use Rattle.tasks.specs.Indexing.{AddsOne, AddsArchive, WritesIndex, nothing_of}
+use Rattle.tasks.specs.Indexing.{AddsOne, WritesIndex, nothing_of}
 use Rattle.tasks.specs.Outcome.{ends_command, outcome_of, verification_outcome}
 use Rattle.tasks.specs.Performing.{Performs}
 use Rattle.tasks.specs.Reports.{ReportsOn, ReportsOnOne, WritesReport}
