@@ -4,3 +4,4 @@ pub mod BufferLemmas
 pub mod LineFeeds
 pub mod InputLineLemmas
 pub mod Takings
+pub mod PositionLemmas

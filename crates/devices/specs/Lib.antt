@@ -2,6 +2,7 @@ pub mod Device
 pub mod Writing
 pub mod Gathered
 pub mod FromStd
+pub mod Positions
 pub mod Files
 pub mod Fused
 pub mod LineCuts
