@@ -3,7 +3,7 @@ mod faults;
 
 use crate::reports::settled;
 use capture_core::Types;
-use devices::{DeviceFault, FromFile, FromRead, Fuse, Gather, Input, Slice};
+use devices::{DeviceFault, FromFile, FromRead, Fuse, Gather, Input, Slice, SystemFile};
 use fixtures::{Refused, joined, repeated};
 use index_core::{Indexer, get, list};
 use std::alloc::{AllocError, Global};
@@ -183,9 +183,9 @@ fn written<R: Runtime>(
     rt: &R,
     name: &str,
     archive: &[u8],
-) -> Result<FromFile<<R as Files>::File>, Fail> {
+) -> Result<FromFile<SystemFile<<R as Files>::File>>, Fail> {
     fs::write(rt, name, archive)?;
-    Ok(FromFile::new(File::open(rt, name)?)?)
+    Ok(FromFile::new(SystemFile(File::open(rt, name)?))?)
 }
 
 /// Returns `true` if the record at this offset is written.

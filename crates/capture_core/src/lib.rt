@@ -32,5 +32,6 @@ pub use crate::types::Types;
 pub use block_digests::{Verdict, base32, block_digest};
 pub use cdxj_core::{Entry, EntryRef, LINE_LIMIT, LineFault, write_line};
 pub use warc_core::{
-    Cause, DeviceFault, Fault, FromFile, FromRead, HEAD_LIMIT, Head, Input, Kind, Reader, Slice,
+    Cause, DeviceFault, Fault, FromFile, FromRead, HEAD_LIMIT, Head, Input, Kind, Positioned,
+    Reader, Slice, SystemFile,
 };

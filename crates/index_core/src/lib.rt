@@ -34,5 +34,5 @@ pub use capture_core::{CaptureFault, Types, Verdict};
 pub use cdxj_core::LINE_LIMIT;
 pub use warc_core::{
     Cause, DeviceFault, Fault, FromFile, FromRead, FromWrite, Gather, HEAD_LIMIT, Input, Output,
-    Slice,
+    Positioned, Slice, SystemFile,
 };

@@ -36,7 +36,8 @@ pub use crate::report::Report;
 pub use crate::serving::serve;
 pub use cdxj_core::{Field, LINE_LIMIT, Line, LineFault, LineRef, Place};
 pub use devices::{
-    DeviceFault, FromRead, FromWrite, Gather, INPUT_LIMIT, Input, Output, Prompt, Slice,
+    DeviceFault, FromRead, FromWrite, Gather, INPUT_LIMIT, Input, Output, Positioned, Prompt, Slice,
+    SystemFile,
 };
 pub use page_core::{field_name, page_is_its_pieces, pages_join};
 pub use page_writers::are_sizes;

@@ -1,6 +1,6 @@
 //! Small indexes, and sources over them.
 use fixtures::{FIRST_OF_2016, Rows, index_text};
-use query_core::{AnswerFault, FileSource, SliceSource};
+use query_core::{AnswerFault, FileSource, SliceSource, SystemFile};
 use std::alloc::{AllocError, Global};
 use std::fs::{self, File, Files};
 use std::rt::Runtime;
@@ -53,12 +53,13 @@ pub fn empty_sources(alloc: Global, count: usize) -> Result<Vec<SliceSource<'sta
 pub fn files<R: Runtime + AllocGlobal>(
     rt: &R,
     texts: &[Vec<u8>],
-) -> Result<Vec<FileSource<<R as Files>::File>>, Fail> {
+) -> Result<Vec<FileSource<SystemFile<<R as Files>::File>>>, Fail> {
     let mut sources = Vec::new(rt.alloc());
     for (number, text) in texts.iter().enumerate() {
         let name = format!(in rt.alloc(); "{number}.cdxj")?;
         fs::write(rt, name.as_str(), text.as_slice())?;
-        sources.push(FileSource::new(File::open(rt, name.as_str())?)?)?;
+        let file = SystemFile(File::open(rt, name.as_str())?);
+        sources.push(FileSource::new(file)?)?;
     }
     Ok(sources)
 }

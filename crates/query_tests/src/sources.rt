@@ -4,10 +4,11 @@ use fixtures::{
     FALLING, FIRST_OF_2016, LETTERS, Refused, Row, TORN, UNENDED_LETTERS, cut, falling_lines,
     index_text, joined, keyed_lines, padded,
 };
-use query_core::{AnswerFault, FileSource, SliceSource, Source, check};
+use query_core::{AnswerFault, FileSource, SliceSource, Source, SystemFile, check};
 use source_core::{SearchFault, search};
 use std::alloc::Global;
 use std::fs::{self, File, Files};
+use std::io::Cursor;
 use std::rt::Runtime;
 use std::test::Fail;
 
@@ -103,9 +104,9 @@ fn written<R: Runtime>(
     rt: &R,
     name: &str,
     text: &[u8],
-) -> Result<FileSource<<R as Files>::File>, Fail> {
+) -> Result<FileSource<SystemFile<<R as Files>::File>>, Fail> {
     fs::write(rt, name, text)?;
-    Ok(FileSource::new(File::open(rt, name)?)?)
+    Ok(FileSource::new(SystemFile(File::open(rt, name)?))?)
 }
 
 /// Returns `true` if `count` bytes are read at this offset into a piece of 145 bytes, which then begins with this byte.
@@ -128,8 +129,10 @@ const PLACES: &[(u64, usize, u8)] = &[
 #[test]
 fn a_file_is_read_at_any_offset(rt: HostRuntime) -> Result<(), Fail> {
     let mut source = written(&rt, "offsets.cdxj", UNENDED_LETTERS)?;
+    let mut in_memory = FileSource::new(Cursor::new(UNENDED_LETTERS))?;
     for (at, count, first) in PLACES {
         assert!(rt; gives(&mut source, *at, *count, *first), "{at}");
+        assert!(rt; gives(&mut in_memory, *at, *count, *first), "{at}");
     }
     Ok(())
 }

@@ -1,7 +1,7 @@
 //! Inputs and outputs: what no clause states, and values worked out by hand.
 use devices::{
     FromFile, FromRead, FromWrite, Fuse, Gather, Input, InputLineFault, InputLines, Output, Slice,
-    put,
+    SystemFile, put,
 };
 use either::Either;
 use fixtures::{Refused, cut, repeated};
@@ -176,10 +176,10 @@ fn a_fuse_fails_at_a_skip(rt: HostRuntime) {
 }
 
 /// Writes the digits 0 to 9, 2,064 times, and returns the file.
-fn digits<R: Runtime + AllocGlobal>(rt: &R) -> Result<FromFile<<R as Files>::File>, Fail> {
+fn digits<R: Runtime + AllocGlobal>(rt: &R) -> Result<FromFile<SystemFile<<R as Files>::File>>, Fail> {
     let text = repeated(rt.alloc(), b"0123456789", 2_064)?;
     fs::write(rt, "digits.warc", text.as_slice())?;
-    Ok(FromFile::new(File::open(rt, "digits.warc")?)?)
+    Ok(FromFile::new(SystemFile(File::open(rt, "digits.warc")?))?)
 }
 
 /// Fewer than 8,192 bytes aren't skipped, and none past the size that the file had when it was opened.

@@ -22,5 +22,6 @@ pub use query_core::{
     AnswerFault, QUERY_LIMIT, QueryFault, SOURCES_LIMIT, are_sizes, resume_keys_continue,
 };
 pub use warc_core::{
-    Cause, DeviceFault, Fault, FromFile, FromRead, FromWrite, Gather, Input, Output, Slice,
+    Cause, DeviceFault, Fault, FromFile, FromRead, FromWrite, Gather, Input, Output, Positioned,
+    Slice, SystemFile,
 };

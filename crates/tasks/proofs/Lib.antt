@@ -11,3 +11,4 @@ mod StatusLemmas
 mod WordsLemmas
 pub mod WriteCounts
 pub mod FailedNames
+pub mod UnchangedLemmas

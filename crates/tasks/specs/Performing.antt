@@ -1,9 +1,10 @@
 -- What the program does for each task.
-use Rattle.std.specs.Prelude.{ℕ, List, Option, map}
+use Rattle.std.specs.Prelude.{⊤, ℕ, List, Option, None, map}
 use Rattle.capture_core.specs.Types.{includes}
 use Rattle.command_line.specs.Commands.{Meaning, ToList, ToVerify, ToIndex, ToMerge, ToCheck, ToQuery, ToPages, ToServe}
 use Rattle.command_line.specs.Commands.{ToGet, ToScan}
 use Rattle.tasks.specs.declared.outcome.Outcome.{Outcome}
+use Rattle.tasks.specs.declared.outcome.Outcome.TheVariants as outcomes
 use Rattle.tasks.specs.declared.reports.ArchiveReport.TheVariants as reports
 use Rattle.tasks.specs.Checks.{ChecksIndexes}
 use Rattle.tasks.specs.Fetching.{WritesRecord}
@@ -49,3 +50,19 @@ module _ (files : Openings) (before after : Option (List ℕ)) (unchanged : Type
       (WritesRecord len offset (files.archive_of name) before after unchanged outcome)
   Performs (ToScan types sizes text names) =
       ScansNamed files.archive_of files.ArchiveFailed (includes types) sizes text names before after unchanged outcome
+
+-- the files of the system, of which nothing is told
+abbrev pub system_files : Openings
+system_files = record {
+    archive_of = λ _. None;
+    index_of = λ _. None;
+    ArchiveFailed = λ _. ⊤;
+    IndexFailed = λ _. ⊤;
+    input = None;
+  }
+
+-- a task ended as done over the files of the system: what it then writes was written to an output
+pub record IsDone (task : Meaning) : Type 0 where
+  pub before : Option (List ℕ)
+  pub after : Option (List ℕ)
+  pub performs : Performs system_files before after ⊤ outcomes.Done task

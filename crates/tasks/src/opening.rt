@@ -11,7 +11,7 @@ use std::alloc::Global;
 use std::fs::{File, Files};
 use std::io::{self, ErrorKind};
 use std::rt::Runtime;
-use warc_core::{FromFile, FromRead, Input};
+use warc_core::{FromFile, FromRead, Input, SystemFile};
 
 /// What opens archives and indexes by name. The contracts of the commands are stated over the bytes that it opens.
 pub trait Opener {
@@ -71,9 +71,9 @@ impl<'a, R> System<'a, R> {
 }
 
 impl<R: Runtime + AllocGlobal> Opener for System<'_, R> {
-    type Archive = Either<FromRead<<R as io::Input>::Reader>, FromFile<<R as Files>::File>>;
+    type Archive = Either<FromRead<<R as io::Input>::Reader>, FromFile<SystemFile<<R as Files>::File>>>;
 
-    type Index = FileSource<<R as Files>::File>;
+    type Index = FileSource<SystemFile<<R as Files>::File>>;
 
     type Lines = FromRead<<R as io::Input>::Reader>;
 
@@ -91,14 +91,14 @@ impl<R: Runtime + AllocGlobal> Opener for System<'_, R> {
         if name == "-" {
             return Ok(Either::Left(FromRead::new(self.rt.reader())));
         }
-        match FromFile::new(open_file(self.rt, name)?) {
+        match FromFile::new(SystemFile(open_file(self.rt, name)?)) {
             Ok(file) => Ok(Either::Right(file)),
             Err(_fault) => Err(cannot_open(self.rt, name)),
         }
     }
 
     fn open_index(&self, name: &str) -> Result<Self::Index, Outcome> {
-        match FileSource::new(open_file(self.rt, name)?) {
+        match FileSource::new(SystemFile(open_file(self.rt, name)?)) {
             Ok(source) => Ok(source),
             Err(_fault) => {
                 let _ = eprintln!(self.rt; "warcdx: {name}: Read");

@@ -3,12 +3,13 @@ ghost use Rattle.std.specs.Prelude.{◌≡◌};
 ghost use Rattle.command_line.specs.Commands.{asked, view};
 ghost use Rattle.command_line.specs.Words.{texts};
 ghost use Rattle.tasks.specs.Outcome.{IsHelpOutcome};
-ghost use Rattle.tasks.specs.Performing.{Performs};
-ghost use Rattle.tasks.specs.Words.{EndsWords};
+ghost use Rattle.tasks.specs.Performing.{IsDone, Performs};
+ghost use Rattle.tasks.specs.Words.{EndsAsDone, EndsWords};
 ghost use Rattle.tasks.specs.Writes.{CountsWrites};
 
 use crate::checks::check_all;
 use crate::conversing::serve_all;
+use crate::exit_status::status;
 use crate::fetching::fetch;
 use crate::indexing::index_all;
 use crate::merging::merge_all;
@@ -33,8 +34,18 @@ const OUTPUT_ROOM: usize = 65_536;
 // The bytes of an argument that are looked at: Linux has no longer file names.
 const ARGUMENT_ROOM: usize = 4_096;
 
+/// Runs the program, and returns its exit status. It is 0 only if the task of the arguments ended as done, or if they
+/// asked for help.
+pub fn run<R: Runtime + AllocGlobal>(rt: &R) -> u8
+    ensures { result ≡ 0 → EndsAsDone }
+{
+    status(&run_arguments(rt))
+}
+
 /// Runs the program, and returns its outcome.
-pub fn run<R: Runtime + AllocGlobal>(rt: &R) -> Outcome {
+fn run_arguments<R: Runtime + AllocGlobal>(rt: &R) -> Outcome
+    ensures { result ≡ Outcome.Done → EndsAsDone }
+{
     match words(rt) {
         Ok(words) => run_words(rt, &words),
         Err(error) if error.kind() == ErrorKind::OutOfMemory => say_outcome(rt, MEMORY),
@@ -109,7 +120,9 @@ fn help<R: Runtime>(rt: &R, text: &str) -> Outcome
 }
 
 /// Performs the task. Its output is standard output.
-fn run_task<R: Runtime + AllocGlobal>(rt: &R, task: &Task) -> Outcome {
+fn run_task<R: Runtime + AllocGlobal>(rt: &R, task: &Task) -> Outcome
+    ensures { result ≡ Outcome.Done → IsDone (view task.now) }
+{
     let Ok(mut writer) = BufWriter::with_capacity(rt.alloc(), OUTPUT_ROOM, io::writer(rt)) else {
         return say_outcome(rt, MEMORY);
     };

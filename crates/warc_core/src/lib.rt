@@ -22,6 +22,7 @@ pub use crate::next::HEAD_LIMIT;
 pub use crate::phase::Phase;
 pub use crate::reader::Reader;
 pub use devices::{
-    DeviceFault, FromFile, FromRead, FromWrite, Fuse, Gather, Input, Output, Slice, put,
+    DeviceFault, FromFile, FromRead, FromWrite, Fuse, Gather, Input, Output, Positioned, Slice,
+    SystemFile, put,
 };
 pub use warc_head::Kind;

@@ -4,8 +4,8 @@
 #![tactic(auto)]
 
 use std::process::ExitCode;
-use tasks::{run, status};
+use tasks::run;
 
 fn main(rt: HostRuntime) -> ExitCode {
-    ExitCode::from(status(&run(&rt)))
+    ExitCode::from(run(&rt))
 }

@@ -2,7 +2,7 @@
 use devices::{Gather, Slice};
 use fixtures::{Refused, TORN, cut, falling_lines, padded};
 use query_core::{
-    AnswerFault, FileSource, Query, SliceSource, Source, answer, check, merge, serve,
+    AnswerFault, FileSource, Query, SliceSource, Source, SystemFile, answer, check, merge, serve,
 };
 use std::alloc::{AllocError, Global};
 use std::fs::{self, File};
@@ -314,8 +314,8 @@ fn each_byte_has_its_reply(rt: HostRuntime) -> Result<(), Refused> {
 fn a_file_that_was_cut_cannot_be_read(rt: HostRuntime) -> Result<(), Fail> {
     let read = Err(AnswerFault::Read(0));
     fs::write(&rt, "cut.cdxj", BAD_LINES[0])?;
-    let to_merge = FileSource::new(File::open(&rt, "cut.cdxj")?)?;
-    let to_ask = FileSource::new(File::open(&rt, "cut.cdxj")?)?;
+    let to_merge = FileSource::new(SystemFile(File::open(&rt, "cut.cdxj")?))?;
+    let to_ask = FileSource::new(SystemFile(File::open(&rt, "cut.cdxj")?))?;
     fs::write(&rt, "cut.cdxj", cut(BAD_LINES[0], 60))?;
     assert!(rt; is_merged(rt.alloc(), &mut [to_merge], read, 0)?);
     assert!(rt; answers_empty(rt.alloc(), &mut [to_ask], ALL, read)?);
