@@ -32,7 +32,6 @@ LAST_LINES = 30
 
 # The seconds that each crate took alone, on one machine. They only decide which crates come first.
 SECONDS = {
-    "block_digests": 33,
     "capture_core": 99,
     "cdxj_core": 81,
     "cdxj_keys": 49,
@@ -50,7 +49,7 @@ SECONDS = {
     "scan_core": 146,
     "source_core": 104,
     "tasks": 440,
-    "warc_core": 67,
+    "warc_core": 90,
     "warc_head": 69,
 }
 OTHER_SECONDS = 80  # of a crate that isn't among these

@@ -15,13 +15,13 @@ use Rattle.warc_core.specs.Record.{after_record}
 use Rattle.cdxj_core.specs.Entries.{EntryValue}
 use Rattle.capture_core.specs.declared.fault.CaptureFault.{CaptureFault}
 use Rattle.capture_core.specs.declared.fault.CaptureFault.TheVariants.{Archive, LineTooLong, KeyTooLong}
-use Rattle.block_digests.specs.Base32.{base32_of}
-use Rattle.block_digests.specs.RestDigest.{digest_of_rest}
+use Rattle.warc_core.specs.Base32.{base32_of}
+use Rattle.warc_core.specs.RestDigest.{digest_of_rest}
 use Rattle.capture_core.specs.Capture.{ResponseValue, IsCaptureUnder, entry_of, digest_of, settled_digest}
 use Rattle.capture_core.specs.RecordReading.{reading_of, IsCaptureFaultAt, ReadsRest}
 use Rattle.capture_core.specs.CaptureAnswer.{Limits, IsCaptureOf, AnswersEntry, PartsBlock}
-use Rattle.block_digests.proofs.DigestLemmas.{take_past}
-use Rattle.block_digests.proofs.VerdictLemmas.{digest-then, digest-found}
+use Rattle.warc_core.proofs.DigestLemmas.{take_past}
+use Rattle.warc_core.proofs.VerdictLemmas.{digest-then, digest-found}
 
 -- ---- how the record was read
 

@@ -3,7 +3,7 @@ use Rattle.std.proofs.lemmas.Grind.{common_steps}
 use Rattle.std.proofs.Common.{◌≡◌, ℕ, List, length, length-append, arith, Some, None}
 use Rattle.httparse.specs.Grammar.{print_response}
 use Rattle.httparse.proofs.GrammarLemmas.{response_unique}
-use Rattle.block_digests.proofs.DigestLemmas.{take_past}
+use Rattle.warc_core.proofs.DigestLemmas.{take_past}
 use Rattle.capture_core.specs.HttpHead.{FrontDecides, HasNoHead, OneHead}
 
 pub one_head : OneHead

@@ -10,7 +10,7 @@ use Rattle.warc_core.specs.HeadView.{HeadView, record_length}
 use Rattle.cdxj_core.specs.Entries.{EntryValue}
 use Rattle.cdxj_keys.specs.Key.{key_of}
 use Rattle.cdxj_core.specs.Texts.{missing, or_missing}
-use Rattle.block_digests.specs.Base32.{base32_of}
+use Rattle.warc_core.specs.Base32.{base32_of}
 use Rattle.capture_core.specs.HttpHead.{IsHeadOf, field_of}
 use Rattle.capture_core.specs.Indexed.{field, url_of, is_marked, may_have_head, given_digest}
 use Rattle.capture_core.specs.FieldValue.{media_type}

@@ -12,9 +12,9 @@ pub mod CaptureSteps
 pub mod Spelling
 pub mod Limits
 -- what contracts see of digests
-pub use Rattle.block_digests.specs.Base32
-pub use Rattle.block_digests.specs.BlockDigest
-pub use Rattle.block_digests.specs.RestDigest
+pub use Rattle.warc_core.specs.Base32
+pub use Rattle.warc_core.specs.BlockDigest
+pub use Rattle.warc_core.specs.RestDigest
 -- what contracts see of records
 pub use Rattle.warc_core.specs.Answers
 pub use Rattle.warc_core.specs.Calls
@@ -30,3 +30,4 @@ pub use Rattle.cdxj_core.specs.EntryView
 pub use Rattle.warc_core.specs.Device
 pub use Rattle.warc_core.specs.FromStd
 pub use Rattle.warc_core.specs.Files
+pub use Rattle.warc_core.specs.Positions

@@ -2,8 +2,8 @@
 ghost use Rattle.std.specs.Prelude.{◌≡◌, ◌==◌, ◌<◌, length, position, MatchOption, IfSome, Some, None};
 ghost use Rattle.capture_core.specs.FieldValue.{non_empty, without_brackets, before_semicolon, media_type, without_sha1};
 
-use block_digests::is_sha1;
 use memchr::memchr_iter;
+use warc_core::is_sha1;
 use warc_head::trim;
 
 /// Returns a value that isn't empty.

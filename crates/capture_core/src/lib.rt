@@ -29,9 +29,8 @@ pub use crate::held_line::HeldLine;
 pub use crate::laws::{block_has_one_head, record_has_one_capture};
 pub use crate::record_capture::{Front, capture, held_capture};
 pub use crate::types::Types;
-pub use block_digests::{Verdict, base32, block_digest};
 pub use cdxj_core::{Entry, EntryRef, LINE_LIMIT, LineFault, write_line};
 pub use warc_core::{
     Cause, DeviceFault, Fault, FromFile, FromRead, HEAD_LIMIT, Head, Input, Kind, Positioned,
-    Reader, Slice, SystemFile,
+    Reader, Slice, SystemFile, Verdict, base32, block_digest,
 };

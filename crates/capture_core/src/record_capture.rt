@@ -21,10 +21,9 @@ use crate::payload::{Parted, front_length, part_decided};
 use crate::payload_digest::settled_digest;
 use crate::target::url;
 use crate::types::Types;
-use block_digests::{base32, digest_rest};
 use cdxj_core::{Entry, LINE_LIMIT};
 use std::alloc::{AllocError, Global};
-use warc_core::{Fault, Head, Input, Reader};
+use warc_core::{Fault, Head, Input, Reader, base32, digest_rest};
 
 /// The number of bytes in the first step: after a skip, one call of the reader returns no more.
 const FIRST_STEP: usize = 2048;

@@ -14,7 +14,7 @@ use Rattle.warc_core.proofs.ReadingLemmas.{front_of}
 use Rattle.warc_core.proofs.WalkLemmas.{Walks-more, none_at_end, record-stopped, record-end, record-unclosed}
 use Rattle.warc_core.proofs.WalkLemmas.{record-whole}
 use Rattle.capture_core.specs.declared.fault.CaptureFault.TheVariants.{Archive}
-use Rattle.block_digests.proofs.DigestLemmas.{take_past}
+use Rattle.warc_core.proofs.DigestLemmas.{take_past}
 use Rattle.index_core.specs.declared.fault.IndexFault.{IndexFault}
 use Rattle.index_core.specs.declared.fault.IndexFault.TheVariants as faults
 use Rattle.index_core.specs.Fetching.{IsInRecord, IsBehindRecords, StopsAt, most_written, most_written_at, Fetches}

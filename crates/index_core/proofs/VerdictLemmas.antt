@@ -9,7 +9,7 @@ use Rattle.warc_core.specs.Next.{next_at}
 use Rattle.warc_core.specs.Reading.{Reads}
 use Rattle.warc_core.specs.Record.{after_record}
 use Rattle.warc_core.proofs.ArchiveLemmas.{walk-front, next-spelled}
-use Rattle.block_digests.specs.declared.verdict.Verdict.{Verdict}
+use Rattle.warc_core.specs.declared.verdict.Verdict.{Verdict}
 use Rattle.capture_core.specs.BlockDigest.{judge_record}
 use Rattle.index_core.specs.Verifying.{verdict_on, verdict_in, verdict_line, verification_line, differing_by, Judged}
 use Rattle.index_core.specs.Verifying.{verified_in, verified_of}

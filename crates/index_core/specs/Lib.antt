@@ -36,6 +36,7 @@ pub use Rattle.cdxj_places.specs.Rising
 -- what contracts see of devices
 pub use Rattle.devices.specs.Device
 pub use Rattle.devices.specs.Files
+pub use Rattle.devices.specs.Positions
 pub use Rattle.devices.specs.FromStd
 pub use Rattle.devices.specs.Gathered
 pub use Rattle.devices.specs.Writing

@@ -4,8 +4,8 @@ use Rattle.std.specs.List.{sum_by}
 use Rattle.warc_core.specs.Fields.{value_of}
 use Rattle.warc_core.specs.declared.fault.Fault.{Fault}
 use Rattle.warc_core.specs.HeadView.{HeadView, block_at}
-use Rattle.block_digests.specs.declared.verdict.Verdict.{Verdict}
-use Rattle.block_digests.specs.declared.verdict.Verdict.TheVariants as verdicts
+use Rattle.warc_core.specs.declared.verdict.Verdict.{Verdict}
+use Rattle.warc_core.specs.declared.verdict.Verdict.TheVariants as verdicts
 use Rattle.capture_core.specs.BlockDigest.{verdict_of, verdict_name}
 use Rattle.index_core.specs.declared.fault.IndexFault.{IndexFault}
 use Rattle.index_core.specs.declared.verified.Verified.{Verified}

@@ -2,7 +2,7 @@
 ghost use Rattle.std.specs.Prelude.{◌≡◌, ℕ, List, Some, Ok, IfOk, IfSome, MatchResult};
 ghost use Rattle.std.specs.Io.KnownBytes.{prepend_known};
 ghost use Rattle.warc_core.specs.HeadView.{HeadView, RecordBeginsAt, block_at};
-ghost use Rattle.block_digests.specs.declared.verdict.Verdict.{Verdict};
+ghost use Rattle.warc_core.specs.declared.verdict.Verdict.{Verdict};
 ghost use Rattle.warc_core.specs.Answers.{causes_of, CountsRead};
 ghost use Rattle.warc_core.specs.Reading.{Reads};
 ghost use Rattle.warc_core.specs.ReaderView.{FailedBy};

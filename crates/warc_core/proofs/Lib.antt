@@ -13,3 +13,6 @@ pub mod FillLemmas
 pub mod HeadTextLemmas
 pub mod DamageLemmas
 pub mod LimitLemmas
+pub mod Bits
+pub mod DigestLemmas
+pub mod VerdictLemmas

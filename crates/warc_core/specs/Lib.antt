@@ -12,6 +12,9 @@ pub mod Calls
 pub mod Walk
 pub mod RecordText
 pub mod Laws
+pub mod Base32
+pub mod BlockDigest
+pub mod RestDigest
 -- what contracts see of heads: their fields, and what these say
 pub use Rattle.warc_head.specs.Fields
 pub use Rattle.warc_head.specs.Folding
@@ -24,3 +27,4 @@ pub use Rattle.devices.specs.Gathered
 pub use Rattle.devices.specs.FromStd
 pub use Rattle.devices.specs.Fused
 pub use Rattle.devices.specs.Files
+pub use Rattle.devices.specs.Positions

@@ -15,7 +15,7 @@ pub enum Verdict {
 }
 
 impl Verdict {
-    ghost use Rattle.block_digests.specs.BlockDigest.{verdict_name};
+    ghost use Rattle.warc_core.specs.BlockDigest.{verdict_name};
 
     /// Returns the verdict as listings print it: `same`, `differs`, `not-sha1` or `absent`.
     pub fn name(self) -> &'static str

@@ -1,6 +1,6 @@
 use Rattle.std.proofs.Common.{arith}
-use Rattle.block_digests.proofs.VerdictLemmas.{judge-passed, judge-stopped}
-use Rattle.block_digests.proofs.block_check.pass.Goals as goal
+use Rattle.warc_core.proofs.VerdictLemmas.{judge-passed, judge-stopped}
+use Rattle.warc_core.proofs.block_check.pass.Goals as goal
 
 pub returns-in_err-finish : goal.returns-in_err-finish
 returns-in_err-finish g c left len e =

@@ -3,10 +3,12 @@ ghost use Rattle.std.specs.Prelude.{◌≡◌, ℕ};
 ghost use Rattle.warc_core.specs.declared.phase.Phase.TheVariants.{Open};
 ghost use Rattle.warc_core.specs.ReaderView.{HasLeft, state_of};
 ghost use Rattle.warc_core.specs.Calls.{ReadsTo};
-ghost use Rattle.block_digests.specs.RestDigest.{digest_of_rest};
+ghost use Rattle.warc_core.specs.RestDigest.{digest_of_rest};
 
 use sha1::Sha1;
-use warc_core::{Fault, Input, Reader};
+use crate::fault::Fault;
+use crate::reader::Reader;
+use devices::Input;
 
 /// Returns the SHA-1 (FIPS 180-4) of `start` followed by the rest of the open record's block. It takes no memory.
 ///

@@ -8,10 +8,10 @@ use Rattle.warc_core.specs.Reading.{Reads, IsFoundIn}
 use Rattle.warc_core.specs.Record.{after_record}
 use Rattle.warc_core.specs.ReaderView.{ReaderView, state_of}
 use Rattle.warc_core.proofs.RecordLemmas.{after_block-zero}
-use Rattle.block_digests.specs.declared.verdict.Verdict.{Verdict}
-use Rattle.block_digests.specs.RestDigest.{digest_of_rest}
+use Rattle.warc_core.specs.declared.verdict.Verdict.{Verdict}
+use Rattle.warc_core.specs.RestDigest.{digest_of_rest}
 use Rattle.warc_core.specs.Calls.{ReadsTo}
-use Rattle.block_digests.specs.BlockDigest.{judge_record}
+use Rattle.warc_core.specs.BlockDigest.{judge_record}
 
 -- what is found of the record is found of its block's verdict
 pub judge-found : (judge : List ℕ → Verdict) (c : Cause) (left : ℕ) (z : List ℕ) → IsFoundIn c (after_record left z)

@@ -1,8 +1,8 @@
 use Rattle.std.proofs.Common.{◌≡◌, ◌-◌, ◌∙◌, sym, append-nil, arith}
 use Rattle.std.proofs.lemmas.List.{length-take-le}
 use Rattle.warc_core.proofs.OpenLemmas.{of_open, zero_of}
-use Rattle.block_digests.proofs.DigestLemmas.{Digesting-more, Digesting-fault, Digesting-end}
-use Rattle.block_digests.proofs.digest.digest_rest.Goals as goal
+use Rattle.warc_core.proofs.DigestLemmas.{Digesting-more, Digesting-fault, Digesting-end}
+use Rattle.warc_core.proofs.digest.digest_rest.Goals as goal
 
 pub returns-in_err-count : goal.returns-in_err-count
 returns-in_err-count g c left len e =

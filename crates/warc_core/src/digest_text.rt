@@ -1,6 +1,6 @@
 //! The text of a digest.
 ghost use Rattle.std.specs.Prelude.{◌≡◌, ◌<◌, ◌∷◌, []};
-ghost use Rattle.block_digests.specs.Base32.{letter_of, letters_of, base32_of};
+ghost use Rattle.warc_core.specs.Base32.{letter_of, letters_of, base32_of};
 
 /// Returns the base 32 of a SHA-1 digest (RFC 4648, section 6): 32 of the characters `A` to `Z` and `2` to `7`.
 pub fn base32(digest: &[u8; 20]) -> [u8; 32]

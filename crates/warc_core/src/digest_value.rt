@@ -2,7 +2,7 @@
 ghost use Rattle.std.specs.Prelude.{◌≡◌, codes, MatchOption, None, Some};
 ghost use Rattle.std.specs.List.{list_all};
 ghost use Rattle.warc_head.specs.Names.{same_name};
-ghost use Rattle.block_digests.specs.BlockDigest.{digest_verdict, is_base32_letter, is_base32_text, sha1_text};
+ghost use Rattle.warc_core.specs.BlockDigest.{digest_verdict, is_base32_letter, is_base32_text, sha1_text};
 
 use crate::digest_text::base32;
 use crate::verdict::Verdict;

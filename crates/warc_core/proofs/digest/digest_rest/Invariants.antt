@@ -1,8 +1,8 @@
 use Rattle.std.proofs.Common.{◌≡◌, ℕ}
 use Rattle.warc_core.specs.declared.phase.Phase.TheVariants.{Open}
 use Rattle.warc_core.proofs.OpenLemmas.{left_in}
-use Rattle.block_digests.proofs.DigestLemmas.{Digesting}
-use Rattle.block_digests.proofs.digest.digest_rest.Given as goal
+use Rattle.warc_core.proofs.DigestLemmas.{Digesting}
+use Rattle.warc_core.proofs.digest.digest_rest.Given as goal
 
 abbrev pub invariant-pieces : goal.invariant-pieces
 invariant-pieces g l =

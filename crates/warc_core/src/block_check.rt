@@ -1,17 +1,20 @@
 //! The check of a block against the digest that its head gives.
 ghost use Rattle.std.specs.Prelude.{◌≡◌, ℕ, ◌+◌, codes};
-ghost use Rattle.warc_core.specs.Fields.{value_of};
+ghost use Rattle.warc_head.specs.Fields.{value_of};
 ghost use Rattle.warc_core.specs.declared.phase.Phase.TheVariants.{Between, Open};
 ghost use Rattle.warc_core.specs.HeadView.{record_length};
 ghost use Rattle.warc_core.specs.ReaderView.{IsUnread, HasLeft, state_of};
 ghost use Rattle.sha1.specs.Sha1.{sha1};
 ghost use Rattle.warc_core.specs.Calls.{ReadsTo};
-ghost use Rattle.block_digests.specs.BlockDigest.{verdict_of, digest_verdict, judge_record};
+ghost use Rattle.warc_core.specs.BlockDigest.{verdict_of, digest_verdict, judge_record};
 
 use crate::digest::digest_rest;
 use crate::digest_value::{digest_verdict, sha1_text};
 use crate::verdict::Verdict;
-use warc_core::{Fault, Head, Input, Reader};
+use crate::fault::Fault;
+use crate::head::Head;
+use crate::reader::Reader;
+use devices::Input;
 
 /// Reads an unread record to its end, and returns the verdict on its block by the digest that `WARC-Block-Digest` gives
 /// (ISO 28500:2017, 5.8). It takes no memory.

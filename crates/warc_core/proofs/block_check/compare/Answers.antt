@@ -1,6 +1,6 @@
 use Rattle.std.proofs.Common.{arith}
-use Rattle.block_digests.proofs.VerdictLemmas.{compare-stopped, compare-unclosed, compare-closed}
-use Rattle.block_digests.proofs.block_check.compare.Goals as goal
+use Rattle.warc_core.proofs.VerdictLemmas.{compare-stopped, compare-unclosed, compare-closed}
+use Rattle.warc_core.proofs.block_check.compare.Goals as goal
 
 pub returns-in_err-digest : goal.returns-in_err-digest
 returns-in_err-digest g c left len e =

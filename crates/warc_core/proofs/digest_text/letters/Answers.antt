@@ -1,7 +1,7 @@
 use Rattle.std.proofs.Common.{◌<◌, ◌∙◌, ap, arith}
-use Rattle.block_digests.specs.Base32.{letter_of}
-use Rattle.block_digests.proofs.Bits.{first, second, third, fourth, fifth, sixth, seventh, eighth}
-use Rattle.block_digests.proofs.digest_text.letters.Goals as goal
+use Rattle.warc_core.specs.Base32.{letter_of}
+use Rattle.warc_core.proofs.Bits.{first, second, third, fourth, fifth, sixth, seventh, eighth}
+use Rattle.warc_core.proofs.digest_text.letters.Goals as goal
 
 pub returns : goal.returns
 returns c =

@@ -7,9 +7,9 @@ use Rattle.sha1.specs.Sha1.{sha1}
 use Rattle.warc_core.specs.declared.fault.Cause.{Cause}
 use Rattle.warc_core.specs.Reading.{◌>>=◌}
 use Rattle.warc_core.specs.Record.{after_record}
-use Rattle.block_digests.specs.declared.verdict.Verdict.{Verdict}
-use Rattle.block_digests.specs.declared.verdict.Verdict.TheVariants as verdicts
-use Rattle.block_digests.specs.Base32.{base32_of, letter_a, letter_z, digit_2, digit_7}
+use Rattle.warc_core.specs.declared.verdict.Verdict.{Verdict}
+use Rattle.warc_core.specs.declared.verdict.Verdict.TheVariants as verdicts
+use Rattle.warc_core.specs.Base32.{base32_of, letter_a, letter_z, digit_2, digit_7}
 
 -- the names of verdicts, as listings print them
 abbrev pub verdict_name : Verdict → List ℕ

@@ -12,7 +12,7 @@ use Rattle.warc_core.specs.ReaderView.{ReaderView, StandsAt, state_of}
 use Rattle.warc_core.specs.Calls.{GivesBlock, ReadsTo}
 use Rattle.warc_core.specs.declared.fault.Fault.{Fault}
 use Rattle.warc_core.proofs.RecordLemmas.{after_block-part, after_block-zero}
-use Rattle.block_digests.specs.RestDigest.{digest_of_rest}
+use Rattle.warc_core.specs.RestDigest.{digest_of_rest}
 
 -- a front that goes past a text takes all of it
 pub take_past : (n : ℕ) (xs ys : List ℕ) → length xs ≤ n → take n (xs ++ ys) ≡ xs ++ take (n - length xs) ys

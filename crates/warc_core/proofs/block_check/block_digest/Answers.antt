@@ -1,11 +1,11 @@
 use Rattle.std.proofs.Common.{◌+◌, ◌∙◌, codes, ap, sym}
 use Rattle.sha1.specs.Sha1.{sha1}
-use Rattle.warc_core.specs.Fields.{value_of}
+use Rattle.warc_head.specs.Fields.{value_of}
 use Rattle.warc_core.specs.HeadView.{record_length}
-use Rattle.block_digests.specs.declared.verdict.Verdict.TheVariants as verdicts
-use Rattle.block_digests.specs.BlockDigest.{verdict_of, judged, digest_verdict}
-use Rattle.block_digests.proofs.VerdictLemmas.{judged-as}
-use Rattle.block_digests.proofs.block_check.block_digest.Goals as goal
+use Rattle.warc_core.specs.declared.verdict.Verdict.TheVariants as verdicts
+use Rattle.warc_core.specs.BlockDigest.{verdict_of, judged, digest_verdict}
+use Rattle.warc_core.proofs.VerdictLemmas.{judged-as}
+use Rattle.warc_core.proofs.block_check.block_digest.Goals as goal
 
 pub returns-in-Some-sha1_text : goal.returns-in-Some-sha1_text
 returns-in-Some-sha1_text g c =
