@@ -17,7 +17,7 @@ use Rattle.capture_core.specs.declared.fault.CaptureFault.{CaptureFault}
 use Rattle.capture_core.specs.declared.fault.CaptureFault.TheVariants.{Archive, LineTooLong, KeyTooLong}
 use Rattle.warc_core.specs.Base32.{base32_of}
 use Rattle.warc_core.specs.RestDigest.{digest_of_rest}
-use Rattle.capture_core.specs.Capture.{ResponseValue, IsCaptureUnder, entry_of, digest_of, settled_digest}
+use Rattle.capture_core.specs.Capture.{ResponseValue, IsCaptureUnder, entry_of, digest_of, known_digest}
 use Rattle.capture_core.specs.RecordReading.{reading_of, IsCaptureFaultAt, ReadsRest}
 use Rattle.capture_core.specs.CaptureAnswer.{Limits, IsCaptureOf, AnswersEntry, PartsBlock}
 use Rattle.warc_core.proofs.DigestLemmas.{take_past}
@@ -61,18 +61,18 @@ digest-known left start digest before after r = grind (arith, digest-then)
 module _ (limits : Limits) (h : HeadView) (name url front payload bytes digest : List ℕ)
     (response : Option ResponseValue) where
   abbrev pub more : List ℕ
-  more = take (h.parts.length - length front) bytes
+  more = take (h.parts.block_length - length front) bytes
 
   abbrev pub entry : EntryValue
   entry = entry_of h name response digest url
 
   capture-is : PartsBlock limits h front response payload → digest ≡ digest_of h (payload ++ more)
-      → IsCaptureUnder (Some url) limits.http_head limits.http_fields h (take h.parts.length (front ++ bytes)) name
+      → IsCaptureUnder (Some url) limits.http_head limits.http_fields h (take h.parts.block_length (front ++ bytes)) name
       (Some entry)
   capture-is p d =
-      let block : take h.parts.length (front ++ bytes) ≡ front
-      ++ more = take_past h.parts.length front bytes p.within in
-      let few : length more ≤ h.parts.length - length front = grind (arith, length-take) in
+      let block : take h.parts.block_length (front ++ bytes) ≡ front
+      ++ more = take_past h.parts.block_length front bytes p.within in
+      let few : length more ≤ h.parts.block_length - length front = grind (arith, length-take) in
       grind (arith)
 
   -- what the entry answers is the capture
@@ -85,11 +85,11 @@ module _ (limits : Limits) (h : HeadView) (name url front payload bytes digest :
   capture-known p d (Err (KeyTooLong o)) a = refl
 
 -- a digest that is settled is that of any payload
-pub digest-settled : (h : HeadView) (digest payload : List ℕ) → settled_digest h ≡ Some digest → digest
+pub digest-settled : (h : HeadView) (digest payload : List ℕ) → known_digest h ≡ Some digest → digest
     ≡ digest_of h payload
 digest-settled h digest payload e = grind arith
 
-pub digest-made : (h : HeadView) (digest payload : List ℕ) → settled_digest h ≡ None → digest ≡ sha1 payload
+pub digest-made : (h : HeadView) (digest payload : List ℕ) → known_digest h ≡ None → digest ≡ sha1 payload
     → base32_of digest ≡ digest_of h payload
 digest-made h digest payload e d = grind arith
 

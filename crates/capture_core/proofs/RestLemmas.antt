@@ -11,17 +11,17 @@ use Rattle.cdxj_core.specs.Entries.{EntryValue}
 use Rattle.capture_core.specs.declared.fault.CaptureFault.{CaptureFault}
 use Rattle.capture_core.specs.declared.fault.CaptureFault.TheVariants.{Archive}
 use Rattle.capture_core.specs.declared.http_head.TheConstants.{HTTP_HEAD_LIMIT}
-use Rattle.capture_core.specs.declared.indexed.Indexed.{Indexed}
+use Rattle.capture_core.specs.declared.indexed.IndexedRecord.{IndexedRecord}
 use Rattle.capture_core.specs.RecordReading.{front_length}
 use Rattle.capture_core.specs.CaptureSteps.{HasFront, FillsBehind, CapturesRest}
 use Rattle.capture_core.proofs.CaptureLemmas.{rest-behind}
 use Rattle.capture_core.proofs.Steps.{goes-on-to, capture-behind-first}
 
-module _ (indexed : Indexed) (first front : List ℕ) (old mid : ReaderView) (before between : Option (List ℕ)) (k l : ℕ)
+module _ (indexed : IndexedRecord) (first front : List ℕ) (old mid : ReaderView) (before between : Option (List ℕ)) (k l : ℕ)
     (ready : HasFront indexed first old) where
   -- what is left behind the first bytes of the front was filled
   abbrev pub FillsFront : Result (Unit {0}) Fault → Type 0
-  FillsFront r = FillsBehind first (indexed.head.now.parts.length - length first) (record_length indexed.head.now)
+  FillsFront r = FillsBehind first (indexed.head.now.parts.block_length - length first) (record_length indexed.head.now)
       (state_of old before k) (state_of mid between l) r front
 
   pub filled-failed : (f : Fault) → FillsFront (Err f)

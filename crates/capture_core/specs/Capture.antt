@@ -12,7 +12,7 @@ use Rattle.cdxj_keys.specs.Key.{key_of}
 use Rattle.cdxj_core.specs.Texts.{missing, or_missing}
 use Rattle.warc_core.specs.Base32.{base32_of}
 use Rattle.capture_core.specs.HttpHead.{IsHeadOf, field_of}
-use Rattle.capture_core.specs.Indexed.{field, url_of, is_marked, may_have_head, given_digest}
+use Rattle.capture_core.specs.Indexed.{field, url_of, is_http_record, may_have_head, given_digest}
 use Rattle.capture_core.specs.FieldValue.{media_type}
 use Rattle.capture_core.specs.Utf8Text.{utf8_text}
 
@@ -32,7 +32,7 @@ media_of (Some value) = or_missing (media_type value)
 -- by the HTTP head, or by the record's own Content-Type where the record isn't marked HTTP
 unfoldable pub content_of : HeadView → Option ResponseValue → List ℕ
 content_of h (Some response) = media_of response.content_type
-content_of h None = cond (is_marked h) missing (media_of (field (codes "Content-Type") h))
+content_of h None = cond (is_http_record h) missing (media_of (field (codes "Content-Type") h))
 
 -- the media type
 abbrev pub mime_in : Kind → List ℕ → List ℕ
@@ -57,12 +57,12 @@ settled_in kind (Some given) = Some given
 settled_in kinds.Revisit None = Some missing
 settled_in kind None = None
 
-abbrev pub settled_digest : HeadView → Option (List ℕ)
-settled_digest h = settled_in h.parts.kind (given_digest h)
+abbrev pub known_digest : HeadView → Option (List ℕ)
+known_digest h = settled_in h.parts.kind (given_digest h)
 
 -- the digest of a record with this payload
 abbrev pub digest_of : HeadView → List ℕ → List ℕ
-digest_of h payload = unwrap_or (settled_digest h) (base32_of (sha1 payload))
+digest_of h payload = unwrap_or (known_digest h) (base32_of (sha1 payload))
 
 -- the entry of a record, by its head and what was found in its block
 abbrev pub entry_of : HeadView → List ℕ → Option ResponseValue → List ℕ → List ℕ → EntryValue

@@ -23,9 +23,9 @@ pub record Limits : Type 0 where
 abbrev pub IsCaptureOf : Option (List ℕ) → Limits → HeadView → List ℕ → List ℕ → Result (Option EntryValue) CaptureFault
     → Type 0
 IsCaptureOf url limits h name bytes (Ok captured) = IsCaptureUnder url limits.http_head limits.http_fields h
-    (take h.parts.length bytes) name captured
+    (take h.parts.block_length bytes) name captured
 IsCaptureOf url limits h name bytes (Err (LineTooLong o)) =
-    (entry : EntryValue) × IsCaptureUnder url limits.http_head limits.http_fields h (take h.parts.length bytes) name
+    (entry : EntryValue) × IsCaptureUnder url limits.http_head limits.http_fields h (take h.parts.block_length bytes) name
     (Some entry)
     × (limits.line < length (line_text entry))
 IsCaptureOf url limits h name bytes (Err (KeyTooLong o)) = IsSome url
@@ -49,8 +49,8 @@ usual_limits = record { http_head = HTTP_HEAD_LIMIT; http_fields = HTTP_FIELD_LI
 pub record PartsBlock (limits : Limits) (h : HeadView) (front : List ℕ) (response : Option ResponseValue)
     (payload : List ℕ) : Type 0 where
   pub found : Option (ResponseHead × List ℕ)
-  pub within : length front ≤ h.parts.length
-  pub decides : (more : List ℕ) → length front + length more ≤ h.parts.length
+  pub within : length front ≤ h.parts.block_length
+  pub decides : (more : List ℕ) → length front + length more ≤ h.parts.block_length
       → IsHeadFor limits.http_head limits.http_fields h (front ++ more) (then_more more found)
   pub response_is : response ≡ option_map (λ f. response_of f.0) found
   pub payload_is : payload ≡ payload_of front found

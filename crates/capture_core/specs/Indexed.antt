@@ -26,8 +26,8 @@ is_http None = false
 is_http (Some content_type) = same_name (media_type content_type) (codes "application/http")
 
 -- the record is marked HTTP
-abbrev pub is_marked : HeadView → Bool
-is_marked h = is_http (field (codes "Content-Type") h)
+abbrev pub is_http_record : HeadView → Bool
+is_http_record h = is_http (field (codes "Content-Type") h)
 
 -- records of this type may hold an HTTP response
 abbrev pub holds_response : Kind → Bool
@@ -37,7 +37,7 @@ holds_response kind = false
 
 -- the block may begin with an HTTP head
 abbrev pub may_have_head : HeadView → Bool
-may_have_head h = holds_response h.parts.kind && is_marked h
+may_have_head h = holds_response h.parts.kind && is_http_record h
 
 -- the payload's digest that the head gives
 abbrev pub given_digest : HeadView → Option (List ℕ)

@@ -47,7 +47,7 @@ pub record ReadsRest {A : Type 0} (left : ℕ) (h : HeadView) (old new : ReaderS
 
 -- A call read the record to its end, or failed by what it met.
 abbrev pub ReadsWhole : {A : Type 0} → HeadView → ReaderState → ReaderState → Result A CaptureFault → Type 0
-ReadsWhole h old new r = ReadsRest h.parts.length h old new r
+ReadsWhole h old new r = ReadsRest h.parts.block_length h old new r
 
 -- the reader stands in this record
 abbrev pub IsOpenFor : HeadView → ReaderView → Type 0
@@ -59,4 +59,4 @@ front_limit limit h = if may_have_head h then limit else 0
 
 -- the front of a block, which is looked at for an HTTP head, has this length
 abbrev pub front_length : ℕ → HeadView → ℕ
-front_length limit h = min h.parts.length (front_limit limit h)
+front_length limit h = min h.parts.block_length (front_limit limit h)

@@ -6,11 +6,11 @@ ghost use Rattle.capture_core.specs.CaptureAnswer.{IsEntryOf};
 ghost use Rattle.capture_core.specs.RecordReading.{IsCaptureFaultAt, reading_of};
 ghost use Rattle.capture_core.specs.ResponseView.{response_view};
 
-use crate::entry_line::{Refusal, entry_line};
+use crate::entry_line::{LineRefused, entry_line};
 use crate::fault::CaptureFault;
 use crate::held_line::HeldLine;
 use crate::http_head::HttpHead;
-use crate::indexed::Indexed;
+use crate::indexed::IndexedRecord;
 use cdxj_core::LINE_LIMIT;
 use std::alloc::Global;
 use warc_core::{Cause, Fault, Head};
@@ -31,7 +31,7 @@ pub(crate) fn memory(head: &Head) -> CaptureFault
 /// Errors are `KeyTooLong`, `LineTooLong` and `Memory`, at the record's offset.
 pub(crate) fn capture_line(
     alloc: Global,
-    indexed: Indexed<'_>,
+    indexed: IndexedRecord<'_>,
     response: Option<HttpHead<'_>>,
     digest: &[u8],
 ) -> Result<HeldLine, CaptureFault>
@@ -51,8 +51,8 @@ pub(crate) fn capture_line(
 {
     match entry_line(alloc, indexed, response, digest) {
         Ok(line) => Ok(line),
-        Err(Refusal::Memory) => Err(memory(indexed.head)),
-        Err(Refusal::KeyTooLong) => Err(CaptureFault::KeyTooLong(indexed.head.start())),
-        Err(Refusal::LineTooLong) => Err(CaptureFault::LineTooLong(indexed.head.start())),
+        Err(LineRefused::Memory) => Err(memory(indexed.head)),
+        Err(LineRefused::KeyTooLong) => Err(CaptureFault::KeyTooLong(indexed.head.start())),
+        Err(LineRefused::LineTooLong) => Err(CaptureFault::LineTooLong(indexed.head.start())),
     }
 }

@@ -11,7 +11,7 @@ use crate::capture_line::capture_line;
 use crate::fault::CaptureFault;
 use crate::held_line::HeldLine;
 use crate::http_head::HttpHead;
-use crate::indexed::Indexed;
+use crate::indexed::IndexedRecord;
 use cdxj_core::LINE_LIMIT;
 use std::alloc::Global;
 use warc_core::{Input, Reader};
@@ -21,7 +21,7 @@ pub(crate) fn capture_closed<I: Input>(
     alloc: Global,
     reader: &mut Reader,
     input: &mut I,
-    indexed: Indexed<'_>,
+    indexed: IndexedRecord<'_>,
     response: Option<HttpHead<'_>>,
     digest: &[u8],
 ) -> Result<Option<HeldLine>, CaptureFault>

@@ -7,7 +7,7 @@ ghost use Rattle.capture_core.specs.ResponseView.{response_view};
 
 use crate::held_line::HeldLine;
 use crate::http_head::HttpHead;
-use crate::indexed::Indexed;
+use crate::indexed::IndexedRecord;
 use crate::mime::mime;
 use crate::status::status;
 use crate::utf8_text::utf8_text;
@@ -16,33 +16,33 @@ use std::alloc::{AllocError, Global};
 
 /// Why the line of an entry could not be written.
 #[derive(Clone, Copy)]
-pub(crate) enum Refusal {
+pub(crate) enum LineRefused {
     Memory,
     KeyTooLong,
     LineTooLong,
 }
 
-impl From<AllocError> for Refusal {
+impl From<AllocError> for LineRefused {
     ghost use Rattle.std.specs.Prelude.{◌≡◌};
-    ghost use Rattle.capture_core.specs.declared.entry_line.Refusal.TheVariants.{Memory};
+    ghost use Rattle.capture_core.specs.declared.entry_line.LineRefused.TheVariants.{Memory};
 
     ghost from_gives = { λ error refusal. refusal ≡ Memory };
 
-    fn from(_: AllocError) -> Refusal {
-        Refusal::Memory
+    fn from(_: AllocError) -> LineRefused {
+        LineRefused::Memory
     }
 }
 
-impl From<KeyFault> for Refusal {
+impl From<KeyFault> for LineRefused {
     ghost use Rattle.std.specs.Prelude.{◌≢◌};
-    ghost use Rattle.capture_core.specs.declared.entry_line.Refusal.TheVariants.{LineTooLong};
+    ghost use Rattle.capture_core.specs.declared.entry_line.LineRefused.TheVariants.{LineTooLong};
 
     ghost from_gives = { λ fault refusal. refusal ≢ LineTooLong };
 
-    fn from(fault: KeyFault) -> Refusal {
+    fn from(fault: KeyFault) -> LineRefused {
         match fault {
-            KeyFault::Memory => Refusal::Memory,
-            KeyFault::TooLong => Refusal::KeyTooLong,
+            KeyFault::Memory => LineRefused::Memory,
+            KeyFault::TooLong => LineRefused::KeyTooLong,
         }
     }
 }
@@ -51,10 +51,10 @@ impl From<KeyFault> for Refusal {
 /// archive's name.
 pub(crate) fn entry_line(
     alloc: Global,
-    indexed: Indexed<'_>,
+    indexed: IndexedRecord<'_>,
     response: Option<HttpHead<'_>>,
     digest: &[u8],
-) -> Result<HeldLine, Refusal>
+) -> Result<HeldLine, LineRefused>
     requires code { IfSome response (λ r. r.code < 1000) }
     requires named { 0 < length indexed.name.now }
     requires digested { 0 < length digest.now }
@@ -63,7 +63,7 @@ pub(crate) fn entry_line(
         (λ held. held ≡ entry_of indexed.entry.head.now indexed.entry.name.now
         (option_map response_view response.entry) digest.now indexed.entry.url.now) }
     ensures line { IfOk result (HasLine LINE_LIMIT) }
-    ensures long { result ≡ Err Refusal.LineTooLong → LINE_LIMIT < length (line_text (entry_of
+    ensures long { result ≡ Err LineRefused.LineTooLong → LINE_LIMIT < length (line_text (entry_of
         indexed.entry.head.now indexed.entry.name.now
         (option_map response_view response.entry) digest.now indexed.entry.url.now)) }
 {
@@ -85,7 +85,7 @@ pub(crate) fn entry_line(
     };
     match HeldLine::new(alloc, entry) {
         Ok(line) => Ok(line),
-        Err(LineFault::LineTooLong) => Err(Refusal::LineTooLong),
-        Err(_) => Err(Refusal::Memory),
+        Err(LineFault::LineTooLong) => Err(LineRefused::LineTooLong),
+        Err(_) => Err(LineRefused::Memory),
     }
 }

@@ -1,7 +1,7 @@
 //! The records that hold HTTP messages.
 ghost use Rattle.std.specs.Prelude.{◌≡◌, codes, option_map};
 ghost use Rattle.warc_head.specs.Names.{same_name};
-ghost use Rattle.capture_core.specs.Indexed.{field, is_marked, holds_response, may_have_head};
+ghost use Rattle.capture_core.specs.Indexed.{field, is_http_record, holds_response, may_have_head};
 
 use crate::field_value::media_type;
 use warc_core::{Head, Kind};
@@ -14,8 +14,8 @@ pub(crate) fn content_type(head: &Head) -> Option<&[u8]>
 }
 
 /// Returns `true` if the record's `Content-Type` is `application/http`, with any parameters.
-pub(crate) fn is_marked(head: &Head) -> bool
-    ensures { result ≡ is_marked head.now }
+pub(crate) fn is_http_record(head: &Head) -> bool
+    ensures { result ≡ is_http_record head.now }
 {
     match content_type(head) {
         Some(value) => is_http(media_type(value)),
@@ -42,5 +42,5 @@ fn holds_response(kind: Kind) -> bool
 pub(crate) fn may_have_head(head: &Head) -> bool
     ensures { result ≡ may_have_head head.now }
 {
-    holds_response(head.kind()) && is_marked(head)
+    holds_response(head.kind()) && is_http_record(head)
 }

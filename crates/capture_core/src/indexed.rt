@@ -3,7 +3,7 @@ use warc_core::Head;
 
 /// A record that is indexed.
 #[derive(Clone, Copy)]
-pub(crate) struct Indexed<'a> {
+pub(crate) struct IndexedRecord<'a> {
     pub head: &'a Head,
     /// The archive's name, which isn't empty.
     pub name: &'a str,
@@ -11,7 +11,7 @@ pub(crate) struct Indexed<'a> {
     pub url: &'a [u8],
 }
 
-impl<'a> Indexed<'a> {
+impl<'a> IndexedRecord<'a> {
     ghost use Rattle.std.specs.Prelude.{◌≡◌};
 
     /// Returns the archive's name.

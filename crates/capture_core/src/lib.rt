@@ -27,7 +27,7 @@ pub use crate::existence::record_has_a_capture;
 pub use crate::fault::CaptureFault;
 pub use crate::held_line::HeldLine;
 pub use crate::laws::{block_has_one_head, record_has_one_capture};
-pub use crate::record_capture::{Front, capture, held_capture};
+pub use crate::record_capture::{BlockStart, capture, held_capture};
 pub use crate::types::Types;
 pub use cdxj_core::{Entry, EntryRef, LINE_LIMIT, LineFault, write_line};
 pub use warc_core::{

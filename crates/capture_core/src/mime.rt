@@ -6,7 +6,7 @@ ghost use Rattle.capture_core.specs.ResponseView.{response_view};
 
 use crate::field_value::media_type;
 use crate::http_head::HttpHead;
-use crate::http_record::{content_type, is_marked};
+use crate::http_record::{content_type, is_http_record};
 use warc_core::{Head, Kind};
 
 fn or_missing(value: &[u8]) -> &[u8]
@@ -31,7 +31,7 @@ fn content<'a>(head: &'a Head, response: Option<HttpHead<'a>>) -> &'a [u8]
     match response {
         Some(response) => media(response.content_type),
         None => {
-            if is_marked(head) {
+            if is_http_record(head) {
                 b"-"
             } else {
                 media(content_type(head))

@@ -13,7 +13,7 @@ use warc_core::Head;
 
 /// The first bytes of a record's block, with the HTTP head, if there is one, and the start of the payload in them.
 #[derive(Clone, Copy)]
-pub(crate) struct Parted<'a> {
+pub(crate) struct SplitBlock<'a> {
     pub bytes: &'a [u8],
     pub response: Option<HttpHead<'a>>,
     pub payload: &'a [u8],
@@ -42,7 +42,7 @@ pub(crate) fn front_length(head: &Head) -> usize
 
 /// Splits the first bytes of a record's block, or returns `None` if no HTTP head ends in them and more bytes, up to
 /// `whole` in all, may hold one.
-pub(crate) fn part_decided<'a>(head: &Head, front: &'a [u8], whole: usize) -> Option<Parted<'a>>
+pub(crate) fn part_decided<'a>(head: &Head, front: &'a [u8], whole: usize) -> Option<SplitBlock<'a>>
     requires whole { whole ≡ front_length HTTP_HEAD_LIMIT head.now }
     requires front { length front.now ≤ whole }
     ensures parts { IfSome result (λ p. PartsBlock usual_limits head.now p.bytes.now
@@ -61,7 +61,7 @@ pub(crate) fn part_decided<'a>(head: &Head, front: &'a [u8], whole: usize) -> Op
 }
 
 /// Splits the first bytes of a record's block.
-pub(crate) fn part(front: &[u8]) -> Parted<'_>
+pub(crate) fn part(front: &[u8]) -> SplitBlock<'_>
     ensures parts { (found : Option (ResponseHead × List ℕ))
         × IsHeadOf HTTP_HEAD_LIMIT HTTP_FIELD_LIMIT front.now found
         × (option_map response_view result.response ≡ option_map (λ f. response_of f.0) found)
@@ -70,12 +70,12 @@ pub(crate) fn part(front: &[u8]) -> Parted<'_>
     ensures code { IfSome result.response (λ r. r.code < 1000) }
 {
     match http_head(front) {
-        Some(head) => Parted {
+        Some(head) => SplitBlock {
             bytes: front,
             response: Some(head),
             payload: &front[head.len..],
         },
-        None => Parted {
+        None => SplitBlock {
             bytes: front,
             response: None,
             payload: front,

@@ -1,7 +1,7 @@
 //! The digest of a capture's payload.
 ghost use Rattle.std.specs.Prelude.{◌≡◌, ◌<◌, length, MatchOption, IfSome, Some, None};
 ghost use Rattle.capture_core.specs.Indexed.{given_digest};
-ghost use Rattle.capture_core.specs.Capture.{settled_digest};
+ghost use Rattle.capture_core.specs.Capture.{known_digest};
 
 use crate::field_value::{non_empty, without_sha1};
 use warc_core::{Head, Kind};
@@ -20,9 +20,9 @@ fn given_digest(head: &Head) -> Option<&[u8]>
 
 /// Returns the digest that is known without the payload: the one that the head gives, or `-` for a
 /// revisit without one. If there is none, the entry's digest is the base 32 of the payload's SHA-1.
-pub(crate) fn settled_digest(head: &Head) -> Option<&[u8]>
-    ensures value { MatchOption result (settled_digest head.now ≡ None)
-        (λ d. settled_digest head.now ≡ Some d.now) }
+pub(crate) fn known_digest(head: &Head) -> Option<&[u8]>
+    ensures value { MatchOption result (known_digest head.now ≡ None)
+        (λ d. known_digest head.now ≡ Some d.now) }
     ensures filled { IfSome result (λ d. 0 < length d.now) }
 {
     match given_digest(head) {

@@ -16,9 +16,9 @@ use crate::closing::capture_closed;
 use crate::fault::CaptureFault;
 use crate::held_line::HeldLine;
 use crate::http_head::HTTP_HEAD_LIMIT;
-use crate::indexed::Indexed;
-use crate::payload::{Parted, front_length, part_decided};
-use crate::payload_digest::settled_digest;
+use crate::indexed::IndexedRecord;
+use crate::payload::{SplitBlock, front_length, part_decided};
+use crate::payload_digest::known_digest;
 use crate::target::url;
 use crate::types::Types;
 use cdxj_core::{Entry, LINE_LIMIT};
@@ -33,14 +33,14 @@ const SECOND_STEP: usize = 8192;
 
 /// A buffer for the start of a block, which serves one record after another.
 #[derive(Debug, Drop)]
-pub struct Front {
+pub struct BlockStart {
     bytes: Vec<u8>,
 }
 
-impl Front {
+impl BlockStart {
     /// Creates an empty buffer. It takes no memory.
-    pub fn new(alloc: Global) -> Front {
-        Front {
+    pub fn new(alloc: Global) -> BlockStart {
+        BlockStart {
             bytes: Vec::new(alloc),
         }
     }
@@ -71,7 +71,7 @@ pub fn capture<I: Input>(
     ensures entry { IfOk result (λ captured. IfSome captured
         (IsEntryOf head.now name.now LINE_LIMIT)) }
 {
-    let mut front = Front::new(alloc);
+    let mut front = BlockStart::new(alloc);
     match held_capture(alloc, &mut front, reader, input, head, name, types)? {
         Some(line) => match line.entry(alloc, head.record_length()) {
             Ok(entry) => Ok(Some(entry)),
@@ -85,7 +85,7 @@ pub fn capture<I: Input>(
 /// after another. Of a usual record, only the line takes memory. Errors are those of `capture`, `Memory` included.
 pub fn held_capture<I: Input>(
     alloc: Global,
-    front: &mut Front,
+    front: &mut BlockStart,
     reader: &mut Reader,
     input: &mut I,
     head: &Head,
@@ -104,7 +104,7 @@ pub fn held_capture<I: Input>(
 {
     match url(head, types) {
         Some(url) => {
-            let indexed = Indexed { head, name, url };
+            let indexed = IndexedRecord { head, name, url };
             capture_indexed(alloc, &mut front.bytes, reader, input, indexed)
         }
         None => {
@@ -122,7 +122,7 @@ fn capture_indexed<I: Input>(
     front: &mut Vec<u8>,
     reader: &mut Reader,
     input: &mut I,
-    indexed: Indexed<'_>,
+    indexed: IndexedRecord<'_>,
 ) -> Result<Option<HeldLine>, CaptureFault>
     requires { HasFront indexed [] reader.old }
     ensures { CapturesRest indexed.entry []
@@ -133,18 +133,18 @@ fn capture_indexed<I: Input>(
     let first = whole.min(FIRST_STEP);
     match make_room(front, first) {
         Ok(()) => {}
-        Err(_) => return refuse(reader, input, indexed),
+        Err(_) => return finish_without_memory(reader, input, indexed),
     }
     let mut filled = read_first(reader, input, front, first)?;
     'steps: loop {
         match part_decided(indexed.head, &front[..filled], whole) {
-            Some(parted) => return capture_parted(alloc, reader, input, indexed, parted),
+            Some(parted) => return finish_capture(alloc, reader, input, indexed, parted),
             None => {}
         }
         let goal = whole.min(step_after(filled));
         match make_room(front, goal) {
             Ok(()) => {}
-            Err(_) => return refuse(reader, input, indexed),
+            Err(_) => return finish_without_memory(reader, input, indexed),
         }
         read_behind(reader, input, front, filled, goal)?;
         filled = goal;
@@ -212,10 +212,10 @@ fn make_room(front: &mut Vec<u8>, size: usize) -> Result<(), AllocError>
 }
 
 /// Reads the rest of the open record, and returns that memory could not be allocated.
-fn refuse<I: Input>(
+fn finish_without_memory<I: Input>(
     reader: &mut Reader,
     input: &mut I,
-    indexed: Indexed<'_>,
+    indexed: IndexedRecord<'_>,
 ) -> Result<Option<HeldLine>, CaptureFault>
     requires { HasLeft 0 reader.old.phase }
     ensures { (first : List ℕ) → HasFront indexed.entry first reader.old
@@ -228,12 +228,12 @@ fn refuse<I: Input>(
 }
 
 /// Returns the line of a record that is indexed, after the first bytes of its block were read and split.
-fn capture_parted<I: Input>(
+fn finish_capture<I: Input>(
     alloc: Global,
     reader: &mut Reader,
     input: &mut I,
-    indexed: Indexed<'_>,
-    parted: Parted<'_>,
+    indexed: IndexedRecord<'_>,
+    parted: SplitBlock<'_>,
 ) -> Result<Option<HeldLine>, CaptureFault>
     requires ready { HasFront indexed parted.bytes.now reader.old }
     requires parts { PartsBlock usual_limits indexed.head.now parted.bytes.now
@@ -243,7 +243,7 @@ fn capture_parted<I: Input>(
         (state_of reader.old (I.remaining input.old) (I.failures input.old))
         (state_of reader.new (I.remaining input.new) (I.failures input.new)) result }
 {
-    match settled_digest(indexed.head) {
+    match known_digest(indexed.head) {
         Some(digest) => { capture_closed(alloc, reader, input, indexed, parted.response, digest) }
         None => {
             let digest = base32(&digest_rest(reader, input, parted.payload)?);

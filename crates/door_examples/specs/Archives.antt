@@ -32,7 +32,7 @@ info_view = record {
   parts = record {
     kind = kinds.Warcinfo;
     stamp = codes "20250102030405";
-    length = 0;
+    block_length = 0;
     fields = record { name = codes "WARC-Type"; value = codes "warcinfo" }
         ∷ record { name = codes "WARC-Record-ID"; value = codes "<a:b>" }
         ∷ record { name = codes "WARC-Date"; value = codes "2025-01-02T03:04:05Z" }
@@ -64,7 +64,7 @@ page_view host = record {
   parts = record {
     kind = kinds.Resource;
     stamp = codes "20250102030405";
-    length = 1;
+    block_length = 1;
     fields = record { name = codes "WARC-Type"; value = codes "resource" }
         ∷ record { name = codes "WARC-Target-URI"; value = codes "http://" ++ host ++ codes "/" }
         ∷ record { name = codes "WARC-Payload-Digest"; value = codes "sha1:AB" }

@@ -17,7 +17,7 @@ use Rattle.capture_core.specs.declared.fault.CaptureFault.{CaptureFault}
 use Rattle.capture_core.specs.Indexed.{url_of}
 use Rattle.capture_core.specs.CaptureAnswer.{Limits, IsEntryOf, Captures}
 use Rattle.capture_core.specs.RecordReading.{IsCaptureFaultAt, reading_of}
-use Rattle.index_core.specs.Accepted.{IsCaptureAt, IsCaptured, AreCaptured, IsAccepted, IsAcceptedTo, IsRefused}
+use Rattle.index_core.specs.Accepted.{IsCaptureAt, IsCaptured, AreCaptured, IsAccepted, IsAcceptedTo, MayBeRefused}
 use Rattle.capture_core.specs.Fault.{fault_offset}
 use Rattle.capture_core.specs.declared.types.Types.{Types}
 use Rattle.index_core.specs.Adding.{with_archive}
@@ -44,7 +44,7 @@ module _ (types : Kind → Bool) (limits : Limits) (limit : ℕ) (name : List �
 
   -- a record's capture is that of the record which begins the bytes
   pub capture_there : (start : ℕ) (h : HeadView) (captured : Option EntryValue) (before mid after : Option (List ℕ))
-      → Reads (next_at limit start) (Ok (Some h)) before mid → Reads (after_record h.parts.length) (Ok tt) mid after
+      → Reads (next_at limit start) (Ok (Some h)) before mid → Reads (after_record h.parts.block_length) (Ok tt) mid after
       → Captures (url_of types h) limits h name mid (Ok captured)
       → IfSome before (λ bytes. IsCaptureAt types limits limit name h bytes captured)
   capture_there start h captured before mid after r s k = grind (arith, behind_head)
@@ -52,9 +52,9 @@ module _ (types : Kind → Bool) (limits : Limits) (limit : ℕ) (name : List �
   -- why a record that was read has no capture
   pub refused_there : (start : ℕ) (h : HeadView) (fault : CaptureFault) (before mid after : Option (List ℕ))
       → Reads (next_at limit start) (Ok (Some h)) before mid
-      → Reads (after_record h.parts.length) (reading_of {A = Option EntryValue} (Err fault)) mid after
+      → Reads (after_record h.parts.block_length) (reading_of {A = Option EntryValue} (Err fault)) mid after
       → Captures (url_of types h) limits h name mid (Err fault)
-      → IfSome before (λ bytes. IsRefused types limits limit name start bytes fault)
+      → IfSome before (λ bytes. MayBeRefused types limits limit name start bytes fault)
   refused_there start h fault before mid after r s k = grind (arith, record-whole, behind_head, record-unclosed)
 
   captured_more : (archive : List ℕ) (heads : List HeadView) (captures : List EntryValue) (h : HeadView)
@@ -90,7 +90,7 @@ module _ (types : Kind → Bool) (limits : Limits) (limit : ℕ) (name : List �
   -- what comes next is refused
   pub AddedSoFar-refused : (left now : Option (List ℕ)) (o : ℕ) (gained : List EntryValue) (fault : CaptureFault)
       → AddedSoFar left now o gained
-      → (fault_offset fault ≡ o) × IfSome now (λ bytes. IsRefused types limits limit name o bytes fault)
+      → (fault_offset fault ≡ o) × IfSome now (λ bytes. MayBeRefused types limits limit name o bytes fault)
       → IfSome left (λ archive. IsAcceptedTo types limits limit name fault archive gained)
   AddedSoFar-refused left now o gained fault s r = grind arith
 

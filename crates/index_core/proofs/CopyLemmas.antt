@@ -8,7 +8,7 @@ use Rattle.warc_core.specs.declared.fault.Fault.{Fault}
 use Rattle.warc_core.specs.declared.phase.Phase.TheVariants.{Open}
 use Rattle.devices.specs.Device.{AppendsPrefix}
 use Rattle.warc_core.specs.HeadView.{HeadView, record_length}
-use Rattle.warc_core.specs.Reading.{Reads, IsFoundAt}
+use Rattle.warc_core.specs.Reading.{Reads, IsPossibleFault}
 use Rattle.warc_core.specs.ReaderView.{ReaderView, StandsAt, state_of}
 use Rattle.warc_core.specs.Calls.{GivesBlock, Finishes}
 use Rattle.warc_core.specs.Record.{closing, after_block, after_record}
@@ -119,7 +119,7 @@ module _ (left len rest : ℕ) (old now next : ReaderView) (before mid after w v
           g.state.at ∙ d.stands.offset_is,
           found-behind f.cause left (length d.taken) d.taken _ _ refl
               (omega (arith, whole)) d.given
-              (subst (λ n. IsFoundAt (after_block n) f.cause (prepend_known now.held mid)) same g.bytes),
+              (subst (λ n. IsPossibleFault (after_block n) f.cause (prepend_known now.held mid)) same g.bytes),
         );
       }
 
@@ -159,18 +159,18 @@ module _ (h : HeadView) (w v : Option (List ℕ)) where
 
   module _ (u : Option (List ℕ)) (old mid : ReaderView) (before between : Option (List ℕ)) (unread : old.offset
       ≡ h.start) (head : Appends w v h.raw) where
-    behind_head : WroteFront h.parts.length (prepend_known old.held before) v u
+    behind_head : WroteFront h.parts.block_length (prepend_known old.held before) v u
         → WroteFront (record_length h) (prepend_known h.raw (prepend_known old.held before)) w u
-    behind_head f = wrote_within (length h.raw + h.parts.length) (record_length h) _ w u (omega arith)
-        (wrote_behind h.parts.length h.raw _ _ w v u (consumes_head h.raw _) head f)
+    behind_head f = wrote_within (length h.raw + h.parts.block_length) (record_length h) _ w u (omega arith)
+        (wrote_behind h.parts.block_length h.raw _ _ w v u (consumes_head h.raw _) head f)
 
     -- the block couldn't be copied
     pub block_cut : (fault : IndexFault) (after : Option (List ℕ))
-        → CopiesBlock h.parts.length (record_length h) old mid (Err fault) before between v u
+        → CopiesBlock h.parts.block_length (record_length h) old mid (Err fault) before between v u
         → CopiesRecord h (Err fault) (prepend_known old.held before) after w u
     block_cut fault after b = grind (arith, behind_head, found-of-record)
 
-    module _ (block : CopiesBlock h.parts.length (record_length h) old mid (Ok tt) before between v u)
+    module _ (block : CopiesBlock h.parts.block_length (record_length h) old mid (Ok tt) before between v u)
         (new : ReaderView) (after : Option (List ℕ)) (k k' : ℕ) where
       -- the record couldn't be finished
       pub finish_cut : (f : Fault) → Finishes 0 (record_length h) (state_of mid between k) (state_of new after k')
@@ -216,7 +216,7 @@ module _ (h : HeadView) (w v : Option (List ℕ)) where
               ends = (
                 s.state.0 ∙ sym size,
                 s.state.0,
-                behind_block (Ok tt) h.parts.length front _ _ _ long block.ends.1
+                behind_block (Ok tt) h.parts.block_length front _ _ _ long block.ends.1
                     s.bytes,
               );
             }

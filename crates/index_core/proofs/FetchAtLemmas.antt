@@ -27,7 +27,7 @@ nothing n known w = record { front = []; most = grind arith; begins = in_front k
 
 -- a record of another length was passed over
 pub passed_of : (h : HeadView) (len : ℕ) (r : Result ℕ IndexFault) (before after w : Option (List ℕ))
-    → record_length h ≢ len → PassesRecord h.parts.length h.start r before after
+    → record_length h ≢ len → PassesRecord h.parts.block_length h.start r before after
     → CopiesRecordOf h len r before after w w
 passed_of h len (Err faults.NoRecord) before after w e p = record { other = e; whole = p }
 passed_of h len (Err (faults.Capture (Archive f))) before after w e p =

@@ -7,7 +7,7 @@ use Rattle.warc_core.specs.declared.fault.Fault.{Fault}
 use Rattle.devices.specs.Device.{AppendsPrefix}
 use Rattle.warc_core.specs.HeadView.{HeadView, record_length}
 use Rattle.warc_core.specs.Next.{next_at}
-use Rattle.warc_core.specs.Reading.{Reads, IsFoundIn}
+use Rattle.warc_core.specs.Reading.{Reads, IsPossibleCause}
 use Rattle.warc_core.specs.Walk.{record_at, Walks}
 use Rattle.warc_core.proofs.ArchiveLemmas.{walk-front, next-spelled}
 use Rattle.warc_core.proofs.ReadingLemmas.{front_of}
@@ -45,7 +45,7 @@ module _ (limit : ℕ) where
   ends_before o left now after offset s r l = grind arith
 
   pub stops : (archive : List ℕ) (offset : ℕ) (f : Fault) (heads : List HeadView) (z : List ℕ)
-      → Walks limit 0 archive heads f.offset z → IsFoundIn f.cause (record_at limit f.offset z) → f.offset ≤ offset
+      → Walks limit 0 archive heads f.offset z → IsPossibleCause f.cause (record_at limit f.offset z) → f.offset ≤ offset
       → StopsAt limit archive offset f
   stops archive offset f heads z w i l = grind arith
 

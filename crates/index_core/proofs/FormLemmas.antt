@@ -4,7 +4,7 @@ use Rattle.std.proofs.Common.{Result, Ok, Err, length, take, drop, refl, subst, 
 use Rattle.warc_core.specs.declared.fault.Cause.{Cause}
 use Rattle.warc_core.specs.declared.fault.Fault.{Fault}
 use Rattle.warc_core.specs.HeadView.{HeadView, record_length}
-use Rattle.warc_core.specs.Reading.{IsFoundIn}
+use Rattle.warc_core.specs.Reading.{IsPossibleCause}
 use Rattle.warc_core.specs.Walk.{record_at, Walks, IsDamaged}
 use Rattle.warc_core.proofs.ReadingLemmas.{answered, front_of}
 use Rattle.warc_core.proofs.SpelledLemmas.{read-spelled}
@@ -38,7 +38,7 @@ text_length limit start bytes rest h r =
     grind (arith, front_of)
 
 -- a cause that isn't one of memory or of a read is that of the bytes
-met : (c : Cause) (r : Result (Option HeadView × List ℕ) Cause) → r ≡ Err c → IsFoundIn c r
+met : (c : Cause) (r : Result (Option HeadView × List ℕ) Cause) → r ≡ Err c → IsPossibleCause c r
 met c r e = grind arith
 
 module _ (limit : ℕ) (archive : List ℕ) (offset : ℕ) where
@@ -71,7 +71,7 @@ module _ (limit : ℕ) (archive : List ℕ) (offset : ℕ) where
       inr (heads, record { end = offset; walks = subst (Walks limit 0 archive heads offset) n w }, omega arith)
 
   stopped : (f : Fault) → AreRecordsTo limit archive offset → f.offset ≡ offset
-      → IsFoundIn f.cause (record_at limit offset (drop offset archive)) → StopsAt limit archive offset f
+      → IsPossibleCause f.cause (record_at limit offset (drop offset archive)) → StopsAt limit archive offset f
   stopped f (heads, z, w) e i = grind (arith, stops, from_offset)
 
   -- where no record begins and no record is cut, the archive ends
@@ -92,7 +92,7 @@ module _ (limit : ℕ) (archive : List ℕ) (offset : ℕ) where
 
   -- the cause of a fault at the offset is that of the bytes there
   found : (f : Fault) → offset ≤ f.offset → f.offset ≤ offset → StopsAt limit archive offset f
-      → IsFoundIn f.cause (record_at limit offset (drop offset archive))
+      → IsPossibleCause f.cause (record_at limit offset (drop offset archive))
   found f i l (inl (heads, d, m)) =
       let same = from_offset limit archive heads f.offset d.rest d.walks in
       let at : f.offset ≡ offset = omega arith in

@@ -15,7 +15,7 @@ use Rattle.capture_core.specs.Fault.{fault_offset}
 use Rattle.index_core.specs.declared.fault.IndexFault.{IndexFault}
 use Rattle.index_core.specs.declared.fault.IndexFault.TheVariants as faults
 use Rattle.capture_core.proofs.Captures.{one_capture}
-use Rattle.index_core.specs.Accepted.{AreCaptured, IsCaptureAt, IsTaken, IsRefused, IsAcceptedTo}
+use Rattle.index_core.specs.Accepted.{AreCaptured, IsCaptureAt, IsTaken, MayBeRefused, IsAcceptedTo}
 use Rattle.index_core.specs.Adding.{Adds}
 use Rattle.index_core.specs.Indexing.{Held, index_text}
 use Rattle.index_core.specs.Laws.{IsNoFaultOfArchive}
@@ -51,7 +51,7 @@ module _ (types : Kind → Bool) (limits : Limits) (limit : ℕ) (name archive :
   Taken = IsTaken types limits limit name archive
 
   abbrev Refused : ℕ → List ℕ → CaptureFault → Type 0
-  Refused = IsRefused types limits limit name
+  Refused = MayBeRefused types limits limit name
 
   -- a record whose line is too long isn't taken
   no_long_line : (hs : List HeadView) (o : ℕ) (r later : List ℕ) (h : HeadView) (e : EntryValue)

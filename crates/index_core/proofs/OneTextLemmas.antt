@@ -6,7 +6,7 @@ use Rattle.devices.specs.Device.{AppendsPrefix}
 use Rattle.warc_core.specs.declared.fault.Cause.{Cause}
 use Rattle.warc_core.specs.declared.fault.Fault.{Fault}
 use Rattle.warc_core.specs.HeadView.{HeadView}
-use Rattle.warc_core.specs.Reading.{IsFoundIn}
+use Rattle.warc_core.specs.Reading.{IsPossibleCause}
 use Rattle.warc_core.specs.Walk.{record_at, Walks}
 use Rattle.warc_core.proofs.WalkLemmas.{one_list, not_both, one_fault}
 use Rattle.capture_core.specs.declared.fault.CaptureFault.TheVariants.{Archive}
@@ -36,7 +36,7 @@ has_front before bytes whole part e (more, w) = (
 )
 
 -- a cause of the archive's is that of the bytes
-pub damage : {A : Type 0} (c : Cause) (r : Result A Cause) → (IsNoDamage c → ⊥) → IsFoundIn c r → r ≡ Err c
+pub damage : {A : Type 0} (c : Cause) (r : Result A Cause) → (IsNoDamage c → ⊥) → IsPossibleCause c r → r ≡ Err c
 damage c r n i = grind arith
 
 -- ---- reports

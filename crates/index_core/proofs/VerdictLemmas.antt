@@ -38,7 +38,7 @@ judged_met judge n c before after h = grind (arith, refused_record)
 -- the verdict on a record that begins the bytes
 pub judged_verdict : (limit start : ℕ) (h : HeadView) (v : Verdict) (before mid after : Option (List ℕ))
     → Reads (next_at limit start) (Ok (Some h)) before mid
-    → Reads (judge_record (verdict_on h) h.parts.length) (Ok v) mid after
+    → Reads (judge_record (verdict_on h) h.parts.block_length) (Ok v) mid after
     → IfSome before (λ bytes. v ≡ verdict_on h (block_at h bytes))
 judged_verdict limit start h v (Some z) (Some y) (Some w) r j =
     let spelled = next-spelled limit start z y h r in

@@ -4,7 +4,7 @@ use Rattle.std.specs.Prelude.{Ok, IfSome, IsSome}
 use Rattle.std.specs.List.{AllByRecursion}
 use Rattle.warc_core.specs.Kind.{Kind}
 use Rattle.warc_core.specs.HeadView.{HeadView, block_at}
-use Rattle.warc_core.specs.Reading.{IsFoundIn}
+use Rattle.warc_core.specs.Reading.{IsPossibleCause}
 use Rattle.warc_core.specs.Walk.{record_at, Walks, AreRecords}
 use Rattle.cdxj_core.specs.Entries.{EntryValue, line_text}
 use Rattle.capture_core.specs.declared.fault.CaptureFault.{CaptureFault}
@@ -40,12 +40,12 @@ module _ (types : Kind → Bool) (limits : Limits) (limit : ℕ) (name : List �
 
   -- why no capture is taken of what begins at this offset with these bytes: no record does, or its line is too long, or
   -- its key
-  abbrev pub IsRefused : ℕ → List ℕ → CaptureFault → Type 0
-  IsRefused offset bytes (Archive f) = IsFoundIn f.cause (record_at limit offset bytes)
-  IsRefused offset bytes (LineTooLong o) =
+  abbrev pub MayBeRefused : ℕ → List ℕ → CaptureFault → Type 0
+  MayBeRefused offset bytes (Archive f) = IsPossibleCause f.cause (record_at limit offset bytes)
+  MayBeRefused offset bytes (LineTooLong o) =
       (h : HeadView) × (rest : List ℕ) × (record_at limit offset bytes ≡ Ok (Some h, rest))
       × (e : EntryValue) × IsCaptureAt h bytes (Some e) × (limits.line < length (line_text e))
-  IsRefused offset bytes (KeyTooLong o) = (h : HeadView) × (rest : List ℕ)
+  MayBeRefused offset bytes (KeyTooLong o) = (h : HeadView) × (rest : List ℕ)
       × (record_at limit offset bytes ≡ Ok (Some h, rest)) × IsSome (url_of types h)
 
   -- The archive is accepted up to the fault's offset, with these captures of the whole records before it.
@@ -54,7 +54,7 @@ module _ (types : Kind → Bool) (limits : Limits) (limit : ℕ) (name : List �
     pub rest : List ℕ
     pub walks : Walks limit 0 archive heads (fault_offset fault) rest
     pub captured : AreCaptured archive heads captures
-    pub refused : IsRefused (fault_offset fault) rest fault
+    pub refused : MayBeRefused (fault_offset fault) rest fault
 
   -- a line that isn't too long
   abbrev pub FitsLine : EntryValue → Type 0

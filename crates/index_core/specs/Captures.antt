@@ -10,7 +10,7 @@ use Rattle.warc_core.specs.Walk.{record_at}
 use Rattle.cdxj_core.specs.Entries.{EntryValue}
 use Rattle.capture_core.specs.declared.fault.CaptureFault.{CaptureFault}
 use Rattle.capture_core.specs.CaptureAnswer.{Limits, IsEntryOf}
-use Rattle.index_core.specs.Accepted.{IsCaptureAt, IsRefused}
+use Rattle.index_core.specs.Accepted.{IsCaptureAt, MayBeRefused}
 use Rattle.capture_core.specs.Fault.{fault_offset}
 
 -- each capture of that name stands before the offset
@@ -33,4 +33,4 @@ module _ (types : Kind → Bool) (limits : Limits) (limit : ℕ) (name : List �
   TakesNext offset (Ok None) new before after = Reads (record_at limit offset) (Ok None) before after
   TakesNext offset (Ok (Some (h, captured))) new before after = TakesRecord offset h captured new before after
   TakesNext offset (Err fault) new before after = (fault_offset fault ≡ offset)
-      × IfSome before (λ bytes. IsRefused types limits limit name offset bytes fault)
+      × IfSome before (λ bytes. MayBeRefused types limits limit name offset bytes fault)

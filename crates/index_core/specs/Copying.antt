@@ -6,7 +6,7 @@ use Rattle.warc_core.specs.declared.fault.Fault.{Fault}
 use Rattle.warc_core.specs.declared.phase.Phase.TheVariants.{Between, Open}
 use Rattle.devices.specs.Device.{AppendsPrefix}
 use Rattle.warc_core.specs.HeadView.{HeadView, record_length}
-use Rattle.warc_core.specs.Reading.{Reads, IsFoundIn, IsFoundAt}
+use Rattle.warc_core.specs.Reading.{Reads, IsPossibleCause, IsPossibleFault}
 use Rattle.warc_core.specs.ReaderView.{ReaderView, StandsAt}
 use Rattle.warc_core.specs.Record.{after_block, after_record}
 use Rattle.warc_core.specs.Walk.{record_at, Walks}
@@ -29,7 +29,7 @@ EndsBlock left len front old new (Ok u) before after =
     (length front ≡ left) × Consumes (prepend_known old.held before) (prepend_known new.held after) front
     × StandsAt new old.offset (Open 0 len)
 EndsBlock left len front old new (Err (faults.Capture (Archive f))) before after = (f.offset ≡ old.offset)
-    × IsFoundAt (after_block left) f.cause (prepend_known old.held before)
+    × IsPossibleFault (after_block left) f.cause (prepend_known old.held before)
 EndsBlock left len front old new (Err faults.Write) before after = ⊤
 EndsBlock left len front old new (Err other) before after = ⊥
 
@@ -42,9 +42,9 @@ pub record CopiesBlock (left len : ℕ) (old new : ReaderView) (r : Result (Unit
 -- how the copying of a record ended, by the front of it that was written
 abbrev pub EndsRecord : HeadView → List ℕ → Result ℕ IndexFault → Option (List ℕ) → Option (List ℕ) → Type 0
 EndsRecord h front (Ok n) before after = (n ≡ length front) × (n ≡ record_length h)
-    × Reads (after_record h.parts.length) (Ok tt) before after
+    × Reads (after_record h.parts.block_length) (Ok tt) before after
 EndsRecord h front (Err (faults.Capture (Archive f))) before after = (f.offset ≡ h.start)
-    × Reads (after_record h.parts.length) (Err f.cause) before after
+    × Reads (after_record h.parts.block_length) (Err f.cause) before after
 EndsRecord h front (Err faults.Write) before after = ⊤
 EndsRecord h front (Err other) before after = ⊥
 
@@ -62,7 +62,7 @@ CopiesNext limit offset (Ok n) before written written' =
     × (text ≡ take (record_length h) bytes))
 CopiesNext limit offset (Err faults.NoRecord) before written written' = IfSome before (λ bytes. bytes ≡ [])
 CopiesNext limit offset (Err (faults.Capture (Archive f))) before written written' =
-    (f.offset ≡ offset) × IfSome before (λ bytes. IsFoundIn f.cause (record_at limit offset bytes)
+    (f.offset ≡ offset) × IfSome before (λ bytes. IsPossibleCause f.cause (record_at limit offset bytes)
     × AppendsPrefix written written' (most_written_at limit offset bytes))
 CopiesNext limit offset (Err faults.Write) before written written' = IfSome before
     (λ bytes. AppendsPrefix written written' (most_written_at limit offset bytes))

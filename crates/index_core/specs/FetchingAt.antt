@@ -4,7 +4,7 @@ use Rattle.std.specs.Prelude.{Result, Ok, Err, IfSome, option_map}
 use Rattle.std.specs.Io.KnownBytes.{Appends}
 use Rattle.devices.specs.Device.{AppendsPrefix}
 use Rattle.warc_core.specs.HeadView.{HeadView, record_length}
-use Rattle.warc_core.specs.Reading.{Reads, IsFoundIn}
+use Rattle.warc_core.specs.Reading.{Reads, IsPossibleCause}
 use Rattle.warc_core.specs.Record.{after_record}
 use Rattle.warc_core.specs.Walk.{record_at}
 use Rattle.capture_core.specs.declared.fault.CaptureFault.TheVariants.{Archive}
@@ -33,7 +33,7 @@ CopiesNextOf limit offset len (Ok n) bytes before after = (n ≡ len) × (text :
 CopiesNextOf limit offset len (Err faults.NoRecord) bytes before after = IfSome bytes
     (λ b. (b ≡ []) ⊎ BeginsOther limit offset b len)
 CopiesNextOf limit offset len (Err (faults.Capture (Archive f))) bytes before after =
-    (f.offset ≡ offset) × IfSome bytes (λ b. IsFoundIn f.cause (record_at limit offset b)
+    (f.offset ≡ offset) × IfSome bytes (λ b. IsPossibleCause f.cause (record_at limit offset b)
     × AppendsPrefix before after (most_written_at limit offset b))
 CopiesNextOf limit offset len (Err faults.Write) bytes before after = IfSome bytes
     (λ b. AppendsPrefix before after (most_written_at limit offset b))
@@ -55,7 +55,7 @@ PassesRecord left offset result bytes rest = ⊥
 -- a record whose head was read is passed over, since it has another length
 pub record PassesOver (h : HeadView) (len : ℕ) (bytes rest : Option (List ℕ)) : Type 0 where
   pub other : record_length h ≢ len
-  pub whole : Reads (after_record h.parts.length) (Ok tt) bytes rest
+  pub whole : Reads (after_record h.parts.block_length) (Ok tt) bytes rest
 
 -- a record whose head was read was copied if it has this length, or its front
 abbrev pub CopiesRecordOf : HeadView → ℕ → Result ℕ IndexFault → Option (List ℕ) → Option (List ℕ)

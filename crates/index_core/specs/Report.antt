@@ -9,7 +9,7 @@ use Rattle.warc_core.specs.declared.phase.Phase.TheVariants.{Between}
 use Rattle.warc_core.specs.Cause.{cause_name}
 use Rattle.devices.specs.Device.{AppendsPrefix, next_count}
 use Rattle.warc_core.specs.HeadView.{HeadView, record_length, RecordBeginsAt}
-use Rattle.warc_core.specs.Reading.{IsFoundIn}
+use Rattle.warc_core.specs.Reading.{IsPossibleCause}
 use Rattle.warc_core.specs.ReaderView.{ReaderView, StandsAt}
 use Rattle.warc_core.specs.Walk.{Walks, AreRecords, IsDamaged, record_at}
 use Rattle.capture_core.specs.declared.fault.CaptureFault.TheVariants.{Archive}
@@ -60,7 +60,7 @@ abbrev pub ReportedToFault : ℕ → RecordLine → Option (List ℕ) → Fault 
 ReportedToFault limit line None f before after = ⊤
 ReportedToFault limit line (Some archive) f before after =
     (heads : List HeadView) × (rest : List ℕ) × Walks limit 0 archive heads f.offset rest
-    × IsFoundIn f.cause (record_at limit f.offset rest)
+    × IsPossibleCause f.cause (record_at limit f.offset rest)
     × Appends before after (report_lines line archive heads ++ fault_line f)
 
 -- A prefix of the report was written.

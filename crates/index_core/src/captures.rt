@@ -12,14 +12,14 @@ ghost use Rattle.index_core.specs.Adding.{Gains};
 ghost use Rattle.index_core.specs.Counting.{CountsCapture};
 ghost use Rattle.index_core.specs.Captures.{StandBefore, TakesNext};
 
-use capture_core::{CaptureFault, Front, HeldLine, Types, held_capture};
+use capture_core::{CaptureFault, BlockStart, HeldLine, Types, held_capture};
 use std::alloc::{AllocError, Global};
 use warc_core::{Cause, Fault, Head, Input, Reader};
 
 /// Reads the next whole record to its end, and returns its head and its capture under the archive's name.
 fn next_capture<I: Input>(
     alloc: Global,
-    front: &mut Front,
+    front: &mut BlockStart,
     reader: &mut Reader,
     input: &mut I,
     name: &str,
@@ -60,7 +60,7 @@ fn keep(captures: &mut Vec<HeldLine>, captured: Option<HeldLine>) -> Result<(), 
 /// Errors are those of `held_capture`. The captures before the fault were then added.
 pub fn add_captures<I: Input>(
     alloc: Global,
-    front: &mut Front,
+    front: &mut BlockStart,
     captures: &mut Vec<HeldLine>,
     name: &str,
     types: Types,

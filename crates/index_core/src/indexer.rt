@@ -3,7 +3,7 @@ use crate::captures::add_captures;
 use crate::fault::IndexFault;
 use crate::index_lines::put_index;
 use crate::names::{Names, is_name};
-use capture_core::{Front, HeldLine, Types};
+use capture_core::{BlockStart, HeldLine, Types};
 use std::alloc::Global;
 use std::marker::Model;
 use warc_core::{Input, Output};
@@ -16,7 +16,7 @@ pub struct Indexer {
     names: Names,
     captures: Vec<HeldLine>,
     /// The buffer for the start of a block, which serves all records.
-    front: Front,
+    front: BlockStart,
 }
 
 impl Model for Indexer {
@@ -52,7 +52,7 @@ impl Indexer {
             types,
             names: Names::new(alloc),
             captures: Vec::new(alloc),
-            front: Front::new(alloc),
+            front: BlockStart::new(alloc),
         }
     }
 

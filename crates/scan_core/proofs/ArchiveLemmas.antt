@@ -16,7 +16,7 @@ use Rattle.merge_core.proofs.Many.{map_set_same}
 use Rattle.cdxj_places.proofs.RisingLaws.{each_join}
 use Rattle.merge_core.proofs.SpendLemmas.{left_here, left_after}
 use Rattle.scan_core.specs.declared.fault.ScanFault.TheVariants.{Archive}
-use Rattle.scan_core.specs.Archives.{IsNewName, AreNewNames, IsAcceptedAs, AreAcceptedAs, HaveLines, AreIndexed}
+use Rattle.scan_core.specs.Archives.{IsNewName, AreNewNames, AreCapturesOf, AreCapturesOfEach, HaveLines, AreIndexed}
 use Rattle.scan_core.specs.Archives.{HasIndex, HaveIndexes, IsFaultOfArchive, IsFirstFault, IsNameFault, index_members}
 use Rattle.scan_core.specs.Failures.{CountsAt}
 use Rattle.scan_core.specs.Scanning.{LeavesUnread}
@@ -29,8 +29,8 @@ names_push earlier (n ∷ names) name h k =
 
 accepted_push : (types : Kind → Bool) (names : List (List ℕ)) (inputs : List (Option (List ℕ)))
     (archives : List (List EntryValue)) (name : List ℕ) (input : Option (List ℕ)) (captures : List EntryValue)
-    → AreAcceptedAs types names inputs archives → IsAcceptedAs types name input captures
-    → AreAcceptedAs types (names ++ name ∷ []) (inputs ++ input ∷ []) (archives ++ captures ∷ [])
+    → AreCapturesOfEach types names inputs archives → AreCapturesOf types name input captures
+    → AreCapturesOfEach types (names ++ name ∷ []) (inputs ++ input ∷ []) (archives ++ captures ∷ [])
 accepted_push types (n ∷ names) (i ∷ inputs) (c ∷ archives) name input captures h k =
     (h.0, accepted_push types names inputs archives name input captures h.1 k)
 accepted_push types names inputs archives name input captures h k = grind arith
@@ -38,7 +38,7 @@ accepted_push types names inputs archives name input captures h k = grind arith
 -- one archive more
 indexed_push : {types : Kind → Bool} {names : List (List ℕ)} {inputs : List (Option (List ℕ))}
     {archives : List (List EntryValue)} {name : List ℕ} {captures : List EntryValue} (input : Option (List ℕ))
-    → AreIndexed types names inputs archives → IsNewName names name → IsAcceptedAs types name input captures
+    → AreIndexed types names inputs archives → IsNewName names name → AreCapturesOf types name input captures
     → HaveLines captures → AreIndexed types (names ++ name ∷ []) (inputs ++ input ∷ []) (archives ++ captures ∷ [])
 indexed_push input h new accepted lines = grind (arith, names_push, accepted_push, each_join)
 

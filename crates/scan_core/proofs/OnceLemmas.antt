@@ -8,7 +8,7 @@ use Rattle.cdxj_places.proofs.RisingLaws.{each_join, each_weaker}
 use Rattle.cdxj_core.specs.Entries.{EntryValue, entry_place}
 use Rattle.index_core.specs.Indexing.{AreNamed, HaveOwnPlaces, is_among}
 use Rattle.index_core.proofs.SoundLemmas.{among_more, among_last}
-use Rattle.scan_core.specs.Archives.{AreNewNames, AreAcceptedAs, HaveLines}
+use Rattle.scan_core.specs.Archives.{AreNewNames, AreCapturesOfEach, HaveLines}
 use Rattle.scan_core.specs.Captures.{all_captures}
 
 -- a capture of that name is at another place than those of other names
@@ -31,7 +31,7 @@ own_join earlier name (e ∷ captures) others named own new h =
 
 -- each capture of archives with new names has a place of its own, and a name that isn't an earlier one
 pub once_from : (types : Kind → Bool) (earlier names : List (List ℕ)) (inputs : List (Option (List ℕ)))
-    (archives : List (List EntryValue)) → AreNewNames earlier names → AreAcceptedAs types names inputs archives
+    (archives : List (List EntryValue)) → AreNewNames earlier names → AreCapturesOfEach types names inputs archives
     → AllByRecursion HaveLines archives
     → HaveOwnPlaces (all_captures archives)
     × AllByRecursion (λ e. is_among earlier e.filename ≡ false) (all_captures archives)

@@ -14,7 +14,7 @@ use Rattle.merge_core.specs.Collections.{Known}
 use Rattle.scan_core.specs.declared.fault.ScanFault.TheVariants.{Archive}
 use Rattle.scan_core.specs.Archives.{IsNewName, AreNewNames, IsFaultOfArchive}
 use Rattle.scan_core.specs.Failures.{CountsAt}
-use Rattle.scan_core.specs.Laws.{IsWantOfMemory, MayRise, OnlyMemoryIsWanting}
+use Rattle.scan_core.specs.Laws.{IsWantOfRoom, MayRise, OnlyMemoryIsWanting}
 
 -- ---- what is known of each archive
 
@@ -54,7 +54,7 @@ module _ (whole_is_not_refused : WholeIsNotRefused) (types : Kind → Bool) (nam
     (whole : AllZip (IsAcceptedWhole types usual_limits HEAD_LIMIT) names archives) (inside : i < length names)
     (may : AllByRecursion MayRise counts) where
   archive_want : (fault : IndexFault) → IsFaultOfArchive types (take i names) (get_or names i []) (get_or inputs i None)
-      fault → CountsAt i fault counts counts → IsWantOfMemory (Archive i fault)
+      fault → CountsAt i fault counts counts → IsWantOfRoom (Archive i fault)
   archive_want (index.Capture f) h k =
       let w = whole_at types names inputs archives i known whole inside in
       let found = rw w.told at h.1 in

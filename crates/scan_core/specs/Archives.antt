@@ -26,17 +26,17 @@ AreNewNames earlier (name ∷ names) = IsNewName earlier name × AreNewNames (ea
 
 -- These captures have the archive's name. What the input holds, where that is known, is accepted whole with them, as
 -- the captures of its records of these types.
-abbrev pub IsAcceptedAs : (Kind → Bool) → List ℕ → Option (List ℕ) → List EntryValue → Type 0
-IsAcceptedAs types name input captures =
+abbrev pub AreCapturesOf : (Kind → Bool) → List ℕ → Option (List ℕ) → List EntryValue → Type 0
+AreCapturesOf types name input captures =
     AreNamed name captures
     × IfSome input (λ archive. IsAccepted types usual_limits HEAD_LIMIT name archive captures)
 
 -- the same of each archive
-abbrev pub AreAcceptedAs : (Kind → Bool) → List (List ℕ) → List (Option (List ℕ)) → List (List EntryValue) → Type 0
-AreAcceptedAs types [] [] [] = ⊤
-AreAcceptedAs types (name ∷ names) (input ∷ inputs) (captures ∷ others) = IsAcceptedAs types name input captures
-    × AreAcceptedAs types names inputs others
-AreAcceptedAs types names inputs captures = ⊥
+abbrev pub AreCapturesOfEach : (Kind → Bool) → List (List ℕ) → List (Option (List ℕ)) → List (List EntryValue) → Type 0
+AreCapturesOfEach types [] [] [] = ⊤
+AreCapturesOfEach types (name ∷ names) (input ∷ inputs) (captures ∷ others) = AreCapturesOf types name input captures
+    × AreCapturesOfEach types names inputs others
+AreCapturesOfEach types names inputs captures = ⊥
 
 -- an archive's captures have lines, each at a place of its own
 pub record HaveLines (captures : List EntryValue) : Type 0 where
@@ -51,7 +51,7 @@ index_members captures = map entry_member (in_places captures)
 pub record AreIndexed (types : Kind → Bool) (names : List (List ℕ)) (inputs : List (Option (List ℕ)))
     (captures : List (List EntryValue)) : Type 0 where
   pub named : AreNewNames [] names
-  pub accepted : AreAcceptedAs types names inputs captures
+  pub accepted : AreCapturesOfEach types names inputs captures
   pub lines : AllByRecursion HaveLines captures
 
 -- an archive under a new name is accepted whole, and this is the index of its captures
@@ -59,7 +59,7 @@ pub record HasIndex (types : Kind → Bool) (earlier : List (List ℕ)) (name : 
     (index : List ℕ) : Type 0 where
   pub is_new : IsNewName earlier name
   pub captures : List EntryValue
-  pub accepted : IsAcceptedAs types name input captures
+  pub accepted : AreCapturesOf types name input captures
   pub lines : HaveLines captures
   pub is_index : IsIndex LINE_LIMIT index (index_members captures)
 

@@ -32,13 +32,13 @@ pub record IsScannable (types : Kind → Bool) (names archives : List (List ℕ)
   pub whole : AllZip (IsAcceptedWhole types usual_limits HEAD_LIMIT) names archives
 
 -- a fault for want of memory, or for a key that the URL parser has no room for
-abbrev pub IsWantOfMemory : ScanFault → Type 0
-IsWantOfMemory (Query refusal.Memory) = ⊤
-IsWantOfMemory (Archive i index.Memory) = ⊤
-IsWantOfMemory (Archive i (index.Capture (capture.Archive fault))) = fault.cause ≡ causes.Memory
-IsWantOfMemory (Archive i (index.Capture (capture.KeyTooLong offset))) = ⊤
-IsWantOfMemory (Answer answer.Memory) = ⊤
-IsWantOfMemory other = ⊥
+abbrev pub IsWantOfRoom : ScanFault → Type 0
+IsWantOfRoom (Query refusal.Memory) = ⊤
+IsWantOfRoom (Archive i index.Memory) = ⊤
+IsWantOfRoom (Archive i (index.Capture (capture.Archive fault))) = fault.cause ≡ causes.Memory
+IsWantOfRoom (Archive i (index.Capture (capture.KeyTooLong offset))) = ⊤
+IsWantOfRoom (Answer answer.Memory) = ⊤
+IsWantOfRoom other = ⊥
 
 -- a count of failures that isn't at its end, and so rises with each failure
 abbrev pub MayRise : ℕ → Type 0
@@ -61,7 +61,7 @@ OnlyMemoryIsWanting = (types : Kind → Bool) (names archives : List (List ℕ))
     → IsScannable types names archives sizes text → Known inputs archives
     → IsScanFault types names inputs sizes text fault
     → AllByRecursion MayRise counts → CountsInputs {A = Unit {0}} (Err fault) counts counts
-    → MayRise count → CountsOutput {A = Unit {0}} (Err fault) count count → IsWantOfMemory fault
+    → MayRise count → CountsOutput {A = Unit {0}} (Err fault) count count → IsWantOfRoom fault
 
 -- over archives and an output whose bytes are known, a scan writes one text, and returns one number of pages
 abbrev pub ScanIsOne : Type 0

@@ -5,7 +5,7 @@ use Rattle.warc_core.specs.Kind.{Kind}
 use Rattle.cdxj_core.specs.Entries.{EntryValue}
 use Rattle.index_core.specs.declared.fault.IndexFault.{IndexFault}
 use Rattle.scan_core.specs.declared.fault.ScanFault.{ScanFault}
-use Rattle.scan_core.specs.Archives.{AreAcceptedAs, AreIndexed, IsAcceptedAs, IsFaultOfArchive, IsFirstFault}
+use Rattle.scan_core.specs.Archives.{AreCapturesOfEach, AreIndexed, AreCapturesOf, IsFaultOfArchive, IsFirstFault}
 use Rattle.scan_core.specs.Scanning.{IsScanFault, Scanned, ScannedInPart}
 use Rattle.tasks.specs.declared.outcome.Outcome.{Outcome}
 use Rattle.tasks.specs.Opening.{HasTold}
@@ -14,12 +14,12 @@ use Rattle.tasks.proofs.ToldLemmas.{of_told, told_at, told_take}
 
 module _ (types : Kind → Bool) where
   accepted_told : (name : List ℕ) (told left : Option (List ℕ)) (captures : List EntryValue) → HasTold told left
-      → IsAcceptedAs types name left captures → IsAcceptedAs types name told captures
+      → AreCapturesOf types name left captures → AreCapturesOf types name told captures
   accepted_told name told left captures has accepted =
-      of_told (λ bytes. IsAcceptedAs types name bytes captures) told left has (λ known. (known.0, tt)) accepted
+      of_told (λ bytes. AreCapturesOf types name bytes captures) told left has (λ known. (known.0, tt)) accepted
 
   all_accepted_told : (names : List (List ℕ)) (told left : List (Option (List ℕ))) (captures : List (List EntryValue))
-      → AllZip HasTold told left → AreAcceptedAs types names left captures → AreAcceptedAs types names told captures
+      → AllZip HasTold told left → AreCapturesOfEach types names left captures → AreCapturesOfEach types names told captures
   all_accepted_told (name ∷ names) (t ∷ told) (l ∷ left) (c ∷ captures) has accepted = (
     accepted_told name t l c has.0 accepted.0,
     all_accepted_told names told left captures has.1 accepted.1,

@@ -9,7 +9,7 @@ use Rattle.std.specs.Io.KnownBytes.{prepend_known, Consumes}
 use Rattle.warc_core.specs.declared.fault.Cause.{Cause}
 use Rattle.warc_core.specs.declared.phase.Phase.TheVariants.{Open}
 use Rattle.warc_core.specs.declared.fault.Fault.{Fault}
-use Rattle.warc_core.specs.Reading.{IsFoundAt}
+use Rattle.warc_core.specs.Reading.{IsPossibleFault}
 use Rattle.warc_core.specs.Record.{after_block}
 use Rattle.warc_core.specs.ReaderView.{ReaderView, StandsAt, state_of}
 use Rattle.warc_core.specs.Calls.{GivesBlock, Fills}
@@ -24,8 +24,8 @@ Consumes-join before mid after a b h k = grind (arith, append_assoc)
 
 -- what is found behind the first bytes of a block is found of the block
 pub found-behind : (c : Cause) (left n : ℕ) (piece : List ℕ) (before mid : Option (List ℕ)) → length piece ≡ n
-    → n ≤ left → Consumes before mid piece → IsFoundAt (after_block (left - n)) c mid
-    → IsFoundAt (after_block left) c before
+    → n ≤ left → Consumes before mid piece → IsPossibleFault (after_block (left - n)) c mid
+    → IsPossibleFault (after_block left) c before
 found-behind c left n piece before mid l h k f = grind (arith, drop_all n piece, after_block-part left n piece)
 
 -- the first n bytes of what was written at the place a

@@ -30,11 +30,11 @@ module _ (limit start : ℕ) (raw : List ℕ) (before now : Option (List ℕ))
   pub head-unread : (c : Cause) → IsFoundPurely c (parts_or_cause raw) → Reads (head_at limit start) (Err c) before now
   head-unread c h = grind (arith, text-there)
 
-  pub head-far : (p : HeadParts) → parts_or_cause raw ≡ Ok p → 2 ^ 63 - 1 < start + (length raw + p.length + 4)
+  pub head-far : (p : HeadParts) → parts_or_cause raw ≡ Ok p → 2 ^ 63 - 1 < start + (length raw + p.block_length + 4)
       → Reads (head_at limit start) (Err causes.TooFar) before now
   head-far p e l = grind (arith, text-there)
 
-  pub head-read : (p : HeadParts) → parts_or_cause raw ≡ Ok p → start + (length raw + p.length + 4) ≤ 2 ^ 63 - 1
+  pub head-read : (p : HeadParts) → parts_or_cause raw ≡ Ok p → start + (length raw + p.block_length + 4) ≤ 2 ^ 63 - 1
       → Reads (head_at limit start) (Ok (head_of start raw p)) before now
   head-read p e l = grind (arith, text-there)
 

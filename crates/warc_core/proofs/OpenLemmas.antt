@@ -6,7 +6,7 @@ use Rattle.std.specs.Io.KnownBytes.{Consumes}
 use Rattle.warc_core.specs.declared.fault.Cause.{Cause}
 use Rattle.warc_core.specs.declared.phase.Phase.{Phase}
 use Rattle.warc_core.specs.declared.phase.Phase.TheVariants.{Open}
-use Rattle.warc_core.specs.Reading.{Reads, IsFoundAt, past}
+use Rattle.warc_core.specs.Reading.{Reads, IsPossibleFault, past}
 use Rattle.warc_core.specs.Record.{after_block, after_record}
 use Rattle.warc_core.proofs.ReadingLemmas.{GoesOn}
 use Rattle.warc_core.proofs.RecordLemmas.{after_block-part}
@@ -27,7 +27,7 @@ pub zero_of : (n : ℕ) → (0 < n → ⊥) → n ≡ 0
 zero_of n h = omega arith
 
 -- what is met in a block ends its record
-pub found-of-record : (c : Cause) (left : ℕ) (before after : Option (List ℕ)) → IsFoundAt (after_block left) c before
+pub found-of-record : (c : Cause) (left : ℕ) (before after : Option (List ℕ)) → IsPossibleFault (after_block left) c before
     → Reads (after_record left) (Err c) before after
 unfolding after_record
 found-of-record c left before after f = grind arith

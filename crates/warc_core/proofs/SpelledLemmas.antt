@@ -106,7 +106,7 @@ next-there limit start bytes rest h e = grind arith
 
 closed-there : (r : Result (Option HeadView × List ℕ) Cause) (h : HeadView) (rest : List ℕ)
     → (r >>= closed_at) ≡ Ok (Some h, rest)
-    → (later : List ℕ) × (r ≡ Ok (Some h, later)) × (after_record h.parts.length later ≡ Ok (tt, rest))
+    → (later : List ℕ) × (r ≡ Ok (Some h, later)) × (after_record h.parts.block_length later ≡ Ok (tt, rest))
 closed-there r h rest e = grind arith
 
 pub read-spelled : ReadIsSpelled
@@ -115,7 +115,7 @@ read-spelled limit start bytes rest h e =
     let c = closed-there (next_at limit start bytes) h rest e in
     let r = head-read-there limit start bytes c.0 h (next-there limit start bytes c.0 h c.1) in
     let w = head-there limit bytes h.raw c.0 r.0 in
-    let b = block-there h.parts.length c.0 rest c.2 in
+    let b = block-there h.parts.block_length c.0 rest c.2 in
     let head = found-spelled limit h.raw h.parts w.0 r.1 in
     grind (arith, append_assoc)
 

@@ -4,7 +4,7 @@ use Rattle.sha1.specs.Sha1.{sha1}
 use Rattle.warc_core.specs.declared.fault.Cause.{Cause}
 use Rattle.warc_core.specs.declared.fault.Fault.{Fault}
 use Rattle.warc_core.specs.declared.phase.Phase.TheVariants.{Between}
-use Rattle.warc_core.specs.Reading.{Reads, IsFoundIn}
+use Rattle.warc_core.specs.Reading.{Reads, IsPossibleCause}
 use Rattle.warc_core.specs.Record.{after_record}
 use Rattle.warc_core.specs.ReaderView.{ReaderView, state_of}
 use Rattle.warc_core.proofs.RecordLemmas.{after_block-zero}
@@ -14,8 +14,8 @@ use Rattle.warc_core.specs.Calls.{ReadsTo}
 use Rattle.warc_core.specs.BlockDigest.{judge_record}
 
 -- what is found of the record is found of its block's verdict
-pub judge-found : (judge : List ℕ → Verdict) (c : Cause) (left : ℕ) (z : List ℕ) → IsFoundIn c (after_record left z)
-    → IsFoundIn c (judge_record judge left z)
+pub judge-found : (judge : List ℕ → Verdict) (c : Cause) (left : ℕ) (z : List ℕ) → IsPossibleCause c (after_record left z)
+    → IsPossibleCause c (judge_record judge left z)
 unfolding judge_record
 judge-found judge c left z h = grind arith
 

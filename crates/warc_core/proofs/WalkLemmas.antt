@@ -81,12 +81,12 @@ module _ (limit start : ℕ) (before mid after : Option (List ℕ)) where
   record-end r = grind arith
 
   pub record-unclosed : (h : HeadView) (c : Cause) → Reads (next_at limit start) (Ok (Some h)) before mid
-      → Reads (after_record h.parts.length) (Err c) mid after → Reads (record_at limit start) (Err c) before after
+      → Reads (after_record h.parts.block_length) (Err c) mid after → Reads (record_at limit start) (Err c) before after
   unfolding record_at
   record-unclosed h c r s = grind arith
 
   pub record-whole : (h : HeadView) → Reads (next_at limit start) (Ok (Some h)) before mid
-      → Reads (after_record h.parts.length) (Ok tt) mid after → Reads (record_at limit start) (Ok (Some h)) before after
+      → Reads (after_record h.parts.block_length) (Ok tt) mid after → Reads (record_at limit start) (Ok (Some h)) before after
   unfolding record_at
   record-whole h r s = grind arith
 

@@ -11,7 +11,7 @@ use Rattle.warc_core.specs.Cause.{StopsBlock, StopsRecord, StopsHead}
 use Rattle.warc_core.specs.HeadView.{HeadView, RecordBeginsAt}
 use Rattle.warc_core.specs.Next.{next_at}
 use Rattle.warc_core.specs.ReaderView.{ReaderView, ReaderState, ahead, StandsAt, IsUnread, FailedBy}
-use Rattle.warc_core.specs.Reading.{Reads, IsFoundAt}
+use Rattle.warc_core.specs.Reading.{Reads, IsPossibleFault}
 use Rattle.warc_core.specs.Record.{after_record, after_block}
 
 -- a call read an open record to its end, or failed by what it met
@@ -25,7 +25,7 @@ pub record Finishes (left length : ℕ) (old new : ReaderState) (r : Result ℕ 
 -- a call gave the next bytes of an open record's block, or failed by what it met
 pub record GivesBlock (left len : ℕ) (old new : ReaderState) (r : Result ℕ Fault) (piece : List ℕ) : Type 0 where
   pub bytes : MatchResult r (λ n. Consumes (ahead old) (ahead new) (take n piece))
-      (λ f. IsFoundAt (after_block left) f.cause (ahead old))
+      (λ f. IsPossibleFault (after_block left) f.cause (ahead old))
   pub bound : MatchResult r (λ n. (n ≤ left) × (n ≤ length piece) × (0 < left → 0 < length piece → 0 < n)) (λ _. ⊤)
   pub state : MatchResult r (λ n. StandsAt new.reader old.reader.offset (Open (left - n) len))
       (FailedBy new.reader old.reader.offset)
@@ -35,7 +35,7 @@ pub record GivesBlock (left len : ℕ) (old new : ReaderState) (r : Result ℕ F
 -- a call filled a piece with the next bytes of an open record's block, or failed by what it met
 pub record Fills (left len : ℕ) (old new : ReaderState) (r : Result (Unit {0}) Fault) (piece : List ℕ) : Type 0 where
   pub given : MatchResult r (λ _. Consumes (ahead old) (ahead new) piece)
-      (λ f. IsFoundAt (after_block left) f.cause (ahead old))
+      (λ f. IsPossibleFault (after_block left) f.cause (ahead old))
   pub state : MatchResult r (λ _. StandsAt new.reader old.reader.offset (Open (left - length piece) len))
       (FailedBy new.reader old.reader.offset)
   pub cause : IfErr r (λ f. StopsBlock f.cause)

@@ -15,11 +15,11 @@ head_view start head = record { start = start; raw = head.raw; parts = head.part
 
 -- how long a record with this head is
 abbrev pub record_length : HeadView → ℕ
-record_length h = length h.raw + h.parts.length + 4
+record_length h = length h.raw + h.parts.block_length + 4
 
 -- the block of the record that begins these bytes
 abbrev pub block_at : HeadView → List ℕ → List ℕ
-block_at h bytes = take h.parts.length (drop (length h.raw) bytes)
+block_at h bytes = take h.parts.block_length (drop (length h.raw) bytes)
 
 -- the record ends by the greatest offset
 abbrev pub IsWithinOffsets : HeadView → Type 0

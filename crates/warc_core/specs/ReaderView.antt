@@ -42,7 +42,7 @@ pub record StandsAt (r : ReaderView) (offset : ℕ) (phase : Phase) : Type 0 whe
 -- the head is the reader's last, and no byte of its block was read
 pub record IsUnread (r : ReaderView) (h : HeadView) : Type 0 where
   pub offset_is : r.offset ≡ h.start
-  pub phase_is : r.phase ≡ Open h.parts.length (record_length h)
+  pub phase_is : r.phase ≡ Open h.parts.block_length (record_length h)
 
 -- a record is open, and n bytes of its block are left, or more
 abbrev pub HasLeft : ℕ → Phase → Type 0

@@ -18,15 +18,15 @@ abbrev pub past : ℕ → List ℕ → Result (Unit {0} × List ℕ) Cause
 past n bytes = Ok (tt, drop n bytes)
 
 -- A cause other than Memory and Read is the one that the bytes give.
-abbrev pub IsFoundIn : {A : Type 0} → Cause → Result A Cause → Type 0
-IsFoundIn causes.Memory read = ⊤
-IsFoundIn causes.Read read = ⊤
-IsFoundIn c read = read ≡ Err c
+abbrev pub IsPossibleCause : {A : Type 0} → Cause → Result A Cause → Type 0
+IsPossibleCause causes.Memory read = ⊤
+IsPossibleCause causes.Read read = ⊤
+IsPossibleCause c read = read ≡ Err c
 
 -- What f reads at the front of the known bytes gives this cause, if it is neither Memory nor Read.
-abbrev pub IsFoundAt : {A : Type 0} → (List ℕ → Result A Cause) → Cause → Option (List ℕ) → Type 0
-IsFoundAt f c None = ⊤
-IsFoundAt f c (Some z) = IsFoundIn c (f z)
+abbrev pub IsPossibleFault : {A : Type 0} → (List ℕ → Result A Cause) → Cause → Option (List ℕ) → Type 0
+IsPossibleFault f c None = ⊤
+IsPossibleFault f c (Some z) = IsPossibleCause c (f z)
 
 -- A call answered what f reads at the front of the known bytes, and left the bytes after it.
 abbrev pub Reads : {A : Type 0} → (List ℕ → Result (A × List ℕ) Cause) → Result A Cause → Option (List ℕ)
@@ -34,4 +34,4 @@ abbrev pub Reads : {A : Type 0} → (List ℕ → Result (A × List ℕ) Cause) 
 Reads f r None after = ⊤
 Reads f (Ok x) (Some z) None = ⊥
 Reads f (Ok x) (Some z) (Some rest) = f z ≡ Ok (x, rest)
-Reads f (Err c) (Some z) after = IsFoundIn c (f z)
+Reads f (Err c) (Some z) after = IsPossibleCause c (f z)

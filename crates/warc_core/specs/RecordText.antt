@@ -33,7 +33,7 @@ pub record IsRecordHead (limit : ℕ) (parts : HeadParts) (text : List ℕ) : Ty
 pub record IsRecordText (limit : ℕ) (head : List ℕ) (parts : HeadParts) (block text : List ℕ) : Type 0 where
   pub spelled : text ≡ head ++ (block ++ closing)
   pub is_head : IsRecordHead limit parts head
-  pub block_length : length block ≡ parts.length
+  pub block_length : length block ≡ parts.block_length
 
 -- the record that was read from a place is this text
 pub record IsReadFrom (limit start : ℕ) (h : HeadView) (block text : List ℕ) : Type 0 where

@@ -9,7 +9,7 @@ use Rattle.warc_core.specs.Next.{next_at}
 -- a head, once what follows it was read to the end of its record
 abbrev pub closed_at : Option HeadView × List ℕ → Result (Option HeadView × List ℕ) Cause
 closed_at (None, rest) = Ok (None, rest)
-closed_at (Some h, rest) = after_record h.parts.length rest >>= λ closed. Ok (Some h, closed.1)
+closed_at (Some h, rest) = after_record h.parts.block_length rest >>= λ closed. Ok (Some h, closed.1)
 
 -- the head that comes next, if one does, and the bytes after its record
 unfoldable pub record_at : ℕ → ℕ → List ℕ → Result (Option HeadView × List ℕ) Cause

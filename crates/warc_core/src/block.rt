@@ -1,7 +1,7 @@
 //! The bytes of a block.
 ghost use Rattle.std.specs.Prelude.{◌≡◌, Option, ℕ, ◌+◌, ◌-◌, ◌<◌, ◌≤◌, List, [], length, drop, take, IfOk, IfErr, OnOk, MatchResult};
 ghost use Rattle.std.specs.Io.KnownBytes.{Consumes, ReadConsumes, prepend_known};
-ghost use Rattle.warc_core.specs.Reading.{Reads, IsFoundAt, past};
+ghost use Rattle.warc_core.specs.Reading.{Reads, IsPossibleFault, past};
 ghost use Rattle.warc_core.specs.Answers.{CountsRead};
 ghost use Rattle.warc_core.specs.Record.{after_block};
 ghost use Rattle.warc_core.specs.Cause.{StopsBlock};
@@ -40,7 +40,7 @@ pub fn give_block<I: Input>(
     ensures bytes { MatchResult result
         (λ n. Consumes (prepend_known buffer.old (I.remaining input.old))
         (prepend_known buffer.new (I.remaining input.new)) (take n piece.new))
-        (λ c. IsFoundAt (after_block left) c (prepend_known buffer.old (I.remaining input.old))) }
+        (λ c. IsPossibleFault (after_block left) c (prepend_known buffer.old (I.remaining input.old))) }
     ensures failures { CountsRead result (I.failures input.old) (I.failures input.new) }
 {
     let most = left.min(piece.len() as u64) as usize;

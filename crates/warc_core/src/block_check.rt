@@ -28,7 +28,7 @@ pub fn block_digest<I: Input>(
     requires { IsUnread reader.old head.now }
     ensures { ReadsTo (judge_record
         (verdict_of (value_of (codes "WARC-Block-Digest") head.now.parts.fields))
-        head.now.parts.length) (head.now.start + record_length head.now) Between
+        head.now.parts.block_length) (head.now.start + record_length head.now) Between
         (state_of reader.old (I.remaining input.old) (I.failures input.old))
         (state_of reader.new (I.remaining input.new) (I.failures input.new)) result }
 {

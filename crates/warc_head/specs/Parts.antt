@@ -13,8 +13,8 @@ pub record HeadParts : Type 0 where
   pub kind : Kind
   -- fourteen digits
   pub stamp : List ℕ
-  -- of the block, in bytes
-  pub length : ℕ
+  -- in bytes
+  pub block_length : ℕ
   -- in the order of their lines
   pub fields : List Field
 
@@ -39,7 +39,7 @@ parts_in fields = do
   length ← length_in fields
   stamp ← stamp_in fields
   kind ← kind_in fields
-  Ok (record { kind = kind; stamp = stamp; length = length; fields = fields })
+  Ok (record { kind = kind; stamp = stamp; block_length = length; fields = fields })
 
 -- the lines between the version line, of ten bytes, and the empty line; a shorter text has none
 abbrev pub field_lines_in : List ℕ → List ℕ

@@ -5,4 +5,4 @@ use Rattle.warc_head.specs.Fields.{Field}
 use Rattle.warc_head.specs.Parts.{HeadParts}
 
 abbrev pub said_of : Said → List Field → HeadParts
-said_of said fields = record { kind = said.kind; stamp = said.stamp; length = said.length; fields = fields }
+said_of said fields = record { kind = said.kind; stamp = said.stamp; block_length = said.length; fields = fields }

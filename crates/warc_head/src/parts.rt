@@ -82,7 +82,7 @@ impl Parts {
 
     /// Returns the length of the block in bytes, at most 2^63 - 1, from `Content-Length`.
     pub fn length(&self) -> u64
-        ensures { result ≡ self.now.parts.length }
+        ensures { result ≡ self.now.parts.block_length }
     {
         self.said.length
     }
@@ -105,7 +105,7 @@ impl Parts {
 pub fn read_parts(alloc: Global, raw: Vec<u8>) -> Result<Parts, HeadFault>
     ensures answer { AgreesWith (λ p. p.parts) result (parts_of raw.items) }
     ensures raw { IfOk result (λ p. p.raw ≡ raw.items) }
-    ensures bound { IfOk result (λ p. p.parts.length ≤ 2 ^ 63 - 1) }
+    ensures bound { IfOk result (λ p. p.parts.block_length ≤ 2 ^ 63 - 1) }
     ensures digits { IfOk result (λ p. all_digits p.parts.stamp ≡ true) }
 {
     let size = raw.len();

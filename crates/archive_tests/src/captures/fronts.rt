@@ -1,6 +1,6 @@
 //! One front for records whose HTTP heads end in each of its steps.
 use super::{ABC, HTTP, record_text};
-use capture_core::{CaptureFault, Front, HeldLine, Types, held_capture};
+use capture_core::{CaptureFault, BlockStart, HeldLine, Types, held_capture};
 use cdxj_core::{Field, LineRef};
 use fixtures::repeated;
 use std::alloc::{AllocError, Global};
@@ -38,7 +38,7 @@ fn archive(alloc: Global) -> Result<Vec<u8>, AllocError> {
 /// Returns the capture of the next record.
 fn next_with(
     alloc: Global,
-    front: &mut Front,
+    front: &mut BlockStart,
     reader: &mut Reader,
     input: &mut Slice<'_>,
 ) -> Result<Option<HeldLine>, CaptureFault> {
@@ -80,7 +80,7 @@ fn one_front_serves_records_of_all_sizes(rt: HostRuntime) -> Result<(), Fail> {
     let archive = archive(rt.alloc())?;
     let mut input = Slice::new(archive.as_slice());
     let mut reader = Reader::new(rt.alloc())?;
-    let mut front = Front::new(rt.alloc());
+    let mut front = BlockStart::new(rt.alloc());
     let mut refused = None;
     for (_first, _count, status) in RECORDS {
         match next_with(rt.alloc(), &mut front, &mut reader, &mut input) {

@@ -10,7 +10,7 @@ use Rattle.capture_core.proofs.RestLemmas.{filled-failed, filled-rest, filled-re
 use Rattle.capture_core.proofs.record_capture.capture_indexed.Goals as goal
 
 pub returns-in-Err : goal.returns-in-Err
-returns-in-Err g c = c.refuse.ensures [] c.requires
+returns-in-Err g c = c.finish_without_memory.ensures [] c.requires
 
 pub returns-in_err-filled : goal.returns-in_err-filled
 returns-in_err-filled g c = grind (arith, found-of-record)

@@ -1,7 +1,7 @@
 use Rattle.std.proofs.Common.{arith, refl}
 use Rattle.warc_core.specs.HeadView.{record_length}
 use Rattle.capture_core.proofs.CaptureLemmas.{rest-whole, some-always}
-use Rattle.capture_core.proofs.record_capture.refuse.Goals as goal
+use Rattle.capture_core.proofs.record_capture.finish_without_memory.Goals as goal
 
 pub returns : goal.returns
 returns g c = λ first ready. rw c.memory.ensures (record {

@@ -5,7 +5,7 @@ use Rattle.capture_core.specs.ResponseView.{response_view}
 use Rattle.capture_core.specs.CaptureAnswer.{usual_limits}
 use Rattle.capture_core.proofs.CaptureLemmas.{rest-behind, behind-digest, digest-met, digest-known, digest-settled}
 use Rattle.capture_core.proofs.CaptureLemmas.{digest-made, capture-known, some-always, some-then}
-use Rattle.capture_core.proofs.record_capture.capture_parted.Goals as goal
+use Rattle.capture_core.proofs.record_capture.finish_capture.Goals as goal
 
 pub capture_closed-requires-in-None-clause-stands : goal.capture_closed-requires-in-None-clause-stands
 capture_closed-requires-in-None-clause-stands g c =
@@ -29,7 +29,7 @@ pub returns-in_ok-digest_rest-in-None : goal.returns-in_ok-digest_rest-in-None
 returns-in_ok-digest_rest-in-None g c =
     let d = c.in_ok-digest_rest-in-None.ensures _ (record_length c.args.indexed.head.now)
     c.requires.ready.stands.phase_is in
-    let left = c.args.indexed.head.now.parts.length - length c.args.parted.bytes.now in
+    let left = c.args.indexed.head.now.parts.block_length - length c.args.parted.bytes.now in
     record {
       reads = rest-behind _ 0 c.args.indexed.head.now _ _ _ _ _ _ _ _ _ _
           (behind-digest _ c.args.parted.payload.now c.in_ok-digest_rest-in-None.field-0 _ _ d.bytes) d.failures
