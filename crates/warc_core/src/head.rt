@@ -56,7 +56,7 @@ impl Head {
     pub fn length(&self) -> u64
         ensures { result ≡ self.now.parts.block_length }
     {
-        self.parts.block_length()
+        self.parts.length()
     }
 
     /// Returns the length of the whole record in bytes: its head, its block and the closing.
@@ -64,7 +64,7 @@ impl Head {
         ensures value { result ≡ record_length self.now }
         ensures within { IsWithinOffsets self.now }
     {
-        self.raw().len() as u64 + self.parts.block_length() + 4
+        self.raw().len() as u64 + self.parts.length() + 4
     }
 
     /// Returns the time at which the record was made, as 14 digits (ISO 28500:2017, WARC-Date).

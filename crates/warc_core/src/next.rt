@@ -37,7 +37,7 @@ fn read_head<I: Input>(
 {
     let raw = read_head_text(alloc, buffer, input, HEAD_LIMIT)?;
     let parts = read_parts(alloc, raw)?;
-    let end = u128::from(start) + parts.raw().len() as u128 + u128::from(parts.block_length()) + 4;
+    let end = u128::from(start) + parts.raw().len() as u128 + u128::from(parts.length()) + 4;
     if end > GREATEST_OFFSET {
         return Err(Cause::TooFar);
     }
