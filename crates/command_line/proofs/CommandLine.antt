@@ -10,7 +10,7 @@ use Rattle.clap.specs.declared.error.kind.ErrorKind.{ErrorKind}
 use Rattle.clap.specs.declared.error.kind.ErrorKind.TheVariants as kind
 use Rattle.command_line.specs.Words.{Text, asks_for_help, is_unknown_option}
 use Rattle.command_line.specs.Commands.{Meaning, ToGet, ToIndex, ToScan, Form, Offset, Typed, TypedSizes, Refusal}
-use Rattle.command_line.specs.Commands.{Help, Usage, asked, help_or_usage, task_of, operands_task, command_of}
+use Rattle.command_line.specs.Commands.{Help, Usage, asked_of, help_or_usage, task_of, operands_task, command_of}
 use Rattle.command_line.specs.Commands.{commands, other_words, takes_option}
 use Rattle.command_line.specs.Clap.{warcdx, matches_task, refusal_for}
 use Rattle.command_line.proofs.PlainWords.{IsPlain, AllPlain, plain_word}
@@ -92,7 +92,7 @@ tells words p short = grind (arith, first_told, two_told)
 -- what is asked is the task of the words
 pub plain_asked : (words : List Text) → list_any is_unknown_option (other_words words) ≡ false
     → list_any asks_for_help (other_words words) ≡ false
-    → asked words ≡ ok_or (task_of words) Usage
+    → asked_of words ≡ ok_or (task_of words) Usage
 plain_asked words u h = grind arith
 
 pub matched : (task : Option Meaning) (kinds : Kinds) (met : Option (Text × List Row)) → Told task kinds met → kinds

@@ -11,7 +11,7 @@ use Rattle.command_line.specs.declared.fault.WordsFault.{WordsFault}
 use Rattle.command_line.specs.declared.fault.WordsFault.TheVariants as fault
 use Rattle.command_line.specs.declared.task.Task.{Task}
 use Rattle.command_line.specs.declared.task.Task.TheVariants as task
-use Rattle.command_line.specs.Words.{Text, texts, asks_for_help, is_unknown_option}
+use Rattle.command_line.specs.Words.{Text, texts, asks_for_help, is_unknown_option, is_version}
 use Rattle.command_line.specs.Sizes.{sizes_of}
 
 -- ---- the table of commands
@@ -141,11 +141,20 @@ abbrev pub help_or_usage : List Text → Refusal
 help_or_usage [] = Help
 help_or_usage (word ∷ rest) = if asks_for_help word || is_some (command_of word) then Help else Usage
 
+-- the only word asks for the version
+abbrev pub asks_for_version : List Text → Bool
+asks_for_version (word ∷ []) = is_version word
+asks_for_version words = false
+
 -- an unknown option outweighs help, and help the number of the operands
-abbrev pub asked : List Text → Result Meaning Refusal
-asked words = if list_any is_unknown_option (other_words words) then Err Usage
+abbrev pub asked_of : List Text → Result Meaning Refusal
+asked_of words = if list_any is_unknown_option (other_words words) then Err Usage
     else (if list_any asks_for_help (other_words words) then Err (help_or_usage words)
     else ok_or (task_of words) Usage)
+
+-- the version is printed as help is
+abbrev pub asked : List Text → Result Meaning Refusal
+asked words = if asks_for_version words then Err Help else asked_of words
 
 -- ---- what the code answers
 

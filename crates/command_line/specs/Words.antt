@@ -22,6 +22,10 @@ is_option _ = false
 abbrev pub asks_for_help : Text → Bool
 asks_for_help word = bytes_eq word (codes "-h") || bytes_eq word (codes "--help")
 
+-- of a first word that asks for the version
+abbrev pub is_version : Text → Bool
+is_version word = bytes_eq word (codes "-V") || bytes_eq word (codes "--version")
+
 -- help has the only options
 abbrev pub is_unknown_option : Text → Bool
 is_unknown_option word = is_option word && not (asks_for_help word)

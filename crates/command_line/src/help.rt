@@ -11,6 +11,9 @@ pub struct Page<'a> {
     pub details: &'a str,
 }
 
+/// What `--version` prints.
+pub const VERSION: &str = "warcdx 0.1.0\n";
+
 /// The program's page.
 pub const PROGRAM: Page = Page {
     about: "warcdx 0.1.0: indexes web archives, answers queries, and fetches records",

@@ -1,7 +1,17 @@
 //! Which arguments are options.
 ghost use Rattle.std.specs.Prelude.{◌≡◌, find, option_map, string_bytes};
-ghost use Rattle.command_line.specs.Words.{texts, is_option, asks_for_help, is_unknown_option};
-ghost use Rattle.command_line.specs.Commands.{other_words, takes_option};
+ghost use Rattle.command_line.specs.Words.{texts, is_option, asks_for_help, is_unknown_option, is_version};
+ghost use Rattle.command_line.specs.Commands.{asks_for_version, other_words, takes_option};
+
+/// Returns `true` if the only argument asks for the version.
+pub fn asks_for_version(words: &[String]) -> bool
+    ensures { result ≡ asks_for_version (texts words.now) }
+{
+    match words {
+        [word] => is_version(word),
+        _ => false,
+    }
+}
 
 /// Returns the arguments without a command and its option directly after it.
 pub fn other_words(words: &[String]) -> &[String]
@@ -58,4 +68,10 @@ fn asks_for_help(word: &str) -> bool
     ensures { result ≡ asks_for_help word.now }
 {
     word == "-h" || word == "--help"
+}
+
+fn is_version(word: &str) -> bool
+    ensures { result ≡ is_version word.now }
+{
+    word == "-V" || word == "--version"
 }

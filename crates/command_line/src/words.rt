@@ -4,13 +4,14 @@ ghost use Rattle.std.specs.List.{list_any};
 ghost use Rattle.std.specs.Option.{IfSome, ok_or};
 ghost use Rattle.clap.specs.Words.{kind_of, subcommand_rows_of};
 ghost use Rattle.command_line.specs.Words.{texts, asks_for_help, is_unknown_option};
-ghost use Rattle.command_line.specs.Commands.{IsMeant, IsUsage, Usage, asked, help_or_usage, other_words, refusal_of};
+ghost use Rattle.command_line.specs.Commands.{IsMeant, IsUsage, Help, Usage, asked, asked_of, help_or_usage, other_words, refusal_of};
 ghost use Rattle.command_line.specs.Clap.{matches_task, refusal_for};
 
 use crate::command::command_line;
 use crate::fault::WordsFault;
+use crate::help::VERSION;
 use crate::matches::{operand_word, task_of};
-use crate::options::{help_option, other_words, unknown_option};
+use crate::options::{asks_for_version, help_option, other_words, unknown_option};
 use crate::task::Task;
 use capture_core::Types;
 use cdxj_places::read_offset;
@@ -20,13 +21,13 @@ use std::alloc::{AllocError, Global};
 
 /// Reads the arguments after the program's name. No arguments at all mean `list -`.
 ///
-/// `-h` and `--help` ask for help: as the first argument for the program's help, after a command for the command's
+/// `-V` and `--version`, as the only argument, ask for the version. `-h` and `--help` ask for help: as the first argument for the program's help, after a command for the command's
 /// help, whatever the number of its arguments. `--types` is an option of `index` and `scan` only, and `--length` one of
 /// `get`. Each stands directly after the command.
 ///
 /// # Errors
 ///
-/// - `Help` if an argument is `-h` or `--help`.
+/// - `Help` if an argument is `-h` or `--help`, or if the only one is `-V` or `--version`.
 /// - `Usage` for another argument that begins with `-`, except `-` alone, wherever it stands. Otherwise for a first
 ///   argument that isn't a command, for a wrong number of arguments, for an offset or a length that isn't 1 to 19
 ///   digits below 2^63, for sizes that aren't 1 to 1,000 numbers from 1 to 1,000,000, each of at most 7 digits, separated by commas,
@@ -34,6 +35,26 @@ use std::alloc::{AllocError, Global};
 /// - `Memory` if memory could not be allocated.
 pub fn read_words(alloc: Global, words: &[String]) -> Result<Task, WordsFault>
     ensures { IsMeant (asked (texts words.now)) result }
+{
+    if asks_for_version(words) {
+        return Err(version(alloc));
+    }
+    read_task(alloc, words)
+}
+
+/// Returns the program's name and version, as a help text.
+fn version(alloc: Global) -> WordsFault
+    ensures { IfSome (refusal_of result) (λ refusal. refusal ≡ Help) }
+{
+    match String::from_str(alloc, VERSION) {
+        Ok(text) => WordsFault::Help(text),
+        Err(_refused) => WordsFault::Memory,
+    }
+}
+
+/// Reads arguments that don't ask for the version.
+fn read_task(alloc: Global, words: &[String]) -> Result<Task, WordsFault>
+    ensures { IsMeant (asked_of (texts words.now)) result }
 {
     let others = other_words(words);
     if let Some(option) = unknown_option(others) {
@@ -55,10 +76,10 @@ pub fn read_words(alloc: Global, words: &[String]) -> Result<Task, WordsFault>
 fn matches_of<'a>(alloc: Global, words: &'a [String]) -> Result<ArgMatches<'a>, Error>
     requires known { list_any is_unknown_option (other_words (texts words.now)) ≡ false }
     requires plain { list_any asks_for_help (other_words (texts words.now)) ≡ false }
-    ensures matches { IfOk result (λ matches. asked (texts words.entry.now)
+    ensures matches { IfOk result (λ matches. asked_of (texts words.entry.now)
         ≡ ok_or (matches_task (subcommand_rows_of matches)) Usage) }
     ensures refused { IfErr result (λ error. IfSome (refusal_for (kind_of error))
-        (λ refusal. asked (texts words.entry.now) ≡ Err refusal)) }
+        (λ refusal. asked_of (texts words.entry.now) ≡ Err refusal)) }
 {
     // the proof needs that a slice has fewer than 2^64 words
     let _count = words.len();
@@ -124,7 +145,7 @@ fn tip_for(option: &str) -> &'static str {
     } else if option.starts_with("--length") {
         "'--length LENGTH' stands once, directly after 'get'"
     } else if option == "--version" || option == "-V" {
-        "the first line of 'warcdx --help' has the version"
+        "'--version' is the only argument"
     } else {
         "a file whose name begins with '-' is written './-name'"
     }

@@ -2,6 +2,7 @@
 ghost use Rattle.std.specs.Prelude.{◌≡◌};
 ghost use Rattle.tasks.specs.Outcome.{outcome_of};
 
+use crate::advice::{answer_advice, index_advice, query_advice};
 use crate::outcome::{Outcome, outcome_of};
 use index_core::IndexFault;
 use query_core::{AnswerFault, QueryFault};
@@ -31,6 +32,14 @@ fn say_fault<R: Runtime>(rt: &R, name: &str, fault: IndexFault) {
         }
         IndexFault::Memory | IndexFault::Write => {}
     }
+    say_advice(rt, index_advice(rt, name, fault));
+}
+
+/// Adds a line to a message, if there is more to say.
+pub fn say_advice<R: Runtime>(rt: &R, advice: Option<&str>) {
+    if let Some(advice) = advice {
+        let _ = eprintln!(rt; "  {advice}");
+    }
 }
 
 /// Reports why a query is refused. Memory is reported at the command's end.
@@ -38,6 +47,7 @@ pub fn say_query_fault<R: Runtime>(rt: &R, fault: QueryFault) {
     if fault != QueryFault::Memory {
         let cause = fault.name();
         let _ = eprintln!(rt; "warcdx: query: {cause}");
+        say_advice(rt, Some(query_advice(fault)));
     }
 }
 
@@ -69,6 +79,7 @@ pub fn say_answer_fault<R: Runtime>(rt: &R, name: &str, fault: AnswerFault) {
         }
         _ => {}
     }
+    say_advice(rt, answer_advice(rt, name, fault));
 }
 
 /// Reports why archives of these names couldn't be scanned. A fault of no single archive is reported at the command's

@@ -3,6 +3,7 @@
 //! The definitions begin in `specs/Performing.antt`: what the program does for each task.
 #![tactic(auto)]
 
+mod advice;
 mod archive_names;
 mod checks;
 mod conversing;

@@ -3,6 +3,7 @@ ghost use Rattle.std.specs.Prelude.{◌≡◌, ℕ, List, Option, None, ⊤, IfE
 ghost use Rattle.command_line.specs.Words.{texts};
 ghost use Rattle.tasks.specs.Opening.{HasTold, IsUnopened, IsUnopenedIndex, AreUnopenedIndexes};
 
+use crate::advice::unread_advice;
 use crate::outcome::Outcome;
 use either::Either;
 use index_core::IndexFault;
@@ -102,6 +103,8 @@ impl<R: Runtime + AllocGlobal> Opener for System<'_, R> {
             Ok(source) => Ok(source),
             Err(_fault) => {
                 let _ = eprintln!(self.rt; "warcdx: {name}: Read");
+                let advice = unread_advice(self.rt, name);
+                let _ = eprintln!(self.rt; "  {advice}");
                 Err(Outcome::Answer(AnswerFault::Read(0)))
             }
         }
@@ -142,7 +145,11 @@ fn open_file<R: Runtime + AllocGlobal>(rt: &R, name: &str) -> Result<<R as Files
         Err(error) if error.kind() == ErrorKind::OutOfMemory => {
             Err(Outcome::Index(IndexFault::Memory))
         }
-        Err(_error) => Err(cannot_open(rt, name)),
+        Err(error) => {
+            let outcome = cannot_open(rt, name);
+            let _ = eprintln!(rt; "  {error}");
+            Err(outcome)
+        }
     }
 }
 

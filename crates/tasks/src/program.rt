@@ -7,9 +7,11 @@ ghost use Rattle.tasks.specs.Performing.{IsDone, Performs};
 ghost use Rattle.tasks.specs.Words.{EndsAsDone, EndsWords};
 ghost use Rattle.tasks.specs.Writes.{CountsWrites};
 
+use crate::advice::end_advice;
 use crate::checks::check_all;
 use crate::conversing::serve_all;
 use crate::exit_status::status;
+use crate::faults::say_advice;
 use crate::fetching::fetch;
 use crate::indexing::index_all;
 use crate::merging::merge_all;
@@ -21,6 +23,7 @@ use crate::scanning::scan_all;
 use command_line::{Task, WordsFault, read_words};
 use devices::Prompt;
 use index_core::IndexFault;
+use query_core::AnswerFault;
 use std::env::{self, Env, FillError};
 use std::io::{self, BufWriter, ErrorKind, Write};
 use std::rt::Runtime;
@@ -109,6 +112,7 @@ fn say_outcome<R: Runtime>(rt: &R, outcome: Outcome) -> Outcome
     if let Some(message) = message(outcome) {
         let _ = eprintln!(rt; "warcdx: {message}");
     }
+    say_advice(rt, end_advice(outcome));
     outcome
 }
 
@@ -116,7 +120,11 @@ fn help<R: Runtime>(rt: &R, text: &str) -> Outcome
     ensures { IsHelpOutcome result }
 {
     let printed = print!(rt; "{text}");
-    say_outcome(rt, flushed_outcome(Outcome::Done, printed.is_ok()))
+    let outcome = say_outcome(rt, flushed_outcome(Outcome::Done, printed.is_ok()));
+    if let Err(error) = printed {
+        say_reason(rt, outcome, &error);
+    }
+    outcome
 }
 
 /// Performs the task. Its output is standard output.
@@ -131,7 +139,23 @@ fn run_task<R: Runtime + AllocGlobal>(rt: &R, task: &Task) -> Outcome
         _ => perform(rt, &System::new(rt), task, &mut FromWrite::new(&mut writer)),
     };
     let flushed = writer.flush();
-    say_outcome(rt, flushed_outcome(outcome, flushed.is_ok()))
+    let outcome = say_outcome(rt, flushed_outcome(outcome, flushed.is_ok()));
+    if let Err(error) = flushed {
+        say_reason(rt, outcome, &error);
+    }
+    outcome
+}
+
+/// Reports the system's reason on standard error, if the outcome is a failed output.
+fn say_reason<R: Runtime>(rt: &R, outcome: Outcome, reason: &io::Error) {
+    match outcome {
+        Outcome::Index(IndexFault::Write)
+        | Outcome::Answer(AnswerFault::Write)
+        | Outcome::CannotFlush => {
+            let _ = eprintln!(rt; "  {reason}");
+        }
+        _ => {}
+    }
 }
 
 /// Performs the task with this output.
