@@ -19,6 +19,7 @@ _warcdx() {
     fi
     if [[ $word == -* ]]; then
         _warcdx_offer -h --help
+        if ((COMP_CWORD == 1)); then _warcdx_offer -V --version; fi
         if [[ $command:$COMP_CWORD == index:2 || $command:$COMP_CWORD == scan:2 ]]; then _warcdx_offer --types; fi
         if [[ $command:$COMP_CWORD == get:2 ]]; then _warcdx_offer --length; fi
         return

@@ -55,6 +55,7 @@ end
 
 complete -c warcdx -f
 complete -c warcdx -s h -l help -d 'Print help'
+complete -c warcdx -n '__warcdx_at command' -s V -l version -d 'Print the version'
 complete -c warcdx -n '__warcdx_at types-option' -l types -d 'Index records of these types'
 complete -c warcdx -n '__warcdx_at length-option' -l length -d 'Write a record of this length only'
 complete -c warcdx -n '__warcdx_at types' -a '(__warcdx_types)' -d Types

@@ -51,6 +51,11 @@ def is_current() -> bool:
     return os.access(BUILT, os.X_OK) and BUILT.stat().st_mtime > max(source.stat().st_mtime for source in sources)
 
 
+def without_advice(error: bytes) -> bytes:
+    """Returns what the program said on standard error without the second lines of messages, which begin with two spaces."""
+    return b"".join(line for line in error.splitlines(keepends=True) if not line.startswith(b"  "))
+
+
 def need(*commands: str) -> None:
     """Ends the script if a command is missing. Each is given as NAME, or as NAME:PACKAGE if Debian's package has another name."""
     for command in commands:

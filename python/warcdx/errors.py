@@ -98,6 +98,7 @@ _LINE_AT = re.compile(r"warcdx: (.*): (BadLine|OutOfOrder) ([0-9]+)\n?", re.DOTA
 _QUERY = re.compile(r"warcdx: query: ([A-Za-z0-9]+)\n?")
 _FILE = re.compile(r"warcdx: (.*): ([A-Za-z0-9]+|cannot open)\n?", re.DOTALL)
 _ALONE = re.compile(r"warcdx: ([A-Za-z0-9]+|cannot flush)\n?")
+_ADVICE = re.compile(r"^  .*\n?", re.MULTILINE)  # the second line of a message
 _NAMES = {"cannot open": "CannotOpen", "cannot flush": "CannotFlush"}
 
 
@@ -119,6 +120,7 @@ def fault(
 
 def error_of(status: int, said: str) -> Error:
     """Returns what the program has reported on standard error before it ended."""
+    said = _ADVICE.sub("", said)
     if found := _FAULT_AT.fullmatch(said):
         return fault(found[3], found[1], int(found[2]))
     if found := _LINE_AT.fullmatch(said):

@@ -40,7 +40,7 @@ unexpected() { # OPTION
 }
 
 no_version() { # OPTION
-    lines "error: unexpected option '$1'" "" "  tip: the first line of 'warcdx --help' has the version" "" \
+    lines "error: unexpected option '$1'" "" "  tip: '--version' is the only argument" "" \
         "For more information, try '--help'."
 }
 
@@ -163,8 +163,11 @@ check "help list"                       "" "$(unknown help)"               2 hel
 check "a command in capitals"           "" "$(unknown LIST)"               2 LIST same.warc
 check "-x"                              "" "$(unexpected -x)"              2 -x
 check "--"                              "" "$(unexpected --)"              2 --
-check "-V"                              "" "$(no_version -V)"              2 -V
-check "--version"                       "" "$(no_version --version)"       2 --version
+check "-V"                              "warcdx $(< "$root/VERSION")" ""   0 -V
+check "--version"                       "warcdx $(< "$root/VERSION")" ""   0 --version
+check "-V NAME"                         "" "$(no_version -V)"              2 -V same.warc
+check "list --version"                  "" "$(no_version --version)"       2 list --version
+check "--version --version"             "" "$(no_version --version)"       2 --version --version
 check "list -- -x"                      "" "$(unexpected --)"              2 list -- -x
 check "an option after a name"          "" "$(unexpected -dash.warc)"      2 list same.warc -dash.warc
 check "an option before a command"      "" "$(unexpected -x)"              2 -x list same.warc

@@ -50,9 +50,22 @@ run() {
     esac 2> error
 }
 
-# holds FILE LINES: whether the file has these lines and no others, each with its LF.
+# without_advice: leaves out the second line of each message of the program, which begins with two spaces. `advises` compares these lines.
+without_advice() {
+    LC_ALL=C awk '!(before ~ /^warcdx: / && /^  /); { before = $0 }'
+}
+
+# advises CASE LINE STATUS ARGUMENT..: runs the program, and compares the last line on standard error.
+advises() {
+    local case=$1 line=$2 want_status=$3 status=0
+    shift 3
+    run file "$@" || status=$?
+    expect "$case" "$want_status   $line" "$status $(tail --lines=1 error)"
+}
+
+# holds FILE LINES: whether the file has these lines and no others, each with its LF, and second lines of messages.
 holds() {
-    if [ -n "$2" ]; then printf '%s\n' "$2"; fi | cmp --silent - "$1"
+    if [ -n "$2" ]; then printf '%s\n' "$2"; fi | cmp --silent - <(if [ "$1" = error ]; then without_advice < error; else cat "$1"; fi)
 }
 
 repeated() { # TIMES

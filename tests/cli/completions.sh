@@ -58,6 +58,7 @@ expect_offers << END
 warcdx |$commands
 warcdx se|serve
 warcdx list --h|--help
+warcdx --v|--version
 warcdx list --t|
 warcdx index --t|--types
 warcdx index --types re|resource response revisit

@@ -260,10 +260,6 @@ not_utf_8() {
 shows "the message" "isn't UTF-8" "$program" index names/*
 prints "the command that finds it" $'\xff.warc' not_utf_8
 
-row "\`unexpected option '--version'\`"
-shows "the message" "error: unexpected option '--version'" "$program" --version
-shows "help" "warcdx $(< "$root/VERSION"):" "$program" --help
-
 row "Messages come before the output of earlier arguments"
 on_terminal() { # ARGUMENT..
     python3 -c 'import pty, sys; pty.spawn(sys.argv[1:])' "$program" "$@"

@@ -8,7 +8,7 @@ from collections.abc import Callable, Iterator, Sequence
 from typing import Any, Optional
 
 from preloaded_runs import ALL, Ended
-from program import Report, add_program, find_program, parser_of
+from program import Report, add_program, find_program, parser_of, without_advice
 
 SECONDS = 60
 RECORD = (
@@ -89,7 +89,7 @@ def ended(process: "subprocess.Popen[bytes]", lines: Optional[bytes] = None) -> 
         process.kill()
         process.communicate()
         raise Differs(f"takes over {SECONDS} s") from None
-    return Ended(process.returncode, output, error)
+    return Ended(process.returncode, output, without_advice(error))
 
 
 def position(process: int, path: pathlib.Path) -> int:

@@ -8,7 +8,7 @@ import tempfile
 from collections.abc import Mapping, Sequence
 from typing import NamedTuple, Optional
 
-from program import ROOT, stop_without
+from program import ROOT, stop_without, without_advice
 
 ALL = "key=&matchType=prefix"
 LINES = f"url=example.com&limit=0\n{ALL}\nkey=\xff\n\n{ALL}&output=json".encode("latin-1")
@@ -72,7 +72,7 @@ class Runs:
         done = subprocess.run(
             command, input=LINES, stdout=subprocess.PIPE, stderr=subprocess.PIPE, cwd=self.folder, env=environment, timeout=60
         )
-        return Ended(done.returncode, done.stdout, done.stderr)
+        return Ended(done.returncode, done.stdout, without_advice(done.stderr))
 
 
 def make_library(source: str, folder: pathlib.Path) -> pathlib.Path:

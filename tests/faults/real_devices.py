@@ -28,6 +28,7 @@ sys.path.insert(0, str(pathlib.Path(__file__).resolve().parents[1]))
 from cut_files import TRIES, a_file_of_long_blocks_that_is_cut, state
 from device_runs import ASKED, LONG, SECONDS, Place, ended, expect, of_input, position, try_ways
 from preloaded_runs import ALL
+from program import without_advice
 
 
 def expect_failed_output(place: Place, words: Sequence[str], written: bytes, status: int, error: bytes, usual: bytes) -> None:
@@ -102,7 +103,7 @@ def a_reader_that_leaves(place: Place) -> Iterator[str]:
         writer.start()
         first = process.stdout.read(1)
         process.stdout.close()
-        error = process.stderr.read()
+        error = without_advice(process.stderr.read())
         writer.join()
         expect_failed_output(place, words, first, process.wait(SECONDS), error, usual)
         yield name
@@ -354,7 +355,7 @@ def run_and_cut(place: Place, words: Sequence[str]) -> Optional[tuple[int, bytes
     for reader in readers:
         reader.join()
     status = process.wait(SECONDS)
-    return (status, output[0], error[0]) if is_cut else None
+    return (status, output[0], without_advice(error[0])) if is_cut else None
 
 
 def cut_to_half(process: "subprocess.Popen[bytes]", path: pathlib.Path) -> bool:

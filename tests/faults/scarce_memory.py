@@ -20,6 +20,7 @@ from collections.abc import Callable, Iterator, Sequence
 sys.path.insert(0, str(pathlib.Path(__file__).resolve().parents[1]))
 
 from device_runs import LONG, RECORD, SECONDS, Place, ended, expect, of_input, try_ways
+from program import without_advice
 from preloaded_runs import ALL, Ended
 
 HEAD_MEMORY = 8_000_000  # bytes, for a head at its limit of 1,048,576 bytes
@@ -94,7 +95,7 @@ def fed(place: Place, words: Sequence[str], text: tuple[bytes, int, bytes], leas
     output, error = process.stdout.read(), process.stderr.read()
     writer.join()
     watch.cancel()
-    return process.wait(), output, error
+    return process.wait(), output, without_advice(error)
 
 
 def least_memory(place: Place) -> int:

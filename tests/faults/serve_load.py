@@ -25,7 +25,7 @@ from typing import Any, BinaryIO
 sys.path.insert(0, str(pathlib.Path(__file__).resolve().parents[1]))
 
 from plain import queries as plain
-from program import Report, add_program, find_program, parser_of
+from program import Report, add_program, find_program, parser_of, without_advice
 
 LIMIT = 65_536
 MARK = b".\n"
@@ -122,7 +122,7 @@ def started(program: pathlib.Path, names: Sequence[str], **devices: Any) -> "sub
 
 def expect_end(case: str, process: "subprocess.Popen[bytes]", status: int, error: bytes) -> None:
     """The exit status, and what is printed on standard error."""
-    said = process.stderr.read()
+    said = without_advice(process.stderr.read())
     process.stderr.close()
     expect(case, (process.wait(20), said), (status, error))
 

@@ -9,6 +9,8 @@ import subprocess
 from collections.abc import Iterable
 from typing import NamedTuple, Union
 
+from program import without_advice
+
 SECONDS = 20
 CAUSES = (
     "Version|ShortHead|HeadTooLong|FieldLine|Missing|Repeated|BadLength|BadDate|ShortBlock|Closing|TooFar|KeyTooLong|LineTooLong|"
@@ -76,7 +78,7 @@ class Trial:
             done = subprocess.run(tuple(arguments), input=lines, stdout=subprocess.PIPE, stderr=subprocess.PIPE, cwd=self.folder, check=False)
         finally:
             signal.alarm(0)
-        return Done(done.returncode, done.stdout, done.stderr)
+        return Done(done.returncode, done.stdout, without_advice(done.stderr))
 
     def expect(self, status: int, output: bytes, error: bytes, *arguments: Argument, lines: bytes = b"") -> None:
         found, wanted = self.run(*arguments, lines=lines), Done(status, output, error)
