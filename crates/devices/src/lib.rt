@@ -16,6 +16,7 @@ mod memory;
 mod prompt;
 mod standard;
 mod two_inputs;
+mod write_fault;
 
 pub use crate::buffer::{Buffer, PIECE};
 pub use crate::device::{DeviceFault, Input, Output, put};
@@ -25,3 +26,4 @@ pub use crate::input_lines::{INPUT_LIMIT, InputLineFault, InputLines};
 pub use crate::memory::{Gather, Slice};
 pub use crate::prompt::Prompt;
 pub use crate::standard::{FromRead, FromWrite};
+pub use crate::write_fault::WriteFault;

@@ -7,7 +7,7 @@ ghost use Rattle.page_writers.specs.PageWriting.{is_wanted};
 
 use crate::collapsing::Collapsing;
 use cdxj_core::{HasPlace, Line, Place};
-use page_core::TextFault;
+use devices::WriteFault;
 use query_text::Query;
 use std::alloc::{AllocError, Global};
 
@@ -51,14 +51,14 @@ impl<'q> Selection<'q> {
         }
     }
 
-    fn wants(&self, line: &Line) -> Result<bool, TextFault>
+    fn wants(&self, line: &Line) -> Result<bool, WriteFault>
         ensures value { IfOk result (λ wanted.
             wanted ≡ is_wanted self.now.query.now (from_view self.now.from) line.now) }
-        ensures memory { IfErr result (λ e. e ≡ TextFault.Memory) }
+        ensures memory { IfErr result (λ e. e ≡ WriteFault.Memory) }
     {
         match self.query.matches_kept(line) {
             Ok(matches) => Ok(matches && self.is_above(line)),
-            Err(_) => Err(TextFault::Memory),
+            Err(_) => Err(WriteFault::Memory),
         }
     }
 
@@ -76,18 +76,18 @@ impl<'q> Selection<'q> {
     }
 
     /// Stores what the lines after this one are compared with.
-    fn keep_part(&mut self, line: &Line) -> Result<(), TextFault>
+    fn keep_part(&mut self, line: &Line) -> Result<(), WriteFault>
         ensures part { OnOk result
             (self.new.collapsing ≡ collapsing_after self.old.collapsing (member_place line.now)) }
         ensures same { IsSame self.old self.new }
-        ensures memory { IfErr result (λ e. e ≡ TextFault.Memory) }
+        ensures memory { IfErr result (λ e. e ≡ WriteFault.Memory) }
     {
         match &mut self.collapsing {
             Some(collapsing) => {
                 let (key, stamp) = line.pair();
                 match collapsing.keep(key, stamp) {
                     Ok(()) => Ok(()),
-                    Err(_) => Err(TextFault::Memory),
+                    Err(_) => Err(WriteFault::Memory),
                 }
             }
             None => Ok(()),
@@ -96,14 +96,14 @@ impl<'q> Selection<'q> {
 
     /// Takes the next line. Returns `true` if it is a capture of the query.
     /// The only error is refused memory.
-    pub fn takes(&mut self, line: &Line) -> Result<bool, TextFault>
+    pub fn takes(&mut self, line: &Line) -> Result<bool, WriteFault>
         ensures selects { (taken : List Member) → Selects self.old taken
             → OnOk result (Selects self.new (taken ++ line.now ∷ [])) }
         ensures capture { (taken : List Member) → Selects self.old taken → IfOk result (λ is.
             captures_of self.old (taken ++ line.now ∷ [])
             ≡ captures_of self.old taken ++ cond is (line.now ∷ []) []) }
         ensures same { IsSame self.old self.new }
-        ensures memory { IfErr result (λ e. e ≡ TextFault.Memory) }
+        ensures memory { IfErr result (λ e. e ≡ WriteFault.Memory) }
     {
         if !self.wants(line)? {
             return Ok(false);
