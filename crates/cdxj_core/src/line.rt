@@ -210,14 +210,13 @@ impl Line {
     }
 
     /// Returns the line with all its values.
-    /// The only error is refused memory.
-    pub fn values(&self) -> Result<LineRef<'_>, AllocError>
-        ensures { IfOk result (λ found. found ≡ self.now) }
+    pub fn values(&self) -> LineRef<'_>
+        ensures { result ≡ self.now }
     {
-        Ok(LineRef {
+        LineRef {
             text: LineText::Borrowed(self.text.as_str()),
             spans: self.spans,
-        })
+        }
     }
 }
 

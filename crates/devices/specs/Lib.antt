@@ -1,4 +1,5 @@
 pub mod Device
+pub mod WriteFaults
 pub mod Writing
 pub mod Gathered
 pub mod FromStd

@@ -17,6 +17,7 @@ mod positioned;
 mod prompt;
 mod standard;
 mod two_inputs;
+mod write_fault;
 
 pub use crate::buffer::{Buffer, PIECE};
 pub use crate::device::{DeviceFault, Input, Output, put};
@@ -27,3 +28,4 @@ pub use crate::memory::{Gather, Slice};
 pub use crate::positioned::{Positioned, SystemFile};
 pub use crate::prompt::Prompt;
 pub use crate::standard::{FromRead, FromWrite};
+pub use crate::write_fault::WriteFault;

@@ -7,11 +7,11 @@ use Rattle.merge_core.specs.declared.fault.FeedFault.{FeedFault}
 use Rattle.merge_core.specs.declared.fault.FeedFault.TheVariants as feed
 use Rattle.merge_core.specs.declared.fault.MergeFault.{MergeFault}
 use Rattle.merge_core.specs.declared.fault.MergeFault.TheVariants as fault
-use Rattle.merge_core.specs.declared.fault.SinkFault.{SinkFault}
-use Rattle.merge_core.specs.declared.fault.SinkFault.TheVariants as sink
+use Rattle.devices.specs.declared.write_fault.WriteFault.{WriteFault}
+use Rattle.devices.specs.declared.write_fault.WriteFault.TheVariants as sink
 
 -- the fault of a merge whose sink has this fault
-abbrev pub merge_fault : SinkFault → MergeFault
+abbrev pub merge_fault : WriteFault → MergeFault
 merge_fault sink.Memory = fault.Memory
 merge_fault sink.Write = fault.Write
 

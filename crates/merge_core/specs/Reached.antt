@@ -1,25 +1,16 @@
 -- How far a merge of several sources has come.
-use Rattle.std.specs.Prelude.{◌≡◌, ℕ, List, Bool, Option, Result, Ok, Err}
+use Rattle.std.specs.Prelude.{◌≡◌, ℕ, List, Bool, Option}
 use Rattle.std.specs.List.{AllByRecursion}
 use Rattle.cdxj_places.specs.Pairs.{Pair}
 use Rattle.cdxj_places.specs.Places.{place_cmp}
 use Rattle.cdxj_places.specs.Rising.{rising, Rises}
 use Rattle.cdxj_core.specs.Members.{Member, member_pair, member_place}
-use Rattle.devices.specs.Device.{next_count}
-use Rattle.merge_core.specs.declared.fault.SinkFault.{SinkFault}
-use Rattle.merge_core.specs.declared.fault.SinkFault.TheVariants.{Memory, Write}
 use Rattle.merge_core.specs.declared.feed.Feed.{Feed}
 use Rattle.line_queue.specs.PairOrders.{IsAbove, IsUpto}
 use Rattle.merge_core.specs.SourceLines.{HasEntry}
 use Rattle.line_queue.specs.WaitingLines.{WaitingLine, waiting_pair}
 use Rattle.merge_core.specs.Feeds.{AllMoved, Ready, AreSettled}
 use Rattle.merge_core.specs.Gathering.{AreTold, all_done}
-
--- a refusal of the output adds one to its count of failures, all else none
-abbrev pub CountsSinkWrite : {A : Type 0} → Result A SinkFault → ℕ → ℕ → Type 0
-CountsSinkWrite (Ok x) old new = new ≡ old
-CountsSinkWrite (Err Memory) old new = new ≡ old
-CountsSinkWrite (Err Write) old new = new ≡ next_count old
 
 module _ {S : Type 0} (limit : ℕ) (text : S → Option (List ℕ)) where
   -- These lines were handed on: each was read as an entry, they rise, and none is above the bound. If the bytes of all

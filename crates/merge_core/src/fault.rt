@@ -1,5 +1,5 @@
 //! Why sources couldn't be merged.
-use devices::DeviceFault;
+use devices::{DeviceFault, WriteFault};
 use source_core::SearchFault;
 use std::alloc::{AllocError, AllocFailed};
 
@@ -25,15 +25,6 @@ pub enum MergeFault {
     Write,
     /// The lines of the source with this number couldn't be read.
     Feed(usize, FeedFault),
-}
-
-/// Why lines couldn't be passed on.
-#[derive(Clone, Copy, Debug, Drop, PartialEq, Eq)]
-pub enum SinkFault {
-    /// Memory could not be allocated.
-    Memory,
-    /// The output failed.
-    Write,
 }
 
 impl From<AllocError> for FeedFault {
@@ -72,28 +63,6 @@ impl From<SearchFault> for FeedFault {
     }
 }
 
-impl From<AllocError> for SinkFault {
-    ghost use Rattle.std.specs.Prelude.{◌≡◌};
-    ghost use Rattle.merge_core.specs.declared.fault.SinkFault.TheVariants.{Memory};
-
-    ghost from_gives = { λ _ fault. fault ≡ Memory };
-
-    fn from(_error: AllocError) -> SinkFault {
-        SinkFault::Memory
-    }
-}
-
-impl From<DeviceFault> for SinkFault {
-    ghost use Rattle.std.specs.Prelude.{◌≡◌};
-    ghost use Rattle.merge_core.specs.declared.fault.SinkFault.TheVariants.{Write};
-
-    ghost from_gives = { λ _ fault. fault ≡ Write };
-
-    fn from(_fault: DeviceFault) -> SinkFault {
-        SinkFault::Write
-    }
-}
-
 impl From<AllocError> for MergeFault {
     ghost use Rattle.std.specs.Prelude.{◌≡◌};
     ghost use Rattle.merge_core.specs.declared.fault.MergeFault.TheVariants.{Memory};
@@ -116,16 +85,16 @@ impl<T: Drop> From<AllocFailed<T>> for MergeFault {
     }
 }
 
-impl From<SinkFault> for MergeFault {
+impl From<WriteFault> for MergeFault {
     ghost use Rattle.std.specs.Prelude.{◌≡◌};
     ghost use Rattle.merge_core.specs.Failures.{merge_fault};
 
     ghost from_gives = { λ sink fault. fault ≡ merge_fault sink };
 
-    fn from(fault: SinkFault) -> MergeFault {
+    fn from(fault: WriteFault) -> MergeFault {
         match fault {
-            SinkFault::Memory => MergeFault::Memory,
-            SinkFault::Write => MergeFault::Write,
+            WriteFault::Memory => MergeFault::Memory,
+            WriteFault::Write => MergeFault::Write,
         }
     }
 }

@@ -1,5 +1,6 @@
 //! A source that is read line by line.
 ghost use Rattle.std.specs.Prelude.{◌≡◌, ◌≢◌, ◌+◌, ◌-◌, ◌≤◌, ◌++◌, ℕ, List, [], length, map, option_map, None, Some, IfOk, IfErr, OnOk};
+ghost use Rattle.source_core.specs.Device.{KeepsSource};
 ghost use Rattle.std.specs.List.{AllByRecursion};
 ghost use Rattle.cdxj_core.specs.declared.limit.TheConstants.{LINE_LIMIT};
 ghost use Rattle.cdxj_core.specs.Members.{Member, member_pair};
@@ -76,8 +77,7 @@ impl Feed {
             (S.extent source.old) self.old [] }
         requires due { self.old.progress ≡ Due }
         requires fresh { self.old.cursor.count ≡ 0 }
-        ensures text { S.text source.new ≡ S.text source.old }
-        ensures extent { S.extent source.new ≡ S.extent source.old }
+        ensures kept { KeepsSource S.text S.extent source.old source.new }
         ensures gave { S.gave source.new + reach self.old.cursor
             ≤ S.gave source.old + reach self.new.cursor }
         ensures inside { reach self.new.cursor ≤ S.extent source.old }
@@ -122,8 +122,7 @@ impl Feed {
             (done LINE_LIMIT t self.old) }
         requires last { (t : List ℕ) → S.text source.old ≡ Some t
             → EndsAt (member_pair first.now) (done LINE_LIMIT t self.old) }
-        ensures text { S.text source.new ≡ S.text source.old }
-        ensures extent { S.extent source.new ≡ S.extent source.old }
+        ensures kept { KeepsSource S.text S.extent source.old source.new }
         ensures gave { S.gave source.new + reach self.old.cursor
             ≤ S.gave source.old + reach self.new.cursor }
         ensures inside { reach self.new.cursor ≤ S.extent source.old }

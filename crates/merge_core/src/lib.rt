@@ -14,7 +14,7 @@ mod sink;
 mod store;
 mod streams;
 
-pub use crate::fault::{FeedFault, MergeFault, SinkFault};
+pub use crate::fault::{FeedFault, MergeFault};
 pub use crate::indexes::{MergedLines, merge_indexes};
 pub use crate::line_writer::LineWriter;
 pub use crate::merging::merge;

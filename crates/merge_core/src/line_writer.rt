@@ -3,12 +3,11 @@ ghost use Rattle.std.specs.Prelude.{◌≡◌, ◌+◌, ◌-◌, ◌^◌, min, O
 ghost use Rattle.std.specs.Io.KnownBytes.{Appends};
 ghost use Rattle.cdxj_core.specs.Members.{line_row};
 ghost use Rattle.devices.specs.Device.{AppendsPrefix, Grows};
-ghost use Rattle.merge_core.specs.Reached.{CountsSinkWrite};
+ghost use Rattle.devices.specs.WriteFaults.{CountsWriteFault};
 
-use crate::fault::SinkFault;
 use crate::sink::Sink;
 use cdxj_core::Line;
-use devices::{Output, put};
+use devices::{Output, WriteFault, put};
 use std::alloc::Global;
 
 /// Writes each line that it takes as it stands in its index.
@@ -27,14 +26,14 @@ impl LineWriter {
     }
 
     #[tactic(auto, using(devices::proofs::DeviceLemmas::grows_part))]
-    fn put_line<O: Output>(&mut self, line: &Line, out: &mut O) -> Result<(), SinkFault>
+    fn put_line<O: Output>(&mut self, line: &Line, out: &mut O) -> Result<(), WriteFault>
         ensures text { OnOk result
             (Appends (O.written out.old) (O.written out.new) (line_row line.now)) }
         ensures part { OnErr result
             (AppendsPrefix (O.written out.old) (O.written out.new) (line_row line.now)) }
         ensures grows { Grows (O.written out.old) (O.written out.new) }
         ensures count { OnOk result (self.new.count ≡ min (self.old.count + 1) (2 ^ 64 - 1)) }
-        ensures failures { CountsSinkWrite result (O.failures out.old) (O.failures out.new) }
+        ensures failures { CountsWriteFault result (O.failures out.old) (O.failures out.new) }
     {
         put(out, line.line())?;
         put(out, b"\n")?;
@@ -61,7 +60,7 @@ impl Sink for LineWriter {
         _alloc: Global,
         lines: &[&Line],
         out: &mut O,
-    ) -> Result<bool, SinkFault> {
+    ) -> Result<bool, WriteFault> {
         for line in lines {
             self.put_line(line, out)?;
         }

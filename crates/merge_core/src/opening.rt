@@ -1,5 +1,6 @@
 //! The opening of sources at a key and stamp.
 ghost use Rattle.std.specs.List.{AllZip};
+ghost use Rattle.source_core.specs.Device.{KeepsSource};
 ghost use Rattle.std.specs.Prelude.{◌≡◌, ◌⊎◌, ◌+◌, ◌*◌, ◌≤◌, ℕ, List, [], map, Some, IfOk, IfErr, OnOk};
 ghost use Rattle.std.specs.List.{AllByRecursion, zip, sum};
 ghost use Rattle.cdxj_core.specs.declared.limit.TheConstants.{LINE_LIMIT};
@@ -30,8 +31,7 @@ fn find_start<S: Source>(
     key: &[u8],
     stamp: &[u8],
 ) -> Result<(Cursor, u64), FeedFault>
-    ensures text { S.text source.new ≡ S.text source.old }
-    ensures extent { S.extent source.new ≡ S.extent source.old }
+    ensures kept { KeepsSource S.text S.extent source.old source.new }
     ensures failures { CountsFeed result (S.failures source.old) (S.failures source.new) }
     ensures stands { IfOk result (λ r. Stands (S.text source.new) (S.extent source.new) r.0) }
     ensures fresh { IfOk result (λ r. r.0.count ≡ 0) }
@@ -78,8 +78,7 @@ impl Streams {
         requires first { cursor.at ≡ cursor.start }
         requires begins { (t : List ℕ) → S.text source.old ≡ Some t → (before : List (List ℕ))
             × BeginsAfter t cursor.start before }
-        ensures text { S.text source.new ≡ S.text source.old }
-        ensures extent { S.extent source.new ≡ S.extent source.old }
+        ensures kept { KeepsSource S.text S.extent source.old source.new }
         ensures failures { CountsFeed result (S.failures source.old) (S.failures source.new) }
         ensures fault { (t : List ℕ) → S.text source.old ≡ Some t
             → IfErr result (NamesLine LINE_LIMIT t) }
@@ -116,8 +115,7 @@ impl Streams {
         stamp: &[u8],
         range: &R,
     ) -> Result<u64, FeedFault>
-        ensures text { S.text source.new ≡ S.text source.old }
-        ensures extent { S.extent source.new ≡ S.extent source.old }
+        ensures kept { KeepsSource S.text S.extent source.old source.new }
         ensures failures { CountsFeed result (S.failures source.old) (S.failures source.new) }
         ensures probes { IfOk result (λ n. n ≤ digits (S.extent source.old)) }
         ensures fault { (t : List ℕ) → S.text source.old ≡ Some t

@@ -7,12 +7,12 @@ ghost use Rattle.cdxj_core.specs.Members.{Member, member_place};
 ghost use Rattle.cdxj_core.specs.declared.limit.TheConstants.{LINE_LIMIT};
 ghost use Rattle.devices.specs.Device.{Grows};
 ghost use Rattle.merge_core.specs.Failures.{CountsHanding};
-ghost use Rattle.merge_core.specs.Reached.{CountsSinkWrite};
+ghost use Rattle.devices.specs.WriteFaults.{CountsWriteFault};
 ghost use Rattle.merge_core.specs.SourceLines.{HasEntry};
 
-use crate::fault::{MergeFault, SinkFault};
+use crate::fault::MergeFault;
 use cdxj_core::{HasPlace, Line, in_order};
-use devices::Output;
+use devices::{Output, WriteFault};
 use std::alloc::{AllocError, Global};
 use std::cmp::Ordering;
 
@@ -37,7 +37,7 @@ pub trait Sink {
         alloc: Global,
         lines: &[&Line],
         out: &mut O,
-    ) -> Result<bool, SinkFault>
+    ) -> Result<bool, WriteFault>
         ensures wrote { (first : Self) (taken : List Member) (start : Option (List ℕ))
             → Wrote first self.old taken start (O.written out.old)
             → MatchResult result (λ _.
@@ -46,7 +46,7 @@ pub trait Sink {
         ensures enough { IfOk result (λ all. all ≡ false → Enough self.new) }
         ensures further { IfOk result (λ all. all ≡ true → Enough self.new → ⊥) }
         ensures grows { Grows (O.written out.old) (O.written out.new) }
-        ensures failures { CountsSinkWrite result (O.failures out.old) (O.failures out.new) };
+        ensures failures { CountsWriteFault result (O.failures out.old) (O.failures out.new) };
 }
 
 fn references<'a>(
@@ -107,7 +107,7 @@ fn take_two<K: Sink, O: Output>(
     second: &Line,
     sink: &mut K,
     out: &mut O,
-) -> Result<bool, SinkFault>
+) -> Result<bool, WriteFault>
     ensures wrote { (begin : K) (taken : List Member) (start : Option (List ℕ))
         → K.Wrote begin sink.old taken start (O.written out.old)
         → MatchResult result (λ _. K.Wrote begin sink.new
@@ -119,7 +119,7 @@ fn take_two<K: Sink, O: Output>(
     ensures enough { IfOk result (λ all. all ≡ false → K.Enough sink.new) }
     ensures further { IfOk result (λ all. all ≡ true → K.Enough sink.new → ⊥) }
     ensures grows { Grows (O.written out.old) (O.written out.new) }
-    ensures failures { CountsSinkWrite result (O.failures out.old) (O.failures out.new) }
+    ensures failures { CountsWriteFault result (O.failures out.old) (O.failures out.new) }
 {
     match first.compare_place(second) {
         Ordering::Less => sink.take(alloc, &[first, second], out),

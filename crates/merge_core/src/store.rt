@@ -1,5 +1,6 @@
 //! The reading of lines into reused buffers.
 ghost use Rattle.std.specs.Prelude.{◌≡◌, ◌≢◌, ◌+◌, ◌<◌, ◌≤◌, ◌++◌, ◌∷◌, ℕ, List, [], length, drop, option_map, Some, None, MatchOption, MatchResult, IfOk, IfErr, OnOk};
+ghost use Rattle.source_core.specs.Device.{KeepsSource};
 ghost use Rattle.cdxj_core.specs.declared.limit.TheConstants.{LINE_LIMIT};
 ghost use Rattle.cdxj_core.specs.Members.{line_entry};
 ghost use Rattle.cdxj_places.specs.TextLines.{lines};
@@ -81,8 +82,7 @@ impl Store {
         cursor: &mut Cursor,
     ) -> Result<Option<Box<Line>>, FeedFault>
         requires stands { Stands (S.text source.old) (S.extent source.old) cursor.old }
-        ensures text { S.text source.new ≡ S.text source.old }
-        ensures extent { S.extent source.new ≡ S.extent source.old }
+        ensures kept { KeepsSource S.text S.extent source.old source.new }
         ensures gave { S.gave source.new + reach cursor.old ≤ S.gave source.old + reach cursor.new }
         ensures failures { CountsFeed result (S.failures source.old) (S.failures source.new) }
         ensures stands { OnOk result (Stands (S.text source.new) (S.extent source.new) cursor.new) }

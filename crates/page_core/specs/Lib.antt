@@ -3,5 +3,4 @@ pub mod Pages
 pub mod Form
 pub mod FormView
 pub mod PageText
-pub mod Faults
 pub mod Laws

@@ -42,15 +42,9 @@ impl PageForm<'_> {
             ≡ text.old.items ++ row_text (form_view self.entry) line.now) }
     {
         match self {
-            PageForm::Text(fields) => {
-                let values = line.values()?;
-                push_text_row(text, fields, &values)
-            }
+            PageForm::Text(fields) => { push_text_row(text, fields, &line.values()) }
             PageForm::Cdxj => push_line_row(text, line),
-            PageForm::Json(fields) => {
-                let values = line.values()?;
-                push_json_row(text, alloc, fields, &values)
-            }
+            PageForm::Json(fields) => { push_json_row(text, alloc, fields, &line.values()) }
         }
     }
 

@@ -4,7 +4,6 @@
 #![tactic(auto)]
 
 mod escaping;
-mod fault;
 mod form;
 mod hidden;
 mod json_rows;
@@ -12,7 +11,6 @@ mod laws;
 mod page_output;
 mod text_rows;
 
-pub use crate::fault::TextFault;
 pub use crate::form::PageForm;
 pub use crate::json_rows::field_name;
 pub use crate::laws::{begun_page_is_front, page_is_its_pieces, pages_join};

@@ -1,14 +1,13 @@
 //! The text of a page, written piece by piece.
 ghost use Rattle.std.specs.Prelude.{◌≡◌, option_map};
 ghost use Rattle.devices.specs.Writing.{WritesText};
-ghost use Rattle.page_core.specs.Faults.{CountsTextWrite};
+ghost use Rattle.devices.specs.WriteFaults.{CountsWriteFault};
 ghost use Rattle.page_core.specs.FormView.{form_view};
 ghost use Rattle.page_core.specs.PageText.{page_start, row_text, page_end};
 
-use crate::fault::TextFault;
 use crate::form::PageForm;
 use cdxj_core::Line;
-use devices::{Output, put};
+use devices::{Output, WriteFault, put};
 use std::alloc::Global;
 use std::marker::Model;
 
@@ -44,11 +43,11 @@ impl<'f> PageOutput<'f> {
 
     /// Writes what precedes the first capture.
     /// Errors are `Memory`, and `Write` if the output failed. A prefix of it was then written.
-    pub fn put_start<O: Output>(&mut self, out: &mut O) -> Result<(), TextFault>
+    pub fn put_start<O: Output>(&mut self, out: &mut O) -> Result<(), WriteFault>
         ensures form { self.new ≡ self.old }
         ensures text { WritesText result (O.written out.old) (O.written out.new)
             (page_start self.old) }
-        ensures failures { CountsTextWrite result (O.failures out.old) (O.failures out.new) }
+        ensures failures { CountsWriteFault result (O.failures out.old) (O.failures out.new) }
     {
         self.text.clear();
         self.form.push_start(&mut self.text, self.alloc)?;
@@ -58,11 +57,11 @@ impl<'f> PageOutput<'f> {
 
     /// Writes the row of a capture.
     /// Errors are `Memory`, and `Write` if the output failed. A prefix of it was then written.
-    pub fn put_row<O: Output>(&mut self, line: &Line, out: &mut O) -> Result<(), TextFault>
+    pub fn put_row<O: Output>(&mut self, line: &Line, out: &mut O) -> Result<(), WriteFault>
         ensures form { self.new ≡ self.old }
         ensures text { WritesText result (O.written out.old) (O.written out.new)
             (row_text self.old line.now) }
-        ensures failures { CountsTextWrite result (O.failures out.old) (O.failures out.new) }
+        ensures failures { CountsWriteFault result (O.failures out.old) (O.failures out.new) }
     {
         self.text.clear();
         self.form.push_row(&mut self.text, self.alloc, line)?;
@@ -72,11 +71,11 @@ impl<'f> PageOutput<'f> {
 
     /// Writes what follows the last capture, with the resume key if there is one.
     /// Errors are `Memory`, and `Write` if the output failed. A prefix of it was then written.
-    pub fn put_end<O: Output>(&mut self, key: Option<&str>, out: &mut O) -> Result<(), TextFault>
+    pub fn put_end<O: Output>(&mut self, key: Option<&str>, out: &mut O) -> Result<(), WriteFault>
         ensures form { self.new ≡ self.old }
         ensures text { WritesText result (O.written out.old) (O.written out.new)
             (page_end self.old (option_map (λ k. k.now) key.entry)) }
-        ensures failures { CountsTextWrite result (O.failures out.old) (O.failures out.new) }
+        ensures failures { CountsWriteFault result (O.failures out.old) (O.failures out.new) }
     {
         self.text.clear();
         self.form.push_end(&mut self.text, self.alloc, key)?;

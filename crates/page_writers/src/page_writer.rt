@@ -3,7 +3,7 @@ ghost use Rattle.std.specs.Prelude.{◌≡◌, ◌++◌, ◌∷◌, [], List, Op
 ghost use Rattle.cdxj_places.specs.PlaceViews.{place_view};
 ghost use Rattle.cdxj_core.specs.Members.{Member, member_place};
 ghost use Rattle.page_core.specs.FormView.{form_view};
-ghost use Rattle.page_core.specs.Faults.{CountsTextWrite};
+ghost use Rattle.devices.specs.WriteFaults.{CountsWriteFault};
 ghost use Rattle.page_core.specs.PageText.{page_end};
 ghost use Rattle.devices.specs.Writing.{WritesText};
 ghost use Rattle.page_writers.specs.WrittenPages.{IsReadBack};
@@ -11,8 +11,8 @@ ghost use Rattle.page_writers.specs.QueryPages.{form_of, shown_key};
 
 use crate::selection::Selection;
 use cdxj_core::{HasPlace, Line, OwnedPlace, place_is_good, resume_key_is_read, resume_text};
-use devices::Output;
-use page_core::{PageForm, PageOutput, TextFault};
+use devices::{Output, WriteFault};
+use page_core::{PageForm, PageOutput};
 use query_text::{OutputFormat, Query};
 use std::alloc::Global;
 
@@ -32,10 +32,10 @@ pub(crate) fn key_text(
     alloc: Global,
     shows: bool,
     next: Option<&OwnedPlace>,
-) -> Result<Option<String>, TextFault>
+) -> Result<Option<String>, WriteFault>
     ensures key { IfOk result (λ key. option_map string_bytes key
         ≡ shown_key shows (option_map (λ p. p.now) next.entry)) }
-    ensures memory { IfErr result (λ e. e ≡ TextFault.Memory) }
+    ensures memory { IfErr result (λ e. e ≡ WriteFault.Memory) }
 {
     if !shows {
         return Ok(None);
@@ -45,7 +45,7 @@ pub(crate) fn key_text(
     };
     match resume_text(alloc, place.place()) {
         Ok(text) => Ok(Some(text)),
-        Err(_) => Err(TextFault::Memory),
+        Err(_) => Err(WriteFault::Memory),
     }
 }
 
@@ -70,11 +70,11 @@ pub(crate) fn put_end<O: Output>(
     shows: bool,
     next: Option<&OwnedPlace>,
     out: &mut O,
-) -> Result<(), TextFault>
+) -> Result<(), WriteFault>
     ensures form { output.new ≡ output.old }
     ensures text { WritesText result (O.written out.old) (O.written out.new)
         (page_end output.old (shown_key shows (option_map (λ p. p.now) next.entry))) }
-    ensures failures { CountsTextWrite result (O.failures out.old) (O.failures out.new) }
+    ensures failures { CountsWriteFault result (O.failures out.old) (O.failures out.new) }
 {
     let key = key_text(alloc, shows, next)?;
     output.put_end(key.as_deref(), out)?;
@@ -118,7 +118,7 @@ impl<'q> PageWriter<'q> {
         alloc: Global,
         query: &'q Query,
         out: &mut O,
-    ) -> Result<PageWriter<'q>, TextFault>
+    ) -> Result<PageWriter<'q>, WriteFault>
         ensures stands { IfOk result (λ writer.
             stands writer [] (O.written out.old) (O.written out.new)) }
         ensures query { IfOk result (λ writer.
@@ -128,7 +128,7 @@ impl<'q> PageWriter<'q> {
         ensures some { OnOk result (query.now.limit ≡ Some 0 → ⊥) }
         ensures front { OnErr result (AppendsPrefix (O.written out.old) (O.written out.new)
             (page_start (form_of query.now))) }
-        ensures failures { CountsTextWrite result (O.failures out.old) (O.failures out.new) }
+        ensures failures { CountsWriteFault result (O.failures out.old) (O.failures out.new) }
     {
         let selection = Selection::begin(alloc, query)?;
         let mut page = PageOutput::new(alloc, form_of(query));
@@ -154,13 +154,13 @@ impl<'q> PageWriter<'q> {
     }
 
     /// Stores the place of a line that was written, if it is the last that the page has room for.
-    fn keep_last(&mut self, alloc: Global, line: &Line) -> Result<(), TextFault>
+    fn keep_last(&mut self, alloc: Global, line: &Line) -> Result<(), WriteFault>
         ensures last { OnOk result
             (self.new.last ≡ last_after self.old.limit self.old.given self.old.last
             (member_place line.now)) }
         ensures kept { (self.new.selection ≡ self.old.selection) × (self.new.limit ≡ self.old.limit)
             × (self.new.given ≡ self.old.given) × (self.new.more ≡ self.old.more) }
-        ensures memory { IfErr result (λ e. e ≡ TextFault.Memory) }
+        ensures memory { IfErr result (λ e. e ≡ WriteFault.Memory) }
     {
         if !self.is_full() {
             return Ok(());
@@ -170,7 +170,7 @@ impl<'q> PageWriter<'q> {
                 self.last = Some(place);
                 Ok(())
             }
-            Err(_) => Err(TextFault::Memory),
+            Err(_) => Err(WriteFault::Memory),
         }
     }
 
@@ -179,7 +179,7 @@ impl<'q> PageWriter<'q> {
         alloc: Global,
         line: &Line,
         out: &mut O,
-    ) -> Result<(), TextFault>
+    ) -> Result<(), WriteFault>
         ensures text { OnOk result
             (Appends (O.written out.old) (O.written out.new)
             (row_text (form_of self.old.selection.query.now) line.now)) }
@@ -192,7 +192,7 @@ impl<'q> PageWriter<'q> {
         ensures last { OnOk result
             (self.new.last ≡ last_after self.old.limit self.new.given self.old.last
             (member_place line.now)) }
-        ensures failures { CountsTextWrite result (O.failures out.old) (O.failures out.new) }
+        ensures failures { CountsWriteFault result (O.failures out.old) (O.failures out.new) }
     {
         self.page.put_row(line, out)?;
         self.given = self.given.saturating_add(1);
@@ -207,7 +207,7 @@ impl<'q> PageWriter<'q> {
         alloc: Global,
         line: &Line,
         out: &mut O,
-    ) -> Result<(), TextFault>
+    ) -> Result<(), WriteFault>
         ensures stands { (taken : List Member) → (start : Option (List ℕ))
             → stands self.old taken start (O.written out.old)
             → OnOk result (stands self.new (taken ++ line.now ∷ []) start (O.written out.new)) }
@@ -216,7 +216,7 @@ impl<'q> PageWriter<'q> {
             → OnErr result (Broke self.old (taken ++ line.now ∷ []) start (O.written out.new)) }
         ensures kept { Kept self.old self.new }
         ensures grows { Grows (O.written out.old) (O.written out.new) }
-        ensures failures { CountsTextWrite result (O.failures out.old) (O.failures out.new) }
+        ensures failures { CountsWriteFault result (O.failures out.old) (O.failures out.new) }
     {
         if self.more {
             return Ok(());
@@ -239,7 +239,7 @@ impl<'q> PageWriter<'q> {
         alloc: Global,
         lines: &[&Line],
         out: &mut O,
-    ) -> Result<bool, TextFault>
+    ) -> Result<bool, WriteFault>
         ensures stands { (taken : List Member) → (start : Option (List ℕ))
             → stands self.old taken start (O.written out.old)
             → OnOk result (stands self.new (taken ++ map (λ l. l.now) lines.now) start
@@ -252,7 +252,7 @@ impl<'q> PageWriter<'q> {
         ensures enough { IfOk result (λ all. all ≡ false → self.new.more ≡ true) }
         ensures further { IfOk result (λ all. all ≡ true → self.new.more ≡ true → ⊥) }
         ensures grows { Grows (O.written out.old) (O.written out.new) }
-        ensures failures { CountsTextWrite result (O.failures out.old) (O.failures out.new) }
+        ensures failures { CountsWriteFault result (O.failures out.old) (O.failures out.new) }
     {
         for line in lines {
             self.take_line(alloc, line, out)?;
@@ -262,14 +262,14 @@ impl<'q> PageWriter<'q> {
 
     /// Writes what follows the last capture, with the resume key if the query shows it and there is one.
     /// Errors are `Memory`, and `Write` if the output failed.
-    pub fn end<O: Output>(&mut self, alloc: Global, out: &mut O) -> Result<PageEnd, TextFault>
+    pub fn end<O: Output>(&mut self, alloc: Global, out: &mut O) -> Result<PageEnd, WriteFault>
         ensures text { WritesText result (O.written out.old) (O.written out.new)
             (page_end (form_of self.old.selection.query.now)
             (shown_key self.old.selection.query.now.show_resume_key
             (next_of self.old.more self.old.last))) }
         ensures end { IfOk result (λ end.
             (end.given ≡ self.old.given) × (end.next ≡ next_of self.old.more self.old.last)) }
-        ensures failures { CountsTextWrite result (O.failures out.old) (O.failures out.new) }
+        ensures failures { CountsWriteFault result (O.failures out.old) (O.failures out.new) }
     {
         let next = self.take_next();
         let shows = self.selection.query.shows_resume_key();

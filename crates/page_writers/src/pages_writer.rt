@@ -1,15 +1,15 @@
 //! The writing of pages, one after another.
 ghost use Rattle.std.specs.Prelude.{◌≡◌, ◌++◌, ◌∷◌, ◌==◌, [], List, Option, None, ℕ, OnOk, OnErr, IfOk};
 ghost use Rattle.cdxj_core.specs.Members.{Member, member_place};
-ghost use Rattle.page_core.specs.Faults.{CountsTextWrite};
+ghost use Rattle.devices.specs.WriteFaults.{CountsWriteFault};
 ghost use Rattle.page_writers.specs.QueryPages.{form_of};
 
 use crate::page_writer::{form_of, key_is_read, put_end};
 use crate::selection::Selection;
 use crate::sizes::{first_size, later_sizes};
 use cdxj_core::{HasPlace, Line, OwnedPlace};
-use devices::Output;
-use page_core::{PageOutput, TextFault};
+use devices::{Output, WriteFault};
+use page_core::PageOutput;
 use query_text::Query;
 use std::alloc::Global;
 
@@ -48,7 +48,7 @@ impl<'q> PagesWriter<'q> {
         query: &'q Query,
         sizes: &'q [u64],
         out: &mut O,
-    ) -> Result<PagesWriter<'q>, TextFault>
+    ) -> Result<PagesWriter<'q>, WriteFault>
         ensures stands { AllPositive sizes.now
             → IfOk result (λ writer.
             pages_stand writer.sizes.now writer [] (O.written out.old) (O.written out.new)) }
@@ -58,7 +58,7 @@ impl<'q> PagesWriter<'q> {
             × (writer.sizes.now ≡ sizes.now)) }
         ensures front { OnErr result (AppendsPrefix (O.written out.old) (O.written out.new)
             (page_start (form_of query.now))) }
-        ensures failures { CountsTextWrite result (O.failures out.old) (O.failures out.new) }
+        ensures failures { CountsWriteFault result (O.failures out.old) (O.failures out.new) }
     {
         let selection = Selection::begin(alloc, query)?;
         let mut output = PageOutput::new(alloc, form_of(query));
@@ -81,7 +81,7 @@ impl<'q> PagesWriter<'q> {
     }
 
     /// Ends the page, which is full, and begins the next.
-    fn turn<O: Output>(&mut self, alloc: Global, out: &mut O) -> Result<(), TextFault>
+    fn turn<O: Output>(&mut self, alloc: Global, out: &mut O) -> Result<(), WriteFault>
         ensures text { WritesText result (O.written out.old) (O.written out.new)
             (page_end (form_of self.old.selection.query.now)
             (shown_key true self.old.last) ++ page_start (form_of self.old.selection.query.now)) }
@@ -91,7 +91,7 @@ impl<'q> PagesWriter<'q> {
             ((self.new.sizes.now ≡ later_sizes self.old.sizes.now) × (self.new.given ≡ 0)
             × (self.new.last ≡ self.old.last)
             × (self.new.count ≡ min (self.old.count + 1) (2 ^ 64 - 1))) }
-        ensures failures { CountsTextWrite result (O.failures out.old) (O.failures out.new) }
+        ensures failures { CountsWriteFault result (O.failures out.old) (O.failures out.new) }
     {
         key_is_read(self.last.as_ref());
         put_end(alloc, &mut self.output, true, self.last.as_ref(), out)?;
@@ -103,7 +103,7 @@ impl<'q> PagesWriter<'q> {
     }
 
     /// Ends the page if it is full, and begins the next.
-    fn make_room<O: Output>(&mut self, alloc: Global, out: &mut O) -> Result<(), TextFault>
+    fn make_room<O: Output>(&mut self, alloc: Global, out: &mut O) -> Result<(), WriteFault>
         ensures stands { (sizes : List ℕ) → (captures : List Member) → (start : Option (List ℕ))
             → are_in_pages sizes self.old captures start (O.written out.old)
             → OnOk result (are_in_pages sizes self.new captures start (O.written out.new)
@@ -114,7 +114,7 @@ impl<'q> PagesWriter<'q> {
             (O.written out.new)) }
         ensures selection { self.new.selection ≡ self.old.selection }
         ensures grows { Grows (O.written out.old) (O.written out.new) }
-        ensures failures { CountsTextWrite result (O.failures out.old) (O.failures out.new) }
+        ensures failures { CountsWriteFault result (O.failures out.old) (O.failures out.new) }
     {
         if self.is_full() {
             self.turn(alloc, out)?;
@@ -127,7 +127,7 @@ impl<'q> PagesWriter<'q> {
         alloc: Global,
         line: &Line,
         out: &mut O,
-    ) -> Result<(), TextFault>
+    ) -> Result<(), WriteFault>
         ensures text { OnOk result
             (Appends (O.written out.old) (O.written out.new)
             (row_text (form_of self.old.selection.query.now) line.now)) }
@@ -141,14 +141,14 @@ impl<'q> PagesWriter<'q> {
         ensures last { OnOk result
             (self.new.given ≡ first_size self.old.sizes.now → self.new.last
             ≡ Some (member_place line.now)) }
-        ensures failures { CountsTextWrite result (O.failures out.old) (O.failures out.new) }
+        ensures failures { CountsWriteFault result (O.failures out.old) (O.failures out.new) }
     {
         self.output.put_row(line, out)?;
         self.given = self.given.saturating_add(1);
         if self.is_full() {
             match OwnedPlace::new(alloc, line.place()) {
                 Ok(place) => self.last = Some(place),
-                Err(_) => return Err(TextFault::Memory),
+                Err(_) => return Err(WriteFault::Memory),
             }
         }
         Ok(())
@@ -159,7 +159,7 @@ impl<'q> PagesWriter<'q> {
         alloc: Global,
         line: &Line,
         out: &mut O,
-    ) -> Result<(), TextFault>
+    ) -> Result<(), WriteFault>
         ensures stands { (sizes : List ℕ) → (taken : List Member) → (start : Option (List ℕ))
             → pages_stand sizes self.old taken start (O.written out.old)
             → OnOk result (pages_stand sizes self.new (taken ++ line.now ∷ []) start
@@ -170,7 +170,7 @@ impl<'q> PagesWriter<'q> {
             (captures_of self.old.selection (taken ++ line.now ∷ [])) start (O.written out.new)) }
         ensures same { IsSame self.old.selection self.new.selection }
         ensures grows { Grows (O.written out.old) (O.written out.new) }
-        ensures failures { CountsTextWrite result (O.failures out.old) (O.failures out.new) }
+        ensures failures { CountsWriteFault result (O.failures out.old) (O.failures out.new) }
     {
         if self.selection.takes(line)? {
             self.make_room(alloc, out)?;
@@ -186,7 +186,7 @@ impl<'q> PagesWriter<'q> {
         alloc: Global,
         lines: &[&Line],
         out: &mut O,
-    ) -> Result<(), TextFault>
+    ) -> Result<(), WriteFault>
         ensures stands { (sizes : List ℕ) → (taken : List Member) → (start : Option (List ℕ))
             → pages_stand sizes self.old taken start (O.written out.old)
             → OnOk result (pages_stand sizes self.new (taken ++ map (λ l. l.now) lines.now) start
@@ -198,7 +198,7 @@ impl<'q> PagesWriter<'q> {
             (O.written out.new)) }
         ensures same { IsSame self.old.selection self.new.selection }
         ensures grows { Grows (O.written out.old) (O.written out.new) }
-        ensures failures { CountsTextWrite result (O.failures out.old) (O.failures out.new) }
+        ensures failures { CountsWriteFault result (O.failures out.old) (O.failures out.new) }
     {
         for line in lines {
             self.take_line(alloc, line, out)?;
@@ -208,11 +208,11 @@ impl<'q> PagesWriter<'q> {
 
     /// Writes what follows the last capture. Returns the number of pages.
     /// Errors are `Memory`, and `Write` if the output failed.
-    pub fn end<O: Output>(&mut self, out: &mut O) -> Result<u64, TextFault>
+    pub fn end<O: Output>(&mut self, out: &mut O) -> Result<u64, WriteFault>
         ensures text { WritesText result (O.written out.old) (O.written out.new)
             (page_end (form_of self.old.selection.query.now) None) }
         ensures count { IfOk result (λ count. count ≡ min (self.old.count + 1) (2 ^ 64 - 1)) }
-        ensures failures { CountsTextWrite result (O.failures out.old) (O.failures out.new) }
+        ensures failures { CountsWriteFault result (O.failures out.old) (O.failures out.new) }
     {
         self.output.put_end(None, out)?;
         Ok(self.count.saturating_add(1))

@@ -1,5 +1,5 @@
 //! Which of the lines of a merge are captures of a query.
-ghost use Rattle.std.specs.Prelude.{◌≡◌, ◌++◌, ◌∷◌, [], List, Option, IfOk, IfErr, OnOk, cond};
+ghost use Rattle.std.specs.Prelude.{◌≡◌, ◌++◌, ◌∷◌, [], List, Option, IfOk, OnOk, cond};
 ghost use Rattle.cdxj_places.specs.Places.{place_cmp};
 ghost use Rattle.cdxj_core.specs.Members.{Member, member_place};
 ghost use Rattle.page_core.specs.Pages.{is_above};
@@ -7,7 +7,6 @@ ghost use Rattle.page_writers.specs.PageWriting.{is_wanted};
 
 use crate::collapsing::Collapsing;
 use cdxj_core::{HasPlace, Line, Place};
-use page_core::TextFault;
 use query_text::Query;
 use std::alloc::{AllocError, Global};
 
@@ -51,15 +50,10 @@ impl<'q> Selection<'q> {
         }
     }
 
-    fn wants(&self, line: &Line) -> Result<bool, TextFault>
-        ensures value { IfOk result (λ wanted.
-            wanted ≡ is_wanted self.now.query.now (from_view self.now.from) line.now) }
-        ensures memory { IfErr result (λ e. e ≡ TextFault.Memory) }
+    fn wants(&self, line: &Line) -> bool
+        ensures { result ≡ is_wanted self.now.query.now (from_view self.now.from) line.now }
     {
-        match self.query.matches_kept(line) {
-            Ok(matches) => Ok(matches && self.is_above(line)),
-            Err(_) => Err(TextFault::Memory),
-        }
+        self.query.matches_kept(line) && self.is_above(line)
     }
 
     /// Returns `true` if the line is left out because of the capture before it.
@@ -76,19 +70,15 @@ impl<'q> Selection<'q> {
     }
 
     /// Stores what the lines after this one are compared with.
-    fn keep_part(&mut self, line: &Line) -> Result<(), TextFault>
+    fn keep_part(&mut self, line: &Line) -> Result<(), AllocError>
         ensures part { OnOk result
             (self.new.collapsing ≡ collapsing_after self.old.collapsing (member_place line.now)) }
         ensures same { IsSame self.old self.new }
-        ensures memory { IfErr result (λ e. e ≡ TextFault.Memory) }
     {
         match &mut self.collapsing {
             Some(collapsing) => {
                 let (key, stamp) = line.pair();
-                match collapsing.keep(key, stamp) {
-                    Ok(()) => Ok(()),
-                    Err(_) => Err(TextFault::Memory),
-                }
+                collapsing.keep(key, stamp)
             }
             None => Ok(()),
         }
@@ -96,16 +86,15 @@ impl<'q> Selection<'q> {
 
     /// Takes the next line. Returns `true` if it is a capture of the query.
     /// The only error is refused memory.
-    pub fn takes(&mut self, line: &Line) -> Result<bool, TextFault>
+    pub fn takes(&mut self, line: &Line) -> Result<bool, AllocError>
         ensures selects { (taken : List Member) → Selects self.old taken
             → OnOk result (Selects self.new (taken ++ line.now ∷ [])) }
         ensures capture { (taken : List Member) → Selects self.old taken → IfOk result (λ is.
             captures_of self.old (taken ++ line.now ∷ [])
             ≡ captures_of self.old taken ++ cond is (line.now ∷ []) []) }
         ensures same { IsSame self.old self.new }
-        ensures memory { IfErr result (λ e. e ≡ TextFault.Memory) }
     {
-        if !self.wants(line)? {
+        if !self.wants(line) {
             return Ok(false);
         }
         if self.repeats(line) {

@@ -4,8 +4,8 @@ use Rattle.merge_core.specs.declared.fault.FeedFault.{FeedFault}
 use Rattle.merge_core.specs.declared.fault.FeedFault.TheVariants as feed
 use Rattle.merge_core.specs.declared.fault.MergeFault.{MergeFault}
 use Rattle.merge_core.specs.declared.fault.MergeFault.TheVariants as merge
-use Rattle.page_core.specs.declared.fault.TextFault.{TextFault}
-use Rattle.page_core.specs.declared.fault.TextFault.TheVariants as text
+use Rattle.devices.specs.declared.write_fault.WriteFault.{WriteFault}
+use Rattle.devices.specs.declared.write_fault.WriteFault.TheVariants as text
 use Rattle.query_core.specs.declared.fault.AnswerFault.{AnswerFault}
 use Rattle.query_core.specs.declared.fault.AnswerFault.TheVariants as fault
 
@@ -23,6 +23,6 @@ fault_of_merge merge.Write = fault.Write
 fault_of_merge (merge.Feed i e) = fault_of_index i e
 
 -- the fault of the writing of a text
-abbrev pub fault_of_text : TextFault → AnswerFault
+abbrev pub fault_of_text : WriteFault → AnswerFault
 fault_of_text text.Memory = fault.Memory
 fault_of_text text.Write = fault.Write

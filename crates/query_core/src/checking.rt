@@ -1,6 +1,7 @@
 //! The checking of an index.
 ghost use Rattle.std.specs.Prelude.{◌≡◌, ◌+◌, ◌≤◌, ⊤, ℕ, List, true, false, option_map, IfErr, MatchBool, Some};
 ghost use Rattle.cdxj_core.specs.declared.limit.TheConstants.{LINE_LIMIT};
+ghost use Rattle.source_core.specs.Device.{KeepsSource};
 ghost use Rattle.query_core.specs.AnswerCounts.{CountsSource};
 ghost use Rattle.query_core.specs.Checking.{FallsAfter, IsChecked, IsCheckFault};
 
@@ -29,8 +30,7 @@ fn falls_after(previous: &Option<Box<Line>>, line: &Line) -> bool
 ///
 /// Errors are `Memory`, `Read`, and for the first line at fault `BadLine` or `OutOfOrder`, all of index 0.
 pub fn check<S: Source>(alloc: Global, source: &mut S) -> Result<u64, AnswerFault>
-    ensures kept { (S.text source.new ≡ S.text source.old)
-        × (S.extent source.new ≡ S.extent source.old) }
+    ensures kept { KeepsSource S.text S.extent source.old source.new }
     ensures checked { (text : List ℕ) → S.text source.old ≡ Some text
         → IsChecked LINE_LIMIT text result }
     ensures fault { IfErr result IsCheckFault }

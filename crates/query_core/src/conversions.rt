@@ -3,8 +3,8 @@ ghost use Rattle.std.specs.Prelude.{◌≡◌};
 ghost use Rattle.query_core.specs.Conversions.{fault_of_index, fault_of_merge, fault_of_text};
 
 use crate::fault::AnswerFault;
+use devices::WriteFault;
 use merge_core::{FeedFault, MergeFault};
-use page_core::TextFault;
 
 /// Returns the fault of a call whose index of this number has this fault.
 fn fault_of_index(index: usize, fault: FeedFault) -> AnswerFault
@@ -30,13 +30,13 @@ impl From<MergeFault> for AnswerFault {
     }
 }
 
-impl From<TextFault> for AnswerFault {
+impl From<WriteFault> for AnswerFault {
     ghost from_gives = { λ fault answer. answer ≡ fault_of_text fault };
 
-    fn from(fault: TextFault) -> AnswerFault {
+    fn from(fault: WriteFault) -> AnswerFault {
         match fault {
-            TextFault::Memory => AnswerFault::Memory,
-            TextFault::Write => AnswerFault::Write,
+            WriteFault::Memory => AnswerFault::Memory,
+            WriteFault::Write => AnswerFault::Write,
         }
     }
 }

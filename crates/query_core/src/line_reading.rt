@@ -1,5 +1,6 @@
 //! The lines of one index, read one after another.
 ghost use Rattle.std.specs.Prelude.{◌≡◌, ◌+◌, ◌<◌, ◌≤◌, ℕ, List, ⊤, option_map, IfOk, IfErr, OnOk, MatchOption, Some};
+ghost use Rattle.source_core.specs.Device.{KeepsSource};
 ghost use Rattle.std.specs.Ordering.{is_gt};
 ghost use Rattle.cdxj_core.specs.declared.limit.TheConstants.{LINE_LIMIT};
 ghost use Rattle.cdxj_core.specs.Members.{member_pair};
@@ -21,8 +22,7 @@ pub(crate) fn next_line<S: Source>(
     cursor: &mut Cursor,
 ) -> Result<Option<Box<Line>>, AnswerFault>
     requires stands { Stands (S.text source.old) (S.extent source.old) cursor.old }
-    ensures text { S.text source.new ≡ S.text source.old }
-    ensures extent { S.extent source.new ≡ S.extent source.old }
+    ensures kept { KeepsSource S.text S.extent source.old source.new }
     ensures stands { OnOk result (Stands (S.text source.new) (S.extent source.new) cursor.new) }
     ensures start { cursor.new.start ≡ cursor.old.start }
     ensures count { IfOk result (λ found.

@@ -2,21 +2,10 @@
 ghost use Rattle.std.specs.Prelude.{◌≡◌};
 
 use cdxj_core::Line;
-use devices::Output;
-use merge_core::{Sink, SinkFault};
-use page_core::TextFault;
+use devices::{Output, WriteFault};
+use merge_core::Sink;
 use page_writers::{PageWriter, PagesWriter};
 use std::alloc::Global;
-
-fn sink_fault(fault: TextFault) -> SinkFault
-    ensures memory { fault ≡ TextFault.Memory → result ≡ SinkFault.Memory }
-    ensures write { fault ≡ TextFault.Write → result ≡ SinkFault.Write }
-{
-    match fault {
-        TextFault::Memory => SinkFault::Memory,
-        TextFault::Write => SinkFault::Write,
-    }
-}
 
 /// Passes the lines of a merge to the writer of a page.
 #[derive(Debug, Drop)]
@@ -39,10 +28,10 @@ impl Sink for PageSink<'_> {
         alloc: Global,
         lines: &[&Line],
         out: &mut O,
-    ) -> Result<bool, SinkFault> {
+    ) -> Result<bool, WriteFault> {
         match self.writer.take(alloc, lines, out) {
             Ok(all) => Ok(all),
-            Err(fault) => Err(sink_fault(fault)),
+            Err(fault) => Err(fault),
         }
     }
 }
@@ -68,10 +57,10 @@ impl Sink for PagesSink<'_> {
         alloc: Global,
         lines: &[&Line],
         out: &mut O,
-    ) -> Result<bool, SinkFault> {
+    ) -> Result<bool, WriteFault> {
         match self.writer.take(alloc, lines, out) {
             Ok(()) => Ok(true),
-            Err(fault) => Err(sink_fault(fault)),
+            Err(fault) => Err(fault),
         }
     }
 }

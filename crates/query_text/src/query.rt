@@ -98,7 +98,7 @@ fn all_hold(filters: &[Filter], line: &LineRef<'_>) -> bool
 }
 
 impl Query {
-    ghost use Rattle.std.specs.Prelude.{◌≢◌, ◌<◌, ◌≤◌, [], false, length, IsOk, IfSome, MatchResult, Ok, Err};
+    ghost use Rattle.std.specs.Prelude.{◌≢◌, ◌<◌, ◌≤◌, [], false, length, IfSome, MatchResult, Ok, Err};
     ghost use Rattle.cdxj_core.specs.PlaceViews.{place_view};
     ghost use Rattle.query_text.specs.declared.query.TheConstants.{QUERY_LIMIT};
     ghost use Rattle.query_text.specs.ParameterViews.{parameter_values};
@@ -180,23 +180,11 @@ impl Query {
     }
 
     /// Returns `true` if the query matches the line.
-    ///
-    /// The only error is a refused allocation: the line's values are read again. This happens only if the query has
-    /// filters and matches the line's key and stamp.
-    pub fn matches_kept(&self, line: &Line) -> Result<bool, AllocError>
-        ensures value { IfOk result (λ found. found ≡ matches self.now line.now.values) }
-        ensures unfiltered { self.now.filters ≡ [] → IsOk result }
-        ensures unmatched { matches_pair self.now line.now.values.key line.now.values.stamp
-            ≡ false → IsOk result }
+    pub fn matches_kept(&self, line: &Line) -> bool
+        ensures { result ≡ matches self.now line.now.values }
     {
         let (key, stamp) = line.pair();
-        if !self.matches_pair(key, stamp) {
-            return Ok(false);
-        }
-        if self.filters.is_empty() {
-            return Ok(true);
-        }
-        Ok(all_hold(self.filters.as_slice(), &line.values()?))
+        self.matches_pair(key, stamp) && all_hold(self.filters.as_slice(), &line.values())
     }
 
     /// Returns the maximum number of captures on a page, if there is one.

@@ -13,7 +13,7 @@ fn selected(alloc: Global, text: &str, lines: &[Vec<u8>]) -> Result<String, Fail
     for (number, line) in lines.iter().enumerate() {
         let asked = query.matches(&LineRef::read(alloc, line)?);
         let kept = Line::read(alloc, line)?;
-        if asked != query.matches_kept(&kept)? {
+        if asked != query.matches_kept(&kept) {
             numbers.push_str(" otherwise")?;
         } else if asked {
             numbers.push_str(format!(in alloc; " {number}")?.as_str())?;
@@ -206,23 +206,5 @@ fn ranges_begin_with_their_target(rt: HostRuntime) -> Result<(), QueryFault> {
     for (text, key, wanted) in COVERED {
         assert!(rt; covers(rt.alloc(), text, key)? == *wanted, "{text} {key}");
     }
-    Ok(())
-}
-
-/// Returns `true` if each of these lines is matched or not, without memory. The lines themselves take some.
-fn matches_without_memory(alloc: Global, query: &Query, rows: Rows) -> Result<bool, Fail> {
-    for line in &index_lines(alloc, rows)? {
-        let kept = Line::read(alloc, line)?;
-        if query.matches_kept(&kept).is_err() {
-            return Ok(false);
-        }
-    }
-    Ok(true)
-}
-
-#[test]
-fn a_query_without_filters_takes_no_memory(rt: HostRuntime) -> Result<(), Fail> {
-    let query = Query::read(rt.alloc(), "key=a)/&matchType=prefix&from=2016")?;
-    assert!(rt; matches_without_memory(rt.alloc(), &query, LETTER_ROWS)?);
     Ok(())
 }

@@ -1,5 +1,6 @@
 //! The lines of a source, one after another.
 ghost use Rattle.std.specs.Prelude.{◌≡◌, ◌+◌, ◌<◌, ◌≤◌, ◌≢◌, ◌∷◌, ℕ, Option, List, length, take, drop, IfOk, IfErr, OnOk, MatchOption, IfSome, IfNone, Some};
+ghost use Rattle.source_core.specs.Device.{KeepsSource};
 ghost use Rattle.cdxj_core.specs.declared.limit.TheConstants.{LINE_LIMIT};
 
 use crate::fault::LineReadFault;
@@ -110,8 +111,7 @@ impl Cursor {
         line: &mut Vec<u8>,
     ) -> Result<bool, LineReadFault>
         requires stands { Stands (S.text source.old) (S.extent source.old) self.old }
-        ensures text { S.text source.new ≡ S.text source.old }
-        ensures extent { S.extent source.new ≡ S.extent source.old }
+        ensures kept { KeepsSource S.text S.extent source.old source.new }
         ensures stands { OnOk result (Stands (S.text source.new) (S.extent source.new) self.new) }
         ensures filled { Filled (S.text source.new) (S.extent source.new) self.new }
         ensures start { self.new.start ≡ self.old.start }

@@ -1,5 +1,6 @@
 //! Where lines begin.
 ghost use Rattle.std.specs.Prelude.{◌≡◌, ◌+◌, ◌<◌, ◌≤◌, ℕ, List, length, drop, IfOk, IfSome, IfNone, Some};
+ghost use Rattle.source_core.specs.Device.{KeepsSource};
 ghost use Rattle.devices.specs.Device.{CountsFailure};
 ghost use Rattle.source_core.specs.IndexLines.{lines, from_line, longest};
 ghost use Rattle.source_core.specs.Windows.{Holds};
@@ -20,8 +21,7 @@ pub(crate) fn next_line_start<S: Source>(
     requires holds { Holds (S.text source.old) (S.extent source.old) window.old }
     requires some { from < until }
     requires inside { until ≤ S.extent source.old }
-    ensures text { S.text source.new ≡ S.text source.old }
-    ensures extent { S.extent source.new ≡ S.extent source.old }
+    ensures kept { KeepsSource S.text S.extent source.old source.new }
     ensures holds { Holds (S.text source.new) (S.extent source.new) window.new }
     ensures after { IfOk result (λ found. IfSome found (λ offset. from ≤ offset)) }
     ensures within { IfOk result (λ found. IfSome found (λ offset. offset < until)) }

@@ -1,5 +1,6 @@
 //! The binary search for the line where the reading of an index begins.
 ghost use Rattle.std.specs.Prelude.{◌≡◌, ◌+◌, ◌-◌, ◌*◌, ◌<◌, ◌≤◌, ℕ, Option, List, length, drop, false, IfOk, OnOk, OnErr, IfSome, IfNone, Some, []};
+ghost use Rattle.source_core.specs.Device.{KeepsSource};
 ghost use Rattle.cdxj_core.specs.declared.limit.TheConstants.{LINE_LIMIT};
 ghost use Rattle.cdxj_core.specs.Indexes.{IsIndex};
 ghost use Rattle.cdxj_core.specs.Members.{Member};
@@ -62,8 +63,7 @@ fn read_on<S: Source>(
     requires some { 0 < most }
     requires room { most ≤ 8192 }
     requires inside { offset + length front.old.items < S.extent source.old }
-    ensures text { S.text source.new ≡ S.text source.old }
-    ensures extent { S.extent source.new ≡ S.extent source.old }
+    ensures kept { KeepsSource S.text S.extent source.old source.new }
     ensures holds { Holds (S.text source.new) (S.extent source.new) window.new }
     ensures within { OnOk result (offset + length front.new.items ≤ S.extent source.old) }
     ensures some { OnOk result (length front.old.items < length front.new.items) }
@@ -96,8 +96,7 @@ fn read_to<S: Source>(
     requires holds { Holds (S.text source.old) (S.extent source.old) window.old }
     requires inside { offset + length front.old.items < S.extent source.old }
     requires more { length front.old.items < wanted }
-    ensures text { S.text source.new ≡ S.text source.old }
-    ensures extent { S.extent source.new ≡ S.extent source.old }
+    ensures kept { KeepsSource S.text S.extent source.old source.new }
     ensures holds { Holds (S.text source.new) (S.extent source.new) window.new }
     ensures within { OnOk result (offset + length front.new.items ≤ S.extent source.old) }
     ensures some { OnOk result (length front.old.items < length front.new.items) }
@@ -138,8 +137,7 @@ fn stops_at<S: Source>(
 ) -> Result<bool, SearchFault>
     requires holds { Holds (S.text source.old) (S.extent source.old) window.old }
     requires inside { offset ≤ S.extent source.old }
-    ensures text { S.text source.new ≡ S.text source.old }
-    ensures extent { S.extent source.new ≡ S.extent source.old }
+    ensures kept { KeepsSource S.text S.extent source.old source.new }
     ensures holds { Holds (S.text source.new) (S.extent source.new) window.new }
     ensures stops { (t : List ℕ) → S.text source.old ≡ Some t → IfOk result (λ stop.
         stop ≡ stops_lines (line_below LINE_LIMIT (key.now, stamp.now)) (lines (drop offset t))) }
@@ -188,8 +186,7 @@ fn probe<S: Source>(
     requires holds { Holds (S.text source.old) (S.extent source.old) window.old }
     requires some { middle < until }
     requires inside { until ≤ S.extent source.old }
-    ensures text { S.text source.new ≡ S.text source.old }
-    ensures extent { S.extent source.new ≡ S.extent source.old }
+    ensures kept { KeepsSource S.text S.extent source.old source.new }
     ensures holds { Holds (S.text source.new) (S.extent source.new) window.new }
     ensures after { IfOk result (λ found. IfSome found (λ line. middle ≤ line.offset)) }
     ensures within { IfOk result (λ found. IfSome found (λ line. line.offset < until)) }
@@ -244,8 +241,7 @@ fn halve<S: Source>(
     requires some { span.low < span.high }
     requires halved { Halved LINE_LIMIT (key.now, stamp.now)
         (S.text source.old) (S.extent source.old) span }
-    ensures text { S.text source.new ≡ S.text source.old }
-    ensures extent { S.extent source.new ≡ S.extent source.old }
+    ensures kept { KeepsSource S.text S.extent source.old source.new }
     ensures holds { Holds (S.text source.new) (S.extent source.new) window.new }
     ensures halved { IfOk result (λ next. Halved LINE_LIMIT (key.now, stamp.now)
         (S.text source.new) (S.extent source.new) next) }
@@ -295,8 +291,7 @@ fn halve<S: Source>(
 fn hold_few<S: Source>(source: &mut S, window: &mut Window, span: Span) -> Result<(), SearchFault>
     requires holds { Holds (S.text source.old) (S.extent source.old) window.old }
     requires inside { span.high ≤ S.extent source.old }
-    ensures text { S.text source.new ≡ S.text source.old }
-    ensures extent { S.extent source.new ≡ S.extent source.old }
+    ensures kept { KeepsSource S.text S.extent source.old source.new }
     ensures holds { Holds (S.text source.new) (S.extent source.new) window.new }
     ensures gave { S.gave source.new ≤ S.gave source.old + 8192 }
     ensures inside { S.gave source.new ≤ S.gave source.old + S.extent source.old }
@@ -329,8 +324,7 @@ pub fn search<S: Source>(
     key: &[u8],
     stamp: &[u8],
 ) -> Result<Found, SearchFault>
-    ensures text { S.text source.new ≡ S.text source.old }
-    ensures extent { S.extent source.new ≡ S.extent source.old }
+    ensures kept { KeepsSource S.text S.extent source.old source.new }
     ensures within { IfOk result (λ found. found.offset ≤ S.extent source.old) }
     ensures first { key.now ≡ [] → stamp.now ≡ [] → IfOk result (λ found. found.offset ≡ 0) }
     ensures unread { key.now ≡ [] → stamp.now ≡ [] → source.new ≡ source.old }

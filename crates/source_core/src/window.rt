@@ -1,5 +1,6 @@
 //! Bytes of a source that are read once and used again.
 ghost use Rattle.std.specs.Prelude.{◌≡◌, ◌+◌, ◌-◌, ◌<◌, ◌≤◌, [], length, IfOk, OnOk, OnErr, MatchResult};
+ghost use Rattle.source_core.specs.Device.{KeepsSource};
 ghost use Rattle.devices.specs.Device.{CountsFailure};
 ghost use Rattle.source_core.specs.Device.{HoldsPart};
 ghost use Rattle.source_core.specs.Windows.{AreBytesAt, Holds, held_from};
@@ -20,8 +21,7 @@ fn read_part<S: Source>(
     most: usize,
 ) -> Result<usize, SourceFault>
     requires { most ≤ length buffer.old }
-    ensures text { S.text source.new ≡ S.text source.old }
-    ensures extent { S.extent source.new ≡ S.extent source.old }
+    ensures kept { KeepsSource S.text S.extent source.old source.new }
     ensures room { length buffer.new ≡ length buffer.old }
     ensures most { IfOk result (λ n. n ≤ most) }
     ensures inside { IfOk result (λ n. n ≤ S.extent source.old - at) }
@@ -88,8 +88,7 @@ impl Window {
     ) -> Result<(), SourceFault>
         requires inside { at ≤ S.extent source.old }
         requires room { most ≤ 8192 }
-        ensures text { S.text source.new ≡ S.text source.old }
-        ensures extent { S.extent source.new ≡ S.extent source.old }
+        ensures kept { KeepsSource S.text S.extent source.old source.new }
         ensures holds { Holds (S.text source.new) (S.extent source.new) self.new }
         ensures at { self.new.at ≡ at }
         ensures most { length self.new.bytes ≤ most }
@@ -116,8 +115,7 @@ impl Window {
         requires inside { at < S.extent source.old }
         requires some { 0 < most }
         requires room { most ≤ 8192 }
-        ensures text { S.text source.new ≡ S.text source.old }
-        ensures extent { S.extent source.new ≡ S.extent source.old }
+        ensures kept { KeepsSource S.text S.extent source.old source.new }
         ensures holds { Holds (S.text source.old) (S.extent source.old) self.old
             → Holds (S.text source.new) (S.extent source.new) self.new }
         ensures stands { AreBytesAt (S.text source.old) (S.extent source.old) at

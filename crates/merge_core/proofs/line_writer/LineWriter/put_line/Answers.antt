@@ -1,6 +1,6 @@
 use Rattle.std.proofs.Common.{arith, [], ◌∷◌}
 use Rattle.devices.proofs.WritingLemmas.{prefix_after, prefix_longer}
-use Rattle.merge_core.specs.declared.fault.SinkFault.TheVariants.{Write}
+use Rattle.devices.specs.declared.write_fault.WriteFault.TheVariants.{Write}
 use Rattle.merge_core.proofs.MergeLemmas.{on_err}
 use Rattle.devices.proofs.DeviceLemmas.{grows_on}
 use Rattle.merge_core.proofs.line_writer.LineWriter.put_line.Goals as goal
