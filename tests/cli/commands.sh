@@ -300,6 +300,28 @@ check "scan: --types"            "com,example)/r m.warc 0" ""              0 sca
 check "scan: --types, two"              "$scanned_types" ""                0 scan --types metadata,resource 9 "$of_archives" r.warc m.warc
 check "scan: --types, a refused query"  "" "warcdx: query: BadUrl"         1 scan --types metadata 1 url= missing
 
+# The second line of a message, of which docs/COMMANDS.md says only that it may follow.
+gzip --no-name --stdout r.warc > r.warc.gz
+gzip --no-name --stdout sorted.cdxj > sorted.cdxj.gz
+mkfifo pipe
+advises "why: no such file"         "No such file or directory (os error 2)"                            3 index missing
+advises "why: an archive of gzip"   "It is compressed by gzip: warcdx-gz indexes .warc.gz files."       1 index r.warc.gz
+advises "why: not a WARC file"      "No record begins there: its first line isn't WARC/1.0 or WARC/1.1." 1 index sorted.cdxj
+advises "why: a folder"             "It is a folder: warcdx-update indexes the archives of a folder."   3 index folder
+advises "why: a cut archive"        "The archive ends within a record's header."                        1 index torn.warc
+advises "why: a file name twice"    "Another archive has this file name: rename one of them."           1 index r.warc folder/r.warc
+advises "why: no record"            "No record begins at this offset, or it has another length."        1 get 1 r.warc
+advises "why: a folder as an index" "It is a folder."                                                   3 check folder
+advises "why: an index of gzip"     "It is compressed by gzip: decompress it first."                    1 check sorted.cdxj.gz
+advises "why: a bad line"           "The line that begins there isn't one of a CDXJ index."             1 check r.warc
+advises "why: a falling index"      "The index isn't in order: LC_ALL=C sort puts its lines in order."  1 check falling.cdxj
+advises "why: 1,025 indexes"        "At most 1024 files are taken: merge the indexes of some of them first." 1 merge "${too_many[@]}"
+advises "why: an unknown parameter" "A parameter is unknown. They are url, key, matchType, from, to, filter, is, isnot, has, hasnot, limit, \
+resumeKey, showResumeKey, fl, output and collapse." 1 query "url=a&page=0" sorted.cdxj
+advises "why: a pattern" "filter takes a literal text, without \\ ^ \$ . | ? * + ( ) [ ] { }. For a part of a value, write has=FIELD:TEXT." \
+    1 query "url=a&filter=statuscode:2.." sorted.cdxj
+advises "why: no url"               "A query has a url or a key, such as url=example.com."              1 query "" sorted.cdxj
+
 flush="warcdx: cannot flush"
 write="warcdx: Write"
 
@@ -317,6 +339,13 @@ check "controls in an index, json" "$(lines '[["original"],' "[\"$of_controls\\u
 check "controls in an index, cdxj" "$(< controls.cdxj)" ""                 0 query "url=example.com&output=cdxj" controls.cdxj
 check "controls in an index, merge" "$(< controls.cdxj)" ""                0 merge controls.cdxj
 check "a control that isn't escaped" "" "warcdx: escape.cdxj: BadLine 0"   1 check escape.cdxj
+
+run full list same.warc || true
+expect "why: a full disk, one line"   $'warcdx: cannot flush\n  No space left on device (os error 28)' "$(< error)"
+run full list many.warc || true
+expect "why: a full disk, many lines" $'warcdx: Write\n  No space left on device (os error 28)' "$(< error)"
+run broken list many.warc || true
+expect "why: no reader"               $'warcdx: Write\n  Broken pipe (os error 32)' "$(< error)"
 
 for way in full closed broken; do
     check_into $way "$way: one line"       "" "$flush"                       3 list same.warc
