@@ -14,8 +14,8 @@ pub const LEAST_SKIP: u64 = 8192;
 /// the next skip.
 const READ_AFTER_SKIP: usize = 2048;
 
-/// A file as an input, which skips by moving the file's position. Its bytes are those behind the position, if the file
-/// tells both.
+/// A file as an input, which skips by moving the file's position. Its bytes are those from the position on, if the
+/// file's stream is known.
 #[derive(Debug, Drop)]
 pub struct FromFile<F: Positioned> {
     file: F,
