@@ -2,7 +2,7 @@ use Rattle.std.proofs.Common.{arith, ◌≡◌, List, Bool, Option, find, is_som
 use Rattle.std.specs.List.{list_any}
 use Rattle.command_line.specs.Words.{Text}
 use Rattle.command_line.proofs.Finding.{any_found, found_passes}
-use Rattle.command_line.proofs.words.read_words.Goals as goal
+use Rattle.command_line.proofs.words.read_task.Goals as goal
 
 -- a word among these passes the test where one is found
 any_of : (test : Text → Bool) (given words : List Text) (found : Option Text) → given ≡ words → found ≡ find test given
