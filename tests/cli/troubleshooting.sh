@@ -194,7 +194,7 @@ with_limit() { # LIMIT: merges 1,024 indexes
     ulimit -n "$1"
     "$program" merge "${indexes[@]}"
 }
-prints "ulimit -n 1024" "warcdx: response.cdxj: cannot open" with_limit 1024
+prints "ulimit -n 1024" $'warcdx: response.cdxj: cannot open\n  Too many open files (os error 24)' with_limit 1024
 prints "ulimit -n 4096" "$(< response.cdxj)" with_limit 4096
 
 row "\`TooManySources\`"
@@ -265,7 +265,7 @@ on_terminal() { # ARGUMENT..
     python3 -c 'import pty, sys; pty.spawn(sys.argv[1:])' "$program" "$@"
 }
 missing="warcdx: missing: cannot open"
-prints "on a terminal" "$missing"$'\r\nresponse.cdxj 1\r' on_terminal check response.cdxj missing
+prints "on a terminal" "$missing"$'\r\n  No such file or directory (os error 2)\r\nresponse.cdxj 1\r' on_terminal check response.cdxj missing
 sees "apart" "response.cdxj 1" "$missing" 3 check response.cdxj missing
 
 row "\`warcdx: Write\` in front of \`head\`"
@@ -273,7 +273,7 @@ repeated 20000 < response.warc > many.warc
 in_front_of_head() {
     "$program" list many.warc | head --lines=1
 }
-prints "the message" $'0 264 response\nwarcdx: Write' in_front_of_head
+prints "the message" $'0 264 response\nwarcdx: Write\n  Broken pipe (os error 32)' in_front_of_head
 
 sed -n -e '/^| What you see/d' -e '/^|---/d' -e 's/^| \([^|]*\) | .*/\1/p' "$page" > page-rows
 expect_file "each row has cases" page-rows rows
