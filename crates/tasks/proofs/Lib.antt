@@ -7,7 +7,7 @@ pub mod ToldLemmas
 pub mod UntoldArchives
 pub mod UntoldLines
 pub mod UntoldScans
-mod StatusLemmas
+pub mod StatusLemmas
 mod WordsLemmas
 pub mod WriteCounts
 pub mod FailedNames

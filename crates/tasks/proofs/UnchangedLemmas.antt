@@ -4,6 +4,7 @@ use Rattle.std.specs.Prelude.{IfErr, MatchBool}
 use Rattle.command_line.specs.Commands.{Meaning, ToList, ToVerify, ToIndex, ToMerge, ToCheck, ToQuery, ToPages, ToServe}
 use Rattle.command_line.specs.Commands.{ToGet, ToScan}
 use Rattle.index_core.specs.declared.fault.IndexFault.{IndexFault}
+use Rattle.index_core.specs.Fetching.{IsMetBefore}
 use Rattle.query_core.specs.declared.fault.AnswerFault.{AnswerFault}
 use Rattle.query_core.specs.Refusals.{Refuses}
 use Rattle.query_text.specs.Queries.{QueryValue}
@@ -30,57 +31,79 @@ module _ {U V : Type 0} (less : U → V) where
   reads text outcome more (inl done) = inl (done.0, done.1, more done.0 done.2)
   reads text outcome more (inr refused) = inr (refused.0, less refused.1)
 
-  at_end : {P R : Type 0} (ends : Bool) → MatchBool ends (P × U) R → MatchBool ends (P × V) R
-  at_end true h = (h.0, less h.1)
-  at_end false h = h
+  at_end : (P R : Type 0) (ends : Bool) → MatchBool ends (P × U) R → MatchBool ends (P × V) R
+  at_end P R true h = (h.0, less h.1)
+  at_end P R false h = h
 
   merges : (told : List (Option (List ℕ))) (before after : Option (List ℕ)) (outcome : Outcome)
       → MergesIndexes told before after U outcome → MergesIndexes told before after V outcome
   merges told before after outcome h = record {
-      answer = h.answer; outcome_is = h.outcome_is; refused = refuses _ _ h.refused; merged = h.merged;
-      part = h.part; lines = h.lines; fault = h.fault;
-    }
+    answer = h.answer;
+    outcome_is = h.outcome_is;
+    refused = refuses _ _ h.refused;
+    merged = h.merged;
+    part = h.part;
+    lines = h.lines;
+    fault = h.fault;
+  }
 
   answers : (query : QueryValue) (told : List (Option (List ℕ))) (before after : Option (List ℕ)) (outcome : Outcome)
       → AnswersQuery query told before after U outcome → AnswersQuery query told before after V outcome
   answers query told before after outcome h = record {
-      answer = h.answer; outcome_is = h.outcome_is; refused = refuses _ _ h.refused; lines = h.lines;
-      parts = h.parts; page = h.page; fault = h.fault;
-    }
+    answer = h.answer;
+    outcome_is = h.outcome_is;
+    refused = refuses _ _ h.refused;
+    lines = h.lines;
+    parts = h.parts;
+    page = h.page;
+    fault = h.fault;
+  }
 
   pages : (query : QueryValue) (sizes : List ℕ) (told : List (Option (List ℕ))) (before after : Option (List ℕ))
       (outcome : Outcome) → AnswersPages query sizes told before after U outcome
       → AnswersPages query sizes told before after V outcome
   pages query sizes told before after outcome h = record {
-      answer = h.answer; outcome_is = h.outcome_is; refused = refuses _ _ h.refused; lines = h.lines;
-      parts = h.parts; pages = h.pages; fault = h.fault;
-    }
+    answer = h.answer;
+    outcome_is = h.outcome_is;
+    refused = refuses _ _ h.refused;
+    lines = h.lines;
+    parts = h.parts;
+    pages = h.pages;
+    fault = h.fault;
+  }
 
   serves : (told : List (Option (List ℕ))) (lines before after : Option (List ℕ)) (outcome : Outcome)
       → AnswersLines told lines before after U outcome → AnswersLines told lines before after V outcome
   serves told lines before after outcome h = record {
-      answer = h.answer; outcome_is = h.outcome_is; refused = refuses _ _ h.refused; converses = h.converses;
-      taken = h.taken; replies = h.replies; part = h.part;
-    }
+    answer = h.answer;
+    outcome_is = h.outcome_is;
+    refused = refuses _ _ h.refused;
+    converses = h.converses;
+    taken = h.taken;
+    replies = h.replies;
+    part = h.part;
+  }
 
-  unwritten : {P : IndexFault → Type 0} (answer : Result ℕ IndexFault) → IfErr answer (λ fault. P fault → U)
+  unwritten : (P : IndexFault → Type 0) (answer : Result ℕ IndexFault) → IfErr answer (λ fault. P fault → U)
       → IfErr answer (λ fault. P fault → V)
-  unwritten (Ok size) h = tt
-  unwritten (Err fault) h = λ met. less (h met)
+  unwritten P (Ok size) h = tt
+  unwritten P (Err fault) h = λ met. less (h met)
 
   fetches : (len : Option ℕ) (offset : ℕ) (archive before after : Option (List ℕ)) (outcome : Outcome)
       → WritesRecord len offset archive before after U outcome → WritesRecord len offset archive before after V outcome
   fetches len offset archive before after outcome h = record {
-      answer = h.answer; outcome_is = h.outcome_is; fetches = h.fetches;
-      unwritten = unwritten h.answer h.unwritten;
-    }
+    answer = h.answer;
+    outcome_is = h.outcome_is;
+    fetches = h.fetches;
+    unwritten = unwritten (IsMetBefore offset) h.answer h.unwritten;
+  }
 
   pub performs_less : (files : Openings) (before after : Option (List ℕ)) (outcome : Outcome) (task : Meaning)
       → Performs files before after U outcome task → Performs files before after V outcome task
   performs_less files before after outcome (ToList names) h = h
   performs_less files before after outcome (ToVerify names) h = h
   performs_less files before after outcome (ToIndex types names) h =
-      (h.0, h.1, h.2, at_end (ends_command h.1) h.3)
+      (h.0, h.1, h.2, at_end _ _ (ends_command h.1) h.3)
   performs_less files before after outcome (ToMerge names) h = opens (merges _ _ _ _) h
   performs_less files before after outcome (ToCheck names) h = h
   performs_less files before after outcome (ToQuery text names) h =

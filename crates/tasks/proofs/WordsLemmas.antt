@@ -6,6 +6,6 @@ use Rattle.tasks.specs.declared.outcome.Outcome.TheVariants as outcomes
 use Rattle.tasks.specs.Words.{EndsWords}
 
 pub memory_ends_words : (wanted : Result Meaning Refusal) → EndsWords wanted (outcomes.Index faults.Memory)
-memory_ends_words (Ok task) = tt
+memory_ends_words (Ok task) = λ e. cc
 memory_ends_words (Err Help) = inr refl
 memory_ends_words (Err Usage) = inr refl

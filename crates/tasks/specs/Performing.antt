@@ -54,12 +54,12 @@ module _ (files : Openings) (before after : Option (List ℕ)) (unchanged : Type
 -- the files of the system, of which nothing is told
 abbrev pub system_files : Openings
 system_files = record {
-    archive_of = λ _. None;
-    index_of = λ _. None;
-    ArchiveFailed = λ _. ⊤;
-    IndexFailed = λ _. ⊤;
-    input = None;
-  }
+  archive_of = λ _. None;
+  index_of = λ _. None;
+  ArchiveFailed = λ _. ⊤;
+  IndexFailed = λ _. ⊤;
+  input = None;
+}
 
 -- a task ended as done over the files of the system: what it then writes was written to an output
 pub record IsDone (task : Meaning) : Type 0 where

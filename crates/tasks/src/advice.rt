@@ -44,7 +44,8 @@ pub fn query_advice(fault: QueryFault) -> &'static str {
             "url isn't a URL, or not one of the web where matchType is host or domain. A % is written as %25, a & as %26."
         }
         QueryFault::QueryTooLong => "A query has at most 65536 bytes.",
-        QueryFault::BadCollapse => "collapse is urlkey, timestamp, or timestamp:N with N from 1 to 14.",
+        QueryFault::BadCollapse =>
+            "collapse is urlkey, timestamp, or timestamp:N with N from 1 to 14.",
     }
 }
 
@@ -83,7 +84,8 @@ fn cause_advice(cause: Cause) -> &'static str {
             "The record has WARC-Record-ID, Content-Length, WARC-Date or WARC-Type twice."
         }
         Cause::BadLength => "The record's Content-Length isn't a number of bytes below 2^63.",
-        Cause::BadDate => "The record's WARC-Date isn't a time in UTC, such as 2016-09-19T17:20:24Z.",
+        Cause::BadDate =>
+            "The record's WARC-Date isn't a time in UTC, such as 2016-09-19T17:20:24Z.",
         Cause::ShortBlock => "The archive ends within the record's block.",
         Cause::Closing => "The record doesn't end with two empty lines.",
         Cause::TooFar => "The record would end at 2^63 bytes or more.",
@@ -95,7 +97,9 @@ pub fn index_advice<R: Runtime>(rt: &R, name: &str, fault: IndexFault) -> Option
     match fault {
         IndexFault::Capture(fault) => Some(archive_advice(rt, name, fault)),
         IndexFault::BadName => Some("The name of an archive's file has 1 to 255 bytes."),
-        IndexFault::DuplicateName => Some("Another archive has this file name: rename one of them."),
+        IndexFault::DuplicateName => Some(
+            "Another archive has this file name: rename one of them.",
+        ),
         IndexFault::NoRecord => Some("No record begins at this offset, or it has another length."),
         IndexFault::Memory | IndexFault::Write => None,
     }

@@ -72,7 +72,10 @@ impl<'a, R> System<'a, R> {
 }
 
 impl<R: Runtime + AllocGlobal> Opener for System<'_, R> {
-    type Archive = Either<FromRead<<R as io::Input>::Reader>, FromFile<SystemFile<<R as Files>::File>>>;
+    type Archive = Either<
+        FromRead<<R as io::Input>::Reader>,
+        FromFile<SystemFile<<R as Files>::File>>,
+    >;
 
     type Index = FileSource<SystemFile<<R as Files>::File>>;
 

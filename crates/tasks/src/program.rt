@@ -135,8 +135,8 @@ fn run_task<R: Runtime + AllocGlobal>(rt: &R, task: &Task) -> Outcome
         return say_outcome(rt, MEMORY);
     };
     let outcome = match task {
-        Task::Serve { .. } => perform(rt, &System::new(rt), task, &mut Prompt::new(&mut writer)),
-        _ => perform(rt, &System::new(rt), task, &mut FromWrite::new(&mut writer)),
+        Task::Serve { .. } => perform_on_system(rt, task, &mut Prompt::new(&mut writer)),
+        _ => perform_on_system(rt, task, &mut FromWrite::new(&mut writer)),
     };
     let flushed = writer.flush();
     let outcome = say_outcome(rt, flushed_outcome(outcome, flushed.is_ok()));
@@ -156,6 +156,17 @@ fn say_reason<R: Runtime>(rt: &R, outcome: Outcome, reason: &io::Error) {
         }
         _ => {}
     }
+}
+
+/// Performs the task over the files of the system, with this output.
+fn perform_on_system<R: Runtime + AllocGlobal, O: Output>(
+    rt: &R,
+    task: &Task,
+    out: &mut O,
+) -> Outcome
+    ensures { result ≡ Outcome.Done → IsDone (view task.now) }
+{
+    perform(rt, &System::new(rt), task, out)
 }
 
 /// Performs the task with this output.
