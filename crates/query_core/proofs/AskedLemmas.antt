@@ -10,13 +10,13 @@ use Rattle.cdxj_core.specs.Members.{Member}
 use Rattle.page_core.specs.Pages.{Page}
 use Rattle.page_core.specs.PageText.{page_text, page_end, begun}
 use Rattle.page_core.proofs.PageLemmas.{begun_is_front, written-whole, front-end}
-use Rattle.page_writers.specs.declared.page_writer.PageEnd.{PageEnd}
-use Rattle.page_writers.specs.declared.page_writer.PageWriter.{PageWriter}
-use Rattle.page_writers.specs.QueryPages.{answer_text, form_of, shown_key, query_page}
-use Rattle.page_writers.specs.PageWriting.{captures_over, page_over, next_of, PageStands}
-use Rattle.page_writers.specs.WriterView.{from_view, Wrote, Broke}
-use Rattle.page_writers.proofs.CaptureLemmas.{filter_and}
-use Rattle.page_writers.proofs.WriterLemmas.{page, decided, next_is, page_front, whole_prefix}
+use Rattle.query_core.specs.declared.page_writer.PageEnd.{PageEnd}
+use Rattle.query_core.specs.declared.page_writer.PageWriter.{PageWriter}
+use Rattle.query_core.specs.QueryPages.{answer_text, form_of, shown_key, query_page}
+use Rattle.query_core.specs.PageWriting.{captures_over, page_over, next_of, PageStands}
+use Rattle.query_core.specs.WriterView.{from_view, Wrote, Broke}
+use Rattle.query_core.proofs.CaptureLemmas.{filter_and}
+use Rattle.query_core.proofs.WriterLemmas.{page, decided, next_is, page_front, whole_prefix}
 use Rattle.query_core.specs.Answering.{Answered}
 use Rattle.query_core.specs.declared.report.Report.{Report}
 use Rattle.query_core.specs.declared.sinks.PageSink.{PageSink}

@@ -16,17 +16,17 @@ use Rattle.cdxj_core.specs.Indexes.{IsIndex}
 use Rattle.merge_core.specs.Collections.{Known, OverIndexes, collection}
 use Rattle.std.specs.List.{AllZip, sum}
 use Rattle.devices.specs.Device.{Grows}
-use Rattle.page_writers.specs.PageWriting.{page_over}
+use Rattle.query_core.specs.PageWriting.{page_over}
 use Rattle.query_core.specs.Passes.{AreAtMost, AreFirst, GaveFor}
-use Rattle.page_writers.specs.QueryPages.{form_of, query_page}
+use Rattle.query_core.specs.QueryPages.{form_of, query_page}
 use Rattle.query_core.specs.Reach.{captures_text, GaveInReach, WroteFirst}
 use Rattle.query_core.proofs.AskedLemmas.{Beginning, Writing, captures, asked_is, passed, stood}
 use Rattle.query_core.specs.declared.sinks.PageSink.{PageSink}
-use Rattle.page_writers.specs.WriterView.{Wrote}
+use Rattle.query_core.specs.WriterView.{Wrote}
 use Rattle.std.proofs.lemmas.Bool.{true≢false, false_from_ne_true}
 use Rattle.query_core.proofs.ReachLemmas.{within_opening}
 use Rattle.merge_core.proofs.Many.{two_same}
-use Rattle.page_writers.proofs.WriterLemmas.{page, next_none, page_front}
+use Rattle.query_core.proofs.WriterLemmas.{page, next_none, page_front}
 use Rattle.std.proofs.lemmas.List.Concat.{length-flat_map}
 use Rattle.std.proofs.lemmas.List.Sums.{count_by-le-length, length-filter, sum-map}
 use Rattle.cdxj_places.specs.Rising.{put, rising}

@@ -8,16 +8,16 @@ use Rattle.query_text.specs.Queries.{QueryValue}
 use Rattle.cdxj_places.specs.Places.{place_cmp}
 use Rattle.cdxj_places.specs.Rising.{Rises}
 use Rattle.page_core.specs.Pages.{AllPositive}
-use Rattle.page_writers.specs.WrittenPages.{WrotePages, WrotePagesInPart}
-use Rattle.page_writers.proofs.PageChains.{wrote_front, wrote_most, wrote_whole}
+use Rattle.query_core.specs.WrittenPages.{WrotePages, WrotePagesInPart}
+use Rattle.query_core.proofs.PageChains.{wrote_front, wrote_most, wrote_whole}
 use Rattle.page_core.specs.PageText.{page_end}
-use Rattle.page_writers.specs.declared.pages_writer.PagesWriter.{PagesWriter}
+use Rattle.query_core.specs.declared.pages_writer.PagesWriter.{PagesWriter}
 use Rattle.query_core.specs.declared.sinks.PagesSink.{PagesSink}
-use Rattle.page_writers.specs.QueryPages.{form_of}
-use Rattle.page_writers.specs.WriterView.{IsFront, PagesBroke, PagesWrote, from_view}
+use Rattle.query_core.specs.QueryPages.{form_of}
+use Rattle.query_core.specs.WriterView.{IsFront, PagesBroke, PagesWrote, from_view}
 use Rattle.query_core.specs.PagesReach.{WroteInPages}
 use Rattle.query_core.proofs.PagesReach.{in_pages}
-use Rattle.page_writers.proofs.PagesLemmas.{ended_stands, ending_front, stands_front}
+use Rattle.query_core.proofs.PagesLemmas.{ended_stands, ending_front, stands_front}
 
 -- a writer that begins with this query and these sizes, and what was written then
 pub record BeginningPages (q : QueryValue) (sizes : List ℕ) (start mid : Option (List ℕ)) : Type 0 where

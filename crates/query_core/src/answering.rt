@@ -11,11 +11,11 @@ ghost use Rattle.query_core.specs.Refusals.{Refuses, too_many};
 
 use crate::fault::AnswerFault;
 use crate::merging::SOURCES_LIMIT;
+use crate::page_writer::PageWriter;
 use crate::pass::read_lines;
 use crate::report::Report;
 use crate::sinks::PageSink;
 use devices::Output;
-use page_writers::PageWriter;
 use query_text::Query;
 use source_core::Source;
 use std::alloc::Global;

@@ -14,10 +14,11 @@ ghost use Rattle.query_core.specs.Refusals.{Refuses, bad_sizes_or_too_many};
 
 use crate::fault::AnswerFault;
 use crate::merging::SOURCES_LIMIT;
+use crate::pages_writer::PagesWriter;
 use crate::pass::read_lines;
 use crate::sinks::PagesSink;
+use crate::sizes::are_sizes;
 use devices::Output;
-use page_writers::{PagesWriter, are_sizes};
 use query_text::Query;
 use source_core::Source;
 use std::alloc::Global;

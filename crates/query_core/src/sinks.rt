@@ -1,10 +1,11 @@
 //! The writers of pages, as sinks of a merge.
 ghost use Rattle.std.specs.Prelude.{◌≡◌};
 
+use crate::page_writer::PageWriter;
+use crate::pages_writer::PagesWriter;
 use cdxj_core::Line;
 use devices::{Output, WriteFault};
 use merge_core::Sink;
-use page_writers::{PageWriter, PagesWriter};
 use std::alloc::Global;
 
 /// Passes the lines of a merge to the writer of a page.
@@ -15,7 +16,7 @@ pub(crate) struct PageSink<'q> {
 
 impl Sink for PageSink<'_> {
     ghost use Rattle.std.specs.Prelude.{◌≡◌, true};
-    ghost use Rattle.page_writers.specs.WriterView.{Wrote, Broke};
+    ghost use Rattle.query_core.specs.WriterView.{Wrote, Broke};
 
     ghost Wrote = { λ first sink taken start now. Wrote first.writer sink.writer taken start now };
 
@@ -43,7 +44,7 @@ pub(crate) struct PagesSink<'q> {
 }
 
 impl Sink for PagesSink<'_> {
-    ghost use Rattle.page_writers.specs.WriterView.{PagesWrote, PagesBroke};
+    ghost use Rattle.query_core.specs.WriterView.{PagesWrote, PagesBroke};
 
     ghost Wrote = { λ first sink taken start now.
         PagesWrote first.writer.sizes.now first.writer sink.writer taken start now };

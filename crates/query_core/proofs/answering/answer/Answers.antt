@@ -6,8 +6,8 @@ use Rattle.cdxj_core.specs.declared.limit.TheConstants.{LINE_LIMIT}
 use Rattle.devices.proofs.DeviceLemmas.{grows_by, grows_not, grows_part}
 use Rattle.merge_core.specs.Collections.{OverIndexes, collection}
 use Rattle.query_core.specs.Passes.{AreAtMost}
-use Rattle.page_writers.specs.PageWriting.{page_over}
-use Rattle.page_writers.specs.QueryPages.{query_page}
+use Rattle.query_core.specs.PageWriting.{page_over}
+use Rattle.query_core.specs.QueryPages.{query_page}
 use Rattle.devices.specs.Device.{Grows}
 use Rattle.query_core.specs.Reach.{GaveInReach}
 use Rattle.query_core.proofs.AskedLemmas.{Beginning, Writing, captures, asked_is, end_front, page_broke, page_ended}

@@ -7,11 +7,11 @@ use Rattle.cdxj_places.proofs.PlaceOrder.{place_cmp_total}
 use Rattle.cdxj_places.proofs.RisingLaws.{rises_rising}
 use Rattle.cdxj_core.specs.Members.{Member, member_place}
 use Rattle.merge_core.specs.Collections.{OverIndexes, collection}
-use Rattle.page_writers.specs.WrittenPages.{WrotePagesInPart}
-use Rattle.page_writers.proofs.PageChains.{wrote_front, wrote_none}
+use Rattle.query_core.specs.WrittenPages.{WrotePagesInPart}
+use Rattle.query_core.proofs.PageChains.{wrote_front, wrote_none}
 use Rattle.query_core.proofs.PagesExits.{BeginningPages, WritingPages, all_ended, any_front, at_end, stood_pages, stopped}
-use Rattle.page_writers.proofs.PagesLemmas.{start_front}
-use Rattle.page_writers.proofs.SizeLemmas.{all_positive}
+use Rattle.query_core.proofs.PagesLemmas.{start_front}
+use Rattle.query_core.proofs.SizeLemmas.{all_positive}
 use Rattle.query_core.proofs.ReachLemmas.{within_opening}
 use Rattle.merge_core.proofs.Many.{two_same}
 use Rattle.std.proofs.Common.{map, Option, ℕ}
