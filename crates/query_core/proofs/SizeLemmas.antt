@@ -1,8 +1,10 @@
 -- The sizes of pages.
-use Rattle.std.proofs.Common.{arith, ◌≡◌, ℕ, ◌<◌, List, [], ◌∷◌, nat_lt, true}
+use Rattle.std.proofs.Common.{arith, ◌≡◌, ℕ, ◌^◌, ◌<◌, ◌≤◌, List, [], ◌∷◌, nat_lt, true, false, Option, None, Some}
 use Rattle.std.specs.List.{list_all}
-use Rattle.std.proofs.lemmas.Bool.{ltb-true, and_parts}
+use Rattle.std.proofs.lemmas.Bool.{and_parts, eq-eqb, eqb-false, eqb-true, ltb-true}
+use Rattle.cdxj_places.specs.Places.{PlaceValue}
 use Rattle.page_core.specs.Pages.{AllPositive, first_size, later_sizes}
+use Rattle.query_core.specs.PageWriting.{FitsWord, is_full, last_after}
 use Rattle.query_core.specs.WrittenPages.{are_sizes}
 
 each_positive : (n : ℕ) (ns : List ℕ) → list_all (λ size. nat_lt 0 size) (n ∷ ns) ≡ true → AllPositive (n ∷ ns)
@@ -20,3 +22,20 @@ first_positive sizes h = grind arith
 
 pub later_positive : (sizes : List ℕ) → AllPositive sizes → AllPositive (later_sizes sizes)
 later_positive sizes h = grind arith
+
+-- ---- where the size of the page that is being written is its limit
+
+pub size_full : (limit : Option ℕ) (n given : ℕ) → limit ≡ Some n → is_full limit given ≡ true → given ≡ n
+size_full None n given is f = cc
+size_full (Some m) n given is f = grind (arith, eqb-true)
+
+pub size_room : (limit : Option ℕ) (n given : ℕ) → limit ≡ Some n → is_full limit given ≡ false → given ≤ n → given < n
+size_room None n given is f h = cc
+size_room (Some m) n given is f h = grind (arith, eqb-false)
+
+pub size_fits : (limit : Option ℕ) (n : ℕ) → limit ≡ Some n → FitsWord limit → n < 2 ^ 64
+size_fits limit n is f = rw is at f
+
+pub size_last : (limit : Option ℕ) (n given : ℕ) (last last' : Option PlaceValue) (place : PlaceValue) → limit ≡ Some n
+    → last' ≡ last_after limit given last place → given ≡ n → last' ≡ Some place
+size_last limit n given last last' place is l g = grind (arith, eq-eqb)

@@ -24,8 +24,8 @@ abbrev begin : (g : Over) (c : In_ok-writer g) → Beginning c.args.query.now (g
     (g.O.Output.written c.begin.new.out)
 begin g c = record {
   first = c.in_ok-writer.writer;
-  is = c.in_ok-writer.ensures.query;
-  began = (((refl, refl), refl), c.in_ok-writer.ensures.stands);
+  is = rw c.limit.ensures.value at c.in_ok-writer.ensures.begins;
+  began = c.in_ok-writer.ensures.wrote (λ none. absurd none);
   some = grind arith;
 }
 
@@ -56,9 +56,10 @@ returns-in_err-writer-clause-lines g c = ([], grind arith, grind (arith, err_fro
 
 pub returns-in_err-pass-clause-lines : goal.returns-in_err-pass-clause-lines
 returns-in_err-pass-clause-lines g c =
-    let p = page_broke (begin g (goal.at.returns-in_err-pass-clause-lines g c).In_ok-writer) _ _
-    c.in_err-pass.ensures.broke.wrote _ [] (sym (append-nil _)) in
-    grind (arith, err_from_is_err_and)
+    let broke = c.in_err-pass.ensures.broke in
+    let p = page_broke (begin g (goal.at.returns-in_err-pass-clause-lines g c).In_ok-writer) _ _ broke.wrote broke.lines
+    [] (sym (append-nil _)) in
+    (broke.lines, broke.took.lines, grind (arith, err_from_is_err_and))
 
 pub returns-in_err-end-clause-lines : goal.returns-in_err-end-clause-lines
 returns-in_err-end-clause-lines g c =

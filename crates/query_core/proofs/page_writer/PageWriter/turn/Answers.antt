@@ -3,7 +3,7 @@ use Rattle.std.proofs.lemmas.Result.{err_from_is_err_and}
 use Rattle.devices.proofs.WritingLemmas.{prefix_after, prefix_longer}
 use Rattle.page_core.specs.PageText.{page_start, page_end}
 use Rattle.query_core.specs.QueryPages.{form_of, shown_key}
-use Rattle.query_core.proofs.pages_writer.PagesWriter.turn.Goals as goal
+use Rattle.query_core.proofs.page_writer.PageWriter.turn.Goals as goal
 
 pub returns-in_err-put_end-clause-text : goal.returns-in_err-put_end-clause-text
 returns-in_err-put_end-clause-text g c = grind (arith, prefix_longer)
