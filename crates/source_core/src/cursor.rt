@@ -39,7 +39,8 @@ impl Model for Cursor {
 
 impl Cursor {
     ghost use Rattle.source_core.specs.IndexLines.{lines, first_length, first_then, line_found};
-    ghost use Rattle.source_core.specs.Cursors.{Filled, Stands, reach, CountsLineRead, IsHeldLine};
+    ghost use Rattle.source_core.specs.Cursors.{Filled, IsFresh, Stands, reach, CountsLineRead, IsHeldLine};
+    ghost use Rattle.source_core.specs.Windows.{Holds};
     ghost use Rattle.source_core.specs.LineParts.{NoFeed};
 
     /// Creates a cursor at the offset `start`, in bytes from the source's start. A line begins there.
@@ -47,7 +48,7 @@ impl Cursor {
     pub fn new(alloc: Global, start: u64) -> Result<Cursor, AllocError>
         ensures stands { IfOk result (λ c.
             (text : Option (List ℕ)) → (extent : ℕ) → start ≤ extent → Stands text extent c) }
-        ensures start { IfOk result (λ c. (c.start ≡ start) × (c.at ≡ start) × (c.count ≡ 0)) }
+        ensures start { IfOk result (λ c. IsFresh c start) }
         ensures ahead { IfOk result (λ c. reach c ≡ start) }
     {
         Ok(Cursor {
@@ -56,6 +57,20 @@ impl Cursor {
             start,
             count: 0,
         })
+    }
+
+    /// Creates a cursor at the offset `start`, where a line begins. It goes on with the bytes that the window holds.
+    pub(crate) fn over(window: Window, start: u64) -> Cursor
+        ensures stands { (text : Option (List ℕ)) → (extent : ℕ) → Holds text extent window
+            → start ≤ extent → Stands text extent result }
+        ensures start { IsFresh result start }
+    {
+        Cursor {
+            window,
+            at: start,
+            start,
+            count: 0,
+        }
     }
 
     /// Returns the offset of the next line, in bytes from the source's start.
