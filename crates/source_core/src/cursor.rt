@@ -19,6 +19,7 @@ use std::marker::Model;
 pub struct Cursor {
     window: Window,
     at: u64,
+    /// The offset of its first line, which only contracts read.
     start: u64,
     count: u64,
 }
@@ -110,6 +111,7 @@ impl Cursor {
         ensures given { (t : List ℕ) → S.text source.now ≡ Some t → lines (drop self.old.at t)
             ≡ take size self.old.ahead ∷ lines (drop self.new.at t) }
     {
+        // For the proof alone: what is held lies within the source.
         let _extent = source.size();
         self.at += size as u64;
         self.count += 1;

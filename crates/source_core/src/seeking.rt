@@ -77,6 +77,7 @@ fn read_on<S: Source>(
         → S.gave source.new + length front.old.items ≤ S.gave source.old + length front.new.items) }
     ensures failures { CountsSearch result (S.failures source.old) (S.failures source.new) }
 {
+    // For the proof alone: the source's known bytes are so many.
     let _size = source.size();
     let at = offset + front.len() as u64;
     window.read(source, at, most)?;
@@ -256,6 +257,7 @@ fn halve<S: Source>(
     ensures near { S.gave source.new + span.low ≤ S.gave source.old + span.high + LINE_LIMIT }
     ensures failures { CountsSearch result (S.failures source.old) (S.failures source.new) }
 {
+    // For the proof alone: the source's known bytes are so many.
     let _size = source.size();
     let middle = span.low + (span.high - span.low) / 2;
     let until = middle + (span.high - middle).min(LINE_LIMIT as u64);
