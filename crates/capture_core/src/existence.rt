@@ -13,6 +13,7 @@ pub fn record_has_a_capture(head: &Head, block: &[u8], name: &str, types: Types)
     ensures { HasCapture (includes types) HTTP_HEAD_LIMIT HTTP_FIELD_LIMIT head.now block.now
         name.now }
 {
+    // For the proof alone: what the types of these say of them.
     let _head = head;
     let _name = name;
     let _types = types;

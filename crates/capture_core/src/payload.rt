@@ -51,6 +51,7 @@ pub(crate) fn part_decided<'a>(head: &Head, front: &'a [u8], whole: usize) -> Op
     ensures code { IfSome result (λ p. IfSome p.response (λ r. r.code < 1000)) }
     ensures open { IfNone result (length front.now < whole) }
 {
+    // For the proof alone: what the type says of the head.
     let _head = head;
     let parted = part(front);
     if parted.response.is_some() || front.len() == whole {

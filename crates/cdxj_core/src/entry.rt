@@ -85,7 +85,7 @@ impl Entry {
         }
     }
 
-    // Strings are UTF-8.
+    /// Shows that the texts are UTF-8, as strings are. Nothing else is done.
     fn see_texts(&self)
         ensures key { IsUtf8 self.now.key }
         ensures url { IsUtf8 self.now.url }
@@ -94,6 +94,7 @@ impl Entry {
         ensures digest { IsUtf8 self.now.digest }
         ensures filename { IsUtf8 self.now.filename }
     {
+        // For the proof alone: what the type says of the texts.
         let _opened = &self.key;
     }
 }

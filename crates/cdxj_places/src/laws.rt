@@ -40,6 +40,7 @@ pub fn resume_key_is_read()
     ensures { (place : PlaceValue) → IsPlace place → resume_place (resume_text place) ≡ Some place }
 {}
 
+/// Shows that bytes are numbers below 256. Nothing else is done.
 fn see_bytes(bytes: &[u8])
     ensures { All (λ b. b < 256) bytes.now }
 {}

@@ -21,6 +21,7 @@ pub struct FromFile<F: Positioned> {
     file: F,
     left: u64,
     next_read: usize,
+    /// The number of calls that have failed, which only contracts read.
     failures: u64,
     pub ghost left_rule: { left < 2 ^ 63 },
     pub ghost next_read_rule: { 0 < next_read },

@@ -64,6 +64,7 @@ impl Input for Slice<'_> {
 #[derive(Debug, Drop)]
 pub struct Gather {
     bytes: Vec<u8>,
+    /// The number of calls that have failed, which only contracts read.
     failures: u64,
 }
 

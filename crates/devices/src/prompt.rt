@@ -16,6 +16,7 @@ use std::io;
 #[derive(Debug, Drop)]
 pub struct Prompt<W> {
     writer: W,
+    /// The number of calls that have failed, which only contracts read.
     failures: u64,
 }
 

@@ -10,6 +10,7 @@ use std::io;
 #[derive(Debug, Drop)]
 pub struct FromRead<R> {
     reader: R,
+    /// The number of calls that have failed, which only contracts read.
     failures: u64,
 }
 
@@ -64,6 +65,7 @@ impl<R: io::Read> Input for FromRead<R> {
 #[derive(Debug, Drop)]
 pub struct FromWrite<W> {
     writer: W,
+    /// The number of calls that have failed, which only contracts read.
     failures: u64,
 }
 

@@ -15,8 +15,8 @@ use Rattle.merge_core.specs.Collections.{Merged, collection}
 use Rattle.query_text.specs.declared.fault.QueryFault.{QueryFault}
 use Rattle.query_text.specs.declared.query.TheConstants.{QUERY_LIMIT}
 use Rattle.query_text.specs.Queries.{QueryValue, query_of}
-use Rattle.page_writers.specs.QueryPages.{answer_text, query_page}
-use Rattle.page_writers.specs.WrittenPages.{WrotePages}
+use Rattle.query_core.specs.QueryPages.{answer_text, query_page}
+use Rattle.query_core.specs.WrittenPages.{WrotePages}
 use Rattle.query_core.specs.declared.fault.AnswerFault.{AnswerFault}
 use Rattle.query_core.specs.declared.report.Report.{Report}
 use Rattle.query_core.specs.Answering.{WritesAnswer}

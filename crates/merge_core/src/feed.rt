@@ -37,6 +37,7 @@ pub enum Progress {
 #[derive(Debug, Drop)]
 pub struct Feed {
     pub cursor: Cursor,
+    /// Only contracts read it.
     pub progress: Progress,
 }
 

@@ -20,38 +20,8 @@ use crate::range::Range;
 use crate::store::Store;
 use crate::streams::Streams;
 use line_queue::Queue;
-use source_core::{Cursor, Source, search};
+use source_core::{Cursor, Found, Source, search};
 use std::alloc::Global;
-
-/// Returns a cursor at the first line of a source whose pair isn't below this one, and the number of steps of the
-/// search for it.
-fn find_start<S: Source>(
-    alloc: Global,
-    source: &mut S,
-    key: &[u8],
-    stamp: &[u8],
-) -> Result<(Cursor, u64), FeedFault>
-    ensures kept { KeepsSource S.text S.extent source.old source.new }
-    ensures failures { CountsFeed result (S.failures source.old) (S.failures source.new) }
-    ensures stands { IfOk result (λ r. Stands (S.text source.new) (S.extent source.new) r.0) }
-    ensures fresh { IfOk result (λ r. r.0.count ≡ 0) }
-    ensures first { IfOk result (λ r. (r.0.at ≡ r.0.start) × (reach r.0 ≡ r.0.start)) }
-    ensures start { key.now ≡ [] → stamp.now ≡ [] → IfOk result (λ r. r.0.start ≡ 0) }
-    ensures unread { key.now ≡ [] → stamp.now ≡ [] → source.new ≡ source.old }
-    ensures gave { (t : List ℕ) → S.text source.old ≡ Some t → S.gave source.new
-        ≤ S.gave source.old + search_most (S.extent source.old) t }
-    ensures begins { (t : List ℕ) → S.text source.old ≡ Some t
-        → IfOk result (λ r. (before : List (List ℕ)) × BeginsAfter t r.0.start before) }
-    ensures refused { IfErr result (λ e. (e ≡ FeedFault.Memory) ⊎ (e ≡ FeedFault.Read)) }
-    ensures cut { (t : List ℕ) → (members : List Member) → S.text source.old ≡ Some t
-        → IsIndex LINE_LIMIT t members
-        → IfOk result (λ r. IsCut (key.now, stamp.now) t members r.0.start) }
-    ensures probes { IfOk result (λ r. r.1 ≤ digits (S.extent source.old)) }
-{
-    let found = search(alloc, source, key, stamp)?;
-    let cursor = Cursor::new(alloc, found.offset)?;
-    Ok((cursor, found.probes))
-}
 
 /// Sources that were opened by a search.
 #[derive(Debug, Drop)]
@@ -136,7 +106,7 @@ impl Streams {
         ensures once { key.now ≡ [] → stamp.now ≡ []
             → GaveOnce (S.extent source.old) (S.gave source.old) (S.gave source.new) }
     {
-        let (cursor, probes) = find_start(alloc, source, key, stamp)?;
+        let Found { cursor, probes } = search(alloc, source, key, stamp)?;
         self.add(source, cursor, range)?;
         Ok(probes)
     }

@@ -96,6 +96,7 @@ fn have_entries(lines: &[Box<Line>])
     ensures { AllByRecursion (HasEntry LINE_LIMIT) (map (λ b. b.value) lines.now) }
 {
     for line in lines {
+        // For the proof alone, as below.
         let _bytes = line.line();
     }
 }

@@ -4,7 +4,7 @@ use Rattle.cdxj_places.specs.Places.{place_cmp}
 use Rattle.cdxj_places.specs.Rising.{IsFirst, IsIn}
 use Rattle.cdxj_core.specs.Members.{Member, member_place}
 use Rattle.merge_core.specs.Collections.{all_lines, collection}
-use Rattle.page_writers.specs.QueryPages.{selected}
+use Rattle.query_core.specs.QueryPages.{selected}
 use Rattle.query_text.specs.Queries.{QueryValue}
 use Rattle.query_core.specs.QueryLaws.{SelectedAreFirst}
 use Rattle.query_core.proofs.ComposeLemmas.{lines_join}

@@ -1,5 +1,5 @@
 -- One page of a query, by what was taken of its sources, and by what a writer has written.
-use Rattle.std.proofs.Common.{arith, ◌≡◌, ◌⊎◌, List, [], ◌++◌, Bool, true, false, ℕ, Option, Some}
+use Rattle.std.proofs.Common.{arith, ◌≡◌, ◌∙◌, ◌⊎◌, inl, inr, List, [], ◌++◌, Bool, true, false, ℕ, Option, Some}
 use Rattle.std.specs.Option.{is_some}
 use Rattle.std.specs.Io.KnownBytes.{Appends}
 use Rattle.cdxj_places.specs.Places.{PlaceValue}
@@ -10,16 +10,15 @@ use Rattle.cdxj_core.specs.Members.{Member}
 use Rattle.page_core.specs.Pages.{Page}
 use Rattle.page_core.specs.PageText.{page_text, page_end, begun}
 use Rattle.page_core.proofs.PageLemmas.{begun_is_front, written-whole, front-end}
-use Rattle.page_writers.specs.declared.page_writer.PageEnd.{PageEnd}
-use Rattle.page_writers.specs.declared.page_writer.PageWriter.{PageWriter}
-use Rattle.page_writers.specs.QueryPages.{answer_text, form_of, shown_key, query_page}
-use Rattle.page_writers.specs.PageWriting.{captures_over, page_over, next_of, PageStands}
-use Rattle.page_writers.specs.WriterView.{from_view, Wrote, Broke}
-use Rattle.page_writers.proofs.CaptureLemmas.{filter_and}
-use Rattle.page_writers.proofs.WriterLemmas.{page, decided, next_is, page_front, whole_prefix}
+use Rattle.query_core.specs.declared.page_writer.PageEnd.{PageEnd}
+use Rattle.query_core.specs.declared.page_writer.PageWriter.{PageWriter}
+use Rattle.query_core.specs.QueryPages.{answer_text, form_of, shown_key, query_page}
+use Rattle.query_core.specs.PageWriting.{captures_over, page_over, next_of, PageStands}
+use Rattle.query_core.specs.WriterView.{Broke, IsWriterOf, Wrote, from_view}
+use Rattle.query_core.proofs.CaptureLemmas.{filter_and}
+use Rattle.query_core.proofs.WriterLemmas.{page, decided, next_is, page_front, whole_prefix}
 use Rattle.query_core.specs.Answering.{Answered}
 use Rattle.query_core.specs.declared.report.Report.{Report}
-use Rattle.query_core.specs.declared.sinks.PageSink.{PageSink}
 
 -- what is wanted of these lines, collapsed
 abbrev pub captures : QueryValue → List Member → List Member
@@ -32,7 +31,7 @@ asked_is q lines = grind (arith, page, filter_and)
 -- a writer that began with this query wrote the page of these lines
 pub record Writing (q : QueryValue) (start now : Option (List ℕ)) (taken : List Member) : Type 0 where
   pub first : PageWriter
-  pub is : (first.selection.query.now ≡ q) × (from_view first.selection.from ≡ q.resume) × (first.limit ≡ q.limit)
+  pub is : IsWriterOf q q.limit [] first
   pub writer : PageWriter
   pub wrote : Wrote first writer taken start now
 
@@ -40,14 +39,20 @@ module _ {q : QueryValue} {start mid : Option (List ℕ)} {taken : List Member} 
   abbrev taken_page : Page Member PlaceValue
   taken_page = page_over q q.resume q.limit taken
 
+  query_is : w.writer.selection.query.now ≡ q
+  query_is = cc
+
+  from_same : from_view w.writer.selection.from ≡ q.resume
+  from_same = cc
+
   pub stood : PageStands (form_of q) q.limit (captures q taken) start mid w.writer.given w.writer.more w.writer.last
-  stood = grind arith
+  stood =
+      let one = w.wrote.one w.is.sizes_are in
+      let limit_same : w.writer.limit ≡ q.limit = one.limit ∙ w.is.limit_is in
+      rw (query_is, from_same, limit_same) at one.stands
 
   abbrev key_of : QueryValue → Option (List ℕ)
   key_of r = shown_key r.show_resume_key (next_of w.writer.more w.writer.last)
-
-  query_is : w.writer.selection.query.now ≡ q
-  query_is = cc
 
   module _ (all : List Member) where
     -- of all lines those that were taken settle the page
@@ -78,26 +83,21 @@ module _ {q : QueryValue} {start mid : Option (List ℕ)} {taken : List Member} 
 -- a writer that begins with this query, and what was written then
 pub record Beginning (q : QueryValue) (start mid : Option (List ℕ)) : Type 0 where
   pub first : PageWriter
-  pub is : (first.selection.query.now ≡ q) × (from_view first.selection.from ≡ q.resume) × (first.limit ≡ q.limit)
+  pub is : IsWriterOf q q.limit [] first
   pub began : Wrote first first [] start mid
   pub some : q.limit ≡ Some 0 → ⊥
 
 module _ {q : QueryValue} {start mid : Option (List ℕ)} (b : Beginning q start mid) (taken : List Member)
     (now : Option (List ℕ)) where
-  -- a sink passed these lines on to it
-  abbrev pub passed : (sink : PageSink) → ((first : PageSink) → (start : Option (List ℕ))
-      → Wrote first.writer b.first [] start mid → Wrote first.writer sink.writer taken start now)
+  -- it took these lines
+  abbrev pub passed : (writer : PageWriter) → ((first : PageWriter) → (start : Option (List ℕ))
+      → Wrote first b.first [] start mid → Wrote first writer taken start now)
       → Writing q start now taken
-  passed sink came = record {
-    first = b.first;
-    is = b.is;
-    writer = sink.writer;
-    wrote = came (record { writer = b.first }) start b.began;
-  }
+  passed writer came = record { first = b.first; is = b.is; writer = writer; wrote = came b.first start b.began }
 
   -- are a front of the page of lines of which these come first
-  pub page_broke : ((first : PageSink) → (start : Option (List ℕ)) → Wrote first.writer b.first [] start mid
-      → ((k : PageSink) × Wrote first.writer k.writer taken start now) ⊎ Broke first.writer taken start now)
+  pub page_broke : ((first : PageWriter) → (start : Option (List ℕ)) → Wrote first b.first [] start mid
+      → ((k : PageWriter) × Wrote first k taken start now) ⊎ Broke first taken start now)
       → (all rest : List Member) → captures q all ≡ captures q taken ++ rest
       → AppendsPrefix start now (answer_text q (query_page q all))
   page_broke came all rest split =
@@ -106,5 +106,11 @@ module _ {q : QueryValue} {start mid : Option (List ℕ)} (b : Beginning q start
       let key = shown_key q.show_resume_key (query_page q all).next in
       let same : (query_page q all).members ≡ members ++ r.0 = grind (arith, asked_is, page) in
       let f = begun_is_front (form_of q) members r.0 key in
-      let rows = came (record { writer = b.first }) start b.began in
-      rw (same, f.1) (prefix_longer start now (begun (form_of q) members) f.0 (grind (arith, whole_prefix)))
+      let rows : AppendsPrefix start now (begun (form_of q) members) =
+      elim (came b.first start b.began) as (λ _. AppendsPrefix start now (begun (form_of q) members)) [
+        | inl k ↦ (
+            let w : Writing q start now taken = record { first = b.first; is = b.is; writer = k.0; wrote = k.1 } in
+            whole_prefix _ _ _ (stood w).text)
+        | inr p ↦ rw (b.is.query_is, b.is.from_is, b.is.limit_is) at (p.one b.is.sizes_are)
+      ] in
+      rw (same, f.1) (prefix_longer start now (begun (form_of q) members) f.0 rows)

@@ -1,3 +1,11 @@
+pub mod TakenLines
+pub mod CaptureLemmas
+pub mod WriterLemmas
+pub mod SizeLemmas
+pub mod PagesLemmas
+pub mod PageKeys
+pub mod PageChains
+pub mod NextPlaces
 pub mod ConversionLemmas
 pub mod CheckLemmas
 pub mod AskedLemmas

@@ -16,7 +16,7 @@ use Rattle.query_core.specs.declared.fault.AnswerFault.{AnswerFault}
 use Rattle.query_core.specs.AnyReplies.{IsPageReply, IsQueryReply, fault_text}
 use Rattle.query_core.specs.Conversations.{IsLineReply, IsMarkedReply, WritesSome}
 use Rattle.query_core.specs.IndexFaults.{IsAnswerFaultOf}
-use Rattle.page_writers.specs.QueryPages.{query_page, answer_text}
+use Rattle.query_core.specs.QueryPages.{query_page, answer_text}
 
 -- ---- what was written
 

@@ -20,7 +20,7 @@ use Rattle.query_text.specs.Queries.{QueryValue, query_of, query_with, target_of
 use Rattle.query_text.specs.Targets.{TargetValue}
 use Rattle.query_text.specs.Readings.{Read, and_then}
 use Rattle.query_text.proofs.PlainTexts.{plain_text_stands}
-use Rattle.page_writers.specs.QueryPages.{selected}
+use Rattle.query_core.specs.QueryPages.{selected}
 use Rattle.query_core.specs.NothingAsked.{AppendedSelectsNothing, nothing}
 
 -- ---- the pieces

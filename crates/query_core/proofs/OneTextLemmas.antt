@@ -12,8 +12,8 @@ use Rattle.query_text.specs.Collapses.{same_part}
 use Rattle.query_text.specs.Queries.{QueryValue}
 use Rattle.merge_core.specs.Collections.{collection}
 use Rattle.page_core.proofs.PageLaws.{chain_one}
-use Rattle.page_writers.specs.QueryPages.{selected}
-use Rattle.page_writers.specs.WrittenPages.{WrotePages}
+use Rattle.query_core.specs.QueryPages.{selected}
+use Rattle.query_core.specs.WrittenPages.{WrotePages}
 use Rattle.query_core.specs.OneText.{AnswerIsOne, MergeIsOne, PagesAreOne}
 
 -- texts are indexes with one list of members each

@@ -13,7 +13,7 @@ use Rattle.query_text.specs.Matching.{matches}
 use Rattle.query_text.specs.Queries.{QueryValue}
 use Rattle.page_core.specs.Pages.{at_most, is_above}
 use Rattle.page_core.proofs.PageLaws.{each_filter, each_kept, rises_collapsed, rises_filter}
-use Rattle.page_writers.specs.QueryPages.{answer_text, query_captures, query_page, selected, shown_key}
+use Rattle.query_core.specs.QueryPages.{answer_text, query_captures, query_page, selected, shown_key}
 use Rattle.merge_core.specs.Collections.{all_lines, collection}
 use Rattle.merge_core.specs.Written.{lines_text}
 use Rattle.merge_core.proofs.Filters.{each_take}

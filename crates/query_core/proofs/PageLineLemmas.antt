@@ -25,7 +25,7 @@ use Rattle.page_core.specs.Pages.{is_above}
 use Rattle.page_core.specs.PageText.{key_lines, page_text}
 use Rattle.page_core.specs.Rows.{escaped, row_value, text_row}
 use Rattle.page_core.proofs.PageLaws.{each_filter, each_kept}
-use Rattle.page_writers.specs.QueryPages.{output_form, query_captures, query_page, selected, shown_key}
+use Rattle.query_core.specs.QueryPages.{output_form, query_captures, query_page, selected, shown_key}
 use Rattle.merge_core.specs.SourceLines.{HasEntry}
 use Rattle.query_core.specs.PageLines.{BeginsWithBracket, HaveEntries, fault_row, has_no_space}
 use Rattle.query_core.specs.Replies.{refusal_text}

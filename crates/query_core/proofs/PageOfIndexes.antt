@@ -23,13 +23,13 @@ use Rattle.merge_core.specs.Openings.{IsCutAt}
 use Rattle.merge_core.specs.Reached.{Reached}
 use Rattle.merge_core.proofs.ReadLemmas.{took_of_indexes}
 use Rattle.merge_core.proofs.TakenLemmas.{Took, taken_before, taken_first, taken_whole}
-use Rattle.page_writers.specs.PageWriting.{is_wanted, place_before}
+use Rattle.query_core.specs.PageWriting.{is_wanted, place_before}
 use Rattle.merge_core.specs.SourceLines.{AreLinesOf, IsLineIn, IsLineOf}
 use Rattle.merge_core.specs.Gathering.{AreTold}
 use Rattle.merge_core.specs.Spending.{CameWithin}
 use Rattle.merge_core.proofs.WholeLemmas.{told_known}
 use Rattle.query_core.specs.Starts.{start_pair, first_stamp, later_pair}
-use Rattle.page_writers.proofs.CaptureLemmas.{kept_after, captures_split}
+use Rattle.query_core.proofs.CaptureLemmas.{kept_after, captures_split}
 use Rattle.std.proofs.lemmas.Bool.{and_parts}
 use Rattle.cdxj_places.specs.TextLines.{lines}
 use Rattle.cdxj_core.proofs.MemberLemmas.{entry_pair_is}

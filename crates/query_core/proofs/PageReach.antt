@@ -16,17 +16,17 @@ use Rattle.cdxj_core.specs.Indexes.{IsIndex}
 use Rattle.merge_core.specs.Collections.{Known, OverIndexes, collection}
 use Rattle.std.specs.List.{AllZip, sum}
 use Rattle.devices.specs.Device.{Grows}
-use Rattle.page_writers.specs.PageWriting.{page_over}
+use Rattle.query_core.specs.PageWriting.{page_over}
 use Rattle.query_core.specs.Passes.{AreAtMost, AreFirst, GaveFor}
-use Rattle.page_writers.specs.QueryPages.{form_of, query_page}
+use Rattle.query_core.specs.QueryPages.{form_of, query_page}
 use Rattle.query_core.specs.Reach.{captures_text, GaveInReach, WroteFirst}
 use Rattle.query_core.proofs.AskedLemmas.{Beginning, Writing, captures, asked_is, passed, stood}
-use Rattle.query_core.specs.declared.sinks.PageSink.{PageSink}
-use Rattle.page_writers.specs.WriterView.{Wrote}
+use Rattle.query_core.specs.declared.page_writer.PageWriter.{PageWriter}
+use Rattle.query_core.specs.WriterView.{Wrote}
 use Rattle.std.proofs.lemmas.Bool.{true≢false, false_from_ne_true}
 use Rattle.query_core.proofs.ReachLemmas.{within_opening}
 use Rattle.merge_core.proofs.Many.{two_same}
-use Rattle.page_writers.proofs.WriterLemmas.{page, next_none, page_front}
+use Rattle.query_core.proofs.WriterLemmas.{page, next_none, page_front}
 use Rattle.std.proofs.lemmas.List.Concat.{length-flat_map}
 use Rattle.std.proofs.lemmas.List.Sums.{count_by-le-length, length-filter, sum-map}
 use Rattle.cdxj_places.specs.Rising.{put, rising}
@@ -39,11 +39,14 @@ none_follows (Some (suc n)) = refl
 
 -- where it wanted more, the captures of what was passed on don't pass the page
 pub within : {q : QueryValue} {start mid : Option (List ℕ)} (b : Beginning q start mid) (taken : List Member)
-    (now : Option (List ℕ)) (sink : PageSink) → ((first : PageSink) → (start : Option (List ℕ))
-    → Wrote first.writer b.first [] start mid → Wrote first.writer sink.writer taken start now)
-    → ((b.first.more ≡ true → ⊥) → sink.writer.more ≡ true → ⊥) → AreAtMost q.limit (captures q taken)
-within b taken now sink came more =
-    let last = stood (passed b taken now sink came) in
+    (now : Option (List ℕ)) (writer : PageWriter) → ((first : PageWriter) → (start : Option (List ℕ))
+    → Wrote first b.first [] start mid → Wrote first writer taken start now)
+    → ((b.first.more ≡ true → ⊥) → writer.more ≡ true → ⊥) → AreAtMost q.limit (captures q taken)
+within {q} {start} {mid} b taken now writer came more =
+    let begun : Writing q start mid [] =
+    record { first = b.first; is = b.is; writer = b.first; wrote = b.began } in
+    let none = (stood begun).more_is in
+    let last = stood (passed b taken now writer came) in
     grind (arith, true≢false, none_follows, next_none, false_from_ne_true)
 
 -- a page has at least the captures that don't pass it

@@ -12,10 +12,10 @@ use Rattle.devices.proofs.DeviceLemmas.{Appends-none, grows_by, grows_on}
 use Rattle.query_text.specs.Queries.{QueryValue}
 use Rattle.merge_core.specs.Collections.{Known, OverIndexes, collection}
 use Rattle.merge_core.proofs.Many.{two_same}
-use Rattle.page_writers.specs.PagesWriting.{HasNext, PagesStand}
-use Rattle.page_writers.specs.QueryPages.{form_of, query_captures}
-use Rattle.page_writers.specs.WrittenPages.{pages_text}
-use Rattle.page_writers.proofs.CaptureLemmas.{filter_and}
+use Rattle.query_core.specs.PagesWriting.{HasNext, PagesStand}
+use Rattle.query_core.specs.QueryPages.{form_of, query_captures}
+use Rattle.query_core.specs.WrittenPages.{pages_text}
+use Rattle.query_core.proofs.CaptureLemmas.{filter_and}
 use Rattle.query_core.specs.Passes.{AreFirst, GaveFor}
 use Rattle.page_core.specs.Pages.{Page}
 use Rattle.page_core.specs.PageText.{begun}

@@ -41,11 +41,11 @@ use Rattle.merge_core.proofs.SpendLemmas.{are_read_to}
 use Rattle.merge_core.proofs.WholeLemmas.{texts_kept}
 use Rattle.query_text.proofs.RangeLaw.{past_upward}
 use Rattle.query_core.proofs.AskedLemmas.{captures}
-use Rattle.page_writers.specs.PageWriting.{is_wanted, place_before}
+use Rattle.query_core.specs.PageWriting.{is_wanted, place_before}
 use Rattle.query_core.specs.Reach.{pair_after, is_within, in_reach}
 use Rattle.query_core.specs.Passes.{AreAtMost, GaveFor, IsOfParts, ReadFor, Took}
 use Rattle.query_core.specs.Starts.{later_pair, start_pair}
-use Rattle.page_writers.proofs.CaptureLemmas.{kept_after, captures_append, captures_split}
+use Rattle.query_core.proofs.CaptureLemmas.{kept_after, captures_append, captures_split}
 use Rattle.query_core.proofs.PageOfIndexes.{Reading, known_opened, lines_taken, told, wanted_before, wanted_first}
 use Rattle.query_core.proofs.PageOfIndexes.{wanted_whole}
 

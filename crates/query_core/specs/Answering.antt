@@ -15,7 +15,7 @@ use Rattle.merge_core.specs.Counts.{ShareAtMost}
 use Rattle.merge_core.specs.Runs.{IsPart}
 use Rattle.query_core.specs.declared.fault.AnswerFault.{AnswerFault}
 use Rattle.query_core.specs.declared.report.Report.{Report}
-use Rattle.page_writers.specs.QueryPages.{query_page, answer_text}
+use Rattle.query_core.specs.QueryPages.{query_page, answer_text}
 use Rattle.query_core.specs.Reach.{GaveInReach, in_reach}
 
 -- the page of these lines was written, and the report is its

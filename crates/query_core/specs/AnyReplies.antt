@@ -10,7 +10,7 @@ use Rattle.merge_core.specs.SourceLines.{AreLinesOf}
 use Rattle.query_core.specs.declared.fault.AnswerFault.{AnswerFault}
 use Rattle.query_core.specs.declared.fault.AnswerFault.TheVariants as fault
 use Rattle.query_core.specs.IndexFaults.{IsAnswerFaultOf}
-use Rattle.page_writers.specs.QueryPages.{query_page, answer_text}
+use Rattle.query_core.specs.QueryPages.{query_page, answer_text}
 use Rattle.query_core.specs.Replies.{refusal_text, reply_fault_line}
 
 -- what is written of a fault that names a line

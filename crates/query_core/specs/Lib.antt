@@ -1,3 +1,9 @@
+pub mod QueryPages
+pub mod WrittenPages
+pub mod Collapsings
+pub mod PageWriting
+pub mod PagesWriting
+pub mod WriterView
 pub mod Checking
 pub mod Passes
 pub mod Answering
@@ -32,10 +38,6 @@ pub use Rattle.query_text.specs.Resuming
 pub use Rattle.query_text.specs.Targets
 pub use Rattle.query_text.specs.Values
 -- what contracts see of pages
-pub use Rattle.page_writers.specs.PageWriting
-pub use Rattle.page_writers.specs.PagesWriting
-pub use Rattle.page_writers.specs.QueryPages
-pub use Rattle.page_writers.specs.WrittenPages
 pub use Rattle.page_core.specs.Form
 pub use Rattle.page_core.specs.Laws
 pub use Rattle.page_core.specs.Pages

@@ -4,7 +4,7 @@ use Rattle.cdxj_core.specs.Members.{Member}
 use Rattle.query_text.specs.declared.fault.QueryFault.TheVariants.{NoUrl}
 use Rattle.query_text.specs.declared.query.TheConstants.{QUERY_LIMIT}
 use Rattle.query_text.specs.Queries.{QueryValue, query_of}
-use Rattle.page_writers.specs.QueryPages.{selected}
+use Rattle.query_core.specs.QueryPages.{selected}
 
 -- what is appended to a query
 abbrev pub nothing : List ℕ

@@ -9,7 +9,7 @@ use Rattle.cdxj_core.specs.Members.{Member}
 use Rattle.query_text.specs.declared.output.OutputFormat.TheVariants.{Json, Text}
 use Rattle.query_text.specs.Queries.{QueryValue}
 use Rattle.merge_core.specs.SourceLines.{HasEntry}
-use Rattle.page_writers.specs.QueryPages.{answer_text, query_page, shown_key}
+use Rattle.query_core.specs.QueryPages.{answer_text, query_page, shown_key}
 use Rattle.query_core.specs.Replies.{refusal_text}
 
 -- the lines of the page of a query over these lines

@@ -6,9 +6,9 @@ use Rattle.query_text.specs.Queries.{QueryValue}
 use Rattle.page_core.specs.Pages.{Page}
 use Rattle.merge_core.specs.Collections.{collection}
 use Rattle.merge_core.specs.Spending.{AllGaveWithin}
-use Rattle.page_writers.specs.PagesWriting.{AreCut}
-use Rattle.page_writers.specs.QueryPages.{form_of, query_captures}
-use Rattle.page_writers.specs.WrittenPages.{pages_text}
+use Rattle.query_core.specs.PagesWriting.{AreCut}
+use Rattle.query_core.specs.QueryPages.{form_of, query_captures}
+use Rattle.query_core.specs.WrittenPages.{pages_text}
 use Rattle.query_core.specs.Reach.{WroteFirst, captures_text, in_reach}
 
 -- these captures stand written, in pages of these sizes: whole pages, and the rows of a last one

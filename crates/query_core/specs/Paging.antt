@@ -6,8 +6,8 @@ use Rattle.query_text.specs.Matching.{is_past}
 use Rattle.query_text.specs.Queries.{QueryValue}
 use Rattle.merge_core.specs.Collections.{collection}
 use Rattle.merge_core.specs.Runs.{IsPart}
-pub use Rattle.page_writers.specs.WrittenPages.{are_sizes, pages_text, IsReadBack, EndsWithKey, KeysButLast, empty_page}
-pub use Rattle.page_writers.specs.WrittenPages.{WrotePages, WrotePagesInPart}
+pub use Rattle.query_core.specs.WrittenPages.{are_sizes, pages_text, IsReadBack, EndsWithKey, KeysButLast, empty_page}
+pub use Rattle.query_core.specs.WrittenPages.{WrotePages, WrotePagesInPart}
 use Rattle.query_core.specs.declared.fault.AnswerFault.{AnswerFault}
 
 -- the pages of these lines were written, or after a fault a front of them

@@ -13,7 +13,7 @@ use Rattle.merge_core.specs.Runs.{IsPart}
 use Rattle.merge_core.specs.SourceLines.{AreLinesOf}
 use Rattle.merge_core.specs.Spending.{AllGaveWithin}
 use Rattle.query_core.specs.declared.pass.Pass.{Pass}
-use Rattle.page_writers.specs.PageWriting.{captures_over}
+use Rattle.query_core.specs.PageWriting.{captures_over}
 use Rattle.query_core.specs.Reach.{in_reach}
 
 -- no more captures than the limit, if there is one

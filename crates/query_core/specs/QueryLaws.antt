@@ -19,9 +19,9 @@ use Rattle.page_core.specs.Rows.{field_name}
 use Rattle.merge_core.specs.Collections.{OverIndexes, all_lines, collection}
 use Rattle.query_core.specs.declared.fault.AnswerFault.{AnswerFault}
 use Rattle.query_core.specs.IndexFaults.{IsAnswerFaultOf, NamesNoLine}
-use Rattle.page_writers.specs.PageWriting.{is_wanted}
-use Rattle.page_writers.specs.WrittenPages.{EndsWithKey}
-use Rattle.page_writers.specs.QueryPages.{IsQueryChain, answer_text, query_page, selected, shown_key}
+use Rattle.query_core.specs.PageWriting.{is_wanted}
+use Rattle.query_core.specs.WrittenPages.{EndsWithKey}
+use Rattle.query_core.specs.QueryPages.{IsQueryChain, answer_text, query_page, selected, shown_key}
 
 -- without `collapse` nothing is left out
 abbrev pub AllAreKept : Type 0

@@ -13,8 +13,8 @@ use Rattle.merge_core.specs.PairOrders.{is_low}
 use Rattle.devices.specs.Device.{Grows}
 use Rattle.merge_core.specs.Spending.{AllGaveWithin}
 use Rattle.merge_core.specs.Collections.{collection}
-use Rattle.page_writers.specs.PageWriting.{captures_over}
-use Rattle.page_writers.specs.QueryPages.{form_of, query_page}
+use Rattle.query_core.specs.PageWriting.{captures_over}
+use Rattle.query_core.specs.QueryPages.{form_of, query_page}
 use Rattle.query_core.specs.Starts.{start_pair}
 
 -- the pair of the first line after so many

@@ -3,7 +3,7 @@ use Rattle.std.specs.Prelude.{◌≡◌, ℕ, ⊤, List, nat_lt, Option, None, S
 use Rattle.query_core.specs.declared.fault.AnswerFault.{AnswerFault}
 use Rattle.query_core.specs.declared.fault.AnswerFault.TheVariants as fault
 use Rattle.query_core.specs.declared.merging.TheConstants.{SOURCES_LIMIT}
-use Rattle.page_writers.specs.WrittenPages.{are_sizes}
+use Rattle.query_core.specs.WrittenPages.{are_sizes}
 
 -- the faults that come before anything is read or written
 abbrev pub IsBeforeReading : AnswerFault → Type 0

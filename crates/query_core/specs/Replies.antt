@@ -7,7 +7,7 @@ use Rattle.devices.specs.LineCuts.{input_lines}
 use Rattle.query_text.specs.declared.fault.QueryFault.{QueryFault}
 use Rattle.query_text.specs.FaultNames.{query_fault_name}
 use Rattle.query_text.specs.Queries.{QueryValue, query_of}
-use Rattle.page_writers.specs.QueryPages.{query_page, answer_text}
+use Rattle.query_core.specs.QueryPages.{query_page, answer_text}
 
 abbrev pub refusal_text : List ℕ → List ℕ
 refusal_text name = codes "refused " ++ name ++ 10 ∷ []

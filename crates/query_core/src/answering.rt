@@ -11,11 +11,10 @@ ghost use Rattle.query_core.specs.Refusals.{Refuses, too_many};
 
 use crate::fault::AnswerFault;
 use crate::merging::SOURCES_LIMIT;
+use crate::page_writer::PageWriter;
 use crate::pass::read_lines;
 use crate::report::Report;
-use crate::sinks::PageSink;
 use devices::Output;
-use page_writers::PageWriter;
 use query_text::Query;
 use source_core::Source;
 use std::alloc::Global;
@@ -63,10 +62,9 @@ pub fn answer<S: Source, O: Output>(
         return Err(AnswerFault::TooManySources);
     }
     // The page's start is written before an index is read.
-    let writer = PageWriter::begin(alloc, query, out)?;
-    let mut sink = PageSink { writer };
-    let pass = read_lines(alloc, sources, query, &mut sink, out)?;
-    let end = sink.writer.end(alloc, out)?;
+    let mut writer = PageWriter::begin(alloc, query, query.limit(), &[], out)?;
+    let pass = read_lines(alloc, sources, query, &mut writer, out)?;
+    let end = writer.end(alloc, out)?;
     Ok(Report {
         given: end.given,
         more: end.next.is_some(),

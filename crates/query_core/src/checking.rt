@@ -38,6 +38,7 @@ pub fn check<S: Source>(alloc: Global, source: &mut S) -> Result<u64, AnswerFaul
     // Each byte of the source is read at most once.
     ensures bytes { S.gave source.new ≤ S.gave source.old + S.extent source.old }
 {
+    // For the proof alone: the source's known bytes are so many.
     let _size = source.size();
     let mut cursor = Cursor::new(alloc, 0)?;
     let mut store = Store::new(alloc);

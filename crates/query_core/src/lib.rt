@@ -7,17 +7,20 @@
 
 mod answering;
 mod checking;
+mod collapsing;
 mod conversions;
 mod fault;
 mod laws;
 mod line_reading;
 mod merging;
+mod page_writer;
 mod paging;
 mod pass;
 mod reply_texts;
 mod report;
+mod selection;
 mod serving;
-mod sinks;
+mod sizes;
 mod start;
 mod target_range;
 
@@ -34,13 +37,13 @@ pub use crate::merging::{SOURCES_LIMIT, merge};
 pub use crate::paging::pages;
 pub use crate::report::Report;
 pub use crate::serving::serve;
+pub use crate::sizes::are_sizes;
 pub use cdxj_core::{Field, LINE_LIMIT, Line, LineFault, LineRef, Place};
 pub use devices::{
     DeviceFault, FromRead, FromWrite, Gather, INPUT_LIMIT, Input, Output, Positioned, Prompt, Slice,
     SystemFile,
 };
 pub use page_core::{field_name, page_is_its_pieces, pages_join};
-pub use page_writers::are_sizes;
 pub use query_text::{
     Collapse, MatchKind, OutputFormat, QUERY_LIMIT, Query, QueryFault, Target,
     matching_keys_are_in_one_range, resume_key_is_put_into_query,

@@ -14,10 +14,10 @@ ghost use Rattle.query_core.specs.Refusals.{Refuses, bad_sizes_or_too_many};
 
 use crate::fault::AnswerFault;
 use crate::merging::SOURCES_LIMIT;
+use crate::page_writer::PageWriter;
 use crate::pass::read_lines;
-use crate::sinks::PagesSink;
+use crate::sizes::{are_sizes, first_size};
 use devices::Output;
-use page_writers::{PagesWriter, are_sizes};
 use query_text::Query;
 use source_core::Source;
 use std::alloc::Global;
@@ -70,8 +70,8 @@ pub fn pages<S: Source, O: Output>(
     if sources.len() > SOURCES_LIMIT {
         return Err(AnswerFault::TooManySources);
     }
-    let writer = PagesWriter::begin(alloc, query, sizes, out)?;
-    let mut sink = PagesSink { writer };
-    read_lines(alloc, sources, query, &mut sink, out)?;
-    Ok(sink.writer.end(out)?)
+    let mut writer = PageWriter::begin(alloc, query, Some(first_size(sizes)), sizes, out)?;
+    read_lines(alloc, sources, query, &mut writer, out)?;
+    let end = writer.end(alloc, out)?;
+    Ok(end.count)
 }

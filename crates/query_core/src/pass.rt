@@ -22,7 +22,7 @@ use std::alloc::Global;
 /// What a pass over sources read. Each count saturates at 2^64 - 1.
 #[derive(Debug, Drop)]
 pub struct Pass {
-    /// Whether all lines of the query's range were read.
+    /// Whether all lines of the query's range were read, which only contracts read.
     pub all: bool,
     /// The number of steps of the searches for the first line.
     pub probes: u64,

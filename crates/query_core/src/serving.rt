@@ -10,7 +10,7 @@ ghost use Rattle.query_text.specs.declared.fault.QueryFault.{QueryFault};
 ghost use Rattle.query_text.specs.Queries.{QueryValue, query_of};
 ghost use Rattle.merge_core.specs.Collections.{KeepsSources, OverIndexes, collection};
 ghost use Rattle.query_core.specs.declared.merging.TheConstants.{SOURCES_LIMIT};
-ghost use Rattle.page_writers.specs.QueryPages.{query_page, answer_text};
+ghost use Rattle.query_core.specs.QueryPages.{query_page, answer_text};
 ghost use Rattle.query_core.specs.Refusals.{IsBeforeReading, Refuses, too_many};
 ghost use Rattle.query_core.specs.Replies.{reply_of, reply_to};
 ghost use Rattle.query_core.specs.ReplyReach.{AllGaveAtMost, GaveForLines, asked_most, line_most, query_most};

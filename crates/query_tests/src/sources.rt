@@ -151,7 +151,7 @@ fn a_file_that_was_cut_after_it_was_opened_fails(rt: HostRuntime) -> Result<(), 
 fn is_found(alloc: Global, key: &str, offset: u64) -> Result<bool, SearchFault> {
     let mut source = SliceSource::new(UNENDED_LETTERS);
     let found = search(alloc, &mut source, key.as_bytes(), b"00000000000000")?;
-    Ok(found.offset == offset && found.probes <= 9)
+    Ok(found.cursor.at() == offset && found.probes <= 9)
 }
 
 #[test]
@@ -191,8 +191,8 @@ fn is_last_found(alloc: Global, text: &[u8]) -> Result<bool, SearchFault> {
     let mut source = SliceSource::new(text);
     let found = search(alloc, &mut source, b"com,example)/99999", b"20160101000000")?;
     Ok(
-        found.offset / 99_999 == length
-            && found.offset % 99_999 == 0
+        found.cursor.at() / 99_999 == length
+            && found.cursor.at() % 99_999 == 0
             && source.gave() / 1_000 < length,
     )
 }
@@ -245,7 +245,7 @@ fn a_line_that_is_too_long_is_read_up_to_the_limit(rt: HostRuntime) -> Result<()
 fn found_in(alloc: Global, text: &[u8]) -> Result<(u64, u64), SearchFault> {
     let mut source = SliceSource::new(text);
     let found = search(alloc, &mut source, b"c)/", b"00000000000000")?;
-    Ok((found.offset, source.gave()))
+    Ok((found.cursor.at(), source.gave()))
 }
 
 /// Fronts of texts that go on with zeros, and the offset that the search for `c)/` finds there.

@@ -29,6 +29,12 @@ pub record Stands (text : Option (List ℕ)) (extent : ℕ) (c : CursorState) : 
   pub begun : c.start + c.count ≤ c.at
   pub rest : (t : List ℕ) → text ≡ Some t → lines (drop c.at t) ≡ drop c.count (lines (drop c.start t))
 
+-- it begins at this offset, and gave no line yet
+pub record IsFresh (c : CursorState) (start : ℕ) : Type 0 where
+  pub begins : c.start ≡ start
+  pub there : c.at ≡ start
+  pub none : c.count ≡ 0
+
 -- so many of the bytes that are held are a line, which ends with a line feed
 pub record IsHeldLine (held : List ℕ) (size : ℕ) : Type 0 where
   pub some : 0 < size

@@ -19,6 +19,7 @@ use std::marker::Model;
 pub struct Cursor {
     window: Window,
     at: u64,
+    /// The offset of its first line, which only contracts read.
     start: u64,
     count: u64,
 }
@@ -39,7 +40,8 @@ impl Model for Cursor {
 
 impl Cursor {
     ghost use Rattle.source_core.specs.IndexLines.{lines, first_length, first_then, line_found};
-    ghost use Rattle.source_core.specs.Cursors.{Filled, Stands, reach, CountsLineRead, IsHeldLine};
+    ghost use Rattle.source_core.specs.Cursors.{Filled, IsFresh, Stands, reach, CountsLineRead, IsHeldLine};
+    ghost use Rattle.source_core.specs.Windows.{Holds};
     ghost use Rattle.source_core.specs.LineParts.{NoFeed};
 
     /// Creates a cursor at the offset `start`, in bytes from the source's start. A line begins there.
@@ -47,7 +49,7 @@ impl Cursor {
     pub fn new(alloc: Global, start: u64) -> Result<Cursor, AllocError>
         ensures stands { IfOk result (λ c.
             (text : Option (List ℕ)) → (extent : ℕ) → start ≤ extent → Stands text extent c) }
-        ensures start { IfOk result (λ c. (c.start ≡ start) × (c.at ≡ start) × (c.count ≡ 0)) }
+        ensures start { IfOk result (λ c. IsFresh c start) }
         ensures ahead { IfOk result (λ c. reach c ≡ start) }
     {
         Ok(Cursor {
@@ -56,6 +58,20 @@ impl Cursor {
             start,
             count: 0,
         })
+    }
+
+    /// Creates a cursor at the offset `start`, where a line begins. It goes on with the bytes that the window holds.
+    pub(crate) fn over(window: Window, start: u64) -> Cursor
+        ensures stands { (text : Option (List ℕ)) → (extent : ℕ) → Holds text extent window
+            → start ≤ extent → Stands text extent result }
+        ensures start { IsFresh result start }
+    {
+        Cursor {
+            window,
+            at: start,
+            start,
+            count: 0,
+        }
     }
 
     /// Returns the offset of the next line, in bytes from the source's start.
@@ -95,6 +111,7 @@ impl Cursor {
         ensures given { (t : List ℕ) → S.text source.now ≡ Some t → lines (drop self.old.at t)
             ≡ take size self.old.ahead ∷ lines (drop self.new.at t) }
     {
+        // For the proof alone: what is held lies within the source.
         let _extent = source.size();
         self.at += size as u64;
         self.count += 1;

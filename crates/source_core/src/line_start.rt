@@ -40,6 +40,7 @@ pub(crate) fn next_line_start<S: Source>(
     if from == 0 {
         return Ok(Some(0));
     }
+    // For the proof alone: the source's known bytes are so many.
     let _size = source.size();
     let end = until - 1;
     let mut at = from - 1;

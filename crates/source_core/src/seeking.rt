@@ -10,7 +10,9 @@ ghost use Rattle.source_core.specs.Halving.{stops, stops_lines, digits};
 ghost use Rattle.source_core.specs.Halved.{Halved};
 ghost use Rattle.source_core.specs.LineParts.{BeginsWith, ReadsOn};
 ghost use Rattle.source_core.specs.Windows.{Holds};
+ghost use Rattle.source_core.specs.Cursors.{IsFresh, Stands};
 
+use crate::cursor::Cursor;
 use crate::fault::SearchFault;
 use crate::line_part::line_part;
 use crate::line_start::next_line_start;
@@ -25,10 +27,10 @@ use std::alloc::{AllocError, Global};
 const FEW: u64 = 7680;
 
 /// The result of a search.
-#[derive(Clone, Copy, Debug, Drop, PartialEq, Eq)]
+#[derive(Debug, Drop)]
 pub struct Found {
-    /// The offset of the line found, in bytes from the source's start; the source's size if there is none.
-    pub offset: u64,
+    /// Stands at the line found, or at the source's end if there is none. It holds what the search has read there.
+    pub cursor: Cursor,
     /// The number of steps of the search.
     pub probes: u64,
 }
@@ -75,6 +77,7 @@ fn read_on<S: Source>(
         → S.gave source.new + length front.old.items ≤ S.gave source.old + length front.new.items) }
     ensures failures { CountsSearch result (S.failures source.old) (S.failures source.new) }
 {
+    // For the proof alone: the source's known bytes are so many.
     let _size = source.size();
     let at = offset + front.len() as u64;
     window.read(source, at, most)?;
@@ -254,6 +257,7 @@ fn halve<S: Source>(
     ensures near { S.gave source.new + span.low ≤ S.gave source.old + span.high + LINE_LIMIT }
     ensures failures { CountsSearch result (S.failures source.old) (S.failures source.new) }
 {
+    // For the proof alone: the source's known bytes are so many.
     let _size = source.size();
     let middle = span.low + (span.high - span.low) / 2;
     let until = middle + (span.high - middle).min(LINE_LIMIT as u64);
@@ -325,17 +329,22 @@ pub fn search<S: Source>(
     stamp: &[u8],
 ) -> Result<Found, SearchFault>
     ensures kept { KeepsSource S.text S.extent source.old source.new }
-    ensures within { IfOk result (λ found. found.offset ≤ S.extent source.old) }
-    ensures first { key.now ≡ [] → stamp.now ≡ [] → IfOk result (λ found. found.offset ≡ 0) }
+    ensures stands { IfOk result (λ found.
+        Stands (S.text source.new) (S.extent source.new) found.cursor) }
+    ensures fresh { IfOk result (λ found. IsFresh found.cursor found.cursor.start) }
+    ensures within { IfOk result (λ found. found.cursor.start ≤ S.extent source.old) }
+    ensures first { key.now ≡ [] → stamp.now ≡ []
+        → IfOk result (λ found. found.cursor.start ≡ 0) }
     ensures unread { key.now ≡ [] → stamp.now ≡ [] → source.new ≡ source.old }
     ensures begins { (t : List ℕ) → S.text source.old ≡ Some t
-        → IfOk result (λ found. (before : List (List ℕ)) × BeginsAfter t found.offset before) }
+        → IfOk result (λ found. (before : List (List ℕ))
+        × BeginsAfter t found.cursor.start before) }
     ensures stops { (t : List ℕ) → S.text source.old ≡ Some t
         → IfOk result (λ found.
-        IsStop LINE_LIMIT (key.now, stamp.now) (lines (drop found.offset t))) }
+        IsStop LINE_LIMIT (key.now, stamp.now) (lines (drop found.cursor.start t))) }
     ensures cut { (t : List ℕ) → (members : List Member)
         → S.text source.old ≡ Some t → IsIndex LINE_LIMIT t members
-        → IfOk result (λ found. IsCut (key.now, stamp.now) t members found.offset) }
+        → IfOk result (λ found. IsCut (key.now, stamp.now) t members found.cursor.start) }
     ensures probes { IfOk result (λ found. found.probes ≤ digits (S.extent source.old)) }
     ensures gave { (t : List ℕ) → S.text source.old ≡ Some t → S.gave source.new
         ≤ S.gave source.old + digits (S.extent source.old) * (2 * longest (lines t) + 2048) }
@@ -344,10 +353,8 @@ pub fn search<S: Source>(
     ensures failures { CountsSearch result (S.failures source.old) (S.failures source.new) }
 {
     if is_least(key, stamp) {
-        return Ok(Found {
-            offset: 0,
-            probes: 0,
-        });
+        let cursor = Cursor::new(alloc, 0)?;
+        return Ok(Found { cursor, probes: 0 });
     }
     let mut window = Window::new(alloc)?;
     let mut front = Vec::new(alloc);
@@ -371,7 +378,7 @@ pub fn search<S: Source>(
         None => span.low - 1,
     };
     Ok(Found {
-        offset,
+        cursor: Cursor::over(window, offset),
         probes: span.probes,
     })
 }

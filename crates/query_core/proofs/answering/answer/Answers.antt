@@ -6,8 +6,8 @@ use Rattle.cdxj_core.specs.declared.limit.TheConstants.{LINE_LIMIT}
 use Rattle.devices.proofs.DeviceLemmas.{grows_by, grows_not, grows_part}
 use Rattle.merge_core.specs.Collections.{OverIndexes, collection}
 use Rattle.query_core.specs.Passes.{AreAtMost}
-use Rattle.page_writers.specs.PageWriting.{page_over}
-use Rattle.page_writers.specs.QueryPages.{query_page}
+use Rattle.query_core.specs.PageWriting.{page_over}
+use Rattle.query_core.specs.QueryPages.{query_page}
 use Rattle.devices.specs.Device.{Grows}
 use Rattle.query_core.specs.Reach.{GaveInReach}
 use Rattle.query_core.proofs.AskedLemmas.{Beginning, Writing, captures, asked_is, end_front, page_broke, page_ended}
@@ -24,8 +24,8 @@ abbrev begin : (g : Over) (c : In_ok-writer g) → Beginning c.args.query.now (g
     (g.O.Output.written c.begin.new.out)
 begin g c = record {
   first = c.in_ok-writer.writer;
-  is = c.in_ok-writer.ensures.query;
-  began = (((refl, refl), refl), c.in_ok-writer.ensures.stands);
+  is = rw c.limit.ensures.value at c.in_ok-writer.ensures.begins;
+  began = c.in_ok-writer.ensures.wrote (λ none. absurd none);
   some = grind arith;
 }
 
@@ -56,9 +56,10 @@ returns-in_err-writer-clause-lines g c = ([], grind arith, grind (arith, err_fro
 
 pub returns-in_err-pass-clause-lines : goal.returns-in_err-pass-clause-lines
 returns-in_err-pass-clause-lines g c =
-    let p = page_broke (begin g (goal.at.returns-in_err-pass-clause-lines g c).In_ok-writer) _ _
-    c.in_err-pass.ensures.broke.wrote _ [] (sym (append-nil _)) in
-    grind (arith, err_from_is_err_and)
+    let broke = c.in_err-pass.ensures.broke in
+    let p = page_broke (begin g (goal.at.returns-in_err-pass-clause-lines g c).In_ok-writer) _ _ broke.wrote broke.lines
+    [] (sym (append-nil _)) in
+    (broke.lines, broke.took.lines, grind (arith, err_from_is_err_and))
 
 pub returns-in_err-end-clause-lines : goal.returns-in_err-end-clause-lines
 returns-in_err-end-clause-lines g c =

@@ -4,9 +4,9 @@ use Rattle.cdxj_core.specs.Members.{member_place}
 use Rattle.query_text.specs.Collapses.{same_part}
 use Rattle.query_text.specs.Matching.{matches}
 use Rattle.page_core.proofs.PageLaws.{chain_law, rises_filter, rises_collapsed}
-use Rattle.page_writers.specs.QueryPages.{selected}
-use Rattle.page_writers.proofs.NextPlaces.{captures_wanted}
-use Rattle.page_writers.proofs.PageChains.{captures_are}
+use Rattle.query_core.specs.QueryPages.{selected}
+use Rattle.query_core.proofs.NextPlaces.{captures_wanted}
+use Rattle.query_core.proofs.PageChains.{captures_are}
 use Rattle.query_core.proofs.laws.pages_rise.Goals as goal
 
 pub returns : goal.returns

@@ -3,7 +3,7 @@ use Rattle.cdxj_core.specs.declared.limit.TheConstants.{LINE_LIMIT}
 use Rattle.cdxj_core.specs.Members.{Member}
 use Rattle.query_text.specs.Queries.{QueryValue}
 use Rattle.merge_core.specs.SourceLines.{HasEntry}
-use Rattle.page_writers.specs.QueryPages.{query_page, shown_key}
+use Rattle.query_core.specs.QueryPages.{query_page, shown_key}
 use Rattle.query_core.specs.PageLines.{HaveEntries}
 use Rattle.query_core.proofs.PageArrays.{json_lines}
 use Rattle.query_core.proofs.PageLineLemmas.{empty_of, fault_of, mark_of, page_each, refusal_of, shown_is_above, spaceless}

@@ -1,5 +1,5 @@
-use Rattle.std.proofs.Common.{arith, rules, List, [], append-nil, true, refl, sym, None}
-use Rattle.std.proofs.lemmas.Bool.{true_from_ne_false}
+use Rattle.std.proofs.Common.{arith, rules, List, [], append-nil, true, refl, sym, ap, ◌∙◌, ◌≡◌, None, Some}
+use Rattle.std.proofs.lemmas.Bool.{true_from_ne_false, true≢false}
 use Rattle.std.proofs.lemmas.Result.{err_from_is_err_and}
 use Rattle.cdxj_places.specs.Places.{place_cmp}
 use Rattle.cdxj_places.specs.Rising.{Rises}
@@ -7,11 +7,11 @@ use Rattle.cdxj_places.proofs.PlaceOrder.{place_cmp_total}
 use Rattle.cdxj_places.proofs.RisingLaws.{rises_rising}
 use Rattle.cdxj_core.specs.Members.{Member, member_place}
 use Rattle.merge_core.specs.Collections.{OverIndexes, collection}
-use Rattle.page_writers.specs.WrittenPages.{WrotePagesInPart}
-use Rattle.page_writers.proofs.PageChains.{wrote_front, wrote_none}
-use Rattle.query_core.proofs.PagesExits.{BeginningPages, WritingPages, all_ended, any_front, at_end, stood_pages, stopped}
-use Rattle.page_writers.proofs.PagesLemmas.{start_front}
-use Rattle.page_writers.proofs.SizeLemmas.{all_positive}
+use Rattle.query_core.specs.WrittenPages.{WrotePagesInPart}
+use Rattle.query_core.proofs.PageChains.{wrote_front, wrote_none}
+use Rattle.query_core.proofs.PagesExits.{BeginningPages, WritingPages, all, all_ended, any_front, at_end, stood_pages, stopped}
+use Rattle.query_core.proofs.PagesLemmas.{start_front}
+use Rattle.query_core.proofs.SizeLemmas.{all_positive}
 use Rattle.query_core.proofs.ReachLemmas.{within_opening}
 use Rattle.merge_core.proofs.Many.{two_same}
 use Rattle.std.proofs.Common.{map, Option, ℕ}
@@ -75,22 +75,26 @@ abbrev begin : (g : Over) (c : In_ok-writer g) → BeginningPages c.args.query.n
     (g.O.Output.written c.args.out.now) (g.O.Output.written c.begin.new.out)
 begin g c =
     let positive = all_positive c.args.sizes.now (search rules) in
-    let stands = c.in_ok-writer.ensures.stands positive in
     record {
       first = c.in_ok-writer.writer;
-      is = c.in_ok-writer.ensures.query;
+      is = rw c.first_size.ensures at c.in_ok-writer.ensures.begins;
       positive = positive;
-      began = ((refl, refl), stands);
+      began = c.in_ok-writer.ensures.wrote (λ p. ap Some c.first_size.ensures);
     }
 
 abbrev writing : (g : Over) (c : In_ok-read_lines g)
     → WritingPages (begin g (goal.at.In_ok-read_lines g c).In_ok-writer) (g.O.Output.written c.read_lines.new.out)
     c.in_ok-read_lines.ensures.took.lines
 writing g c = record {
-  writer = c.read_lines.new.sink.writer;
-  wrote = c.in_ok-read_lines.ensures.took.came (record { writer = c.in_ok-writer.writer })
+  writer = c.read_lines.new.sink;
+  wrote = c.in_ok-read_lines.ensures.took.came c.in_ok-writer.writer
       (g.O.Output.written c.args.out.now) (begin g (goal.at.In_ok-read_lines g c).In_ok-writer).began;
 }
+
+-- it never has enough
+all_read : (g : Over) (c : In_ok-read_lines g) → c.in_ok-read_lines.field-0.all ≡ true
+all_read g c = true_from_ne_false c.in_ok-read_lines.field-0.all
+    (λ e. true≢false (sym (c.in_ok-read_lines.ensures.enough e) ∙ (all (writing g c)).more))
 
 -- ---- how far it was read for the captures that were written
 
@@ -182,7 +186,7 @@ returns-in_err-read_lines-clause-pages g c = λ texts indexes known are.
 
 pub returns-in_err-end-clause-pages : goal.returns-in_err-end-clause-pages
 returns-in_err-end-clause-pages g c = λ texts indexes known are.
-    let whole = true_from_ne_false c.in_ok-read_lines.field-0.all c.in_ok-read_lines.ensures.enough in
+    let whole = all_read g (goal.at.returns-in_err-end-clause-pages g c).In_ok-read_lines in
     let b = at_end (writing g (goal.at.returns-in_err-end-clause-pages g c).In_ok-read_lines) (collection indexes)
     (collection_rises indexes) (c.in_ok-read_lines.ensures.took.whole whole texts indexes known are) _
     c.in_err-end.ensures.text in
@@ -190,14 +194,14 @@ returns-in_err-end-clause-pages g c = λ texts indexes known are.
 
 pub returns-clause-pages : goal.returns-clause-pages
 returns-clause-pages g c = λ texts indexes known are.
-    let whole = true_from_ne_false c.in_ok-read_lines.field-0.all c.in_ok-read_lines.ensures.enough in
+    let whole = all_read g (goal.at.returns-clause-pages g c).In_ok-read_lines in
     let all = c.in_ok-read_lines.ensures.took.whole whole texts indexes known are in
     let w = writing g (goal.at.returns-clause-pages g c).In_ok-read_lines in
     grind (arith, all_ended w (collection indexes) (collection_rises indexes))
 
 pub returns-clause-parts : goal.returns-clause-parts
 returns-clause-parts g c = λ texts known.
-    let whole = true_from_ne_false c.in_ok-read_lines.field-0.all (λ e. c.in_ok-read_lines.ensures.enough e) in
+    let whole = all_read g (goal.at.returns-clause-parts g c).In_ok-read_lines in
     let read = c.in_ok-read_lines.ensures.took.parts texts known in
     let w = writing g (goal.at.returns-clause-parts g c).In_ok-read_lines in
     let all = read.ended whole in

@@ -5,7 +5,7 @@ use Rattle.std.proofs.lemmas.Result.{err_from_is_err_and}
 use Rattle.query_core.proofs.ConversionLemmas.{merge_line}
 use Rattle.merge_core.proofs.WholeLemmas.{extents_kept, texts_kept}
 use Rattle.devices.proofs.DeviceLemmas.{grows_not}
-use Rattle.page_writers.proofs.CaptureLemmas.{captures_append}
+use Rattle.query_core.proofs.CaptureLemmas.{captures_append}
 use Rattle.query_core.proofs.PageOfIndexes.{Opened, reading, told, wanted_whole}
 use Rattle.query_core.proofs.ReachLemmas.{cut_all, cut_before, cut_last, gave_upto, gave_within, lines_within, of_parts}
 use Rattle.query_core.proofs.ReachLemmas.{took, within_opening}

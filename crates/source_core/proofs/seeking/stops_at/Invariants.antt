@@ -17,7 +17,7 @@ invariant-fronts g l = record {
   size : l.size ≡ g.S.Source.extent l.fn.source;
   holds : Holds (g.S.Source.text l.source) (g.S.Source.extent l.source) l.window;
   within : l.offset + length l.front.items ≤ l.size;
-  short : length l.front.items ≤ 16777216;
+  short : length l.front.items ≤ LINE_LIMIT;
   long : (t : List ℕ) → g.S.Source.text l.fn.source ≡ Some t → length t ≡ l.size;
   told : (t : List ℕ) → g.S.Source.text l.fn.source ≡ Some t → ReadsOn t l.offset l.front.items l.ends;
 }

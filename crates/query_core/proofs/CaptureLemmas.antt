@@ -1,0 +1,86 @@
+-- The captures of lines, which are collapsed, and what the next line is compared with.
+use Rattle.std.proofs.Common.{arith, ◌≡◌, Bool, List, [], ◌∷◌, ◌++◌, refl, Option, Some, true}
+use Rattle.std.proofs.Common.{false, filter, append-nil, ◌&&◌}
+use Rattle.std.proofs.lemmas.Bool.{cond-true, true≢false}
+use Rattle.std.proofs.lemmas.List.Elements.{filter-append}
+use Rattle.std.proofs.lemmas.Slice.Eq.{bytes_eq-Decides}
+use Rattle.cdxj_places.specs.Places.{PlaceValue}
+use Rattle.cdxj_places.proofs.PlaceOrder.{place_cmp_total}
+use Rattle.cdxj_core.specs.Members.{Member, member_place}
+use Rattle.query_text.specs.Collapses.{same_part}
+use Rattle.query_text.specs.Queries.{QueryValue}
+use Rattle.page_core.specs.Pages.{repeats, kept, end_place}
+use Rattle.page_core.proofs.PageLaws.{kept_append}
+use Rattle.query_core.specs.Collapsings.{CollapsingValue, collapsing_at, collapsing_after, repeats_part}
+use Rattle.query_core.specs.PageWriting.{is_wanted, captures_over, place_before}
+
+-- ---- two tests
+
+pub filter_and : (f g : Member → Bool) (xs : List Member) → filter g (filter f xs) ≡ filter (λ m. f m && g m) xs
+filter_and f g [] = refl
+filter_and f g (x ∷ xs) = grind (arith, filter_and f g xs)
+
+-- ---- what the next line is compared with
+
+-- ---- the captures of more lines
+
+pub end_last : (p : Option PlaceValue) (us : List Member) (m : Member) → end_place member_place p (us ++ m ∷ [])
+    ≡ Some (member_place m)
+end_last p [] m = refl
+end_last p (u ∷ us) m = end_last (Some (member_place u)) us m
+
+module _ (q : QueryValue) (from : Option PlaceValue) where
+  abbrev pub kept_after : Option PlaceValue → List Member → List Member
+  kept_after = kept member_place (same_part q.collapse)
+
+  pub captures_split : (all taken rest : List Member) → filter (is_wanted q from) all ≡ filter (is_wanted q from) taken
+      ++ rest
+      → captures_over q from all ≡ captures_over q from taken ++ kept_after (place_before q from taken) rest
+  captures_split all taken rest h = grind (arith, kept_append, place_cmp_total)
+
+  pub captures_append : (us vs : List Member) → captures_over q from (us ++ vs) ≡ captures_over q from us
+      ++ kept_after (place_before q from us) (filter (is_wanted q from) vs)
+  captures_append us vs = grind (arith, captures_split, filter-append)
+
+  module _ (taken : List Member) (m : Member) where
+    joined : is_wanted q from m ≡ true → filter (is_wanted q from) (taken ++ m ∷ []) ≡ filter (is_wanted q from) taken
+        ++ m ∷ []
+    joined h = grind (arith, filter-append, cond-true)
+
+    pub captures_repeated : is_wanted q from m ≡ true
+        → repeats member_place (same_part q.collapse) (place_before q from taken) m ≡ true
+        → captures_over q from (taken ++ m ∷ []) ≡ captures_over q from taken
+    captures_repeated h r =
+        let split = captures_split (taken ++ m ∷ []) taken (m ∷ []) (joined h) in grind (arith, append-nil)
+
+    pub captures_joined : is_wanted q from m ≡ true
+        → repeats member_place (same_part q.collapse) (place_before q from taken) m ≡ false
+        → captures_over q from (taken ++ m ∷ []) ≡ captures_over q from taken ++ m ∷ []
+    captures_joined h r =
+        let split = captures_split (taken ++ m ∷ []) taken (m ∷ []) (joined h) in grind arith
+
+-- ---- what a selection takes
+
+-- what the next line is compared with after these
+abbrev ComparesAfter : QueryValue → Option PlaceValue → Option CollapsingValue → List Member → Type 0
+ComparesAfter q from c taken = c ≡ collapsing_at q.collapse (place_before q from taken)
+
+module _ (q : QueryValue) (from : Option PlaceValue) (c : Option CollapsingValue) (taken : List Member) (m : Member)
+    (s : ComparesAfter q from c taken) where
+  repeats_told : (b : Bool) → repeats_part c (member_place m) ≡ b
+      → repeats member_place (same_part q.collapse) (place_before q from taken) m ≡ b
+  repeats_told b r = grind arith
+
+  -- one that repeats the part of the one before
+  pub repeated_compares : is_wanted q from m ≡ true → repeats_part c (member_place m) ≡ true
+      → ComparesAfter q from c (taken ++ m ∷ [])
+  repeated_compares w r = grind (arith, true≢false, bytes_eq-Decides, joined, end_last)
+
+  -- a capture
+  pub capture_compares : (d : Option CollapsingValue) → is_wanted q from m ≡ true → d
+      ≡ collapsing_after c (member_place m) → ComparesAfter q from d (taken ++ m ∷ [])
+  capture_compares d w next = grind (arith, joined, end_last)
+
+  pub capture_is_one : is_wanted q from m ≡ true → repeats_part c (member_place m) ≡ false
+      → captures_over q from (taken ++ m ∷ []) ≡ captures_over q from taken ++ m ∷ []
+  capture_is_one w r = captures_joined q from taken m w (repeats_told false r)

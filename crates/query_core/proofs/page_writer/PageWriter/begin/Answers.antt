@@ -1,0 +1,29 @@
+use Rattle.std.proofs.Common.{arith, ap, refl, sym, ◌∙◌}
+use Rattle.devices.proofs.WritingLemmas.{wrote_nothing}
+use Rattle.query_core.specs.QueryPages.{form_of}
+use Rattle.query_core.proofs.PagesLemmas.{none_stand}
+use Rattle.query_core.proofs.WriterLemmas.{nothing_taken}
+use Rattle.query_core.proofs.page_writer.PageWriter.begin.Goals as goal
+
+pub returns-clause-wrote : goal.returns-clause-wrote
+returns-clause-wrote g c = λ sized.
+    let selection = c.in_ok-selection.ensures in
+    let form = c.new-output.ensures ∙ c.form_of.ensures ∙ ap form_of (sym selection.query.0) in
+    record {
+      same = (refl, refl);
+      one = λ none. record {
+        limit = refl;
+        sizes = none;
+        stands = nothing_taken _ _ _ _ (rw (← form) c.in_ok-put_start.ensures.text);
+        selects = λ e. selection.selects;
+      };
+      all = λ positive. record {
+        more = refl;
+        selects = selection.selects;
+        size = sized positive;
+        stands = none_stand _ _ _ _ positive (rw (← form) c.in_ok-put_start.ensures.text);
+      };
+    }
+
+pub returns-in_err-selection-clause-front : goal.returns-in_err-selection-clause-front
+returns-in_err-selection-clause-front g c = grind (arith, wrote_nothing)

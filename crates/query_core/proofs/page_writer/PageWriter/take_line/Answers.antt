@@ -1,0 +1,196 @@
+use Rattle.std.proofs.Common.{arith, rules, append-nil, ap, sym, ◌≡◌, ◌∙◌}
+use Rattle.std.proofs.lemmas.Bool.{true≢false}
+use Rattle.std.proofs.lemmas.Result.{err_from_is_err_and}
+use Rattle.devices.proofs.DeviceLemmas.{grows_by, grows_on, grows_part}
+use Rattle.query_core.specs.WriterView.{captures_of, from_view}
+use Rattle.query_core.proofs.CaptureLemmas.{captures_append}
+use Rattle.query_core.proofs.PagesLemmas.{stands_front, front_more, capture_stands, capture_front}
+use Rattle.query_core.proofs.SizeLemmas.{size_fits, size_last}
+use Rattle.query_core.proofs.WriterLemmas.{after_end, at_limit, written_one, broke_row, broke_longer, whole_prefix}
+use Rattle.query_core.proofs.page_writer.PageWriter.take_line.Goals as goal
+
+-- ---- nothing more is wanted
+
+pub returns-then-self-clause-wrote : goal.returns-then-self-clause-wrote
+returns-then-self-clause-wrote g c = λ first taken start s.
+    let w = c.args.self.now.selection in
+    record {
+      same = s.same;
+      one = λ none. let one = s.one none in record {
+        limit = one.limit;
+        sizes = one.sizes;
+        stands = after_end _ _ _ _ (captures_append w.query.now (from_view w.from) taken _) c.if-self.true one.stands;
+        selects = λ e. absurd (true≢false (sym c.if-self.true ∙ e));
+      };
+      all = λ positive. absurd (true≢false (sym c.if-self.true ∙ (s.all positive).more));
+    }
+
+-- ---- the line is no capture
+
+pub returns-then-not-branch-clause-wrote : goal.returns-then-not-branch-clause-wrote
+returns-then-not-branch-clause-wrote g c = λ first taken start s.
+    let same = c.takes.ensures.same in
+    let takes = c.in_ok-takes.ensures in
+    record {
+      same = (same.0 ∙ s.same.0, same.1 ∙ s.same.1);
+      one = λ none.
+          let one = s.one none in
+          let selects = one.selects c.if-self.false in
+          let capture = takes.capture taken selects in
+          record {
+            limit = one.limit;
+            sizes = one.sizes;
+            stands = grind (arith, append-nil);
+            selects = λ e. takes.selects taken selects;
+          };
+      all = λ positive.
+          let all = s.all positive in
+          record {
+            more = all.more;
+            selects = takes.selects taken all.selects;
+            size = all.size;
+            stands = rw (same.0, same.1, takes.capture taken all.selects, c.if-not-branch.true, append-nil) all.stands;
+          };
+    }
+
+-- ---- a capture follows the page, which is the only one
+
+pub returns-then-ends_here-clause-wrote : goal.returns-then-ends_here-clause-wrote
+returns-then-ends_here-clause-wrote g c = λ first taken start s.
+    let same = c.takes.ensures.same in
+    let takes = c.in_ok-takes.ensures in
+    let none = c.ends_here.ensures.only (search rules) in
+    record {
+      same = (same.0 ∙ s.same.0, same.1 ∙ s.same.1);
+      one = λ none.
+          let one = s.one none in
+          let selects = one.selects c.if-self.false in
+          let capture = takes.capture taken selects in
+          let stood = at_limit _ _ c.args.line.now c.if-self.false (c.ends_here.ensures.full (search rules)) one.stands in
+          record {
+            limit = one.limit;
+            sizes = one.sizes;
+            stands = grind arith;
+            selects = λ e. takes.selects taken selects;
+          };
+      all = λ positive. absurd (rw none at (s.all positive).stands.0.positive);
+    }
+
+-- ---- a capture is written
+
+pub returns-clause-wrote : goal.returns-clause-wrote
+returns-clause-wrote g c = λ first taken start s.
+    let same = c.takes.ensures.same in
+    let takes = c.in_ok-takes.ensures in
+    let room = c.in_ok-make_room.ensures in
+    let put = c.in_ok-put_capture.ensures in
+    let page = put.same in
+    let selection : c.put_capture.new.self.selection ≡ c.takes.new.self =
+    page.lines.selection ∙ c.make_room.ensures.lines.selection in
+    record {
+      same = rw selection (same.0 ∙ s.same.0, same.1 ∙ s.same.1);
+      one = λ none.
+          let one = s.one none in
+          let roomy = c.ends_here.ensures.room (search rules) one.sizes in
+          let kept = room.room roomy in
+          let selects = one.selects c.if-self.false in
+          record {
+            limit = page.limit ∙ ap (λ w. w.limit) kept.0 ∙ one.limit;
+            sizes = ap (λ r. r.now) page.sizes ∙ ap (λ w. w.sizes.now) kept.0 ∙ one.sizes;
+            stands = rw (
+              page.lines.selection,
+              page.limit,
+              page.lines.more,
+              kept.0,
+              same.0,
+              same.1,
+              takes.capture taken selects,
+              c.if-not-branch.false,
+            )
+                (written_one _ _ c.args.line.now _ _ _ c.if-self.false roomy c.make_room.ensures.fits
+                (rw kept.0 at put.given) (rw kept.0 at put.last) (rw (kept.0, kept.1, same.0) at put.text) one.stands);
+            selects = λ e. rw selection (takes.selects taken selects);
+          };
+      all = λ positive.
+          let all = s.all positive in
+          let pages = room.pages first.sizes.now (captures_of c.args.self.now.selection taken) start
+          (record { size = all.size; stand = rw same.0 all.stands.0 }) in
+          let size = pages.0.size in
+          let stands = capture_stands _ _ _ _ _ _ _ _ _ pages.0.stand c.args.line.now _ _ _ pages.1
+          (size_fits _ _ size put.fits) put.text put.given (size_last _ _ _ _ _ _ size put.last) in
+          record {
+            more = page.lines.more ∙ c.make_room.ensures.lines.more ∙ all.more;
+            selects = rw selection (takes.selects taken all.selects);
+            size = rw (page.limit, page.sizes) size;
+            stands = rw (
+              selection,
+              page.sizes,
+              page.count,
+              same.0,
+              same.1,
+              takes.capture taken all.selects,
+              c.if-not-branch.false,
+            ) (rw (c.make_room.ensures.lines.selection, same.0) at stands);
+          };
+    }
+
+pub returns-clause-grows : goal.returns-clause-grows
+returns-clause-grows g c = grows_on _ _ _ c.make_room.ensures.grows (grind (arith, grows_by))
+
+-- ---- faults
+
+pub returns-in_err-takes-clause-broke : goal.returns-in_err-takes-clause-broke
+returns-in_err-takes-clause-broke g c = λ first taken start s.
+    let w = c.args.self.now.selection in
+    rw (err_from_is_err_and c.from_residual.result c.from_residual.ensures.1).1 (record {
+      one = λ none. let one = s.one none in
+          rw (← s.same.0, ← s.same.1, ← one.limit) (broke_longer w.query.now (from_view w.from) c.args.self.now.limit taken
+          _ start _ (whole_prefix _ _ _ one.stands.text));
+      all = λ positive. let all = s.all positive in
+          rw (← s.same.0, ← s.same.1) (front_more w.query.now (from_view w.from) first.sizes.now taken _ start _
+          (stands_front _ _ _ _ _ _ _ _ _ all.stands.0 all.stands.1));
+    })
+
+pub returns-in_err-make_room-clause-broke : goal.returns-in_err-make_room-clause-broke
+returns-in_err-make_room-clause-broke g c = λ first taken start s.
+    let same = c.takes.ensures.same in
+    rw (err_from_is_err_and c.from_residual-in_err-make_room.result c.from_residual-in_err-make_room.ensures.1).1 (record {
+      one = λ none. absurd (c.in_err-make_room.ensures.room (c.ends_here.ensures.room (search rules) (s.one none).sizes));
+      all = λ positive. let all = s.all positive in
+          rw (← s.same.0, ← s.same.1, c.in_ok-takes.ensures.capture taken all.selects, c.if-not-branch.false, ← same.0)
+          (c.in_err-make_room.ensures.front first.sizes.now _ start c.args.line.now
+          (record { size = all.size; stand = rw same.0 all.stands.0 }));
+    })
+
+pub returns-in_err-put_capture-clause-broke : goal.returns-in_err-put_capture-clause-broke
+returns-in_err-put_capture-clause-broke g c = λ first taken start s.
+    let same = c.takes.ensures.same in
+    let takes = c.in_ok-takes.ensures in
+    let room = c.in_ok-make_room.ensures in
+    let part = c.in_err-put_capture.ensures.part in
+    rw (err_from_is_err_and c.from_residual-in_err-put_capture.result c.from_residual-in_err-put_capture.ensures.1).1
+    (record {
+      one = λ none.
+          let one = s.one none in
+          let roomy = c.ends_here.ensures.room (search rules) one.sizes in
+          let kept = room.room roomy in
+          rw (
+            ← s.same.0,
+            ← s.same.1,
+            ← one.limit,
+            takes.capture taken (one.selects c.if-self.false),
+            c.if-not-branch.false,
+          )
+          (broke_row _ _ c.args.line.now _ c.if-self.false roomy c.make_room.ensures.fits
+          (rw (kept.0, kept.1, same.0) at part) one.stands);
+      all = λ positive.
+          let all = s.all positive in
+          let pages = room.pages first.sizes.now (captures_of c.args.self.now.selection taken) start
+          (record { size = all.size; stand = rw same.0 all.stands.0 }) in
+          rw (← s.same.0, ← s.same.1, takes.capture taken all.selects, c.if-not-branch.false)
+          (rw (c.make_room.ensures.lines.selection, same.0) at (capture_front _ _ _ _ _ _ _ _ _ pages.0.stand
+          c.args.line.now _ pages.1 part));
+    })
+
+pub returns-in_err-put_capture-clause-grows : goal.returns-in_err-put_capture-clause-grows
+returns-in_err-put_capture-clause-grows g c = grows_on _ _ _ c.make_room.ensures.grows (grind (arith, grows_part))

@@ -1,0 +1,44 @@
+use Rattle.std.proofs.Common.{◌≡◌, take, arith, append-nil, refl}
+use Rattle.std.proofs.lemmas.Result.{err_from_is_err_and}
+use Rattle.std.proofs.lemmas.List.{take_all}
+use Rattle.devices.proofs.DeviceLemmas.{grows_not, grows_on}
+use Rattle.query_core.specs.WriterView.{from_view}
+use Rattle.query_core.proofs.PagesLemmas.{front_more}
+use Rattle.query_core.proofs.TakenLines.{one_more, parted}
+use Rattle.query_core.proofs.WriterLemmas.{broke_longer}
+use Rattle.query_core.proofs.page_writer.PageWriterSink.take.Goals as goal
+
+pub loop-line-init : goal.loop-line-init
+loop-line-init g c = record {
+  wrote = λ first taken start s. rw append-nil s;
+  grows = grows_not _;
+  failures = refl;
+}
+
+pub loop-line-preserved : goal.loop-line-preserved
+loop-line-preserved g c = record {
+  wrote = λ first taken start s.
+      rw (← one_more (λ l. l.now) taken c.args.lines.now _ c.line-item.result c.loop-line-test.true c.line-item.is)
+      (c.in_ok-take_line.ensures.wrote first _ start (c.loop-line.invariant.wrote first taken start s));
+  grows = grows_on _ _ _ c.loop-line.invariant.grows c.take_line.ensures.grows;
+  failures = grind arith;
+}
+
+pub returns-clause-wrote : goal.returns-clause-wrote
+returns-clause-wrote g c = λ first taken start s.
+    let all : take c.loop-line.line-index c.args.lines.now ≡ c.args.lines.now = grind (arith, take_all) in
+    rw all at (c.loop-line.invariant.wrote first taken start s)
+
+pub returns-in_err-take_line-clause-wrote : goal.returns-in_err-take_line-clause-wrote
+returns-in_err-take_line-clause-wrote g c = λ first taken start s.
+    let parts = parted (λ l. l.now) taken c.args.lines.now _ c.line-item.result c.loop-line-test.true c.line-item.is in
+    let broke = c.in_err-take_line.ensures.broke first _ start (c.loop-line.invariant.wrote first taken start s) in
+    rw ((err_from_is_err_and c.from_residual.result c.from_residual.ensures.1).1, parts.1) (record {
+      one = λ none. broke_longer first.selection.query.now (from_view first.selection.from) first.limit _ parts.0 start _
+          (broke.one none);
+      all = λ positive. front_more first.selection.query.now (from_view first.selection.from) first.sizes.now _ parts.0
+          start _ (broke.all positive);
+    })
+
+pub returns-in_err-take_line-clause-grows : goal.returns-in_err-take_line-clause-grows
+returns-in_err-take_line-clause-grows g c = grows_on _ _ _ c.loop-line.invariant.grows c.take_line.ensures.grows

@@ -1,0 +1,110 @@
+-- What contracts see of pages that are being written.
+use Rattle.std.specs.Prelude.{◌≡◌, ℕ, ◌+◌, ◌-◌, ◌^◌, min, List, [], ◌++◌, false, Option, Some, option_map}
+use Rattle.devices.specs.Device.{AppendsPrefix}
+use Rattle.cdxj_places.specs.declared.place.Place.{Place}
+use Rattle.cdxj_places.specs.Places.{PlaceValue}
+use Rattle.cdxj_places.specs.PlaceViews.{place_view}
+use Rattle.cdxj_core.specs.Members.{Member}
+use Rattle.page_core.specs.Pages.{Page, AllPositive, first_size, later_sizes}
+use Rattle.page_core.specs.PageText.{begun}
+use Rattle.query_core.specs.declared.selection.Selection.{Selection}
+use Rattle.query_core.specs.declared.page_writer.PageWriter.{PageWriter}
+use Rattle.query_text.specs.Queries.{QueryValue}
+use Rattle.query_core.specs.Collapsings.{collapsing_at}
+use Rattle.query_core.specs.WrittenPages.{pages_text}
+use Rattle.query_core.specs.QueryPages.{form_of}
+use Rattle.query_core.specs.PageWriting.{PageStands, captures_over, place_before, page_over}
+use Rattle.query_core.specs.PagesWriting.{AreCut, HasNext, PagesStand}
+
+abbrev pub from_view : Option Place → Option PlaceValue
+from_view = option_map place_view
+
+-- ---- a selection
+
+-- its query and its place stay
+abbrev pub IsSame : Selection → Selection → Type 0
+IsSame old new = (new.query ≡ old.query) × (new.from ≡ old.from)
+
+-- its captures of these lines
+abbrev pub captures_of : Selection → List Member → List Member
+captures_of s taken = captures_over s.query.now (from_view s.from) taken
+
+-- these lines were taken: the next is compared with the last of them that is wanted
+abbrev pub Selects : Selection → List Member → Type 0
+Selects s taken = s.collapsing ≡ collapsing_at s.query.now.collapse (place_before s.query.now (from_view s.from) taken)
+
+-- ---- a writer
+
+-- it begins a page of this query and this limit, or pages of these sizes
+pub record IsWriterOf (q : QueryValue) (limit : Option ℕ) (sizes : List ℕ) (w : PageWriter) : Type 0 where
+  pub query_is : w.selection.query.now ≡ q
+  pub from_is : from_view w.selection.from ≡ q.resume
+  pub limit_is : w.limit ≡ limit
+  pub sizes_are : w.sizes.now ≡ sizes
+
+-- it took no line
+pub record KeepsLines (old new : PageWriter) : Type 0 where
+  pub selection : new.selection ≡ old.selection
+  pub more : new.more ≡ old.more
+
+-- it writes the same page
+pub record SamePage (old new : PageWriter) : Type 0 where
+  pub lines : KeepsLines old new
+  pub limit : new.limit ≡ old.limit
+  pub sizes : new.sizes ≡ old.sizes
+  pub count : new.count ≡ old.count
+
+-- it has begun the next page
+pub record Turned (old new : PageWriter) : Type 0 where
+  pub sizes : new.sizes.now ≡ later_sizes old.sizes.now
+  pub limit : new.limit ≡ Some (first_size new.sizes.now)
+  pub given : new.given ≡ 0
+  pub count : new.count ≡ min (old.count + 1) (2 ^ 64 - 1)
+
+-- what stands written of these captures, in pages of these sizes
+pub record AreInPages (sizes : List ℕ) (w : PageWriter) (captures : List Member) (start now : Option (List ℕ)) : Type 0
+  where
+    pub size : w.limit ≡ Some (first_size w.sizes.now)
+    pub stand : PagesStand w.selection.query.now sizes captures start now w.sizes.now w.given w.last w.count
+
+-- the same between two lines
+abbrev pub pages_stand : List ℕ → PageWriter → List Member → Option (List ℕ) → Option (List ℕ) → Type 0
+pages_stand sizes w captures start now =
+    (s : PagesStand w.selection.query.now sizes captures start now w.sizes.now w.given w.last w.count)
+    × HasNext s.whole s.rows
+
+-- a front of pages of these captures was written, whatever captures follow
+abbrev pub IsFront : QueryValue → List ℕ → List Member → Option (List ℕ) → Option (List ℕ) → Type 0
+IsFront q sizes captures start now = (later : List Member)
+    → (pages : List (Page Member PlaceValue)) × AreCut sizes pages (captures ++ later)
+    × AppendsPrefix start now (pages_text q pages)
+
+-- ---- what it wrote of these lines, where it was the first before them
+
+-- as one page
+pub record WroteOne (first w : PageWriter) (taken : List Member) (start now : Option (List ℕ)) : Type 0 where
+  pub limit : w.limit ≡ first.limit
+  pub sizes : w.sizes.now ≡ []
+  pub stands : PageStands (form_of w.selection.query.now) w.limit (captures_of w.selection taken) start now w.given
+      w.more w.last
+  pub selects : w.more ≡ false → Selects w.selection taken
+
+-- in pages of all sizes
+pub record WroteAll (first w : PageWriter) (taken : List Member) (start now : Option (List ℕ)) : Type 0 where
+  pub more : w.more ≡ false
+  pub selects : Selects w.selection taken
+  pub size : w.limit ≡ Some (first_size w.sizes.now)
+  pub stands : pages_stand first.sizes.now w (captures_of w.selection taken) start now
+
+pub record Wrote (first w : PageWriter) (taken : List Member) (start now : Option (List ℕ)) : Type 0 where
+  pub same : IsSame first.selection w.selection
+  pub one : first.sizes.now ≡ [] → WroteOne first w taken start now
+  pub all : AllPositive first.sizes.now → WroteAll first w taken start now
+
+-- a front of what these lines make of the page, or of the pages
+pub record Broke (first : PageWriter) (taken : List Member) (start now : Option (List ℕ)) : Type 0 where
+  pub one : first.sizes.now ≡ [] → AppendsPrefix start now
+      (begun (form_of first.selection.query.now)
+      (page_over first.selection.query.now (from_view first.selection.from) first.limit taken).members)
+  pub all : AllPositive first.sizes.now
+      → IsFront first.selection.query.now first.sizes.now (captures_of first.selection taken) start now
