@@ -1,5 +1,5 @@
 -- A move of a stream passes over the bytes that a read would have returned.
-use Rattle.std.proofs.Common.{◌≡◌, ◌≤◌, ◌+◌, ◌++◌, ℕ, List, Option, None, Some, length, refl, sym, ap, ◌∙◌, arith}
+use Rattle.std.proofs.Common.{◌≡◌, ◌≤◌, ◌+◌, ◌++◌, ℕ, List, Option, None, Some, length, arith}
 use Rattle.std.proofs.Common.{take, drop, replicate, drop-drop, take-append-drop, length-take-le, length-drop}
 use Rattle.std.proofs.lemmas.List.{length-replicate}
 use Rattle.std.specs.Io.KnownBytes.{Consumes}

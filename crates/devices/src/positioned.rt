@@ -6,7 +6,6 @@ ghost use Rattle.devices.specs.Positions.{Stream, left_of, moved_on, moved_to};
 use crate::device::DeviceFault;
 use std::io::{AsBytes, Cursor, Read, Seek, SeekFrom};
 
-
 /// A stream of bytes that is read at its position. `std` doesn't state that a read returns the bytes at the position to
 /// which a seek moved; this trait does.
 pub trait Positioned {

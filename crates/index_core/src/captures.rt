@@ -12,7 +12,7 @@ ghost use Rattle.index_core.specs.Adding.{Gains};
 ghost use Rattle.index_core.specs.Counting.{CountsCapture};
 ghost use Rattle.index_core.specs.Captures.{StandBefore, TakesNext};
 
-use capture_core::{CaptureFault, BlockStart, HeldLine, Types, held_capture};
+use capture_core::{BlockStart, CaptureFault, HeldLine, Types, held_capture};
 use std::alloc::{AllocError, Global};
 use warc_core::{Cause, Fault, Head, Input, Reader};
 

@@ -40,8 +40,8 @@ pub use crate::serving::serve;
 pub use crate::sizes::are_sizes;
 pub use cdxj_core::{Field, LINE_LIMIT, Line, LineFault, LineRef, Place};
 pub use devices::{
-    DeviceFault, FromRead, FromWrite, Gather, INPUT_LIMIT, Input, Output, Positioned, Prompt, Slice,
-    SystemFile,
+    DeviceFault, FromRead, FromWrite, Gather, INPUT_LIMIT, Input, Output, Positioned, Prompt,
+    Slice, SystemFile,
 };
 pub use page_core::{field_name, page_is_its_pieces, pages_join};
 pub use query_text::{

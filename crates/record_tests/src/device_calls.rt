@@ -176,7 +176,9 @@ fn a_fuse_fails_at_a_skip(rt: HostRuntime) {
 }
 
 /// Writes the digits 0 to 9, 2,064 times, and returns the file.
-fn digits<R: Runtime + AllocGlobal>(rt: &R) -> Result<FromFile<SystemFile<<R as Files>::File>>, Fail> {
+fn digits<R: Runtime + AllocGlobal>(
+    rt: &R,
+) -> Result<FromFile<SystemFile<<R as Files>::File>>, Fail> {
     let text = repeated(rt.alloc(), b"0123456789", 2_064)?;
     fs::write(rt, "digits.warc", text.as_slice())?;
     Ok(FromFile::new(SystemFile(File::open(rt, "digits.warc")?))?)

@@ -1,5 +1,5 @@
 -- What a task promises of an output that is unchanged, it promises too where less is said of it.
-use Rattle.std.proofs.Common.{◌≡◌, ◌⊎◌, inl, inr, ℕ, List, Option, None, Some, Bool, true, false, Result, Ok, Err}
+use Rattle.std.proofs.Common.{inl, inr, ℕ, List, Option, None, Some, Bool, true, false, Result, Ok, Err}
 use Rattle.std.specs.Prelude.{IfErr, MatchBool}
 use Rattle.command_line.specs.Commands.{Meaning, ToList, ToVerify, ToIndex, ToMerge, ToCheck, ToQuery, ToPages, ToServe}
 use Rattle.command_line.specs.Commands.{ToGet, ToScan}

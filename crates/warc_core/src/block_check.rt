@@ -10,10 +10,10 @@ ghost use Rattle.warc_core.specs.BlockDigest.{verdict_of, digest_verdict, judge_
 
 use crate::digest::digest_rest;
 use crate::digest_value::{digest_verdict, sha1_text};
-use crate::verdict::Verdict;
 use crate::fault::Fault;
 use crate::head::Head;
 use crate::reader::Reader;
+use crate::verdict::Verdict;
 use devices::Input;
 
 /// Reads an unread record to its end, and returns the verdict on its block by the digest that `WARC-Block-Digest` gives

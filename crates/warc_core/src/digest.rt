@@ -5,10 +5,10 @@ ghost use Rattle.warc_core.specs.ReaderView.{HasLeft, state_of};
 ghost use Rattle.warc_core.specs.Calls.{ReadsTo};
 ghost use Rattle.warc_core.specs.RestDigest.{digest_of_rest};
 
-use sha1::Sha1;
 use crate::fault::Fault;
 use crate::reader::Reader;
 use devices::Input;
+use sha1::Sha1;
 
 /// Returns the SHA-1 (FIPS 180-4) of `start` followed by the rest of the open record's block. It takes no memory.
 ///

@@ -1,6 +1,6 @@
 //! One front for records whose HTTP heads end in each of its steps.
 use super::{ABC, HTTP, record_text};
-use capture_core::{CaptureFault, BlockStart, HeldLine, Types, held_capture};
+use capture_core::{BlockStart, CaptureFault, HeldLine, Types, held_capture};
 use cdxj_core::{Field, LineRef};
 use fixtures::repeated;
 use std::alloc::{AllocError, Global};
