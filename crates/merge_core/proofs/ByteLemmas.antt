@@ -12,7 +12,7 @@ use Rattle.cdxj_core.proofs.MemberLemmas.{entered}
 use Rattle.source_core.specs.Cursors.{CursorState}
 use Rattle.source_core.specs.Search.{IsCut}
 use Rattle.merge_core.specs.declared.feed.Feed.{Feed}
-use Rattle.line_queue.specs.PairOrders.{is_low}
+use Rattle.merge_core.specs.PairOrders.{is_low}
 use Rattle.merge_core.specs.Collections.{Known}
 use Rattle.merge_core.specs.Feeds.{bytes_of}
 use Rattle.merge_core.specs.Openings.{IsCutAt}

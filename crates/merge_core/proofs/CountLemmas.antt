@@ -11,8 +11,8 @@ use Rattle.cdxj_places.proofs.RisingLaws.{each_weaker}
 use Rattle.cdxj_core.specs.Indexes.{IsIndex}
 use Rattle.cdxj_core.specs.Members.{Member, member_pair}
 use Rattle.merge_core.specs.declared.feed.Feed.{Feed}
-use Rattle.line_queue.specs.PairOrders.{Upto, is_low, IsUpto}
-use Rattle.line_queue.specs.WaitingLines.{WaitingLine, is_of, waits_of}
+use Rattle.merge_core.specs.PairOrders.{Upto, is_low, IsUpto}
+use Rattle.merge_core.specs.WaitingLines.{WaitingLine, is_of, waits_of}
 use Rattle.merge_core.specs.Collections.{Known, OverIndexes, all_lines}
 use Rattle.merge_core.specs.Counts.{is_at, ShareAtMost}
 use Rattle.merge_core.specs.Feeds.{Fed, AreFed, member_of, done, held}

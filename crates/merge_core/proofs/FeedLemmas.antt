@@ -20,10 +20,10 @@ use Rattle.source_core.specs.IndexLines.{first_length}
 use Rattle.merge_core.specs.declared.feed.Progress.{Progress}
 use Rattle.merge_core.specs.declared.feed.Progress.TheVariants.{Due, Waiting, Past}
 use Rattle.merge_core.specs.declared.feed.Feed.{Feed}
-use Rattle.line_queue.specs.PairOrders.{Alike, Upto, Below}
+use Rattle.merge_core.specs.PairOrders.{Alike, Upto, Below}
 use Rattle.merge_core.specs.Gathering.{EndsAt}
 use Rattle.merge_core.specs.Feeds.{IsNext, Fed, held, read_lines, given, done}
-use Rattle.line_queue.proofs.PairOrder.{upto_both, below_then}
+use Rattle.merge_core.proofs.PairOrder.{upto_both, below_then}
 use Rattle.std.proofs.lemmas.Bool.{cases_lt}
 use Rattle.source_core.specs.LinesAtFault.{IsOutOfOrder, LineBeginsAt}
 use Rattle.source_core.proofs.SortedCuts.{begins_at}

@@ -10,12 +10,12 @@ use Rattle.cdxj_places.specs.Pairs.{Pair}
 use Rattle.cdxj_places.proofs.RisingLaws.{each_weaker, each_join}
 use Rattle.cdxj_core.specs.Members.{Member, member_pair}
 use Rattle.merge_core.specs.declared.feed.Feed.{Feed}
-use Rattle.line_queue.specs.PairOrders.{Alike, Upto}
-use Rattle.line_queue.specs.WaitingLines.{WaitingLine, waiting_pair, turn_cmp}
+use Rattle.merge_core.specs.PairOrders.{Alike, Upto}
+use Rattle.merge_core.specs.WaitingLines.{WaitingLine, waiting_pair, turn_cmp}
 use Rattle.merge_core.specs.Feeds.{Ready, IsSettled, AreSettled, done, due}
 use Rattle.merge_core.specs.Gathering.{Gathered, AreTold, text_or, all_done, unread, IsFrom, IsDue, DrainedSource}
-use Rattle.line_queue.proofs.PairOrder.{upto_upto, same_upto, same_from}
-use Rattle.line_queue.proofs.HeapLemmas.{each_get, each_permuted}
+use Rattle.merge_core.proofs.PairOrder.{upto_upto, same_upto, same_from}
+use Rattle.merge_core.proofs.HeapLemmas.{each_get, each_permuted}
 use Rattle.merge_core.proofs.Many.{is_told, zip_set, zip_at, length_zip, Move, moved_trans, moved_still, moved_set}
 use Rattle.merge_core.proofs.Many.{each_replaced, move_not, told_moved, unread_set}
 use Rattle.merge_core.proofs.StreamLemmas.{any_of, inside_sources, none_left, popped_ready, popped, popped_due}

@@ -12,13 +12,13 @@ use Rattle.cdxj_places.specs.Pairs.{Pair}
 use Rattle.cdxj_places.proofs.PairLemmas.{pair_cmp_total}
 use Rattle.cdxj_places.proofs.RisingLaws.{each_join, each_weaker}
 use Rattle.cdxj_core.specs.Members.{Member, member_pair}
-use Rattle.line_queue.specs.PairOrders.{Alike, Below, Upto}
-use Rattle.line_queue.specs.WaitingLines.{WaitingLine, waiting_pair, turn_cmp, waits_of}
+use Rattle.merge_core.specs.PairOrders.{Alike, Below, Upto}
+use Rattle.merge_core.specs.WaitingLines.{WaitingLine, waiting_pair, turn_cmp, waits_of}
 use Rattle.merge_core.specs.Gathering.{Gathered, IsFrom, WaitsAbove}
 use Rattle.merge_core.proofs.Filters.{each_both}
-use Rattle.line_queue.proofs.PairOrder.{below_upto, same_upto, same_from, upto_upto, not_below_itself}
-use Rattle.line_queue.proofs.TurnLemmas.{not_before, source_after}
-use Rattle.line_queue.proofs.HeapLemmas.{each_permuted, none_waits}
+use Rattle.merge_core.proofs.PairOrder.{below_upto, same_upto, same_from, upto_upto, not_below_itself}
+use Rattle.merge_core.proofs.TurnLemmas.{not_before, source_after}
+use Rattle.merge_core.proofs.HeapLemmas.{each_permuted, none_waits}
 
 abbrev pub AreAt : Pair → List Member → Type 0
 AreAt pair = AllByRecursion (λ m. Alike (member_pair m) pair)

@@ -1,4 +1,7 @@
 pub mod PairOrder
+pub mod HeapLemmas
+pub mod TurnLemmas
+pub mod KeyStarts
 pub mod Filters
 pub mod FeedLemmas
 pub mod StreamLemmas

@@ -9,8 +9,8 @@ use Rattle.cdxj_places.proofs.PlaceOrder.{place_cmp_total}
 use Rattle.cdxj_places.proofs.RisingLaws.{each_weaker, each_rising, rises_rising, rising_split, each_join}
 use Rattle.cdxj_core.specs.Members.{Member, member_pair, member_place}
 use Rattle.merge_core.specs.declared.feed.Feed.{Feed}
-use Rattle.line_queue.specs.PairOrders.{Alike, Below, IsAbove, IsUpto, is_low}
-use Rattle.line_queue.specs.WaitingLines.{WaitingLine, waiting_pair}
+use Rattle.merge_core.specs.PairOrders.{Alike, Below, IsAbove, IsUpto, is_low}
+use Rattle.merge_core.specs.WaitingLines.{WaitingLine, waiting_pair}
 use Rattle.merge_core.specs.Gathering.{Gathered, Grouped, AreTold, all_done}
 use Rattle.devices.specs.Device.{Grows}
 use Rattle.merge_core.specs.Merging.{BrokenMerge, HaltedGroup, HaltedMerge, SoFar}
@@ -19,7 +19,7 @@ use Rattle.merge_core.specs.declared.streams.Streams.{Streams}
 use Rattle.merge_core.specs.Feeds.{Ready, AreSettled, AllMoved}
 use Rattle.merge_core.proofs.Many.{told_moved, moved_trans}
 use Rattle.merge_core.specs.SourceLines.{HasEntry}
-use Rattle.line_queue.proofs.PairOrder.{from_not_below, below_then, then_below, below_upto, same_upto, same_from}
+use Rattle.merge_core.proofs.PairOrder.{from_not_below, below_then, then_below, below_upto, same_upto, same_from}
 use Rattle.merge_core.proofs.GroupLemmas.{AreAt, AreBelow}
 
 -- where there is no bound, all stand above it

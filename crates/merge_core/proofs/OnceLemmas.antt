@@ -2,7 +2,7 @@
 use Rattle.std.proofs.Common.{arith, ◌≡◌, ℕ, ◌+◌, List, [], ◌∷◌, Bool, Option, length, map, zip}
 use Rattle.std.specs.List.{AllZip}
 use Rattle.merge_core.specs.declared.feed.Feed.{Feed}
-use Rattle.line_queue.specs.WaitingLines.{WaitingLine}
+use Rattle.merge_core.specs.WaitingLines.{WaitingLine}
 use Rattle.merge_core.specs.Feeds.{AllMoved, AreFed}
 use Rattle.merge_core.specs.Spending.{AllGaveOnce, CameOnce}
 

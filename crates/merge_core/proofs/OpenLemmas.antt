@@ -8,10 +8,10 @@ use Rattle.std.proofs.lemmas.List.{drop_all, take_more_set}
 use Rattle.cdxj_places.proofs.RisingLaws.{each_weaker}
 use Rattle.cdxj_core.specs.Members.{Member}
 use Rattle.merge_core.specs.declared.feed.Feed.{Feed}
-use Rattle.line_queue.specs.WaitingLines.{WaitingLine, waits_of}
+use Rattle.merge_core.specs.WaitingLines.{WaitingLine, waits_of}
 use Rattle.merge_core.specs.Feeds.{Fed, AreFed, option_list, done}
 use Rattle.merge_core.specs.Gathering.{text_or}
-use Rattle.line_queue.proofs.HeapLemmas.{each_permuted, waits_here, waits_other}
+use Rattle.merge_core.proofs.HeapLemmas.{each_permuted, waits_here, waits_other}
 use Rattle.merge_core.proofs.StreamLemmas.{fed_permuted}
 
 -- none of a later source waits

@@ -7,15 +7,15 @@ use Rattle.cdxj_places.proofs.RisingLaws.{each_weaker}
 use Rattle.cdxj_core.specs.Indexes.{IsIndex}
 use Rattle.cdxj_core.specs.Members.{Member}
 use Rattle.merge_core.specs.declared.feed.Feed.{Feed}
-use Rattle.line_queue.specs.PairOrders.{is_low}
-use Rattle.line_queue.specs.WaitingLines.{WaitingLine, waits_of}
+use Rattle.merge_core.specs.PairOrders.{is_low}
+use Rattle.merge_core.specs.WaitingLines.{WaitingLine, waits_of}
 use Rattle.merge_core.specs.Collections.{Known, all_lines, collection}
 use Rattle.merge_core.specs.Feeds.{AreFed, AreSettled, done}
 use Rattle.merge_core.specs.Gathering.{AreTold, text_or, all_done}
 use Rattle.merge_core.specs.Openings.{IsCutAt}
 use Rattle.merge_core.specs.Reached.{Reached}
 use Rattle.merge_core.proofs.GroupLemmas.{each_cut}
-use Rattle.line_queue.proofs.HeapLemmas.{each_waits}
+use Rattle.merge_core.proofs.HeapLemmas.{each_waits}
 use Rattle.merge_core.proofs.Many.{is_told, told_moved}
 use Rattle.merge_core.proofs.MergeLemmas.{lower_by_pair}
 use Rattle.merge_core.proofs.WholeLemmas.{told_known}

@@ -17,9 +17,9 @@ use Rattle.cdxj_places.proofs.RisingLaws.{each_weaker, each_rising, rising_split
 use Rattle.cdxj_core.specs.Indexes.{IsRun}
 use Rattle.cdxj_core.specs.Members.{Member, member_pair, member_place, line_entry}
 use Rattle.merge_core.specs.declared.feed.Feed.{Feed}
-use Rattle.line_queue.specs.PairOrders.{Upto}
+use Rattle.merge_core.specs.PairOrders.{Upto}
 use Rattle.merge_core.specs.Feeds.{IsSettled, Fed, done, given, member_of}
-use Rattle.line_queue.proofs.PairOrder.{upto_itself}
+use Rattle.merge_core.proofs.PairOrder.{upto_itself}
 use Rattle.merge_core.proofs.GroupLemmas.{filter_none}
 use Rattle.merge_core.proofs.MergeLemmas.{place_below}
 

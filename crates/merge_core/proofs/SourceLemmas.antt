@@ -10,7 +10,7 @@ use Rattle.cdxj_places.proofs.PlaceOrder.{place_cmp_total}
 use Rattle.cdxj_places.proofs.RisingLaws.{each_weaker, each_rising, each_join}
 use Rattle.cdxj_core.specs.Members.{Member, line_entry}
 use Rattle.merge_core.specs.declared.feed.Feed.{Feed}
-use Rattle.line_queue.specs.WaitingLines.{WaitingLine}
+use Rattle.merge_core.specs.WaitingLines.{WaitingLine}
 use Rattle.merge_core.specs.Feeds.{Fed, AreFed, read_lines, given, done}
 use Rattle.merge_core.specs.Gathering.{AreTold, text_or, all_done}
 use Rattle.merge_core.specs.Reached.{Reached}

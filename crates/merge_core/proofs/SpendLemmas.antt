@@ -13,8 +13,8 @@ use Rattle.source_core.specs.Cursors.{CursorState, reach}
 use Rattle.source_core.specs.IndexLines.{first_length, longest}
 use Rattle.source_core.proofs.LongestLines.{first_most, longest_drop}
 use Rattle.merge_core.specs.declared.feed.Feed.{Feed}
-use Rattle.line_queue.specs.PairOrders.{IsUpto}
-use Rattle.line_queue.specs.WaitingLines.{WaitingLine}
+use Rattle.merge_core.specs.PairOrders.{IsUpto}
+use Rattle.merge_core.specs.WaitingLines.{WaitingLine}
 use Rattle.merge_core.specs.Feeds.{Fed, AreFed, bytes_of, read_lines, given, held, done, due}
 use Rattle.merge_core.specs.Gathering.{text_or, all_done}
 use Rattle.merge_core.specs.Spending.{ReadTo, AreReadTo, OpenedWithin}

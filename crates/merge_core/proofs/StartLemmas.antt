@@ -12,7 +12,7 @@ use Rattle.cdxj_core.specs.Indexes.{IsRun, IsIndex}
 use Rattle.cdxj_core.specs.Members.{Member, member_pair}
 use Rattle.source_core.specs.Search.{IsCut}
 use Rattle.merge_core.specs.declared.feed.Feed.{Feed}
-use Rattle.line_queue.specs.PairOrders.{is_low}
+use Rattle.merge_core.specs.PairOrders.{is_low}
 use Rattle.merge_core.specs.Collections.{Known, all_lines}
 use Rattle.merge_core.specs.Openings.{IsCutAt}
 use Rattle.merge_core.proofs.GroupLemmas.{filter_none, filter_all}

@@ -11,14 +11,14 @@ use Rattle.cdxj_core.specs.Members.{Member, member_pair}
 use Rattle.merge_core.specs.declared.feed.Progress.{Progress}
 use Rattle.merge_core.specs.declared.feed.Progress.TheVariants.{Due, Waiting}
 use Rattle.merge_core.specs.declared.feed.Feed.{Feed}
-use Rattle.line_queue.specs.WaitingLines.{WaitingLine, waiting_pair, waits_of}
+use Rattle.merge_core.specs.WaitingLines.{WaitingLine, waiting_pair, waits_of}
 use Rattle.merge_core.specs.Feeds.{AreWaits, Fed, AreFed, Ready, given, done, due, option_list}
 use Rattle.merge_core.specs.Gathering.{IsDue, DrainedSource}
-use Rattle.line_queue.specs.PairOrders.{Alike, Upto}
-use Rattle.line_queue.proofs.PairOrder.{upto_itself}
+use Rattle.merge_core.specs.PairOrders.{Alike, Upto}
+use Rattle.merge_core.proofs.PairOrder.{upto_itself}
 use Rattle.cdxj_places.proofs.RisingLaws.{each_join}
 use Rattle.merge_core.proofs.FeedLemmas.{done_due}
-use Rattle.line_queue.proofs.HeapLemmas.{each_permuted, waits_here, waits_other, waits_permuted}
+use Rattle.merge_core.proofs.HeapLemmas.{each_permuted, waits_here, waits_other, waits_permuted}
 
 pub any_of : {X : Type 0} (xs : List X) (i : ℕ) → i < length xs → X
 any_of [] i l = absurd (omega arith)

@@ -12,9 +12,9 @@ use Rattle.cdxj_places.proofs.PairLemmas.{pair_cmp_total}
 use Rattle.cdxj_places.proofs.PlaceOrder.{place_cmp_total}
 use Rattle.cdxj_places.proofs.RisingLaws.{each_weaker, each_rising}
 use Rattle.cdxj_core.specs.Members.{Member, member_pair, member_place}
-use Rattle.line_queue.specs.PairOrders.{Below, Upto, IsAbove, IsUpto, is_low}
-use Rattle.line_queue.specs.WaitingLines.{WaitingLine, waiting_pair}
-use Rattle.line_queue.proofs.PairOrder.{below_then, then_below, from_not_below, upto_upto}
+use Rattle.merge_core.specs.PairOrders.{Below, Upto, IsAbove, IsUpto, is_low}
+use Rattle.merge_core.specs.WaitingLines.{WaitingLine, waiting_pair}
+use Rattle.merge_core.proofs.PairOrder.{below_then, then_below, from_not_below, upto_upto}
 use Rattle.merge_core.proofs.MergeLemmas.{place_below, below_next, is_less}
 use Rattle.merge_core.proofs.ReadLines.{wanted_parts, IsUpward, stays, is_read, IsLate, stays_lower, wanted_low}
 

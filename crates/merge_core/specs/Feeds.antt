@@ -12,7 +12,7 @@ use Rattle.source_core.specs.IndexLines.{BeginsAfter}
 use Rattle.merge_core.specs.declared.feed.Progress.{Progress}
 use Rattle.merge_core.specs.declared.feed.Progress.TheVariants.{Due, Waiting, Past, Ended}
 use Rattle.merge_core.specs.declared.feed.Feed.{Feed}
-use Rattle.line_queue.specs.WaitingLines.{WaitingLine, waits_of}
+use Rattle.merge_core.specs.WaitingLines.{WaitingLine, waits_of}
 
 abbrev pub option_list : {X : Type 0} → Option X → List X
 option_list None = []

@@ -8,8 +8,8 @@ use Rattle.cdxj_places.specs.Pairs.{Pair}
 use Rattle.cdxj_core.specs.Members.{Member, member_pair}
 use Rattle.merge_core.specs.declared.feed.Progress.TheVariants.{Due}
 use Rattle.merge_core.specs.declared.feed.Feed.{Feed}
-use Rattle.line_queue.specs.PairOrders.{Alike, Below, Upto, IsAbove, is_low}
-use Rattle.line_queue.specs.WaitingLines.{WaitingLine, waiting_pair}
+use Rattle.merge_core.specs.PairOrders.{Alike, Below, Upto, IsAbove, is_low}
+use Rattle.merge_core.specs.WaitingLines.{WaitingLine, waiting_pair}
 use Rattle.merge_core.specs.Feeds.{done}
 
 -- the lines below the pair were done before, and the others went into the group

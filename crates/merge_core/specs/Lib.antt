@@ -1,5 +1,6 @@
 pub mod WaitingLines
 pub mod PairOrders
+pub mod TurnOrder
 pub mod Feeds
 pub mod Gathering
 pub mod Failures

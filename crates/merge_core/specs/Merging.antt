@@ -4,8 +4,8 @@ use Rattle.std.specs.List.{AllByRecursion}
 use Rattle.cdxj_places.specs.Pairs.{Pair}
 use Rattle.cdxj_core.specs.declared.limit.TheConstants.{LINE_LIMIT}
 use Rattle.cdxj_core.specs.Members.{Member, member_pair}
-use Rattle.line_queue.specs.PairOrders.{Alike, Below, IsAbove, Upto}
-use Rattle.line_queue.specs.WaitingLines.{waiting_pair}
+use Rattle.merge_core.specs.PairOrders.{Alike, Below, IsAbove, Upto}
+use Rattle.merge_core.specs.WaitingLines.{waiting_pair}
 use Rattle.merge_core.specs.declared.streams.Streams.{Streams}
 use Rattle.merge_core.specs.Gathering.{AreTold, all_done}
 use Rattle.devices.specs.Device.{Grows}

@@ -6,7 +6,7 @@ use Rattle.cdxj_core.specs.Members.{Member}
 use Rattle.cdxj_places.specs.Pairs.{Pair}
 use Rattle.source_core.specs.Cursors.{CursorState}
 use Rattle.source_core.specs.Search.{IsCut}
-use Rattle.line_queue.specs.WaitingLines.{WaitingLine}
+use Rattle.merge_core.specs.WaitingLines.{WaitingLine}
 use Rattle.merge_core.specs.declared.feed.Feed.{Feed}
 use Rattle.merge_core.specs.Feeds.{Fed, done, option_list}
 

@@ -6,9 +6,9 @@ use Rattle.cdxj_places.specs.Places.{place_cmp}
 use Rattle.cdxj_places.specs.Rising.{rising, Rises}
 use Rattle.cdxj_core.specs.Members.{Member, member_pair, member_place}
 use Rattle.merge_core.specs.declared.feed.Feed.{Feed}
-use Rattle.line_queue.specs.PairOrders.{IsAbove, IsUpto}
+use Rattle.merge_core.specs.PairOrders.{IsAbove, IsUpto}
 use Rattle.merge_core.specs.SourceLines.{HasEntry}
-use Rattle.line_queue.specs.WaitingLines.{WaitingLine, waiting_pair}
+use Rattle.merge_core.specs.WaitingLines.{WaitingLine, waiting_pair}
 use Rattle.merge_core.specs.Feeds.{AllMoved, Ready, AreSettled}
 use Rattle.merge_core.specs.Gathering.{AreTold, all_done}
 

@@ -9,7 +9,7 @@ use Rattle.source_core.specs.Halving.{digits}
 use Rattle.source_core.specs.IndexLines.{longest}
 use Rattle.merge_core.specs.declared.feed.Feed.{Feed}
 use Rattle.merge_core.specs.Feeds.{bytes_of}
-use Rattle.line_queue.specs.PairOrders.{IsUpto}
+use Rattle.merge_core.specs.PairOrders.{IsUpto}
 use Rattle.merge_core.specs.Written.{lines_text}
 
 -- Of a source with this text, lines were read that lie within the range and aren't above the bound; beyond them, two

@@ -1,2 +1,30 @@
 -- The lines that wait for their turn.
-pub use Rattle.line_queue.specs.WaitingLines.{WaitingLine, waiting_pair}
+use Rattle.std.specs.Prelude.{ℕ, ◌==◌, Bool, List, map}
+use Rattle.std.specs.List.{filter}
+use Rattle.std.specs.Ordering.{nat_cmp, ordering_then}
+use Rattle.std.specs.declared.cmp.Ordering.{Ordering}
+use Rattle.cdxj_places.specs.Pairs.{Pair, pair_cmp}
+use Rattle.cdxj_core.specs.Members.{Member, member_pair}
+
+-- a line, and the number of its source
+pub record WaitingLine : Type 0 where
+  pub member : Member
+  pub source : ℕ
+
+abbrev pub waiting_pair : WaitingLine → Pair
+waiting_pair w = member_pair w.member
+
+-- whose turn comes first: by pair, then by the source's number
+abbrev pub turn_cmp : WaitingLine → WaitingLine → Ordering
+turn_cmp w v = ordering_then (pair_cmp (waiting_pair w) (waiting_pair v)) (nat_cmp w.source v.source)
+
+-- the other way round, so that the first is the greatest
+abbrev pub waiting_cmp : WaitingLine → WaitingLine → Ordering
+waiting_cmp w v = turn_cmp v w
+
+abbrev pub is_of : ℕ → WaitingLine → Bool
+is_of i w = w.source == i
+
+-- those of a source
+abbrev pub waits_of : ℕ → List WaitingLine → List Member
+waits_of i ws = map (λ w. w.member) (filter (is_of i) ws)

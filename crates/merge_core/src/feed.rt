@@ -6,17 +6,17 @@ ghost use Rattle.cdxj_core.specs.declared.limit.TheConstants.{LINE_LIMIT};
 ghost use Rattle.cdxj_core.specs.Members.{Member, member_pair};
 ghost use Rattle.merge_core.specs.Failures.{CountsFeed};
 ghost use Rattle.source_core.specs.Cursors.{reach};
-ghost use Rattle.line_queue.specs.PairOrders.{Alike, Below, Upto};
+ghost use Rattle.merge_core.specs.PairOrders.{Alike, Below, Upto};
 ghost use Rattle.merge_core.specs.Feeds.{IsNext, IsSettled, Fed, option_list, done};
 ghost use Rattle.merge_core.specs.Gathering.{EndsAt};
 ghost use Rattle.merge_core.specs.LineFaults.{NamesLine};
 ghost use Rattle.merge_core.specs.Spending.{ReadTo};
 
 use crate::fault::FeedFault;
+use crate::pair::compare_pairs;
 use crate::range::Range;
 use crate::store::Store;
 use cdxj_core::Line;
-use line_queue::compare_pairs;
 use source_core::{Cursor, Source};
 use std::cmp::Ordering;
 

@@ -6,13 +6,18 @@
 mod fault;
 mod feed;
 mod indexes;
+mod key_start;
+mod keyed_line;
 mod line_writer;
 mod merging;
 mod opening;
+mod pair;
+mod queue;
 mod range;
 mod sink;
 mod store;
 mod streams;
+mod waiting;
 
 pub use crate::fault::{FeedFault, MergeFault};
 pub use crate::indexes::{MergedLines, merge_indexes};

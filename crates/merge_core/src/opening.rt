@@ -16,10 +16,10 @@ ghost use Rattle.merge_core.specs.Spending.{search_most, AllGaveOnce, CameOnce, 
 
 use crate::fault::{FeedFault, MergeFault};
 use crate::feed::{Feed, Progress};
+use crate::queue::Queue;
 use crate::range::Range;
 use crate::store::Store;
 use crate::streams::Streams;
-use line_queue::Queue;
 use source_core::{Cursor, Found, Source, search};
 use std::alloc::Global;
 

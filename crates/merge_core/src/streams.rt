@@ -6,18 +6,20 @@ ghost use Rattle.std.specs.Ordering.{is_lt};
 ghost use Rattle.cdxj_core.specs.declared.limit.TheConstants.{LINE_LIMIT};
 ghost use Rattle.cdxj_core.specs.Members.{member_pair};
 ghost use Rattle.cdxj_places.specs.Pairs.{Pair};
-ghost use Rattle.line_queue.specs.PairOrders.{Alike, Below, IsAbove, Upto};
-ghost use Rattle.line_queue.specs.WaitingLines.{waiting_pair, turn_cmp};
+ghost use Rattle.merge_core.specs.PairOrders.{Alike, Below, IsAbove, Upto};
+ghost use Rattle.merge_core.specs.WaitingLines.{waiting_pair, turn_cmp};
 ghost use Rattle.merge_core.specs.Failures.{CountsReads};
 ghost use Rattle.merge_core.specs.LineFaults.{IsMergeFaultOf};
 ghost use Rattle.merge_core.specs.Spending.{AreReadTo};
 
 use crate::fault::MergeFault;
 use crate::feed::{Feed, Progress};
+use crate::keyed_line::KeyedLine;
+use crate::queue::Queue;
 use crate::range::Range;
 use crate::store::Store;
+use crate::waiting::Waiting;
 use cdxj_core::Line;
-use line_queue::{KeyedLine, Queue, Waiting};
 use source_core::Source;
 use std::alloc::AllocError;
 

@@ -1,10 +1,10 @@
 //! The lines of sources: checking them, and searching in them.
-use devices::Fuse;
+use devices::{Fuse, Gather};
 use fixtures::{
     FALLING, FIRST_OF_2016, LETTERS, Refused, Row, TORN, UNENDED_LETTERS, cut, falling_lines,
     index_text, joined, keyed_lines, padded,
 };
-use query_core::{AnswerFault, FileSource, SliceSource, Source, SystemFile, check};
+use query_core::{AnswerFault, FileSource, Query, SliceSource, Source, SystemFile, answer, check};
 use source_core::{SearchFault, search};
 use std::alloc::Global;
 use std::fs::{self, File, Files};
@@ -219,6 +219,23 @@ fn the_last_steps_of_a_search_read_nothing(rt: HostRuntime) -> Result<(), Fail> 
     let text = keyed_lines(rt.alloc(), 100_000)?;
     assert!(rt; text.len() == 17_900_000);
     assert!(rt; is_found_in(rt.alloc(), &text, 13)?);
+    Ok(())
+}
+
+/// Returns `true` if a query for one key reads a small index once, and gives a capture.
+fn is_read_once(alloc: Global) -> Result<bool, Fail> {
+    let query = Query::read(alloc, "key=b)/")?;
+    let mut sources = [Fuse::new(SliceSource::new(UNENDED_LETTERS), 8_192, 0)];
+    let mut out = Gather::new(alloc);
+    match answer(alloc, &mut sources, &query, &mut out) {
+        Ok(report) => Ok(report.given == 1 && sources[0].calls == 1),
+        Err(_fault) => Err(Refused::Memory)?,
+    }
+}
+
+#[test]
+fn a_query_reads_on_from_what_its_search_has_read(rt: HostRuntime) -> Result<(), Fail> {
+    assert!(rt; is_read_once(rt.alloc())?);
     Ok(())
 }
 

@@ -14,7 +14,7 @@ use Rattle.devices.specs.Device.{AppendsPrefix}
 use Rattle.devices.proofs.DeviceLemmas.{Appends-none}
 use Rattle.devices.proofs.WritingLemmas.{prefix_whole, prefix_longer, wrote_nothing}
 use Rattle.merge_core.specs.declared.feed.Feed.{Feed}
-use Rattle.line_queue.specs.WaitingLines.{WaitingLine}
+use Rattle.merge_core.specs.WaitingLines.{WaitingLine}
 use Rattle.merge_core.specs.Collections.{OverIndexes, collection}
 use Rattle.merge_core.specs.Reached.{Reached}
 use Rattle.merge_core.specs.Spending.{AllGaveOnce}

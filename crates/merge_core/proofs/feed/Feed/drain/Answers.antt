@@ -7,12 +7,12 @@ use Rattle.cdxj_core.specs.declared.line.Line.{Line}
 use Rattle.cdxj_core.specs.Members.{Member, member_pair}
 use Rattle.cdxj_places.proofs.PairLemmas.{pair_cmp_total}
 use Rattle.merge_core.specs.declared.feed.Feed.{Feed}
-use Rattle.line_queue.specs.PairOrders.{Alike, Upto}
+use Rattle.merge_core.specs.PairOrders.{Alike, Upto}
 use Rattle.merge_core.specs.Feeds.{done}
 use Rattle.merge_core.proofs.SpendLemmas.{read_to}
 use Rattle.merge_core.proofs.FeedLemmas.{bad_named, order_named, LineRead, same_stays, fed_more, done_next, done_taken}
 use Rattle.merge_core.proofs.FailLemmas.{if_err}
-use Rattle.line_queue.proofs.PairOrder.{from_not_below, same_upto, same_from, upto_upto}
+use Rattle.merge_core.proofs.PairOrder.{from_not_below, same_upto, same_from, upto_upto}
 use Rattle.cdxj_places.proofs.RisingLaws.{each_join, each_weaker}
 use Rattle.merge_core.proofs.feed.Feed.drain.Given.{Over}
 use Rattle.merge_core.proofs.feed.Feed.drain.Goals.{After-compare_pairs}

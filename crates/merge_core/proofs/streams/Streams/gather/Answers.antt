@@ -9,20 +9,20 @@ use Rattle.cdxj_core.specs.declared.limit.TheConstants.{LINE_LIMIT}
 use Rattle.cdxj_core.specs.declared.line.Line.{Line}
 use Rattle.cdxj_core.specs.Members.{Member, member_pair}
 use Rattle.merge_core.specs.declared.feed.Feed.{Feed}
-use Rattle.line_queue.specs.PairOrders.{Upto}
-use Rattle.line_queue.specs.WaitingLines.{WaitingLine, waiting_pair}
+use Rattle.merge_core.specs.PairOrders.{Upto}
+use Rattle.merge_core.specs.WaitingLines.{WaitingLine, waiting_pair}
 use Rattle.merge_core.specs.Feeds.{AreSettled, due}
 use Rattle.merge_core.specs.Gathering.{AreTold, all_done}
 use Rattle.merge_core.specs.Spending.{AreReadTo}
-use Rattle.line_queue.proofs.PairOrder.{upto_itself}
+use Rattle.merge_core.proofs.PairOrder.{upto_itself}
 use Rattle.merge_core.proofs.MergeLemmas.{on_err}
 use Rattle.merge_core.proofs.SpendLemmas.{due_read}
 use Rattle.merge_core.proofs.WholeLemmas.{texts_kept}
 use Rattle.merge_core.proofs.GroupLemmas.{AreAt, AreBelow, from_waited}
 use Rattle.merge_core.proofs.GatherSteps.{Gathers, TakenNext, gathers_start, taken_next, gathers_on}
-use Rattle.line_queue.proofs.HeapLemmas.{each_permuted}
+use Rattle.merge_core.proofs.HeapLemmas.{each_permuted}
 use Rattle.merge_core.proofs.Many.{moved_trans, moved_still}
-use Rattle.line_queue.proofs.TurnLemmas.{above_popped, not_before}
+use Rattle.merge_core.proofs.TurnLemmas.{above_popped, not_before}
 use Rattle.merge_core.proofs.streams.Streams.gather.Given.{Over}
 use Rattle.merge_core.proofs.streams.Streams.gather.Goals.{After-drain, After-push, In_ok-drain}
 use Rattle.merge_core.proofs.streams.Streams.gather.Goals as goal

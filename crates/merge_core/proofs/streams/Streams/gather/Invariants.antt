@@ -4,8 +4,8 @@ use Rattle.cdxj_core.specs.declared.limit.TheConstants.{LINE_LIMIT}
 use Rattle.cdxj_core.specs.Members.{member_pair}
 use Rattle.cdxj_places.specs.Pairs.{Pair}
 use Rattle.merge_core.specs.declared.feed.Feed.{Feed}
-use Rattle.line_queue.specs.PairOrders.{IsAbove, Upto}
-use Rattle.line_queue.specs.WaitingLines.{waiting_pair}
+use Rattle.merge_core.specs.PairOrders.{IsAbove, Upto}
+use Rattle.merge_core.specs.WaitingLines.{waiting_pair}
 use Rattle.merge_core.specs.Feeds.{IsSettled, AreSettled}
 use Rattle.merge_core.specs.Gathering.{IsDue, unread}
 use Rattle.merge_core.proofs.GatherSteps.{Gathers}

@@ -1,6 +1,6 @@
 use Rattle.std.proofs.Common.{◌<◌, length, arith}
-use Rattle.line_queue.specs.WaitingLines.{WaitingLine}
-use Rattle.line_queue.proofs.HeapLemmas.{each_permuted}
+use Rattle.merge_core.specs.WaitingLines.{WaitingLine}
+use Rattle.merge_core.proofs.HeapLemmas.{each_permuted}
 use Rattle.merge_core.proofs.streams.Streams.take_at.Goals as goal
 
 pub mark_due-requires : goal.mark_due-requires

@@ -4,8 +4,8 @@ ghost use Rattle.std.specs.List.{AllByRecursion};
 ghost use Rattle.std.specs.List.Sorted.{IsPermutation};
 ghost use Rattle.std.specs.Ordering.{is_lt};
 ghost use Rattle.cdxj_core.specs.Members.{member_pair};
-ghost use Rattle.line_queue.specs.PairOrders.{Alike, Below, Upto};
-ghost use Rattle.line_queue.specs.WaitingLines.{WaitingLine, waiting_pair, turn_cmp};
+ghost use Rattle.merge_core.specs.PairOrders.{Alike, Below, Upto};
+ghost use Rattle.merge_core.specs.WaitingLines.{WaitingLine, waiting_pair, turn_cmp};
 
 use crate::keyed_line::KeyedLine;
 use crate::waiting::Waiting;
@@ -22,7 +22,7 @@ pub struct Queue {
 impl Model for Queue {
     ghost use Rattle.std.specs.Prelude.{List};
     ghost use Rattle.std.specs.BinaryHeap.{heap_items, IsHeap};
-    ghost use Rattle.line_queue.specs.WaitingLines.{WaitingLine, waiting_cmp};
+    ghost use Rattle.merge_core.specs.WaitingLines.{WaitingLine, waiting_cmp};
 
     ghost Value = { List WaitingLine };
 

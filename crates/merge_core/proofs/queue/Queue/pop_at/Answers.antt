@@ -1,6 +1,6 @@
 use Rattle.cdxj_core.specs.Members.{member_pair}
-use Rattle.line_queue.proofs.TurnLemmas.{popped_alike}
-use Rattle.line_queue.proofs.queue.Queue.pop_at.Goals as goal
+use Rattle.merge_core.proofs.TurnLemmas.{popped_alike}
+use Rattle.merge_core.proofs.queue.Queue.pop_at.Goals as goal
 
 pub returns-then-is_next_at-clause-alike : goal.returns-then-is_next_at-clause-alike
 returns-then-is_next_at-clause-alike c =

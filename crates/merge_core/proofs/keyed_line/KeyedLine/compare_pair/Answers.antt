@@ -3,8 +3,8 @@ use Rattle.std.specs.Ordering.{ordering_then}
 use Rattle.cdxj_core.specs.Members.{member_pair}
 use Rattle.cdxj_places.specs.Pairs.{pair_cmp}
 use Rattle.cdxj_places.specs.Abbreviated.{AreBytes, start_words}
-use Rattle.line_queue.proofs.KeyStarts.{starts_decide, decided}
-use Rattle.line_queue.proofs.keyed_line.KeyedLine.compare_pair.Goals as goal
+use Rattle.merge_core.proofs.KeyStarts.{starts_decide, decided}
+use Rattle.merge_core.proofs.keyed_line.KeyedLine.compare_pair.Goals as goal
 
 pub returns-in_default : goal.returns-in_default
 returns-in_default c =

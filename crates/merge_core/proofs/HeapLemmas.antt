@@ -9,7 +9,7 @@ use Rattle.std.proofs.lemmas.List.Sorted.{All-permutation, sum_by-IsPermutation}
 use Rattle.std.proofs.lemmas.List.Sums.{sum_by-cons}
 use Rattle.cdxj_places.proofs.RisingLaws.{each_weaker}
 use Rattle.cdxj_core.specs.Members.{Member}
-use Rattle.line_queue.specs.WaitingLines.{WaitingLine, is_of, waits_of}
+use Rattle.merge_core.specs.WaitingLines.{WaitingLine, is_of, waits_of}
 
 pub each_get : {X : Type 0} (P : X → Type 0) (xs : List X) (i : ℕ) (d : X) → AllByRecursion P xs → i < length xs
     → P (get_or xs i d)

@@ -7,10 +7,10 @@ use Rattle.cdxj_places.specs.Pairs.{Pair, pair_cmp}
 use Rattle.std.specs.List.Sorted.{IsPermutation}
 use Rattle.std.proofs.lemmas.List.Sorted.{length_permutation}
 use Rattle.cdxj_places.proofs.RisingLaws.{each_weaker}
-use Rattle.line_queue.specs.PairOrders.{Below, Upto, Alike, IsAbove}
-use Rattle.line_queue.specs.WaitingLines.{WaitingLine, waiting_pair, turn_cmp}
-use Rattle.line_queue.proofs.HeapLemmas.{each_permuted}
-use Rattle.line_queue.proofs.PairOrder.{from_not_below, below_then}
+use Rattle.merge_core.specs.PairOrders.{Below, Upto, Alike, IsAbove}
+use Rattle.merge_core.specs.WaitingLines.{WaitingLine, waiting_pair, turn_cmp}
+use Rattle.merge_core.proofs.HeapLemmas.{each_permuted}
+use Rattle.merge_core.proofs.PairOrder.{from_not_below, below_then}
 
 pub not_before : (v w : WaitingLine) → is_lt (turn_cmp v w) ≡ false → Upto (waiting_pair w) (waiting_pair v)
 not_before v w h = from_not_below (waiting_pair v) (waiting_pair w)

@@ -2,9 +2,9 @@ use Rattle.std.proofs.Common.{◌≡◌, List, false, is_eq, is_lt, sym, ap, ◌
 use Rattle.std.specs.List.{AllByRecursion}
 use Rattle.cdxj_places.specs.Pairs.{pair_cmp}
 use Rattle.cdxj_core.specs.Members.{member_pair}
-use Rattle.line_queue.specs.WaitingLines.{WaitingLine, waiting_pair, turn_cmp}
-use Rattle.line_queue.proofs.TurnLemmas.{all_later_unless}
-use Rattle.line_queue.proofs.queue.Queue.is_next_at.Goals as goal
+use Rattle.merge_core.specs.WaitingLines.{WaitingLine, waiting_pair, turn_cmp}
+use Rattle.merge_core.proofs.TurnLemmas.{all_later_unless}
+use Rattle.merge_core.proofs.queue.Queue.is_next_at.Goals as goal
 
 pub returns-in-Some-clause-later : goal.returns-in-Some-clause-later
 returns-in-Some-clause-later c = λ upto not_same.

@@ -4,8 +4,8 @@ ghost use Rattle.std.specs.Cmp.{partial_order_from_agreeing_total, partial_equiv
 ghost use Rattle.std.specs.Ordering.{eq_by_cmp, as_partial_cmp};
 ghost use Rattle.std.proofs.Common.{refl};
 ghost use Rattle.std.proofs.lemmas.Cmp.{eq_by_cmp_equiv};
-ghost use Rattle.line_queue.specs.WaitingLines.{WaitingLine, waiting_cmp};
-ghost use Rattle.line_queue.specs.TurnOrder.{waiting_cmp_total};
+ghost use Rattle.merge_core.specs.WaitingLines.{WaitingLine, waiting_cmp};
+ghost use Rattle.merge_core.specs.TurnOrder.{waiting_cmp_total};
 
 use crate::key_start::{KeyStart, key_start};
 use crate::keyed_line::KeyedLine;
@@ -26,7 +26,7 @@ pub struct Waiting {
 impl Model for Waiting {
     ghost use Rattle.std.specs.Prelude.{◌≡◌};
     ghost use Rattle.cdxj_places.specs.Abbreviated.{AreBytes, start_words};
-    ghost use Rattle.line_queue.specs.WaitingLines.{WaitingLine};
+    ghost use Rattle.merge_core.specs.WaitingLines.{WaitingLine};
 
     ghost Value = { WaitingLine };
 

@@ -1,4 +1,0 @@
-pub mod PairOrder
-pub mod HeapLemmas
-pub mod TurnLemmas
-pub mod KeyStarts

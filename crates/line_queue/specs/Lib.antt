@@ -1,3 +1,0 @@
-pub mod PairOrders
-pub mod WaitingLines
-pub mod TurnOrder
