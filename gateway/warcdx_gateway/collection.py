@@ -42,7 +42,7 @@ class Generation:
 
     def index(self, program: str, seconds: Optional[float]) -> Index:
         names = [f"/proc/{os.getpid()}/fd/{file}" for file in self.files]
-        return Index(names, program=program, seconds=seconds, most=MOST_REPLY)
+        return Index(names, program=program, processes=2, seconds=seconds, most=MOST_REPLY)
 
     def check(self, program: str) -> None:
         """Asks the new files. Raises an Error of the package if they aren't indexes."""
