@@ -119,9 +119,9 @@ class Random(Case):
             requests = [random_request(chance, captures) for _ in range(min(PER_INDEX, REQUESTS - start))]
             killed += self.ask_all(server, captures, requests, results, chance)
             self.assertEqual(0, server.end())
+        print(f"{results}, {killed} processes killed", flush=True)
         self.assertEqual(REQUESTS, sum(results.values()))
         self.assertGreater(results["right"], REQUESTS * 0.7)
-        print(f"{results}, {killed} processes killed", flush=True)
 
     def ask_all(
         self,
