@@ -130,7 +130,9 @@ class Selection:
         if first >= end:
             return
         number, rows_of = 0, self._resolving()
-        groups: Iterator[list[Any]] = self.rows() if self._has_steps else self._lines()
+        groups: Iterator[list[Any]] = self.rows()
+        if not self._has_steps:
+            groups = self._lines()
         for found in groups:
             shown = found[max(first - number, 0) : max(end - number, 0)]
             yield shown if self._has_steps else rows_of(shown)

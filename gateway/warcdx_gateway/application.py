@@ -183,8 +183,10 @@ class Gateway:
 
         The name of the host is the one that a browser looked up.
         """
-        field = request.environ.get("HTTP_HOST")
-        host = urlsplit(f"//{field or 'localhost'}").hostname or ""
+        try:
+            host = urlsplit(f"//{request.environ.get('HTTP_HOST') or 'localhost'}").hostname or ""
+        except ValueError:
+            host = ""
         if self.settings.is_local and is_loopback(host):
             return
         if host not in self.settings.hosts and "*" not in self.settings.hosts:
