@@ -72,7 +72,7 @@ class Gateway:
         self.shares = shares
         self.metrics = metrics
         self._answers = Answers(settings.limits)
-        self.beat: Callable[[], None] = lambda: None  # tells the master that an answer goes on
+        self.beat: Callable[[], None] = lambda: None  # shows the master that an answer goes on
         found = list(own_rules())
         for name in MODULES:
             if importlib.util.find_spec(f"{__package__}.{name}") is not None:
