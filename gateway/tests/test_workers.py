@@ -314,7 +314,8 @@ class Ends(Case):
             settings.write_text(bad)
             server.process.send_signal(signal.SIGHUP)
             self.wait_for(
-                lambda: server.said.read_text().count("\n") == before + 1, "it says nothing"
+                lambda: server.said.read_text().count("\n") == before + 1,
+                f"it says {server.said.read_text()}",
             )
             self.assertLess(len(server.ask(ALL).body), 10_000)
         self.assertEqual(3, server.said.read_text().count("the old settings stay in use"))
