@@ -1,10 +1,12 @@
 """The workers: gunicorn runs the application in processes of limits of their own."""
+import gc
 import os
 import pathlib
 import resource
 import shutil
 import signal
 import socket
+import sys
 import tempfile
 from collections.abc import Callable
 from types import FrameType
@@ -37,7 +39,7 @@ class Log(gunicorn.glogging.Logger):
     error_fmt = f"{NAME}: %(message)s"
 
     def exception(self, msg: str, *args: Any, **kwargs: Any) -> None:
-        self.error_log.error(msg, *args)
+        self.error_log.error(f"{msg}: %s", *args, sys.exc_info()[1])
 
 
 class Master(gunicorn.arbiter.Arbiter):
@@ -56,10 +58,14 @@ class Worker(gunicorn.workers.sync.SyncWorker):
     """A process that answers one request at a time."""
 
     def handle_exit(self, sig: int, frame: Optional[FrameType]) -> None:
-        """Ends after the present answer. No connection waits for this worker then."""
+        """Ends after the present answer. No connection waits for this worker then.
+
+        A socket that doesn't listen takes the place of each that does, as it is used until then.
+        """
         super().handle_exit(sig, frame)
-        for listener in self.sockets:
-            listener.close()
+        with socket.socket() as silent:
+            for listener in self.sockets:
+                os.dup2(silent.fileno(), listener.fileno())
 
     def accept(self, listener: Any) -> None:
         try:
@@ -139,6 +145,7 @@ class Server(BaseApplication):
         end_with_parent(worker.ppid, signal.SIGTERM)
         memory = self._settings.memory
         resource.setrlimit(resource.RLIMIT_AS, (memory, memory))
+        gc.freeze()  # what the master has loaded stays
         self._metrics.sit()
         self._gateway.beat = worker.notify
 
