@@ -30,6 +30,7 @@ from .shared import Metrics, Shares
 
 BACKLOG = 1024  # connections that wait for a worker
 MOST_LINE = 70_000  # bytes of the line of a request: a query has at most 65,536
+ENDS = (signal.SIGTERM, signal.SIGINT, signal.SIGQUIT, signal.SIGABRT)
 OTHER_FILES = 200  # that are open beside indexes
 
 
@@ -49,6 +50,15 @@ class Master(gunicorn.arbiter.Arbiter):
         self.app.look()
         super().manage_workers()
 
+    def spawn_worker(self) -> Any:
+        """Starts a worker, which gets a signal that comes meanwhile when it can handle it."""
+        signal.pthread_sigmask(signal.SIG_BLOCK, ENDS)
+        try:
+            return super().spawn_worker()
+        finally:
+            if os.getpid() == self.pid:
+                signal.pthread_sigmask(signal.SIG_UNBLOCK, ENDS)
+
     def stop(self, graceful: bool = True) -> None:
         gunicorn.systemd.sd_notify("STOPPING=1", self.log)
         super().stop(graceful)
@@ -56,6 +66,10 @@ class Master(gunicorn.arbiter.Arbiter):
 
 class Worker(gunicorn.workers.sync.SyncWorker):
     """A process that answers one request at a time."""
+
+    def init_signals(self) -> None:
+        super().init_signals()
+        signal.pthread_sigmask(signal.SIG_UNBLOCK, ENDS)
 
     def handle_exit(self, sig: int, frame: Optional[FrameType]) -> None:
         """Ends after the present answer. No connection waits for this worker then.
