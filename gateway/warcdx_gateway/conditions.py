@@ -8,7 +8,7 @@ from typing import Optional
 import regex
 
 from .refusal import Refusal
-from .row import PLACES, Row
+from .rows import PLACES, Row
 
 SPECIAL = frozenset("\\^$.|?*+()[]{}")  # characters that a literal text has not
 LONGEST = 1000  # characters of a regular expression
@@ -38,6 +38,10 @@ class Condition:
     is_negated: bool = False
     parameter: str = "filter"
 
+    @property
+    def is_pattern(self) -> bool:
+        return self.test in (Test.MATCHES, Test.BEGINS)
+
 
 class Conditions:
     """Conditions that all have to hold.
@@ -48,7 +52,6 @@ class Conditions:
     def __init__(self, conditions: Sequence[Condition], seconds: float) -> None:
         self._left = seconds
         self._tests = [self._test_of(condition) for condition in conditions]
-        self.has_patterns = any(each.test in (Test.MATCHES, Test.BEGINS) for each in conditions)
 
     def select(self, rows: list[Row]) -> list[Row]:
         """Returns the rows for which all conditions hold. Raises Refusal if that takes too long."""
@@ -74,7 +77,7 @@ class Conditions:
                 cause = f"a value has more than {LONGEST_VALUE} characters"
                 raise Refusal("TooSlow", condition.parameter, cause, condition.text)
             try:
-                found = match(row[place], timeout=min(STEP, self._left), concurrent=True)
+                found = match(row[place], timeout=min(STEP, self._left))
             except TimeoutError:
                 raise too_slow(condition) from None
             return (found is not None) is not is_negated

@@ -1,13 +1,15 @@
-"""The values of single parameters: what each may be."""
+"""The parameters of a query: their names, and what the value of each may be."""
 from collections.abc import Callable
+from enum import Enum
+from urllib.parse import quote_plus, unquote_to_bytes
 
 from warcdx import FIELDS
 
-from .conditions import Condition, Test, is_literal
-from .plan import Collapse, Form
+from .conditions import Condition, Test, compiled, is_literal
 from .refusal import Refusal
-from .row import ORIGINALS
+from .rows import ORIGINALS, Collapse
 
+PATTERNS = (Test.MATCHES, Test.BEGINS)
 PYWB_NAMES = {"url": "original", "mime": "mimetype", "status": "statuscode"}
 TESTS = {
     "is": (Test.EQUALS, False),
@@ -20,6 +22,13 @@ OUTPUTS = ("text", "json", "cdxj")
 SORTS = ("default", "regular", "reverse", "closest")
 MOST_DIGITS = 7
 FIELD_LIST = ", ".join(FIELDS)
+
+
+class Form(Enum):
+    """Whose parameters and outputs a path has."""
+
+    WAYBACK = "wayback"  # those of the Internet Archive's server
+    PYWB = "pywb"  # those of pywb and Common Crawl
 
 
 def check_flag(name: str, value: str) -> None:
@@ -156,5 +165,74 @@ def collapse_of(value: str) -> Collapse:
     return Collapse(field, int(digits) if colon else None)
 
 
+def unquoted(text: str) -> str:
+    """Returns a name or value without its escapes. Raises Refusal if it isn't UTF-8."""
+    try:
+        return unquote_to_bytes(text.replace("+", " ")).decode()
+    except UnicodeDecodeError:
+        raise Refusal("NotText", "", "a query is in UTF-8", text) from None
+
+
 def is_number(text: str) -> bool:
     return text.isascii() and text.isdigit()
+
+
+class Given:
+    """The parameters of a query. Each piece stays as it is written, for the program."""
+
+    def __init__(self, form: Form) -> None:
+        self.form = form
+        self.values: dict[str, str] = {}  # decoded
+        self.pieces: dict[str, str] = {}
+        self.conditions: list[tuple[Condition, str]] = []
+        self.collapses: list[Collapse] = []
+
+    def add(self, piece: str) -> None:
+        name, value = map(unquoted, piece.partition("=")[::2])
+        if name == "fields" and self.form is Form.PYWB:
+            name = "fl"
+        if name in TESTS:
+            test, is_negated = TESTS[name]
+            self.conditions.append((condition_of(value, test, is_negated, name), piece))
+        elif (
+            not value
+            and name not in ("url", "key")
+            and (name in SINGLE or name in ("filter", "collapse"))
+        ):
+            return  # an empty field of a form
+        elif name == "filter":
+            self.add_filter(filter_of(value, self.form))
+        elif name == "collapse":
+            self.collapses += map(collapse_of, value.split(","))
+        elif name in SINGLE:
+            self.add_single(name, value, piece)
+        else:
+            raise Refusal("Unknown", name, "there is no such parameter")
+
+    def add_filter(self, condition: Condition) -> None:
+        if condition.test in PATTERNS:
+            compiled(condition)
+            self.conditions.append((condition, ""))
+        else:
+            name = ("is" if condition.test is Test.EQUALS else "has") + (
+                "not" if condition.is_negated else ""
+            )
+            self.conditions.append(
+                (condition, f"{name}={quote_plus(f'{condition.field}:{condition.text}')}")
+            )
+
+    def add_single(self, name: str, value: str, piece: str) -> None:
+        if name in self.values:
+            raise Refusal("RepeatedParameter", name, "it may be given once")
+        SINGLE[name](name, value)
+        self.values[name] = value
+        self.pieces[name] = piece
+
+    def is_true(self, name: str) -> bool:
+        return self.values.get(name) == "true"
+
+    def is_one_key(self) -> bool:
+        """Returns whether the match is `exact`."""
+        url = self.values.get("url", "")
+        has_star = url.startswith("*.") or url.endswith("*")
+        return self.values.get("matchType", "prefix" if has_star else "exact") == "exact"

@@ -1,4 +1,7 @@
 """Pages by which anybody sees in a browser what archives hold."""
-from .routes import setup
+from typing import Any
 
-__all__ = ["setup"]
+
+def rules(gateway: Any) -> list[Any]:
+    """Returns the rules of the paths of these pages."""
+    return []
