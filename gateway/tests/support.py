@@ -246,17 +246,17 @@ class Server:
             if line.startswith(f"warcdx_gateway_{name}")
         )
 
-    def memory(self) -> int:
-        """Returns the resident memory of the gateway in bytes."""
-        status = pathlib.Path(f"/proc/{self.process.pid}/status").read_text()
-        return int(status.partition("VmRSS:")[2].split()[0]) * 1024
+    def workers(self) -> list[int]:
+        """Returns the process IDs of the workers."""
+        return children(self.process.pid)
 
     def programs(self) -> list[int]:
         """Returns the process IDs of the runs of the program."""
-        found = pathlib.Path(
-            f"/proc/{self.process.pid}/task/{self.process.pid}/children"
-        ).read_text()
-        return list(map(int, found.split()))
+        return [program for worker in self.workers() for program in children(worker)]
+
+    def memory(self) -> int:
+        """Returns the resident memory of the workers in bytes."""
+        return sum(map(resident, self.workers()))
 
     def end(self) -> int:
         if self.process.poll() is None:
@@ -267,6 +267,23 @@ class Server:
             self.process.kill()
             if self.process.stdout is not None:
                 self.process.stdout.close()
+
+
+def children(process: int) -> list[int]:
+    try:
+        found = pathlib.Path(f"/proc/{process}/task/{process}/children").read_text()
+    except FileNotFoundError:
+        return []
+    return list(map(int, found.split()))
+
+
+def resident(process: int) -> int:
+    try:
+        status = pathlib.Path(f"/proc/{process}/status").read_text()
+    except FileNotFoundError:
+        return 0
+    found = status.partition("VmRSS:")[2].split()
+    return int(found[0]) * 1024 if found else 0
 
 
 class Case(unittest.TestCase):
@@ -282,13 +299,16 @@ class Case(unittest.TestCase):
         path.write_text(text)
         return path
 
-    def start(self, settings: Optional[str] = None, **limits: int) -> Server:
-        """Starts a gateway over the file `index`, or with these settings."""
+    def start(self, settings: Optional[str] = None, head: str = "", **limits: int) -> Server:
+        """Starts a gateway over the file `index`, or with these settings, with `head` before them."""
         if settings is None:
             settings = '[collections.main]\nindexes = ["index"]\n'
+        settings = head + settings
         table = "".join(f"{name} = {value}\n" for name, value in limits.items())
+        workers = "" if "workers" in head else "workers = 3\n"
         path = self.put(
-            f'port = 0\nprogram = "{PROGRAM}"\n{settings}[limits]\n{table}', "settings.toml"
+            f'port = 0\nprogram = "{PROGRAM}"\n{workers}{settings}[limits]\n{table}',
+            "settings.toml",
         )
         return self.run_command(str(path))
 

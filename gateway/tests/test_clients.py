@@ -336,7 +336,7 @@ class Refusals(Shared):
             ("url=a&filter=original:" + "a?" * 501, "BadFilter: filter=a?a?a?"),
             (
                 "url=a" + "&hasnot=urlkey:x" * 65,
-                "BadFilter: filter: a query has at most 64 conditions",
+                "TooMany: filter: there are at most 64 in a query",
             ),
             ("url=a&collapse=nosuch", "BadCollapse: collapse=nosuch: it is FIELD or FIELD:N"),
             ("url=a&collapse=digest:0", "BadCollapse: collapse=digest:0: "),

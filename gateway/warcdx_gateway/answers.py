@@ -3,14 +3,13 @@ import calendar
 import json
 import time
 from collections import OrderedDict, deque
-from collections.abc import Callable, Iterator, Sequence
+from collections.abc import Callable, Generator, Iterator, Sequence
 from dataclasses import dataclass
 from datetime import datetime, timezone
-from typing import NamedTuple, Optional
+from typing import Any, Optional
 from urllib.parse import quote_plus, unquote_plus
 
 from warcdx import FIELDS, Index
-from warcdx.pieces import Pieces
 
 from .conditions import Conditions
 from .parameters import Form
@@ -19,10 +18,7 @@ from .refusal import Refusal
 from .rows import (
     DIGEST,
     KEY,
-    LENGTH,
     MIME,
-    NAME,
-    OFFSET,
     PLACES,
     STAMP,
     STATUS,
@@ -64,115 +60,113 @@ class Clock:
         self._beat()
 
 
-class Asker:
-    """Asks an index for the pieces of an answer."""
+class Source:
+    """Asks an index for the captures of an answer, each time by one query of the program."""
 
     def __init__(self, index: Index, clock: Clock) -> None:
         self._index = index
         self._clock = clock
 
-    def piece(self, pieces: Pieces) -> bytes:
-        self._clock.check(self._index)
-        return self._index.piece(pieces)
-
     def pieces(self, query: str) -> Iterator[bytes]:
         """Yields the page of a query as the program writes it."""
-        pieces = Pieces(query)
-        while not pieces.is_last:
-            yield self.piece(pieces)
+        self._clock.check(self._index)
+        for piece in self._index.stream(query):
+            yield piece
+            self._clock.check(self._index)
 
+    def lines(self, query: str) -> Iterator[list[bytes]]:
+        """Yields the lines of a page, each time those that a piece has ended."""
+        begun: list[bytes] = []
+        for piece in self.pieces(query):
+            first, *others = piece.split(b"\n")
+            begun.append(first)
+            if others:
+                yield [b"".join(begun), *others[:-1]]
+                begun = others[-1:]
+        # A page ends with a line feed.
 
-class Source:
-    """The captures of a query of the program as rows of these fields, piece by piece.
+    def values(
+        self, query: str, fields: Sequence[str]
+    ) -> Generator[list[list[str]], None, None]:
+        """Yields the values of these fields of each capture."""
+        for lines in self.row_lines(f"{query}&fl={','.join(fields)}"):
+            yield values_of(lines)
 
-    `key` is the resume key after the captures that were given, None if there are no others.
-    """
-
-    def __init__(
-        self, asker: Asker, query: str, fields: Sequence[str], limit: Optional[int] = None
-    ) -> None:
-        asked = f"{query}&output=json&fl={','.join(fields)}"
-        self._asker = asker
-        self._pieces = Pieces(asked if limit is None else f"{asked}&limit={limit}", most=PIECE)
-        self._is_first = True
-
-    @property
-    def key(self) -> Optional[str]:
-        return self._pieces.key
-
-    def __iter__(self) -> Iterator[list[list[str]]]:
-        while not self._pieces.is_last:
-            piece = self._asker.piece(self._pieces)
-            if not piece:
-                continue
-            # Joined, the pieces are one array of rows, the first of which has the names.
-            text = piece.removeprefix(b"[" if self._is_first else b",\n")
-            rows = json.loads(b"[" + text.removesuffix(b"]\n" if self._pieces.is_last else b"") + b"]")
-            yield rows[1:] if self._is_first else rows
-            self._is_first = False
-
-
-class LineSource:
-    """The captures of a query as rows with their lines of the index. `key` as of Source."""
-
-    def __init__(self, asker: Asker, query: str) -> None:
-        self._asker = asker
-        self._pieces = Pieces(f"{query}&output=cdxj", most=PIECE)
-
-    @property
-    def key(self) -> Optional[str]:
-        return self._pieces.key
-
-    def __iter__(self) -> Iterator[list[Row]]:
-        while not self._pieces.is_last:
-            lines = self._asker.piece(self._pieces).decode().split("\n")
-            yield list(map(row_of_line, lines[:-1]))
-
-
-class Start(NamedTuple):
-    """Where captures are read from on: after a resume key, and with these states of collapses."""
-
-    key: Optional[str] = None
-    states: Optional[tuple[Optional[str], ...]] = None
+    def row_lines(self, query: str) -> Iterator[list[bytes]]:
+        """Yields the lines of the captures in `output=json`."""
+        names = 1
+        for lines in self.lines(f"{query}&output=json"):
+            yield lines[names:]
+            names = 0
 
 
 class Selection:
     """The captures of a plan, after originals of revisits, conditions and collapses."""
 
-    def __init__(self, plan: Plan, asker: Asker, conditions: Conditions) -> None:
+    def __init__(self, plan: Plan, source: Source, limits: Limits, key: Optional[str]) -> None:
         self._plan = plan
-        self._asker = asker
-        self._conditions = conditions
+        self._source = source
+        self._query = with_key(plan.selected, key)
+        self._conditions = Conditions(plan.conditions, limits.pattern)
+        self._before = self._capture_at(key) if key and plan.collapses else None
+        self._has_steps = bool(plan.conditions or plan.collapses)
 
-    def pieces(self, start: Start) -> Iterator[tuple[list[Row], Start]]:
-        """Yields captures, possibly none, and where the captures after them begin."""
-        plan = self._plan
-        collapser = Collapser(plan.collapses, self._states(start))
-        resolver = Resolver(self._asker)
-        query = with_key(plan.selected, start.key)
-        source: LineSource | Source
-        if plan.output is Output.CDXJ:
-            source = LineSource(self._asker, query)
-        else:
-            source = Source(self._asker, query, FIELDS)
-        for found in source:
-            rows = found if isinstance(source, LineSource) else list(map(row_of_values, found))
-            if plan.resolves:
+    def rows(self) -> Iterator[list[Row]]:
+        """Yields captures, possibly none."""
+        collapser = Collapser(self._plan.collapses, self._before)
+        for rows in map(self._resolving(), self._lines()):
+            yield collapser.select(self._conditions.select(rows))
+
+    def timestamps(self) -> Iterator[list[str]]:
+        """Yields the timestamps of the captures, and parses nothing else if that is possible."""
+        if self._has_steps:
+            yield from ([row[STAMP] for row in rows] for rows in self.rows())
+            return
+        for lines in self._source.lines(f"{self._query}&fl=timestamp"):
+            yield [line.decode() for line in lines]
+
+    def between(self, first: int, end: int) -> Iterator[list[Row]]:
+        """Yields the captures from a number to before another one, and parses no others if it can."""
+        if first >= end:
+            return
+        number, rows_of = 0, self._resolving()
+        groups: Iterator[list[Any]] = self.rows() if self._has_steps else self._lines()
+        for found in groups:
+            shown = found[max(first - number, 0) : max(end - number, 0)]
+            yield shown if self._has_steps else rows_of(shown)
+            number += len(found)
+            if number >= end:
+                return
+
+    def _lines(self) -> Iterator[list[bytes]]:
+        if self._plan.output is Output.CDXJ:
+            return self._source.lines(f"{self._query}&output=cdxj")
+        return self._source.row_lines(f"{self._query}&fl={','.join(FIELDS)}")
+
+    def _resolving(self) -> Callable[[list[bytes]], list[Row]]:
+        """Returns what makes captures of lines, with the originals of revisits if they are wanted."""
+        resolver = Resolver(self._source) if self._plan.resolves else None
+
+        def rows_of(lines: list[bytes]) -> list[Row]:
+            if self._plan.output is Output.CDXJ:
+                return [row_of_line(line.decode()) for line in lines]
+            rows = list(map(row_of_values, values_of(lines)))
+            if resolver is not None:
                 resolver.resolve(rows)
-            rows = collapser.select(self._conditions.select(rows))
-            yield rows, Start(source.key, collapser.states)
+            return rows
 
-    def _states(self, start: Start) -> Optional[tuple[Optional[str], ...]]:
-        """Returns the states of the collapses after the capture at a resume key."""
-        place = unquote_plus(start.key or "").split(" ", 2)
-        if start.states is not None or not self._plan.collapses or len(place) < 3:
-            return start.states
-        key, stamp, rest = place
-        name, _, offset = rest.rpartition(" ")
+        return rows_of
+
+    def _capture_at(self, key: str) -> Optional[Row]:
+        """Returns the capture at the place of a resume key."""
+        place = unquote_plus(key).split(" ", 2)
+        if len(place) < 3:
+            return None
+        name, _, offset = place[2].rpartition(" ")
         conditions = f"is={quote_plus('filename:' + name)}&is={quote_plus('offset:' + offset)}"
-        query = f"key={quote_plus(key)}&from={stamp}&to={stamp}&{conditions}"
-        found = [row for rows in Source(self._asker, query, FIELDS, 1) for row in rows]
-        return Collapser(self._plan.collapses).states_after(found[0]) if found else None
+        query = f"key={quote_plus(place[0])}&from={place[1]}&to={place[1]}&{conditions}&limit=1"
+        found = [row for rows in self._source.values(query, FIELDS) for row in rows]
+        return row_of_values(found[0]) if found else None
 
 
 class Resolver:
@@ -182,11 +176,15 @@ class Resolver:
     is in the collection. The captures of a key are read once, as far as they are needed.
     """
 
-    def __init__(self, asker: Asker) -> None:
-        self._asker = asker
+    def __init__(self, source: Source) -> None:
+        self._source = source
         self._key: Optional[str] = None
         self._found: dict[str, list[str]] = {}
-        self._others: Iterator[list[list[str]]] = iter(())
+        self._others = self._nothing()
+
+    @staticmethod
+    def _nothing() -> Generator[list[list[str]], None, None]:
+        yield from ()
 
     def resolve(self, rows: list[Row]) -> None:
         for row in rows:
@@ -198,9 +196,10 @@ class Resolver:
 
     def _original(self, key: str, digest: str) -> Optional[list[str]]:
         if key != self._key:
+            self._others.close()
             query = f"key={quote_plus(key)}&isnot=mimetype:{REVISIT}"
             self._key, self._found = key, {}
-            self._others = iter(Source(self._asker, query, ORIGINAL))
+            self._others = self._source.values(query, ORIGINAL)
         while digest not in self._found:
             rows = next(self._others, None)
             if rows is None:
@@ -230,49 +229,45 @@ class Answers:
 
         `tag` is that of the collection. Raises Refusal, or an Error of the package.
         """
-        asker = Asker(index, clock)
-        selection = Selection(plan, asker, Conditions(plan.conditions, self._limits.pattern))
+        source = Source(index, clock)
         if plan.counts_pages:
-            yield from self._page_count(plan, selection, asker, tag)
+            yield from self._page_count(plan, source, tag)
             return
         key, limit = plan.resume_key, plan.limit
         if plan.page is not None:
             limit = plan.page.size if limit is None else min(limit, plan.page.size)
             if plan.page.number > 0:
-                starts = self._known_starts(plan, tag)
-                while len(starts.keys) < plan.page.number and starts.count is None:
-                    self._find_start(starts, plan, selection, asker)
-                    yield b""
-                if plan.page.number > len(starts.keys):
+                key = self._start_of_page(plan, source, tag)
+                if key is None:
                     yield writer_of(plan.output, plan.fields).end(None)
                     return
-                key = starts.keys[plan.page.number - 1]
         if plan.is_plain:
-            yield from asker.pieces(plan.plain_query(key, limit))
+            yield from source.pieces(plan.plain_query(key, limit))
             return
+        self._check_held(plan, limit)
+        selection = Selection(plan, source, self._limits, key)
+        if plan.order is Order.FORWARD and (limit is not None or not plan.counts_duplicates):
+            yield from forward(plan, selection, limit)
+            return
+        window = Window(plan, self._limits.held)
+        for stamps in selection.timestamps():
+            if window.add(stamps):
+                break
+        window.close()
+        yield from ordered(plan, selection, window)
+
+    def _check_held(self, plan: Plan, limit: Optional[int]) -> None:
         held = self._limits.held
         if plan.counts_duplicates and limit is not None and limit > held:
             cause = f"it is for at most {held} captures; this may give {limit}"
             raise Refusal("BadLimit", "showDupeCount", cause)
-        start = Start(key)
-        if plan.order is Order.FORWARD:
-            if plan.counts_duplicates and limit is None:
-                yield from _counted(Window(plan, held), plan, selection, asker, start)
-            yield from forward(plan, selection, start, limit)
-        else:
-            window = Window(plan, held)
-            yield from _counted(window, plan, selection, asker, start)
-            yield from ordered(plan, selection, window)
 
-    def _page_count(
-        self, plan: Plan, selection: Selection, asker: Asker, tag: str
-    ) -> Iterator[bytes]:
+    def _page_count(self, plan: Plan, source: Source, tag: str) -> Iterator[bytes]:
         """Yields the number of pages as the Internet Archive writes it, or as pywb does."""
         assert plan.page is not None
         starts = self._known_starts(plan, tag)
         while starts.count is None:
-            self._find_start(starts, plan, selection, asker)
-            yield b""
+            self._find_start(starts, plan, source)
         count, blocks = starts.count, plan.page.size // 3000
         if plan.form is Form.WAYBACK:
             yield f"{count}\n".encode()
@@ -280,11 +275,19 @@ class Answers:
             sizes = f'"pageSize": {blocks}, "blocks": {count * blocks}'
             yield f'{{"pages": {count}, {sizes}}}\n'.encode()
 
+    def _start_of_page(self, plan: Plan, source: Source, tag: str) -> Optional[str]:
+        """Returns the resume key with which a page begins, or None if there is no such page."""
+        assert plan.page is not None
+        starts, number = self._known_starts(plan, tag), plan.page.number
+        while len(starts.keys) < number and starts.count is None:
+            self._find_start(starts, plan, source)
+        return starts.keys[number - 1] if number <= len(starts.keys) else None
+
     def _known_starts(self, plan: Plan, tag: str) -> PageStarts:
         """Returns what is remembered of a query. Those asked longest ago are forgotten."""
         name = (tag, plan.selection)
         found = self._starts.pop(name, None) or PageStarts([])
-        while len(self._starts) >= MOST_QUERIES or self._size() > MOST_STARTS:
+        while self._starts and (len(self._starts) >= MOST_QUERIES or self._size() > MOST_STARTS):
             self._starts.popitem(last=False)
         self._starts[name] = found
         return found
@@ -292,33 +295,30 @@ class Answers:
     def _size(self) -> int:
         return sum(len(key) for each in self._starts.values() for key in each.keys)
 
-    def _find_start(
-        self, starts: PageStarts, plan: Plan, selection: Selection, asker: Asker
-    ) -> None:
+    def _find_start(self, starts: PageStarts, plan: Plan, source: Source) -> None:
         """Finds the start of one more page, or the number of pages."""
         assert plan.page is not None
         if len(starts.keys) == MOST_PAGES:
             cause = f"a query has at most {MOST_PAGES} pages; follow resume keys, or give a larger pageSize"
             raise Refusal("BadPage", "page", cause)
         last = starts.keys[-1] if starts.keys else None
-        if plan.conditions or plan.collapses or plan.resolves:
-            has_rows, key = pass_changed(selection, Start(last), plan.page.size)
+        if plan.conditions or plan.collapses:
+            has_rows, key = passed(Selection(plan, source, self._limits, last), plan.page.size)
         else:
-            source = Source(asker, with_key(plan.selected, last), ("offset",), plan.page.size)
-            has_rows = sum(map(len, source)) > 0
-            key = source.key
+            shown = f"fl=offset&limit={plan.page.size}&showResumeKey=true"
+            lines = [line for each in source.lines(f"{with_key(plan.selected, last)}&{shown}") for line in each]
+            has_rows = bool(lines)
+            key = lines[-1].decode() if lines[-2:-1] == [b""] else None
         if key is None:
             starts.count = len(starts.keys) + has_rows
         else:
             starts.keys.append(key)
 
 
-def pass_changed(
-    selection: Selection, start: Start, size: int
-) -> tuple[bool, Optional[str]]:
+def passed(selection: Selection, size: int) -> tuple[bool, Optional[str]]:
     """Passes over a page. Returns whether it has captures, and the resume key of the next."""
     count, last = 0, None
-    for rows, _ in selection.pieces(start):
+    for rows in selection.rows():
         if rows and count < size:
             last = rows[min(size - count, len(rows)) - 1]
         count += len(rows)
@@ -327,13 +327,11 @@ def pass_changed(
     return count > 0, None
 
 
-def forward(
-    plan: Plan, selection: Selection, start: Start, limit: Optional[int]
-) -> Iterator[bytes]:
+def forward(plan: Plan, selection: Selection, limit: Optional[int]) -> Iterator[bytes]:
     """Yields captures in the order of the index."""
     writer, counter = writer_of(plan.output, plan.fields), DuplicateCounter()
-    left, last, has_more = limit, None, False
-    for rows, _ in selection.pieces(start):
+    left, has_more, last = limit, False, None
+    for rows in selection.rows():
         if left is not None:
             has_more = len(rows) > left
             rows = rows[:left]
@@ -345,7 +343,7 @@ def forward(
         # To show a resume key, a capture that follows has to be found.
         if left == 0 and (has_more or not plan.shows_key):
             break
-    is_shown = has_more and plan.shows_key and last is not None
+    is_shown = has_more and plan.shows_key
     yield writer.end(resume_key(last) if is_shown and last is not None else None)
 
 
@@ -354,8 +352,7 @@ class Window:
 
     By their numbers in the order of the index, they are those from `first` to before `end`
     without those of `gap`: a capture that is nearer to a time is between those that are farther.
-    The last captures are the nearest to the end of time. `marks` are where pieces begin, each
-    with the number of its first capture.
+    The last captures are the nearest to the end of time.
     """
 
     def __init__(self, plan: Plan, most: int) -> None:
@@ -367,25 +364,19 @@ class Window:
         self._runs: deque[tuple[int, int]] = deque()
         self._after: list[int] = []  # distances of the captures from the time on
         self._before = 0  # captures
-        self.marks: deque[tuple[int, Start]] = deque()
         self.first = self.end = 0
         self.gap = range(0)
 
-    def add(self, start: Start, stamps: Sequence[str]) -> bool:
+    def add(self, stamps: Sequence[str]) -> bool:
         """Takes the captures of a piece. Returns whether no further one can be in the answer."""
-        self.marks.append((self._before + len(self._after), start))
         if self._time is None:
             self._before += len(stamps)
         else:
             self._add_distances([seconds_of(stamp) - self._time for stamp in stamps])
-        if self._limit is None:
-            if self._before + len(self._after) > self._most:
-                cause = f"without limit it is for at most {self._most} captures"
-                raise Refusal("TooMany", self._name, cause)
-            return False
-        first = self._runs[0][1] if self._runs else self._before - self._limit
-        self._forget_marks(first)
-        return len(self._after) >= self._limit
+        if self._limit is None and self._before + len(self._after) > self._most:
+            cause = f"without limit it is for at most {self._most} captures"
+            raise Refusal("TooMany", self._name, cause)
+        return self._limit is not None and len(self._after) >= self._limit
 
     def close(self) -> None:
         """Decides which captures the answer has, when all were taken."""
@@ -396,7 +387,6 @@ class Window:
             self.first = max(self._before - self._limit, 0)
         else:
             self._choose(self._limit)
-        self._forget_marks(self.first)
 
     def _add_distances(self, distances: Sequence[int]) -> None:
         for distance in distances:
@@ -426,88 +416,44 @@ class Window:
                 self.end += 1
                 left -= 1
 
-    def _forget_marks(self, first: int) -> None:
-        while len(self.marks) > 1 and self.marks[1][0] <= first:
-            self.marks.popleft()
-
-
-def _counted(
-    window: Window, plan: Plan, selection: Selection, asker: Asker, start: Start
-) -> Iterator[bytes]:
-    """Passes over the captures of a plan, so that the window knows which the answer has."""
-    if plan.conditions or plan.collapses or plan.resolves:
-        for rows, after in selection.pieces(start):
-            if window.add(start, [row[STAMP] for row in rows]):
-                break
-            start = after
-            yield b""
-    else:
-        source = Source(asker, with_key(plan.selected, start.key), ("timestamp",))
-        for values in source:
-            if window.add(start, [stamp for stamp, in values]):
-                break
-            start = Start(source.key)
-            yield b""
-    window.close()
-
 
 def ordered(plan: Plan, selection: Selection, window: Window) -> Iterator[bytes]:
     """Yields the captures of a window in the order of the plan."""
     writer, counter = writer_of(plan.output, plan.fields), DuplicateCounter()
-    for rows in groups_of(plan, selection, window):
+    groups = selection.between(window.first, window.end)
+    if plan.order not in (Order.FORWARD, Order.LAST):
+        groups = batched(sorted_rows(plan, window, groups))
+    for rows in groups:
         if plan.counts_duplicates:
             counter.count(rows)
         yield writer.rows(rows) if rows else b""
     yield writer.end(None)
 
 
-def groups_of(plan: Plan, selection: Selection, window: Window) -> Iterator[list[Row]]:
-    marks = list(window.marks)
-    if not marks:
-        return
-    if plan.order is Order.LAST:
-        yield from between(selection, marks[0], window.first, window.end)
-    elif plan.order is Order.REVERSE:
-        end = window.end
-        for mark in reversed(marks):
-            first = max(mark[0], window.first)
-            rows = [row for group in between(selection, mark, first, end) for row in group]
-            yield rows[::-1]
-            end = mark[0]
-    else:
-        yield from nearest(plan, selection, marks[0], window)
-
-
-def between(
-    selection: Selection, mark: tuple[int, Start], first: int, end: int
-) -> Iterator[list[Row]]:
-    """Yields the captures of these numbers, which are read from a mark on."""
-    number, start = mark
-    if first >= end:
-        return
-    for rows, _ in selection.pieces(start):
-        yield rows[max(first - number, 0) : max(end - number, 0)]
-        number += len(rows)
-        if number >= end:
-            return
-
-
-def nearest(
-    plan: Plan, selection: Selection, mark: tuple[int, Start], window: Window
-) -> Iterator[list[Row]]:
-    """Yields captures, the nearest to a time first. Of two that are as near, the earlier is first."""
-    moment, number, rows = moment_of(plan.closest), window.first, list[Row]()
-    for group in between(selection, mark, window.first, window.end):
-        rows += (row for at, row in enumerate(group, number) if at not in window.gap)
-        number += len(group)
+def sorted_rows(plan: Plan, window: Window, groups: Iterator[list[Row]]) -> list[Row]:
+    """Returns the captures of a window in the order of the plan, which takes all of them."""
+    rows = [row for group in groups for row in group]
+    if plan.order is Order.REVERSE:
+        return rows[::-1]
+    rows = [row for number, row in enumerate(rows, window.first) if number not in window.gap]
+    moment = moment_of(plan.closest)
 
     def distance(row: Row) -> tuple[int, bool]:
+        """Of two that are as near, the earlier is first."""
         found = seconds_of(row[STAMP]) - moment
         return abs(found), found >= 0
 
-    rows.sort(key=distance)
-    for place in range(0, len(rows), PIECE):
-        yield rows[place : place + PIECE]
+    return sorted(rows, key=distance)
+
+
+def batched(rows: list[Row]) -> Iterator[list[Row]]:
+    return (rows[place : place + PIECE] for place in range(0, len(rows), PIECE))
+
+
+def values_of(lines: list[bytes]) -> list[list[str]]:
+    """Returns the values of captures from lines of `output=json`, each of which ends in `,` or `]`."""
+    rows: list[list[str]] = json.loads(b"[" + b",".join([line[:-1] for line in lines]) + b"]")
+    return rows
 
 
 def held_parameter(plan: Plan) -> str:

@@ -10,7 +10,7 @@ from email.utils import formatdate
 from typing import Any
 from urllib.parse import urlsplit
 
-from werkzeug.exceptions import HTTPException, NotFound
+from werkzeug.exceptions import HTTPException, MethodNotAllowed, NotFound
 from werkzeug.routing import Map, Rule
 from werkzeug.wrappers import Request, Response
 
@@ -39,6 +39,7 @@ MODULES = ("memento", "clients", "browse")  # each has `rules(gateway)`
 MOST_BODY = 1 << 17  # bytes of a request
 SETTLED = 2  # seconds after which files of the same second have no other time
 HEALTH_SECONDS = 5
+MOST_WHOLE = 1 << 16  # bytes of an answer that is made before it is sent
 
 Handler = Callable[..., Response]  # of the gateway, a request and the values of its path
 
@@ -173,9 +174,8 @@ class Gateway:
         say(f"{name}: {error}")
         text = "the program has failed\n"
         if isinstance(error, Fault):
-            number = "" if error.number is None else f" {error.number}"
-            offset = "" if error.offset is None else f" {error.offset}"
-            text = f"fault {error.name}{number}{offset}\n"
+            parts = ("fault", error.name, error.number, error.offset)
+            text = " ".join(str(part) for part in parts if part is not None) + "\n"
         return Response(text, 500, content_type=TEXT)
 
     def _check_host(self, request: Request) -> None:
@@ -288,10 +288,16 @@ def show_metrics(gateway: Gateway, request: GatewayRequest) -> Response:
 def streamed(pieces: Iterator[bytes], headers: Mapping[str, str], kind: str) -> Response:
     """Returns the response of an answer whose pieces are made when they are sent.
 
-    The first one is made at once, so what fails until then has a status.
+    The first ones are made at once. So what fails until then has a status, and a short answer has
+    a length.
     """
-    begun = list(itertools.islice(filter(None, pieces), 2))
-    if len(begun) < 2:  # the answer is whole
+    begun, size = list[bytes](), 0
+    for piece in pieces:
+        begun.append(piece)
+        size += len(piece)
+        if size > MOST_WHOLE:
+            break
+    else:
         return Response(b"".join(begun), 200, headers, content_type=kind)
     response = Response(itertools.chain(begun, pieces), 200, headers, content_type=kind)
     if isinstance(pieces, Generator):
@@ -323,18 +329,21 @@ def http_response(error: HTTPException) -> Response:
     if isinstance(error.response, Response):
         return error.response
     name, cause = (error.name or "").title().replace(" ", ""), error.description or ""
-    if error.code == 405:
-        cause = f"the methods are {', '.join(METHODS)}"
+    headers = [each for each in error.get_headers() if each[0] not in ("Content-Type", "Allow")]
+    if isinstance(error, MethodNotAllowed):
+        methods = ", ".join(sorted(error.valid_methods or ()))
+        headers.append(("Allow", methods))
+        cause = f"the methods are {methods}"
     elif cause == NotFound.description:
         cause = "there is no such path"
-    headers = [each for each in error.get_headers() if each[0] != "Content-Type"]
     return Response(f"refused {name}: {cause}\n", error.code, headers, content_type=TEXT)
 
 
 def preflight(methods: Iterable[str]) -> Response:
+    allowed = ", ".join(sorted({*methods, "OPTIONS"}))
     headers = {
-        "Allow": ", ".join(sorted(methods)),
-        "Access-Control-Allow-Methods": ", ".join(sorted(methods)),
+        "Allow": allowed,
+        "Access-Control-Allow-Methods": allowed,
         "Access-Control-Allow-Headers": "*",
         "Access-Control-Max-Age": "86400",
     }

@@ -7,7 +7,8 @@ import time
 from collections.abc import Sequence
 from typing import Any, Optional
 
-from warcdx import Error, Index, command
+from warcdx import Error, Fault, Index, command
+from warcdx.errors import fault
 
 from .settings import CollectionSettings, Settings
 
@@ -31,6 +32,7 @@ class Generation:
     """
 
     def __init__(self, paths: Sequence[pathlib.Path]) -> None:
+        self._paths = paths
         self.files: list[int] = []
         try:
             for path in paths:
@@ -42,13 +44,18 @@ class Generation:
 
     def index(self, program: str, seconds: Optional[float]) -> Index:
         names = [f"/proc/{os.getpid()}/fd/{file}" for file in self.files]
-        return Index(names, program=program, seconds=seconds, most=MOST_REPLY)
+        return Index(names, program=program, processes=2, seconds=seconds, most=MOST_REPLY)
 
     def check(self, program: str) -> None:
         """Asks the new files. Raises an Error of the package if they aren't indexes."""
         with self.index(program, CHECK_SECONDS) as index:
             for query in CHECKS:
-                index.text(query)
+                try:
+                    index.text(query)
+                except Fault as error:
+                    number = int(str(error.file).rpartition("/")[2])
+                    path = str(self._paths[self.files.index(number)])
+                    raise fault(error.name, path, error.offset) from None
 
     def close(self) -> None:
         for file in self.files:

@@ -1,4 +1,5 @@
 """Conditions on captures that the gateway checks itself: texts and regular expressions."""
+import re
 import time
 from collections.abc import Callable, Sequence
 from dataclasses import dataclass
@@ -17,6 +18,8 @@ LONGEST_VALUE = (
 )
 MOST_COPIES = 200_000  # characters of a regular expression in which repeated parts are written out
 STEP = 1.0  # seconds for one match
+ESCAPE = re.compile(r"\\.", re.DOTALL)
+RECURSION = re.compile(r"\(\?(?:R|[+-]?[0-9]|&|P>)")
 
 
 class Test(Enum):
@@ -90,19 +93,16 @@ def is_literal(text: str) -> bool:
 
 
 def compiled(condition: Condition) -> "regex.Pattern[str]":
-    """Returns a regular expression. Raises Refusal."""
-    if len(condition.text) > LONGEST:
-        cause = f"a regular expression has at most {LONGEST} characters"
-        raise Refusal("BadFilter", condition.parameter, cause, condition.text)
-    if copies(condition.text) > MOST_COPIES:
-        raise Refusal(
-            "BadFilter",
-            condition.parameter,
-            "the regular expression repeats too much",
-            condition.text,
-        )
+    """Returns a regular expression, which is kept nowhere else. Raises Refusal."""
+    text = condition.text
+    if len(text) > LONGEST:
+        raise bad_pattern(condition, f"a regular expression has at most {LONGEST} characters")
+    if RECURSION.search(ESCAPE.sub("", text)):
+        raise bad_pattern(condition, "a regular expression doesn't refer to a part of itself")
+    if copies(condition) > MOST_COPIES:
+        raise bad_pattern(condition, "the regular expression repeats too much")
     try:
-        return regex.compile(condition.text, regex.VERSION0)
+        return regex.compile(text, regex.VERSION0, cache_pattern=False)
     except (
         regex.error,
         ValueError,
@@ -112,21 +112,27 @@ def compiled(condition: Condition) -> "regex.Pattern[str]":
         IndexError,
         TypeError,
     ) as error:
-        cause = f"the regular expression can't be read: {error}"
-        raise Refusal("BadFilter", condition.parameter, cause, condition.text) from error
+        raise bad_pattern(condition, f"the regular expression can't be read: {error}") from error
 
 
-def copies(text: str) -> int:
+def copies(condition: Condition) -> int:
     """Returns at least how long an expression is in which `a{3}` is written as `aaa`, as it is
     compiled.
     """
-    count = len(text)
-    for braces in text.split("{")[1:]:
-        least = "".join(filter(str.isdigit, braces.partition("}")[0].partition(",")[0]))
+    count = len(condition.text)
+    for braces in condition.text.split("{")[1:]:
+        bound = braces.partition("}")[0].partition(",")[0]
+        least = "".join(filter(str.isdigit, bound))
+        if not least.isascii():
+            raise bad_pattern(condition, "the number of a repeat is in the digits 0 to 9")
         if len(least) > 6:
             return MOST_COPIES + 1
         count *= max(int(least or "1"), 1)
     return count
+
+
+def bad_pattern(condition: Condition, cause: str) -> Refusal:
+    return Refusal("BadFilter", condition.parameter, cause, condition.text)
 
 
 def too_slow(condition: Condition) -> Refusal:

@@ -1,4 +1,5 @@
 """The parameters of a query: their names, and what the value of each may be."""
+import re
 from collections.abc import Callable
 from enum import Enum
 from urllib.parse import quote_plus, unquote_to_bytes
@@ -8,6 +9,7 @@ from warcdx import FIELDS
 from .conditions import Condition, Test, compiled, is_literal
 from .refusal import Refusal
 from .rows import ORIGINALS, Collapse
+from .settings import Limits
 
 PATTERNS = (Test.MATCHES, Test.BEGINS)
 PYWB_NAMES = {"url": "original", "mime": "mimetype", "status": "statuscode"}
@@ -20,6 +22,8 @@ TESTS = {
 FLAGS = ("true", "false")
 OUTPUTS = ("text", "json", "cdxj")
 SORTS = ("default", "regular", "reverse", "closest")
+MATCHES = ("exact", "prefix", "host", "domain")
+RESUME_KEY = re.compile("[^ ]* [0-9]{14} .+ [0-9]+", re.DOTALL)
 MOST_DIGITS = 7
 FIELD_LIST = ", ".join(FIELDS)
 
@@ -89,19 +93,30 @@ def check_fields(name: str, value: str) -> None:
             )
 
 
+def check_match(name: str, value: str) -> None:
+    if value not in MATCHES:
+        raise Refusal("BadMatch", name, "it is exact, prefix, host or domain", value)
+
+
+def check_resume_key(name: str, value: str) -> None:
+    if not RESUME_KEY.fullmatch(value):
+        raise Refusal("BadResume", name, "it isn't the resume key of a page", value)
+
+
 def check_nothing(name: str, value: str) -> None:
     """The program checks the value."""
 
 
-# Parameters that may be given once. Those without a check of their own are checked by the program.
+# Parameters that may be given once. Each is checked where the program checks it, so that of two that
+# are at fault both name the same one.
 SINGLE: dict[str, Callable[[str, str], None]] = {
     "url": check_nothing,
     "key": check_nothing,
-    "matchType": check_nothing,
+    "matchType": check_match,
     "from": check_stamp,
     "to": check_stamp,
     "limit": check_limit,
-    "resumeKey": check_nothing,
+    "resumeKey": check_resume_key,
     "showResumeKey": check_flag,
     "fl": check_fields,
     "output": check_output,
@@ -165,12 +180,13 @@ def collapse_of(value: str) -> Collapse:
     return Collapse(field, int(digits) if colon else None)
 
 
-def unquoted(text: str) -> str:
-    """Returns a name or value without its escapes. Raises Refusal if it isn't UTF-8."""
+def unquoted(name: str, value: str) -> tuple[str, str]:
+    """Returns the name and the value of a parameter without escapes. Raises Refusal."""
     try:
-        return unquote_to_bytes(text.replace("+", " ")).decode()
+        found, text = (unquote_to_bytes(each.replace("+", " ")) for each in (name, value))
+        return found.decode(), text.decode()
     except UnicodeDecodeError:
-        raise Refusal("NotText", "", "a query is in UTF-8", text) from None
+        raise Refusal("NotText", name, "it isn't UTF-8", value) from None
 
 
 def is_number(text: str) -> bool:
@@ -180,34 +196,39 @@ def is_number(text: str) -> bool:
 class Given:
     """The parameters of a query. Each piece stays as it is written, for the program."""
 
-    def __init__(self, form: Form) -> None:
+    def __init__(self, form: Form, limits: Limits) -> None:
         self.form = form
+        self.limits = limits
         self.values: dict[str, str] = {}  # decoded
         self.pieces: dict[str, str] = {}
         self.conditions: list[tuple[Condition, str]] = []
         self.collapses: list[Collapse] = []
 
     def add(self, piece: str) -> None:
-        name, value = map(unquoted, piece.partition("=")[::2])
+        """Takes the next parameter. Raises Refusal."""
+        name, value = unquoted(*piece.partition("=")[::2])
         if name == "fields" and self.form is Form.PYWB:
             name = "fl"
+        if name not in (*TESTS, *SINGLE, "filter", "collapse"):
+            raise Refusal("Unknown", name, "there is no such parameter")
+        if not value and name not in ("url", "key", *TESTS):
+            return  # an empty field of a form
         if name in TESTS:
             test, is_negated = TESTS[name]
             self.conditions.append((condition_of(value, test, is_negated, name), piece))
-        elif (
-            not value
-            and name not in ("url", "key")
-            and (name in SINGLE or name in ("filter", "collapse"))
-        ):
-            return  # an empty field of a form
         elif name == "filter":
             self.add_filter(filter_of(value, self.form))
         elif name == "collapse":
             self.collapses += map(collapse_of, value.split(","))
-        elif name in SINGLE:
-            self.add_single(name, value, piece)
         else:
-            raise Refusal("Unknown", name, "there is no such parameter")
+            self.add_single(name, value, piece)
+        for kind, count, most in (
+            ("filter", len(self.conditions), self.limits.conditions),
+            ("collapse", len(self.collapses), self.limits.collapses),
+            ("fl", value.count(",") + 1 if name == "fl" else 0, self.limits.fields),
+        ):
+            if count > most:
+                raise Refusal("TooMany", kind, f"there are at most {most} in a query")
 
     def add_filter(self, condition: Condition) -> None:
         if condition.test in PATTERNS:

@@ -11,6 +11,7 @@ from .refusal import Refusal
 from .rows import ORIGINALS, Collapse, Output
 from .settings import Limits
 
+MOST_QUERY = 65_536  # bytes
 BLOCK = 3000  # captures: the unit of `pageSize`
 USUAL_SIZE = 5  # blocks of a page
 TARGET = ("url", "key", "matchType", "from", "to")  # parameters that the program gets unchanged
@@ -94,12 +95,12 @@ def plan_of(query: str, form: Form, limits: Limits) -> Plan:
 
     Raises Refusal, for the first parameter that is at fault.
     """
-    given = Given(form)
+    if len(query.encode()) > MOST_QUERY:
+        raise Refusal("QueryTooLong", "", f"a query has at most {MOST_QUERY} bytes")
+    given = Given(form, limits)
     for piece in query.replace("\r", "%0D").replace("\n", "%0A").split("&"):
         if piece:
             given.add(piece)
-    if len(given.conditions) > limits.conditions:
-        raise Refusal("BadFilter", "filter", f"a query has at most {limits.conditions} conditions")
     return Planner(given, limits).plan()
 
 

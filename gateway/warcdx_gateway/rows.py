@@ -79,25 +79,15 @@ class Output(Enum):
 class Collapser:
     """Gives the first of consecutive captures with the same part of a field.
 
-    With several collapses, each is of what the one before it gives. `states` are the parts of
-    the captures that each has seen last.
+    With several collapses, each is of what the one before it gives. It holds one part for each.
+    `previous` is the capture before the first, which each collapse has given.
     """
 
-    def __init__(
-        self,
-        collapses: Sequence[Collapse],
-        states: Optional[Sequence[Optional[str]]] = None,
-    ) -> None:
+    def __init__(self, collapses: Sequence[Collapse], previous: Optional[Row] = None) -> None:
         self._parts = [(PLACES[collapse.field], collapse.count) for collapse in collapses]
-        self._last = list(states or [None] * len(self._parts))
-
-    @property
-    def states(self) -> tuple[Optional[str], ...]:
-        return tuple(self._last)
-
-    def states_after(self, row: Row) -> tuple[str, ...]:
-        """Returns the states after a capture that each collapse has given."""
-        return tuple(row[place][:count] for place, count in self._parts)
+        self._last: list[Optional[str]] = [
+            None if previous is None else previous[place][:count] for place, count in self._parts
+        ]
 
     def select(self, rows: list[Row]) -> list[Row]:
         for number, (place, count) in enumerate(self._parts):

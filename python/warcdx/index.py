@@ -145,6 +145,18 @@ class Index:
             if piece := self.piece(pieces):
                 yield piece
 
+    def stream(self, query: str) -> Iterator[bytes]:
+        """Yields a page as `warcdx query` writes it, in pieces as the program writes them.
+
+        It is read by one query, whose process answers no other until the last piece is taken or the iterator is
+        closed. `seconds` is the time for each piece, and `most` bounds none.
+        """
+        line = one_line(query)
+        asked = Query.of(line, {})
+        with _naming_parameters(asked), self._serve() as serve:
+            encoded = line.encode(errors="surrogateescape")
+            yield from serve.stream(encoded, asked.has("output", "json"), self.seconds)
+
     def piece(self, pieces: Pieces) -> bytes:
         """Returns the next piece of a page, which may be empty."""
         while (asked := pieces.next_query()) is not None:

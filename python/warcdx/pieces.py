@@ -18,23 +18,20 @@ class Pieces:
 
     The pieces joined are the page that `warcdx query` writes for the query. Each is a page with a
     limit and a resume key, so other queries can be answered between two of them. The first one has
-    `size` captures, and the others have about TARGET bytes, but at most `most` captures. `key` is the
-    resume key after the captures that were read, or None if there are no others.
+    `size` captures, and the others have about TARGET bytes.
 
     A piece that would end at a key which is too long for a query is made longer. It is the rest of the
     page if no capture below its end has a shorter one. `is_bounded` is whether the reply to the next
     query may be refused for its length. After `shrink` it is false if no shorter piece can be had.
     """
 
-    def __init__(self, query: str, *, size: int = FIRST, most: int = MOST) -> None:
+    def __init__(self, query: str, *, size: int = FIRST) -> None:
         self._text = one_line(query)
         self._query = Query.of(query, {})
         self.is_json = self._query.has("output", "json")
         self._left = self._query.take_limit()[0]
         self._shows_key = self._query.has("showResumeKey", "true")
         self._size = size
-        self._most = most
-        self.key: Optional[str] = None
         self._too_short = 0  # captures after which the resume key is too long
         self._too_long = REST + 1  # captures of which the reply is too long
         self._is_first = True
@@ -67,13 +64,12 @@ class Pieces:
             self._lengthen()
             return b""
         count = self._count()
-        self.key = None if key is None else key.decode()
         if key is not None and self._left is not None:
             self._left -= count
         self.is_last = key is None or self._left == 0
         piece = self._joined(rows, key)
         self._is_first = False
-        self._size = max(1, min(TARGET * count // max(len(page), 1), self._most, 4 * count))
+        self._size = max(1, min(TARGET * count // max(len(page), 1), MOST, 4 * count))
         self._too_short, self._too_long, self.is_bounded = 0, REST + 1, True
         if key is not None:
             self._query = self._query.with_value("resumeKey", key.decode())

@@ -5,13 +5,15 @@ import select
 import subprocess
 import tempfile
 import time
+from collections.abc import Generator, Iterator
 from typing import IO, Optional
 
-from .errors import Error, ProgramEnded, ReplyTooLate, ReplyTooLong
+from .errors import Error, ProgramEnded, ProgramError, ReplyTooLate, ReplyTooLong
 from .program import end_of, start
 from .reply import END, MARK, NOTHING, PIECE, is_whole, refusal_of, rows_of, text_of
 
 PATIENCE = 10  # seconds for the program to end
+TAIL = 256  # bytes that hold the end of a reply, and the line of a fault before it
 
 
 class Serve:
@@ -41,6 +43,30 @@ class Serve:
             raise refusal
         return text_of(reply, is_json, self._indexes)
 
+    def stream(self, query: bytes, is_json: bool, seconds: Optional[float] = None) -> Iterator[bytes]:
+        """Yields a page as `text` returns it, in pieces as the program writes them, each within `seconds`.
+
+        A program that ends meanwhile is started again, and goes on after the bytes that were given, unless it
+        ends twice without another one.
+        """
+        given, left = 0, 1
+        while True:
+            read = 0
+            try:
+                with contextlib.closing(self._pieces(query, is_json, seconds)) as pieces:
+                    for piece in pieces:
+                        read += len(piece)
+                        if read > given:
+                            yield piece[given - read :]
+                            given, left = read, 1
+                if read < given:
+                    raise ProgramError("the program has replied otherwise to the same query")
+                return
+            except ProgramEnded:
+                if not left:
+                    raise
+                left -= 1
+
     def end(self) -> None:
         """Ends the program, if it runs."""
         if self._process is not None:
@@ -48,7 +74,7 @@ class Serve:
 
     def _reply(self, asked: bytes, end: bytes, seconds: Optional[float], most: Optional[int]) -> bytes:
         """Returns the reply to what is asked, without the lines that end it."""
-        limit = None if seconds is None else time.monotonic() + seconds
+        limit = _limit(seconds)
         try:
             return self._try(asked, end, limit, most)
         except ProgramEnded:
@@ -68,27 +94,58 @@ class Serve:
             self._forget(process).wait()
             raise
 
+    def _pieces(self, query: bytes, is_json: bool, seconds: Optional[float]) -> Generator[bytes, None, None]:
+        process, held, is_first = self._running(), bytearray(), True
+        try:
+            limit = _limit(seconds)
+            self._ask(process, query + b"\n\n", limit)
+            while not is_whole(held, END):
+                if len(held) > TAIL:
+                    yield bytes(held[:-TAIL])
+                    del held[:-TAIL]
+                    is_first, limit = False, _limit(seconds)
+                held += self._read(process, limit)
+        except BaseException:
+            process.kill()
+            self._forget(process).wait()
+            raise
+        last = bytes(held[: -len(END)])
+        refusal = refusal_of(last) if is_first else None
+        if refusal is not None and self._reply(query + NOTHING + b"\n\n", END, seconds, None) == last:
+            raise refusal
+        yield text_of(last, is_json, self._indexes)
+
     def _exchange(
         self, process: subprocess.Popen[bytes], asked: bytes, end: bytes, limit: Optional[float], most: Optional[int]
     ) -> bytes:
-        assert process.stdin is not None and process.stdout is not None and self._said is not None
-        source, target = process.stdout.fileno(), process.stdin.fileno()
-        left = memoryview(asked)
-        with contextlib.suppress(BrokenPipeError):
-            while left:
-                _wait(target, select.POLLOUT, limit)
-                left = left[os.write(target, left) :]
+        self._ask(process, asked, limit)
         reply = bytearray()
         while not is_whole(reply, end):
-            _wait(source, select.POLLIN, limit)
-            piece = os.read(source, PIECE)
-            if not piece:
-                raise self._end_of(process, self._said)
-            reply += piece
+            reply += self._read(process, limit)
             if most is not None and len(reply) > most:
                 raise ReplyTooLong(f"the reply has more than {most} bytes")
         del reply[-len(end) :]
         return bytes(reply)
+
+    @staticmethod
+    def _ask(process: subprocess.Popen[bytes], asked: bytes, limit: Optional[float]) -> None:
+        assert process.stdin is not None
+        left = memoryview(asked)
+        with contextlib.suppress(BrokenPipeError):
+            while left:
+                try:
+                    left = left[os.write(process.stdin.fileno(), left) :]
+                except BlockingIOError:
+                    _wait(process.stdin, select.POLLOUT, limit)
+
+    def _read(self, process: subprocess.Popen[bytes], limit: Optional[float]) -> bytes:
+        assert process.stdout is not None and self._said is not None
+        if limit is not None:
+            _wait(process.stdout, select.POLLIN, limit)
+        piece = os.read(process.stdout.fileno(), PIECE)
+        if not piece:
+            raise self._end_of(process, self._said)
+        return piece
 
     @staticmethod
     def _end_of(process: subprocess.Popen[bytes], said: IO[bytes]) -> Error:
@@ -127,7 +184,12 @@ class Serve:
         return process
 
 
-def _wait(pipe: int, event: int, limit: Optional[float]) -> None:
+def _limit(seconds: Optional[float]) -> Optional[float]:
+    """Returns the moment at which seconds from now are over."""
+    return None if seconds is None else time.monotonic() + seconds
+
+
+def _wait(pipe: IO[bytes], event: int, limit: Optional[float]) -> None:
     """Waits until a pipe can be read or written, or has ended. Raises ReplyTooLate after a time."""
     poll = select.poll()
     poll.register(pipe, event)
