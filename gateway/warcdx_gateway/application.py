@@ -72,7 +72,7 @@ class Gateway:
         self.shares = shares
         self.metrics = metrics
         self._answers = Answers(settings.limits)
-        self.beat: Callable[[], None] = lambda: None  # tells the master that an answer goes on
+        self.beat: Callable[[], None] = lambda: None  # shows the master that an answer goes on
         found = list(own_rules())
         for name in MODULES:
             if importlib.util.find_spec(f"{__package__}.{name}") is not None:
@@ -183,8 +183,10 @@ class Gateway:
 
         The name of the host is the one that a browser looked up.
         """
-        field = request.environ.get("HTTP_HOST")
-        host = urlsplit(f"//{field or 'localhost'}").hostname or ""
+        try:
+            host = urlsplit(f"//{request.environ.get('HTTP_HOST') or 'localhost'}").hostname or ""
+        except ValueError:
+            host = ""
         if self.settings.is_local and is_loopback(host):
             return
         if host not in self.settings.hosts and "*" not in self.settings.hosts:

@@ -184,7 +184,7 @@ class Collection:
 
 
 def stamp_of(found: "map[os.stat_result]") -> Stamp:
-    """Returns what tells files from others that get their names."""
+    """Returns what differs if other files get the names."""
     return tuple(
         (each.st_dev, each.st_ino, each.st_size, each.st_mtime_ns, each.st_ctime_ns)
         for each in found

@@ -1,7 +1,7 @@
 """Conditions on captures that the gateway checks itself: texts and regular expressions."""
 import re
 import time
-from collections.abc import Callable, Sequence
+from collections.abc import Sequence
 from dataclasses import dataclass
 from enum import Enum
 from typing import Optional
@@ -54,38 +54,42 @@ class Conditions:
 
     def __init__(self, conditions: Sequence[Condition], seconds: float) -> None:
         self._left = seconds
-        self._tests = [self._test_of(condition) for condition in conditions]
+        self._end = 0.0
+        self._tests = [
+            (each, PLACES[each.field], compiled(each) if each.is_pattern else None)
+            for each in conditions
+        ]
 
     def select(self, rows: list[Row]) -> list[Row]:
         """Returns the rows for which all conditions hold. Raises Refusal if that takes too long."""
-        start = time.monotonic()
+        self._end = time.monotonic() + self._left
         try:
-            return [row for row in rows if all(test(row) for test in self._tests)]
+            for condition, place, pattern in self._tests:
+                is_wanted = not condition.is_negated
+                rows = [
+                    row for row in rows if self._holds(condition, pattern, row[place]) is is_wanted
+                ]
+            return rows
         finally:
-            self._left -= time.monotonic() - start
+            self._left = self._end - time.monotonic()
 
-    def _test_of(self, condition: Condition) -> Callable[[Row], bool]:
-        place, text, is_negated = PLACES[condition.field], condition.text, condition.is_negated
-        if condition.test is Test.EQUALS:
-            return lambda row: (row[place] == text) is not is_negated
-        if condition.test is Test.CONTAINS:
-            return lambda row: (text in row[place]) is not is_negated
-        pattern = compiled(condition)
+    def _holds(
+        self, condition: Condition, pattern: Optional["regex.Pattern[str]"], value: str
+    ) -> bool:
+        if pattern is None:
+            text, is_equal = condition.text, condition.test is Test.EQUALS
+            return value == text if is_equal else text in value
+        left = self._end - time.monotonic()
+        if left <= 0:
+            raise too_slow(condition)
+        if len(value) > LONGEST_VALUE:
+            cause = f"a value has more than {LONGEST_VALUE} characters"
+            raise Refusal("TooSlow", condition.parameter, cause, condition.text)
         match = pattern.fullmatch if condition.test is Test.MATCHES else pattern.match
-
-        def holds(row: Row) -> bool:
-            if self._left <= 0:
-                raise too_slow(condition)
-            if len(row[place]) > LONGEST_VALUE:
-                cause = f"a value has more than {LONGEST_VALUE} characters"
-                raise Refusal("TooSlow", condition.parameter, cause, condition.text)
-            try:
-                found = match(row[place], timeout=min(STEP, self._left))
-            except TimeoutError:
-                raise too_slow(condition) from None
-            return (found is not None) is not is_negated
-
-        return holds
+        try:
+            return match(value, timeout=min(STEP, left)) is not None
+        except TimeoutError:
+            raise too_slow(condition) from None
 
 
 def is_literal(text: str) -> bool:

@@ -3,6 +3,7 @@ import os
 import pathlib
 import resource
 import shutil
+import signal
 import socket
 import tempfile
 from collections.abc import Callable
@@ -16,6 +17,7 @@ import gunicorn.systemd
 from gunicorn.app.base import BaseApplication
 
 from warcdx import Error
+from warcdx.program import end_with_parent
 
 from .application import NAME, Gateway, say
 from .collection import Collection
@@ -115,6 +117,7 @@ class Server(BaseApplication):
         Master(self).run()
 
     def begin_worker(self, server: Master, worker: Any) -> None:
+        end_with_parent(worker.ppid, signal.SIGTERM)
         memory = self._settings.memory
         resource.setrlimit(resource.RLIMIT_AS, (memory, memory))
         self._metrics.sit()

@@ -79,17 +79,18 @@ def start(
 
 
 def _ending_with_starter() -> Optional[Callable[[], None]]:
-    """Returns what a new process does to be ended with the thread that has started it, if that is the main one."""
+    """Returns what a new process does to end with the thread that has started it, if that is the main one."""
     if threading.current_thread() is not threading.main_thread():
         return None  # the thread may end before the process
-    call, starter = _system_library().prctl, os.getpid()
+    _system_library()  # a new process loads nothing
+    return functools.partial(end_with_parent, os.getpid(), signal.SIGKILL)
 
-    def end_with_starter() -> None:
-        call(_PARENT_DEATH_SIGNAL, signal.SIGKILL, 0, 0, 0)
-        if os.getppid() != starter:
-            os._exit(1)
 
-    return end_with_starter
+def end_with_parent(parent: int, number: int) -> None:
+    """Lets the system send a signal to this process when the process ends that has started it (Linux)."""
+    _system_library().prctl(_PARENT_DEATH_SIGNAL, number, 0, 0, 0)
+    if os.getppid() != parent:
+        os.kill(os.getpid(), number)
 
 
 @functools.lru_cache(maxsize=None)
