@@ -3,9 +3,9 @@ import asyncio
 import unittest
 from collections.abc import Sequence
 from unittest import mock
+from urllib.parse import urlencode
 
-from aiohttp import web
-from aiohttp.test_utils import TestServer
+from werkzeug.wrappers import Request, Response
 
 from . import browse_support as support
 from . import chromium
@@ -20,7 +20,11 @@ OVERFLOW = "document.documentElement.scrollWidth - document.documentElement.clie
 
 
 @unittest.skipIf(chromium.PROGRAM is None, "chromium is missing (Debian's package chromium)")
-class Browsing(support.Pages):
+class Browsing(support.Pages, unittest.IsolatedAsyncioTestCase):
+    def setUp(self) -> None:
+        super().setUp()
+        self.root = self.enterContext(support.served(self.gateway))
+
     def fill(self, archives: Archives) -> None:
         archives.add("a.warc", [
             response(HOME, "2016-03-03T09:34:31Z", FIRST),
@@ -31,7 +35,7 @@ class Browsing(support.Pages):
         ])  # fmt: skip
 
     def address(self, path: str = "/browse") -> str:
-        return str(self.client.make_url(path))
+        return self.root + path
 
     async def test_a_reader_comes_from_the_search_to_a_payload(self) -> None:
         async with browser() as tab:
@@ -130,8 +134,10 @@ class Browsing(support.Pages):
     async def test_the_pages_fit_and_follow_the_scheme_of_colours(self) -> None:
         paths = [
             "/browse", "/crawl/browse/", "/crawl/browse/search?url=example.com&year=2016", "/crawl/browse/search?url=*.example.com",
-            "/crawl/browse/search?url=", "/crawl/browse/record?archive=a.warc&offset=0",
-            "/crawl/browse/compare?first=0+a.warc&second=" + str(self.offset_of_second()) + "+a.warc",
+            "/crawl/browse/search?url=",
+            "/crawl/browse/record?" + urlencode(self.place_at("a.warc", 0)),
+            "/crawl/browse/compare?"
+            + urlencode({"first": self.pair("a.warc", 0), "second": self.pair("a.warc", self.offset_of_second())}),
         ]  # fmt: skip
         async with browser() as tab:
             for width, height in WIDTHS:
@@ -161,24 +167,27 @@ class Browsing(support.Pages):
 
 
 @unittest.skipIf(chromium.PROGRAM is None, "chromium is missing (Debian's package chromium)")
-class Hostile(support.Pages):
+class Hostile(support.Pages, unittest.IsolatedAsyncioTestCase):
     """Pages of an archive that try to act, against a server that counts what reaches it."""
 
-    def fill(self, archives: Archives) -> None:
-        archives.put("index", b"")
-
-    async def asyncSetUp(self) -> None:
+    def setUp(self) -> None:
         self.reached: list[str] = []
         self.is_attacking = False
-        app = web.Application()
-        app.router.add_route("*", "/{path:.*}", self.trap)
-        trap = TestServer(app)
-        await trap.start_server()
-        self.addAsyncCleanup(trap.close)
-        self.evil = str(trap.make_url("/")).rstrip("/")
+        self.evil = self.enterContext(support.served(self.trap))
+        super().setUp()
+        self.root = self.enterContext(support.served(self.gateway))
+
+    @Request.application
+    def trap(self, request: Request) -> Response:
+        self.reached.append(request.path)
+        if self.is_attacking and request.path == "/attack":
+            return Response(self.attacks().replace(b"0;url", b"2;url"), content_type="text/html")
+        return Response("<script>top.hacked = 1</script>", content_type="text/html")
+
+    def fill(self, archives: Archives) -> None:
         html = self.attacks()
         date, self.names = "2016-03-03T00:00:00Z", ("html", "image", "svg", "xml", "split")
-        records = [
+        archives.add("hostile.warc", [
             response(HOME + "html", date, html),
             response(HOME + "image", date, html, "image/png"),
             response(HOME + "svg", date, self.svg(), "image/svg+xml"),
@@ -189,17 +198,7 @@ class Hostile(support.Pages):
                 html,
                 f"text/html\r\n\r\n<script>top.hacked=1</script>\r\nLocation: {self.evil}/split",
             ),
-        ]
-        self.archives.add("hostile.warc", records)
-        await super().asyncSetUp()
-
-    async def trap(self, request: web.Request) -> web.Response:
-        self.reached.append(request.path)
-        if self.is_attacking and request.path == "/attack":
-            return web.Response(
-                body=self.attacks().replace(b"0;url", b"2;url"), content_type="text/html"
-            )
-        return web.Response(text="<script>top.hacked = 1</script>", content_type="text/html")
+        ])  # fmt: skip
 
     def attacks(self) -> bytes:
         """Returns a page that tries to run scripts, to fetch, to send and to go elsewhere."""
@@ -226,12 +225,7 @@ a {{ position: fixed; left: 0; right: 0 }} #upper {{ top: 0; bottom: 50% }} #low
         ).encode()
 
     def address(self, name: str, page: str = "record") -> str:
-        place = self.place(HOME + name)
-        return str(
-            self.client.make_url(
-                f"/crawl/browse/{page}?archive={place['archive']}&offset={place['offset']}"
-            )
-        )
+        return f"{self.root}/crawl/browse/{page}?{urlencode(self.place(HOME + name))}"
 
     async def test_hostile_pages_get_nowhere(self) -> None:
         async with browser() as tab:
@@ -301,7 +295,7 @@ a {{ position: fixed; left: 0; right: 0 }} #upper {{ top: 0; bottom: 50% }} #low
             [
                 each
                 for each in sent
-                if not each.startswith((str(self.client.make_url("/")), "data:", "about:"))
+                if not each.startswith((self.root, "data:", "about:"))
             ],
         )
 

@@ -61,7 +61,10 @@ class Pages(Shared):
             for path in ("/cdx", "/cdx/search/cdx", "/web/timemap/cdx", "/main/cdx"):
                 with self.subTest(path + query):
                     found = self.server.ask(f"{path}?{query}")
-                    self.assertEqual((200, self.page(query)), (found.status, found.body))
+                    wanted = self.page(query)
+                    if "output=json" in query and wanted.count(b"\n") == 1:  # names alone
+                        wanted = b"[]\n"
+                    self.assertEqual((200, wanted), (found.status, found.body))
                     self.assertTrue(found.fields["content-type"].startswith(kind))
 
     def test_curl_encodes_the_query(self) -> None:
@@ -117,7 +120,10 @@ class Changed(Shared):
                     query = f"url=example.com/*&output={output}{fields}{rest}"
                     with self.subTest(query):
                         found = self.server.ask(f"/cdx?{query}&filter=offset:.*")
-                        self.assertEqual((200, self.page(query)), (found.status, found.body))
+                        wanted = self.page(query)
+                    if "output=json" in query and wanted.count(b"\n") == 1:  # names alone
+                        wanted = b"[]\n"
+                    self.assertEqual((200, wanted), (found.status, found.body))
 
     def test_values_of_other_programs_are_read_as_by_the_program(self) -> None:
         for field in (

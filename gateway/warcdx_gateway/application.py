@@ -2,6 +2,7 @@
 import contextlib
 import importlib.util
 import itertools
+import json
 import socket
 import struct
 import time
@@ -16,9 +17,9 @@ from werkzeug.wrappers import Request, Response
 
 from warcdx import Capture, Error, Fault, Refused, ReplyTooLate, ReplyTooLong, command
 
-from .answers import Answers, Clock
+from .answers import Answers, Clock, or_nothing
 from .collection import Collection
-from .parameters import Form
+from .parameters import Form, translated
 from .plan import Plan, plan_of
 from .refusal import Refusal, program_refusal
 from .rows import Output
@@ -34,7 +35,15 @@ KINDS = {
     Output.CDXJ: TEXT,
     Output.LINES: "text/x-ndjson; charset=utf-8",
 }
-WAYBACK_PATHS = ("/cdx", "/cdx/search/cdx", "/web/timemap/cdx")
+# The paths of the main collection in the form of the Internet Archive.
+WAYBACK_PATHS = (
+    "/cdx",
+    "/cdx/search",
+    "/cdx/search/cdx",
+    "/cdx/search/xd",
+    "/web/timemap/cdx",
+    "/web/timemap/json",
+)
 MODULES = ("memento", "clients", "browse")  # each has `rules(gateway)`
 MOST_BODY = 1 << 17  # bytes of a request
 SETTLED = 2  # seconds after which files of the same second have no other time
@@ -110,9 +119,19 @@ class Gateway:
             found.append(capture)
         return found
 
-    def answer(self, request: GatewayRequest, collection: Collection, form: Form) -> Response:
-        """Answers a query of the parameters of Wayback CDX servers, or of pywb."""
-        plan = plan_of(request.query_text, form, self.settings.limits)
+    def answer(
+        self,
+        request: GatewayRequest,
+        collection: Collection,
+        form: Form,
+        query: str | None = None,
+    ) -> Response:
+        """Answers a query of the parameters of Wayback CDX servers, or of pywb.
+
+        It is that of the request, unless one is given.
+        """
+        text = translated(request.query_text if query is None else query)
+        plan = plan_of(text, form, self.settings.limits)
         kind = Share.EXACT if plan.is_exact else Share.WIDE
         index, clock = collection.index, self.clock(kind)
         headers = validators(collection)
@@ -123,9 +142,18 @@ class Gateway:
 
         def pieces() -> Iterator[bytes]:
             with self.slot(kind):
-                yield from self._answers.pieces(plan, index, collection.tag, clock)
+                made = self._answers.pieces(plan, index, collection.tag, clock)
+                yield from or_nothing(made) if plan.is_array else made
 
         return streamed(pieces(), headers, kind_of(plan))
+
+    def rows(self, collection: Collection, query: str) -> list[list[str]]:
+        """Returns the rows of a query in the form of the Internet Archive, which names `fl`."""
+        plan = plan_of(f"{query}&output=json", Form.WAYBACK, self.settings.limits)
+        with self.slot(Share.WIDE):
+            clock = self.clock(Share.WIDE)
+            made = self._answers.pieces(plan, collection.index, collection.tag, clock)
+            return list(json.loads(b"".join(made)))[1:]
 
     def __call__(self, environ: dict[str, Any], start_response: Any) -> Iterable[bytes]:
         start, request = time.monotonic(), GatewayRequest(environ)
@@ -247,27 +275,8 @@ def rule(path: str, handler: Handler, methods: Iterable[str] = METHODS) -> Rule:
 
 
 def own_rules() -> Iterator[Rule]:
-    for path in WAYBACK_PATHS:
-        yield rule(path, answer_wayback)
-    yield rule("/<collection>/cdx", answer_wayback)
-    yield rule("/<collection>/index", answer_pywb)
-    yield rule("/", list_collections)
     yield rule("/health", health)
     yield rule("/metrics", show_metrics)
-
-
-def answer_wayback(gateway: Gateway, request: GatewayRequest, collection: str = "") -> Response:
-    found = gateway.collection(collection) if collection else gateway.main
-    return gateway.answer(request, found, Form.WAYBACK)
-
-
-def answer_pywb(gateway: Gateway, request: GatewayRequest, collection: str) -> Response:
-    return gateway.answer(request, gateway.collection(collection), Form.PYWB)
-
-
-def list_collections(gateway: Gateway, request: GatewayRequest) -> Response:
-    lines = (f"/{each.name}/cdx\t{each.title}\n" for each in gateway.collections.values())
-    return Response("".join(lines), content_type=TEXT)
 
 
 def health(gateway: Gateway, request: GatewayRequest) -> Response:

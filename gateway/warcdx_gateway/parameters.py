@@ -1,6 +1,7 @@
 """The parameters of a query: their names, and what the value of each may be."""
 import re
 from collections.abc import Callable
+from datetime import datetime, timezone
 from enum import Enum
 from urllib.parse import quote_plus, unquote_to_bytes
 
@@ -8,7 +9,7 @@ from warcdx import FIELDS
 
 from .conditions import Condition, Test, compiled, is_literal
 from .refusal import Refusal
-from .rows import ORIGINALS, Collapse
+from .rows import GROUPED, ORIGINALS, UNKNOWN, Collapse
 from .settings import Limits
 
 PATTERNS = (Test.MATCHES, Test.BEGINS)
@@ -25,7 +26,15 @@ SORTS = ("default", "regular", "reverse", "closest")
 MATCHES = ("exact", "prefix", "host", "domain")
 RESUME_KEY = re.compile("[^ ]* [0-9]{14} .+ [0-9]+", re.DOTALL)
 MOST_DIGITS = 7
+CLIENT_FLAGS = frozenset(
+    "fastLatest gzip lastSkipTimestamp omitSelfRedirects resolveRevisits reverse showDupeCount "
+    "showGroupCount showNumPages showPagedIndex showResumeKey showSkipCount showUniqCount".split()
+)
+# Parameters that change no answer here: a number against caches, the name of a function of a page's
+# script, and what depends on columns that indexes in CDXJ don't have.
+IGNORED = frozenset(("_", "callback", "omitSelfRedirects"))
 FIELD_LIST = ", ".join(FIELDS)
+KNOWN = frozenset((*FIELDS, "dupecount", *UNKNOWN, *GROUPED, *ORIGINALS))
 
 
 class Form(Enum):
@@ -84,7 +93,7 @@ def check_sort(name: str, value: str) -> None:
 
 def check_fields(name: str, value: str) -> None:
     for field in value.split(","):
-        if PYWB_NAMES.get(field, field) not in (*FIELDS, "dupecount", *ORIGINALS):
+        if PYWB_NAMES.get(field, field) not in KNOWN:
             raise Refusal(
                 "BadField",
                 name,
@@ -130,6 +139,9 @@ SINGLE: dict[str, Callable[[str, str], None]] = {
     "reverse": check_flag,
     "resolveRevisits": check_flag,
     "showDupeCount": check_flag,
+    "showGroupCount": check_flag,
+    "showUniqCount": check_flag,
+    "offset": check_number,
     "showSkipCount": check_false,
     "lastSkipTimestamp": check_false,
 }
@@ -257,3 +269,29 @@ class Given:
         url = self.values.get("url", "")
         has_star = url.startswith("*.") or url.endswith("*")
         return self.values.get("matchType", "prefix" if has_star else "exact") == "exact"
+
+
+def translated(query: str) -> str:
+    """Returns a query of a client in the words of the gateway. What it doesn't know stays."""
+    pieces = []
+    pairs = [(piece, *unquoted(*piece.partition("=")[::2])) for piece in query.split("&")]
+    has_time = all(value for _, name, value in pairs if name == "closest")
+    for piece, name, value in pairs:
+        if name in CLIENT_FLAGS and value in ("True", "False"):
+            piece, value = f"{name}={value.lower()}", value.lower()
+        if name == "closest" and value == "now":
+            piece = f"closest={datetime.now(timezone.utc):%Y%m%d%H%M%S}"
+        elif name == "output" and value == "txt":
+            piece = "output=text"
+        elif name == "collapseTime":
+            piece = f"collapse=timestamp:{value}"
+        elif name == "showPagedIndex" and value == "true":
+            raise Refusal("Unknown", name, "the indexes of this server have no blocks", value)
+        is_dropped = (
+            name in IGNORED
+            or (name, value) in (("limit", "0"), ("page", "/"), ("showPagedIndex", "false"))
+            or (name, value, has_time) == ("sort", "closest", False)
+        )
+        if not is_dropped:
+            pieces.append(piece)
+    return "&".join(pieces)
