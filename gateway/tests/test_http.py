@@ -3,7 +3,7 @@ import json
 import subprocess
 import unittest
 
-from .support import PROGRAM, ROOT, SAMPLE, Case, Shared, connected, lines
+from .support import PROGRAM, ROOT, SAMPLE, WAIT, Case, Shared, connected, lines
 
 
 class Http(Shared):
@@ -195,7 +195,9 @@ class Starts(Case):
 
     def fails(self, *arguments: str) -> str:
         command = ("/usr/bin/python3", ROOT / "gateway/bin/warcdx-gateway", *arguments)
-        done = subprocess.run(command, stdout=subprocess.PIPE, stderr=subprocess.PIPE, text=True)
+        done = subprocess.run(
+            command, stdout=subprocess.PIPE, stderr=subprocess.PIPE, text=True, timeout=WAIT
+        )
         self.assertEqual(
             (1, "", 1), (done.returncode, done.stdout, done.stderr.count("\n")), done.stderr
         )

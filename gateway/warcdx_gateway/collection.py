@@ -6,14 +6,16 @@ import pathlib
 import time
 from collections.abc import Sequence
 from typing import Any, Optional
+from urllib.parse import quote_plus
 
-from warcdx import Error, Fault, Index, command
+from warcdx import Error, Fault, Index, Refused, command
 from warcdx.errors import fault
 
 from .settings import CollectionSettings, Settings
 
 LOOKS = 0.25  # seconds between two looks at the files
 MOST_REPLY = 8 << 20  # bytes of a reply, unless no shorter one can be had
+MOST_END = 1 << 16  # bytes in which the last line of an index is looked for
 CHECK_SECONDS = 10  # for the first queries of an index
 MOST_SUMMARY = 16 << 20  # bytes
 SUMMARY = ".summary.json"  # what is added to the name of an index
@@ -47,11 +49,13 @@ class Generation:
         return Index(names, program=program, processes=2, seconds=seconds, most=MOST_REPLY)
 
     def check(self, program: str) -> None:
-        """Asks the new files. Raises an Error of the package if they aren't indexes."""
+        """Asks for the ends of the new files. Raises an Error of the package at what is no index."""
         with self.index(program, CHECK_SECONDS) as index:
-            for query in CHECKS:
+            for query in (*CHECKS, *map(query_of_end, self.files)):
                 try:
                     index.text(query)
+                except Refused:
+                    continue  # the last line has no key for a query
                 except Fault as error:
                     number = int(str(error.file).rpartition("/")[2])
                     path = str(self._paths[self.files.index(number)])
@@ -181,6 +185,15 @@ class Collection:
                 raise
             generation.close()
         raise OSError("the indexes are being changed")
+
+
+def query_of_end(file: int) -> str:
+    """Returns a query for the last line of a file, as far as its key is short enough for one."""
+    size = os.fstat(file).st_size
+    tail = os.pread(file, MOST_END, max(size - MOST_END, 0)) if size else b""
+    key, _, rest = tail.removesuffix(b"\n").rpartition(b"\n")[2].partition(b" ")
+    place = f"{quote_plus(key)}+{quote_plus(rest[:14])}+%21+0"
+    return f"key={quote_plus(key)}&resumeKey={place}&fl=offset"
 
 
 def stamp_of(found: "map[os.stat_result]") -> Stamp:
