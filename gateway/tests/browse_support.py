@@ -20,6 +20,7 @@ import tempfile
 import threading
 import unicodedata
 import unittest
+import zlib
 from collections.abc import Iterator, Sequence
 from html.parser import HTMLParser
 from typing import Any, Optional
@@ -39,6 +40,7 @@ from warcdx_gateway.shared import Metrics, Shares  # noqa: E402
 PROGRAM = os.environ.get("WARCDX", "warcdx")
 SAMPLES = GATEWAY.parent / "samples"
 HTML = "text/html; charset=utf-8"
+MEGABYTE = 1 << 20
 
 
 def digest_of(payload: bytes) -> str:
@@ -96,6 +98,17 @@ def revisit(address: str, date: str, body: bytes, refers_to: str = "") -> bytes:
 def page(title: str, *paragraphs: str) -> bytes:
     body = "".join(f"<p>{html.escape(each)}</p>" for each in paragraphs)
     return f"<!DOCTYPE html><title>{title}</title><h1>{title}</h1>{body}".encode()
+
+
+@functools.cache
+def bomb(start: bytes = b"") -> bytes:
+    """Returns a member of gzip that unpacks to a start and 300 MB of zeros."""
+    packer, zeros = zlib.compressobj(1, zlib.DEFLATED, 31), bytes(MEGABYTE)
+    return (
+        packer.compress(start)
+        + b"".join(packer.compress(zeros) for _ in range(300))
+        + packer.flush()
+    )
 
 
 class Archives:

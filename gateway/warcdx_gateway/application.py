@@ -159,7 +159,9 @@ class Gateway:
         start, request = time.monotonic(), GatewayRequest(environ)
         name, response = self._response(request)
         response.headers.setdefault("X-Content-Type-Options", "nosniff")
-        if name and (origin := self._allowed_origin(request)):
+        # What a browser shows, with a policy of its own, is for readers alone.
+        is_shown = "Content-Security-Policy" in response.headers
+        if name and not is_shown and (origin := self._allowed_origin(request)):
             response.headers["Access-Control-Allow-Origin"] = origin
             response.headers["Access-Control-Expose-Headers"] = "ETag, Last-Modified, Link"
             if origin != "*":

@@ -206,12 +206,14 @@ class Download:
         if piece is None:
             piece = self._next()
         if not piece:
-            self.close()  # which raises why the record has ended, if that is too early
+            self._stack.close()  # which raises why the record has ended, if that is too early
             raise StopIteration
         return piece
 
     def close(self) -> None:
-        self._stack.close()
+        """Ends what is still read, after a client has left."""
+        with contextlib.suppress(NotShown):
+            self._stack.close()
 
     def _next(self) -> bytes:
         try:

@@ -29,6 +29,9 @@ class NotShown(Exception):
         self.why = why
         self.status = status
 
+    def __str__(self) -> str:
+        return f"{self.what} {self.why}"
+
 
 # Why the program refuses a query, by the names that docs/QUERY.md has.
 REASONS = {

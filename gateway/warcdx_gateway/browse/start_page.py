@@ -51,7 +51,8 @@ def _summary(summary: Mapping[str, Any]) -> list[Child]:
     if (size := _number(summary.get("bytes"))) is not None:
         facts.append(f" of {in_units(size)}")
     if isinstance(made := summary.get("made"), str):
-        facts.append(f", as of {cut(made, 40)}")
+        timestamp = dates.timestamp_of(made)
+        facts.append(f", as of {dates.in_words(timestamp) if timestamp else cut(made, 40)}")
     found: list[Child] = [element("p", facts, ".", class_="held")] if facts else []
     counted = _counts(summary.get("years"))
     years = {year: count for year, count in counted.items() if _YEAR.fullmatch(year)}
@@ -67,8 +68,12 @@ def _summary(summary: Mapping[str, Any]) -> list[Child]:
             )
         )
     tables = [
-        _table(words, name, _counts(summary.get(name)))
-        for name, words in (("hosts", "Hosts"), ("types", "Types"), ("statuses", "Statuses"))
+        _table(words, one, _counts(summary.get(name)))
+        for name, words, one in (
+            ("hosts", "Hosts", "Host"),
+            ("types", "Types", "Type"),
+            ("statuses", "Statuses", "Status"),
+        )
     ]
     found.append(element("div", tables, class_="columns"))
     found.append(_damaged(summary.get("damaged")))
@@ -85,14 +90,14 @@ def _counts(value: object) -> dict[str, int]:
     return {str(name): count for name, count in value.items() if _number(count) is not None}
 
 
-def _table(words: str, name: str, counts: Mapping[str, int]) -> Child:
+def _table(words: str, one: str, counts: Mapping[str, int]) -> Child:
     """Returns the values with the most captures. Hosts are links to their captures."""
     if not counts:
         return None
-    names = {"value": words.removesuffix("s").removesuffix("e"), "count": "Captures"}
+    names = {"value": one, "count": "Captures"}
     most = sorted(counts.items(), key=lambda each: -each[1])[:MOST_ROWS]
     rows = (
-        row(names, _host(value) if name == "hosts" else cut(value, _MOST_NAME), f"{count:,}")
+        row(names, _host(value) if one == "Host" else cut(value, _MOST_NAME), f"{count:,}")
         for value, count in most
     )
     return element(
@@ -114,9 +119,10 @@ def _damaged(value: object) -> Child:
     names = {"archive": "Archive", "offset": "At byte", "cause": "Cause"}
     rows = []
     for each in value[:MOST_DAMAGED]:
-        fields = [str(each.get(name, "-")) for name in names] if isinstance(each, dict) else []
-        if fields:
-            rows.append(row(names, *(element("bdi", cut(text, _MOST_NAME)) for text in fields)))
+        if isinstance(each, dict):
+            fields = (each.get(name, "-") for name in names)
+            texts = (f"{field:,}" if type(field) is int else str(field) for field in fields)
+            rows.append(row(names, *(element("bdi", cut(text, _MOST_NAME)) for text in texts)))
     rest = len(value) - MOST_DAMAGED
     return element(
         "section",
