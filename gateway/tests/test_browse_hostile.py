@@ -110,7 +110,7 @@ class Indexes(support.Pages):
                 archive=MARKUP,
                 offset=0,
                 timestamp="20160304000000",
-                key=MARKUP,
+                key=MARKUP.replace(" ", ""),
                 what="record",
                 first=f"0 20160304000000 {HOME} {MARKUP}",
                 second=f"0 20160304000000 {HOME} {MARKUP}",

@@ -63,10 +63,10 @@ class Histories(unittest.TestCase):
                 def ask(query: str, limit: int) -> list[Capture]:
                     nonlocal asked
                     asked += 1
-                    found = dict(re.findall("(from|to)=([0-9]{14})", query))
-                    low, high = found.get("from", "0"), found.get("to", "9" * 14)
-                    chosen = (each for each in all_captures if int(low) <= int(each.timestamp) <= int(high))
-                    return list(chosen)[:limit]
+                    after = re.search("resumeKey=k\\+([0-9]{14})", query)
+                    last = int(after[1]) if after else -1
+                    chosen = [each for each in all_captures if int(each.timestamp) > last]
+                    return chosen[:limit]
 
                 with mock.patch.object(histories, "MOST", most):
                     history = History(ask, key="k")

@@ -15,6 +15,8 @@ Ask = Callable[[str, int], list[Capture]]
 FIRST, LAST = 0, 10**14 - 1  # timestamps as numbers
 MOST = 200  # captures that are read at once
 REVISIT = "warc/revisit"
+# A file name and an offset that are after all others.
+_LAST_PLACE = "\U0010ffff 9223372036854775807"
 _SHA1 = re.compile("^sha1:", re.IGNORECASE)
 
 
@@ -107,11 +109,41 @@ class History:
     def _between(self, low: int, high: int, most: int = MOST) -> list[Capture]:
         if self._start is None:
             self._start = self._ask(self._target, MOST)
-        if len(self._start) < MOST:
-            return [each for each in self._start if low <= int(each.timestamp) <= high][:most]
-        if low > high:
-            return []
-        return self._ask(f"{self._target}&from={low:014}&to={high:014}", most)
+        found = self._start
+        if len(found) == MOST and low <= high:
+            # A resume key is searched for, while all captures before `from` are read.
+            after = before_time(found[0].urlkey, low)
+            found = self._ask(f"{self._target}{after}", most)
+        return [each for each in found if low <= int(each.timestamp) <= high][:most]
+
+
+def capture_at(ask: Ask, place: Capture) -> Optional[Capture]:
+    """Returns the capture of an index that has the key, timestamp, file name and offset of a place."""
+    after = before_time(place.urlkey, int(place.timestamp))
+    if place.offset:
+        after = resumed(place_of(place._replace(offset=place.offset - 1)))
+    while True:
+        found = ask(f"key={quoted(place.urlkey)}{after}", 1 if place.offset else MOST)
+        for each in found:
+            if place_of(each) == place_of(place):
+                return each
+        if place.offset or len(found) < MOST or found[-1].timestamp != place.timestamp:
+            return None
+        after = resumed(place_of(found[-1]))
+
+
+def place_of(capture: Capture) -> str:
+    """Returns the place of a capture as a resume key, which isn't form-encoded yet."""
+    return f"{capture.urlkey} {capture.timestamp} {capture.filename} {capture.offset}"
+
+
+def before_time(key: str, timestamp: int) -> str:
+    """Returns the parameter with which a query begins at the captures of a key from a time on."""
+    return resumed(f"{key} {timestamp - 1:014} {_LAST_PLACE}") if timestamp > 0 else ""
+
+
+def resumed(place: str) -> str:
+    return f"&resumeKey={quoted(place)}"
 
 
 def original_of(ask: Ask, head: Head) -> Optional[Capture]:

@@ -7,14 +7,14 @@ from warcdx import Capture
 from ..answers import Source
 from ..application import Gateway
 from ..collection import Collection
-from ..history import REVISIT
+from ..history import REVISIT, place_of
 from ..shared import Share
 from . import dates
 from .counting import count_of_url
 from .layout import row, table
 from .markup import MOST_LINK, Child, Link, Markup, cut, element, followed, joined, link
 from .places import record_link, text_of
-from .searching import Search, place_of, quoted
+from .searching import Search, quoted
 
 SIZE = 50  # rows of a page
 _MOST_ADDRESS = 300  # characters of an address that are shown in a list

@@ -1,4 +1,5 @@
 """Where records are, as the links to them say it: only what an index names is read."""
+import functools
 import re
 from collections.abc import Mapping
 from dataclasses import dataclass
@@ -7,8 +8,9 @@ from warcdx import Capture
 
 from ..application import Gateway
 from ..collection import Collection
+from ..history import History, capture_at
 from .markup import Link, link
-from .searching import NotShown, quoted
+from .searching import NotShown
 
 _OFFSET = re.compile("[0-9]{1,19}")
 _TIMESTAMP = re.compile("[0-9]{14}")
@@ -46,27 +48,29 @@ class Place:
                 "The offset of the record was refused.",
                 "An offset is a number of bytes below 2^63.",
             )
-        if not _TIMESTAMP.fullmatch(timestamp) or not (key or url):
+        if not _TIMESTAMP.fullmatch(timestamp) or not (key or url) or " " in key or not filename:
             raise NotShown(
                 "The link to the record was refused.",
-                "It has the URL key of the capture, and its timestamp of 14 digits.",
+                "It has the URL key of the capture, its timestamp of 14 digits and its file name.",
             )
         return cls(filename, int(offset), timestamp, key, url)
 
     def capture(self, gateway: Gateway, collection: Collection) -> Capture:
         """Returns the line of an index that names the record. Raises NotShown if there is none."""
-        target = f"key={quoted(self.key)}" if self.key else f"url={quoted(self.url)}"
-        times = f"from={self.timestamp}&to={self.timestamp}"
-        place = f"is=filename:{quoted(self.filename)}&is=offset:{self.offset}"
-        query = f"{target}&matchType=exact&{times}&{place}"
-        found = gateway.captures(collection, query, 1)
-        if not found:
+        ask, key = functools.partial(gateway.captures, collection), self.key
+        if not key:
+            first = History(ask, url=self.url).first()
+            key = first.urlkey if first else ""
+        none = ("-",) * 4
+        place = Capture(key, self.timestamp, *none, None, self.offset, self.filename)
+        found = capture_at(ask, place) if key else None
+        if found is None:
             raise NotShown(
                 "There is no such record.",
                 "No index of the collection names a record at this place.",
                 404,
             )
-        return found[0]
+        return found
 
 
 def text_of(capture: Capture) -> str:

@@ -5,8 +5,6 @@ from dataclasses import dataclass, replace
 from typing import Optional
 from urllib.parse import quote_plus
 
-from warcdx import Capture
-
 from . import dates
 from .markup import Link, link
 
@@ -134,8 +132,3 @@ class Search:
 
 def quoted(value: str) -> str:
     return quote_plus(value, errors="replace")
-
-
-def place_of(capture: Capture) -> str:
-    """Returns the place of a capture as a resume key, which isn't form-encoded yet."""
-    return f"{capture.urlkey} {capture.timestamp} {capture.filename} {capture.offset}"
