@@ -125,7 +125,7 @@ def outback(gateway: Gateway, request: GatewayRequest, collection: str) -> Respo
     """Answers as OutbackCDX does: eleven columns, or the XML of OpenWayback with `q`."""
     found = gateway.collection(collection)
     if "q" in request.args:
-        return xml_query(gateway, found, request.args["q"])
+        return xml_query(gateway, found, request.args)
     if not request.query_string:
         return Response(b"", 302, {"Location": f"{request.path.rstrip('/')}/browse/"})
     query = request.query_text
@@ -134,21 +134,27 @@ def outback(gateway: Gateway, request: GatewayRequest, collection: str) -> Respo
     return gateway.answer(request, found, Form.WAYBACK, query)
 
 
-def xml_query(gateway: Gateway, collection: Collection, text: str) -> Response:
+def xml_query(
+    gateway: Gateway, collection: Collection, sent: "MultiDict[str, str]"
+) -> Response:
     """Answers a query of OpenWayback: a `type:`, urlquery or prefixquery, and `url:` of a URL."""
-    given = {name: unquote_plus(value) for name, value in _PAIR.findall(text)}
-    kind, limit = given.get("type", "urlquery"), given.get("limit", str(MOST_RESULTS))
+    given = {name: unquote_plus(value) for name, value in _PAIR.findall(sent["q"])}
+    kind = given.get("type", "urlquery")
     if kind not in ("urlquery", "prefixquery"):
         raise Refusal("BadQuery", "q", "its type is urlquery or prefixquery", kind)
-    if not (is_number(limit) and 0 < int(limit) <= MOST_RESULTS):
-        raise Refusal("BadLimit", "q", f"its limit is a number from 1 to {MOST_RESULTS}", limit)
+    limit = given.get("limit") or sent.get("count") or str(MOST_RESULTS)
+    page = sent.get("start_page") or "1"
+    for name, value in (("limit", limit), ("start_page", page)):
+        if not (is_number(value) and 0 < int(value[:9]) <= MOST_RESULTS):
+            raise Refusal("BadLimit", name, f"it is a number from 1 to {MOST_RESULTS}", value)
+    first = (int(page) - 1) * int(limit)
     if not given.get("url"):
         raise Refusal("NoUrl", "q", "it has no url:URL")
     names, match = CAPTURE_MEMBERS, "exact"
     if kind == "prefixquery":
         names, match = URL_MEMBERS, "prefix&collapse=urlkey"
     times = {"from": given.get("startdate", ""), "to": given.get("enddate", "")}
-    query = f"url={quoted(given['url'])}&matchType={match}&limit={limit}"
+    query = f"url={quoted(given['url'])}&matchType={match}&limit={limit}&offset={first}"
     query += "".join(f"&{name}={quoted(value)}" for name, value in times.items() if value)
     rows = gateway.rows(collection, f"{query}&fl={','.join(names.values())}")
     results = [dict(zip(names, row)) for row in rows]
@@ -156,7 +162,7 @@ def xml_query(gateway: Gateway, collection: Collection, text: str) -> Response:
         "startdate": times["from"] or "19960101000000",
         "enddate": times["to"] or f"{datetime.now(timezone.utc):%Y%m%d%H%M%S}",
         "type": kind,
-        "firstreturned": "0",
+        "firstreturned": str(first),
         "url": results[0]["urlkey"] if results else given["url"],
         "resultsrequested": limit,
         "resultstype": "resultstypecapture" if kind == "urlquery" else "resultstypeurl",
