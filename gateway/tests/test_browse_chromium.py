@@ -264,6 +264,17 @@ a {{ position: fixed; left: 0; right: 0 }} #upper {{ top: 0; bottom: 50% }} #low
             self.assertIsNone(await tab.evaluate("window.hacked"))
             self.assertEqual([], self.reached)
 
+    async def test_a_capture_as_it_was_archived_gets_nowhere(self) -> None:
+        async with browser() as tab:
+            for name in ("html", "svg", "xml"):
+                url = f"{self.root}/crawl/20160303000000id_/{HOME}{name}"
+                await tab.open(url)
+                await asyncio.sleep(0.5)
+                self.assertEqual(url, await tab.evaluate("location.href"))
+                self.assertEqual("null", await tab.evaluate("self.origin"))
+                self.assertIsNone(await tab.evaluate("window.hacked"), name)
+                self.assertEqual([], self.reached, name)
+
     async def test_the_same_pages_act_without_the_policy(self) -> None:
         """Shows that the attacks of these tests work, if nothing holds them."""
         self.is_attacking = True
