@@ -205,6 +205,18 @@ class Raw(support.Pages):
             response("http://example.com/gone", DATE, b"gone", "text/plain", status="410 Gone"),
             response("http://example.com/moved", DATE, b"", status="302 Found", http=["Location: /page?a=b&c=%20d"]),
             response("http://example.com/script", DATE, b"", status="302 Found", http=["Location: javascript:alert(1)"]),
+            *(
+                response(
+                    f"http://example.com/{name}",
+                    DATE,
+                    b"",
+                    status="301 Moved Permanently",
+                    http=[f"Location: https://example.com/{name}"],
+                )
+                for name in ("secure", "later", "alone")
+            ),
+            response("https://example.com/secure", DATE, b"secure"),
+            response("https://example.com/later", LATER, b"secure"),
             response("http://example.com/chunks", DATE, chunked, http=["Transfer-Encoding: chunked"]),
             response("http://example.com/packed", DATE, packed, http=["Content-Encoding: gzip"]),
             response("http://example.com/brotli", DATE, b"\x0b\x02\x80text\x03", http=["Content-Encoding: br"]),
@@ -257,6 +269,21 @@ class Raw(support.Pages):
         self.assertEqual("/page?a=b&c=%20d", answer.headers["X-Archive-Orig-Location"])
         answer = self.raw("http://example.com/script")
         self.assertNotIn("Location", answer.headers)
+
+    def test_a_redirect_to_another_spelling_never_leads_to_itself(self) -> None:
+        """A crawl has http and https in one second, or at other times, under one URL key."""
+        for name, wanted in (
+            ("secure", "20160303093431id_/https://example.com/secure"),
+            ("later", "20170101000000id_/https://example.com/later"),
+        ):
+            answer = self.raw(f"http://example.com/{name}")
+            self.assertEqual(301, answer.status_code)
+            location = answer.headers["Location"]
+            self.assertEqual(f"http://localhost/crawl/{wanted}", location)
+            answer = self.client.get(location.removeprefix("http://localhost"))
+            self.assertEqual((200, b"secure"), (answer.status_code, answer.data))
+        answer = self.raw("http://example.com/alone")
+        self.assertEqual((301, None), (answer.status_code, answer.headers.get("Location")))
 
     def test_a_revisit_has_the_payload_of_its_original(self) -> None:
         answer = self.raw(PAGE, "20170101000000")

@@ -217,7 +217,7 @@ def _available(
     with contextlib.suppress(NotFound):
         resource = memento.Resource.of(gateway, request, "", url)
         codes = given.getlist("statuscodes")[:10] or ["200"]
-        found = [resource.history.of_status(code).nearest(wanted) for code in codes]
+        found = [resource.history.where("statuscode", code).nearest(wanted) for code in codes]
         moment = seconds_of(wanted)
         distances = {abs(seconds_of(each.timestamp) - moment): each for each in filter(None, found)}
         nearest = distances[min(distances)] if distances else None

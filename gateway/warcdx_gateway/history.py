@@ -28,15 +28,15 @@ class History:
     """
 
     def __init__(self, ask: Ask, *, url: str = "", key: str = "") -> None:
-        self._ask = ask
+        self.ask = ask
         self._start: Optional[list[Capture]] = None  # the first captures
         target = f"key={quoted(key)}" if key else f"url={quoted(url)}"
         self._target = f"{target}&matchType=exact"
 
-    def of_status(self, status: str) -> "History":
-        """Returns the history of the captures with a status."""
-        found = History(self._ask)
-        found._target = f"{self._target}&is=statuscode:{quoted(status)}"
+    def where(self, field: str, value: str) -> "History":
+        """Returns the history of the captures with a value."""
+        found = History(self.ask)
+        found._target = f"{self._target}&is={field}:{quoted(value)}"
         return found
 
     def first(self) -> Optional[Capture]:
@@ -108,12 +108,12 @@ class History:
 
     def _between(self, low: int, high: int, most: int = MOST) -> list[Capture]:
         if self._start is None:
-            self._start = self._ask(self._target, MOST)
+            self._start = self.ask(self._target, MOST)
         found = self._start
         if len(found) == MOST and low <= high:
             # A resume key is searched for, while all captures before `from` are read.
             after = before_time(found[0].urlkey, low)
-            found = self._ask(f"{self._target}{after}", most)
+            found = self.ask(f"{self._target}{after}", most)
         return [each for each in found if low <= int(each.timestamp) <= high][:most]
 
 

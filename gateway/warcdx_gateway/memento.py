@@ -248,8 +248,7 @@ def _archived(
     kind, text = record.head.field("Content-Type") or "", record.http_head
     head = None if text is None else HttpHead.of(text)
     if record.head.kind == "revisit":
-        ask = functools.partial(gateway.captures, resource.collection)
-        original = original_of(ask, record.head)
+        original = original_of(resource.history.ask, record.head)
         if original is None:
             why = "No index has a capture with its digest."
             raise NotShown("The original of the revisit isn't here.", why, 404)
@@ -290,13 +289,21 @@ def _accepts(request: Request, named: list[bytes]) -> bool:
 
 
 def _capture_of(resource: Resource, capture: Capture, target: str) -> str:
-    """Returns the URL of the capture of a redirect's target, or no text if it is no web page."""
+    """Returns the URL of the capture of a redirect's target, or no text if there can't be one.
+
+    A redirect to another spelling of its URL, such as https, has the same URL key. It leads to a
+    capture of that spelling, and never to itself.
+    """
     try:
         url = urljoin(capture.original, target.strip())
     except ValueError:
         url = ""
     if not url.startswith(("http://", "https://")):
         return ""
+    history = History(resource.history.ask, url=url)
+    if history.nearest(capture.timestamp, url) == capture:
+        other = history.where("original", url).nearest(capture.timestamp)
+        return resource.memento(other) if other else ""
     return f"{resource.root}/{capture.timestamp}id_/{escaped(url)}"
 
 
