@@ -67,9 +67,15 @@ def record(
 
 
 def response(
-    address: str, date: str, body: bytes, content_type: Optional[str] = HTML, *, status: str = "200 OK",
-    http: Sequence[str] = (), fields: Sequence[str] = (),
-) -> bytes:  # fmt: skip
+    address: str,
+    date: str,
+    body: bytes,
+    content_type: Optional[str] = HTML,
+    *,
+    status: str = "200 OK",
+    http: Sequence[str] = (),
+    fields: Sequence[str] = (),
+) -> bytes:
     """Returns a response record."""
     typed = [f"Content-Type: {content_type}"] if content_type is not None else []
     head = "\r\n".join([f"HTTP/1.1 {status}", *typed, *http, "", ""]).encode(
@@ -81,8 +87,8 @@ def response(
 
 def revisit(address: str, date: str, body: bytes, refers_to: str = "") -> bytes:
     """Returns a revisit record without a payload, whose digest is that of the body."""
-    fields = [f"WARC-Payload-Digest: {digest_of(body)}",
-              "WARC-Profile: http://netpreserve.org/warc/1.1/revisit/identical-payload-digest"]  # fmt: skip
+    profile = "http://netpreserve.org/warc/1.1/revisit/identical-payload-digest"
+    fields = [f"WARC-Payload-Digest: {digest_of(body)}", f"WARC-Profile: {profile}"]
     if refers_to:
         fields += [f"WARC-Refers-To-Target-URI: {address}", f"WARC-Refers-To-Date: {refers_to}"]
     return record(
@@ -173,7 +179,8 @@ class Archives:
             "digest": "-",
             "length": "1",
         }
-        return f"{key} {stamp} {json.dumps({**members, 'offset': str(offset), 'filename': filename, **more})}\n".encode()
+        members.update(offset=str(offset), filename=filename, **more)
+        return f"{key} {stamp} {json.dumps(members)}\n".encode()
 
     def collection(self, name: str = "crawl", title: str = "A crawl") -> CollectionSettings:
         return CollectionSettings(name, title, tuple(self.indexes), (self.archives,))
@@ -274,12 +281,15 @@ class Pages(unittest.TestCase):
 
 
 _ELEMENTS = frozenset(
-    "a b bdi body button caption code dd del details div dl dt footer form g h1 h2 h3 head header hgroup html iframe input ins "
-    "label li line link main meta nav ol option p rect section select span strong summary svg table tbody td text th thead "
-    "time title tr ul".split()
+    "a b bdi body button caption code dd del details div dl dt footer form g h1 h2 h3 head header "
+    "hgroup html iframe input ins label li line link main meta nav ol option p rect section select "
+    "span strong summary svg table tbody td text th thead time title tr ul".split()
 )
-_PAGES = re.compile(r"#content|(\./|\.\./\.\./browse(/style\.css|/icon\.svg)?|[A-Za-z0-9.]+/browse/|browse/(style\.css|icon\.svg)"
-                    r"|(search|captures|compare|record|payload|download)(\?[A-Za-z0-9=&%.~_-]*)?(#[a-z]+)?)")  # fmt: skip
+_PAGES = re.compile(
+    r"#content|(\./|\.\./\.\./browse(/style\.css|/icon\.svg)?|[A-Za-z0-9.]+/browse/"
+    r"|browse/(style\.css|icon\.svg)"
+    r"|(search|captures|compare|record|payload|download)(\?[A-Za-z0-9=&%.~_-]*)?(#[a-z]+)?)"
+)
 
 
 class _Checked(HTMLParser):
@@ -307,7 +317,7 @@ class _Checked(HTMLParser):
 
 
 def faults_of(page: str) -> list[str]:
-    """Returns what a page has that could act on a reader: elements, attributes and addresses, and unseen characters."""
+    """Returns what a page has that could act on a reader: elements, values, unseen characters."""
     checked = _Checked()
     checked.feed(page)
     checked.close()

@@ -150,9 +150,11 @@ class Hostile(support.Pages):
     def test_pairs_are_checked(self) -> None:
         good = self.of("plain")
         place = good.split(" ", 1)[1]
-        for pair in ("", "0", "a.warc", f"x {place}", f"-1 {place}", f" {place}", "0 2016 k a.warc"):
+        offsets = (f"{each} {place}" for each in ("x", "-1", ""))
+        for pair in ("", "0", "a.warc", "0 2016 k a.warc", *offsets):
             self.get("compare", 400, first=pair, second=good)
-        for pair in (f"1 {place}", good.replace("a.warc", "../a.warc"), good.replace("2016", "2017")):
+        others = (good.replace("a.warc", "../a.warc"), good.replace("2016", "2017"))
+        for pair in (f"1 {place}", *others):
             self.get("compare", 404, first=pair, second=good)
 
     def test_a_process_that_needs_too_much_is_ended(self) -> None:

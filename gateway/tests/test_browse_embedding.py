@@ -12,7 +12,7 @@ from warcdx_gateway.browse import embedding
 from warcdx_gateway.browse.embedding import MOST_BYTES, filled, styled
 
 HOME = "http://example.com/a/page"
-DATE = "2016-03-03T09:34:31Z"
+DATE, OLD = "2016-03-03T09:34:31Z", "2010-01-01T00:00:00Z"
 PNG = b"\x89PNG\r\n\x1a\n"
 LONG = 10**6
 
@@ -28,22 +28,28 @@ def named(url: str, kind: str) -> Optional[str]:
 
 class Filling(unittest.TestCase):
     def test_images_and_style_sheets_are_those_of_the_archive(self) -> None:
+        base, image, style = "http://example.com", "data:image", "data:text/css"
         for given, wanted in (
-            (b"<img src=b.png>", b'<img src="data:image,http://example.com/a/b.png">'),
-            (b"<IMG alt='>' SRC='/b.png'>", b"<IMG alt='>' SRC='/b.png'>"),
-            (b'<img alt=x src="//example.com/b?c&amp;d">', b'<img alt=x src="data:image,http://example.com/b?c&d">'),
-            (b"<img src=http://evil.example/x>", b"<img src=http://evil.example/x>"),
-            (b"<img src=b srcset='c 2x'>", b'<img src="data:image,http://example.com/a/b" srcset="">'),
-            (b"<link rel=stylesheet href=s.css>", b'<link rel=stylesheet href="data:text/css,http://example.com/a/s.css">'),
-            (b"<link rel=next href=s.css>", b"<link rel=next href=s.css>"),
-            (b"<a href=b.png>", b"<a href=b.png>"),
-            (b"<script src=b.js>", b"<script src=b.js>"),
-            (b"<base href='/c/'><img src=b>", b"<base href='/c/'><img src=\"data:image,http://example.com/c/b\">"),
-            (b"<td background=b>", b'<td background="data:image,http://example.com/a/b">'),
-            (b"<style>p { background: url( 'b' ) }</style>", b"<style>p { background: url(data:image,http://example.com/a/b) }</style>"),
-            (b"<table style=\"background:url(&quot;b&quot;)\">", b'<table style="background:url(data:image,http://example.com/a/b)">'),
+            ("<img src=b.png>", f'<img src="{image},{base}/a/b.png">'),
+            ("<IMG alt='>' SRC='/b.png'>", "<IMG alt='>' SRC='/b.png'>"),
+            ("<IMG SRC = '/b.png' >", f'<IMG src="{image},{base}/b.png" >'),
+            ('<img src="//example.com/b?c&amp;d">', f'<img src="{image},{base}/b?c&d">'),
+            ("<img src=http://evil.example/x>", "<img src=http://evil.example/x>"),
+            ("<img src=b srcset='c 2x'>", f'<img src="{image},{base}/a/b" srcset="">'),
+            ("<link rel=stylesheet href=s>", f'<link rel=stylesheet href="{style},{base}/a/s">'),
+            ("<link rel=next href=s.css>", "<link rel=next href=s.css>"),
+            ("<a href=b.png>", "<a href=b.png>"),
+            ("<script src=b.js>", "<script src=b.js>"),
+            ("<base href='/c/'><img src=b>", f"<base href='/c/'><img src=\"{image},{base}/c/b\">"),
+            ("<base href=/c/><base href=/d/><img src=b>",
+             f'<base href=/c/><base href=/d/><img src="{image},{base}/c/b">'),
+            ("<td background=b>", f'<td background="{image},{base}/a/b">'),
+            ("<style>p { background: url( 'b' ) }</style>",
+             f"<style>p {{ background: url({image},{base}/a/b) }}</style>"),
+            ('<table style="background:url(&quot;b&quot;)">',
+             f'<table style="background:url({image},{base}/a/b)">'),
         ):  # fmt: skip
-            self.assertEqual(wanted, filled(given, HOME, named), given)
+            self.assertEqual(wanted.encode(), filled(given.encode(), HOME, named), given)
 
     def test_a_style_sheet_has_its_imports(self) -> None:
         for given, wanted in (
@@ -56,9 +62,11 @@ class Filling(unittest.TestCase):
 
     def test_hostile_pages_take_linear_time(self) -> None:
         for part in (
-            b"<img", b"<img ", b"<img src=", b"<img src=a ", b"<img src=a>", b"<link rel=stylesheet ",
-            b"<style>", b"<style>url(", b"url(", b"<img src='", b'<img src="', b"<base href=a/>",
-            b"<table style=url(", b"<td style='url(a", b"&#", b" src", b" src ", b'@import "', b"@import  ",
+            b"<img", b"<img ", b"<img src=", b"<img src=a ", b"<img src=a>", b"<style>", b"url(",
+            b"<link rel=stylesheet ", b"<style>url(", b"<img src='", b'<img src="',
+            b"<base href=a/>",
+            b"<table style=url(", b"<td style='url(a", b"&#", b" src", b" src ", b'@import "',
+            b"@import  ",
         ):  # fmt: skip
             for before in (b"", b"<style>", b"<img "):
                 start = time.process_time()
@@ -75,7 +83,7 @@ class Parts(support.Pages):
             response("http://example.com/a/b.png", "2010-01-01T00:00:00Z", b"old", "image/png"),
             response("http://example.com/a/b.png", "2016-04-01T00:00:00Z", PNG, "image/png"),
             response("http://example.com/a/c.png", "2010-01-01T00:00:00Z", PNG, "image/png"),
-            revisit("http://example.com/a/c.png", "2016-04-01T00:00:00Z", PNG, "2010-01-01T00:00:00Z"),
+            revisit("http://example.com/a/c.png", "2016-04-01T00:00:00Z", PNG, OLD),
             response("http://example.com/a/d.png", DATE, b"<p>no image</p>", "text/html"),
             response("http://example.com/s.css", DATE, style, "text/css"),
             response("http://example.com/many", DATE, b"<img src=/a/b.png>" * 200_000),
@@ -90,7 +98,8 @@ class Parts(support.Pages):
 
     def test_what_parts_add_is_bounded(self) -> None:
         content = b"\0" * 100_000
-        with mock.patch.object(embedding.Parts, "_make", return_value=url_of("image/png", content)):
+        made = url_of("image/png", content)
+        with mock.patch.object(embedding.Parts, "_make", return_value=made):
             found = self.ask("payload", **self.place("http://example.com/many")).data
         self.assertLess(len(found), MOST_BYTES + 5_000_000)
 

@@ -36,12 +36,12 @@ class LongRecords(support.Pages):
         (archives.archives / "two.warc.gz").write_bytes(
             bomb(small + start.replace(b": 100", b": %d" % (16 << 30)))
         )
-        archives.put(
-            "index",
-            archives.line(HOME, "20160303000000", "bomb.warc.gz", 0, length="-")
-            + archives.line(HOME, "20160303000001", "two.warc.gz", 0, length="-")
-            + archives.line(HOME, "20160303000002", "long.warc", 0, length=str(path.stat().st_size)),
+        lengths = {"bomb.warc.gz": "-", "two.warc.gz": "-", "long.warc": str(path.stat().st_size)}
+        lines = (
+            archives.line(HOME, f"2016030300000{number}", name, 0, length=length)
+            for number, (name, length) in enumerate(lengths.items())
         )
+        archives.put("index", b"".join(lines))
 
     def test_their_pages_take_bounded_time_and_memory(self) -> None:
         tracemalloc.start()

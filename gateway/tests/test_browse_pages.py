@@ -1,4 +1,4 @@
-"""The pages, as a reader goes through them: search, years, days, captures, records and comparisons."""
+"""The pages, as a reader goes through them: years, days, captures, records and comparisons."""
 import gzip
 import re
 import unittest
@@ -50,7 +50,8 @@ class Reading(support.Pages):
                 "resource", "http://example.org/note", "2017-02-01T00:00:00Z", b"text", "text/plain"
             ),
         ]
-        of_wget = [f"WARC-Block-Digest: {digest_of(b'')}", f"WARC-Payload-Digest: {digest_of(FIRST)}"]
+        digests = {"Block": digest_of(b""), "Payload": digest_of(FIRST)}
+        of_wget = [f"WARC-{part}-Digest: {digest}" for part, digest in digests.items()]
         records.append(
             record(
                 "revisit",
@@ -144,13 +145,18 @@ class Reading(support.Pages):
         self.assertNotIn("December", day)
 
     def test_a_host_has_its_addresses(self) -> None:
+        names = ("example.com/", "example.com/a%20b?c=d", "www.example.com/logo")
+        of_host = [f"http://{name}" for name in names]
         for query, expected in (
-            ({"url": "*.example.com"}, ["http://example.com/", "http://example.com/a%20b?c=d", "http://www.example.com/logo", "http://sub.example.com/"]),
-            ({"url": "example.com", "match": "host"}, ["http://example.com/", "http://example.com/a%20b?c=d", "http://www.example.com/logo"]),
+            ({"url": "*.example.com"}, [*of_host, "http://sub.example.com/"]),
+            ({"url": "example.com", "match": "host"}, of_host),
             ({"url": "example.com/a*"}, ["http://example.com/a%20b?c=d"]),
             ({"url": "*.example.com", "year": "2018"}, ["http://example.com/"]),
-            ({"url": "*.example.com", "from": "2017-02", "to": "2017"}, ["http://sub.example.com/"]),
-        ):  # fmt: skip
+            (
+                {"url": "*.example.com", "from": "2017-02", "to": "2017"},
+                ["http://sub.example.com/"],
+            ),
+        ):
             found = self.get("search", **query)
             addresses = re.findall(r'<a href="search\?url=[^"]*"><bdi>(.*?)</bdi></a>', found)
             self.assertEqual(expected, addresses, query)
@@ -233,7 +239,8 @@ class Reading(support.Pages):
             f"The payload has {len(FIRST)} bytes",
         ):
             self.assertIn(words.lower(), text.lower())
-        self.assertRegex(found, r'<iframe title="[^"]*" src="payload\?archive=a.warc&amp;[^"]*" sandbox ')
+        frame = r'<iframe title="[^"]*" src="payload\?archive=a.warc&amp;[^"]*" sandbox '
+        self.assertRegex(found, frame)
 
     def test_a_record_has_the_captures_before_and_after_it(self) -> None:
         def links(number: int) -> list[tuple[str, str]]:
@@ -243,10 +250,9 @@ class Reading(support.Pages):
 
         second = ("Next", "3 March 2016, 10:00:00")
         self.assertEqual([second], links(1))
-        self.assertEqual(
-            [("Previous", "3 March 2016, 09:34:31"), ("Next", "31 December 2016, 23:59:59")], links(2)
-        )
-        self.assertEqual([("Previous", "31 December 2016, 23:59:59")], links(4))
+        first, last = "3 March 2016, 09:34:31", "31 December 2016, 23:59:59"
+        self.assertEqual([("Previous", first), ("Next", last)], links(2))
+        self.assertEqual([("Previous", last)], links(4))
 
     def test_a_record_that_no_index_names_is_not_shown(self) -> None:
         place = self.place_of(1)
@@ -275,14 +281,15 @@ class Reading(support.Pages):
     def test_a_revisit_has_its_original(self) -> None:
         found = self.get("record", **self.place_of(3))
         self.assertIn(
-            "The payload is that of the capture of 3 March 2016, 10:00:00 , which has the same digest.",
+            "The payload is that of the capture of 3 March 2016, 10:00:00 , which has the same "
+            "digest.",
             text_of(found),
         )
         self.assertIn(f'href="record?archive=a.warc&amp;offset={self.offset_of(2)}&amp;', found)
         self.assertIn("The payload is empty.", text_of(found))
 
     def test_a_revisit_of_wget_is_not_said_to_differ(self) -> None:
-        """GNU Wget writes the digest of no bytes into the field WARC-Block-Digest of each revisit."""
+        """GNU Wget writes the digest of no bytes into the WARC-Block-Digest of each revisit."""
         found = self.get("record", **self.place("http://example.net/"))
         self.assertIn("WARC-Block-Digest is the digest of no bytes", text_of(found))
         self.assertNotIn('class="verdict bad"', found)

@@ -21,8 +21,8 @@ class Start(support.Pages):
             for number, host in enumerate(hosts)
             for page in ("", "a", "\U0010fffd")
         ]
-        lines.append(archives.line("dns:example.com", "20160303000000", "a.warc", 9, key="dns:example.com"))
-        lines.append(archives.line(HOME, "20160303000000", "a.warc", 9, key="zz,<script>)/"))
+        for key in ("dns:example.com", "zz,<script>)/"):
+            lines.append(archives.line(HOME, "20160303000000", "a.warc", 9, key=key))
         archives.put("index", b"".join(sorted(lines)))
 
     def summarize(self, text: str) -> None:
@@ -50,7 +50,8 @@ class Start(support.Pages):
         ):
             self.assertIn(words, text)
         self.assertIn('aria-label="2016: 1,200 captures"', found)
-        self.assertIn('<a href="search?url=example.com&amp;match=host"><bdi>example.com</bdi></a>', found)
+        link = '<a href="search?url=example.com&amp;match=host"><bdi>example.com</bdi></a>'
+        self.assertIn(link, found)
         self.assertIn("<bdi>dns:</bdi>", found)
 
     def test_a_summary_may_be_anything(self) -> None:
@@ -72,8 +73,8 @@ class Start(support.Pages):
     def test_without_a_summary_the_first_hosts_are_shown(self) -> None:
         found = self.get("")
         hosts = re.findall(r"<li>(?:<a href=\"[^\"]*\">)?<bdi>(.*?)</bdi>", found)
-        wanted = ["example.com", "www2.example.com", "example.com:8080", "dns:", "example.org", "&lt;script&gt;.zz"]
-        self.assertEqual(wanted, hosts)
+        wanted = "example.com www2.example.com example.com:8080 dns: example.org &lt;script&gt;.zz"
+        self.assertEqual(wanted.split(), hosts)
         self.assertIn("1 index of", text_of(found))
 
     def test_pages_of_other_origins_read_no_page(self) -> None:

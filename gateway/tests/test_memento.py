@@ -23,6 +23,21 @@ FIRST, SECOND, CHOSEN, NEXT, LAST = (
 )  # fmt: skip
 
 
+DATES = {
+    FIRST: "Tue, 20 Jun 2000 18:02:59 GMT",
+    SECOND: "Wed, 21 Jun 2000 01:17:31 GMT",
+    CHOSEN: "Wed, 21 Mar 2001 20:36:10 GMT",
+    NEXT: "Tue, 11 Sep 2001 20:36:10 GMT",
+    LAST: "Tue, 27 Oct 2009 20:49:54 GMT",
+}
+
+
+def memento(root: str, timestamp: str, relation: str) -> str:
+    """Returns the link of a memento, as the examples have it."""
+    url = f"{root}/{timestamp}id_/{ORIGINAL}"
+    return f'<{url}>; rel="{relation}"; datetime="{DATES[timestamp]}"'
+
+
 class Dates(unittest.TestCase):
     def test_a_datetime_is_one_of_rfc_1123(self) -> None:
         for date, timestamp in (
@@ -53,7 +68,7 @@ class Histories(unittest.TestCase):
         for most in (3, 200):
             for _ in range(300):
                 times = sorted(
-                    20160101000000 + rng.choice((rng.randrange(50), rng.randrange(10**6) // 100 * 100))
+                    20160101000000 + rng.randrange(rng.choice((50, 10**6)))
                     for _ in range(rng.randrange(12))
                 )
                 all_captures = [each for each in map(capture, times) if each.datetime]
@@ -72,12 +87,12 @@ class Histories(unittest.TestCase):
                     history = History(ask, key="k")
                     self.assertEqual(times[0] if times else None, time_of(history.first()))
                     self.assertEqual(times[-1] if times else None, time_of(history.last()))
-                    for moment in (rng.choice(times or [20160101000000]) + rng.choice((-1, 0, 1)) for _ in range(4)):
-                        timestamp = f"{moment:014}"
-                        before = [each for each in times if each < moment]
-                        after = [each for each in times if each > moment]
-                        self.assertEqual(before[-1] if before else None, time_of(history.before(timestamp)))
-                        self.assertEqual(after[0] if after else None, time_of(history.after(timestamp)))
+                    for _ in range(4):
+                        moment = rng.choice(times or [20160101000000]) + rng.choice((-1, 0, 1))
+                        before = max((each for each in times if each < moment), default=None)
+                        after = min((each for each in times if each > moment), default=None)
+                        self.assertEqual(before, time_of(history.before(f"{moment:014}")))
+                        self.assertEqual(after, time_of(history.after(f"{moment:014}")))
                 self.assertLess(asked, 600)
 
 
@@ -94,7 +109,8 @@ class Examples(support.Pages):
         archives.put("index", b"".join(lines))
 
     def asked(self, path: str, **headers: str) -> TestResponse:
-        return self.client.get(path, headers={name.replace("_", "-"): each for name, each in headers.items()})
+        fields = {name.replace("_", "-"): each for name, each in headers.items()}
+        return self.client.get(path, headers=fields)
 
     def test_a_time_gate_chooses_the_nearest_memento(self) -> None:
         """Section 4.2.1: the client wants 11 September 2001, 20:35, and is sent to a memento."""
@@ -110,10 +126,10 @@ class Examples(support.Pages):
                 f'<{ORIGINAL}>; rel="original"',
                 f'<{root}/timegate/{ORIGINAL}>; rel="timegate"',
                 f'<{root}/timemap/link/{ORIGINAL}>; rel="timemap"; type="application/link-format"',
-                f'<{root}/{FIRST}id_/{ORIGINAL}>; rel="first memento"; datetime="Tue, 20 Jun 2000 18:02:59 GMT"',
-                f'<{root}/{CHOSEN}id_/{ORIGINAL}>; rel="prev memento"; datetime="Wed, 21 Mar 2001 20:36:10 GMT"',
-                f'<{root}/{NEXT}id_/{ORIGINAL}>; rel="memento"; datetime="Tue, 11 Sep 2001 20:36:10 GMT"',
-                f'<{root}/{LAST}id_/{ORIGINAL}>; rel="next last memento"; datetime="Tue, 27 Oct 2009 20:49:54 GMT"',
+                memento(root, FIRST, "first memento"),
+                memento(root, CHOSEN, "prev memento"),
+                memento(root, NEXT, "memento"),
+                memento(root, LAST, "next last memento"),
             ]
             self.assertEqual(", ".join(wanted), answer.headers["Link"])
 
@@ -136,25 +152,29 @@ class Examples(support.Pages):
             ("/web/timegate/http://b.example.org/", "Tue, 11 Sep 2001 20:35:00 GMT", 404),
         ):
             answer = self.asked(path, Accept_Datetime=date)
-            self.assertEqual((status, "accept-datetime"), (answer.status_code, answer.headers["Vary"]))
-        for path in ("/web/timemap/link/http://b.example.org/", "/none/timegate/http://a.example.org/", "/web/2000id_/x"):
+            self.assertEqual(status, answer.status_code)
+            self.assertEqual("accept-datetime", answer.headers["Vary"])
+        for path in (
+            "/web/timemap/link/http://b.example.org/",
+            "/none/timegate/http://a.example.org/",
+            "/web/2000id_/x",
+        ):
             self.assertEqual(404, self.asked(path).status_code, path)
         self.assertEqual(405, self.client.post(f"/web/timegate/{ORIGINAL}").status_code)
 
     def test_a_time_map_lists_all_mementos(self) -> None:
         """Section 5."""
         answer = self.asked(f"/web/timemap/link/{ORIGINAL}")
-        self.assertEqual((200, "application/link-format"), (answer.status_code, answer.headers["Content-Type"]))
+        self.assertEqual(200, answer.status_code)
+        self.assertEqual("application/link-format", answer.headers["Content-Type"])
         wanted = [
             f'<{ORIGINAL}>; rel="original"',
             f'<{ROOT}/timemap/link/{ORIGINAL}>; rel="self"; type="application/link-format"; '
-            'from="Tue, 20 Jun 2000 18:02:59 GMT"; until="Tue, 27 Oct 2009 20:49:54 GMT"',
+            f'from="{DATES[FIRST]}"; until="{DATES[LAST]}"',
             f'<{ROOT}/timegate/{ORIGINAL}>; rel="timegate"',
-            f'<{ROOT}/{FIRST}id_/{ORIGINAL}>; rel="first memento"; datetime="Tue, 20 Jun 2000 18:02:59 GMT"',
-            f'<{ROOT}/{SECOND}id_/{ORIGINAL}>; rel="memento"; datetime="Wed, 21 Jun 2000 01:17:31 GMT"',
-            f'<{ROOT}/{CHOSEN}id_/{ORIGINAL}>; rel="memento"; datetime="Wed, 21 Mar 2001 20:36:10 GMT"',
-            f'<{ROOT}/{NEXT}id_/{ORIGINAL}>; rel="memento"; datetime="Tue, 11 Sep 2001 20:36:10 GMT"',
-            f'<{ROOT}/{LAST}id_/{ORIGINAL}>; rel="last memento"; datetime="Tue, 27 Oct 2009 20:49:54 GMT"',
+            memento(ROOT, FIRST, "first memento"),
+            *(memento(ROOT, timestamp, "memento") for timestamp in (SECOND, CHOSEN, NEXT)),
+            memento(ROOT, LAST, "last memento"),
         ]
         self.assertEqual(",\n".join(wanted) + "\n", answer.text)
 
@@ -178,11 +198,17 @@ class Examples(support.Pages):
             for front in ("web", "crawl"):
                 answer = self.asked(f"/{front}/{timestamp}id_/{ORIGINAL}")
                 self.assertEqual(302, answer.status_code)
-                self.assertEqual(f"http://localhost/{front}/{wanted}id_/{ORIGINAL}", answer.headers["Location"])
+                location = f"http://localhost/{front}/{wanted}id_/{ORIGINAL}"
+                self.assertEqual(location, answer.headers["Location"])
                 self.assertNotIn("Memento-Datetime", answer.headers)
 
     def test_a_url_is_taken_in_several_spellings(self) -> None:
-        for url in ("a.example.org", "http:/a.example.org/", "http%3A%2F%2Fa.example.org%2F", "https://A.example.org"):
+        for url in (
+            "a.example.org",
+            "http:/a.example.org/",
+            "http%3A%2F%2Fa.example.org%2F",
+            "https://A.example.org",
+        ):
             answer = self.asked(f"/web/timegate/{url}")
             self.assertEqual(f"{ROOT}/{LAST}id_/{ORIGINAL}", answer.headers["Location"], url)
 
@@ -198,13 +224,16 @@ class Raw(support.Pages):
     def fill(self, archives: Archives) -> None:
         chunked = b"5\r\n<p>on\r\n2\r\ne.\r\n0\r\n\r\n"
         packed = support.gzip.compress(BODY, mtime=0)
+        fields = ["Set-Cookie: a=b", "Content-Security-Policy: default-src *", "X-Odd: a\x1bb"]
+        home, script = ["Location: /page?a=b&c=%20d"], ["Location: javascript:alert(1)"]
+        brotli = b"\x0b\x02\x80text\x03"
         many = [f"X-Many-{number}: {'v' * 500}" for number in range(500)]
         archives.add("a.warc", [
-            response(PAGE, DATE, BODY, http=["Set-Cookie: a=b", "Content-Security-Policy: default-src *", "X-Odd: a\x1bb"]),
+            response(PAGE, DATE, BODY, http=fields),
             revisit(PAGE, LATER, BODY, DATE),
             response("http://example.com/gone", DATE, b"gone", "text/plain", status="410 Gone"),
-            response("http://example.com/moved", DATE, b"", status="302 Found", http=["Location: /page?a=b&c=%20d"]),
-            response("http://example.com/script", DATE, b"", status="302 Found", http=["Location: javascript:alert(1)"]),
+            response("http://example.com/moved", DATE, b"", status="302 Found", http=home),
+            response("http://example.com/script", DATE, b"", status="302 Found", http=script),
             *(
                 response(
                     f"http://example.com/{name}",
@@ -217,9 +246,11 @@ class Raw(support.Pages):
             ),
             response("https://example.com/secure", DATE, b"secure"),
             response("https://example.com/later", LATER, b"secure"),
-            response("http://example.com/chunks", DATE, chunked, http=["Transfer-Encoding: chunked"]),
+            response(
+                "http://example.com/chunks", DATE, chunked, http=["Transfer-Encoding: chunked"]
+            ),
             response("http://example.com/packed", DATE, packed, http=["Content-Encoding: gzip"]),
-            response("http://example.com/brotli", DATE, b"\x0b\x02\x80text\x03", http=["Content-Encoding: br"]),
+            response("http://example.com/brotli", DATE, brotli, http=["Content-Encoding: br"]),
             response("http://example.com/many", DATE, b"many", http=many),
             response("http://example.com/odd", DATE, b"odd", status="999 Odd"),
             response("http://example.com/empty", DATE, b"", status="304 Not Modified"),
@@ -241,7 +272,8 @@ class Raw(support.Pages):
         self.assertEqual("ab", answer.headers["X-Archive-Orig-X-Odd"])
         self.assertNotIn("Set-Cookie", answer.headers)
         self.assertIn('rel="original"', answer.headers["Link"])
-        self.assertIn(f'<http://localhost/crawl/20170101000000id_/{PAGE}>; rel="next last memento"', answer.headers["Link"])
+        later = f"<http://localhost/crawl/20170101000000id_/{PAGE}>"
+        self.assertIn(f'{later}; rel="next last memento"', answer.headers["Link"])
 
     def test_a_capture_is_held_in_the_sandbox(self) -> None:
         for url in (PAGE, "http://example.com/gone", "http://example.com/note"):
@@ -265,7 +297,8 @@ class Raw(support.Pages):
     def test_a_redirect_goes_to_the_capture_of_its_target(self) -> None:
         answer = self.raw("http://example.com/moved")
         self.assertEqual(302, answer.status_code)
-        self.assertEqual(f"http://localhost/crawl/20160303093431id_/{PAGE}", answer.headers["Location"])
+        location = f"http://localhost/crawl/20160303093431id_/{PAGE}"
+        self.assertEqual(location, answer.headers["Location"])
         self.assertEqual("/page?a=b&c=%20d", answer.headers["X-Archive-Orig-Location"])
         answer = self.raw("http://example.com/script")
         self.assertNotIn("Location", answer.headers)
@@ -294,18 +327,26 @@ class Raw(support.Pages):
     def test_content_codings_are_those_that_the_client_takes(self) -> None:
         packed = "http://example.com/packed"
         answer = self.raw(packed, Accept_Encoding="gzip")
-        self.assertEqual(("gzip", BODY), (answer.headers["Content-Encoding"], support.gzip.decompress(answer.data)))
+        self.assertEqual("gzip", answer.headers["Content-Encoding"])
+        self.assertEqual(BODY, support.gzip.decompress(answer.data))
         answer = self.raw(packed)
         self.assertEqual((None, BODY), (answer.headers.get("Content-Encoding"), answer.data))
         self.assertEqual("Accept-Encoding", answer.headers["Vary"])
         answer = self.raw("http://example.com/brotli")
-        self.assertEqual(("br", b"\x0b\x02\x80text\x03"), (answer.headers["Content-Encoding"], answer.data))
+        self.assertEqual("br", answer.headers["Content-Encoding"])
+        self.assertEqual(b"\x0b\x02\x80text\x03", answer.data)
 
     def test_archived_fields_are_bounded(self) -> None:
         answer = self.raw("http://example.com/many")
         self.assertLess(sum(len(name) + len(value) + 4 for name, value in answer.headers), 10_000)
         self.assertEqual(b"many", answer.data)
-        hostile = (("X Space", "a"), ("", "b"), ("X-\r\nY", "c"), ("X-\u00e9", "d"), ("Good", "e\r\nZ: f\u202e"))
+        hostile = (
+            ("X Space", "a"),
+            ("", "b"),
+            ("X-\r\nY", "c"),
+            ("X-\u00e9", "d"),
+            ("Good", "e\r\nZ: f\u202e"),
+        )
         self.assertEqual([("Good", "eZ: f")], list(archived_fields(hostile)))
 
     def test_a_long_payload_is_whole(self) -> None:

@@ -1,4 +1,4 @@
-"""Requests made of hostile parts at random: none has a status of a fault, or breaks a field of HTTP."""
+"""Requests made of hostile parts at random: none is answered by a fault, or breaks a field."""
 import io
 import random
 import sys
@@ -16,9 +16,11 @@ COUNT = 4000
 RECORD = "/crawl/browse/record?archive=%s&offset=%s&timestamp=%s&key=%s"
 PATHS = (
     "/%s", "/%s/cdx", "/web/%s", "/crawl/%s", "/web/timegate/%s", "/web/timemap/link/%s",
-    "/web/timemap/json/%s", "/crawl/timemap/json/%s", "/web/20160303093431id_/%s", "/web/2016id_/%s",
+    "/web/timemap/json/%s", "/crawl/timemap/json/%s", "/web/20160303093431id_/%s",
+    "/web/2016id_/%s",
     "/crawl/%sid_/http://example.com/", "/web/%s/http://example.com/", "/web/*/%s", "/crawl?url=%s",
-    "/crawl?q=%s", "/crawl?q=type:urlquery+url:%s", "/crawl?q=type:prefixquery+url:example.com&count=%s",
+    "/crawl?q=%s", "/crawl?q=type:urlquery+url:%s",
+    "/crawl?q=type:prefixquery+url:example.com&count=%s",
     "/wayback/available?url=%s", "/wayback/available?url=example.com&timestamp=%s",
     "/__wb/sparkline?url=%s", "/crawl-index?url=%s&output=link", "/cdx?url=example.com&offset=%s",
     "/cdx?url=example.com&collapseTime=%s", "/cdx?url=example.com&closest=%s",
@@ -28,10 +30,12 @@ PATHS = (
     "/crawl/browse/captures?key=%s", "/crawl/browse/payload?%s",
 )  # fmt: skip
 PARTS = (
-    HOME, "example.com", "a.warc", "0", "20160303093431", "com,example)/", "%00", "%ff", "%E2%80%AE",
-    "\xff", "é", "http:/", "//", "/", "?", "&", "=", "+", "%", "%zz", "[", "http://[::1", "..",
-    "http%3A%2F%2F", "../..", "a" * 5000, "9" * 14, "9" * 30, "0" * 14, "-1", "\u0660", "id_", "im_",
-    "*", "20160231", "javascript:alert(1)", "dns:example.com", " ", "%20", "%0d%0aX:1", "<script>",
+    HOME, "example.com", "a.warc", "0", "20160303093431", "com,example)/", "%00", "%ff",
+    "%E2%80%AE", "\xff", "é", "http:/", "//", "/", "?", "&", "=", "+", "%", "%zz", "[",
+    "http://[::1", "..",
+    "http%3A%2F%2F", "../..", "a" * 5000, "9" * 14, "9" * 30, "0" * 14, "-1", "\u0660", "id_",
+    "im_", "*", "20160231", "javascript:alert(1)", "dns:example.com", " ", "%20", "%0d%0aX:1",
+    "<script>",
     "urlkey", "groupcount", "type:", "url:", ":", "http://a:99999/", "timemap/link/",
 )  # fmt: skip
 FIELDS = (

@@ -82,7 +82,7 @@ def _wayback(gateway: Gateway, request: GatewayRequest) -> Response:
 def _answer(
     form: Optional[Form], gateway: Gateway, request: GatewayRequest, collection: str
 ) -> Response:
-    """Answers in a form, or else in that of the collection. pywb lists captures with output=link."""
+    """Answers in a form, or else in that of the collection. pywb has a TimeMap as output=link."""
     found = gateway.collection(collection)
     form = form or Form(found.settings.form)
     if form is Form.PYWB and request.args.get("output") == "link":
