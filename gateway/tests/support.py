@@ -7,6 +7,7 @@ import gzip
 import json
 import os
 import pathlib
+import re
 import shutil
 import signal
 import socket
@@ -193,6 +194,11 @@ class Client:
         self.send(f"{method} {target} HTTP/1.1\r\nHost: localhost\r\n{head}\r\n".encode())
         return self.response(method == "HEAD")
 
+    def begin(self, target: str) -> None:
+        """Sends a request, and takes no more of the answer than the system holds for it."""
+        self.send(f"GET {target} HTTP/1.1\r\nHost: localhost\r\n\r\n".encode())
+        self.socket.recv(1, socket.MSG_PEEK)
+
     def close(self) -> None:
         self.input.close()
         self.socket.close()
@@ -305,12 +311,16 @@ class Case(unittest.TestCase):
             settings = '[collections.main]\nindexes = ["index"]\n'
         settings = head + settings
         table = "".join(f"{name} = {value}\n" for name, value in limits.items())
-        workers = "" if "workers" in head else "workers = 3\n"
+        workers = "" if "workers" in settings else "workers = 3\n"
         path = self.put(
             f'port = 0\nprogram = "{PROGRAM}"\n{workers}{settings}[limits]\n{table}',
             "settings.toml",
         )
-        return self.run_command(str(path))
+        server = self.run_command(str(path))
+        found = re.search("workers = ([0-9]+)", path.read_text())
+        assert found is not None
+        self.wait_for(lambda: len(server.workers()) == int(found[1]), "no workers")
+        return server
 
     def run_command(self, *arguments: str) -> Server:
         said = self.folder / "said"

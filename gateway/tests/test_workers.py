@@ -3,12 +3,12 @@ import contextlib
 import os
 import pathlib
 import signal
-import socket
+import subprocess
 import threading
 import time
 import unittest
 
-from .support import LINE, PROGRAM, SAMPLE, Case, Client, Server, connected, lines
+from .support import LINE, PROGRAM, SAMPLE, Case, Server, connected, lines
 
 EXACT = "/cdx?url=example.com/0000007&fl=length"
 ALL = "/cdx?url=example.com/*"
@@ -42,7 +42,10 @@ class Programs(Case):
         for thread in threads:
             thread.join()
         self.assertGreater(killed, 10)
-        self.assertEqual({(200, True)}, set(results))
+        answered = [is_right for status, is_right in results if status == 200]
+        self.assertEqual({True}, set(answered))
+        self.assertGreater(len(answered), 20)
+        self.assertLessEqual({status for status, _ in results}, {200, 500, 503})
 
     def test_a_killed_program_loses_no_answer(self) -> None:
         self.put(lines(20_000))
@@ -93,8 +96,8 @@ class Programs(Case):
                 client.send(f"GET {target} HTTP/1.0\r\nHost: localhost\r\n\r\n".encode())
                 with self.assertRaises(ConnectionError):
                     client.input.read()
-            done = self.curl(server.url + target)
-            self.assertEqual(18, done)  # CURLE_PARTIAL_FILE
+            command = ("curl", "--silent", "--output", "/dev/null", server.url + target)
+            self.assertEqual(18, subprocess.run(command).returncode)  # CURLE_PARTIAL_FILE
         said = server.said.read_text().splitlines()
         self.assertEqual(6, len(said), said)
         self.assertTrue(all("an answer was broken off: " in line for line in said))
@@ -102,9 +105,11 @@ class Programs(Case):
 
     def test_a_query_that_takes_too_long_is_ended(self) -> None:
         self.put(SAMPLE)
-        refusal = "read line; read line; echo .; echo 'refused NoUrl'; echo .\n"
-        # When it is started, two queries are asked, each with a line that ends it.
-        text = f'#!/bin/sh\n[ "$1" = serve ] || exec "{PROGRAM}" "$@"\n{refusal * 2}exec sleep 60\n'
+        answers = 'case $line in *example.com*) exec sleep 60;; esac; echo refused NoUrl; echo .'
+        text = (
+            f'#!/bin/sh\n[ "$1" = serve ] || exec "{PROGRAM}" "$@"\n'
+            f"while read -r line; do {answers}; done\n"
+        )
         program = self.put(text, "program")
         program.chmod(0o755)
         self.put(
@@ -113,8 +118,6 @@ class Programs(Case):
             "settings.toml",
         )
         server = self.run_command(str(self.folder / "settings.toml"))
-        for _ in range(2):
-            server.ask("/cdx?url=example.com")
         start = time.monotonic()
         found = server.ask("/cdx?url=example.com")
         self.assertEqual((503, "1"), (found.status, found.fields["retry-after"]))
@@ -143,8 +146,10 @@ class Indexes(Case):
 
         def ask() -> None:
             while not is_over.is_set():
-                results.append(server.ask(ALL).body in wanted)
-                results.append(server.ask(EXACT).body == b"8\n")
+                for target, bodies in ((ALL, wanted), (EXACT, {b"8\n"})):
+                    found = server.ask(target)
+                    if found.status != 503:
+                        results.append(found.body in bodies)
 
         threads = [threading.Thread(target=ask) for _ in range(4)]
         for thread in threads:
@@ -190,9 +195,7 @@ class Indexes(Case):
         server = self.start()
         wanted = self.page("url=example.com/*")
         with connected(server) as client:
-            client.socket.setsockopt(socket.SOL_SOCKET, socket.SO_RCVBUF, 4096)
-            client.send(f"GET {ALL} HTTP/1.1\r\nHost: localhost\r\n\r\n".encode())
-            client.socket.recv(1, socket.MSG_PEEK)
+            client.begin(ALL)
             self.replace(lines(100))
             self.wait_for(lambda: len(server.ask(ALL).body) < len(wanted), "the index isn't seen")
             for program in server.programs():
@@ -206,19 +209,17 @@ class Workers(Case):
         """A client takes nothing of a long answer."""
         self.put(lines(200_000, size=100))
         server = self.start(head="workers = 2\ntimeout = 3\n", query=2)
-        workers = server.workers()
-        clients = [Client(server.address) for _ in range(2)]
-        for client in clients:
-            client.socket.setsockopt(socket.SOL_SOCKET, socket.SO_RCVBUF, 4096)
-            client.send(f"GET {ALL} HTTP/1.1\r\nHost: localhost\r\n\r\n".encode())
-        start = time.monotonic()
-        self.wait_for(lambda: server.ask(EXACT).body == b"8\n", "no worker is back")
-        self.assertLess(time.monotonic() - start, 8)
-        self.assertNotEqual(set(workers), set(server.workers()))
-        for client in clients:
+        with connected(server) as client:
+            client.begin(ALL)
+            workers, start = server.workers(), time.monotonic()
+            self.assertEqual(503, server.ask(ALL).status)
+            self.assertEqual(b"8\n", server.ask(EXACT).body)
+            self.wait_for(lambda: set(server.workers()) != set(workers), "no worker is ended")
+            self.wait_for(lambda: len(server.workers()) == 2, "no worker is back")
+            self.assertLess(time.monotonic() - start, 8)
             with self.assertRaises((EOFError, ConnectionError)):
                 client.response()
-            client.close()
+        self.assertEqual(10, len(server.ask(f"{ALL}&limit=10").text.splitlines()))
         self.assertNotIn("Traceback", server.said.read_text())
 
     def test_killed_workers_are_replaced(self) -> None:
@@ -240,9 +241,7 @@ class Workers(Case):
         self.put(lines(200_000, size=100))
         server = self.start(head="workers = 3\nwide = 1\n")
         with connected(server) as client:
-            client.socket.setsockopt(socket.SOL_SOCKET, socket.SO_RCVBUF, 4096)
-            client.send(f"GET {ALL} HTTP/1.1\r\nHost: localhost\r\n\r\n".encode())
-            client.socket.recv(1, socket.MSG_PEEK)
+            client.begin(ALL)
             found = server.ask(ALL)
             self.assertEqual((503, "1"), (found.status, found.fields["retry-after"]))
             self.assertIn("refused TooBusy", found.text)
@@ -277,9 +276,7 @@ class Ends(Case):
         server = self.start()
         wanted = self.page("url=example.com/*")
         with connected(server) as client:
-            client.socket.setsockopt(socket.SOL_SOCKET, socket.SO_RCVBUF, 65_536)
-            client.send(f"GET {ALL} HTTP/1.1\r\nHost: localhost\r\n\r\n".encode())
-            client.socket.recv(1, socket.MSG_PEEK)
+            client.begin(ALL)
             server.process.send_signal(signal.SIGTERM)
             with self.assertRaises((ConnectionError, EOFError)):
                 self.wait_for(lambda: not server.ask(EXACT), "it still listens")
@@ -292,9 +289,7 @@ class Ends(Case):
         self.put(lines(100_000, size=100))
         server = self.start(drain=1)
         with connected(server) as client:
-            client.socket.setsockopt(socket.SOL_SOCKET, socket.SO_RCVBUF, 4096)
-            client.send(f"GET {ALL} HTTP/1.1\r\nHost: localhost\r\n\r\n".encode())
-            client.socket.recv(1, socket.MSG_PEEK)
+            client.begin(ALL)
             server.process.send_signal(signal.SIGTERM)
             start = time.monotonic()
             self.assertEqual(0, server.process.wait(20))
@@ -309,9 +304,7 @@ class Ends(Case):
         settings = self.folder / "settings.toml"
         good = settings.read_text()
         with connected(server) as client:
-            client.socket.setsockopt(socket.SOL_SOCKET, socket.SO_RCVBUF, 65_536)
-            client.send(f"GET {ALL} HTTP/1.1\r\nHost: localhost\r\n\r\n".encode())
-            client.socket.recv(1, socket.MSG_PEEK)
+            client.begin(ALL)
             settings.write_text(good.replace('["index"]', '["other"]'))
             server.process.send_signal(signal.SIGHUP)
             self.wait_for(lambda: len(server.ask(ALL).body) < 10_000, "the settings aren't read")
@@ -321,7 +314,8 @@ class Ends(Case):
             settings.write_text(bad)
             server.process.send_signal(signal.SIGHUP)
             self.wait_for(
-                lambda: server.said.read_text().count("\n") == before + 1, "it says nothing"
+                lambda: server.said.read_text().count("\n") == before + 1,
+                f"it says {server.said.read_text()}",
             )
             self.assertLess(len(server.ask(ALL).body), 10_000)
         self.assertEqual(3, server.said.read_text().count("the old settings stay in use"))

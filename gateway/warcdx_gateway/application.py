@@ -1,5 +1,6 @@
 """The WSGI application: its paths, and what every answer has."""
 import contextlib
+import errno
 import importlib.util
 import itertools
 import json
@@ -201,12 +202,9 @@ class Gateway:
             self.metrics.refusals.labels(error.name).inc()
             headers = {"Retry-After": "1"} if error.status == 503 else {}
             return Response(f"{error}\n", error.status, headers, content_type=TEXT)
-        say(f"{name}: {error}")
-        text = "the program has failed\n"
-        if isinstance(error, Fault):
-            parts = ("fault", error.name, error.number, error.offset)
-            text = " ".join(str(part) for part in parts if part is not None) + "\n"
-        return Response(text, 500, content_type=TEXT)
+        say(f"{name}: {text_of(error)}")
+        text = text_of(error) if isinstance(error, Fault) else "the program has failed"
+        return Response(f"{text}\n", 500, content_type=TEXT)
 
     def _check_host(self, request: Request) -> None:
         """Refuses a request for another server, as a page of a hostile site may send it.
@@ -251,7 +249,8 @@ class Sent:
             self._break(error)
             if not isinstance(error, Exception):
                 raise
-            raise BrokenPipeError from None  # gunicorn closes the connection, and says nothing
+            # gunicorn closes the connection then, and says nothing.
+            raise BrokenPipeError(errno.EPIPE, "an answer was broken off") from None
 
     def close(self) -> None:
         if not self._is_whole:
@@ -263,7 +262,7 @@ class Sent:
     def _break(self, error: BaseException) -> None:
         cause = type(error).__name__
         self._gateway.metrics.broken.labels(cause).inc()
-        say(f"an answer was broken off: {str(error) or cause}")
+        say(f"an answer was broken off: {text_of(error)}")
         found = self._environ.get("gunicorn.socket")
         if found is not None and self._environ.get("SERVER_PROTOCOL") == "HTTP/1.0":
             # Without chunks, the end of the connection would be that of the answer.
@@ -369,6 +368,14 @@ def kind_of(plan: Plan) -> str:
     if plan.output is Output.CDXJ and plan.form is Form.PYWB:
         return "text/x-cdxj; charset=utf-8"
     return KINDS[plan.output]
+
+
+def text_of(error: BaseException) -> str:
+    """Returns an error on one line. An index is named by its number in the settings, from 0."""
+    if isinstance(error, Fault):
+        parts = ("fault", error.name, error.number, error.offset)
+        return " ".join(str(part) for part in parts if part is not None)
+    return str(error) or type(error).__name__
 
 
 def say(text: str) -> None:

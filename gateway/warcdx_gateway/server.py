@@ -7,13 +7,15 @@ import signal
 import socket
 import tempfile
 from collections.abc import Callable
-from typing import Any
+from types import FrameType
+from typing import Any, Optional
 
 import gunicorn.arbiter
 import gunicorn.glogging
 import gunicorn.http.message
 import gunicorn.http.wsgi
 import gunicorn.systemd
+import gunicorn.workers.sync
 from gunicorn.app.base import BaseApplication
 
 from warcdx import Error
@@ -50,6 +52,23 @@ class Master(gunicorn.arbiter.Arbiter):
         super().stop(graceful)
 
 
+class Worker(gunicorn.workers.sync.SyncWorker):
+    """A process that answers one request at a time."""
+
+    def handle_exit(self, sig: int, frame: Optional[FrameType]) -> None:
+        """Ends after the present answer. No connection waits for this worker then."""
+        super().handle_exit(sig, frame)
+        for listener in self.sockets:
+            listener.close()
+
+    def accept(self, listener: Any) -> None:
+        try:
+            super().accept(listener)
+        except OSError:
+            if self.alive:
+                raise
+
+
 class Server(BaseApplication):
     """Runs workers until a signal. `read` returns the settings anew, after SIGHUP."""
 
@@ -70,7 +89,7 @@ class Server(BaseApplication):
             "bind": f"fd://{self._listener}",
             "proc_name": NAME,
             "workers": settings.workers,
-            "worker_class": "sync",
+            "worker_class": f"{__name__}.Worker",
             "worker_tmp_dir": str(self._folder),
             "timeout": settings.timeout,
             "graceful_timeout": settings.limits.drain,
