@@ -180,7 +180,7 @@ class Gateway:
             if request.method == "OPTIONS" and self.settings.origins:
                 return self.settings.main, preflight(adapter.allowed_methods())
             found, values = adapter.match(return_rule=True)
-            is_main = found.rule in WAYBACK_PATHS
+            is_main = found.rule in WAYBACK_PATHS or found.rule.startswith("/web/")
             name = values.get("collection", self.settings.main if is_main else "")
             name = name if name in self.collections else ""
             handler: Any = found.endpoint

@@ -95,8 +95,9 @@ class Resource:
         return self.url if has_scheme else f"http://{self.url}"
 
     def memento(self, capture: Capture) -> str:
-        """Returns the URL of a capture as it was archived."""
-        return f"{self.root}/{capture.timestamp}id_/{escaped(capture.original)}"
+        """Returns the URL of a capture as it was archived. The line of an index may have no URL."""
+        url = capture.original if ":" in capture.original else self.original
+        return f"{self.root}/{capture.timestamp}id_/{escaped(url)}"
 
     def time_map(self, timestamp: str = "") -> str:
         start = f"{timestamp}/" if timestamp else ""

@@ -114,7 +114,7 @@ def _capture_row(
         "address": _address(capture.original),
         "status": status_words(capture.statuscode),
         "type": "revisit" if capture.mimetype == REVISIT else cut(capture.mimetype, 80),
-        "size": f"{capture.length:,} bytes" if capture.length is not None else "-",
+        "size": "-" if capture.length is None else dates.many(capture.length, "byte"),
         "digest": digest,
         "pick": _picks(capture, number)
         if number is not None and _can_be_picked(capture)
