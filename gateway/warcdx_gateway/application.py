@@ -1,6 +1,7 @@
 """The WSGI application: its paths, and what every answer has."""
 import contextlib
 import errno
+import functools
 import importlib.util
 import itertools
 import json
@@ -8,8 +9,7 @@ import socket
 import struct
 import time
 from collections.abc import Callable, Generator, Iterable, Iterator, Mapping
-from email.utils import formatdate
-from typing import Any
+from typing import Any, Optional
 from urllib.parse import urlsplit
 
 from werkzeug.exceptions import HTTPException, MethodNotAllowed, NotFound
@@ -47,7 +47,6 @@ WAYBACK_PATHS = (
 )
 MODULES = ("memento", "clients", "browse")  # each has `rules(gateway)`
 MOST_BODY = 1 << 17  # bytes of a request
-SETTLED = 2  # seconds after which files of the same second have no other time
 HEALTH_SECONDS = 5
 MOST_WHOLE = 1 << 16  # bytes of an answer that is made before it is sent
 
@@ -99,11 +98,22 @@ class Gateway:
         """Takes a slot for a block. Raises Refusal with status 503 if none is free in time."""
         return self.shares.slot(kind)
 
-    def clock(self, kind: Share) -> Clock:
-        """Returns the clock of an answer, which is checked before each costly step of it."""
+    def clock(self, kind: Share, client: Optional[socket.socket] = None) -> Clock:
+        """Returns the clock of an answer, which is checked before each costly step of it.
+
+        It raises ConnectionResetError if the client has left with a reset.
+        """
         limits = self.settings.limits
-        seconds = limits.exact if kind is Share.EXACT else limits.wide
-        return Clock(seconds, limits.query, self.beat)
+        if kind is Share.EXACT:
+            return Clock(limits.exact, limits.query, self.beat)
+
+        def beat() -> None:
+            self.beat()
+            if client is not None:
+                with contextlib.suppress(BlockingIOError):
+                    client.recv(1, socket.MSG_PEEK | socket.MSG_DONTWAIT)
+
+        return Clock(limits.wide, limits.query, beat)
 
     def captures(
         self, collection: Collection, query: str, limit: int, kind: Share = Share.WIDE
@@ -134,8 +144,9 @@ class Gateway:
         text = translated(request.query_text if query is None else query)
         plan = plan_of(text, form, self.settings.limits)
         kind = Share.EXACT if plan.is_exact else Share.WIDE
-        index, clock = collection.index, self.clock(kind)
-        headers = validators(collection)
+        clock = self.clock(kind, request.environ.get("gunicorn.socket"))
+        index = collection.index
+        headers = collection.validators()
         if is_unchanged(request, headers):
             clock.check(index)
             index.text(plan.plain_query(plan.resume_key, 1))  # a query that is refused has no 304
@@ -169,14 +180,20 @@ class Gateway:
                 response.vary.add("Origin")
         response.call_on_close(lambda: self.metrics.seconds.observe(time.monotonic() - start))
         self.metrics.requests.labels(name, str(response.status_code)).inc()
-        return Sent(self, environ, response(environ, start_response))
+        if response.status_code != 200:
+            return Sent(self, environ, response(environ, start_response))
+        # What Werkzeug does for other statuses costs more than an exact answer.
+        if response.is_sequence and "Content-Length" not in response.headers:
+            response.headers["Content-Length"] = str(sum(map(len, response.response)))
+        start_response(response.status, response.headers.to_wsgi_list())
+        return Sent(self, environ, response.get_app_iter(environ))
 
     def _response(self, request: GatewayRequest) -> tuple[str, Response]:
         """Returns the name of the collection, if there is one, and the response."""
         name = ""
         try:
             self._check_host(request)
-            adapter = self._paths.bind_to_environ(request.environ)
+            adapter = self._paths.bind("", path_info=request.path, default_method=request.method)
             if request.method == "OPTIONS" and self.settings.origins:
                 return self.settings.main, preflight(adapter.allowed_methods())
             found, values = adapter.match(return_rule=True)
@@ -185,6 +202,8 @@ class Gateway:
             name = name if name in self.collections else ""
             handler: Any = found.endpoint
             return name, handler(self, request, **values)
+        except ConnectionError:
+            raise  # the client has left
         except HTTPException as error:
             return name, http_response(error)
         except (Refusal, Error, OSError, MemoryError) as error:
@@ -211,10 +230,7 @@ class Gateway:
 
         The name of the host is the one that a browser looked up.
         """
-        try:
-            host = urlsplit(f"//{request.environ.get('HTTP_HOST') or 'localhost'}").hostname or ""
-        except ValueError:
-            host = ""
+        host = host_of(request.environ.get("HTTP_HOST") or "localhost")
         if self.settings.is_local and is_loopback(host):
             return
         if host not in self.settings.hosts and "*" not in self.settings.hosts:
@@ -242,8 +258,8 @@ class Sent:
                 self._gateway.metrics.bytes.inc(len(piece))
                 yield piece
             self._is_whole = True
-        except GeneratorExit:
-            raise
+        except (ConnectionError, GeneratorExit):
+            raise  # the client has left
         except BaseException as error:
             self._is_whole = True  # it is counted here
             self._break(error)
@@ -317,14 +333,6 @@ def streamed(pieces: Iterator[bytes], headers: Mapping[str, str], kind: str) -> 
     return response
 
 
-def validators(collection: Collection) -> dict[str, str]:
-    """Returns the headers by which a client asks whether it has an answer already."""
-    headers = {"Cache-Control": "no-cache", "ETag": f'"{collection.tag}"'}
-    if time.time() - collection.modified > SETTLED:  # else other files may have the same second
-        headers["Last-Modified"] = formatdate(collection.modified, usegmt=True)
-    return headers
-
-
 def is_unchanged(request: Request, headers: Mapping[str, str]) -> bool:
     """Returns whether the client has an answer from the present indexes (RFC 9110, 13.2.2).
 
@@ -368,6 +376,15 @@ def kind_of(plan: Plan) -> str:
     if plan.output is Output.CDXJ and plan.form is Form.PYWB:
         return "text/x-cdxj; charset=utf-8"
     return KINDS[plan.output]
+
+
+@functools.lru_cache
+def host_of(field: str) -> str:
+    """Returns the host of a field `Host` without its port, nothing if it can't be read."""
+    try:
+        return urlsplit(f"//{field}").hostname or ""
+    except ValueError:
+        return ""
 
 
 def text_of(error: BaseException) -> str:

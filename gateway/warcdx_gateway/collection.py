@@ -5,6 +5,7 @@ import os
 import pathlib
 import time
 from collections.abc import Sequence
+from email.utils import formatdate
 from typing import Any, Optional
 from urllib.parse import quote_plus
 
@@ -19,6 +20,7 @@ MOST_END = 1 << 16  # bytes in which the last line of an index is looked for
 CHECK_SECONDS = 10  # for the first queries of an index
 MOST_SUMMARY = 16 << 20  # bytes
 SUMMARY = ".summary.json"  # what is added to the name of an index
+SETTLED = 2  # seconds after which no other files get the same time
 TRIES = 3  # to open files while they are replaced
 # A capture before all others, and one after all: their searches read the ends of each index.
 CHECKS = ("key=!&limit=1&fl=offset", "key=%F4%8F%BF%BF&matchType=prefix&limit=1&fl=offset")
@@ -88,6 +90,7 @@ class Collection:
         self._bad: Optional[Stamp] = None
         self.tag = ""
         self.modified = 0
+        self._date = ""
 
     def open(self) -> None:
         """Opens the indexes. Raises OSError, or an Error of the package if they are none."""
@@ -132,6 +135,13 @@ class Collection:
         self._bad = None
         return "done"
 
+    def validators(self) -> dict[str, str]:
+        """Returns the headers by which a client asks whether it has an answer already."""
+        headers = {"Cache-Control": "no-cache", "ETag": f'"{self.tag}"'}
+        if time.time() - self.modified > SETTLED:  # else other files may have the same second
+            headers["Last-Modified"] = self._date
+        return headers
+
     def archive(self, filename: str) -> Optional[pathlib.Path]:
         """Returns the file of this name in the folders, or None. It is never outside of them."""
         for folder in self.settings.archives:
@@ -171,6 +181,7 @@ class Collection:
         key = (self.settings.indexes, generation.stamp, self._limits)
         self.tag = hashlib.sha256(repr(key).encode()).hexdigest()[:20]
         self.modified = max(max(times[-2:]) for times in generation.stamp) // 10**9
+        self._date = formatdate(self.modified, usegmt=True)
 
     def _renewed(self) -> Generation:
         """Returns the present files. They have their names before and after they were asked."""

@@ -1,10 +1,12 @@
 """The workers: gunicorn runs the application in processes of limits of their own."""
+import gc
 import os
 import pathlib
 import resource
 import shutil
 import signal
 import socket
+import sys
 import tempfile
 from collections.abc import Callable
 from types import FrameType
@@ -28,6 +30,7 @@ from .shared import Metrics, Shares
 
 BACKLOG = 1024  # connections that wait for a worker
 MOST_LINE = 70_000  # bytes of the line of a request: a query has at most 65,536
+ENDS = (signal.SIGTERM, signal.SIGINT, signal.SIGQUIT, signal.SIGABRT)
 OTHER_FILES = 200  # that are open beside indexes
 
 
@@ -37,7 +40,7 @@ class Log(gunicorn.glogging.Logger):
     error_fmt = f"{NAME}: %(message)s"
 
     def exception(self, msg: str, *args: Any, **kwargs: Any) -> None:
-        self.error_log.error(msg, *args)
+        self.error_log.error(f"{msg}: %s", *args, sys.exc_info()[1])
 
 
 class Master(gunicorn.arbiter.Arbiter):
@@ -47,6 +50,15 @@ class Master(gunicorn.arbiter.Arbiter):
         self.app.look()
         super().manage_workers()
 
+    def spawn_worker(self) -> Any:
+        """Starts a worker, which gets a signal that comes meanwhile when it can handle it."""
+        signal.pthread_sigmask(signal.SIG_BLOCK, ENDS)
+        try:
+            return super().spawn_worker()
+        finally:
+            if os.getpid() == self.pid:
+                signal.pthread_sigmask(signal.SIG_UNBLOCK, ENDS)
+
     def stop(self, graceful: bool = True) -> None:
         gunicorn.systemd.sd_notify("STOPPING=1", self.log)
         super().stop(graceful)
@@ -55,11 +67,19 @@ class Master(gunicorn.arbiter.Arbiter):
 class Worker(gunicorn.workers.sync.SyncWorker):
     """A process that answers one request at a time."""
 
+    def init_signals(self) -> None:
+        super().init_signals()
+        signal.pthread_sigmask(signal.SIG_UNBLOCK, ENDS)
+
     def handle_exit(self, sig: int, frame: Optional[FrameType]) -> None:
-        """Ends after the present answer. No connection waits for this worker then."""
+        """Ends after the present answer. No connection waits for this worker then.
+
+        A socket that doesn't listen takes the place of each that does, as it is used until then.
+        """
         super().handle_exit(sig, frame)
-        for listener in self.sockets:
-            listener.close()
+        with socket.socket() as silent:
+            for listener in self.sockets:
+                os.dup2(silent.fileno(), listener.fileno())
 
     def accept(self, listener: Any) -> None:
         try:
@@ -139,6 +159,7 @@ class Server(BaseApplication):
         end_with_parent(worker.ppid, signal.SIGTERM)
         memory = self._settings.memory
         resource.setrlimit(resource.RLIMIT_AS, (memory, memory))
+        gc.freeze()  # what the master has loaded stays
         self._metrics.sit()
         self._gateway.beat = worker.notify
 

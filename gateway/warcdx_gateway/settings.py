@@ -1,5 +1,6 @@
 """The file of settings, in TOML: addresses, limits and collections."""
 import dataclasses
+import functools
 import ipaddress
 import os
 import pathlib
@@ -170,6 +171,7 @@ def checked(settings: Settings) -> Settings:
     return settings
 
 
+@functools.lru_cache
 def is_loopback(host: str) -> bool:
     """Returns whether an address or the name of a host is that of this machine only."""
     try:
