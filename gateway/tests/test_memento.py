@@ -251,6 +251,10 @@ class Raw(support.Pages):
             ),
             response("http://example.com/packed", DATE, packed, http=["Content-Encoding: gzip"]),
             response("http://example.com/brotli", DATE, brotli, http=["Content-Encoding: br"]),
+            *(
+                response(f"http://example.com/{name}", DATE, b"x", http=[f"Content-Encoding: {coding}"])
+                for name, coding in (("hostile", "a\x1b b\x7f"), ("codings", "gzip," * 999))
+            ),
             response("http://example.com/many", DATE, b"many", http=many),
             response("http://example.com/odd", DATE, b"odd", status="999 Odd"),
             response("http://example.com/empty", DATE, b"", status="304 Not Modified"),
@@ -335,6 +339,10 @@ class Raw(support.Pages):
         answer = self.raw("http://example.com/brotli")
         self.assertEqual("br", answer.headers["Content-Encoding"])
         self.assertEqual(b"\x0b\x02\x80text\x03", answer.data)
+        answer = self.raw("http://example.com/hostile")
+        self.assertEqual("a b", answer.headers["Content-Encoding"])
+        answer = self.raw("http://example.com/codings", Accept_Encoding="gzip")
+        self.assertEqual(502, answer.status_code)
 
     def test_archived_fields_are_bounded(self) -> None:
         answer = self.raw("http://example.com/many")

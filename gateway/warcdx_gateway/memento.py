@@ -30,6 +30,7 @@ LINK_FORMAT = "application/link-format"
 MOST_MEMENTOS = 5000  # of a page of a TimeMap
 MOST_FIELDS = 64  # of an archived head
 MOST_HEAD = 6000  # bytes of the fields that are passed on, or of a Link
+MOST_CODING = 200  # characters of Content-Encoding
 MOST_HELD = 1 << 20  # bytes of a payload that are read before its answer begins
 KNOWN_CODINGS = frozenset((b"identity", b"gzip", b"x-gzip", b"deflate"))  # that are undone
 ARCHIVED = "X-Archive-Orig-"
@@ -260,13 +261,8 @@ def _archived(
     headers["Memento-Datetime"] = date_of(capture)
     if links := resource.links(capture):
         headers["Link"] = links
-    what, named = "stored", content_codings(text or b"")
-    if named:
-        headers["Vary"] = "Accept-Encoding"
-        if KNOWN_CODINGS.issuperset(named) and not _accepts(request, named):
-            what = "payload"
-        else:
-            headers["Content-Encoding"] = ", ".join(each.decode("latin-1") for each in named[::-1])
+    what, coding = _coded(request, content_codings(text or b""))
+    headers.update(coding)
     if head is not None:
         kind = head.field("Content-Type") or ""
         found = _STATUS.match(head.line)
@@ -284,9 +280,22 @@ def _archived(
     return response
 
 
-def _accepts(request: Request, named: list[bytes]) -> bool:
+def _coded(request: Request, named: list[bytes]) -> tuple[str, dict[str, str]]:
+    """Returns which payload a client gets, by its content codings, and the fields that say so.
+
+    The codings stay if the client takes them, or if one isn't known.
+    """
+    if not named:
+        return "stored", {}
+    names = [visible(each.decode("latin-1")) for each in reversed(named)]
     accepted = request.accept_encodings
-    return all(accepted.quality(each.decode("latin-1").removeprefix("x-")) > 0 for each in named)
+    is_accepted = all(accepted.quality(each.removeprefix("x-")) > 0 for each in names)
+    if KNOWN_CODINGS.issuperset(named) and not is_accepted:
+        return "payload", {"Vary": "Accept-Encoding"}
+    coding = ", ".join(names)
+    if len(coding) > MOST_CODING:
+        raise NotShown("The payload can't be sent.", "It has too many content codings.", 502)
+    return "stored", {"Vary": "Accept-Encoding", "Content-Encoding": coding}
 
 
 def _capture_of(resource: Resource, capture: Capture, target: str) -> str:
