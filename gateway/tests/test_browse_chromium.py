@@ -1,4 +1,4 @@
-"""The pages in headless Chromium: a way from the search to a payload, the keyboard, names for screen readers, hostile pages."""
+"""The pages in headless Chromium: the way to a payload, the keyboard, names, hostile pages."""
 import asyncio
 import unittest
 from collections.abc import Sequence
@@ -75,9 +75,11 @@ class Browsing(support.Pages, unittest.IsolatedAsyncioTestCase):
             await tab.open(self.address("/crawl/browse/search?url=example.com&year=2016"))
             self.assertEqual(
                 [
-                    "Skip to the content", "Collections", "A crawl", "Address or host", "Match", "From", "To", "Search",
-                    "2016: 3 captures", "2018: 1 capture", "The years as a table",
-                    "Thursday, 3 March 2016: 2 captures", "Saturday, 31 December 2016: 1 capture", "The days as a table",
+                    "Skip to the content", "Collections", "A crawl", "Address or host", "Match",
+                    "From", "To", "Search", "2016: 3 captures", "2018: 1 capture",
+                    "The years as a table",
+                    "Thursday, 3 March 2016: 2 captures", "Saturday, 31 December 2016: 1 capture",
+                    "The days as a table",
                     "Record of 3 March 2016, 09:34:31",
                 ],
                 [await tab.tab() for _ in range(15)],
@@ -132,13 +134,17 @@ class Browsing(support.Pages, unittest.IsolatedAsyncioTestCase):
             self.assertIn("Captures of each day of 2016", await tab.named("table"))
 
     async def test_the_pages_fit_and_follow_the_scheme_of_colours(self) -> None:
+        offsets = {"first": 0, "second": self.offset_of_second()}
+        pairs = {name: self.pair("a.warc", offset) for name, offset in offsets.items()}
         paths = [
-            "/browse", "/crawl/browse/", "/crawl/browse/search?url=example.com&year=2016", "/crawl/browse/search?url=*.example.com",
+            "/browse",
+            "/crawl/browse/",
+            "/crawl/browse/search?url=example.com&year=2016",
+            "/crawl/browse/search?url=*.example.com",
             "/crawl/browse/search?url=",
-            "/crawl/browse/record?" + urlencode(self.place_at("a.warc", 0)),
-            "/crawl/browse/compare?"
-            + urlencode({"first": self.pair("a.warc", 0), "second": self.pair("a.warc", self.offset_of_second())}),
-        ]  # fmt: skip
+            f"/crawl/browse/record?{urlencode(self.place_at('a.warc', 0))}",
+            f"/crawl/browse/compare?{urlencode(pairs)}",
+        ]
         async with browser() as tab:
             for width, height in WIDTHS:
                 backgrounds = set()
@@ -203,24 +209,35 @@ class Hostile(support.Pages, unittest.IsolatedAsyncioTestCase):
     def attacks(self) -> bytes:
         """Returns a page that tries to run scripts, to fetch, to send and to go elsewhere."""
         evil = self.evil
-        return f"""<!DOCTYPE html><base href="{evil}/base/"><meta http-equiv=refresh content="0;url={evil}/refresh">
-<meta http-equiv=Content-Security-Policy content="default-src * 'unsafe-inline'"><link rel=stylesheet href={evil}/style><link rel=icon href={evil}/icon>
-<link rel=prefetch href={evil}/prefetch><link rel=preconnect href={evil}><link rel=dns-prefetch href=//evil.example>
-<style>@import url({evil}/import); @font-face {{ font-family: f; src: url({evil}/font) }} p {{ font-family: f; background: url({evil}/background) }}
-a {{ position: fixed; left: 0; right: 0 }} #upper {{ top: 0; bottom: 50% }} #lower {{ top: 50%; bottom: 0 }}</style>
-<script>top.hacked = 1; parent.document.title = "hacked"; fetch("{evil}/fetch"); setTimeout(() => {{ top.location = "{evil}/top" }}, 5000)</script>
+        return f"""<!DOCTYPE html><base href="{evil}/base/">
+<meta http-equiv=refresh content="0;url={evil}/refresh">
+<meta http-equiv=Content-Security-Policy content="default-src * 'unsafe-inline'">
+<link rel=stylesheet href={evil}/style><link rel=icon href={evil}/icon>
+<link rel=prefetch href={evil}/prefetch><link rel=preconnect href={evil}>
+<link rel=dns-prefetch href=//evil.example>
+<style>@import url({evil}/import); @font-face {{ font-family: f; src: url({evil}/font) }}
+p {{ font-family: f; background: url({evil}/background) }}
+a {{ position: fixed; left: 0; right: 0 }}
+#upper {{ top: 0; bottom: 50% }} #lower {{ top: 50%; bottom: 0 }}</style>
+<script>top.hacked = 1; parent.document.title = "hacked"; fetch("{evil}/fetch");
+setTimeout(() => {{ top.location = "{evil}/top" }}, 5000)</script>
 <script src={evil}/script></script><body onload="top.hacked = 1" onpageshow="top.hacked = 1">
-<p>Some text<img src={evil}/image onerror="top.hacked = 1"><img src=/browse/style.css><video src={evil}/video autoplay poster={evil}/poster></video>
-<iframe src={evil}/frame></iframe><iframe srcdoc="<script>top.hacked = 1</script>"></iframe><object data={evil}/object></object><embed src={evil}/embed>
+<p>Some text<img src={evil}/image onerror="top.hacked = 1"><img src=/browse/style.css>
+<video src={evil}/video autoplay poster={evil}/poster></video>
+<iframe src={evil}/frame></iframe><iframe srcdoc="<script>top.hacked = 1</script>"></iframe>
+<object data={evil}/object></object><embed src={evil}/embed>
 <svg onload="top.hacked = 1"><use href={evil}/use#a /><image href={evil}/svgimage /></svg>
-<form id=f action={evil}/form method=post><button autofocus formtarget=_top>go</button></form><input form=f type=submit>
-<a id=upper target=_top href={evil}/upper ping={evil}/ping>Link</a><a id=lower href={evil}/lower>Link</a>
+<form id=f action={evil}/form method=post><button autofocus formtarget=_top>go</button></form>
+<input form=f type=submit><a id=upper target=_top href={evil}/upper ping={evil}/ping>Link</a>
+<a id=lower href={evil}/lower>Link</a>
 """.encode()
 
     def svg(self) -> bytes:
         return (
-            f"<?xml version='1.0'?><?xml-stylesheet href='{self.evil}/xsl' type='text/xsl'?><svg xmlns='http://www.w3.org/2000/svg'"
-            f" onload='top.hacked=1'><script>top.hacked=1</script><script xmlns='http://www.w3.org/1999/xhtml'>top.hacked=1</script>"
+            f"<?xml version='1.0'?><?xml-stylesheet href='{self.evil}/xsl' type='text/xsl'?>"
+            "<svg xmlns='http://www.w3.org/2000/svg' onload='top.hacked=1'>"
+            "<script>top.hacked=1</script>"
+            "<script xmlns='http://www.w3.org/1999/xhtml'>top.hacked=1</script>"
             f"<image href='{self.evil}/image'/></svg>"
         ).encode()
 
@@ -254,7 +271,7 @@ a {{ position: fixed; left: 0; right: 0 }} #upper {{ top: 0; bottom: 50% }} #low
                 await self.check_nowhere(tab, name, self.address(name))
 
     async def test_the_policy_alone_holds_a_payload_in_a_window(self) -> None:
-        """Without the header that browsers send about the window, the policy of the payload is what is left."""
+        """Without the header that browsers send about the window, the policy is what is left."""
         async with browser() as tab:
             with mock.patch("warcdx_gateway.browse.routes.WINDOW", "none"):
                 await tab.open(self.address("html", "payload"))

@@ -29,7 +29,8 @@ class Texts(unittest.TestCase):
             ),
             ("<script>var a = '<p>no</p>'</script><style>p {}</style><p>yes", ["yes"]),
             (
-                "<noscript><p>no</p></noscript><template><p>no</template><svg><text>no</text></svg>yes",
+                "<noscript><p>no</p></noscript><template><p>no</template>"
+                "<svg><text>no</text></svg>yes",
                 ["yes"],
             ),
             ("<ul><li>a</li><li>b</li></ul><table><tr><td>c<td>d</table>", ["a", "b", "c", "d"]),

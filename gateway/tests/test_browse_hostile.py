@@ -17,9 +17,14 @@ HOME = "http://example.com/"
 SCRIPT = "<script>top.hacked=1</script>"
 MARKUP = f"\"'></title></iframe></svg>{SCRIPT}<img src=x onerror=alert(1)>"
 ADDRESSES = (
-    "javascript:alert(document.domain)", "data:text/html," + SCRIPT, "http://evil.example/?" + MARKUP,
-    "http://evil.example/\u202egpj.exe", "http://evil.example/\x9b31m", "//evil.example/", "..//..//",
-)  # fmt: skip
+    "javascript:alert(document.domain)",
+    "data:text/html," + SCRIPT,
+    "http://evil.example/?" + MARKUP,
+    "http://evil.example/\u202egpj.exe",
+    "http://evil.example/\x9b31m",
+    "//evil.example/",
+    "..//..//",
+)
 OUTSIDE = (
     "../outside.warc", "link.warc", "/etc/passwd", "../../../../../../etc/passwd",
     "good.warc/../../outside.warc", ".", "..", "a\0b", "x" * 5000, "pipe.warc", "-", "-h",
@@ -120,8 +125,9 @@ class Indexes(support.Pages):
     def test_years_that_are_no_dates_are_shown(self) -> None:
         found = text_of(self.get("search", url=HOME))
         self.assertIn("The time of 2 captures is no date.", found)
-        for year, count in (("0000", "1 capture"), ("0001", "1 capture"), ("9999", "1 capture"), ("2016", "10 captures")):
-            self.assertIn(f"<h2>{year}: {count}</h2>", self.get("search", url=HOME, year=year))
+        for year, count in (("0000", 1), ("0001", 1), ("9999", 1), ("2016", 10)):
+            words = f"<h2>{year}: {count} capture{'s' if count > 1 else ''}</h2>"
+            self.assertIn(words, self.get("search", url=HOME, year=year))
         for day in ("00000000", "20161345", "99991231"):
             self.assertIn("Record of", self.get("captures", url=HOME, from_=day, to=day))
 
@@ -164,29 +170,45 @@ class Records(support.Pages):
         self.bomb = bomb()
         many = [f"X-{number}: {MARKUP}" for number in range(3000)]
         html = f"<meta http-equiv=refresh content='0;url=http://evil.example/'>{SCRIPT}".encode()
+        svg = b"<svg xmlns='http://www.w3.org/2000/svg'><script>1</script></svg>"
+        quotes = 'text/html"; charset="x\r\nX-Injected: 1'
+        packed, cut = gzip.compress(self.bomb), gzip.compress(html)[:-4]
+        controls = ["X\0-Name\x1b: a\rb\x7f", "\udcff: \udcfe", "No colon", MARKUP]
+        pointers = [
+            f"WARC-Payload-Digest: sha1:{MARKUP}&key=x",
+            f"WARC-Refers-To-Target-URI: {MARKUP}",
+            f"WARC-Refers-To-Date: {MARKUP}",
+        ]
+        http = "application/http; msgtype=response"
+
+        def coded(name: str, body: bytes, coding: str) -> bytes:
+            return response(HOME + name, date, body, http=[f"Content-Encoding: {coding}"])
+
+        def digested(name: str, digest: str) -> bytes:
+            return response(HOME + name, date, html, fields=[f"WARC-Block-Digest: {digest}"])
+
         self.all = {
             "html": response(HOME + "html", date, html),
             "image": response(HOME + "image", date, html, "image/png"),
-            "svg": response(HOME + "svg", date, b"<svg xmlns='http://www.w3.org/2000/svg'><script>1</script></svg>", "image/svg+xml"),
-            "quotes": response(HOME + "quotes", date, html, "text/html\"; charset=\"x\r\nX-Injected: 1"),
+            "svg": response(HOME + "svg", date, svg, "image/svg+xml"),
+            "quotes": response(HOME + "quotes", date, html, quotes),
             "charset": response(HOME + "charset", date, html, "text/html; charset=utf-7"),
             "script": response(HOME + "script", date, b"alert(1)", "text/javascript"),
             "type": response(HOME + "type", date, html, MARKUP),
             "none": response(HOME + "none", date, html, None),
             "many": response(HOME + "many", date, html, http=many),
-            "controls": response(HOME + "controls", date, html, http=["X\0-Name\x1b: a\rb\x7f", "\udcff: \udcfe", "No colon", MARKUP]),
-            "bomb": response(HOME + "bomb", date, self.bomb, http=["Content-Encoding: gzip"]),
-            "nested": response(HOME + "nested", date, gzip.compress(self.bomb), http=["Content-Encoding: gzip, gzip, gzip"]),
-            "codings": response(HOME + "codings", date, html, http=["Content-Encoding: " + "gzip," * 20_000]),
-            "unknown": response(HOME + "unknown", date, html, http=["Content-Encoding: br"]),
-            "cut": response(HOME + "cut", date, gzip.compress(html)[:-4], http=["Content-Encoding: gzip"]),
-            "no-head": record("response", HOME + "no-head", date, b"\0" * 9, "application/http; msgtype=response"),
-            "changed": response(HOME + "changed", date, html, fields=["WARC-Block-Digest: sha1:" + "A" * 32]),
-            "no-digest": response(HOME + "no-digest", date, html, fields=["WARC-Block-Digest: " + MARKUP]),
-            "revisit": record("revisit", HOME + "revisit", date, b"", "application/http", [
-                f"WARC-Payload-Digest: sha1:{MARKUP}&key=x", f"WARC-Refers-To-Target-URI: {MARKUP}", f"WARC-Refers-To-Date: {MARKUP}"]),
+            "controls": response(HOME + "controls", date, html, http=controls),
+            "bomb": coded("bomb", self.bomb, "gzip"),
+            "nested": coded("nested", packed, "gzip, gzip, gzip"),
+            "codings": coded("codings", html, "gzip," * 20_000),
+            "unknown": coded("unknown", html, "br"),
+            "cut": coded("cut", cut, "gzip"),
+            "no-head": record("response", HOME + "no-head", date, b"\0" * 9, http),
+            "changed": digested("changed", "sha1:" + "A" * 32),
+            "no-digest": digested("no-digest", MARKUP),
+            "revisit": record("revisit", HOME, date, b"", "application/http", pointers),
             "address": record("resource", MARKUP, date, html, MARKUP),
-        }  # fmt: skip
+        }
         archives.add("a.warc", list(self.all.values()), index=False)
         archives.add("c.warc", [response(f"{HOME}a", date, page("a"))])
         self.offsets, at, lines = {}, 0, []
@@ -208,8 +230,11 @@ class Records(support.Pages):
         answer = self.ask("payload", **self.named(name))
         self.assertEqual(200, answer.status_code)
         self.assertEqual(PAYLOAD_POLICY, answer.headers["Content-Security-Policy"])
-        for header, value in (("X-Content-Type-Options", "nosniff"), ("Referrer-Policy", "no-referrer"),
-                              ("Cross-Origin-Resource-Policy", "same-origin")):  # fmt: skip
+        for header, value in (
+            ("X-Content-Type-Options", "nosniff"),
+            ("Referrer-Policy", "no-referrer"),
+            ("Cross-Origin-Resource-Policy", "same-origin"),
+        ):
             self.assertEqual(value, answer.headers[header])
         self.assertNotIn("X-Injected", answer.headers)
         return answer.headers["Content-Type"], answer.data
@@ -232,9 +257,13 @@ class Records(support.Pages):
 
     def test_payloads_have_types_of_a_list(self) -> None:
         for name, kind in (
-            ("html", "text/html; charset=utf-8"), ("image", "image/png"), ("svg", "text/plain; charset=utf-8"),
-            ("charset", "text/html"), ("script", "text/plain; charset=utf-8"), ("quotes", "text/plain; charset=utf-8"),
-        ):  # fmt: skip
+            ("html", "text/html; charset=utf-8"),
+            ("image", "image/png"),
+            ("svg", "text/plain; charset=utf-8"),
+            ("charset", "text/html"),
+            ("script", "text/plain; charset=utf-8"),
+            ("quotes", "text/plain; charset=utf-8"),
+        ):
             self.assertEqual(kind, (self.payload(name))[0])
         for name in ("type", "none", "address"):
             self.get("payload", 415, **self.named(name))
@@ -255,6 +284,18 @@ class Records(support.Pages):
             f"/crawl/browse/payload?{query}", headers={"Sec-Fetch-Dest": "document"}
         )
         self.assertEqual(f"record?{query}", answer.headers["Location"])
+
+    def test_captures_as_they_were_archived_are_held(self) -> None:
+        for name in self.all:
+            answer = self.client.get(f"/crawl/20160303000000id_/{HOME}{name}")
+            with self.subTest(name):
+                self.assertIn(answer.status_code, (200, 404, 502, 422))
+                if answer.status_code == 200:
+                    self.assertEqual(PAYLOAD_POLICY, answer.headers["Content-Security-Policy"])
+                for field, value in answer.headers:
+                    self.assertTrue(value.isascii() and value.isprintable(), field)
+                    self.assertNotIn("injected", field.lower())
+            answer.close()
 
     def test_what_can_not_be_seen_is_shown(self) -> None:
         text = text_of(self.shown("controls"))
@@ -302,8 +343,11 @@ class Records(support.Pages):
         self.assertLess(tracemalloc.get_traced_memory()[1], 60 * MEGABYTE)
 
     def test_codings_that_can_not_be_undone_are_said(self) -> None:
-        for name, words in (("unknown", "The coding 'br' isn't known."), ("cut", "The compressed body is cut."),
-                            ("no-head", "The block has no HTTP head.")):  # fmt: skip
+        for name, words in (
+            ("unknown", "The coding 'br' isn't known."),
+            ("cut", "The compressed body is cut."),
+            ("no-head", "The block has no HTTP head."),
+        ):
             self.assertIn(words, text_of(self.shown(name)))
         for name in ("unknown", "no-head"):
             found = text_of(

@@ -109,9 +109,10 @@ class Escaping(unittest.TestCase):
 class Unseen(unittest.TestCase):
     def test_controls_and_marks_are_written_as_code_points(self) -> None:
         for character, words in (
-            ("\0", "[U+0000]"), ("\r", "[U+000D]"), ("\x1b", "[U+001B]"), ("\x7f", "[U+007F]"), ("\x9b", "[U+009B]"),
-            ("\u200b", "[U+200B]"), ("\u202e", "[U+202E]"), ("\u2066", "[U+2066]"), ("\u2028", "[U+2028]"),
-            ("\ufeff", "[U+FEFF]"), ("\U000e0041", "[U+E0041]"), ("\ud800", "[U+D800]"), ("\udce9", "\\xE9"),
+            ("\0", "[U+0000]"), ("\r", "[U+000D]"), ("\x1b", "[U+001B]"), ("\x7f", "[U+007F]"),
+            ("\x9b", "[U+009B]"), ("\u200b", "[U+200B]"), ("\u202e", "[U+202E]"),
+            ("\u2066", "[U+2066]"), ("\u2028", "[U+2028]"), ("\ufeff", "[U+FEFF]"),
+            ("\U000e0041", "[U+E0041]"), ("\ud800", "[U+D800]"), ("\udce9", "\\xE9"),
         ):  # fmt: skip
             self.assertEqual(f"a{words}b", visible(f"a{character}b"))
             self.assertEqual(f'a<b class="unseen">{words}</b>b', shown(f"a{character}b").text)

@@ -193,7 +193,8 @@ def available(gateway: Gateway, request: GatewayRequest) -> Response:
         if len(lines) > MOST_ASKED:
             raise Refusal("TooMany", "url", f"a request has at most {MOST_ASKED} lines")
         asked = [MultiDict(parse_qsl(line.strip())) for line in lines if line.strip()]
-        found: object = {"results": [_available(gateway, request, each) for each in asked]}
+        with gateway.slot(Share.WIDE):
+            found: object = {"results": [_available(gateway, request, each) for each in asked]}
     else:
         found = _available(gateway, request, request.args)
     return Response(json.dumps(found, ensure_ascii=False) + "\n", content_type=JSON)
