@@ -83,9 +83,7 @@ class Source:
                 begun = others[-1:]
         # A page ends with a line feed.
 
-    def values(
-        self, query: str, fields: Sequence[str]
-    ) -> Generator[list[list[str]], None, None]:
+    def values(self, query: str, fields: Sequence[str]) -> Generator[list[list[str]], None, None]:
         """Yields the values of these fields of each capture."""
         for lines in self.row_lines(f"{query}&fl={','.join(fields)}"):
             yield values_of(lines)

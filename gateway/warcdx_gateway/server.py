@@ -19,6 +19,7 @@ import gunicorn.http.wsgi
 import gunicorn.systemd
 import gunicorn.workers.sync
 from gunicorn.app.base import BaseApplication
+from gunicorn.errors import HaltServer
 
 from warcdx import Error
 from warcdx.program import end_with_parent
@@ -153,17 +154,23 @@ class Server(BaseApplication):
     def run(self) -> None:
         gunicorn.http.wsgi.SERVER = NAME
         gunicorn.http.message.MAX_REQUEST_LINE = MOST_LINE
-        Master(self).run()
+        try:
+            Master(self).run()
+        except HaltServer as error:  # the workers that run end with this process
+            raise OSError(error.reason) from None
 
     def begin_worker(self, server: Master, worker: Any) -> None:
         end_with_parent(worker.ppid, signal.SIGTERM)
-        memory = self._settings.memory
+        memory, most = self._settings.memory, resource.getrlimit(resource.RLIMIT_AS)[1]
+        memory = memory if most == resource.RLIM_INFINITY else min(memory, most)
         resource.setrlimit(resource.RLIMIT_AS, (memory, memory))
         gc.freeze()  # what the master has loaded stays
         self._metrics.sit()
         self._gateway.beat = worker.notify
 
     def end_worker(self, server: Master, worker: Any) -> None:
+        if os.getpid() == worker.pid:
+            signal.signal(signal.SIGTERM, signal.SIG_IGN)  # it ends already
         if os.getpid() == worker.pid and os.getppid() != worker.ppid:  # the master was killed
             shutil.rmtree(self._folder, ignore_errors=True)
 

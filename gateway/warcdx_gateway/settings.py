@@ -155,9 +155,7 @@ def checked(settings: Settings) -> Settings:
     require(0 <= settings.port <= 65_535, "port", "has to be from 0 to 65535")
     require(2 <= settings.workers <= MOST_WORKERS, "workers", f"has to be 2 to {MOST_WORKERS}")
     require(1 <= settings.wide < workers, "wide", "has to be 1 or more, and less than 'workers'")
-    require(
-        settings.memory >= LEAST_MEMORY, "memory", f"has to be {LEAST_MEMORY} bytes or more"
-    )
+    require(settings.memory >= LEAST_MEMORY, "memory", f"has to be {LEAST_MEMORY} bytes or more")
     require(
         settings.timeout > settings.limits.query,
         "timeout",
