@@ -284,7 +284,7 @@ def translated(query: str) -> str:
         elif name == "output" and value == "txt":
             piece = "output=text"
         elif name == "collapseTime":
-            piece = f"collapse=timestamp:{value}"
+            piece = f"collapse=timestamp:{quote_plus(value)}"
         elif name == "showPagedIndex" and value == "true":
             raise Refusal("Unknown", name, "the indexes of this server have no blocks", value)
         is_dropped = (
