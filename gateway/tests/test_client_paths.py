@@ -1,5 +1,6 @@
 """The literal requests of clients on other paths than `/cdx`, and in other words."""
 import json
+import time
 import unittest
 import urllib.request
 from xml.etree import ElementTree
@@ -153,6 +154,9 @@ class Paths(Shared):
         wayback = self.xml("/main?q=type:urlquery+url:http%3A%2F%2Fexample.net%2F", 404)
         self.assertEqual("Resource Not In Archive", wayback.findtext("error/title"))
         self.assertTrue(self.refused("/main?q=type:urlquery").startswith("refused NoUrl"))
+        start = time.monotonic()
+        self.assertTrue(self.refused(f"/main?q={'a' * 60_000}").startswith("refused NoUrl"))
+        self.assertLess(time.monotonic() - start, 2)
 
     def xml(self, target: str, status: int = 200) -> ElementTree.Element:
         found = self.server.ask(target)

@@ -52,7 +52,6 @@ URL_MEMBERS = {
 }
 MOST_ASKED = 50  # URLs of one request of the availability API
 MOST_RESULTS = 10_000  # of an XML query
-_PAIR = re.compile(r"(\w+):(\S*)")
 _NOT_XML = re.compile("[^\t\n\r -\ud7ff\ue000-\ufffd\U00010000-\U0010ffff]")
 
 
@@ -138,7 +137,8 @@ def xml_query(
     gateway: Gateway, collection: Collection, sent: "MultiDict[str, str]"
 ) -> Response:
     """Answers a query of OpenWayback: a `type:`, urlquery or prefixquery, and `url:` of a URL."""
-    given = {name: unquote_plus(value) for name, value in _PAIR.findall(sent["q"])}
+    pairs = (each.partition(":") for each in sent["q"].split())
+    given = {name: unquote_plus(value) for name, _, value in pairs}
     kind = given.get("type", "urlquery")
     if kind not in ("urlquery", "prefixquery"):
         raise Refusal("BadQuery", "q", "its type is urlquery or prefixquery", kind)

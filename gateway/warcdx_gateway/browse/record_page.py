@@ -151,7 +151,8 @@ def _payload(record: Read, capture: Capture) -> Markup:
     if size and record.shown_type:
         if not payload.is_whole:
             words += " Its beginning is shown."
-        shown = [element("p", f"The type is {kind}. {_HELD}", class_="help")]
+        held = f" {_HELD}" if record.is_html else ""
+        shown = [element("p", f"The type is {kind}.{held}", class_="help")]
         shown.append(_frame(record, capture))
     elif size:
         words += f" It isn't shown, for its type is {kind}. It can be saved."
