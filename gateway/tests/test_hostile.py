@@ -4,7 +4,6 @@ import socket
 import struct
 import subprocess
 import sys
-import threading
 import time
 import unittest
 from collections.abc import Iterator

@@ -1,5 +1,5 @@
 """HTTP: keep-alive, HEAD, OPTIONS, CORS, tags, compression, limits, health and metrics."""
-import json
+import socket
 import subprocess
 import unittest
 
@@ -28,6 +28,13 @@ class Http(Shared):
             client.send(b"GET /cdx?url=example.com/a&fl=length HTTP/1.0\r\n\r\n")
             self.assertEqual((200, b"300\n"), client.response()[::2])
             self.assertEqual(b"", client.input.read())
+
+    def test_a_client_may_close_its_side_after_the_request(self) -> None:
+        for query in ("url=example.com/a", "url=example.com&sort=reverse&limit=1"):
+            with connected(self.server) as client:
+                client.send(f"GET /cdx?{query}&fl=length HTTP/1.1\r\nHost: localhost\r\n\r\n".encode())
+                client.socket.shutdown(socket.SHUT_WR)
+                self.assertEqual(200, client.response().status)
 
     def test_head_has_the_fields_of_get(self) -> None:
         for target in (

@@ -189,6 +189,31 @@ class Indexes(Case):
         said = [line for line in server.said.read_text().splitlines() if "old indexes" in line]
         self.assertEqual(len(bad) + 2, len(said), said)
 
+    def test_an_older_index_that_comes_back_is_answered_anew(self) -> None:
+        """Its time is that of before, and no client is told that nothing has changed."""
+        self.put(lines(20))
+        server = self.start()
+        self.wait_for(lambda: "last-modified" in server.ask(ALL).fields, "there is no time")
+        first = server.ask(ALL).fields
+        old = self.put(lines(5), "old")
+        os.utime(old, (10**9, 10**9))
+        os.replace(old, self.folder / "index")
+        wanted = self.page("url=example.com/*")
+        self.wait_for(lambda: server.ask(ALL).body == wanted, "the index isn't seen")
+        time.sleep(0.5)  # by all workers
+        for fields in (
+            {"If_Modified_Since": first["last-modified"]},
+            {"If_None_Match": first["etag"]},
+            {"If_None_Match": '"x"', "If_Modified_Since": first["last-modified"]},
+        ):
+            for _ in range(5):
+                self.assertEqual((200, wanted), server.ask(ALL, **fields)[::2])
+
+    def test_limits_of_the_settings_change_the_tag(self) -> None:
+        self.put(lines(20))
+        tags = {self.start(usual=usual).ask(ALL).fields["etag"] for usual in (0, 5)}
+        self.assertEqual(2, len(tags))
+
     def test_a_running_answer_is_of_the_old_index(self) -> None:
         """Also if its program is killed after the index was replaced."""
         self.put(lines(100_000))

@@ -16,9 +16,9 @@ from werkzeug.exceptions import HTTPException, MethodNotAllowed, NotFound
 from werkzeug.routing import Map, Rule
 from werkzeug.wrappers import Request, Response
 
-from warcdx import Capture, Error, Fault, Refused, ReplyTooLate, ReplyTooLong, command
+from warcdx import FIELDS, Capture, Error, Fault, Refused, ReplyTooLate, ReplyTooLong, command
 
-from .answers import Answers, Clock, or_nothing
+from .answers import Answers, Clock, Source, or_nothing
 from .collection import Collection
 from .parameters import Form, translated
 from .plan import Plan, plan_of
@@ -122,13 +122,9 @@ class Gateway:
 
         Raises the errors of the package, or Refusal if it takes too long.
         """
-        clock, index, found = self.clock(kind), collection.index, list[Capture]()
-        clock.check(index)
-        for capture in index.captures(f"{query}&limit={limit}" if query else query, page_size=1000):
-            if len(found) % 1000 == 0:
-                clock.check(index)
-            found.append(capture)
-        return found
+        source = Source(collection.index, self.clock(kind))
+        groups = source.values(f"{query}&limit={limit}", FIELDS)
+        return [Capture.of(values) for group in groups for values in group]
 
     def answer(
         self,
@@ -206,7 +202,7 @@ class Gateway:
             raise  # the client has left
         except HTTPException as error:
             return name, http_response(error)
-        except (Refusal, Error, OSError, MemoryError) as error:
+        except Exception as error:
             return name, self.failed(request, name, error)
 
     def failed(self, request: GatewayRequest, name: str, error: BaseException) -> Response:

@@ -1,6 +1,5 @@
 """The parameters of a query: their names, and what the value of each may be."""
 import re
-from collections.abc import Callable
 from datetime import datetime, timezone
 from enum import Enum
 from urllib.parse import quote_plus, unquote_to_bytes
@@ -12,7 +11,6 @@ from .refusal import Refusal
 from .rows import GROUPED, ORIGINALS, UNKNOWN, Collapse
 from .settings import Limits
 
-PATTERNS = (Test.MATCHES, Test.BEGINS)
 PYWB_NAMES = {"url": "original", "mime": "mimetype", "status": "statuscode"}
 TESTS = {
     "is": (Test.EQUALS, False),
@@ -20,12 +18,55 @@ TESTS = {
     "has": (Test.CONTAINS, False),
     "hasnot": (Test.CONTAINS, True),
 }
-FLAGS = ("true", "false")
-OUTPUTS = ("text", "json", "cdxj")
-SORTS = ("default", "regular", "reverse", "closest")
-MATCHES = ("exact", "prefix", "host", "domain")
-RESUME_KEY = re.compile("[^ ]* [0-9]{14} .+ [0-9]+", re.DOTALL)
-MOST_DIGITS = 7
+FIELD_LIST = ", ".join(FIELDS)
+ADDED = (*UNKNOWN, *GROUPED, *ORIGINALS, "dupecount")
+FIELD = "|".join(map(re.escape, (*FIELDS, *PYWB_NAMES, *ADDED)))
+FLAG = ("true|false", "BadFlag", "it is true or false")
+STAMP = ("[0-9]{1,14}", "BadStamp", "it is 1 to 14 digits")
+MILLION = "(?:[1-9][0-9]{0,5}|1000000)"
+NUMBER = "[0-9]{1,7}"
+NEVER = ("false", "Unknown", "this server counts no captures that are left out")
+# Parameters that may be given once: what each may be, and how it is refused. Each is checked where the
+# program checks it, so that of two that are at fault both name the same one.
+SINGLE = {
+    "url": (".*", "", ""),
+    "key": (".*", "", ""),
+    "matchType": ("exact|prefix|host|domain", "BadMatch", "it is exact, prefix, host or domain"),
+    "from": STAMP,
+    "to": STAMP,
+    "limit": (
+        f"-?0{{0,6}}{MILLION}",
+        "BadLimit",
+        "it is a number from 1 to 1,000,000, or such a number after a -",
+    ),
+    "resumeKey": ("[^ ]* [0-9]{14} .+ [0-9]+", "BadResume", "it isn't the resume key of a page"),
+    "showResumeKey": FLAG,
+    "fl": (
+        f"(?:{FIELD})(?:,(?:{FIELD}))*",
+        "BadField",
+        f"it is a list of fields, separated by commas: {FIELD_LIST}",
+    ),
+    "output": ("text|json|cdxj", "BadOutput", "it is text, json or cdxj"),
+    "gzip": FLAG,
+    "page": (NUMBER, "BadPage", "it is a number of at most 7 digits"),
+    "pageSize": (f"(?!0+$){NUMBER}", "BadPage", "it is a number from 1 on of at most 7 digits"),
+    "showNumPages": FLAG,
+    "fastLatest": FLAG,
+    "closest": STAMP,
+    "sort": (
+        "default|regular|reverse|closest",
+        "BadSort",
+        "it is one of default, regular, reverse, closest",
+    ),
+    "reverse": FLAG,
+    "resolveRevisits": FLAG,
+    "showDupeCount": FLAG,
+    "showGroupCount": FLAG,
+    "showUniqCount": FLAG,
+    "offset": (NUMBER, "BadPage", "it is a number of at most 7 digits"),
+    "showSkipCount": NEVER,
+    "lastSkipTimestamp": NEVER,
+}
 CLIENT_FLAGS = frozenset(
     "fastLatest gzip lastSkipTimestamp omitSelfRedirects resolveRevisits reverse showDupeCount "
     "showGroupCount showNumPages showPagedIndex showResumeKey showSkipCount showUniqCount".split()
@@ -33,8 +74,7 @@ CLIENT_FLAGS = frozenset(
 # Parameters that change no answer here: a number against caches, the name of a function of a page's
 # script, and what depends on columns that indexes in CDXJ don't have.
 IGNORED = frozenset(("_", "callback", "omitSelfRedirects"))
-FIELD_LIST = ", ".join(FIELDS)
-KNOWN = frozenset((*FIELDS, "dupecount", *UNKNOWN, *GROUPED, *ORIGINALS))
+CHECKS = {name: re.compile(pattern, re.DOTALL) for name, (pattern, _, _) in SINGLE.items()}
 
 
 class Form(Enum):
@@ -42,109 +82,6 @@ class Form(Enum):
 
     WAYBACK = "wayback"  # those of the Internet Archive's server
     PYWB = "pywb"  # those of pywb and Common Crawl
-
-
-def check_flag(name: str, value: str) -> None:
-    if value not in FLAGS:
-        raise Refusal("BadFlag", name, "it is true or false", value)
-
-
-def check_false(name: str, value: str) -> None:
-    if value != "false":
-        raise Refusal("Unknown", name, "this server counts no captures that are left out", value)
-
-
-def check_stamp(name: str, value: str) -> None:
-    if not (is_number(value) and len(value) <= 14):
-        raise Refusal("BadStamp", name, "it is 1 to 14 digits", value)
-
-
-def check_number(name: str, value: str) -> None:
-    if not (is_number(value) and len(value) <= MOST_DIGITS):
-        raise Refusal("BadPage", name, f"it is a number of at most {MOST_DIGITS} digits", value)
-
-
-def check_size(name: str, value: str) -> None:
-    check_number(name, value)
-    if int(value) == 0:
-        raise Refusal("BadPage", name, "it is 1 or more", value)
-
-
-def check_limit(name: str, value: str) -> None:
-    digits = value.removeprefix("-")
-    if not (is_number(digits) and len(digits) <= MOST_DIGITS and 1 <= int(digits) <= 1_000_000):
-        raise Refusal(
-            "BadLimit",
-            name,
-            "it is a number from 1 to 1,000,000, or such a number after a -",
-            value,
-        )
-
-
-def check_output(name: str, value: str) -> None:
-    if value not in OUTPUTS:
-        raise Refusal("BadOutput", name, "it is text, json or cdxj", value)
-
-
-def check_sort(name: str, value: str) -> None:
-    if value not in SORTS:
-        raise Refusal("BadSort", name, f"it is one of {', '.join(SORTS)}", value)
-
-
-def check_fields(name: str, value: str) -> None:
-    for field in value.split(","):
-        if PYWB_NAMES.get(field, field) not in KNOWN:
-            raise Refusal(
-                "BadField",
-                name,
-                f"it is a list of fields, separated by commas: {FIELD_LIST}",
-                field or value,
-            )
-
-
-def check_match(name: str, value: str) -> None:
-    if value not in MATCHES:
-        raise Refusal("BadMatch", name, "it is exact, prefix, host or domain", value)
-
-
-def check_resume_key(name: str, value: str) -> None:
-    if not RESUME_KEY.fullmatch(value):
-        raise Refusal("BadResume", name, "it isn't the resume key of a page", value)
-
-
-def check_nothing(name: str, value: str) -> None:
-    """The program checks the value."""
-
-
-# Parameters that may be given once. Each is checked where the program checks it, so that of two that
-# are at fault both name the same one.
-SINGLE: dict[str, Callable[[str, str], None]] = {
-    "url": check_nothing,
-    "key": check_nothing,
-    "matchType": check_match,
-    "from": check_stamp,
-    "to": check_stamp,
-    "limit": check_limit,
-    "resumeKey": check_resume_key,
-    "showResumeKey": check_flag,
-    "fl": check_fields,
-    "output": check_output,
-    "gzip": check_flag,
-    "page": check_number,
-    "pageSize": check_size,
-    "showNumPages": check_flag,
-    "fastLatest": check_flag,
-    "closest": check_stamp,
-    "sort": check_sort,
-    "reverse": check_flag,
-    "resolveRevisits": check_flag,
-    "showDupeCount": check_flag,
-    "showGroupCount": check_flag,
-    "showUniqCount": check_flag,
-    "offset": check_number,
-    "showSkipCount": check_false,
-    "lastSkipTimestamp": check_false,
-}
 
 
 def filter_of(value: str, form: Form) -> Condition:
@@ -243,7 +180,7 @@ class Given:
                 raise Refusal("TooMany", kind, f"there are at most {most} in a query")
 
     def add_filter(self, condition: Condition) -> None:
-        if condition.test in PATTERNS:
+        if condition.is_pattern:
             compiled(condition)
             self.conditions.append((condition, ""))
         else:
@@ -257,7 +194,10 @@ class Given:
     def add_single(self, name: str, value: str, piece: str) -> None:
         if name in self.values:
             raise Refusal("RepeatedParameter", name, "it may be given once")
-        SINGLE[name](name, value)
+        if not CHECKS[name].fullmatch(value):
+            _, cause, text = SINGLE[name]
+            bad = [each for each in value.split(",") if not CHECKS[name].fullmatch(each)]
+            raise Refusal(cause, name, text, bad[0] or value if name == "fl" else value)
         self.values[name] = value
         self.pieces[name] = piece
 
