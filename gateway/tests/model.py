@@ -160,5 +160,7 @@ def answer(request: Request, captures: list[Capture]) -> str:
     if request.output == "text":
         text = "".join(" ".join(value.replace(" ", "%20") for value in row) + "\n" for row in rows)
         return text + (f"\n{key}\n" if key else "")
+    if not rows:
+        return "[]\n"  # as the Internet Archive's server answers
     shown = [names, *rows] + ([[], [key]] if key else [])
     return "[" + ",\n".join(json.dumps(row, ensure_ascii=False, separators=(",", ":")) for row in shown) + "]\n"

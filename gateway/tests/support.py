@@ -352,6 +352,7 @@ class Shared(Case):
 
     server: Server
     captures = SAMPLE
+    settings: Optional[str] = None
 
     @classmethod
     def setUpClass(cls) -> None:
@@ -361,7 +362,7 @@ class Shared(Case):
         case.folder = pathlib.Path(folder.name)
         case.put(cls.captures)
         cls.shared = case.folder
-        cls.server = case.start()
+        cls.server = case.start(cls.settings)
         cls.addClassCleanup(case.doCleanups)
 
     def setUp(self) -> None:

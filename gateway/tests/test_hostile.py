@@ -273,8 +273,8 @@ class Requests(Case):
             ("resumeKey=x&matchType=y", "resumeKey=x"),
             ("matchType=y&resumeKey=x", "matchType=y"),
             ("fl=x&output=y", "fl=x"),
-            ("url=a&url=b&limit=0", "url"),
-            ("limit=0&url=a&url=b", "limit=0"),
+            ("url=a&url=b&limit=x", "url"),
+            ("limit=x&url=a&url=b", "limit=x"),
             ("nosuch=1&from=y", "nosuch"),
             ("from=y", "from=y"),
         ):

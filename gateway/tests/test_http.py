@@ -10,8 +10,10 @@ class Http(Shared):
     def test_paths_that_there_are_not(self) -> None:
         for target in ("/nosuch", "/nosuch/cdx", "/cdx/", "/main/"):
             found = self.server.ask(target + "?url=example.com/a")
-            self.assertEqual(200 if target == "/cdx/" else 404, found.status, target)
-        self.assertEqual("refused NotFound: there is no such path\n", self.server.ask("/x").text)
+            self.assertEqual(404 if "nosuch" in target else 200, found.status, target)
+        for path, what in (("/x", "collection"), ("/main/x/y", "path")):
+            text = f"refused NotFound: there is no such {what}\n"
+            self.assertEqual(text, self.server.ask(path).text)
 
     def test_a_connection_ends_with_its_answer(self) -> None:
         """Further requests on it aren't read, so that none costs the others anything."""

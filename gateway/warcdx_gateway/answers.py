@@ -23,6 +23,7 @@ from .rows import (
     STATUS,
     Collapser,
     DuplicateCounter,
+    Grouper,
     Output,
     Row,
     resume_key,
@@ -108,9 +109,11 @@ class Selection:
 
     def rows(self) -> Iterator[list[Row]]:
         """Yields captures, possibly none."""
-        collapser = Collapser(self._plan.collapses, self._before)
+        kind = Grouper if self._plan.groups else Collapser
+        collapser = kind(self._plan.collapses, self._before)
         for rows in map(self._resolving(), self._lines()):
             yield collapser.select(self._conditions.select(rows))
+        yield collapser.rest()
 
     def timestamps(self) -> Iterator[list[str]]:
         """Yields the timestamps of the captures, and parses nothing else if that is possible."""
@@ -328,7 +331,7 @@ def forward(plan: Plan, selection: Selection, limit: Optional[int]) -> Iterator[
     """Yields captures in the order of the index."""
     writer, counter = writer_of(plan.output, plan.fields), DuplicateCounter()
     left, has_more, last = limit, False, None
-    for rows in selection.rows():
+    for rows in skipped(selection.rows(), plan.skip):
         if left is not None:
             has_more = len(rows) > left
             rows = rows[:left]
@@ -342,6 +345,26 @@ def forward(plan: Plan, selection: Selection, limit: Optional[int]) -> Iterator[
             break
     is_shown = has_more and plan.shows_key
     yield writer.end(resume_key(last) if is_shown and last is not None else None)
+
+
+def skipped(groups: Iterator[list[Row]], count: int) -> Iterator[list[Row]]:
+    """Yields captures without the first ones."""
+    for rows in groups:
+        yield rows[count:]
+        count -= min(count, len(rows))
+
+
+def or_nothing(pieces: Iterator[bytes]) -> Iterator[bytes]:
+    """Yields an array of rows, as the Internet Archive does: without captures it is empty."""
+    begun = b""
+    for piece in pieces:
+        begun += piece
+        if begun.count(b"\n") > 1:  # the first row ends with the line of the names
+            yield begun
+            break
+    else:
+        yield b"[]\n"
+    yield from pieces
 
 
 def ordered(plan: Plan, selection: Selection, window: Window) -> Iterator[bytes]:

@@ -4,6 +4,7 @@ import errno
 import functools
 import importlib.util
 import itertools
+import json
 import socket
 import struct
 import time
@@ -17,9 +18,9 @@ from werkzeug.wrappers import Request, Response
 
 from warcdx import FIELDS, Capture, Error, Fault, Refused, ReplyTooLate, ReplyTooLong, command
 
-from .answers import Answers, Clock, Source
+from .answers import Answers, Clock, Source, or_nothing
 from .collection import Collection
-from .parameters import Form
+from .parameters import Form, translated
 from .plan import Plan, plan_of
 from .refusal import Refusal, program_refusal
 from .rows import Output
@@ -35,7 +36,15 @@ KINDS = {
     Output.CDXJ: TEXT,
     Output.LINES: "text/x-ndjson; charset=utf-8",
 }
-WAYBACK_PATHS = ("/cdx", "/cdx/search/cdx", "/web/timemap/cdx")
+# The paths of the main collection in the form of the Internet Archive.
+WAYBACK_PATHS = (
+    "/cdx",
+    "/cdx/search",
+    "/cdx/search/cdx",
+    "/cdx/search/xd",
+    "/web/timemap/cdx",
+    "/web/timemap/json",
+)
 MODULES = ("memento", "clients", "browse")  # each has `rules(gateway)`
 MOST_BODY = 1 << 17  # bytes of a request
 HEALTH_SECONDS = 5
@@ -117,9 +126,19 @@ class Gateway:
         groups = source.values(f"{query}&limit={limit}", FIELDS)
         return [Capture.of(values) for group in groups for values in group]
 
-    def answer(self, request: GatewayRequest, collection: Collection, form: Form) -> Response:
-        """Answers a query of the parameters of Wayback CDX servers, or of pywb."""
-        plan = plan_of(request.query_text, form, self.settings.limits)
+    def answer(
+        self,
+        request: GatewayRequest,
+        collection: Collection,
+        form: Form,
+        query: str | None = None,
+    ) -> Response:
+        """Answers a query of the parameters of Wayback CDX servers, or of pywb.
+
+        It is that of the request, unless one is given.
+        """
+        text = translated(request.query_text if query is None else query)
+        plan = plan_of(text, form, self.settings.limits)
         kind = Share.EXACT if plan.is_exact else Share.WIDE
         clock = self.clock(kind, request.environ.get("gunicorn.socket"))
         index = collection.index
@@ -131,15 +150,26 @@ class Gateway:
 
         def pieces() -> Iterator[bytes]:
             with self.slot(kind):
-                yield from self._answers.pieces(plan, index, collection.tag, clock)
+                made = self._answers.pieces(plan, index, collection.tag, clock)
+                yield from or_nothing(made) if plan.is_array else made
 
         return streamed(pieces(), headers, kind_of(plan))
+
+    def rows(self, collection: Collection, query: str) -> list[list[str]]:
+        """Returns the rows of a query in the form of the Internet Archive, which names `fl`."""
+        plan = plan_of(f"{query}&output=json", Form.WAYBACK, self.settings.limits)
+        with self.slot(Share.WIDE):
+            clock = self.clock(Share.WIDE)
+            made = self._answers.pieces(plan, collection.index, collection.tag, clock)
+            return list(json.loads(b"".join(made)))[1:]
 
     def __call__(self, environ: dict[str, Any], start_response: Any) -> Iterable[bytes]:
         start, request = time.monotonic(), GatewayRequest(environ)
         name, response = self._response(request)
         response.headers.setdefault("X-Content-Type-Options", "nosniff")
-        if name and (origin := self._allowed_origin(request)):
+        # What a browser shows, with a policy of its own, is for readers alone.
+        is_shown = "Content-Security-Policy" in response.headers
+        if name and not is_shown and (origin := self._allowed_origin(request)):
             response.headers["Access-Control-Allow-Origin"] = origin
             response.headers["Access-Control-Expose-Headers"] = "ETag, Last-Modified, Link"
             if origin != "*":
@@ -165,7 +195,7 @@ class Gateway:
             if request.method == "OPTIONS" and self.settings.origins:
                 return self.settings.main, preflight(adapter.allowed_methods())
             found, values = adapter.match(return_rule=True)
-            is_main = found.rule in WAYBACK_PATHS
+            is_main = found.rule in WAYBACK_PATHS or found.rule.startswith("/web/")
             name = values.get("collection", self.settings.main if is_main else "")
             name = name if name in self.collections else ""
             handler: Any = found.endpoint
@@ -260,27 +290,8 @@ def rule(path: str, handler: Handler, methods: Iterable[str] = METHODS) -> Rule:
 
 
 def own_rules() -> Iterator[Rule]:
-    for path in WAYBACK_PATHS:
-        yield rule(path, answer_wayback)
-    yield rule("/<collection>/cdx", answer_wayback)
-    yield rule("/<collection>/index", answer_pywb)
-    yield rule("/", list_collections)
     yield rule("/health", health)
     yield rule("/metrics", show_metrics)
-
-
-def answer_wayback(gateway: Gateway, request: GatewayRequest, collection: str = "") -> Response:
-    found = gateway.collection(collection) if collection else gateway.main
-    return gateway.answer(request, found, Form.WAYBACK)
-
-
-def answer_pywb(gateway: Gateway, request: GatewayRequest, collection: str) -> Response:
-    return gateway.answer(request, gateway.collection(collection), Form.PYWB)
-
-
-def list_collections(gateway: Gateway, request: GatewayRequest) -> Response:
-    lines = (f"/{each.name}/cdx\t{each.title}\n" for each in gateway.collections.values())
-    return Response("".join(lines), content_type=TEXT)
 
 
 def health(gateway: Gateway, request: GatewayRequest) -> Response:

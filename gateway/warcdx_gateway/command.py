@@ -47,11 +47,11 @@ def read_arguments(arguments: Optional[Sequence[str]]) -> Settings:
     if given.settings is not None:
         settings = read_settings(pathlib.Path(given.settings))
     else:
-        paths = (
+        indexes, archives = (
             tuple(pathlib.Path(name).absolute() for name in names)
             for names in (given.indexes, given.archives)
         )
-        settings = Settings((CollectionSettings("main", "Captures", *paths),), "main")
+        settings = Settings((CollectionSettings("main", "Captures", indexes, archives),), "main")
     changed = {
         name: getattr(given, name)
         for name in ("address", "port", "program", "workers")

@@ -1,5 +1,6 @@
 """The parameters of a query: their names, and what the value of each may be."""
 import re
+from datetime import datetime, timezone
 from enum import Enum
 from urllib.parse import quote_plus, unquote_to_bytes
 
@@ -7,7 +8,7 @@ from warcdx import FIELDS
 
 from .conditions import Condition, Test, compiled, is_literal
 from .refusal import Refusal
-from .rows import ORIGINALS, Collapse
+from .rows import GROUPED, ORIGINALS, UNKNOWN, Collapse
 from .settings import Limits
 
 PYWB_NAMES = {"url": "original", "mime": "mimetype", "status": "statuscode"}
@@ -18,7 +19,8 @@ TESTS = {
     "hasnot": (Test.CONTAINS, True),
 }
 FIELD_LIST = ", ".join(FIELDS)
-FIELD = "|".join(map(re.escape, (*FIELDS, *PYWB_NAMES, *ORIGINALS, "dupecount")))
+ADDED = (*UNKNOWN, *GROUPED, *ORIGINALS, "dupecount")
+FIELD = "|".join(map(re.escape, (*FIELDS, *PYWB_NAMES, *ADDED)))
 FLAG = ("true|false", "BadFlag", "it is true or false")
 STAMP = ("[0-9]{1,14}", "BadStamp", "it is 1 to 14 digits")
 MILLION = "(?:[1-9][0-9]{0,5}|1000000)"
@@ -59,9 +61,19 @@ SINGLE = {
     "reverse": FLAG,
     "resolveRevisits": FLAG,
     "showDupeCount": FLAG,
+    "showGroupCount": FLAG,
+    "showUniqCount": FLAG,
+    "offset": (NUMBER, "BadPage", "it is a number of at most 7 digits"),
     "showSkipCount": NEVER,
     "lastSkipTimestamp": NEVER,
 }
+CLIENT_FLAGS = frozenset(
+    "fastLatest gzip lastSkipTimestamp omitSelfRedirects resolveRevisits reverse showDupeCount "
+    "showGroupCount showNumPages showPagedIndex showResumeKey showSkipCount showUniqCount".split()
+)
+# Parameters that change no answer here: a number against caches, the name of a function of a page's
+# script, and what depends on columns that indexes in CDXJ don't have.
+IGNORED = frozenset(("_", "callback", "omitSelfRedirects"))
 CHECKS = {name: re.compile(pattern, re.DOTALL) for name, (pattern, _, _) in SINGLE.items()}
 
 
@@ -197,3 +209,29 @@ class Given:
         url = self.values.get("url", "")
         has_star = url.startswith("*.") or url.endswith("*")
         return self.values.get("matchType", "prefix" if has_star else "exact") == "exact"
+
+
+def translated(query: str) -> str:
+    """Returns a query of a client in the words of the gateway. What it doesn't know stays."""
+    pieces = []
+    pairs = [(piece, *unquoted(*piece.partition("=")[::2])) for piece in query.split("&")]
+    has_time = all(value for _, name, value in pairs if name == "closest")
+    for piece, name, value in pairs:
+        if name in CLIENT_FLAGS and value in ("True", "False"):
+            piece, value = f"{name}={value.lower()}", value.lower()
+        if name == "closest" and value == "now":
+            piece = f"closest={datetime.now(timezone.utc):%Y%m%d%H%M%S}"
+        elif name == "output" and value == "txt":
+            piece = "output=text"
+        elif name == "collapseTime":
+            piece = f"collapse=timestamp:{quote_plus(value)}"
+        elif name == "showPagedIndex" and value == "true":
+            raise Refusal("Unknown", name, "the indexes of this server have no blocks", value)
+        is_dropped = (
+            name in IGNORED
+            or (name, value) in (("limit", "0"), ("page", "/"), ("showPagedIndex", "false"))
+            or (name, value, has_time) == ("sort", "closest", False)
+        )
+        if not is_dropped:
+            pieces.append(piece)
+    return "&".join(pieces)

@@ -8,7 +8,7 @@ from warcdx import FIELDS
 from .conditions import Condition
 from .parameters import PYWB_NAMES, Form, Given
 from .refusal import Refusal
-from .rows import ORIGINALS, Collapse, Output
+from .rows import GROUPED, ORIGINALS, UNKNOWN, Collapse, Output
 from .settings import Limits
 
 MOST_QUERY = 65_536  # bytes
@@ -63,6 +63,8 @@ class Plan:
     closest: str = ""
     page: Optional[PageNumber] = None
     counts_pages: bool = False
+    skip: int = 0
+    groups: bool = False
     form: Form = Form.WAYBACK
     allows_gzip: bool = True
 
@@ -71,6 +73,11 @@ class Plan:
         """Whether it is for the captures of one key, as they come."""
         is_costly = self.resolves or any(each.is_pattern for each in self.conditions)
         return self.is_one_key and not is_costly and self.order is Order.FORWARD
+
+    @property
+    def is_array(self) -> bool:
+        """Whether the answer is an array of rows, which is empty without captures."""
+        return self.output is Output.JSON and not self.counts_pages
 
     def plain_query(self, resume_key: Optional[str], limit: Optional[int]) -> str:
         """Returns the query whose page is the answer."""
@@ -112,6 +119,8 @@ class Planner:
         self.limits = limits
         self.resolves = given.is_true("resolveRevisits")
         self.counts = given.is_true("showDupeCount")
+        self.skip = int(given.values.get("offset", "0"))
+        self.groups = False  # until the fields are known
 
     def plan(self) -> Plan:
         given, output = self.given, self.output()
@@ -132,7 +141,10 @@ class Planner:
         is_renamed = output is Output.JSON and any(column != name for column, name in fields)
         is_changed = bool(
             checked or collapses or self.resolves or self.counts or order is not Order.FORWARD
-        )
+        ) or bool(self.skip or any(column in UNKNOWN for column, _ in fields))
+        if self.skip and (page is not None or order is not Order.FORWARD):
+            cause = "it is for captures in the order of the index, without page"
+            raise Refusal("BadPage", "offset", cause, str(self.skip))
         pieces = [piece for name, piece in given.pieces.items() if name in TARGET]
         pieces += asked + ([in_program] if in_program else [])
         return Plan(
@@ -153,6 +165,8 @@ class Planner:
             closest=given.values.get("closest", ""),
             page=page,
             counts_pages=given.is_true("showNumPages"),
+            skip=self.skip,
+            groups=self.groups,
             form=given.form,
             allows_gzip=given.values.get("gzip") != "false",
         )
@@ -240,6 +254,12 @@ class Planner:
             names.append("dupecount")
         if self.resolves and is_pywb and "fl" not in self.given.values:
             names += ORIGINALS
+        for flag, column in (("showGroupCount", "groupcount"), ("showUniqCount", "uniqcount")):
+            if self.given.is_true(flag) and column not in names:
+                names.append(column)
+        self.groups = any(name in GROUPED for name in names)
+        if self.groups and (len(self.given.collapses) != 1 or output is Output.CDXJ):
+            raise Refusal("BadField", "fl", "one collapse is needed", ",".join(names))
         if not self.counts and "dupecount" in names:
             raise Refusal("BadField", "fl", "showDupeCount=true is needed", "dupecount")
         if not self.resolves and any(name in ORIGINALS for name in names):
@@ -262,7 +282,7 @@ class Planner:
 
     def program_collapse(self, has_conditions: bool) -> str:
         """Returns the piece of the collapse if the program does it, or nothing."""
-        if len(self.given.collapses) != 1 or has_conditions:
+        if len(self.given.collapses) != 1 or has_conditions or self.groups:
             return ""
         (collapse,) = self.given.collapses
         if collapse.field == "urlkey" and collapse.count is None:

@@ -9,16 +9,24 @@ from urllib.parse import quote_plus
 
 from warcdx import FIELDS
 
+from .refusal import Refusal
+
 # The fields of the program, the line of the index, and the fields that the gateway makes.
 ORIGINALS = ("orig.length", "orig.offset", "orig.filename")
-COLUMNS = (*FIELDS, "line", "dupecount", *ORIGINALS)
+# Columns of other servers that indexes in CDXJ don't have. And those of captures that a collapse
+# has made one: the last timestamp, how many they are, and how many digests they have.
+UNKNOWN = ("redirect", "robotflags")
+GROUPED = ("endtimestamp", "groupcount", "uniqcount")
+COLUMNS = (*FIELDS, "line", "dupecount", *UNKNOWN, *GROUPED, *ORIGINALS)
 PLACES = {name: place for place, name in enumerate(COLUMNS)}
 KEY, STAMP, DIGEST, OFFSET, NAME, LINE, COUNT = (
     PLACES[name]
     for name in ("urlkey", "timestamp", "digest", "offset", "filename", "line", "dupecount")
 )
 MIME, STATUS, LENGTH = (PLACES[name] for name in ("mimetype", "statuscode", "length"))
-ADDED = ["", "0", "-", "-", "-"]
+END, GROUP_COUNT, DIGEST_COUNT = (PLACES[name] for name in GROUPED)
+ADDED = ["", "0", "-", "-", "", "1", "1", "-", "-", "-"]
+MOST_DIGESTS = 100_000  # of a group
 MEMBERS = ("url", "mime", "status", "digest", "length", "offset", "filename")
 
 _CONTROLS = re.compile("[\x00-\x20\x7f]")
@@ -101,6 +109,39 @@ class Collapser:
             self._last[number] = last
             rows = given
         return rows
+
+    def rest(self) -> list[Row]:
+        """Returns the captures that weren't given yet, after the last one was taken."""
+        return []
+
+
+class Grouper(Collapser):
+    """Does one collapse, and gives the columns GROUPED. It holds the digests of a group."""
+
+    def __init__(self, collapses: Sequence[Collapse], previous: Optional[Row] = None) -> None:
+        super().__init__(collapses, previous)
+        self._first: Optional[Row] = None
+        self._digests: set[int] = set()
+
+    def select(self, rows: list[Row]) -> list[Row]:
+        done: list[Row] = []
+        for row in rows:
+            if super().select([row]):
+                done += self.rest()
+                self._first, self._digests = row, set()
+                row[GROUP_COUNT] = "0"
+            if self._first is not None:  # otherwise its first capture was given before
+                first = self._first
+                self._digests.add(hash(row[DIGEST]))
+                if len(self._digests) > MOST_DIGESTS:
+                    cause = f"captures that are one have more than {MOST_DIGESTS} digests"
+                    raise Refusal("TooMany", "collapse", cause)
+                first[END], first[GROUP_COUNT] = row[STAMP], str(int(first[GROUP_COUNT]) + 1)
+                first[DIGEST_COUNT] = str(len(self._digests))
+        return done
+
+    def rest(self) -> list[Row]:
+        return [] if self._first is None else [self._first]
 
 
 class DuplicateCounter:

@@ -60,12 +60,16 @@ class Limits:
 
 @dataclass(frozen=True)
 class CollectionSettings:
-    """The settings of a collection: its indexes, and the folders of its archives."""
+    """The settings of a collection: its indexes, and the folders of its archives.
+
+    `form` is that of the answers of `/COLLECTION/cdx`: of the Internet Archive, or of pywb.
+    """
 
     name: str
     title: str
     indexes: tuple[pathlib.Path, ...]
     archives: tuple[pathlib.Path, ...] = ()
+    form: str = "wayback"
 
 
 @dataclass(frozen=True)
@@ -209,7 +213,7 @@ def collection_of(name: str, table: object, folder: pathlib.Path) -> CollectionS
     if not isinstance(table, dict):
         raise BadSettings(f"'{where}' has to be a table")
     for each in table:
-        if each not in ("title", "indexes", "archives"):
+        if each not in ("title", "indexes", "archives", "form"):
             raise BadSettings(f"unknown setting '{where}.{each}'")
     title = table.get("title", name)
     require(isinstance(title, str), f"{where}.title", "has to be a text")
@@ -220,7 +224,10 @@ def collection_of(name: str, table: object, folder: pathlib.Path) -> CollectionS
         f"has to be 1 to {MOST_INDEXES} paths",
     )
     archives = texts_of(f"{where}.archives", table.get("archives", []))
-    return CollectionSettings(name, title, paths_of(indexes, folder), paths_of(archives, folder))
+    form = table.get("form", "wayback")
+    require(form in ("wayback", "pywb"), f"{where}.form", 'has to be "wayback" or "pywb"')
+    files, folders = (paths_of(each, folder) for each in (indexes, archives))
+    return CollectionSettings(name, title, files, folders, form)
 
 
 def texts_of(name: str, value: object) -> tuple[str, ...]:

@@ -1,7 +1,4 @@
 """Pages by which anybody sees in a browser what archives hold."""
-from typing import Any
+from .routes import rules
 
-
-def rules(gateway: Any) -> list[Any]:
-    """Returns the rules of the paths of these pages."""
-    return []
+__all__ = ["rules"]
