@@ -1,5 +1,6 @@
 """The workers: gunicorn runs the application in processes of limits of their own."""
 import gc
+import logging
 import os
 import pathlib
 import resource
@@ -107,7 +108,7 @@ class Server(BaseApplication):
         self._read = read
         self._folder = folder
         self._listener = listener
-        self._metrics = Metrics(folder)
+        self._metrics = Metrics(folder, settings.workers)
         self._gateway = self._opened(settings)
         super().__init__()
 
@@ -159,6 +160,7 @@ class Server(BaseApplication):
                 self._metrics.renewals.labels(collection.name, result).inc()
 
     def run(self) -> None:
+        logging.raiseExceptions = False  # a line that can't be written is lost
         gunicorn.http.wsgi.SERVER = NAME
         gunicorn.http.message.MAX_REQUEST_LINE = MOST_LINE
         try:
