@@ -12,8 +12,9 @@ from .browse_support import Archives, digest_of, record, response, revisit
 
 from warcdx import Capture
 from warcdx_gateway import history as histories
+from warcdx_gateway.browse.raw_captures import archived_fields
 from warcdx_gateway.history import History
-from warcdx_gateway.memento import archived_fields, timestamp_of
+from warcdx_gateway.memento import timestamp_of
 
 ORIGINAL = "http://a.example.org/"
 ROOT = "http://localhost/web"

@@ -117,21 +117,6 @@ class History:
         return [each for each in found if low <= int(each.timestamp) <= high][:most]
 
 
-def capture_at(ask: Ask, place: Capture) -> Optional[Capture]:
-    """Returns the capture of an index that has the key, timestamp, file name and offset of a place."""
-    after = before_time(place.urlkey, int(place.timestamp))
-    if place.offset:
-        after = resumed(place_of(place._replace(offset=place.offset - 1)))
-    while True:
-        found = ask(f"key={quoted(place.urlkey)}{after}", 1 if place.offset else MOST)
-        for each in found:
-            if place_of(each) == place_of(place):
-                return each
-        if place.offset or len(found) < MOST or found[-1].timestamp != place.timestamp:
-            return None
-        after = resumed(place_of(found[-1]))
-
-
 def place_of(capture: Capture) -> str:
     """Returns the place of a capture as a resume key, which isn't form-encoded yet."""
     return f"{capture.urlkey} {capture.timestamp} {capture.filename} {capture.offset}"
