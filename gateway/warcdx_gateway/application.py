@@ -189,6 +189,8 @@ class Gateway:
         name = ""
         try:
             self._check_host(request)
+            for collection in self.collections.values():
+                collection.look()
             adapter = self._paths.bind("", path_info=request.path, default_method=request.method)
             if request.method == "OPTIONS" and self.settings.origins:
                 return self.settings.main, preflight(adapter.allowed_methods())
@@ -388,7 +390,8 @@ def text_of(error: BaseException) -> str:
     if isinstance(error, Fault):
         parts = ("fault", error.name, error.number, error.offset)
         return " ".join(str(part) for part in parts if part is not None)
-    return str(error) or type(error).__name__
+    is_known = isinstance(error, (Error, Refusal, OSError)) and str(error)
+    return str(error) if is_known else f"{type(error).__name__} {error}".rstrip()
 
 
 def say(text: str) -> None:

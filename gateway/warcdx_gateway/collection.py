@@ -98,8 +98,7 @@ class Collection:
 
     @property
     def index(self) -> Index:
-        """The index of this process over the present files."""
-        self.look()
+        """The index of this process over the files that were the present ones at the last look."""
         if self._index is None or self._owner != os.getpid():
             assert self._generation is not None
             self._index = self._generation.index(self.program, self._limits.query)

@@ -43,6 +43,10 @@ class Log(gunicorn.glogging.Logger):
     def exception(self, msg: str, *args: Any, **kwargs: Any) -> None:
         self.error_log.error(f"{msg}: %s", *args, sys.exc_info()[1])
 
+    def info(self, msg: str, *args: Any, **kwargs: Any) -> None:
+        if kwargs.get("exc_info"):
+            self.exception(msg, *args)
+
 
 class Master(gunicorn.arbiter.Arbiter):
     """The process that keeps the workers."""
@@ -50,6 +54,9 @@ class Master(gunicorn.arbiter.Arbiter):
     def manage_workers(self) -> None:
         self.app.look()
         super().manage_workers()
+
+    def handle_usr2(self) -> None:
+        """Does nothing: the address has one master."""
 
     def spawn_worker(self) -> Any:
         """Starts a worker, which gets a signal that comes meanwhile when it can handle it."""
