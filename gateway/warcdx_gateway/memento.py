@@ -128,7 +128,7 @@ class Resource:
 
 
 def url_of(request: Request, segments: int) -> str:
-    """Returns the URL after so many segments of the path, as it was sent and with its query."""
+    """Returns the URL behind the first segments of the path, as it was sent and with its query."""
     sent = str(request.environ.get("RAW_URI") or request.environ.get("REQUEST_URI") or "")
     path = re.sub(r"^[a-z]+://[^/]*", "", sent, count=1)
     path = path.removeprefix(request.environ.get("SCRIPT_NAME", ""))
