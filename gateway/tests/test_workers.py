@@ -3,6 +3,7 @@ import contextlib
 import os
 import pathlib
 import signal
+import socket
 import subprocess
 import threading
 import time
@@ -246,6 +247,21 @@ class Workers(Case):
                 client.response()
         self.assertEqual(10, len(server.ask(f"{ALL}&limit=10").text.splitlines()))
         self.assertNotIn("Traceback", server.said.read_text())
+
+    def test_a_client_may_read_slowly(self) -> None:
+        """All of an answer may take longer than the time for a piece."""
+        self.put(lines(60_000, size=100))
+        server = self.start(head="workers = 2\ntimeout = 3\n", query=2)
+        wanted = self.page("url=example.com/*")
+        with connected(server) as client:
+            client.send(f"GET {ALL} HTTP/1.0\r\nHost: localhost\r\n\r\n".encode())
+            found, start = b"", time.monotonic()
+            while piece := client.socket.recv(len(wanted) // 30, socket.MSG_WAITALL):
+                found += piece
+                time.sleep(0.2)
+        self.assertGreater(time.monotonic() - start, 5)
+        self.assertTrue(found.partition(b"\r\n\r\n")[2] == wanted)
+        self.assertEqual("", server.said.read_text())
 
     def test_killed_workers_are_replaced(self) -> None:
         self.put(lines(1000))

@@ -240,6 +240,7 @@ class Gateway:
         origin = request.headers.get("Origin", "")
         return origin if origin in self.settings.origins else ""
 
+
 class Sent:
     """An answer as gunicorn sends it. One that fails is broken off, so that it is seen."""
 

@@ -177,7 +177,7 @@ class Collection:
     def _use(self, generation: Generation) -> None:
         self.close()
         self._generation = generation
-        key = (self.settings.indexes, generation.stamp, self._limits)
+        key = (self.settings, generation.stamp, self._limits)
         self.tag = hashlib.sha256(repr(key).encode()).hexdigest()[:20]
         self.modified = max(max(times[-2:]) for times in generation.stamp) // 10**9
         self._date = formatdate(self.modified, usegmt=True)

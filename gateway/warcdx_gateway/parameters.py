@@ -74,6 +74,7 @@ CLIENT_FLAGS = frozenset(
 # Parameters that change no answer here: a number against caches, the name of a function of a page's
 # script, and what depends on columns that indexes in CDXJ don't have.
 IGNORED = frozenset(("_", "callback", "omitSelfRedirects"))
+ESCAPED = re.compile("[%+]")
 CHECKS = {name: re.compile(pattern, re.DOTALL) for name, (pattern, _, _) in SINGLE.items()}
 
 
@@ -131,6 +132,8 @@ def collapse_of(value: str) -> Collapse:
 
 def unquoted(name: str, value: str) -> tuple[str, str]:
     """Returns the name and the value of a parameter without escapes. Raises Refusal."""
+    if not ESCAPED.search(name + value):
+        return name, value
     try:
         found, text = (unquote_to_bytes(each.replace("+", " ")) for each in (name, value))
         return found.decode(), text.decode()
