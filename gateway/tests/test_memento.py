@@ -266,7 +266,7 @@ class Raw(support.Pages):
             response("http://example.com/large", DATE, b"x" * 3_000_000, "text/plain"),
             record("resource", "http://example.com/note", DATE, b"a note", "text/plain"),
             revisit("http://example.com/lost", DATE, b"lost"),
-            record("revisit", "http://example.com/gone", LATER, b"", "application/http", unmodified),
+            record("revisit", "http://example.com/gone", LATER, b"", "text/plain", unmodified),
         ])  # fmt: skip
 
     def raw(self, url: str, timestamp: str = "20160303093431", **headers: str) -> TestResponse:
