@@ -82,7 +82,7 @@ class Many(support.Pages):
 
 
 class LongLines(support.Pages):
-    """An index whose lines are longer than the gateway takes."""
+    """An index with a line of 9 MB."""
 
     def fill(self, archives: Archives) -> None:
         lines = [
@@ -91,12 +91,12 @@ class LongLines(support.Pages):
         lines.append(archives.line(HOME, "20170101000000", "x" * (9 << 20), 9))
         archives.put("index", b"".join(lines))
 
-    def test_what_can_not_be_shown_is_said(self) -> None:
-        found = text_of(self.get("search", 502, url=HOME))
-        self.assertIn("The lines of the index are too long.", found)
-        self.assertIn(
-            "9 captures", text_of(self.get("search", url=HOME, from_="2016", to="2016"))
-        )
+    def test_its_capture_is_listed_without_a_link(self) -> None:
+        found = self.get("search", url=HOME)
+        self.assertIn("10 captures between", text_of(found))
+        self.assertIn("1 January 2017, 00:00:00", text_of(found))
+        self.assertNotIn("archive=xxx", found)
+        self.assertLess(len(found), 100_000)
 
 
 if __name__ == "__main__":

@@ -383,6 +383,8 @@ class Records(support.Pages):
             self.get("download", 503, what="payload", **query)
             for each in downloads:
                 each.close()
+            for _ in range(6):
+                self.get("download", 422, what="payload", **self.named("no-head"))
             self.assertEqual(200, self.ask("download", what="payload", **query).status_code)
 
 if __name__ == "__main__":

@@ -1,4 +1,6 @@
 """Records and members that are very long."""
+import os
+import pathlib
 import time
 import tracemalloc
 import unittest
@@ -63,6 +65,24 @@ class LongRecords(support.Pages):
         self.assertIn(b"small", self.ask("payload", **self.place_at("two.warc.gz", 0)).data)
         self.assertLess(time.monotonic() - start, 5)
 
+    def test_nothing_is_left_of_what_a_client_leaves(self) -> None:
+        place = self.place_at("long.warc", 0)
+        raw = f"/crawl/20160303000002id_/{HOME}"
+        for ask in (
+            lambda: self.ask("download", what="payload", **place),
+            lambda: self.ask("download", what="record", **place),
+            lambda: self.client.get(raw),
+            lambda: self.client.head(raw),
+        ):
+            self.get("captures", url=HOME)
+            before = programs()
+            for _ in range(6):  # more than there are slots
+                answer = ask()
+                self.assertEqual(200, answer.status_code)
+                next(iter(answer.iter_encoded()), b"")
+                answer.close()
+            self.assertEqual(before, programs())
+
     def test_a_download_takes_bounded_memory(self) -> None:
         tracemalloc.start()
         self.addCleanup(tracemalloc.stop)
@@ -74,6 +94,11 @@ class LongRecords(support.Pages):
                 break
         answer.close()
         self.assertLess(tracemalloc.get_traced_memory()[1], 20 * MEGABYTE)
+
+
+def programs() -> int:
+    """Returns how many programs of this process run."""
+    return len(pathlib.Path(f"/proc/self/task/{os.getpid()}/children").read_text().split())
 
 
 if __name__ == "__main__":

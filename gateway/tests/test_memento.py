@@ -12,8 +12,9 @@ from .browse_support import Archives, digest_of, record, response, revisit
 
 from warcdx import Capture
 from warcdx_gateway import history as histories
+from warcdx_gateway.browse.raw_captures import archived_fields
 from warcdx_gateway.history import History
-from warcdx_gateway.memento import archived_fields, timestamp_of
+from warcdx_gateway.memento import timestamp_of
 
 ORIGINAL = "http://a.example.org/"
 ROOT = "http://localhost/web"
@@ -227,6 +228,11 @@ class Raw(support.Pages):
         fields = ["Set-Cookie: a=b", "Content-Security-Policy: default-src *", "X-Odd: a\x1bb"]
         home, script = ["Location: /page?a=b&c=%20d"], ["Location: javascript:alert(1)"]
         coding = "Content-Encoding"
+        unmodified = [  # ISO 28500:2017, section 6.7.3
+            "WARC-Profile: http://netpreserve.org/warc/1.1/revisit/server-not-modified",
+            "WARC-Refers-To-Target-URI: http://example.com/gone",
+            f"WARC-Refers-To-Date: {DATE}",
+        ]
         brotli = b"\x0b\x02\x80text\x03"
         many = [f"X-Many-{number}: {'v' * 500}" for number in range(500)]
         archives.add("a.warc", [
@@ -260,6 +266,7 @@ class Raw(support.Pages):
             response("http://example.com/large", DATE, b"x" * 3_000_000, "text/plain"),
             record("resource", "http://example.com/note", DATE, b"a note", "text/plain"),
             revisit("http://example.com/lost", DATE, b"lost"),
+            record("revisit", "http://example.com/gone", LATER, b"", "text/plain", unmodified),
         ])  # fmt: skip
 
     def raw(self, url: str, timestamp: str = "20160303093431", **headers: str) -> TestResponse:
@@ -326,6 +333,10 @@ class Raw(support.Pages):
         self.assertEqual((200, BODY), (answer.status_code, answer.data))
         self.assertEqual("Sun, 01 Jan 2017 00:00:00 GMT", answer.headers["Memento-Datetime"])
         self.assertEqual(404, self.raw("http://example.com/lost").status_code)
+
+    def test_a_revisit_without_a_digest_has_the_payload_of_its_time(self) -> None:
+        answer = self.raw("http://example.com/gone", "20170101000000")
+        self.assertEqual((410, b"gone"), (answer.status_code, answer.data))
 
     def test_content_codings_are_those_that_the_client_takes(self) -> None:
         packed = "http://example.com/packed"

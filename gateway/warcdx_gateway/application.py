@@ -2,7 +2,7 @@
 import contextlib
 import errno
 import functools
-import importlib.util
+import importlib
 import itertools
 import json
 import socket
@@ -83,9 +83,8 @@ class Gateway:
         self._answers = Answers(settings.limits)
         self.beat: Callable[[], None] = lambda: None  # shows the master that an answer goes on
         found = list(own_rules())
-        for name in MODULES:
-            if importlib.util.find_spec(f"{__package__}.{name}") is not None:
-                found += importlib.import_module(f"{__package__}.{name}").rules(self)
+        for name in MODULES:  # which stand on this one
+            found += importlib.import_module(f"{__package__}.{name}").rules(self)
         self._paths = Map(found, strict_slashes=False, merge_slashes=False)
 
     def collection(self, name: str) -> Collection:
@@ -131,12 +130,9 @@ class Gateway:
         request: GatewayRequest,
         collection: Collection,
         form: Form,
-        query: str | None = None,
+        query: Optional[str] = None,
     ) -> Response:
-        """Answers a query of the parameters of Wayback CDX servers, or of pywb.
-
-        It is that of the request, unless one is given.
-        """
+        """Answers a query, by default that of the request, in a form of its parameters."""
         text = translated(request.query_text if query is None else query)
         plan = plan_of(text, form, self.settings.limits)
         kind = Share.EXACT if plan.is_exact else Share.WIDE

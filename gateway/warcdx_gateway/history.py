@@ -117,21 +117,6 @@ class History:
         return [each for each in found if low <= int(each.timestamp) <= high][:most]
 
 
-def capture_at(ask: Ask, place: Capture) -> Optional[Capture]:
-    """Returns the capture of an index that has the key, timestamp, file name and offset of a place."""
-    after = before_time(place.urlkey, int(place.timestamp))
-    if place.offset:
-        after = resumed(place_of(place._replace(offset=place.offset - 1)))
-    while True:
-        found = ask(f"key={quoted(place.urlkey)}{after}", 1 if place.offset else MOST)
-        for each in found:
-            if place_of(each) == place_of(place):
-                return each
-        if place.offset or len(found) < MOST or found[-1].timestamp != place.timestamp:
-            return None
-        after = resumed(place_of(found[-1]))
-
-
 def place_of(capture: Capture) -> str:
     """Returns the place of a capture as a resume key, which isn't form-encoded yet."""
     return f"{capture.urlkey} {capture.timestamp} {capture.filename} {capture.offset}"
@@ -149,19 +134,21 @@ def resumed(place: str) -> str:
 def original_of(ask: Ask, head: Head) -> Optional[Capture]:
     """Returns the capture that a revisit points to by its head, or None if no index has it.
 
-    It is one of the URL, with the digest, and of the time if the revisit has that.
+    It is one of the URL, with the digest and the time if the revisit has them, or else with the
+    digest alone.
     """
     digest = _SHA1.sub("", head.field("WARC-Payload-Digest") or "", count=1)
     url = without_brackets(head.field("WARC-Refers-To-Target-URI") or "")
     url = url or without_brackets(head.field("WARC-Target-URI") or "")
-    if not digest or not url:
+    if not url:
         return None
     digits = re.sub("[^0-9]", "", head.field("WARC-Refers-To-Date") or "")[:14]
-    same = f"url={quoted(url)}&matchType=exact&is=digest:{quoted(digest)}&isnot=mimetype:{REVISIT}"
     times = f"&from={digits}&to={digits}" if len(digits) == 14 else ""
-    for query in dict.fromkeys((same + times, same)):
+    same = f"&is=digest:{quoted(digest)}" if digest else ""
+    target = f"url={quoted(url)}&matchType=exact&isnot=mimetype:{REVISIT}"
+    for conditions in dict.fromkeys(filter(None, (times and times + same, same))):
         try:
-            found = ask(query, 1)
+            found = ask(target + conditions, 1)
         except Refused:
             return None
         if found:

@@ -2,7 +2,7 @@
 import contextlib
 import functools
 import re
-from collections.abc import Callable, Iterator
+from collections.abc import Callable
 from dataclasses import dataclass
 from datetime import datetime, timezone
 from email.utils import parsedate_to_datetime
@@ -15,29 +15,20 @@ from werkzeug.routing import Rule
 from werkzeug.wrappers import Request, Response
 
 from warcdx import Capture
-from warcdx.codings import content_codings
-from warcdx.record import HttpHead
 
 from .application import Gateway, rule
-from .browse import reading, responses
-from .browse.searching import NotShown
+from .browse import responses
+from .browse.raw_captures import RawCapture
 from .collection import Collection
-from .history import History, original_of, quoted
+from .history import History, quoted
 from .orders import FIRST_MOMENT
 from .shared import Share
 
 LINK_FORMAT = "application/link-format"
 MOST_MEMENTOS = 5000  # of a page of a TimeMap
-MOST_FIELDS = 64  # of an archived head
-MOST_HEAD = 6000  # bytes of the fields that are passed on, or of a Link
-MOST_CODING = 200  # characters of Content-Encoding
-MOST_HELD = 1 << 20  # bytes of a payload that are read before its answer begins
-KNOWN_CODINGS = frozenset((b"identity", b"gzip", b"x-gzip", b"deflate"))  # that are undone
-ARCHIVED = "X-Archive-Orig-"
+MOST_LINKS = 6000  # bytes of the field Link
 # What stays as it is in a URL of a link: the characters of RFC 3986.
 _SAFE = "%:/?#[]@!$&'()*+,;=-._~"
-_TOKEN = re.compile(r"[!#$%&'*+.^_`|~0-9A-Za-z-]{1,100}")
-_STATUS = re.compile(r"HTTP/\S+[ ]+([2-5][0-9]{2})(?![0-9])")
 _ENCODED = re.compile(r"[A-Za-z][A-Za-z0-9+.-]*%3A", re.IGNORECASE)
 _ONE_SLASH = re.compile(r"(https?|ftp):/(?!/)", re.IGNORECASE)
 _PAGE = re.compile(r"([0-9]{14})/(.*)", re.DOTALL)
@@ -127,9 +118,9 @@ class Resource:
                 relations.setdefault(capture, []).extend([relation] if relation else [])
         for capture, names in relations.items():
             found.append(self.memento_link(capture, *names))
-        if sum(map(len, found)) > MOST_HEAD:
+        if sum(map(len, found)) > MOST_LINKS:
             del found[3:]
-        return ", ".join(found) if sum(map(len, found)) <= MOST_HEAD else ""
+        return ", ".join(found) if sum(map(len, found)) <= MOST_LINKS else ""
 
     def memento_link(self, capture: Capture, *relations: str) -> str:
         relation = " ".join((*relations, "memento"))
@@ -137,7 +128,7 @@ class Resource:
 
 
 def url_of(request: Request, segments: int) -> str:
-    """Returns the URL after so many segments of the path, as it was sent and with its query."""
+    """Returns the URL behind the first segments of the path, as it was sent and with its query."""
     sent = str(request.environ.get("RAW_URI") or request.environ.get("REQUEST_URI") or "")
     path = re.sub(r"^[a-z]+://[^/]*", "", sent, count=1)
     path = path.removeprefix(request.environ.get("SCRIPT_NAME", ""))
@@ -229,73 +220,14 @@ def raw_capture(
         raise NotFound("there is no capture of this URL")
     if capture.timestamp != timestamp:
         return redirect(resource.memento(capture), {})
-    try:
-        with contextlib.ExitStack() as stack:
-            stack.enter_context(gateway.slot(Share.WIDE))
-            response = _archived(gateway, request, resource, capture, stack)
-    except NotShown as error:
-        response = Response(f"{error.what} {error.why}\n", error.status)
-    return response
-
-
-def _archived(
-    gateway: Gateway,
-    request: Request,
-    resource: Resource,
-    capture: Capture,
-    stack: contextlib.ExitStack,
-) -> Response:
-    """Returns the answer with a capture. What it has to close goes from `stack` to it."""
-    record = stack.enter_context(reading.opened(resource.collection, capture))
-    kind, text = record.head.field("Content-Type") or "", record.http_head
-    head = None if text is None else HttpHead.of(text)
-    if record.head.kind == "revisit":
-        original = original_of(resource.history.ask, record.head)
-        if original is None:
-            why = "No index has a capture with its digest."
-            raise NotShown("The original of the revisit isn't here.", why, 404)
-        record = stack.enter_context(reading.opened(resource.collection, original))
-        text = record.http_head
-        head = head or (None if text is None else HttpHead.of(text))
-    status, headers = 200, responses.payload_headers()
-    headers["Memento-Datetime"] = date_of(capture)
+    own = {"Memento-Datetime": date_of(capture)}
     if links := resource.links(capture):
-        headers["Link"] = links
-    what, coding = _coded(request, content_codings(text or b""))
-    headers.update(coding)
-    if head is not None:
-        kind = head.field("Content-Type") or ""
-        found = _STATUS.match(head.line)
-        status = int(found[1]) if found else 200
-        target = head.field("Location")
-        if 300 <= status < 400 and target is not None:
-            if where := _capture_of(resource, capture, target):
-                headers["Location"] = where
-    pieces = reading.Download(stack, record, what)
-    held = pieces.held(MOST_HELD)
-    response = Response(pieces if held is None else held, status, headers)
-    response.headers["Content-Type"] = visible(kind) or "application/octet-stream"
-    for name, value in archived_fields(head.fields if head else ()):
-        response.headers.add(ARCHIVED + name, value)
+        own["Link"] = links
+    with contextlib.ExitStack() as stack:
+        stack.enter_context(gateway.slot(Share.WIDE))
+        raw = RawCapture(request, resource.collection, resource.history.ask, capture, stack)
+        response = raw.response(own, functools.partial(_capture_of, resource, capture))
     return response
-
-
-def _coded(request: Request, named: list[bytes]) -> tuple[str, dict[str, str]]:
-    """Returns which payload a client gets, by its content codings, and the fields that say so.
-
-    The codings stay if the client takes them, or if one isn't known.
-    """
-    if not named:
-        return "stored", {}
-    names = [visible(each.decode("latin-1")) for each in reversed(named)]
-    accepted = request.accept_encodings
-    is_accepted = all(accepted.quality(each.removeprefix("x-")) > 0 for each in names)
-    if KNOWN_CODINGS.issuperset(named) and not is_accepted:
-        return "payload", {"Vary": "Accept-Encoding"}
-    coding = ", ".join(names)
-    if len(coding) > MOST_CODING:
-        raise NotShown("The payload can't be sent.", "It has too many content codings.", 502)
-    return "stored", {"Vary": "Accept-Encoding", "Content-Encoding": coding}
 
 
 def _capture_of(resource: Resource, capture: Capture, target: str) -> str:
@@ -315,23 +247,6 @@ def _capture_of(resource: Resource, capture: Capture, target: str) -> str:
         other = history.where("original", url).nearest(capture.timestamp)
         return resource.memento(other) if other else ""
     return f"{resource.root}/{capture.timestamp}id_/{escaped(url)}"
-
-
-def archived_fields(fields: tuple[tuple[str, str], ...]) -> Iterator[tuple[str, str]]:
-    """Yields the fields of an archived head that can be passed on, as many as clients take."""
-    left = MOST_HEAD
-    for name, value in fields[:MOST_FIELDS]:
-        shown = visible(value)
-        left -= len(ARCHIVED) + len(name) + len(shown) + 4
-        if left < 0:
-            return
-        if _TOKEN.fullmatch(name):
-            yield name, shown
-
-
-def visible(value: str) -> str:
-    """Returns a value as a field of HTTP may have it, in ASCII. Other characters are left out."""
-    return "".join(each for each in value if " " <= each <= "~").strip()
 
 
 def redirect(url: str, headers: dict[str, str]) -> Response:

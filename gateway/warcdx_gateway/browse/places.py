@@ -3,12 +3,13 @@ import functools
 import re
 from collections.abc import Mapping
 from dataclasses import dataclass
+from typing import Optional
 
 from warcdx import Capture
 
 from ..application import Gateway
 from ..collection import Collection
-from ..history import History, capture_at
+from ..history import MOST, Ask, History, before_time, place_of, quoted, resumed
 from .markup import Link, link
 from .searching import NotShown
 
@@ -71,6 +72,21 @@ class Place:
                 404,
             )
         return found
+
+
+def capture_at(ask: Ask, place: Capture) -> Optional[Capture]:
+    """Returns the capture with the key, timestamp, file name and offset of a place, or None."""
+    after = before_time(place.urlkey, int(place.timestamp))
+    if place.offset:
+        after = resumed(place_of(place._replace(offset=place.offset - 1)))
+    while True:
+        found = ask(f"key={quoted(place.urlkey)}{after}", 1 if place.offset else MOST)
+        for each in found:
+            if place_of(each) == place_of(place):
+                return each
+        if place.offset or len(found) < MOST or found[-1].timestamp != place.timestamp:
+            return None
+        after = resumed(place_of(found[-1]))
 
 
 def text_of(capture: Capture) -> str:

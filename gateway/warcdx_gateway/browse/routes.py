@@ -76,7 +76,7 @@ def _answer(page: Page, gateway: Gateway, request: Request, collection: str) -> 
         if page in (search_of, captures_of):
             search = Search.of(request.args)
         return page(gateway, found, request)
-    except (NotShown, Error, Refusal) as error:
+    except (NotShown, Error, Refusal, MemoryError) as error:
         return layout.refusal_page(found, _not_shown(error, search), search)
 
 
@@ -91,7 +91,7 @@ def _not_shown(error: Exception, search: Optional[Search]) -> NotShown:
     if isinstance(error, Fault):
         why = f"Its fault is {error.name}."
         return NotShown("An index of the collection can't be read.", why, 502)
-    if isinstance(error, ReplyTooLong):
+    if isinstance(error, (ReplyTooLong, MemoryError)):
         return NotShown("The captures can't be shown.", "The lines of the index are too long.", 502)
     if isinstance(error, ReplyTooLate) or isinstance(error, Refusal) and error.name == "TooSlow":
         why = "Search for a shorter time, or for fewer addresses."
