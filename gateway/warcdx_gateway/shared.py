@@ -99,7 +99,7 @@ class Metrics:
     start, since a process ends that writes to a page of a file for which the disk has no room.
     """
 
-    def __init__(self, folder: pathlib.Path, workers: int) -> None:
+    def __init__(self, folder: pathlib.Path, workers: int = 1) -> None:
         self._folder = folder
         self._seats = Slots(folder, "seat", MOST_SEATS)
         self._seat = "master"
