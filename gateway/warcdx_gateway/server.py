@@ -131,7 +131,6 @@ class Server(BaseApplication):
             "post_fork": self.begin_worker,
             "child_exit": self.note_end,
             "worker_exit": self.end_worker,
-            "worker_abort": self.note_abort,
         }.items():
             self.cfg.set(name, value)
 
@@ -183,9 +182,6 @@ class Server(BaseApplication):
         if os.getpid() == worker.pid and os.getppid() != worker.ppid:  # the master was killed
             shutil.rmtree(self._folder, ignore_errors=True)
 
-    def note_abort(self, worker: Any) -> None:
-        say("a worker is ended, as it made no piece of its answer in time")
-
     def note_end(self, server: Master, worker: Any) -> None:
         self._metrics.ended.inc()
 
@@ -210,7 +206,9 @@ def run(settings: Settings, read: Callable[[], Settings]) -> None:
     """Answers requests until a signal. Raises Error or OSError if it can't start."""
     allow_files(sum(len(each.indexes) for each in settings.collections) + OTHER_FILES)
     master = os.getpid()
-    folder = pathlib.Path(tempfile.mkdtemp(prefix=f"{NAME}-"))
+    # systemd has a folder for a service in which nothing is removed because of its age.
+    base = os.environ.get("RUNTIME_DIRECTORY")
+    folder = pathlib.Path(tempfile.mkdtemp(prefix=f"{NAME}-", dir=base))
     try:
         with listening(settings.address, settings.port) as listener:
             address = shown_address(listener)
