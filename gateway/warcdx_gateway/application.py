@@ -160,7 +160,7 @@ class Gateway:
             return list(json.loads(b"".join(made)))[1:]
 
     def __call__(self, environ: dict[str, Any], start_response: Any) -> Iterable[bytes]:
-        start, request = time.monotonic(), GatewayRequest(environ)
+        start, request = time.monotonic(), GatewayRequest(environ, populate_request=False)
         name, response = self._response(request)
         response.headers.setdefault("X-Content-Type-Options", "nosniff")
         # What a browser shows, with a policy of its own, is for readers alone.
