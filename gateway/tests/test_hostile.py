@@ -16,6 +16,7 @@ EXPLODES = "filter=original:(x|xx)%2B[yz]"
 MOST_MORE = 0.050  # seconds of the slowest of 99 % above those alone
 PROBES = 300
 TRIES = 3
+USUAL = "workers = 8\nwide = 4\n"  # as on four processors
 
 
 def probe(server: Server, target: str, body: bytes) -> float:
@@ -89,7 +90,7 @@ class Isolated(Case):
                 for n in range(100)
             )
             self.put(text + SAMPLE)
-            server = self.start()
+            server = self.start(head=USUAL)
             wanted = b"".join(b"%d\n" % n for n in range(100))
             for rest in ("", "&filter=statuscode:2.*", "&collapse=offset", "&limit=-100"):
                 start = time.monotonic()
@@ -119,7 +120,7 @@ class Isolated(Case):
     def test_held_answers(self) -> None:
         """At most as many are held at a time as there are slots."""
         self.put(lines(150_000, size=100))
-        server = self.start(head="workers = 4\nwide = 2\n")
+        server = self.start(head=USUAL)
         wanted = self.page(f"{ALL[5:]}&fl=offset").splitlines(keepends=True)[::-1]
         target = f"{ALL}&sort=reverse&limit=100000&fl=offset"
         for _ in range(2):
@@ -129,7 +130,7 @@ class Isolated(Case):
     def test_clients_that_leave(self) -> None:
         """Their work ends, and no line is written for them."""
         self.put(lines(150_000))
-        server = self.start(head="workers = 4\nwide = 2\n")
+        server = self.start(head=USUAL)
         alone = probe(server, EXACT, b"8\n")
         for n in range(150):
             leave(server, f"{ALL}&showNumPages=true&filter=original:.*{n}")
@@ -148,7 +149,7 @@ class Isolated(Case):
             for n in range(50_000)
         )
         self.put(original + text + SAMPLE)
-        server = self.start(head="workers = 4\nwide = 2\n")
+        server = self.start(head=USUAL)
         start = time.monotonic()
         found = server.ask("/cdx?key=a&limit=1001&resolveRevisits=true&fl=statuscode")
         self.assertEqual(b"200\n" + b"200\n-\n" * 500, found.body)
@@ -164,7 +165,7 @@ class Isolated(Case):
             for n in range(5)
         )
         self.put("".join(texts) + SAMPLE)
-        server = self.start(head="workers = 4\nwide = 2\n", pattern=2)
+        server = self.start(head=USUAL, pattern=2)
         target = f"/cdx?key=a&matchType=prefix&{EXPLODES}"
         start = time.monotonic()
         found = server.ask(target)

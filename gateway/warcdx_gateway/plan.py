@@ -66,7 +66,6 @@ class Plan:
     skip: int = 0
     groups: bool = False
     form: Form = Form.WAYBACK
-    allows_gzip: bool = True
 
     @property
     def is_exact(self) -> bool:
@@ -168,7 +167,6 @@ class Planner:
             skip=self.skip,
             groups=self.groups,
             form=given.form,
-            allows_gzip=given.values.get("gzip") != "false",
         )
 
     def output(self) -> Output:

@@ -1,5 +1,6 @@
 """The workers: gunicorn runs the application in processes of limits of their own."""
 import gc
+import logging
 import os
 import pathlib
 import resource
@@ -107,7 +108,7 @@ class Server(BaseApplication):
         self._read = read
         self._folder = folder
         self._listener = listener
-        self._metrics = Metrics(folder)
+        self._metrics = Metrics(folder, settings.workers)
         self._gateway = self._opened(settings)
         super().__init__()
 
@@ -130,7 +131,6 @@ class Server(BaseApplication):
             "post_fork": self.begin_worker,
             "child_exit": self.note_end,
             "worker_exit": self.end_worker,
-            "worker_abort": self.note_abort,
         }.items():
             self.cfg.set(name, value)
 
@@ -159,6 +159,7 @@ class Server(BaseApplication):
                 self._metrics.renewals.labels(collection.name, result).inc()
 
     def run(self) -> None:
+        logging.raiseExceptions = False  # a line that can't be written is lost
         gunicorn.http.wsgi.SERVER = NAME
         gunicorn.http.message.MAX_REQUEST_LINE = MOST_LINE
         try:
@@ -180,9 +181,6 @@ class Server(BaseApplication):
             signal.signal(signal.SIGTERM, signal.SIG_IGN)  # it ends already
         if os.getpid() == worker.pid and os.getppid() != worker.ppid:  # the master was killed
             shutil.rmtree(self._folder, ignore_errors=True)
-
-    def note_abort(self, worker: Any) -> None:
-        say("a worker is ended, as it made no piece of its answer in time")
 
     def note_end(self, server: Master, worker: Any) -> None:
         self._metrics.ended.inc()
@@ -208,7 +206,9 @@ def run(settings: Settings, read: Callable[[], Settings]) -> None:
     """Answers requests until a signal. Raises Error or OSError if it can't start."""
     allow_files(sum(len(each.indexes) for each in settings.collections) + OTHER_FILES)
     master = os.getpid()
-    folder = pathlib.Path(tempfile.mkdtemp(prefix=f"{NAME}-"))
+    # systemd has a folder for a service in which nothing is removed because of its age.
+    base = os.environ.get("RUNTIME_DIRECTORY")
+    folder = pathlib.Path(tempfile.mkdtemp(prefix=f"{NAME}-", dir=base))
     try:
         with listening(settings.address, settings.port) as listener:
             address = shown_address(listener)

@@ -15,6 +15,7 @@ from .refusal import Refusal
 
 WAIT = 1.0  # seconds for a slot
 LOOKS = 0.02  # seconds between two looks for a slot
+FILE = 1 << 16  # bytes of a file of counts, as prometheus_client makes it
 MOST_SEATS = 4096  # workers that run at a time
 BOUNDS = (0.005, 0.01, 0.025, 0.05, 0.1, 0.25, 0.5, 1.0, 2.5, 5.0, 10.0, 30.0)  # seconds
 
@@ -94,13 +95,17 @@ class Shares:
 class Metrics:
     """Counts of all workers since the start, in files of a folder.
 
-    A worker has the files of a seat. Its successor goes on with them.
+    A worker has the files of a seat. Its successor goes on with them. They are filled at the
+    start, since a process ends that writes to a page of a file for which the disk has no room.
     """
 
-    def __init__(self, folder: pathlib.Path) -> None:
+    def __init__(self, folder: pathlib.Path, workers: int = 1) -> None:
         self._folder = folder
         self._seats = Slots(folder, "seat", MOST_SEATS)
         self._seat = "master"
+        for seat in ("master", *map(str, range(2 * workers))):
+            for kind in ("counter", "histogram"):
+                (folder / f"{kind}_{seat}.db").write_bytes(bytes(FILE))
         os.environ["PROMETHEUS_MULTIPROC_DIR"] = str(folder)
         values.ValueClass = values.MultiProcessValue(lambda: self._seat)
         # The registry is of this object, as a master that reads its settings again has another one.
