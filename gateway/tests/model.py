@@ -11,6 +11,7 @@ from urllib.parse import quote_plus
 FIELDS = (
     "urlkey", "timestamp", "original", "mimetype", "statuscode", "digest", "length", "offset", "filename"
 )  # fmt: skip
+PAGE = 3000  # captures, the documented size of a page of one block
 Capture = dict[str, str]
 
 
@@ -32,6 +33,8 @@ class Request(NamedTuple):
     output: str = "text"
     shows_key: bool = False
     after: Optional[int] = None  # the number of a capture, whose resume key is sent
+    page: Optional[int] = None
+    counts_pages: bool = False
 
     def query(self, captures: list[Capture]) -> str:
         """Returns the text of the query."""
@@ -52,6 +55,10 @@ class Request(NamedTuple):
         pairs += [("showDupeCount", "true")] * self.counts
         pairs += [("fl", ",".join(self.fields)), ("output", self.output)]
         pairs += [("showResumeKey", "true")] * self.shows_key
+        if self.page is not None:
+            pairs += [("page", str(self.page)), ("pageSize", "1")]
+        if self.counts_pages:
+            pairs += [("showNumPages", "true"), ("pageSize", "1")]
         text = "&".join(f"{name}={quote_plus(value)}" for name, value in pairs)
         return text if self.after is None else f"{text}&resumeKey={place(captures[self.after])}"
 
@@ -139,6 +146,10 @@ def answer(request: Request, captures: list[Capture]) -> str:
     """Returns the text of the answer to a request."""
     found = selected(request, captures)
     whole = len(found)
+    if request.counts_pages:
+        return f"{-(-whole // PAGE)}\n"
+    if request.page is not None:
+        found = found[request.page * PAGE : (request.page + 1) * PAGE]
     if request.order == "last" and request.limit is not None:
         found = found[-request.limit :]
     elif request.order == "reverse":

@@ -359,7 +359,7 @@ class Refusals(Shared):
             ("url=a&fastLatest=true&limit=5", "BadLimit: limit=5: with fastLatest=true"),
             (
                 "url=a&showDupeCount=true&output=cdxj",
-                "BadOutput: output=cdxj: a line of an index is given unchanged",
+                "BadOutput: output=cdxj: a line of an index is given without showDupeCount",
             ),
             ("url=a&%0Ax=1", "Unknown: %0Ax: there is no such parameter"),
         ):

@@ -37,7 +37,7 @@ COLLAPSES: tuple[tuple[str, Optional[int]], ...] = (
 def random_captures(chance: random.Random) -> list[Capture]:
     captures: list[Capture] = []
     few = chance.random() < 0.5
-    for number in range(chance.choice((0, 1, 7, 60, 400, 1500))):
+    for number in range(chance.choice((0, 1, 7, 60, 400, 1500, 7000))):
         kind = chance.choice(TYPES)
         year = chance.randint(2014, 2016) if few else chance.randint(2005, 2024)
         moment = f"{year}{chance.randint(1, 12):02}{chance.randint(1, 28):02}"
@@ -82,9 +82,12 @@ def random_request(chance: random.Random, captures: list[Capture]) -> Request:
         limit = 3
     fields = tuple(chance.sample(FIELDS, chance.randint(1, 9)))
     has_time = chance.random() < 0.3
-    after = None
+    after, page, counts_pages = None, None, False
     if order == "forward" and captures and chance.random() < 0.2:
         after = chance.randrange(len(captures))
+    elif order == "forward" and chance.random() < 0.2:
+        page, counts_pages = chance.randint(0, 2), chance.random() < 0.3
+    counts = chance.random() < 0.2 and len(captures) < 2000
     return Request(
         target,
         match,
@@ -98,12 +101,14 @@ def random_request(chance: random.Random, captures: list[Capture]) -> Request:
         limit,
         order,
         str(chance.randint(2004, 2025)) + chance.choice(("", "06", "0615", "0615123000")),
-        chance.random() < 0.2,
-        chance.random() < 0.2,
+        chance.random() < 0.2 and len(captures) < 2000,
+        counts,
         fields,
         chance.choice(("text", "text", "json")),
-        order == "forward" and chance.random() < 0.5,
+        order == "forward" and page is None and chance.random() < 0.5,
         after,
+        None if counts_pages else page,
+        counts_pages,
     )
 
 
@@ -114,8 +119,14 @@ class Random(Case):
         killed = 0
         for start in range(0, REQUESTS, PER_INDEX):
             captures = random_captures(chance)
-            self.put(index_of(captures))
-            server = self.start(head="workers = 4\nwide = 3\n")
+            names = [f"index-{number}" for number in range(chance.randint(1, 3))]
+            parts: list[list[Capture]] = [[] for _ in names]
+            for capture in captures:
+                chance.choice(parts).append(capture)
+            for name, part in zip(names, parts):
+                self.put(index_of(part), name)
+            settings = f"[collections.main]\nindexes = {names}\n"
+            server = self.start(settings, head="workers = 4\nwide = 3\n")
             requests = [random_request(chance, captures) for _ in range(min(PER_INDEX, REQUESTS - start))]
             killed += self.ask_all(server, captures, requests, results, chance)
             self.assertEqual(0, server.end())

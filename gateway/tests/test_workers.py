@@ -84,6 +84,24 @@ class Programs(Case):
             )
         self.assertEqual((200, b""), server.ask("/cdx?key=d")[::2])
 
+    def test_lines_out_of_order_are_found_where_query_finds_them(self) -> None:
+        """An answer isn't searched for piece by piece, as a search may end behind the lines."""
+        text = lines(500).splitlines(keepends=True)
+        moved = text[124:245]
+        del text[124:245]
+        text[206:206] = moved
+        index = self.put("".join(text))
+        command = (PROGRAM, "query", "url=example.com/*", index)
+        done = subprocess.run(command, stdout=subprocess.DEVNULL, stderr=subprocess.PIPE, text=True)
+        name, offset = done.stderr.split()[-2:]
+        self.assertEqual("OutOfOrder", name)
+        server = self.start()
+        for rest in ("", "&filter=statuscode:2..", "&limit=-3", "&sort=reverse", "&collapse=digest"):
+            found = server.ask(ALL + rest)
+            self.assertEqual(
+                (500, f"fault OutOfOrder 0 {offset}\n"), (found.status, found.text), rest
+            )
+
     def test_a_fault_in_a_long_answer_breaks_it_off(self) -> None:
         """The client sees that the answer isn't whole, and a line says so."""
         middle = LINE % ("com,example)/0", "20160101000000", "a", "-", "-", "-", 1, 0, "a.warc")

@@ -121,18 +121,17 @@ class Planner:
         self.skip = int(given.values.get("offset", "0"))
         self.groups = False  # until the fields are known
 
+    def bad(self, name: str, parameter: str, cause: str) -> Refusal:
+        """Returns the refusal of a parameter because of other ones or of the settings."""
+        return Refusal(name, parameter, cause, self.given.values.get(parameter, ""))
+
     def plan(self) -> Plan:
         given, output = self.given, self.output()
         order, limit = self.order()
         fields = self.fields(output)
         if output is Output.CDXJ and (self.resolves or self.counts):
             name = "resolveRevisits" if self.resolves else "showDupeCount"
-            raise Refusal(
-                "BadOutput",
-                "output",
-                f"a line of an index is given unchanged, without {name}",
-                "cdxj",
-            )
+            raise self.bad("BadOutput", "output", f"a line of an index is given without {name}")
         page = self.page()
         asked, checked = self.conditions()
         in_program = self.program_collapse(bool(checked))
@@ -182,30 +181,20 @@ class Planner:
             text = "-1"
         limit = (self.limits.usual or None) if text is None else abs(int(text))
         if limit is not None and limit > self.limits.largest:
-            raise Refusal(
-                "BadLimit",
-                "limit",
-                f"this server gives at most {self.limits.largest} captures",
-                text or "",
-            )
+            cause = f"this server gives at most {self.limits.largest} captures"
+            raise self.bad("BadLimit", "limit", cause)
         order = self.sort()
         if text is not None and text.startswith("-"):
             if order is not Order.FORWARD:
-                raise Refusal(
-                    "BadLimit", "limit", "a negative one and another order exclude each other", text
-                )
+                cause = "a negative one and another order exclude each other"
+                raise self.bad("BadLimit", "limit", cause)
             order = Order.LAST
         elif self.given.is_true("fastLatest"):
-            raise Refusal(
-                "BadLimit",
-                "limit",
-                "with fastLatest=true it is negative, or isn't given",
-                text or "",
-            )
+            cause = "with fastLatest=true it is negative, or isn't given"
+            raise self.bad("BadLimit", "limit", cause)
         if order is not Order.FORWARD and limit is not None and limit > self.limits.held:
-            raise Refusal(
-                "BadLimit", "limit", f"in this order it is at most {self.limits.held}", text or ""
-            )
+            cause = f"in this order it is at most {self.limits.held}"
+            raise self.bad("BadLimit", "limit", cause)
         return order, limit
 
     def sort(self) -> Order:
@@ -216,9 +205,7 @@ class Planner:
             raise Refusal("BadSort", "closest", "sort=closest needs it")
         if "closest" in values and sort != "reverse":
             if not self.given.is_one_key():
-                raise Refusal(
-                    "BadSort", "closest", "it is for the captures of one address", values["closest"]
-                )
+                raise self.bad("BadSort", "closest", "it is for the captures of one address")
             return Order.CLOSEST
         return Order.REVERSE if sort == "reverse" else Order.FORWARD
 
@@ -227,21 +214,15 @@ class Planner:
         most = max(self.limits.largest // BLOCK, 1)
         size = int(values.get("pageSize", min(USUAL_SIZE, most))) * BLOCK
         if size > most * BLOCK:
-            raise Refusal(
-                "BadPage",
-                "pageSize",
-                f"this server gives at most {most} blocks",
-                values["pageSize"],
-            )
-        is_paged = "page" in values or self.given.is_true("showNumPages")
-        if not is_paged:
+            raise self.bad("BadPage", "pageSize", f"this server gives at most {most} blocks")
+        if "page" not in values and not self.given.is_true("showNumPages"):
             return None
         for name in ("resumeKey", "closest", "fastLatest"):
             if name in values and values[name] != "false":
-                raise Refusal("BadPage", name, "it excludes page and showNumPages", values[name])
+                raise self.bad("BadPage", name, "it excludes page and showNumPages")
         for name, bad in (("limit", "-"), ("sort", "r"), ("reverse", "t")):
             if values.get(name, "").startswith(bad) and values[name] != "regular":
-                raise Refusal("BadPage", name, "pages are in the order of the index", values[name])
+                raise self.bad("BadPage", name, "pages are in the order of the index")
         return PageNumber(int(values.get("page", "0")), size)
 
     def fields(self, output: Output) -> tuple[Field, ...]:
