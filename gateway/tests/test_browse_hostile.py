@@ -381,6 +381,7 @@ class Records(support.Pages):
         with mock.patch("warcdx_gateway.shared.WAIT", 0.05):
             downloads = [self.ask("download", what="payload", **query) for _ in range(4)]
             self.get("download", 503, what="payload", **query)
+            self.assertEqual("1", self.ask("record", **query).headers["Retry-After"])
             for each in downloads:
                 each.close()
             for _ in range(6):

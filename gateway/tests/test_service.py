@@ -213,6 +213,13 @@ class Nginx(Case):
         text = self.curl(f"{target}&gzip=false", *reader, "--header", "Accept-Encoding: gzip")[1]
         self.assertNotIn(b"Content-Encoding", text.partition(b"\r\n\r\n")[0])
 
+    def test_urls_in_paths_are_passed_on_as_they_are(self) -> None:
+        url = "http://example.com//a%2Fb/../c?d=%20e&gzip=false"
+        words = ("--user", "reader:word", "--include", "--path-as-is")
+        status, text = self.curl(f"/web/2016/{url}", *words)
+        self.assertEqual(302, status)
+        self.assertIn(f"Location: https://cdx.example.org/web/2016id_/{url}\r\n", text.decode())
+
     def test_a_broken_answer_is_seen(self) -> None:
         middle = LINE % ("com,example)/0", "20160101000000", "a", "-", "-", "-", 1, 0, "a.warc")
         os.replace(

@@ -28,6 +28,8 @@ _MOST_NAME = 150  # characters of a file name
 
 def page(text: bytes, status: int = 200) -> Response:
     headers = {**COMMON, "Content-Security-Policy": PAGE_POLICY, "Cache-Control": "no-cache"}
+    if status == 503:
+        headers["Retry-After"] = "1"  # seconds
     return Response(text, status, headers, content_type="text/html; charset=utf-8")
 
 
