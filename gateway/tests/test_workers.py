@@ -156,19 +156,21 @@ class Indexes(Case):
         self.put(lines(3000))
         server = self.start()
         texts = {status: lines(3000, status) for status in (200, 404)}
-        wanted = {server.ask(ALL).body}
-        self.replace(texts[404])
-        self.wait_for(lambda: server.ask(ALL).body not in wanted, "the index isn't seen")
-        wanted.add(server.ask(ALL).body)
-        results: list[bool] = []
+        wanted = {
+            self.page("url=example.com/*", self.put(text, str(status)))
+            for status, text in texts.items()
+        }
+        wrong: list[tuple[int, bytes]] = []
+        asked: list[str] = []
         is_over = threading.Event()
 
         def ask() -> None:
             while not is_over.is_set():
                 for target, bodies in ((ALL, wanted), (EXACT, {b"8\n"})):
                     found = server.ask(target)
-                    if found.status != 503:
-                        results.append(found.body in bodies)
+                    if found.status != 503 and found.body not in bodies:
+                        wrong.append((found.status, found.body[:200]))
+                    asked.append(target)
 
         threads = [threading.Thread(target=ask) for _ in range(4)]
         for thread in threads:
@@ -179,8 +181,8 @@ class Indexes(Case):
         is_over.set()
         for thread in threads:
             thread.join()
-        self.assertEqual({True}, set(results))
-        self.assertGreater(len(results), 20)
+        self.assertEqual([], wrong)
+        self.assertGreater(len(asked), 20)
         self.wait_for(lambda: self.renewals(server, "done") >= 2, "the renewals aren't counted")
 
     def test_what_is_no_index_does_not_come_into_use(self) -> None:

@@ -47,8 +47,10 @@ class Generation:
             raise
 
     def index(self, program: str, seconds: Optional[float]) -> Index:
-        names = [f"/proc/{os.getpid()}/fd/{file}" for file in self.files]
-        return Index(names, program=program, processes=2, seconds=seconds, most=MOST_REPLY)
+        return Index(self._names(), program=program, processes=2, seconds=seconds, most=MOST_REPLY)
+
+    def _names(self) -> list[str]:
+        return [f"/proc/{os.getpid()}/fd/{file}" for file in self.files]
 
     def check(self, program: str) -> None:
         """Asks for the ends of the new files. Raises an Error of the package at what is no index."""
@@ -59,8 +61,8 @@ class Generation:
                 except Refused:
                     continue  # the last line has no key for a query
                 except Fault as error:
-                    number = int(str(error.file).rpartition("/")[2])
-                    path = str(self._paths[self.files.index(number)])
+                    paths = dict(zip(self._names(), map(str, self._paths)))
+                    path = paths.get(error.file or "", error.file)
                     raise fault(error.name, path, error.offset) from None
 
     def close(self) -> None:
