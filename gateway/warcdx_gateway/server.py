@@ -110,6 +110,7 @@ class Server(BaseApplication):
         self._listener = listener
         self._metrics = Metrics(folder, settings.workers)
         self._gateway = self._opened(settings)
+        self._ended = 0  # workers that aren't counted yet
         super().__init__()
 
     def load_config(self) -> None:
@@ -153,6 +154,8 @@ class Server(BaseApplication):
 
     def look(self) -> None:
         """Looks whether indexes were replaced, so that new workers begin with them."""
+        ended, self._ended = self._ended, 0
+        self._metrics.ended.inc(ended)
         for collection in self._gateway.collections.values():
             result = collection.look(is_told=True)
             if result:
@@ -183,7 +186,11 @@ class Server(BaseApplication):
             shutil.rmtree(self._folder, ignore_errors=True)
 
     def note_end(self, server: Master, worker: Any) -> None:
-        self._metrics.ended.inc()
+        """Counts a worker that has ended. gunicorn calls it in the handler of a signal.
+
+        The handler may interrupt itself, so it takes no lock: the count is added by `look`.
+        """
+        self._ended += 1
 
     def _opened(self, settings: Settings) -> Gateway:
         """Returns the application of settings. Raises Error or OSError."""
