@@ -29,6 +29,11 @@ class Http(Shared):
             self.assertEqual((200, b"300\n"), client.response()[::2])
             self.assertEqual(b"", client.input.read())
 
+    def test_a_field_of_a_client_does_not_change_its_path(self) -> None:
+        for value in ("/x", "/cdx", ""):
+            found = self.server.ask("/cdx?url=example.com/a&fl=length", **{"SCRIPT_NAME": value})
+            self.assertEqual((200, "300\n"), (found.status, found.text))
+
     def test_a_client_may_close_its_side_after_the_request(self) -> None:
         for query in ("url=example.com/a", "url=example.com&sort=reverse&limit=1"):
             with connected(self.server) as client:

@@ -80,6 +80,11 @@ class Worker(gunicorn.workers.sync.SyncWorker):
         super().init_signals()
         signal.pthread_sigmask(signal.SIG_UNBLOCK, ENDS)
 
+    def handle_request(self, listener: Any, req: Any, client: Any, addr: Any) -> None:
+        """Answers a request. gunicorn would take a field SCRIPT_NAME of the client for its own."""
+        req.headers = [each for each in req.headers if each[0] != "SCRIPT_NAME"]
+        super().handle_request(listener, req, client, addr)
+
     def handle_exit(self, sig: int, frame: Optional[FrameType]) -> None:
         """Ends after the present answer. No connection waits for this worker then.
 
