@@ -218,7 +218,8 @@ class Nginx(Case):
         words = ("--user", "reader:word", "--include", "--path-as-is")
         status, text = self.curl(f"/web/2016/{url}", *words)
         self.assertEqual(302, status)
-        self.assertIn(f"Location: https://cdx.example.org/web/2016id_/{url}\r\n", text.decode())
+        location = f"Location: https://cdx.example.org:{self.port}/web/2016id_/{url}\r\n"
+        self.assertIn(location, text.decode())
 
     def test_a_broken_answer_is_seen(self) -> None:
         middle = LINE % ("com,example)/0", "20160101000000", "a", "-", "-", "-", 1, 0, "a.warc")
@@ -253,7 +254,7 @@ class Nginx(Case):
             start = time.monotonic()
             found = self.curl("/cdx?url=example.com/a&fl=length", "--user", "reader:word")
             self.assertEqual((200, b"300\n"), found)
-            self.assertLess(time.monotonic() - start, 1)
+            self.assertLess(time.monotonic() - start, WAIT / 2)
         for client in silent:
             client.close()
 
