@@ -15,8 +15,8 @@ ALL = "/cdx?url=example.com/*"
 EXPLODES = "filter=original:(x|xx)%2B[yz]"
 MOST_MORE = 0.050  # seconds of the slowest of 99 % above those alone
 PROBES = 300
-TRIES = 3
-USUAL = "workers = 8\nwide = 4\n"  # as on four processors
+TRIES = 4
+USUAL = "workers = 8\n"  # as on four processors
 
 
 def probe(server: Server, target: str, body: bytes) -> float:

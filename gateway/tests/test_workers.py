@@ -346,6 +346,19 @@ class Ends(Case):
         self.assertEqual(0, server.process.wait(20))
         self.assertEqual("", server.said.read_text())
 
+    def test_sigterm_does_not_wait_for_silent_clients(self) -> None:
+        """They have sent nothing, or a part of a request."""
+        self.put(lines(10))
+        server = self.start()
+        with connected(server) as first, connected(server) as second:
+            second.send(b"GET /cdx?url=")
+            time.sleep(0.5)
+            self.assertEqual(b"8\n", server.ask(EXACT).body)
+            start = time.monotonic()
+            self.assertEqual(0, server.end())
+            self.assertLess(time.monotonic() - start, 8)
+            self.assertEqual(b"", first.input.read())
+
     def test_sigterm_waits_no_longer_than_it_is_told(self) -> None:
         self.put(lines(100_000, size=100))
         server = self.start(drain=1)

@@ -33,6 +33,7 @@ from .shared import Metrics, Shares
 BACKLOG = 1024  # connections that wait for a worker
 MOST_LINE = 70_000  # bytes of the line of a request: a query has at most 65,536
 ENDS = (signal.SIGTERM, signal.SIGINT, signal.SIGQUIT, signal.SIGABRT)
+SILENCE = 2  # seconds for a client to send its request when a worker ends
 OTHER_FILES = 200  # that are open beside indexes
 
 
@@ -76,8 +77,11 @@ class Master(gunicorn.arbiter.Arbiter):
 class Worker(gunicorn.workers.sync.SyncWorker):
     """A process that answers one request at a time."""
 
+    is_reading = False  # a request
+
     def init_signals(self) -> None:
         super().init_signals()
+        signal.siginterrupt(signal.SIGTERM, True)  # else it is handled after a read or write only
         signal.pthread_sigmask(signal.SIG_UNBLOCK, ENDS)
 
     def handle_request(self, listener: Any, req: Any, client: Any, addr: Any) -> None:
@@ -94,6 +98,25 @@ class Worker(gunicorn.workers.sync.SyncWorker):
         with socket.socket() as silent:
             for listener in self.sockets:
                 os.dup2(silent.fileno(), listener.fileno())
+
+        signal.signal(signal.SIGALRM, self.handle_silence)
+        signal.alarm(SILENCE)
+
+    def handle_silence(self, sig: int, frame: Optional[FrameType]) -> None:
+        """Ends at once if the client hasn't sent its request yet."""
+        if self.is_reading:
+            sys.exit(0)
+
+    def handle(self, listener: Any, client: socket.socket, addr: Any) -> None:
+        self.is_reading = True
+        try:
+            super().handle(listener, client, addr)
+        finally:
+            self.is_reading = False
+
+    def handle_request(self, listener: Any, req: Any, client: socket.socket, addr: Any) -> None:
+        self.is_reading = False
+        super().handle_request(listener, req, client, addr)
 
     def accept(self, listener: Any) -> None:
         try:

@@ -150,11 +150,13 @@ def checked(settings: Settings) -> Settings:
 
     Raises BadSettings.
     """
-    workers = settings.workers or min(2 * len(os.sched_getaffinity(0)), MOST_WORKERS)
-    settings = dataclasses.replace(settings, workers=workers, wide=settings.wide or workers // 2)
+    processors = len(os.sched_getaffinity(0))
+    workers = settings.workers or min(2 * processors, MOST_WORKERS)
+    wide = settings.wide or max(min(workers // 2, processors - 1), 1)
+    settings = dataclasses.replace(settings, workers=workers, wide=wide)
     require(0 <= settings.port <= 65_535, "port", "has to be from 0 to 65535")
     require(2 <= settings.workers <= MOST_WORKERS, "workers", f"has to be 2 to {MOST_WORKERS}")
-    require(1 <= settings.wide < workers, "wide", "has to be 1 or more, and less than 'workers'")
+    require(1 <= wide < workers, "wide", "has to be 1 or more, and less than 'workers'")
     require(settings.memory >= LEAST_MEMORY, "memory", f"has to be {LEAST_MEMORY} bytes or more")
     require(
         settings.timeout > settings.limits.query,
