@@ -84,11 +84,6 @@ class Worker(gunicorn.workers.sync.SyncWorker):
         signal.siginterrupt(signal.SIGTERM, True)  # else it is handled after a read or write only
         signal.pthread_sigmask(signal.SIG_UNBLOCK, ENDS)
 
-    def handle_request(self, listener: Any, req: Any, client: Any, addr: Any) -> None:
-        """Answers a request. gunicorn would take a field SCRIPT_NAME of the client for its own."""
-        req.headers = [each for each in req.headers if each[0] != "SCRIPT_NAME"]
-        super().handle_request(listener, req, client, addr)
-
     def handle_exit(self, sig: int, frame: Optional[FrameType]) -> None:
         """Ends after the present answer. No connection waits for this worker then.
 
@@ -115,7 +110,9 @@ class Worker(gunicorn.workers.sync.SyncWorker):
             self.is_reading = False
 
     def handle_request(self, listener: Any, req: Any, client: socket.socket, addr: Any) -> None:
+        """Answers a request. gunicorn would take a field SCRIPT_NAME of the client for its own."""
         self.is_reading = False
+        req.headers = [each for each in req.headers if each[0] != "SCRIPT_NAME"]
         super().handle_request(listener, req, client, addr)
 
     def accept(self, listener: Any) -> None:
