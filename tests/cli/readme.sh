@@ -10,13 +10,13 @@
 # says.
 #
 # Prints a line for each block of commands, with the differences if there are any, and the counts.
-# The exit status is 0, or 1 if one differs. Needs git, gzip, python3 and Debian's packages binutils
-# and dpkg.
+# The exit status is 0, or 1 if one differs. Needs git, gzip, python3, zsh and Debian's packages
+# binutils and dpkg.
 set -euo pipefail
 source "$(dirname "$0")/../program.sh"
 source "$root/tests/cli/pages.sh"
 if [ $# -gt 0 ]; then read_program "$@"; else program=; fi
-need dpkg-deb:dpkg git gzip objdump:binutils python3 strip:binutils
+need dpkg-deb:dpkg git gzip objdump:binutils python3 strip:binutils zsh
 
 work=$(mktemp -d)
 trap 'rm -rf "$work"' EXIT
@@ -45,11 +45,14 @@ check_session() {
 # check_sessions CASE SAMPLES PATH: runs the sessions with this PATH, over a folder of samples and over a
 # compressed file.
 check_sessions() {
-    local case=$1 samples=$2 path=$3 folder
-    folder=$(mktemp -d -p "$work")
-    gzip --stdout "$samples/response.warc" > "$folder/example.warc.gz"
-    check_session "three commands, $case" '$ warcdx-gz index' "$folder" PATH="$path" PYTHONDONTWRITEBYTECODE=1 bash
-    check_session "a try, $case" '$ warcdx index wget.warc' "$samples" PATH="$path" HOME="$folder" bash
+    local samples=$2 path=$3 case shell folder
+    for shell in bash zsh; do
+        case="$1, by $shell"
+        folder=$(mktemp -d -p "$work")
+        gzip --stdout "$samples/response.warc" > "$folder/example.warc.gz"
+        check_session "three commands, $case" '$ warcdx-gz index' "$folder" PATH="$path" PYTHONDONTWRITEBYTECODE=1 "$shell"
+        check_session "a try, $case" '$ warcdx index wget.warc' "$samples" PATH="$path" HOME="$folder" "$shell"
+    done
 }
 
 git clone --quiet "$root" "$clone"
