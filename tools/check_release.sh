@@ -242,9 +242,9 @@ check_planted_modules() {
         for module in warcdx warcdx_gateway; do
             if [ -f "$folder/$module" ]; then continue; fi # the program
             mkdir -p "$folder/$module"
-            echo "print('PLANTED'); raise SystemExit" | tee "$folder/$module"/{__init__,aio,command,gz_command,verify_command,update_command}.py > "$work/output"
+            echo "print('PLANTED'); raise SystemExit" | tee "$folder/$module"/{__init__,command,program,gz_command,verify_command,update_command}.py > "$work/output"
         done
-        for module in argparse asyncio json pathlib re signal subprocess; do
+        for module in argparse ctypes json pathlib re signal subprocess; do
             echo "print('PLANTED $module'); raise SystemExit" > "$folder/$module.py"
         done
     done

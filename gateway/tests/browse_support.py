@@ -2,7 +2,10 @@
 
 The variable WARCDX names the program, or else it is `warcdx` of the PATH.
 """
+import atexit
 import base64
+import contextlib
+import functools
 import gzip
 import hashlib
 import html
@@ -10,28 +13,34 @@ import json
 import os
 import pathlib
 import re
+import shutil
 import subprocess
 import sys
 import tempfile
+import threading
 import unicodedata
 import unittest
-from collections.abc import Mapping, Sequence
+import zlib
+from collections.abc import Iterator, Sequence
 from html.parser import HTMLParser
-from typing import Optional
+from typing import Any, Optional
 from urllib.parse import urlencode
 
 GATEWAY = pathlib.Path(__file__).resolve().parents[1]
 sys.path[:0] = [str(GATEWAY), str(GATEWAY.parent / "python")]
 
-from aiohttp import ClientResponse, web  # noqa: E402
-from aiohttp.test_utils import TestClient, TestServer  # noqa: E402
+from werkzeug.serving import WSGIRequestHandler, make_server  # noqa: E402
+from werkzeug.test import Client, TestResponse  # noqa: E402
 
-from warcdx_gateway import browse  # noqa: E402
+from warcdx_gateway.application import Gateway  # noqa: E402
 from warcdx_gateway.collection import Collection  # noqa: E402
+from warcdx_gateway.settings import CollectionSettings, Settings  # noqa: E402
+from warcdx_gateway.shared import Metrics, Shares  # noqa: E402
 
 PROGRAM = os.environ.get("WARCDX", "warcdx")
 SAMPLES = GATEWAY.parent / "samples"
 HTML = "text/html; charset=utf-8"
+MEGABYTE = 1 << 20
 
 
 def digest_of(payload: bytes) -> str:
@@ -58,9 +67,15 @@ def record(
 
 
 def response(
-    address: str, date: str, body: bytes, content_type: Optional[str] = HTML, *, status: str = "200 OK",
-    http: Sequence[str] = (), fields: Sequence[str] = (),
-) -> bytes:  # fmt: skip
+    address: str,
+    date: str,
+    body: bytes,
+    content_type: Optional[str] = HTML,
+    *,
+    status: str = "200 OK",
+    http: Sequence[str] = (),
+    fields: Sequence[str] = (),
+) -> bytes:
     """Returns a response record."""
     typed = [f"Content-Type: {content_type}"] if content_type is not None else []
     head = "\r\n".join([f"HTTP/1.1 {status}", *typed, *http, "", ""]).encode(
@@ -72,8 +87,8 @@ def response(
 
 def revisit(address: str, date: str, body: bytes, refers_to: str = "") -> bytes:
     """Returns a revisit record without a payload, whose digest is that of the body."""
-    fields = [f"WARC-Payload-Digest: {digest_of(body)}",
-              "WARC-Profile: http://netpreserve.org/warc/1.1/revisit/identical-payload-digest"]  # fmt: skip
+    profile = "http://netpreserve.org/warc/1.1/revisit/identical-payload-digest"
+    fields = [f"WARC-Payload-Digest: {digest_of(body)}", f"WARC-Profile: {profile}"]
     if refers_to:
         fields += [f"WARC-Refers-To-Target-URI: {address}", f"WARC-Refers-To-Date: {refers_to}"]
     return record(
@@ -91,6 +106,17 @@ def page(title: str, *paragraphs: str) -> bytes:
     return f"<!DOCTYPE html><title>{title}</title><h1>{title}</h1>{body}".encode()
 
 
+@functools.cache
+def bomb(start: bytes = b"") -> bytes:
+    """Returns a member of gzip that unpacks to a start and 300 MB of zeros."""
+    packer, zeros = zlib.compressobj(1, zlib.DEFLATED, 31), bytes(MEGABYTE)
+    return (
+        packer.compress(start)
+        + b"".join(packer.compress(zeros) for _ in range(300))
+        + packer.flush()
+    )
+
+
 class Archives:
     """A folder of archives, with an index of each."""
 
@@ -100,6 +126,8 @@ class Archives:
         self.archives.mkdir()
         self.indexes: list[pathlib.Path] = []
         self.places: dict[str, tuple[str, int]] = {}  # of the last record of each address
+        # The URL key and timestamp of the last line of each archive's name and offset.
+        self.lines: dict[tuple[str, int], tuple[str, str]] = {}
 
     def add(self, name: str, records: Sequence[bytes], *, index: bool = True) -> None:
         """Writes an archive, compressed if its name says so, and its index."""
@@ -128,6 +156,11 @@ class Archives:
         """Writes an index of these lines."""
         self.indexes.append(self.folder / name)
         self.indexes[-1].write_bytes(lines)
+        for line in lines.decode(errors="surrogateescape").splitlines():
+            with contextlib.suppress(ValueError):
+                key, timestamp, text = line.split(" ", 2)
+                members = json.loads(text)
+                self.lines[members["filename"], int(members["offset"])] = key, timestamp
 
     def line(
         self,
@@ -146,13 +179,53 @@ class Archives:
             "digest": "-",
             "length": "1",
         }
-        return f"{key} {stamp} {json.dumps({**members, 'offset': str(offset), 'filename': filename, **more})}\n".encode()
+        members.update(offset=str(offset), filename=filename, **more)
+        return f"{key} {stamp} {json.dumps(members)}\n".encode()
 
-    def collection(self, name: str = "crawl", title: str = "A crawl") -> Collection:
-        return Collection(name, title, self.indexes, (self.archives,), program=PROGRAM)
+    def collection(self, name: str = "crawl", title: str = "A crawl") -> CollectionSettings:
+        return CollectionSettings(name, title, tuple(self.indexes), (self.archives,))
 
 
-class Pages(unittest.IsolatedAsyncioTestCase):
+def gateway_of(test: unittest.TestCase, settings: Settings) -> Gateway:
+    """Returns a gateway over these settings, which is closed at the end of the test."""
+    folder = tempfile.TemporaryDirectory()
+    test.addCleanup(folder.cleanup)
+    collections = {each.name: Collection(each, settings) for each in settings.collections}
+    for each in collections.values():
+        test.addCleanup(each.close)
+        each.open()
+    shares = Shares(pathlib.Path(folder.name), workers=8, wide=4)
+    return Gateway(settings, collections, shares, metrics())
+
+
+@functools.cache
+def metrics() -> Metrics:
+    """Returns the counts of all gateways of these tests, whose files are open until the end."""
+    folder = tempfile.mkdtemp()
+    atexit.register(shutil.rmtree, folder)
+    return Metrics(pathlib.Path(folder))
+
+
+@contextlib.contextmanager
+def served(application: Any) -> Iterator[str]:
+    """Serves a WSGI application to browsers. Yields its address."""
+    server = make_server("127.0.0.1", 0, application, threaded=True, request_handler=Quiet)
+    thread = threading.Thread(target=server.serve_forever)
+    thread.start()
+    try:
+        yield f"http://127.0.0.1:{server.port}"
+    finally:
+        server.shutdown()
+        thread.join()
+        server.server_close()
+
+
+class Quiet(WSGIRequestHandler):
+    def log(self, *_: object) -> None:
+        """Writes nothing."""
+
+
+class Pages(unittest.TestCase):
     """Tests with pages over archives that `fill` writes."""
 
     def fill(self, archives: Archives) -> None:
@@ -164,24 +237,18 @@ class Pages(unittest.IsolatedAsyncioTestCase):
         self.archives = Archives(pathlib.Path(folder.name))
         self.fill(self.archives)
 
-    async def asyncSetUp(self) -> None:
-        collection = self.archives.collection()
-        self.addAsyncCleanup(collection.close)
-        self.client = await self.serve({"crawl": collection})
+        self.gateway = self.serve(self.archives.collection())
+        self.client = Client(self.gateway)
 
-    async def serve(self, collections: Mapping[str, Collection]) -> TestClient:
-        app = web.Application()
-        browse.setup(app, collections)
-        client = TestClient(TestServer(app))
-        await client.start_server()
-        self.addAsyncCleanup(client.close)
-        return client
+    def serve(self, *collections: CollectionSettings, **changed: Any) -> Gateway:
+        settings = Settings(collections, collections[0].name, program=PROGRAM, **changed)
+        return gateway_of(self, settings)
 
-    async def get(self, name: str, status: int = 200, **query: object) -> str:
+    def get(self, name: str, status: int = 200, **query: object) -> str:
         """Returns the text of a page of the collection, and checks its status and headers."""
-        response = await self.ask(name, **query)
-        text = await response.text()
-        self.assertEqual(status, response.status, text)
+        response = self.ask(name, **query)
+        text = response.text
+        self.assertEqual(status, response.status_code, text)
         self.assertIn("default-src 'none'", response.headers["Content-Security-Policy"])
         self.assertNotIn("script", response.headers["Content-Security-Policy"])
         self.assertEqual("nosniff", response.headers["X-Content-Type-Options"])
@@ -191,27 +258,38 @@ class Pages(unittest.IsolatedAsyncioTestCase):
         self.assertEqual([], faults_of(text))
         return text
 
-    async def ask(
+    def ask(
         self, name: str, headers: Optional[dict[str, str]] = None, **query: object
-    ) -> ClientResponse:
-        encoded = urlencode({each.rstrip("_"): str(value) for each, value in query.items()})
-        return await self.client.get(
-            f"/crawl/browse/{name}?{encoded}", headers=headers, allow_redirects=False
-        )
+    ) -> TestResponse:
+        given = {each.rstrip("_"): str(value) for each, value in query.items()}
+        encoded = urlencode(given, errors="surrogateescape")
+        return self.client.get(f"/crawl/browse/{name}?{encoded}", headers=headers)
 
     def place(self, address: str) -> dict[str, object]:
         """Returns the query that the page of the last record of an address has."""
-        name, offset = self.archives.places[address]
-        return {"archive": name, "offset": offset}
+        return self.place_at(*self.archives.places[address])
+
+    def place_at(self, name: str, offset: int) -> dict[str, object]:
+        """Returns the query that the page of the record at an offset of an archive has."""
+        key, timestamp = self.archives.lines[name, offset]
+        return {"archive": name, "offset": offset, "timestamp": timestamp, "key": key}
+
+    def pair(self, name: str, offset: int) -> str:
+        """Returns what chooses a record for a comparison."""
+        key, timestamp = self.archives.lines[name, offset]
+        return f"{offset} {timestamp} {key} {name}"
 
 
 _ELEMENTS = frozenset(
-    "a b bdi body button caption code dd del details div dl dt footer form g h1 h2 h3 head header hgroup html iframe input ins "
-    "label li line link main meta nav ol option p rect section select span strong summary svg table tbody td text th thead "
-    "time title tr ul".split()
+    "a b bdi body button caption code dd del details div dl dt footer form g h1 h2 h3 head header "
+    "hgroup html iframe input ins label li line link main meta nav ol option p rect section select "
+    "span strong summary svg table tbody td text th thead time title tr ul".split()
 )
-_PAGES = re.compile(r"#content|(\./|\.\./\.\./browse(/style\.css|/icon\.svg)?|[A-Za-z0-9.]+/browse/|browse/(style\.css|icon\.svg)"
-                    r"|(search|captures|compare|record|payload|download)(\?[A-Za-z0-9=&%.~_-]*)?(#[a-z]+)?)")  # fmt: skip
+_PAGES = re.compile(
+    r"#content|(\./|\.\./\.\./browse(/style\.css|/icon\.svg)?|[A-Za-z0-9.]+/browse/"
+    r"|browse/(style\.css|icon\.svg)"
+    r"|(search|captures|compare|record|payload|download)(\?[A-Za-z0-9=&%.~_-]*)?(#[a-z]+)?)"
+)
 
 
 class _Checked(HTMLParser):
@@ -239,7 +317,7 @@ class _Checked(HTMLParser):
 
 
 def faults_of(page: str) -> list[str]:
-    """Returns what a page has that could act on a reader: elements, attributes and addresses, and unseen characters."""
+    """Returns what a page has that could act on a reader: elements, values, unseen characters."""
     checked = _Checked()
     checked.feed(page)
     checked.close()

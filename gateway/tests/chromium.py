@@ -1,4 +1,4 @@
-"""A headless Chromium that the tests drive by its DevTools protocol, over aiohttp's client of WebSockets."""
+"""A headless Chromium, driven by its DevTools protocol over aiohttp's client of WebSockets."""
 import asyncio
 import base64
 import contextlib
@@ -16,8 +16,9 @@ WAIT = 30  # seconds for what takes a moment
 _STEP = 0.05
 PROGRAM = shutil.which("chromium")
 _OPTIONS = (
-    "--headless=new", "--no-sandbox", "--disable-gpu", "--disable-dev-shm-usage", "--hide-scrollbars", "--no-first-run",
-    "--disable-background-networking", "--disable-component-update", "--disable-extensions", "--no-proxy-server",
+    "--headless=new", "--no-sandbox", "--disable-gpu", "--disable-dev-shm-usage",
+    "--hide-scrollbars", "--no-first-run", "--disable-background-networking",
+    "--disable-component-update", "--disable-extensions", "--no-proxy-server",
     "--force-color-profile=srgb", "--lang=en", "--remote-debugging-port=0", "about:blank",
 )  # fmt: skip
 
@@ -105,13 +106,14 @@ class Tab:
         return " ".join(str(await self.evaluate("document.body.innerText")).split())
 
     async def click(self, selector: str) -> None:
-        """Clicks the middle of the first element of a selector, as a mouse does, and waits for the next page."""
+        """Clicks the middle of the first element of a selector, and waits for the next page."""
         await self._loading(self.press_mouse(selector))
 
     async def press_mouse(self, selector: str, x: float = 0.5, y: float = 0.5) -> None:
         place = await self.evaluate(
             f"(e => {{ e.scrollIntoView({{block: 'center'}}); const r = e.getBoundingClientRect();"
-            f" return [r.x + r.width * {x}, r.y + r.height * {y}] }})(document.querySelector({selector!r}))"
+            f" return [r.x + r.width * {x}, r.y + r.height * {y}] }})"
+            f"(document.querySelector({selector!r}))"
         )
         for kind in ("mouseMoved", "mousePressed", "mouseReleased"):
             button = {} if kind == "mouseMoved" else {"button": "left", "clickCount": 1}
@@ -134,7 +136,8 @@ class Tab:
         """Presses the tab key, and returns the name of what has the focus then."""
         await self.key("Tab", 9)
         return str(await self.evaluate(
-            "(e => e.getAttribute('aria-label') || (e.labels && e.labels[0] || e).innerText.trim() || e.tagName)(document.activeElement)"
+            "(e => e.getAttribute('aria-label') || (e.labels && e.labels[0] || e).innerText.trim()"
+            " || e.tagName)(document.activeElement)"
         ))  # fmt: skip
 
     async def enter(self) -> None:
@@ -175,8 +178,8 @@ class Tab:
 
     async def _frame_strings(self) -> list[str]:
         sessions = [
-            event["params"]["sessionId"] for event in self._connection.events
-            if event["method"] == "Target.attachedToTarget" and event["params"]["targetInfo"]["type"] == "iframe"
+            event["sessionId"] for event in self.events("Target.attachedToTarget")
+            if event["targetInfo"]["type"] == "iframe"
         ]  # fmt: skip
         session = sessions[-1] if sessions else self._session
         snapshot = await self._connection.send(

@@ -7,6 +7,7 @@ import gzip
 import json
 import os
 import pathlib
+import re
 import shutil
 import signal
 import socket
@@ -193,6 +194,11 @@ class Client:
         self.send(f"{method} {target} HTTP/1.1\r\nHost: localhost\r\n{head}\r\n".encode())
         return self.response(method == "HEAD")
 
+    def begin(self, target: str) -> None:
+        """Sends a request, and takes no more of the answer than the system holds for it."""
+        self.send(f"GET {target} HTTP/1.1\r\nHost: localhost\r\n\r\n".encode())
+        self.socket.recv(1, socket.MSG_PEEK)
+
     def close(self) -> None:
         self.input.close()
         self.socket.close()
@@ -246,17 +252,17 @@ class Server:
             if line.startswith(f"warcdx_gateway_{name}")
         )
 
-    def memory(self) -> int:
-        """Returns the resident memory of the gateway in bytes."""
-        status = pathlib.Path(f"/proc/{self.process.pid}/status").read_text()
-        return int(status.partition("VmRSS:")[2].split()[0]) * 1024
+    def workers(self) -> list[int]:
+        """Returns the process IDs of the workers."""
+        return children(self.process.pid)
 
     def programs(self) -> list[int]:
         """Returns the process IDs of the runs of the program."""
-        found = pathlib.Path(
-            f"/proc/{self.process.pid}/task/{self.process.pid}/children"
-        ).read_text()
-        return list(map(int, found.split()))
+        return [program for worker in self.workers() for program in children(worker)]
+
+    def memory(self) -> int:
+        """Returns the resident memory of the workers in bytes."""
+        return sum(map(resident, self.workers()))
 
     def end(self) -> int:
         if self.process.poll() is None:
@@ -267,6 +273,23 @@ class Server:
             self.process.kill()
             if self.process.stdout is not None:
                 self.process.stdout.close()
+
+
+def children(process: int) -> list[int]:
+    try:
+        found = pathlib.Path(f"/proc/{process}/task/{process}/children").read_text()
+    except FileNotFoundError:
+        return []
+    return list(map(int, found.split()))
+
+
+def resident(process: int) -> int:
+    try:
+        status = pathlib.Path(f"/proc/{process}/status").read_text()
+    except FileNotFoundError:
+        return 0
+    found = status.partition("VmRSS:")[2].split()
+    return int(found[0]) * 1024 if found else 0
 
 
 class Case(unittest.TestCase):
@@ -282,15 +305,22 @@ class Case(unittest.TestCase):
         path.write_text(text)
         return path
 
-    def start(self, settings: Optional[str] = None, **limits: int) -> Server:
-        """Starts a gateway over the file `index`, or with these settings."""
+    def start(self, settings: Optional[str] = None, head: str = "", **limits: int) -> Server:
+        """Starts a gateway over the file `index`, or with these settings, with `head` before them."""
         if settings is None:
             settings = '[collections.main]\nindexes = ["index"]\n'
+        settings = head + settings
         table = "".join(f"{name} = {value}\n" for name, value in limits.items())
+        workers = "" if "workers" in settings else "workers = 3\n"
         path = self.put(
-            f'port = 0\nprogram = "{PROGRAM}"\n{settings}[limits]\n{table}', "settings.toml"
+            f'port = 0\nprogram = "{PROGRAM}"\n{workers}{settings}[limits]\n{table}',
+            "settings.toml",
         )
-        return self.run_command(str(path))
+        server = self.run_command(str(path))
+        found = re.search("workers = ([0-9]+)", path.read_text())
+        assert found is not None
+        self.wait_for(lambda: len(server.workers()) == int(found[1]), "no workers")
+        return server
 
     def run_command(self, *arguments: str) -> Server:
         said = self.folder / "said"
@@ -322,6 +352,7 @@ class Shared(Case):
 
     server: Server
     captures = SAMPLE
+    settings: Optional[str] = None
 
     @classmethod
     def setUpClass(cls) -> None:
@@ -331,7 +362,7 @@ class Shared(Case):
         case.folder = pathlib.Path(folder.name)
         case.put(cls.captures)
         cls.shared = case.folder
-        cls.server = case.start()
+        cls.server = case.start(cls.settings)
         cls.addClassCleanup(case.doCleanups)
 
     def setUp(self) -> None:

@@ -1,11 +1,11 @@
-"""The pages in headless Chromium: a way from the search to a payload, the keyboard, names for screen readers, hostile pages."""
+"""The pages in headless Chromium: the way to a payload, the keyboard, names, hostile pages."""
 import asyncio
 import unittest
 from collections.abc import Sequence
 from unittest import mock
+from urllib.parse import urlencode
 
-from aiohttp import web
-from aiohttp.test_utils import TestServer
+from werkzeug.wrappers import Request, Response
 
 from . import browse_support as support
 from . import chromium
@@ -20,7 +20,11 @@ OVERFLOW = "document.documentElement.scrollWidth - document.documentElement.clie
 
 
 @unittest.skipIf(chromium.PROGRAM is None, "chromium is missing (Debian's package chromium)")
-class Browsing(support.Pages):
+class Browsing(support.Pages, unittest.IsolatedAsyncioTestCase):
+    def setUp(self) -> None:
+        super().setUp()
+        self.root = self.enterContext(support.served(self.gateway))
+
     def fill(self, archives: Archives) -> None:
         archives.add("a.warc", [
             response(HOME, "2016-03-03T09:34:31Z", FIRST),
@@ -31,7 +35,7 @@ class Browsing(support.Pages):
         ])  # fmt: skip
 
     def address(self, path: str = "/browse") -> str:
-        return str(self.client.make_url(path))
+        return self.root + path
 
     async def test_a_reader_comes_from_the_search_to_a_payload(self) -> None:
         async with browser() as tab:
@@ -71,9 +75,11 @@ class Browsing(support.Pages):
             await tab.open(self.address("/crawl/browse/search?url=example.com&year=2016"))
             self.assertEqual(
                 [
-                    "Skip to the content", "Collections", "A crawl", "Address or host", "Match", "From", "To", "Search",
-                    "2016: 3 captures", "2018: 1 capture", "The years as a table",
-                    "Thursday, 3 March 2016: 2 captures", "Saturday, 31 December 2016: 1 capture", "The days as a table",
+                    "Skip to the content", "Collections", "A crawl", "Address or host", "Match",
+                    "From", "To", "Search", "2016: 3 captures", "2018: 1 capture",
+                    "The years as a table",
+                    "Thursday, 3 March 2016: 2 captures", "Saturday, 31 December 2016: 1 capture",
+                    "The days as a table",
                     "Record of 3 March 2016, 09:34:31",
                 ],
                 [await tab.tab() for _ in range(15)],
@@ -128,11 +134,17 @@ class Browsing(support.Pages):
             self.assertIn("Captures of each day of 2016", await tab.named("table"))
 
     async def test_the_pages_fit_and_follow_the_scheme_of_colours(self) -> None:
+        offsets = {"first": 0, "second": self.offset_of_second()}
+        pairs = {name: self.pair("a.warc", offset) for name, offset in offsets.items()}
         paths = [
-            "/browse", "/crawl/browse/", "/crawl/browse/search?url=example.com&year=2016", "/crawl/browse/search?url=*.example.com",
-            "/crawl/browse/search?url=", "/crawl/browse/record?archive=a.warc&offset=0",
-            "/crawl/browse/compare?first=0+a.warc&second=" + str(self.offset_of_second()) + "+a.warc",
-        ]  # fmt: skip
+            "/browse",
+            "/crawl/browse/",
+            "/crawl/browse/search?url=example.com&year=2016",
+            "/crawl/browse/search?url=*.example.com",
+            "/crawl/browse/search?url=",
+            f"/crawl/browse/record?{urlencode(self.place_at('a.warc', 0))}",
+            f"/crawl/browse/compare?{urlencode(pairs)}",
+        ]
         async with browser() as tab:
             for width, height in WIDTHS:
                 backgrounds = set()
@@ -161,24 +173,27 @@ class Browsing(support.Pages):
 
 
 @unittest.skipIf(chromium.PROGRAM is None, "chromium is missing (Debian's package chromium)")
-class Hostile(support.Pages):
+class Hostile(support.Pages, unittest.IsolatedAsyncioTestCase):
     """Pages of an archive that try to act, against a server that counts what reaches it."""
 
-    def fill(self, archives: Archives) -> None:
-        archives.put("index", b"")
-
-    async def asyncSetUp(self) -> None:
+    def setUp(self) -> None:
         self.reached: list[str] = []
         self.is_attacking = False
-        app = web.Application()
-        app.router.add_route("*", "/{path:.*}", self.trap)
-        trap = TestServer(app)
-        await trap.start_server()
-        self.addAsyncCleanup(trap.close)
-        self.evil = str(trap.make_url("/")).rstrip("/")
+        self.evil = self.enterContext(support.served(self.trap))
+        super().setUp()
+        self.root = self.enterContext(support.served(self.gateway))
+
+    @Request.application
+    def trap(self, request: Request) -> Response:
+        self.reached.append(request.path)
+        if self.is_attacking and request.path == "/attack":
+            return Response(self.attacks().replace(b"0;url", b"2;url"), content_type="text/html")
+        return Response("<script>top.hacked = 1</script>", content_type="text/html")
+
+    def fill(self, archives: Archives) -> None:
         html = self.attacks()
         date, self.names = "2016-03-03T00:00:00Z", ("html", "image", "svg", "xml", "split")
-        records = [
+        archives.add("hostile.warc", [
             response(HOME + "html", date, html),
             response(HOME + "image", date, html, "image/png"),
             response(HOME + "svg", date, self.svg(), "image/svg+xml"),
@@ -189,49 +204,45 @@ class Hostile(support.Pages):
                 html,
                 f"text/html\r\n\r\n<script>top.hacked=1</script>\r\nLocation: {self.evil}/split",
             ),
-        ]
-        self.archives.add("hostile.warc", records)
-        await super().asyncSetUp()
-
-    async def trap(self, request: web.Request) -> web.Response:
-        self.reached.append(request.path)
-        if self.is_attacking and request.path == "/attack":
-            return web.Response(
-                body=self.attacks().replace(b"0;url", b"2;url"), content_type="text/html"
-            )
-        return web.Response(text="<script>top.hacked = 1</script>", content_type="text/html")
+        ])  # fmt: skip
 
     def attacks(self) -> bytes:
         """Returns a page that tries to run scripts, to fetch, to send and to go elsewhere."""
         evil = self.evil
-        return f"""<!DOCTYPE html><base href="{evil}/base/"><meta http-equiv=refresh content="0;url={evil}/refresh">
-<meta http-equiv=Content-Security-Policy content="default-src * 'unsafe-inline'"><link rel=stylesheet href={evil}/style><link rel=icon href={evil}/icon>
-<link rel=prefetch href={evil}/prefetch><link rel=preconnect href={evil}><link rel=dns-prefetch href=//evil.example>
-<style>@import url({evil}/import); @font-face {{ font-family: f; src: url({evil}/font) }} p {{ font-family: f; background: url({evil}/background) }}
-a {{ position: fixed; left: 0; right: 0 }} #upper {{ top: 0; bottom: 50% }} #lower {{ top: 50%; bottom: 0 }}</style>
-<script>top.hacked = 1; parent.document.title = "hacked"; fetch("{evil}/fetch"); setTimeout(() => {{ top.location = "{evil}/top" }}, 5000)</script>
+        return f"""<!DOCTYPE html><base href="{evil}/base/">
+<meta http-equiv=refresh content="0;url={evil}/refresh">
+<meta http-equiv=Content-Security-Policy content="default-src * 'unsafe-inline'">
+<link rel=stylesheet href={evil}/style><link rel=icon href={evil}/icon>
+<link rel=prefetch href={evil}/prefetch><link rel=preconnect href={evil}>
+<link rel=dns-prefetch href=//evil.example>
+<style>@import url({evil}/import); @font-face {{ font-family: f; src: url({evil}/font) }}
+p {{ font-family: f; background: url({evil}/background) }}
+a {{ position: fixed; left: 0; right: 0 }}
+#upper {{ top: 0; bottom: 50% }} #lower {{ top: 50%; bottom: 0 }}</style>
+<script>top.hacked = 1; parent.document.title = "hacked"; fetch("{evil}/fetch");
+setTimeout(() => {{ top.location = "{evil}/top" }}, 5000)</script>
 <script src={evil}/script></script><body onload="top.hacked = 1" onpageshow="top.hacked = 1">
-<p>Some text<img src={evil}/image onerror="top.hacked = 1"><img src=/browse/style.css><video src={evil}/video autoplay poster={evil}/poster></video>
-<iframe src={evil}/frame></iframe><iframe srcdoc="<script>top.hacked = 1</script>"></iframe><object data={evil}/object></object><embed src={evil}/embed>
+<p>Some text<img src={evil}/image onerror="top.hacked = 1"><img src=/browse/style.css>
+<video src={evil}/video autoplay poster={evil}/poster></video>
+<iframe src={evil}/frame></iframe><iframe srcdoc="<script>top.hacked = 1</script>"></iframe>
+<object data={evil}/object></object><embed src={evil}/embed>
 <svg onload="top.hacked = 1"><use href={evil}/use#a /><image href={evil}/svgimage /></svg>
-<form id=f action={evil}/form method=post><button autofocus formtarget=_top>go</button></form><input form=f type=submit>
-<a id=upper target=_top href={evil}/upper ping={evil}/ping>Link</a><a id=lower href={evil}/lower>Link</a>
+<form id=f action={evil}/form method=post><button autofocus formtarget=_top>go</button></form>
+<input form=f type=submit><a id=upper target=_top href={evil}/upper ping={evil}/ping>Link</a>
+<a id=lower href={evil}/lower>Link</a>
 """.encode()
 
     def svg(self) -> bytes:
         return (
-            f"<?xml version='1.0'?><?xml-stylesheet href='{self.evil}/xsl' type='text/xsl'?><svg xmlns='http://www.w3.org/2000/svg'"
-            f" onload='top.hacked=1'><script>top.hacked=1</script><script xmlns='http://www.w3.org/1999/xhtml'>top.hacked=1</script>"
+            f"<?xml version='1.0'?><?xml-stylesheet href='{self.evil}/xsl' type='text/xsl'?>"
+            "<svg xmlns='http://www.w3.org/2000/svg' onload='top.hacked=1'>"
+            "<script>top.hacked=1</script>"
+            "<script xmlns='http://www.w3.org/1999/xhtml'>top.hacked=1</script>"
             f"<image href='{self.evil}/image'/></svg>"
         ).encode()
 
     def address(self, name: str, page: str = "record") -> str:
-        place = self.place(HOME + name)
-        return str(
-            self.client.make_url(
-                f"/crawl/browse/{page}?archive={place['archive']}&offset={place['offset']}"
-            )
-        )
+        return f"{self.root}/crawl/browse/{page}?{urlencode(self.place(HOME + name))}"
 
     async def test_hostile_pages_get_nowhere(self) -> None:
         async with browser() as tab:
@@ -260,7 +271,7 @@ a {{ position: fixed; left: 0; right: 0 }} #upper {{ top: 0; bottom: 50% }} #low
                 await self.check_nowhere(tab, name, self.address(name))
 
     async def test_the_policy_alone_holds_a_payload_in_a_window(self) -> None:
-        """Without the header that browsers send about the window, the policy of the payload is what is left."""
+        """Without the header that browsers send about the window, the policy is what is left."""
         async with browser() as tab:
             with mock.patch("warcdx_gateway.browse.routes.WINDOW", "none"):
                 await tab.open(self.address("html", "payload"))
@@ -269,6 +280,17 @@ a {{ position: fixed; left: 0; right: 0 }} #upper {{ top: 0; bottom: 50% }} #low
             self.assertEqual("null", await tab.evaluate("self.origin"))
             self.assertIsNone(await tab.evaluate("window.hacked"))
             self.assertEqual([], self.reached)
+
+    async def test_a_capture_as_it_was_archived_gets_nowhere(self) -> None:
+        async with browser() as tab:
+            for name in ("html", "svg", "xml"):
+                url = f"{self.root}/crawl/20160303000000id_/{HOME}{name}"
+                await tab.open(url)
+                await asyncio.sleep(0.5)
+                self.assertEqual(url, await tab.evaluate("location.href"))
+                self.assertEqual("null", await tab.evaluate("self.origin"))
+                self.assertIsNone(await tab.evaluate("window.hacked"), name)
+                self.assertEqual([], self.reached, name)
 
     async def test_the_same_pages_act_without_the_policy(self) -> None:
         """Shows that the attacks of these tests work, if nothing holds them."""
@@ -301,7 +323,7 @@ a {{ position: fixed; left: 0; right: 0 }} #upper {{ top: 0; bottom: 50% }} #low
             [
                 each
                 for each in sent
-                if not each.startswith((str(self.client.make_url("/")), "data:", "about:"))
+                if not each.startswith((self.root, "data:", "about:"))
             ],
         )
 

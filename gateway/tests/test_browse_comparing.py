@@ -29,7 +29,8 @@ class Texts(unittest.TestCase):
             ),
             ("<script>var a = '<p>no</p>'</script><style>p {}</style><p>yes", ["yes"]),
             (
-                "<noscript><p>no</p></noscript><template><p>no</template><svg><text>no</text></svg>yes",
+                "<noscript><p>no</p></noscript><template><p>no</template>"
+                "<svg><text>no</text></svg>yes",
                 ["yes"],
             ),
             ("<ul><li>a</li><li>b</li></ul><table><tr><td>c<td>d</table>", ["a", "b", "c", "d"]),
@@ -124,46 +125,42 @@ class Hostile(support.Pages):
             ],
         )
 
-    def pair(self, name: str) -> str:
-        filename, offset = self.archives.places[HOME + name]
-        return f"{offset} {filename}"
+    def of(self, name: str) -> str:
+        return self.pair(*self.archives.places[HOME + name])
 
-    async def test_each_ends_in_bounded_time(self) -> None:
+    def test_each_ends_in_bounded_time(self) -> None:
         for name in self.bodies:
             start = time.monotonic()
-            answer = await self.ask(
-                "compare", first=self.pair(name), second=self.pair("other-lines")
-            )
-            text = text_of(await answer.text())
-            self.assertIn(answer.status, (200, 422), name)
+            answer = self.ask("compare", first=self.of(name), second=self.of("other-lines"))
+            text = text_of(answer.text)
+            self.assertIn(answer.status_code, (200, 422), name)
             self.assertTrue(
                 "side by side" in text or "They need more than 3 seconds" in text, text[:300]
             )
             self.assertLess(time.monotonic() - start, 12, name)
 
-    async def test_texts_are_escaped(self) -> None:
+    def test_texts_are_escaped(self) -> None:
         for name in ("marks", "script"):
-            found = await self.get("compare", first=self.pair(name), second=self.pair("plain"))
+            found = self.get("compare", first=self.of(name), second=self.of("plain"))
             self.assertNotIn("<script", found)
         found = text_of(
-            await self.get("compare", first=self.pair("marks"), second=self.pair("plain"))
+            self.get("compare", first=self.of("marks"), second=self.of("plain"))
         )
         self.assertIn("a [U+202E] b", found)
 
-    async def test_pairs_are_checked(self) -> None:
-        for pair in ("", "0", "a.warc", "x a.warc", "-1 a.warc", " a.warc"):
-            await self.get(
-                "compare",
-                400 if not pair.startswith("0") else 404,
-                first=pair,
-                second=self.pair("plain"),
-            )
-        await self.get("compare", 404, first="0 ../a.warc", second=self.pair("plain"))
-        await self.get("compare", 404, first="1 a.warc", second=self.pair("plain"))
+    def test_pairs_are_checked(self) -> None:
+        good = self.of("plain")
+        place = good.split(" ", 1)[1]
+        offsets = (f"{each} {place}" for each in ("x", "-1", ""))
+        for pair in ("", "0", "a.warc", "0 2016 k a.warc", *offsets):
+            self.get("compare", 400, first=pair, second=good)
+        others = (good.replace("a.warc", "../a.warc"), good.replace("2016", "2017"))
+        for pair in (f"1 {place}", *others):
+            self.get("compare", 404, first=pair, second=good)
 
     def test_a_process_that_needs_too_much_is_ended(self) -> None:
         with mock.patch.object(compare_page, "SECONDS", 0.01):
-            self.assertRaises(compare_page.Refusal, compare_page.run, [])
+            self.assertRaises(compare_page.NotShown, compare_page.run, [])
 
     def test_the_process_reads_what_is_written_for_it(self) -> None:
         given = io.BytesIO(

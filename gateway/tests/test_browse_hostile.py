@@ -1,51 +1,45 @@
 """Archives and indexes of which an attacker has written every byte."""
-import asyncio
-import functools
 import gzip
 import os
 import time
 import tracemalloc
 import unittest
-import zlib
 from unittest import mock
-
-from aiohttp import ClientError
+from urllib.parse import urlencode
 
 from . import browse_support as support
-from .browse_support import Archives, page, record, response, text_of
+from .browse_support import MEGABYTE, Archives, bomb, page, record, response, text_of
 
 from warcdx_gateway.browse import reading
-from warcdx_gateway.browse.answers import PAYLOAD_POLICY
+from warcdx_gateway.browse.responses import PAYLOAD_POLICY
 
 HOME = "http://example.com/"
 SCRIPT = "<script>top.hacked=1</script>"
 MARKUP = f"\"'></title></iframe></svg>{SCRIPT}<img src=x onerror=alert(1)>"
 ADDRESSES = (
-    "javascript:alert(document.domain)", "data:text/html," + SCRIPT, "http://evil.example/?" + MARKUP,
-    "http://evil.example/\u202egpj.exe", "http://evil.example/\x9b31m", "//evil.example/", "..//..//",
+    "javascript:alert(document.domain)",
+    "data:text/html," + SCRIPT,
+    "http://evil.example/?" + MARKUP,
+    "http://evil.example/\u202egpj.exe",
+    "http://evil.example/\x9b31m",
+    "//evil.example/",
+    "..//..//",
+)
+OUTSIDE = (
+    "../outside.warc", "link.warc", "/etc/passwd", "../../../../../../etc/passwd",
+    "good.warc/../../outside.warc", ".", "..", "a\0b", "x" * 5000, "pipe.warc", "-", "-h",
 )  # fmt: skip
+NAMED = {"key": "com,example)/named", "timestamp": "20160303000000"}
 LONG = "http://long.example/" + "\u202e" * 100_000
-MEGABYTE = 1 << 20
-
-
-@functools.cache
-def bomb(start: bytes = b"") -> bytes:
-    """Returns a member of gzip that unpacks to a start and 300 MB of zeros."""
-    packer, zeros = zlib.compressobj(1, zlib.DEFLATED, 31), bytes(MEGABYTE)
-    return (
-        packer.compress(start)
-        + b"".join(packer.compress(zeros) for _ in range(300))
-        + packer.flush()
-    )
 
 
 class Indexes(support.Pages):
     """Lines of an index whose values are hostile."""
 
     def fill(self, archives: Archives) -> None:
-        archives.add(
-            "good.warc", [response(HOME, "2016-03-03T00:00:00Z", page("good"))], index=False
-        )
+        good = response(HOME, "2016-03-03T00:00:00Z", page("good"))
+        self.length = str(len(good))
+        archives.add("good.warc", [good], index=False)
         outside = archives.folder / "outside.warc"
         outside.write_bytes(response(HOME, "2016-03-03T00:00:00Z", b"secret"))
         (archives.archives / "link.warc").symlink_to(outside)
@@ -73,10 +67,17 @@ class Indexes(support.Pages):
             archives.line(HOME, "99991231235960", "good.warc", 0),
             archives.line(HOME, "20160230000000", "good.warc", 0, key="com,example)/<script>"),
         ]
-        lines.sort()
+        # Indexes may name any file.
+        for name in (*OUTSIDE, str(outside), "good.warc", "missing.warc"):
+            for offset in (0, 1, 2**63 - 1):
+                lines.append(
+                    archives.line(
+                        HOME, "20160303000000", name, offset, key=NAMED["key"], length=self.length
+                    )
+                )
         archives.put("index", b"".join(sorted(lines)))
 
-    async def test_values_are_escaped_everywhere(self) -> None:
+    def test_values_are_escaped_everywhere(self) -> None:
         for name, query in (
             ("search", {"url": HOME}),
             ("search", {"url": HOME, "year": "2016"}),
@@ -85,10 +86,10 @@ class Indexes(support.Pages):
             ("captures", {"url": "*.example.com"}),
             ("captures", {"url": HOME, "from": "20160304", "to": "20160304"}),
         ):
-            found = await self.get(name, **query)
+            found = self.get(name, **query)
             self.assertNotIn(SCRIPT, found)
             self.assertLess(len(found), 200_000)
-        listed = text_of(await self.get("captures", url="*.example.com"))
+        listed = text_of(self.get("captures", url="*.example.com"))
         for words in (
             "javascript:alert(document.domain)",
             SCRIPT,
@@ -97,56 +98,66 @@ class Indexes(support.Pages):
         ):
             self.assertIn(words, listed)
 
-    async def test_what_a_reader_sends_is_escaped(self) -> None:
+    def test_what_a_reader_sends_is_escaped(self) -> None:
         for name in ("url", "match", "from", "to", "key", "year", "after"):
             for value in (MARKUP, "\u202e", "\0", "\r\nX-Injected: 1"):
                 query = {"url": HOME, name: value}
                 for path in ("search", "captures"):
-                    answer = await self.ask(path, **query)
-                    found = await answer.text()
-                    self.assertIn(answer.status, (200, 400), found)
+                    answer = self.ask(path, **query)
+                    found = answer.text
+                    self.assertIn(answer.status_code, (200, 400), found)
                     self.assertNotIn("X-Injected", answer.headers)
                     self.assertEqual([], support.faults_of(found), (name, value))
         for path in ("record", "download", "payload", "compare"):
-            found = await self.get(
+            found = self.get(
                 path,
                 404,
                 archive=MARKUP,
                 offset=0,
+                timestamp="20160304000000",
+                key=MARKUP.replace(" ", ""),
                 what="record",
-                first=f"0 {MARKUP}",
-                second=f"0 {MARKUP}",
+                first=f"0 20160304000000 {HOME} {MARKUP}",
+                second=f"0 20160304000000 {HOME} {MARKUP}",
             )
             self.assertNotIn(SCRIPT, found)
 
-    async def test_years_that_are_no_dates_are_shown(self) -> None:
-        found = text_of(await self.get("search", url=HOME))
+    def test_years_that_are_no_dates_are_shown(self) -> None:
+        found = text_of(self.get("search", url=HOME))
         self.assertIn("The time of 2 captures is no date.", found)
-        for year, count in (("0000", "1 capture"), ("0001", "1 capture"), ("9999", "1 capture"), ("2016", "10 captures")):
-            self.assertIn(f"<h2>{year}: {count}</h2>", await self.get("search", url=HOME, year=year))
+        for year, count in (("0000", 1), ("0001", 1), ("9999", 1), ("2016", 10)):
+            words = f"<h2>{year}: {count} capture{'s' if count > 1 else ''}</h2>"
+            self.assertIn(words, self.get("search", url=HOME, year=year))
         for day in ("00000000", "20161345", "99991231"):
-            self.assertIn("Record of", await self.get("captures", url=HOME, from_=day, to=day))
+            self.assertIn("Record of", self.get("captures", url=HOME, from_=day, to=day))
 
-    async def test_no_file_outside_of_the_folders_is_read(self) -> None:
-        for name in ("../outside.warc", "link.warc", "/etc/passwd", "../../../../../../etc/passwd", "good.warc/../../outside.warc",
-                     "", ".", "..", "a\0b", "x" * 5000, "pipe.warc", str(self.archives.folder / "outside.warc"), "-", "-h"):  # fmt: skip
+    def test_no_file_outside_of_the_folders_is_read(self) -> None:
+        for name in (*OUTSIDE, str(self.archives.folder / "outside.warc")):
             for path in ("record", "payload", "download"):
-                self.assertNotIn("secret", await self.get(path, 404, archive=name, offset=0), name)
+                found = self.get(path, 404, **NAMED, archive=name, offset=0)
+                self.assertNotIn("secret", found, name)
 
-    async def test_offsets_are_numbers(self) -> None:
-        for offset, status in (("1", 404), ("9223372036854775807", 404), ("9223372036854775808", 400), ("-1", 400), ("+1", 400),
-                               ("0x0", 400), ("", 400), ("٣", 400), ("1e3", 400), ("--help", 400), ("9" * 400, 400)):  # fmt: skip
+    def test_offsets_are_numbers(self) -> None:
+        for offset, status in (
+            ("1", 502), ("2", 404), ("9223372036854775807", 404), ("9223372036854775808", 400),
+            ("-1", 400), ("+1", 400), ("0x0", 400), ("", 400), ("٣", 400), ("1e3", 400),
+            ("--help", 400), ("9" * 400, 400),
+        ):  # fmt: skip
             for path in ("record", "payload", "download"):
-                await self.get(path, status, archive="good.warc", offset=offset)
-        self.assertIn("good", text_of(await self.get("record", archive="good.warc", offset="0")))
+                self.get(path, status, **NAMED, archive="good.warc", offset=offset)
+        self.assertIn("good", text_of(self.get("record", **NAMED, archive="good.warc", offset="0")))
 
 
 class DamagedIndexes(support.Pages):
     def fill(self, archives: Archives) -> None:
-        archives.put("index", b"not a line\n")
+        # The line is found by a query that reads it, not when the index is opened.
+        keys = (f"com,example)/{number:05}" for number in range(20_000))
+        lines = [archives.line(HOME, "20160303000000", "a.warc", 0, key=key) for key in keys]
+        lines[7000] = b"com,example)/07000 not a line\n"
+        archives.put("index", b"".join(lines))
 
-    async def test_a_damaged_index_is_said(self) -> None:
-        found = text_of(await self.get("search", 502, url="*.example.com"))
+    def test_a_damaged_index_is_said(self) -> None:
+        found = text_of(self.get("search", 502, url="*.example.com"))
         self.assertIn("An index of the collection can't be read. Its fault is BadLine.", found)
         self.assertNotIn(str(self.archives.folder), found)
 
@@ -159,53 +170,78 @@ class Records(support.Pages):
         self.bomb = bomb()
         many = [f"X-{number}: {MARKUP}" for number in range(3000)]
         html = f"<meta http-equiv=refresh content='0;url=http://evil.example/'>{SCRIPT}".encode()
+        svg = b"<svg xmlns='http://www.w3.org/2000/svg'><script>1</script></svg>"
+        quotes = 'text/html"; charset="x\r\nX-Injected: 1'
+        packed, cut = gzip.compress(self.bomb), gzip.compress(html)[:-4]
+        controls = ["X\0-Name\x1b: a\rb\x7f", "\udcff: \udcfe", "No colon", MARKUP]
+        pointers = [
+            f"WARC-Payload-Digest: sha1:{MARKUP}&key=x",
+            f"WARC-Refers-To-Target-URI: {MARKUP}",
+            f"WARC-Refers-To-Date: {MARKUP}",
+        ]
+        http = "application/http; msgtype=response"
+
+        def coded(name: str, body: bytes, coding: str) -> bytes:
+            return response(HOME + name, date, body, http=[f"Content-Encoding: {coding}"])
+
+        def digested(name: str, digest: str) -> bytes:
+            return response(HOME + name, date, html, fields=[f"WARC-Block-Digest: {digest}"])
+
         self.all = {
             "html": response(HOME + "html", date, html),
             "image": response(HOME + "image", date, html, "image/png"),
-            "svg": response(HOME + "svg", date, b"<svg xmlns='http://www.w3.org/2000/svg'><script>1</script></svg>", "image/svg+xml"),
-            "quotes": response(HOME + "quotes", date, html, "text/html\"; charset=\"x\r\nX-Injected: 1"),
+            "svg": response(HOME + "svg", date, svg, "image/svg+xml"),
+            "quotes": response(HOME + "quotes", date, html, quotes),
             "charset": response(HOME + "charset", date, html, "text/html; charset=utf-7"),
             "script": response(HOME + "script", date, b"alert(1)", "text/javascript"),
             "type": response(HOME + "type", date, html, MARKUP),
             "none": response(HOME + "none", date, html, None),
             "many": response(HOME + "many", date, html, http=many),
-            "controls": response(HOME + "controls", date, html, http=["X\0-Name\x1b: a\rb\x7f", "\udcff: \udcfe", "No colon", MARKUP]),
-            "bomb": response(HOME + "bomb", date, self.bomb, http=["Content-Encoding: gzip"]),
-            "nested": response(HOME + "nested", date, gzip.compress(self.bomb), http=["Content-Encoding: gzip, gzip, gzip"]),
-            "codings": response(HOME + "codings", date, html, http=["Content-Encoding: " + "gzip," * 20_000]),
-            "unknown": response(HOME + "unknown", date, html, http=["Content-Encoding: br"]),
-            "cut": response(HOME + "cut", date, gzip.compress(html)[:-4], http=["Content-Encoding: gzip"]),
-            "no-head": record("response", HOME + "no-head", date, b"\0" * 9, "application/http; msgtype=response"),
-            "changed": response(HOME + "changed", date, html, fields=["WARC-Block-Digest: sha1:" + "A" * 32]),
-            "no-digest": response(HOME + "no-digest", date, html, fields=["WARC-Block-Digest: " + MARKUP]),
-            "revisit": record("revisit", HOME + "revisit", date, b"", "application/http", [
-                f"WARC-Payload-Digest: sha1:{MARKUP}&key=x", f"WARC-Refers-To-Target-URI: {MARKUP}", f"WARC-Refers-To-Date: {MARKUP}"]),
+            "controls": response(HOME + "controls", date, html, http=controls),
+            "bomb": coded("bomb", self.bomb, "gzip"),
+            "nested": coded("nested", packed, "gzip, gzip, gzip"),
+            "codings": coded("codings", html, "gzip," * 20_000),
+            "unknown": coded("unknown", html, "br"),
+            "cut": coded("cut", cut, "gzip"),
+            "no-head": record("response", HOME + "no-head", date, b"\0" * 9, http),
+            "changed": digested("changed", "sha1:" + "A" * 32),
+            "no-digest": digested("no-digest", MARKUP),
+            "revisit": record("revisit", HOME, date, b"", "application/http", pointers),
             "address": record("resource", MARKUP, date, html, MARKUP),
-        }  # fmt: skip
+        }
         archives.add("a.warc", list(self.all.values()), index=False)
         archives.add("c.warc", [response(f"{HOME}a", date, page("a"))])
-        self.offsets, at = {}, 0
+        self.offsets, at, lines = {}, 0, []
         for name, each in self.all.items():
             self.offsets[name] = at
+            length = str(len(each))
+            lines.append(archives.line(HOME + name, "20160303000000", "a.warc", at, length=length))
             at += len(each)
+        archives.put("index", b"".join(sorted(lines)))
 
-    async def shown(self, name: str) -> str:
-        return await self.get("record", archive="a.warc", offset=self.offsets[name])
+    def shown(self, name: str) -> str:
+        return self.get("record", **self.named(name))
 
-    async def payload(self, name: str) -> tuple[str, bytes]:
+    def named(self, name: str) -> dict[str, object]:
+        return self.place_at("a.warc", self.offsets[name])
+
+    def payload(self, name: str) -> tuple[str, bytes]:
         """Returns the type with which a payload is answered, and the payload."""
-        answer = await self.ask("payload", archive="a.warc", offset=self.offsets[name])
-        self.assertEqual(200, answer.status)
+        answer = self.ask("payload", **self.named(name))
+        self.assertEqual(200, answer.status_code)
         self.assertEqual(PAYLOAD_POLICY, answer.headers["Content-Security-Policy"])
-        for header, value in (("X-Content-Type-Options", "nosniff"), ("Referrer-Policy", "no-referrer"),
-                              ("Cross-Origin-Resource-Policy", "same-origin")):  # fmt: skip
+        for header, value in (
+            ("X-Content-Type-Options", "nosniff"),
+            ("Referrer-Policy", "no-referrer"),
+            ("Cross-Origin-Resource-Policy", "same-origin"),
+        ):
             self.assertEqual(value, answer.headers[header])
         self.assertNotIn("X-Injected", answer.headers)
-        return answer.headers["Content-Type"], await answer.read()
+        return answer.headers["Content-Type"], answer.data
 
-    async def test_each_record_has_a_page(self) -> None:
+    def test_each_record_has_a_page(self) -> None:
         for name in self.all:
-            found = await self.shown(name)
+            found = self.shown(name)
             self.assertNotIn(SCRIPT, found, name)
             self.assertNotIn("\x1b", found)
 
@@ -219,28 +255,50 @@ class Records(support.Pages):
         )
         self.assertNotIn("script-src", directives)
 
-    async def test_payloads_have_types_of_a_list(self) -> None:
+    def test_payloads_have_types_of_a_list(self) -> None:
         for name, kind in (
-            ("html", "text/html; charset=utf-8"), ("image", "image/png"), ("svg", "text/plain; charset=utf-8"),
-            ("charset", "text/html"), ("script", "text/plain; charset=utf-8"), ("quotes", "text/plain; charset=utf-8"),
-        ):  # fmt: skip
-            self.assertEqual(kind, (await self.payload(name))[0])
+            ("html", "text/html; charset=utf-8"),
+            ("image", "image/png"),
+            ("svg", "text/plain; charset=utf-8"),
+            ("charset", "text/html"),
+            ("script", "text/plain; charset=utf-8"),
+            ("quotes", "text/plain; charset=utf-8"),
+        ):
+            self.assertEqual(kind, (self.payload(name))[0])
         for name in ("type", "none", "address"):
-            await self.get("payload", 415, archive="a.warc", offset=self.offsets[name])
-            self.assertNotIn("<iframe", await self.shown(name))
+            self.get("payload", 415, **self.named(name))
+            self.assertNotIn("<iframe", self.shown(name))
 
-    async def test_a_payload_has_no_window_of_its_own(self) -> None:
-        query = {"archive": "a.warc", "offset": self.offsets["html"]}
-        answer = await self.ask("payload", {"Sec-Fetch-Dest": "document"}, **query)
+    def test_a_payload_has_no_window_of_its_own(self) -> None:
+        query = self.named("html")
+        answer = self.ask("payload", {"Sec-Fetch-Dest": "document"}, **query)
         self.assertEqual(
-            (303, f"record?archive=a.warc&offset={self.offsets['html']}"),
-            (answer.status, answer.headers["Location"]),
+            (303, f"record?{urlencode(query)}"), (answer.status_code, answer.headers["Location"])
         )
-        answer = await self.ask("payload", {"Sec-Fetch-Dest": "iframe"}, **query)
-        self.assertEqual(200, answer.status)
+        answer = self.ask("payload", {"Sec-Fetch-Dest": "iframe"}, **query)
+        self.assertEqual(200, answer.status_code)
 
-    async def test_what_can_not_be_seen_is_shown(self) -> None:
-        text = text_of(await self.shown("controls"))
+    def test_the_redirect_of_a_payload_keeps_its_query(self) -> None:
+        query = "archive=a%26b%2Bc%2520d%23e.warc&offset=0&timestamp=20160303000000&key=k"
+        answer = self.client.get(
+            f"/crawl/browse/payload?{query}", headers={"Sec-Fetch-Dest": "document"}
+        )
+        self.assertEqual(f"record?{query}", answer.headers["Location"])
+
+    def test_captures_as_they_were_archived_are_held(self) -> None:
+        for name in self.all:
+            answer = self.client.get(f"/crawl/20160303000000id_/{HOME}{name}")
+            with self.subTest(name):
+                self.assertIn(answer.status_code, (200, 404, 502, 422))
+                if answer.status_code == 200:
+                    self.assertEqual(PAYLOAD_POLICY, answer.headers["Content-Security-Policy"])
+                for field, value in answer.headers:
+                    self.assertTrue(value.isascii() and value.isprintable(), field)
+                    self.assertNotIn("injected", field.lower())
+            answer.close()
+
+    def test_what_can_not_be_seen_is_shown(self) -> None:
+        text = text_of(self.shown("controls"))
         for words in (
             "X [U+0000] -Name [U+001B]",
             "a [U+000D] b [U+007F]",
@@ -251,67 +309,66 @@ class Records(support.Pages):
         ):
             self.assertIn(words, text)
 
-    async def test_digests_have_verdicts_in_words(self) -> None:
-        for name, words in (("html", "The block is as it was recorded"), ("changed", "The block differs"),
-                            ("no-digest", "isn't a SHA-1 in base 32")):  # fmt: skip
-            self.assertIn(words, text_of(await self.shown(name)))
+    def test_digests_have_verdicts_in_words(self) -> None:
+        for name, words in (
+            ("html", "The block is as it was recorded"),
+            ("changed", "The block differs"),
+            ("no-digest", "Not compared: WARC-Block-Digest has another algorithm or form."),
+        ):
+            self.assertIn(words, text_of(self.shown(name)))
         with mock.patch("warcdx_gateway.browse.record_page.MOST_VERIFIED", 10):
             self.assertIn(
-                "Not compared: the block has more than", text_of(await self.shown("html"))
+                "Not compared: the block has more than", text_of(self.shown("html"))
             )
 
-    async def test_heads_of_many_fields_are_cut(self) -> None:
-        text = text_of(await self.shown("many"))
+    def test_heads_of_many_fields_are_cut(self) -> None:
+        text = text_of(self.shown("many"))
         shown = [
             words in text for words in ("HTTP/1.1 200 OK", "X-297", "X-298", "2,702 fields more")
         ]
         self.assertEqual([True, True, False, True], shown)
 
-    async def test_bombs_are_given_up(self) -> None:
+    def test_bombs_are_given_up(self) -> None:
         tracemalloc.start()
         self.addCleanup(tracemalloc.stop)
         start = time.monotonic()
         self.assertIn(
             "The payload has more than 4,194,304 bytes. Its beginning is shown.",
-            text_of(await self.shown("bomb")),
+            text_of(self.shown("bomb")),
         )
-        self.assertEqual(4 * MEGABYTE, len((await self.payload("bomb"))[1]))
-        self.assertIn("can't be unpacked to its end", text_of(await self.shown("nested")))
-        self.assertIn("more than 8 codings", text_of(await self.shown("codings")))
+        self.assertEqual(4 * MEGABYTE, len((self.payload("bomb"))[1]))
+        self.assertIn("can't be unpacked to its end", text_of(self.shown("nested")))
+        self.assertIn("more than 8 codings", text_of(self.shown("codings")))
         self.assertLess(time.monotonic() - start, 20)
         self.assertLess(tracemalloc.get_traced_memory()[1], 60 * MEGABYTE)
 
-    async def test_codings_that_can_not_be_undone_are_said(self) -> None:
-        for name, words in (("unknown", "The coding 'br' isn't known."), ("cut", "The compressed body is cut."),
-                            ("no-head", "The block has no HTTP head.")):  # fmt: skip
-            self.assertIn(words, text_of(await self.shown(name)))
+    def test_codings_that_can_not_be_undone_are_said(self) -> None:
+        for name, words in (
+            ("unknown", "The coding 'br' isn't known."),
+            ("cut", "The compressed body is cut."),
+            ("no-head", "The block has no HTTP head."),
+        ):
+            self.assertIn(words, text_of(self.shown(name)))
         for name in ("unknown", "no-head"):
             found = text_of(
-                await self.get(
-                    "download", 422, archive="a.warc", offset=self.offsets[name], what="payload"
-                )
+                self.get("download", 422, what="payload", **self.named(name))
             )
             self.assertIn("The payload can't be unpacked.", found)
-            saved = await self.ask(
-                "download", archive="a.warc", offset=self.offsets[name], what="record"
-            )
-            self.assertEqual(self.all[name], await saved.read())
+            saved = self.ask("download", what="record", **self.named(name))
+            self.assertEqual(self.all[name], saved.data)
 
-    async def test_a_download_that_fails_later_is_not_whole(self) -> None:
+    def test_a_download_that_fails_later_is_not_whole(self) -> None:
         with mock.patch.object(reading, "DOWNLOADED", reading.Limits(size=MEGABYTE)):
-            answer = await self.ask(
-                "download", archive="a.warc", offset=self.offsets["bomb"], what="payload"
-            )
-            self.assertEqual(200, answer.status)
-            with self.assertRaises(ClientError):
-                await answer.read()
+            answer = self.ask("download", what="payload", **self.named("bomb"))
+            self.assertEqual(200, answer.status_code)
+            with self.assertRaises(BrokenPipeError):
+                for _ in answer.iter_encoded():
+                    pass
 
-    async def test_names_of_downloads_are_plain(self) -> None:
+    def test_names_of_downloads_are_plain(self) -> None:
         for name in ("address", "controls", "html"):
             for what in ("record", "payload"):
-                answer = await self.ask(
-                    "download", archive="a.warc", offset=self.offsets[name], what=what
-                )
+                answer = self.ask("download", what=what, **self.named(name))
                 self.assertEqual("application/octet-stream", answer.headers["Content-Type"])
                 self.assertRegex(
                     answer.headers["Content-Disposition"],
@@ -319,80 +376,17 @@ class Records(support.Pages):
                 )
                 self.assertIn("sandbox", answer.headers["Content-Security-Policy"])
 
-    async def test_downloads_are_limited_in_number(self) -> None:
-        query = {"archive": "a.warc", "offset": self.offsets["bomb"], "what": "payload"}
-        with mock.patch("warcdx_gateway.browse.routes.DOWNLOADS", 2):
-            first, second = await self.ask("download", **query), await self.ask("download", **query)
-            await self.get("download", 503, **query)
-            first.close()
-            second.close()
-            for _ in range(100):
-                answer = await self.ask("download", **query)
-                answer.close()
-                if answer.status == 200:
-                    break
-                await asyncio.sleep(0.05)
-            self.assertEqual(200, answer.status)
-
-
-class LongRecords(support.Pages):
-    """Records and members that are very long."""
-
-    def fill(self, archives: Archives) -> None:
-        size = 3 << 30
-        path = archives.archives / "long.warc"
-        head = record(
-            "resource",
-            HOME,
-            "2016-03-03T00:00:00Z",
-            b"",
-            "text/plain",
-            ["WARC-Block-Digest: sha1:" + "A" * 32],
-        )
-        with open(path, "wb") as file:
-            file.write(head[:-4].replace(b"Content-Length: 0", b"Content-Length: %d" % size))
-            file.truncate(file.tell() + size)
-            file.seek(0, 2)
-            file.write(b"\r\n\r\n")
-        start = record("resource", HOME, "2016-03-03T00:00:00Z", bytes(100), "text/plain")[:-4]
-        (archives.archives / "bomb.warc.gz").write_bytes(
-            bomb(start.replace(b": 100", b": %d" % size))
-        )
-        archives.put("index", b"")
-
-    async def test_their_pages_take_bounded_time_and_memory(self) -> None:
-        tracemalloc.start()
-        self.addCleanup(tracemalloc.stop)
-        for name in ("long.warc", "bomb.warc.gz"):
-            start = time.monotonic()
-            text = text_of(await self.get("record", archive=name, offset=0))
-            self.assertIn("Not compared: the block has more than 268,435,456 bytes", text)
-            self.assertIn("The payload has more than 4,194,304 bytes.", text)
-            answer = await self.ask("payload", archive=name, offset=0)
-            self.assertEqual(4 * MEGABYTE, len(await answer.read()))
-            self.assertLess(time.monotonic() - start, 20)
-        self.assertLess(tracemalloc.get_traced_memory()[1], 40 * MEGABYTE)
-
-    async def test_a_download_takes_bounded_memory(self) -> None:
-        tracemalloc.start()
-        self.addCleanup(tracemalloc.stop)
-        answer = await self.ask("download", archive="long.warc", offset=0, what="payload")
-        taken = 0
-        async for piece in answer.content.iter_chunked(1 << 16):
-            taken += len(piece)
-            if taken > 32 * MEGABYTE:
-                break
-        answer.close()
-        self.assertLess(tracemalloc.get_traced_memory()[1], 20 * MEGABYTE)
-
-    async def test_a_client_that_takes_nothing_is_left(self) -> None:
-        with mock.patch("warcdx_gateway.browse.routes.SECONDS", 0.3):
-            answer = await self.ask("download", archive="long.warc", offset=0, what="payload")
-            await asyncio.sleep(1)
-            with self.assertRaises(ClientError):
-                async for _ in answer.content.iter_chunked(1 << 16):
-                    pass
-
+    def test_a_download_has_a_slot_until_it_is_closed(self) -> None:
+        query = self.named("bomb")
+        with mock.patch("warcdx_gateway.shared.WAIT", 0.05):
+            downloads = [self.ask("download", what="payload", **query) for _ in range(4)]
+            self.get("download", 503, what="payload", **query)
+            self.assertEqual("1", self.ask("record", **query).headers["Retry-After"])
+            for each in downloads:
+                each.close()
+            for _ in range(6):
+                self.get("download", 422, what="payload", **self.named("no-head"))
+            self.assertEqual(200, self.ask("download", what="payload", **query).status_code)
 
 if __name__ == "__main__":
     unittest.main()

@@ -3,9 +3,9 @@ import re
 import unittest
 from html.parser import HTMLParser
 
-from .browse_support import GATEWAY
+from . import browse_support as _  # noqa: F401, whose import finds the packages
 
-from warcdx_gateway.browse import answers
+from warcdx_gateway.browse import responses
 from warcdx_gateway.browse.markup import (
     Markup,
     cut,
@@ -109,9 +109,10 @@ class Escaping(unittest.TestCase):
 class Unseen(unittest.TestCase):
     def test_controls_and_marks_are_written_as_code_points(self) -> None:
         for character, words in (
-            ("\0", "[U+0000]"), ("\r", "[U+000D]"), ("\x1b", "[U+001B]"), ("\x7f", "[U+007F]"), ("\x9b", "[U+009B]"),
-            ("\u200b", "[U+200B]"), ("\u202e", "[U+202E]"), ("\u2066", "[U+2066]"), ("\u2028", "[U+2028]"),
-            ("\ufeff", "[U+FEFF]"), ("\U000e0041", "[U+E0041]"), ("\ud800", "[U+D800]"), ("\udce9", "\\xE9"),
+            ("\0", "[U+0000]"), ("\r", "[U+000D]"), ("\x1b", "[U+001B]"), ("\x7f", "[U+007F]"),
+            ("\x9b", "[U+009B]"), ("\u200b", "[U+200B]"), ("\u202e", "[U+202E]"),
+            ("\u2066", "[U+2066]"), ("\u2028", "[U+2028]"), ("\ufeff", "[U+FEFF]"),
+            ("\U000e0041", "[U+E0041]"), ("\ud800", "[U+D800]"), ("\udce9", "\\xE9"),
         ):  # fmt: skip
             self.assertEqual(f"a{words}b", visible(f"a{character}b"))
             self.assertEqual(f'a<b class="unseen">{words}</b>b', shown(f"a{character}b").text)
@@ -142,53 +143,8 @@ class Dispositions(unittest.TestCase):
             ("a/", "a", "a"),
         ):
             expected = f"attachment; filename=\"{ascii_name}\"; filename*=UTF-8''{name_in_utf_8}"
-            self.assertEqual(expected, answers.disposition(name), name)
-        self.assertLess(len(answers.disposition("漢" * 5000)), 2000)
-
-
-class Colours(unittest.TestCase):
-    """Texts have a contrast of 4.5 to 1 or more (WCAG 2.2, success criterion 1.4.3), drawings of 3 to 1 (1.4.11)."""
-
-    TEXTS = (
-        ("text", "page"), ("text", "card"), ("faint", "page"), ("faint", "card"), ("link", "page"), ("link", "card"),
-        ("button-text", "button"), ("good", "card"), ("bad", "card"), ("text", "removed"), ("text", "removed-word"),
-        ("text", "added"), ("text", "added-word"), ("faint", "day1"), ("day1-text", "day1"), ("day2-text", "day2"),
-        ("day3-text", "day3"), ("day4-text", "day4"),
-    )  # fmt: skip
-    DRAWINGS = (
-        ("bar", "card"),
-        ("focus", "card"),
-        ("focus", "page"),
-        ("day3", "card"),
-        ("day4", "card"),
-    )
-
-    def test_colours_have_enough_contrast(self) -> None:
-        style = (GATEWAY / "warcdx_gateway/browse/style.css").read_text()
-        schemes = re.findall(r":root \{(.*?)\}", style, re.DOTALL)
-        self.assertEqual(2, len(schemes))
-        light = dict(re.findall("--([a-z0-9-]+): (#[0-9a-f]{6})", schemes[0]))
-        dark = {**light, **dict(re.findall("--([a-z0-9-]+): (#[0-9a-f]{6})", schemes[1]))}
-        for colours in (light, dark):
-            for pairs, least in ((self.TEXTS, 4.5), (self.DRAWINGS, 3)):
-                for one, other in pairs:
-                    self.assertGreaterEqual(
-                        contrast(colours[one], colours[other]), least, (one, other)
-                    )
-
-
-def contrast(one: str, other: str) -> float:
-    """Returns the contrast ratio of two colours by WCAG 2.2."""
-    dark, light = sorted(map(luminance, (one, other)))
-    return (light + 0.05) / (dark + 0.05)
-
-
-def luminance(colour: str) -> float:
-    parts = (int(colour[at : at + 2], 16) / 255 for at in (1, 3, 5))
-    red, green, blue = (
-        part / 12.92 if part <= 0.04045 else ((part + 0.055) / 1.055) ** 2.4 for part in parts
-    )
-    return 0.2126 * red + 0.7152 * green + 0.0722 * blue
+            self.assertEqual(expected, responses.disposition(name), name)
+        self.assertLess(len(responses.disposition("漢" * 5000)), 2000)
 
 
 if __name__ == "__main__":

@@ -1,21 +1,20 @@
-"""The pages, as a reader goes through them: search, years, days, captures, records and comparisons."""
+"""The pages, as a reader goes through them: years, days, captures, records and comparisons."""
 import gzip
 import re
 import unittest
 from unittest import mock
+from urllib.parse import urljoin
 
-from aiohttp.test_utils import TestClient, TestServer
+from werkzeug.test import Client
 
 from . import browse_support as support
-from .browse_support import Archives, page, record, response, revisit, text_of
+from .browse_support import Archives, digest_of, page, record, response, revisit, text_of
 
-from warcdx import Archive, payload
+from warcdx_gateway.answers import Source
 from warcdx_gateway.browse import counting, lists
 from warcdx_gateway.browse.search_page import caption
 from warcdx_gateway.browse.searching import Search
-from warcdx_gateway.metrics import Metrics
-from warcdx_gateway.server import Gateway
-from warcdx_gateway.settings import CollectionSettings, Settings
+from warcdx_gateway.shared import Share
 
 HOME = "http://example.com/"
 FIRST = page("Home", "Open from 9 to 17.", "The same.")
@@ -47,7 +46,22 @@ class Reading(support.Pages):
             response(
                 "http://example.org/data", "2017-02-01T00:00:00Z", b"PK\3\4", "application/zip"
             ),
+            record(
+                "resource", "http://example.org/note", "2017-02-01T00:00:00Z", b"text", "text/plain"
+            ),
         ]
+        digests = {"Block": digest_of(b""), "Payload": digest_of(FIRST)}
+        of_wget = [f"WARC-{part}-Digest: {digest}" for part, digest in digests.items()]
+        records.append(
+            record(
+                "revisit",
+                "http://example.net/",
+                "2017-02-01T00:00:00Z",
+                b"HTTP/1.1 200 OK\r\n\r\n",
+                "application/http; msgtype=response",
+                of_wget,
+            )
+        )
         archives.add("a.warc", records)
         packed = response(
             "http://packed.example/",
@@ -57,31 +71,33 @@ class Reading(support.Pages):
         )
         archives.add("b.warc.gz", [packed])
 
-    async def test_the_list_of_collections_links_each(self) -> None:
-        collections = {
-            name: self.archives.collection(name, f"<{name}>") for name in ("one", "Two.2")
-        }
-        for each in collections.values():
-            self.addAsyncCleanup(each.close)
-        client = await self.serve(collections)
-        found = await (await client.get("/browse")).text()
+    def test_the_list_of_collections_links_each(self) -> None:
+        named = (self.archives.collection(name, f"<{name}>") for name in ("one", "Two.2"))
+        client = Client(self.serve(*named))
+        found = client.get("/browse").text
         self.assertIn('<a href="one/browse/">&lt;one&gt;</a>', found)
         self.assertIn('<a href="Two.2/browse/">&lt;Two.2&gt;</a>', found)
-        for path, status in (("/one/browse/", 200), ("/Two.2/browse/", 200), ("/three/browse/", 404), ("/browse/style.css", 200),
-                             ("/browse/icon.svg", 200)):  # fmt: skip
-            answer = await client.get(path)
-            self.assertEqual(
-                (status, "nosniff"), (answer.status, answer.headers["X-Content-Type-Options"]), path
-            )
-        self.assertEqual("text/css", (await client.get("/browse/style.css")).content_type)
+        for path, status in (
+            ("/one/browse/", 200),
+            ("/Two.2/browse/", 200),
+            ("/three/browse/", 404),
+            ("/browse/style.css", 200),
+            ("/browse/icon.svg", 200),
+        ):
+            answer = client.get(path)
+            options = answer.headers["X-Content-Type-Options"]
+            self.assertEqual((status, "nosniff"), (answer.status_code, options), path)
+        self.assertEqual("text/css", client.get("/browse/style.css").mimetype)
 
-    async def test_a_path_may_have_its_slash_or_not(self) -> None:
+    def test_a_path_may_have_its_slash_or_not(self) -> None:
         for path, page_path in (("/browse/", "/browse"), ("/crawl/browse", "/crawl/browse/")):
-            answer = await self.client.get(path)
-            self.assertEqual((200, page_path), (answer.status, answer.url.path))
+            answer = self.client.get(path)
+            self.assertEqual(308, answer.status_code)
+            self.assertEqual(page_path, urljoin(path, answer.headers["Location"]))
+            self.assertEqual(200, self.client.get(page_path).status_code)
 
-    async def test_an_address_has_years_days_and_captures(self) -> None:
-        found = await self.get("search", url="example.com", year="2016")
+    def test_an_address_has_years_days_and_captures(self) -> None:
+        found = self.get("search", url="example.com", year="2016")
         text = text_of(found)
         self.assertIn("4 captures between 3 March 2016 and 1 July 2018.", text)
         self.assertIn('aria-label="2016: 3 captures"', found)
@@ -105,50 +121,55 @@ class Reading(support.Pages):
         )
         self.assertIn("same as above", text_of(rows[2]))
 
-    async def test_the_last_year_is_shown_first(self) -> None:
-        found = text_of(await self.get("search", url=HOME))
+    def test_the_last_year_is_shown_first(self) -> None:
+        found = text_of(self.get("search", url=HOME))
         self.assertIn("2018: 1 capture", found)
         self.assertIn("Captures in 2018", found)
         self.assertIn("410", found)
 
-    async def test_the_drawings_are_tables_too(self) -> None:
-        found = await self.get("search", url=HOME, year="2016")
+    def test_the_drawings_are_tables_too(self) -> None:
+        found = self.get("search", url=HOME, year="2016")
         for words, count in (("Thursday, 3 March 2016", 2), ("Saturday, 31 December 2016", 1)):
             self.assertRegex(found, rf"<th [^>]*><a [^>]*>{words}</a></th><td [^>]*>{count}</td>")
 
-    async def test_each_day_links_its_captures(self) -> None:
-        found = await self.get("search", url=HOME, year="2016")
+    def test_each_day_links_its_captures(self) -> None:
+        found = self.get("search", url=HOME, year="2016")
         link = re.search(r'<a href="(captures\?[^"]*)" aria-label="Thursday, 3 March', found)
         self.assertEqual(
             "captures?url=http%3A%2F%2Fexample.com%2F&amp;from=20160303&amp;to=20160303",
             link and link[1],
         )
-        day = text_of(await self.get("captures", url=HOME, from_="20160303", to="20160303"))
+        day = text_of(self.get("captures", url=HOME, from_="20160303", to="20160303"))
         self.assertIn("Captures on 3 March 2016", day)
         self.assertIn("09:34:31", day)
         self.assertNotIn("December", day)
 
-    async def test_a_host_has_its_addresses(self) -> None:
+    def test_a_host_has_its_addresses(self) -> None:
+        names = ("example.com/", "example.com/a%20b?c=d", "www.example.com/logo")
+        of_host = [f"http://{name}" for name in names]
         for query, expected in (
-            ({"url": "*.example.com"}, ["http://example.com/", "http://example.com/a%20b?c=d", "http://www.example.com/logo", "http://sub.example.com/"]),
-            ({"url": "example.com", "match": "host"}, ["http://example.com/", "http://example.com/a%20b?c=d", "http://www.example.com/logo"]),
+            ({"url": "*.example.com"}, [*of_host, "http://sub.example.com/"]),
+            ({"url": "example.com", "match": "host"}, of_host),
             ({"url": "example.com/a*"}, ["http://example.com/a%20b?c=d"]),
             ({"url": "*.example.com", "year": "2018"}, ["http://example.com/"]),
-            ({"url": "*.example.com", "from": "2017-02", "to": "2017"}, ["http://sub.example.com/"]),
-        ):  # fmt: skip
-            found = await self.get("search", **query)
+            (
+                {"url": "*.example.com", "from": "2017-02", "to": "2017"},
+                ["http://sub.example.com/"],
+            ),
+        ):
+            found = self.get("search", **query)
             addresses = re.findall(r'<a href="search\?url=[^"]*"><bdi>(.*?)</bdi></a>', found)
             self.assertEqual(expected, addresses, query)
 
-    async def test_an_address_of_a_list_has_its_captures(self) -> None:
-        found = await self.get("search", url="*.example.com")
+    def test_an_address_of_a_list_has_its_captures(self) -> None:
+        found = self.get("search", url="*.example.com")
         link = re.search(r'<a href="search\?([^"]*)"><bdi>http://example.com/a', found)
         assert link
-        answer = await self.client.get("/crawl/browse/search?" + link[1].replace("&amp;", "&"))
-        text = text_of(await answer.text())
+        answer = self.client.get("/crawl/browse/search?" + link[1].replace("&amp;", "&"))
+        text = text_of(answer.text)
         self.assertIn("http://example.com/a%20b?c=d 1 capture on 1 January 2017.", text)
 
-    async def test_what_is_refused_is_said(self) -> None:
+    def test_what_is_refused_is_said(self) -> None:
         for query, words in (
             ({"url": ""}, "Nothing was typed."),
             ({}, "Nothing was typed."),
@@ -159,10 +180,10 @@ class Reading(support.Pages):
             ({"url": HOME, "to": "2016-3-1"}, "A time is a year"),
             ({"url": HOME, "after": "nonsense"}, "isn't one"),
         ):
-            self.assertIn(words, text_of(await self.get("search", 400, **query)), query)
+            self.assertIn(words, text_of(self.get("search", 400, **query)), query)
 
-    async def test_nothing_found_offers_wider_searches(self) -> None:
-        found = await self.get("search", url="example.com/nothing", from_="2016")
+    def test_nothing_found_offers_wider_searches(self) -> None:
+        found = self.get("search", url="example.com/nothing", from_="2016")
         self.assertIn(
             "The collection has no capture of this in the time from 2016 to the last.",
             text_of(found),
@@ -170,229 +191,172 @@ class Reading(support.Pages):
         for words in (
             "Search at any time",
             "Search the whole host",
-            "Search for addresses that begin so",
+            "Search for addresses that begin with it",
         ):
             self.assertIn(words, found)
 
-    async def test_times_are_typed_in_several_ways(self) -> None:
+    def test_times_are_typed_in_several_ways(self) -> None:
         for typed in ("2016", "2016-03", "201603", "2016-03-03", "20160303", " 2016 "):
-            found = text_of(await self.get("search", url=HOME, from_=typed, to=typed))
+            found = text_of(self.get("search", url=HOME, from_=typed, to=typed))
             self.assertIn("captures", found)
             self.assertIn("March 2016", found)
 
-    async def test_lists_continue(self) -> None:
+    def test_lists_continue(self) -> None:
         with mock.patch.object(lists, "SIZE", 2):
-            first = await self.get("captures", url=HOME)
+            first = self.get("captures", url=HOME)
             self.assertEqual(2, first.count("Record of"))
             link = re.search(r'<a href="captures\?([^"#]*)#list" rel="next">Next 2</a>', first)
             assert link
-            answer = await self.client.get(
+            answer = self.client.get(
                 "/crawl/browse/captures?" + link[1].replace("&amp;", "&")
             )
-            second = await answer.text()
+            second = answer.text
         self.assertIn("Record of 31 December 2016, 23:59:59", second)
         self.assertIn("Record of 1 July 2018", second)
         self.assertNotIn("Next 2", second)
         self.assertIn("First page", second)
 
-    async def test_counts_are_whole_over_pages_and_say_when_they_are_not(self) -> None:
-        with mock.patch.object(counting, "PAGE", 1):
-            self.assertIn("4 captures between", text_of(await self.get("search", url=HOME)))
-        collection = self.archives.collection()
-        self.addAsyncCleanup(collection.close)
+    def test_counts_are_whole_over_pages_and_say_when_they_are_not(self) -> None:
+        self.assertIn("4 captures between", text_of(self.get("search", url=HOME)))
         for most, is_whole in ((3, False), (4, True), (5, True)):
             search = Search(HOME)
-            counts = await counting.count(collection, search, most)
+            counts = counting.count(self.source(), search, most)
             self.assertEqual((is_whole, min(most, 4)), (counts.is_whole, counts.total))
             words = "Only the first 3 captures were counted, up to 31 December 2016, 23:59:59"
             self.assertEqual(not is_whole, words in caption(counts, search).text)
 
-    async def test_a_record_is_shown(self) -> None:
-        found = await self.get("record", archive="a.warc", offset=self.offset_of(1))
+    def test_a_record_is_shown(self) -> None:
+        found = self.get("record", **self.place_of(1))
         text = text_of(found)
-        for words in ("Response record http://example.com/", "3 March 2016, 09:34:31", "The block is as it was recorded",
-                      "WARC-Type response", "(first line) HTTP/1.1 200 OK", "X-Field a value",
-                      f"The payload has {len(FIRST)} bytes"):  # fmt: skip
+        for words in (
+            "Response record http://example.com/",
+            "3 March 2016, 09:34:31",
+            "The block is as it was recorded",
+            "The payload is as it was recorded",
+            "WARC-Type response",
+            "(first line) HTTP/1.1 200 OK",
+            "X-Field a value",
+            f"The payload has {len(FIRST)} bytes",
+        ):
             self.assertIn(words.lower(), text.lower())
-        self.assertRegex(
-            found, r'<iframe title="[^"]*" src="payload\?archive=a.warc&amp;offset=\d+" sandbox '
+        frame = r'<iframe title="[^"]*" src="payload\?archive=a.warc&amp;[^"]*" sandbox '
+        self.assertRegex(found, frame)
+
+    def test_a_record_has_the_captures_before_and_after_it(self) -> None:
+        def links(number: int) -> list[tuple[str, str]]:
+            found = self.get("record", **self.place_of(number))
+            pattern = r'<a href="record\?([^"]*)" rel="(?:prev|next)">(\w+) capture: ([^<]*)</a>'
+            return [(words, time) for _, words, time in re.findall(pattern, found)]
+
+        second = ("Next", "3 March 2016, 10:00:00")
+        self.assertEqual([second], links(1))
+        first, last = "3 March 2016, 09:34:31", "31 December 2016, 23:59:59"
+        self.assertEqual([("Previous", first), ("Next", last)], links(2))
+        self.assertEqual([("Previous", last)], links(4))
+
+    def test_a_record_that_no_index_names_is_not_shown(self) -> None:
+        place = self.place_of(1)
+        for name, value in (
+            ("offset", 0),
+            ("archive", "b.warc.gz"),
+            ("timestamp", "20160303093432"),
+            ("key", "com,example)/other"),
+        ):
+            for path in ("record", "payload", "download"):
+                self.get(path, 404, **{**place, name: value})
+        for name in ("offset", "timestamp", "key"):
+            self.get("record", 400, **{**place, name: ""})
+        by_url = {**place, "key": "", "url": "https://EXAMPLE.com"}
+        self.assertIn("09:34:31", text_of(self.get("record", **by_url)))
+
+    def test_records_of_other_types_are_shown(self) -> None:
+        found = text_of(self.get("record", **self.place("http://example.org/note")))
+        self.assertIn("resource record", found)
+        self.assertNotIn("HTTP headers", found)
+        self.assertIn(
+            "It isn't shown, for its type is application/zip. It can be saved.",
+            text_of(self.get("record", **self.place("http://example.org/data"))),
         )
 
-    async def test_records_of_other_types_are_shown(self) -> None:
-        found = text_of(await self.get("record", archive="a.warc", offset=0))
-        self.assertIn("warcinfo record", found)
-        self.assertNotIn("HTTP headers", found)
-        self.assertIn("It isn't shown, for its type is application/zip. It can be saved.",
-                      text_of(await self.get("record", **self.place("http://example.org/data"))))  # fmt: skip
-
-    async def test_a_revisit_has_its_original(self) -> None:
-        found = await self.get("record", archive="a.warc", offset=self.offset_of(3))
+    def test_a_revisit_has_its_original(self) -> None:
+        found = self.get("record", **self.place_of(3))
         self.assertIn(
-            "The payload is that of the capture of 3 March 2016, 10:00:00 , which has the same digest.",
+            "The payload is that of the capture of 3 March 2016, 10:00:00 , which has the same "
+            "digest.",
             text_of(found),
         )
-        self.assertIn(f'href="record?archive=a.warc&amp;offset={self.offset_of(2)}"', found)
+        self.assertIn(f'href="record?archive=a.warc&amp;offset={self.offset_of(2)}&amp;', found)
         self.assertIn("The payload is empty.", text_of(found))
 
-    async def test_compressed_archives_are_read(self) -> None:
-        found = text_of(await self.get("record", **self.place("http://packed.example/")))
-        self.assertIn("The block is as it was recorded", found)
-        answer = await self.ask("payload", **self.place("http://packed.example/"))
-        self.assertEqual(FIRST, await answer.read())
+    def test_a_revisit_of_wget_is_not_said_to_differ(self) -> None:
+        """GNU Wget writes the digest of no bytes into the WARC-Block-Digest of each revisit."""
+        found = self.get("record", **self.place("http://example.net/"))
+        self.assertIn("WARC-Block-Digest is the digest of no bytes", text_of(found))
+        self.assertNotIn('class="verdict bad"', found)
+        words = "WARC-Payload-Digest is the digest of a payload that isn't in the record."
+        self.assertIn(words, text_of(found))
 
-    async def test_two_texts_are_compared(self) -> None:
-        found = await self.get(
-            "compare", first=f"{self.offset_of(1)} a.warc", second=f"{self.offset_of(2)} a.warc"
+    def test_compressed_archives_are_read(self) -> None:
+        found = text_of(self.get("record", **self.place("http://packed.example/")))
+        self.assertIn("The block is as it was recorded", found)
+        answer = self.ask("payload", **self.place("http://packed.example/"))
+        self.assertEqual(FIRST, answer.data)
+
+    def test_two_texts_are_compared(self) -> None:
+        found = self.get(
+            "compare", first=self.pair_of(1), second=self.pair_of(2)
         )
         self.assertIn("1 line differs.", text_of(found))
         self.assertIn("9 to <del>17</del>.", found)
         self.assertIn("9 to <ins>18</ins>.", found)
 
-    async def test_a_revisit_is_compared_by_its_original(self) -> None:
+    def test_a_revisit_is_compared_by_its_original(self) -> None:
         found = text_of(
-            await self.get(
-                "compare", first=f"{self.offset_of(2)} a.warc", second=f"{self.offset_of(3)} a.warc"
+            self.get(
+                "compare", first=self.pair_of(2), second=self.pair_of(3)
             )
         )
         self.assertIn("The texts are the same. The payloads are the same, byte for byte.", found)
         self.assertIn("(a revisit: the text of its original)", found)
 
-    async def test_images_are_not_compared(self) -> None:
-        name, offset = self.archives.places["http://www.example.com/logo"]
-        found = text_of(
-            await self.get(
-                "compare", 422, first=f"{self.offset_of(1)} a.warc", second=f"{offset} {name}"
-            )
-        )
+    def test_images_are_not_compared(self) -> None:
+        logo = self.pair(*self.archives.places["http://www.example.com/logo"])
+        found = text_of(self.get("compare", 422, first=self.pair_of(1), second=logo))
         self.assertIn("Only texts are compared.", found)
 
-    async def test_records_and_payloads_are_saved(self) -> None:
-        answer = await self.ask(
-            "download", what="record", archive="a.warc", offset=self.offset_of(1)
-        )
-        self.assertEqual(b"WARC/1.1\r\n", (await answer.read())[:10])
+    def test_records_and_payloads_are_saved(self) -> None:
+        answer = self.ask("download", what="record", **self.place_of(1))
+        self.assertEqual(b"WARC/1.1\r\n", answer.data[:10])
         self.assertEqual("application/octet-stream", answer.headers["Content-Type"])
         name = f"a.warc-{self.offset_of(1)}.warc"
         self.assertEqual(
             f"attachment; filename=\"{name}\"; filename*=UTF-8''{name}",
             answer.headers["Content-Disposition"],
         )
-        saved = await self.ask("download", what="payload", **self.place("http://packed.example/"))
-        self.assertEqual(FIRST, await saved.read())
+        saved = self.ask("download", what="payload", **self.place("http://packed.example/"))
+        self.assertEqual(FIRST, saved.data)
         self.assertIn(
             'filename="20190101000000-packed.example"', saved.headers["Content-Disposition"]
         )
-        head = await self.client.head(
-            f"/crawl/browse/download?archive=a.warc&offset={self.offset_of(1)}"
-        )
+        head = self.client.head("/crawl/browse/download", query_string=self.place_of(1))
         self.assertEqual(
-            (200, answer.headers["Content-Length"]), (head.status, head.headers["Content-Length"])
+            (200, answer.headers["Content-Length"]),
+            (head.status_code, head.headers["Content-Length"]),
         )
-
-    async def test_the_gateway_has_the_pages(self) -> None:
-        collection = self.archives.collection()
-        self.addAsyncCleanup(collection.close)
-        settings = Settings(
-            (CollectionSettings("crawl", "A crawl", tuple(self.archives.indexes)),), "crawl"
-        )
-        application = Gateway(settings, {"crawl": collection}, Metrics()).application()
-        async with TestClient(TestServer(application)) as client:
-            for path in ("/browse", "/crawl/browse/", "/crawl/browse/search?url=example.com"):
-                answer = await client.get(path, headers={"Origin": "http://evil.example"})
-                self.assertEqual((200, "text/html"), (answer.status, answer.content_type))
-                self.assertNotIn("Access-Control-Allow-Origin", answer.headers)
 
     def offset_of(self, number: int) -> int:
         """Returns the offset of a record of a.warc."""
         archive = (self.archives.archives / "a.warc").read_bytes()
         return [found.start() for found in re.finditer(rb"WARC/1\.1\r\nWARC-Type", archive)][number]
 
+    def place_of(self, number: int) -> dict[str, object]:
+        return self.place_at("a.warc", self.offset_of(number))
 
-class Crawl(support.Pages):
-    """A crawl of wget."""
+    def pair_of(self, number: int) -> str:
+        return self.pair("a.warc", self.offset_of(number))
 
-    def fill(self, archives: Archives) -> None:
-        archives.add("wget.warc", [])
-        (archives.archives / "wget.warc").write_bytes((support.SAMPLES / "wget.warc").read_bytes())
-        archives.index(archives.archives / "wget.warc")
-
-    async def test_each_record_has_a_page_and_a_payload(self) -> None:
-        archive = Archive(support.SAMPLES / "wget.warc", program=support.PROGRAM)
-        offsets = [each.offset for each in archive.list()]
-        self.assertEqual(68, len(offsets))
-        for offset in offsets:
-            found = await self.get("record", archive="wget.warc", offset=offset)
-            self.assertIn("The block is as it was recorded", found)
-            saved = await self.ask("download", archive="wget.warc", offset=offset, what="payload")
-            self.assertEqual(payload(archive.get(offset)), await saved.read())
-            if "<iframe" in found:
-                shown = await self.ask("payload", archive="wget.warc", offset=offset)
-                self.assertEqual(payload(archive.get(offset)), await shown.read())
-
-    async def test_the_host_has_all_captures(self) -> None:
-        found = text_of(await self.get("search", url="127.0.0.1", match="host"))
-        self.assertIn("captures on 22 November 2026.", found)
-
-
-class Many(support.Pages):
-    """More captures than are held at a time."""
-
-    def fill(self, archives: Archives) -> None:
-        stamps = [
-            f"{2000 + number // 500}{number % 12 + 1:02}15{number % 86400:06}"
-            for number in range(3500)
-        ]
-        name = "a%b +&=ü.warc"
-        archives.put(
-            "index",
-            b"".join(
-                sorted(archives.line(HOME, stamp, name, at) for at, stamp in enumerate(stamps))
-            ),
-        )
-
-    async def test_all_are_counted(self) -> None:
-        found = await self.get("search", url=HOME)
-        self.assertIn(
-            "3,500 captures between 15 January 2000 and 15 December 2006.", text_of(found)
-        )
-        for year in range(2000, 2007):
-            self.assertIn(f'aria-label="{year}: 500 captures"', found)
-
-    async def test_all_are_listed_page_by_page(self) -> None:
-        query, seen = "url=example.com&from=2003&to=2003", set()
-        while query:
-            answer = await self.client.get("/crawl/browse/captures?" + query)
-            found = await answer.text()
-            seen |= set(re.findall(r"offset=(\d+)", found))
-            link = re.search(r'<a href="captures\?([^"#]*)#list" rel="next">', found)
-            query = link[1].replace("&amp;", "&") if link else ""
-        self.assertEqual({str(number) for number in range(1500, 2000)}, seen)
-
-    async def test_a_limit_is_said(self) -> None:
-        with mock.patch.object(counting.count, "__defaults__", (1700,)):
-            found = text_of(await self.get("search", url=HOME, year="2003"))
-        self.assertIn("Only the first 1,700 captures were counted, up to", found)
-        self.assertIn("The captures after these aren't in the drawings.", found)
-        self.assertIn("2003: 200 captures", found)
-
-
-class LongLines(support.Pages):
-    """An index whose lines are longer than the gateway takes."""
-
-    def fill(self, archives: Archives) -> None:
-        lines = [
-            archives.line(HOME, f"2016010100000{number}", "a.warc", number) for number in range(9)
-        ]
-        lines.append(archives.line(HOME, "20170101000000", "x" * (9 << 20), 9))
-        archives.put("index", b"".join(lines))
-
-    async def test_what_can_not_be_shown_is_said(self) -> None:
-        found = text_of(await self.get("search", 502, url=HOME))
-        self.assertIn("The lines of the index are too long.", found)
-        self.assertIn(
-            "9 captures", text_of(await self.get("search", url=HOME, from_="2016", to="2016"))
-        )
-
+    def source(self) -> Source:
+        return Source(self.gateway.main.index, self.gateway.clock(Share.WIDE))
 
 if __name__ == "__main__":
     unittest.main()

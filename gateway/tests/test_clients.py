@@ -115,8 +115,7 @@ class InternetArchive(Shared):
             self.assertEqual(TIMES, self.times(f"url=example.com&page=0{rest}"))
             self.assertEqual([], self.times(f"url=example.com&page=1{rest}"))
             self.assertEqual(
-                [["timestamp"]],
-                self.rows(f"/cdx?url=example.com&page=7&output=json&fl=timestamp{rest}"),
+                [], self.rows(f"/cdx?url=example.com&page=7&output=json&fl=timestamp{rest}")
             )
 
     def test_reverse_and_closest(self) -> None:
@@ -205,7 +204,7 @@ class Clients(Shared):
         self.assertEqual(1, json.loads(found.body))
         query = "/cdx/search/cdx?url=example.com&output=json&limit=1000&filter=statuscode:200&page="
         self.assertEqual(4, len(self.rows(f"{query}0")))
-        self.assertEqual(1, len(self.rows(f"{query}1")))
+        self.assertEqual([], self.rows(f"{query}1"))
         found = self.server.ask(
             "/main/index?url=example.com&output=json&showNumPages=true", **REQUESTS
         )
@@ -313,7 +312,7 @@ class Refusals(Shared):
         for query, wanted in (
             ("", "NoUrl: url: it is missing"),
             ("url=a&page2=0", "Unknown: page2: there is no such parameter"),
-            ("url=a&limit=0", "BadLimit: limit=0: it is a number"),
+            ("url=a&limit=-0", "BadLimit: limit=-0: it is a number"),
             ("url=a&limit=1000001", "BadLimit: limit=1000001: "),
             (
                 "url=a&limit=200000&sort=reverse",
@@ -336,10 +335,15 @@ class Refusals(Shared):
             ("url=a&filter=original:" + "a?" * 501, "BadFilter: filter=a?a?a?"),
             (
                 "url=a" + "&hasnot=urlkey:x" * 65,
-                "BadFilter: filter: a query has at most 64 conditions",
+                "TooMany: filter: there are at most 64 in a query",
             ),
             ("url=a&collapse=nosuch", "BadCollapse: collapse=nosuch: it is FIELD or FIELD:N"),
             ("url=a&collapse=digest:0", "BadCollapse: collapse=digest:0: "),
+            ("url=a&collapseTime=4%26fl=x", "BadCollapse: collapse=timestamp:4&fl=x: "),
+            ("url=a&offset=-1", "BadPage: offset=-1: "),
+            ("url=a&offset=1&sort=reverse", "BadPage: offset=1: it is for captures in the order"),
+            ("url=a&fl=groupcount", "BadField: fl=groupcount: one collapse is needed"),
+            ("url=a&showPagedIndex=true", "Unknown: showPagedIndex=true: the indexes of this"),
             ("url=a&sort=up", "BadSort: sort=up: "),
             ("url=a&sort=closest", "BadSort: closest: sort=closest needs it"),
             ("url=a*&closest=2016", "BadSort: closest=2016: it is for the captures of one address"),
@@ -355,7 +359,7 @@ class Refusals(Shared):
             ("url=a&fastLatest=true&limit=5", "BadLimit: limit=5: with fastLatest=true"),
             (
                 "url=a&showDupeCount=true&output=cdxj",
-                "BadOutput: output=cdxj: a line of an index is given unchanged",
+                "BadOutput: output=cdxj: a line of an index is given without showDupeCount",
             ),
             ("url=a&%0Ax=1", "Unknown: %0Ax: there is no such parameter"),
         ):

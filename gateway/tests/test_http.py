@@ -1,22 +1,27 @@
 """HTTP: keep-alive, HEAD, OPTIONS, CORS, tags, compression, limits, health and metrics."""
-import gzip
-import json
-import pathlib
+import socket
 import subprocess
 import unittest
 
-from .support import PROGRAM, ROOT, SAMPLE, Case, Client, Shared, connected, lines
+from .support import PROGRAM, ROOT, SAMPLE, WAIT, Case, Shared, connected, lines
 
 
 class Http(Shared):
-    def test_a_connection_is_kept(self) -> None:
+    def test_paths_that_there_are_not(self) -> None:
+        for target in ("/nosuch", "/nosuch/cdx", "/cdx/", "/main/"):
+            found = self.server.ask(target + "?url=example.com/a")
+            self.assertEqual(404 if "nosuch" in target else 200, found.status, target)
+        for path, what in (("/x", "collection"), ("/main/x/y", "path")):
+            text = f"refused NotFound: there is no such {what}\n"
+            self.assertEqual(text, self.server.ask(path).text)
+
+    def test_a_connection_ends_with_its_answer(self) -> None:
+        """Further requests on it aren't read, so that none costs the others anything."""
         with connected(self.server) as client:
-            for target in ("/cdx?url=example.com/a", "/cdx?url=a&x=1", "/cdx?url=example.com/a"):
-                client.ask(target)
-            for target in ("/nosuch", "/nosuch/cdx", "/health"):
-                self.assertEqual(404 if "nosuch" in target else 200, client.ask(target).status)
-            client.send(b"GET /cdx?url=example.com/a&fl=length HTTP/1.1\r\nHost: a\r\n\r\n" * 3)
-            self.assertEqual([b"300\n"] * 3, [client.response().body for _ in range(3)])
+            client.send(b"GET /cdx?url=example.com/a&fl=length HTTP/1.1\r\nHost: localhost\r\n\r\n" * 1000)
+            found = client.response()
+            self.assertEqual((200, b"300\n"), found[::2])
+            self.assertEqual("close", found.fields["connection"])
 
     def test_http_1_0_is_answered(self) -> None:
         with connected(self.server) as client:
@@ -24,38 +29,46 @@ class Http(Shared):
             self.assertEqual((200, b"300\n"), client.response()[::2])
             self.assertEqual(b"", client.input.read())
 
-    def test_head_has_the_fields_of_get(self) -> None:
-        with connected(self.server) as client:
-            for target in (
-                "/cdx?url=example.com",
-                "/cdx?url=example.com&filter=statuscode:2..",
-                "/cdx?url=a&x=1",
-            ):
-                found, wanted = client.ask(target, "HEAD"), client.ask(target)
-                self.assertEqual({**wanted.fields, "date": ""}, {**found.fields, "date": ""})
-                self.assertEqual(wanted.status, found.status)
+    def test_a_field_of_a_client_does_not_change_its_path(self) -> None:
+        for value in ("/x", "/cdx", ""):
+            found = self.server.ask("/cdx?url=example.com/a&fl=length", **{"SCRIPT_NAME": value})
+            self.assertEqual((200, "300\n"), (found.status, found.text))
 
-    def test_pages_of_other_origins_may_read_answers(self) -> None:
-        for target in ("/cdx?url=example.com", "/cdx?url=a&x=1", "/main/index?url=example.com"):
-            found = self.server.ask(target, Origin="https://example.net")
-            self.assertEqual("*", found.fields["access-control-allow-origin"])
-            self.assertEqual("nosniff", found.fields["x-content-type-options"])
-        found = self.server.ask(
-            "/cdx", "OPTIONS", Origin="https://example.net", Access_Control_Request_Method="GET"
-        )
-        self.assertEqual(
-            (204, "GET, HEAD, OPTIONS"),
-            (found.status, found.fields["access-control-allow-methods"]),
-        )
-        self.assertNotIn("access-control-allow-origin", self.server.ask("/metrics").fields)
+    def test_a_client_may_close_its_side_after_the_request(self) -> None:
+        for query in ("url=example.com/a", "url=example.com&sort=reverse&limit=1"):
+            with connected(self.server) as client:
+                client.send(f"GET /cdx?{query}&fl=length HTTP/1.1\r\nHost: localhost\r\n\r\n".encode())
+                client.socket.shutdown(socket.SHUT_WR)
+                self.assertEqual(200, client.response().status)
+
+    def test_head_has_the_fields_of_get(self) -> None:
+        for target in (
+            "/cdx?url=example.com",
+            "/cdx?url=example.com&filter=statuscode:2..",
+            "/cdx?url=a&x=1",
+        ):
+            found, wanted = self.server.ask(target, "HEAD"), self.server.ask(target)
+            self.assertEqual({**wanted.fields, "date": ""}, {**found.fields, "date": ""})
+            self.assertEqual((wanted.status, b""), (found.status, found.body))
+
+    def test_pages_of_other_origins_may_not_read_answers(self) -> None:
+        found = self.server.ask("/cdx?url=example.com", Origin="https://example.net")
+        self.assertNotIn("access-control-allow-origin", found.fields)
+        self.assertEqual("nosniff", found.fields["x-content-type-options"])
+        found = self.server.ask("/cdx", "OPTIONS", Origin="https://example.net")
+        self.assertNotIn("access-control-allow-origin", found.fields)
 
     def test_other_methods_are_refused(self) -> None:
         for method in ("POST", "PUT", "DELETE", "TRACE"):
             found = self.server.ask("/cdx?url=example.com", method)
-            self.assertEqual((405, "GET, HEAD, OPTIONS"), (found.status, found.fields["allow"]))
+            self.assertEqual((405, "GET, HEAD"), (found.status, found.fields["allow"]))
 
     def test_an_answer_that_is_known_is_not_sent(self) -> None:
         target = "/cdx?url=example.com"
+        # A time of the last two seconds isn't sent, as other files may get it.
+        self.wait_for(
+            lambda: "last-modified" in self.server.ask(target).fields, "there is no Last-Modified"
+        )
         first = self.server.ask(target)
         tag, time = first.fields["etag"], first.fields["last-modified"]
         for fields in (
@@ -74,50 +87,27 @@ class Http(Shared):
             self.assertEqual(first.body, self.server.ask(target, **fields).body)
         self.assertEqual(400, self.server.ask("/cdx?url=a&x=1", If_None_Match=tag).status)
 
-    def test_answers_are_compressed_for_clients_that_say_so(self) -> None:
-        target = "/cdx?url=example.com&fl=urlkey,timestamp,original,mimetype,statuscode,digest,length,offset,filename,urlkey,original"
-        plain = self.server.ask(target)
-        self.assertGreater(len(plain.body), 500)
-        for accepted in ("gzip", "deflate, gzip;q=0.5", "*", "br,x-gzip"):
-            found = self.server.ask(target, Accept_Encoding=accepted)
-            self.assertEqual(
-                ("gzip", plain.body),
-                (found.fields["content-encoding"], gzip.decompress(found.body)),
-            )
-            self.assertNotEqual(plain.fields["etag"], found.fields["etag"])
-        for rest, accepted in (
-            ("", "gzip;q=0"),
-            ("", "identity"),
-            ("", "xgzip"),
-            ("&gzip=false", "gzip"),
-        ):
-            self.assertEqual(
-                plain.body, self.server.ask(target + rest, Accept_Encoding=accepted).body
-            )
-        self.assertEqual("Accept-Encoding", plain.fields["vary"])
-
     def test_health_and_metrics(self) -> None:
         self.assertEqual("ok\n", self.server.ask("/health").text)
-        before = self.server.metric("requests_total"), self.server.metric(
-            'refusals_total{cause="Unknown"}'
-        )
-        self.server.ask("/cdx?url=example.com")
+        names = ("requests_total", 'refusals_total{cause="Unknown"}')
+        before = [self.server.metric(name) for name in names]
+        for _ in range(20):  # by each worker
+            self.server.ask("/cdx?url=example.com")
         self.server.ask("/cdx?url=example.com&x=1")
-        after = self.server.metric("requests_total"), self.server.metric(
-            'refusals_total{cause="Unknown"}'
-        )
-        self.assertEqual((4, 1), (after[0] - before[0], after[1] - before[1]))
+        after = [self.server.metric(name) for name in names]
+        # A request for the counts is counted after its answer was made.
+        self.assertEqual([20 + 1 + 2, 1], [new - old for new, old in zip(after, before)])
         self.assertGreater(self.server.metric("request_seconds_sum"), 0)
 
     def test_bad_requests_are_refused(self) -> None:
         for request, statuses in (
             (b"GET /cdx?url=a b HTTP/1.1\r\n\r\n", (400,)),
-            (b"GET /cdx?url=\xff HTTP/1.1\r\nHost: a\r\n\r\n", (400,)),
-            (b"GET /cdx?url=" + b"a" * 65_000 + b" HTTP/1.1\r\nHost: a\r\n\r\n", (200,)),
-            (b"GET /cdx?url=" + b"a" * 65_530 + b" HTTP/1.1\r\nHost: a\r\n\r\n", (400,)),
-            (b"GET /cdx?url=" + b"a" * 80_000 + b" HTTP/1.1\r\nHost: a\r\n\r\n", (400, 414)),
-            (b"GET /cdx?url=a HTTP/1.1\r\nHost: a\r\nX: " + b"a" * 9000 + b"\r\n\r\n", (400, 431)),
-            (b"GET /cdx?url=a HTTP/1.1\r\nHost: a\r\n" + b"X: a\r\n" * 200 + b"\r\n", (400, 431)),
+            (b"GET /cdx?url=\xff HTTP/1.1\r\n\r\n", (400,)),
+            (b"GET /cdx?url=" + b"a" * 65_000 + b" HTTP/1.1\r\n\r\n", (200,)),
+            (b"GET /cdx?url=" + b"a" * 65_533 + b" HTTP/1.1\r\n\r\n", (400,)),
+            (b"GET /cdx?url=" + b"a" * 80_000 + b" HTTP/1.1\r\n\r\n", (400,)),
+            (b"GET /cdx?url=a HTTP/1.1\r\nX: " + b"a" * 9000 + b"\r\n\r\n", (400,)),
+            (b"GET /cdx?url=a HTTP/1.1\r\n" + b"X: a\r\n" * 200 + b"\r\n", (400,)),
             (b"GET /cdx?url=a HTTP/9.9\r\n\r\n", (200, 400)),
             (b"\x16\x03\x01\x00\n\r\n", (400,)),
         ):
@@ -135,9 +125,29 @@ class Http(Shared):
                     client.send(nothing)
                     client.socket.shutdown(1)
                     client.input.read()
-                except ConnectionError:
+                except OSError:
                     pass
         self.assertEqual(b"300\n", self.server.ask("/cdx?url=example.com/a&fl=length").body)
+
+
+class Origins(Case):
+    def test_pages_of_the_origins_of_the_settings_may_read_answers(self) -> None:
+        self.put(SAMPLE)
+        server = self.start(head='origins = ["https://example.net"]\n')
+        for target in ("/cdx?url=example.com", "/cdx?url=a&x=1", "/main/index?url=example.com"):
+            found = server.ask(target, Origin="https://example.net")
+            self.assertEqual("https://example.net", found.fields["access-control-allow-origin"])
+            self.assertEqual("Origin", found.fields["vary"])
+            found = server.ask(target, Origin="https://example.org")
+            self.assertNotIn("access-control-allow-origin", found.fields)
+        found = server.ask(
+            "/cdx", "OPTIONS", Origin="https://example.net", Access_Control_Request_Method="GET"
+        )
+        self.assertEqual(204, found.status)
+        self.assertEqual("https://example.net", found.fields["access-control-allow-origin"])
+        self.assertEqual("GET, HEAD, OPTIONS", found.fields["access-control-allow-methods"])
+        found = server.ask("/metrics", Origin="https://example.net")
+        self.assertNotIn("access-control-allow-origin", found.fields)
 
 
 class Limits(Case):
@@ -197,7 +207,9 @@ class Starts(Case):
 
     def fails(self, *arguments: str) -> str:
         command = ("/usr/bin/python3", ROOT / "gateway/bin/warcdx-gateway", *arguments)
-        done = subprocess.run(command, stdout=subprocess.PIPE, stderr=subprocess.PIPE, text=True)
+        done = subprocess.run(
+            command, stdout=subprocess.PIPE, stderr=subprocess.PIPE, text=True, timeout=WAIT
+        )
         self.assertEqual(
             (1, "", 1), (done.returncode, done.stdout, done.stderr.count("\n")), done.stderr
         )
@@ -218,6 +230,13 @@ class Starts(Case):
             ),
         )
         self.assertIn(nosuch, self.fails(nosuch))
+
+    def test_what_is_no_index_is_named(self) -> None:
+        for text in ("a text\n", SAMPLE[:-20], SAMPLE + "x", "\0"):
+            index = str(self.put(text))
+            said = self.fails("--port", "0", "--program", PROGRAM, "--indexes", index)
+            self.assertIn("index", said)
+            self.assertIn("BadLine", said)
 
     def test_a_used_port_is_named(self) -> None:
         server = self.run_command(
@@ -245,7 +264,14 @@ class Starts(Case):
             (f'port = "1"\n{good}', "'port' has to be of type int"),
             (f"port = 70000\n{good}", "'port' has to be from 0"),
             (f'main = "b"\n{good}', "'main' is not the name of a collection"),
-            (f"exact = 0\n{good}", "'exact' has to be from 1 to 64"),
+            (f"exact = 2\n{good}", "'exact' is gone: 'workers'"),
+            (f"workers = 1\n{good}", "'workers' has to be 2 to 256"),
+            (f"workers = 2\nwide = 2\n{good}", "'wide' has to be 1 or more, and less than"),
+            (f"memory = 1000\n{good}", "'memory' has to be 268435456 bytes or more"),
+            (f"timeout = 30\n{good}", "'timeout' has to be more than limits.query"),
+            (f'address = "0.0.0.0"\n{good}', "'hosts' has to name the hosts of requests"),
+            (f'hosts = "a"\n{good}', "'hosts' has to be a list of texts"),
+            (f"{good}[limits]\nstreams = 1\n", "'limits.streams' is gone: 'wide'"),
             (f"{good}[limits]\nlargest = 0\n", "'limits.largest' has to be a number from 1"),
             (f"{good}[limits]\nlargest = 5\n", "'limits.held' has to be at most limits.largest"),
             (f"{good}[limits]\nx = 0\n", "unknown setting 'limits.x'"),
@@ -277,7 +303,7 @@ class Browsers(Case):
         if chromium is None:
             self.skipTest("Debian's package chromium is missing")
         self.put(SAMPLE)
-        server = self.start()
+        server = self.start(head='origins = ["null"]\n')
         page = self.put(
             f"<script>fetch('{server.url}/cdx?url=example.com/a&output=json').then(r => r.json())"
             ".then(rows => document.title = document.body.innerText = rows[1].join('|'))</script><body></body>",

@@ -61,7 +61,10 @@ class Pages(Shared):
             for path in ("/cdx", "/cdx/search/cdx", "/web/timemap/cdx", "/main/cdx"):
                 with self.subTest(path + query):
                     found = self.server.ask(f"{path}?{query}")
-                    self.assertEqual((200, self.page(query)), (found.status, found.body))
+                    wanted = self.page(query)
+                    if "output=json" in query and wanted.count(b"\n") == 1:  # names alone
+                        wanted = b"[]\n"
+                    self.assertEqual((200, wanted), (found.status, found.body))
                     self.assertTrue(found.fields["content-type"].startswith(kind))
 
     def test_curl_encodes_the_query(self) -> None:

@@ -1,13 +1,15 @@
 """The unit of systemd, and nginx with TLS and access in front of the gateway."""
+import base64
 import os
-import pathlib
 import shutil
+import signal
 import socket
+import ssl
 import subprocess
 import time
 import unittest
 
-from .support import COMMAND, PROGRAM, ROOT, SAMPLE, WAIT, Case, Server, lines
+from .support import COMMAND, LINE, PROGRAM, ROOT, SAMPLE, WAIT, Case, Server, lines
 
 SERVICE = ROOT / "gateway/service"
 NGINX = shutil.which("nginx", path=os.environ["PATH"] + ":/usr/sbin")
@@ -44,14 +46,15 @@ class Unit(Case):
         )
 
     def test_the_line_of_the_unit_reports_when_it_answers(self) -> None:
-        """As systemd starts it, with a socket for its state."""
+        """As systemd starts it, with a socket for its state. It is reloaded as systemd does it."""
         self.put(SAMPLE)
         settings = self.put(
-            f'port = 0\nprogram = "{PROGRAM}"\n[collections.main]\nindexes = ["index"]\n',
+            f'port = 0\nprogram = "{PROGRAM}"\nworkers = 2\n[collections.main]\nindexes = ["index"]\n',
             "gateway.toml",
         )
         (line,) = (each for each in self.text.splitlines() if each.startswith("ExecStart="))
         self.assertEqual("ExecStart=/usr/bin/warcdx-gateway /etc/warcdx/gateway.toml", line)
+        self.assertIn("\nExecReload=/bin/kill -HUP $MAINPID\n", self.text)
         with socket.socket(socket.AF_UNIX, socket.SOCK_DGRAM) as states:
             states.bind(str(self.folder / "notify"))
             states.settimeout(WAIT)
@@ -63,10 +66,23 @@ class Unit(Case):
             )
             server = Server(process, self.folder / "said")
             self.addCleanup(server.end)
-            self.assertEqual(b"READY=1", states.recv(100))
+            self.assertIn(b"READY=1", states.recv(100))
+            self.assertEqual(200, server.ask("/health").status)
+            process.send_signal(signal.SIGHUP)
             self.assertEqual(200, server.ask("/health").status)
             self.assertEqual(0, server.end())
             self.assertEqual(b"STOPPING=1", states.recv(100))
+
+    def test_the_access_log(self) -> None:
+        self.put(SAMPLE)
+        server = self.start(head=f'access_log = "{self.folder}/access"\nworkers = 2\n')
+        server.ask("/cdx?url=example.com/a")
+        server.ask("/nosuch")
+        log = self.folder / "access"
+        self.wait_for(lambda: log.read_text().count("\n") == 2, "there are not two lines")
+        first, second = log.read_text().splitlines()
+        self.assertIn('"GET /cdx?url=example.com/a HTTP/1.1" 200 ', first)
+        self.assertIn('"GET /nosuch HTTP/1.1" 404 ', second)
 
 
 @unittest.skipIf(
@@ -80,7 +96,7 @@ class Nginx(Case):
             SAMPLE.rpartition("org,example")[0]
             + lines(20_000).replace("com,example)/", "com,example,z)/")
         )
-        self.server = self.start()
+        self.server = self.start(head='hosts = ["cdx.example.org"]\norigins = ["https://example.net"]\n')
         self.port = free_port()
         self.make_keys()
         text = (SERVICE / "nginx.conf").read_text()
@@ -144,21 +160,22 @@ class Nginx(Case):
         self.put("reader:" + done.stdout.decode(), "users")
 
     def curl(self, target: str, *words: str) -> tuple[int, bytes]:
-        command = (
+        command = self.command(target, "--write-out", "\n%{http_code}", *words)
+        text, _, status = subprocess.run(command, stdout=subprocess.PIPE).stdout.rpartition(b"\n")
+        return int(status), text
+
+    def command(self, target: str, *words: str) -> tuple[str, ...]:
+        return (
             "curl",
             "--silent",
             "--globoff",
             "--cacert",
-            self.folder / "cert.pem",
+            str(self.folder / "cert.pem"),
             "--resolve",
             f"cdx.example.org:{self.port}:127.0.0.1",
-            "--write-out",
-            "\n%{http_code}",
             *words,
             f"https://cdx.example.org:{self.port}{target}",
         )
-        text, _, status = subprocess.run(command, stdout=subprocess.PIPE).stdout.rpartition(b"\n")
-        return int(status), text
 
     def test_tls_and_access(self) -> None:
         reader = ("--user", "reader:word")
@@ -173,10 +190,73 @@ class Nginx(Case):
             (200, self.page("url=z.example.com/*")),
             self.curl("/main/cdx?url=z.example.com/*", "--compressed", *reader),
         )
-        self.assertEqual(204, self.curl("/cdx", "--request", "OPTIONS")[0])
+        self.assertEqual(
+            (200, self.page("url=z.example.com/*")),
+            self.curl("/main/cdx?url=z.example.com/*&gzip=false", "--compressed", *reader),
+        )
+        preflight = ("--request", "OPTIONS", "--header", "Origin: https://example.net")
+        self.assertEqual(204, self.curl("/cdx", *preflight)[0])
+        self.assertEqual(204, self.curl("/main/index?url=a", *preflight)[0])
         self.assertEqual(200, self.curl("/metrics")[0])  # from this machine
         self.assertEqual(400, self.curl("/cdx?url=a&x=1", *reader)[0])
         self.assertEqual(200, self.curl("/cdx?url=" + "a" * 60_000, *reader)[0])
+
+    def test_answers_are_compressed_for_clients_that_say_so(self) -> None:
+        target, reader = "/cdx?url=z.example.com/*", ("--user", "reader:word", "--include")
+        for words, is_compressed in (
+            (("--header", "Accept-Encoding: gzip"), True),
+            (("--header", "Accept-Encoding: identity"), False),
+        ):
+            text = self.curl(target, *reader, *words)[1].partition(b"\r\n\r\n")[0].decode()
+            self.assertEqual(is_compressed, "Content-Encoding: gzip" in text, text)
+            self.assertIn("Vary: Accept-Encoding", text)
+        text = self.curl(f"{target}&gzip=false", *reader, "--header", "Accept-Encoding: gzip")[1]
+        self.assertNotIn(b"Content-Encoding", text.partition(b"\r\n\r\n")[0])
+
+    def test_urls_in_paths_are_passed_on_as_they_are(self) -> None:
+        url = "http://example.com//a%2Fb/../c?d=%20e&gzip=false"
+        words = ("--user", "reader:word", "--include", "--path-as-is")
+        status, text = self.curl(f"/web/2016/{url}", *words)
+        self.assertEqual(302, status)
+        location = f"Location: https://cdx.example.org:{self.port}/web/2016id_/{url}\r\n"
+        self.assertIn(location, text.decode())
+
+    def test_a_broken_answer_is_seen(self) -> None:
+        middle = LINE % ("com,example)/0", "20160101000000", "a", "-", "-", "-", 1, 0, "a.warc")
+        os.replace(
+            self.put(lines(30_000) + middle + lines(30_000).replace("com,", "dom,"), "new"),
+            self.index,
+        )
+        # Each worker sees the index a moment later. 18 is CURLE_PARTIAL_FILE.
+        self.wait_for(lambda: self.broken() == 18, "no answer is seen to be broken")
+
+    def broken(self) -> int:
+        """Returns the exit status of curl for all captures."""
+        words = ("--user", "reader:word", "--http1.1", "--output", os.devnull)
+        command = self.command("/cdx?key=&matchType=prefix", *words)
+        return subprocess.run(command, stdout=subprocess.DEVNULL).returncode
+
+    def test_slow_clients_keep_no_worker(self) -> None:
+        """Neither those that send nothing, nor those that take nothing."""
+        count, silent = 12, list[socket.socket]()  # of 20 connections of an address
+        context = ssl.create_default_context(cafile=str(self.folder / "cert.pem"))
+        word = base64.b64encode(b"reader:word").decode()
+        request = (
+            "GET /cdx?url=z.example.com/* HTTP/1.1\r\nHost: cdx.example.org\r\n"
+            f"Authorization: Basic {word}\r\n\r\n"
+        )
+        for number in range(count):
+            plain = socket.create_connection(("127.0.0.1", self.port), timeout=WAIT)
+            client = context.wrap_socket(plain, server_hostname="cdx.example.org")
+            client.sendall(request.encode() if number % 2 else b"GET /cdx?url=")
+            silent.append(client)
+        for _ in range(20):
+            start = time.monotonic()
+            found = self.curl("/cdx?url=example.com/a&fl=length", "--user", "reader:word")
+            self.assertEqual((200, b"300\n"), found)
+            self.assertLess(time.monotonic() - start, WAIT / 2)
+        for client in silent:
+            client.close()
 
 
 if __name__ == "__main__":

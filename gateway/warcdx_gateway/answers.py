@@ -1,190 +1,390 @@
-"""Answers, piece by piece: each is made when the piece before it has been taken."""
-from typing import Optional, Protocol
+"""Answers: the captures of a plan as pieces of text, each made when the one before was taken."""
+import json
+import time
+from collections import OrderedDict
+from collections.abc import Callable, Generator, Iterator, Sequence
+from dataclasses import dataclass
+from typing import Any, Optional
+from urllib.parse import quote_plus, unquote_plus
 
-from warcdx.pieces import Pieces
+from warcdx import FIELDS, Index
 
-from .collection import Generation
-from .lanes import Lane
-from .orders import Holder, Last, holder_of
-from .pages import count_pages, start_of_page
-from .plan import Form, Order, Plan
+from .conditions import Conditions
+from .orders import Window, batched, sorted_rows
+from .parameters import Form
+from .plan import Order, Plan
 from .refusal import Refusal
-from .row import Row, resume_key
+from .rows import (
+    DIGEST,
+    KEY,
+    MIME,
+    PLACES,
+    STAMP,
+    STATUS,
+    Collapser,
+    DuplicateCounter,
+    Grouper,
+    Output,
+    Row,
+    resume_key,
+    row_of_line,
+    row_of_values,
+    writer_of,
+)
 from .settings import Limits
-from .source import Selection
-from .steps import DuplicateCounter
-from .writers import writer_of
 
-BATCH = 1000  # captures that are written at a time
+REVISIT = "warc/revisit"
+MOST_PAGES = 10_000  # of a query
+MOST_QUERIES = 64  # whose pages are remembered
+MOST_STARTS = 4 << 20  # bytes of the starts of pages that are remembered
+ORIGINAL = ("digest", "mimetype", "statuscode", "length", "offset", "filename")
 
 
-class Answer(Protocol):
-    """An answer.
+class Clock:
+    """The time of an answer, in seconds. The master learns by `beat` that it goes on."""
 
-    Nothing is sent before its first piece that isn't empty, so until then it may be refused.
+    def __init__(self, seconds: float, reply: float, beat: Callable[[], None]) -> None:
+        self._end = time.monotonic() + seconds
+        self._reply = reply
+        self._beat = beat
+
+    def check(self, index: Index) -> None:
+        """Bounds the next reply of an index. Raises Refusal if the time is over."""
+        left = self._end - time.monotonic()
+        if left <= 0:
+            cause = "the answer takes too long; restrict the query"
+            raise Refusal("TooSlow", "", cause, status=503)
+        index.seconds = min(self._reply, left)
+        self._beat()
+
+
+class Source:
+    """Asks an index for the captures of an answer, each time by one query of the program."""
+
+    def __init__(self, index: Index, clock: Clock) -> None:
+        self._index = index
+        self._clock = clock
+
+    def pieces(self, query: str) -> Iterator[bytes]:
+        """Yields the page of a query as the program writes it."""
+        self._clock.check(self._index)
+        for piece in self._index.stream(query):
+            yield piece
+            self._clock.check(self._index)
+
+    def lines(self, query: str) -> Iterator[list[bytes]]:
+        """Yields the lines of a page, each time those that a piece has ended."""
+        begun: list[bytes] = []
+        for piece in self.pieces(query):
+            first, *others = piece.split(b"\n")
+            begun.append(first)
+            if others:
+                yield [b"".join(begun), *others[:-1]]
+                begun = others[-1:]
+        # A page ends with a line feed.
+
+    def values(self, query: str, fields: Sequence[str]) -> Generator[list[list[str]], None, None]:
+        """Yields the values of these fields of each capture."""
+        for lines in self.row_lines(f"{query}&fl={','.join(fields)}"):
+            yield values_of(lines)
+
+    def row_lines(self, query: str) -> Iterator[list[bytes]]:
+        """Yields the lines of the captures in `output=json`."""
+        names = 1
+        for lines in self.lines(f"{query}&output=json"):
+            yield lines[names:]
+            names = 0
+
+
+class Selection:
+    """The captures of a plan, after originals of revisits, conditions and collapses."""
+
+    def __init__(self, plan: Plan, source: Source, limits: Limits, key: Optional[str]) -> None:
+        self._plan = plan
+        self._source = source
+        self._query = with_key(plan.selected, key)
+        self._conditions = Conditions(plan.conditions, limits.pattern)
+        self._before = self._capture_at(key) if key and plan.collapses else None
+        self._has_steps = bool(plan.conditions or plan.collapses)
+
+    def rows(self) -> Iterator[list[Row]]:
+        """Yields captures, possibly none."""
+        kind = Grouper if self._plan.groups else Collapser
+        collapser = kind(self._plan.collapses, self._before)
+        for rows in map(self._resolving(), self._lines()):
+            yield collapser.select(self._conditions.select(rows))
+        yield collapser.rest()
+
+    def timestamps(self) -> Iterator[list[str]]:
+        """Yields the timestamps of the captures, and parses nothing else if that is possible."""
+        if self._has_steps:
+            yield from ([row[STAMP] for row in rows] for rows in self.rows())
+            return
+        for lines in self._source.lines(f"{self._query}&fl=timestamp"):
+            yield [line.decode() for line in lines]
+
+    def between(self, first: int, end: int) -> Iterator[list[Row]]:
+        """Yields the captures from a number to before another one, and parses no others if it can."""
+        if first >= end:
+            return
+        number, rows_of = 0, self._resolving()
+        groups: Iterator[list[Any]] = self.rows()
+        if not self._has_steps:
+            groups = self._lines()
+        for found in groups:
+            shown = found[max(first - number, 0) : max(end - number, 0)]
+            yield shown if self._has_steps else rows_of(shown)
+            number += len(found)
+            if number >= end:
+                return
+
+    def _lines(self) -> Iterator[list[bytes]]:
+        if self._plan.output is Output.CDXJ:
+            return self._source.lines(f"{self._query}&output=cdxj")
+        return self._source.row_lines(f"{self._query}&fl={','.join(FIELDS)}")
+
+    def _resolving(self) -> Callable[[list[bytes]], list[Row]]:
+        """Returns what makes captures of lines, with the originals of revisits if they are wanted."""
+        resolver = Resolver(self._source) if self._plan.resolves else None
+
+        def rows_of(lines: list[bytes]) -> list[Row]:
+            if self._plan.output is Output.CDXJ:
+                return [row_of_line(line.decode()) for line in lines]
+            rows = list(map(row_of_values, values_of(lines)))
+            if resolver is not None:
+                resolver.resolve(rows)
+            return rows
+
+        return rows_of
+
+    def _capture_at(self, key: str) -> Optional[Row]:
+        """Returns the capture at the place of a resume key."""
+        place = unquote_plus(key).split(" ", 2)
+        if len(place) < 3:
+            return None
+        name, _, offset = place[2].rpartition(" ")
+        conditions = f"is={quote_plus('filename:' + name)}&is={quote_plus('offset:' + offset)}"
+        query = f"key={quote_plus(place[0])}&from={place[1]}&to={place[1]}&{conditions}&limit=1"
+        found = [row for rows in self._source.values(query, FIELDS) for row in rows]
+        return row_of_values(found[0]) if found else None
+
+
+class Resolver:
+    """Gives a revisit the media type, the status and the place of its original.
+
+    The original is the first capture of the same key and digest that is no revisit, wherever it
+    is in the collection. The captures of a key are read once, as far as they are needed.
     """
 
-    @property
-    def is_done(self) -> bool:
-        """Whether the last piece has been given."""
+    def __init__(self, source: Source) -> None:
+        self._source = source
+        self._key: Optional[str] = None
+        self._found: dict[str, list[str]] = {}
+        self._others = self._nothing()
 
-    async def next(self) -> bytes:
-        """Returns the next piece, which may be empty. Raises Refusal or an Error of the package."""
+    @staticmethod
+    def _nothing() -> Generator[list[list[str]], None, None]:
+        yield from ()
 
+    def resolve(self, rows: list[Row]) -> None:
+        for row in rows:
+            if row[MIME] == REVISIT and row[DIGEST] != "-":
+                original = self._original(row[KEY], row[DIGEST])
+                if original is not None:
+                    _, row[MIME], row[STATUS], *place = original
+                    row[PLACES["orig.length"] :] = place
 
-async def answer_of(plan: Plan, generation: Generation, limits: Limits) -> Answer:
-    lane = generation.exact if plan.is_one_key else generation.wide
-    if plan.counts_pages:
-        count = await count_pages(plan, generation, lane, limits)
-        return Whole(pages_text(plan, count))
-    start, limit = plan.resume_key, plan.limit
-    if plan.page is not None:
-        limit = plan.page.size if limit is None else min(limit, plan.page.size)
-        if plan.page.number > 0:
-            start = await start_of_page(plan, plan.page.number, generation, lane, limits)
-            if start is None:
-                return Whole(writer_of(plan).end(None))
-    if plan.is_plain:
-        return Plain(plan.plain_query(start, limit), lane)
-    if plan.counts_duplicates and limit is not None and limit > limits.held:
-        raise Refusal(
-            "BadLimit",
-            "showDupeCount",
-            f"it is for at most {limits.held} captures; this may give {limit}",
-        )
-    if plan.order is not Order.FORWARD or (plan.counts_duplicates and limit is None):
-        holder = (
-            holder_of(plan) if plan.order is not Order.FORWARD else Last(None, is_reverse=False)
-        )
-        return Held(plan, start, holder, lane, limits)
-    return Changed(plan, start, limit, lane, limits)
+    def _original(self, key: str, digest: str) -> Optional[list[str]]:
+        if key != self._key:
+            self._others.close()
+            query = f"key={quote_plus(key)}&isnot=mimetype:{REVISIT}"
+            self._key, self._found = key, {}
+            self._others = self._source.values(query, ORIGINAL)
+        while digest not in self._found:
+            rows = next(self._others, None)
+            if rows is None:
+                return None
+            for row in rows:
+                self._found.setdefault(row[0], row)
+        return self._found[digest]
 
 
-class Whole:
-    """An answer of one piece."""
+@dataclass
+class PageStarts:
+    """The resume keys with which the pages of a query begin, from page 1 on, as far as known."""
 
-    is_done = False
-
-    def __init__(self, text: bytes) -> None:
-        self._text = text
-
-    async def next(self) -> bytes:
-        self.is_done = True
-        return self._text
+    keys: list[str]
+    count: Optional[int] = None  # of pages, if all are known
 
 
-class Plain:
-    """The page that the program writes for a query, byte by byte."""
+class Answers:
+    """Makes the answers of a worker, and remembers where pages begin."""
 
-    def __init__(self, query: str, lane: Lane) -> None:
-        self._pieces = Pieces(query)
-        self._lane = lane
+    def __init__(self, limits: Limits) -> None:
+        self._limits = limits
+        self._starts: OrderedDict[tuple[str, str], PageStarts] = OrderedDict()
 
-    @property
-    def is_done(self) -> bool:
-        return self._pieces.is_last
+    def pieces(self, plan: Plan, index: Index, tag: str, clock: Clock) -> Iterator[bytes]:
+        """Yields the pieces of an answer, some of which are empty.
 
-    async def next(self) -> bytes:
-        async with self._lane.turn() as index:
-            return await index.piece(self._pieces)
+        `tag` is that of the collection. Raises Refusal, or an Error of the package.
+        """
+        source = Source(index, clock)
+        if plan.counts_pages:
+            yield from self._page_count(plan, source, tag)
+            return
+        key, limit = plan.resume_key, plan.limit
+        if plan.page is not None:
+            limit = plan.page.size if limit is None else min(limit, plan.page.size)
+            if plan.page.number > 0:
+                key = self._start_of_page(plan, source, tag)
+                if key is None:
+                    yield writer_of(plan.output, plan.fields).end(None)
+                    return
+        if plan.is_plain:
+            yield from source.pieces(plan.plain_query(key, limit))
+            return
+        self._check_held(plan, limit)
+        selection = Selection(plan, source, self._limits, key)
+        if plan.order is Order.FORWARD and (limit is not None or not plan.counts_duplicates):
+            yield from forward(plan, selection, limit)
+            return
+        window = Window(plan, self._limits.held)
+        for stamps in selection.timestamps():
+            if window.add(stamps):
+                break
+        window.close()
+        yield from ordered(plan, selection, window)
 
+    def _check_held(self, plan: Plan, limit: Optional[int]) -> None:
+        held = self._limits.held
+        if plan.counts_duplicates and limit is not None and limit > held:
+            cause = f"it is for at most {held} captures; this may give {limit}"
+            raise Refusal("BadLimit", "showDupeCount", cause)
 
-class Changed:
-    """Captures in the order of the index, which the gateway changes or leaves out."""
+    def _page_count(self, plan: Plan, source: Source, tag: str) -> Iterator[bytes]:
+        """Yields the number of pages as the Internet Archive writes it, or as pywb does."""
+        assert plan.page is not None
+        starts = self._known_starts(plan, tag)
+        while starts.count is None:
+            self._find_start(starts, plan, source)
+        count, blocks = starts.count, plan.page.size // 3000
+        if plan.form is Form.WAYBACK:
+            yield f"{count}\n".encode()
+        else:
+            sizes = f'"pageSize": {blocks}, "blocks": {count * blocks}'
+            yield f'{{"pages": {count}, {sizes}}}\n'.encode()
 
-    is_done = False
+    def _start_of_page(self, plan: Plan, source: Source, tag: str) -> Optional[str]:
+        """Returns the resume key with which a page begins, or None if there is no such page."""
+        assert plan.page is not None
+        starts, number = self._known_starts(plan, tag), plan.page.number
+        while len(starts.keys) < number and starts.count is None:
+            self._find_start(starts, plan, source)
+        return starts.keys[number - 1] if number <= len(starts.keys) else None
 
-    def __init__(
-        self, plan: Plan, start: Optional[str], limit: Optional[int], lane: Lane, limits: Limits
-    ) -> None:
-        self._plan = plan
-        self._lane = lane
-        self._left = limit
-        self._selection = Selection(plan, limits, start)
-        self._writer = writer_of(plan)
-        self._counter = DuplicateCounter()
-        self._last: Optional[Row] = None
+    def _known_starts(self, plan: Plan, tag: str) -> PageStarts:
+        """Returns what is remembered of a query. Those asked longest ago are forgotten."""
+        name = (tag, plan.selection)
+        found = self._starts.pop(name, None) or PageStarts([])
+        while self._starts and (len(self._starts) >= MOST_QUERIES or self._size() > MOST_STARTS):
+            self._starts.popitem(last=False)
+        self._starts[name] = found
+        return found
 
-    async def next(self) -> bytes:
-        async with self._lane.turn() as index:
-            rows = await self._selection.next(index)
-            has_more = False
-            if self._left is not None:
-                has_more = len(rows) > self._left
-                rows = rows[: self._left]
-                self._left -= len(rows)
-            if rows:
-                self._last = rows[-1]
-            if self._plan.counts_duplicates:
-                self._counter.count(rows)
-            # To show a resume key, a capture that follows has to be found.
-            is_full = self._left == 0 and (has_more or not self._plan.shows_key)
-            self.is_done = is_full or self._selection.is_done
-            piece = self._writer.rows(rows) if rows else b""
-            if not self.is_done:
-                return piece
-            shown = (
-                resume_key(self._last)
-                if has_more and self._plan.shows_key and self._last is not None
-                else None
-            )
-            return piece + self._writer.end(shown)
+    def _size(self) -> int:
+        return sum(len(key) for each in self._starts.values() for key in each.keys)
 
-
-class Held:
-    """Captures that are held until all are read, in another order than that of the index."""
-
-    is_done = False
-
-    def __init__(
-        self, plan: Plan, start: Optional[str], holder: Holder, lane: Lane, limits: Limits
-    ) -> None:
-        self._plan = plan
-        self._holder = holder
-        self._lane = lane
-        self._selection = Selection(plan, limits, start)
-        self._writer = writer_of(plan)
-        self._most = limits.held
-        self._read = 0
-        self._rows: Optional[list[Row]] = None
-        self._written = 0
-
-    async def next(self) -> bytes:
-        async with self._lane.turn() as index:
-            if self._rows is None:
-                await self._hold(await self._selection.next(index))
-                return b""
-            rows = self._rows[self._written : self._written + BATCH]
-            self._written += len(rows)
-            self.is_done = self._written >= len(self._rows)
-            return self._writer.rows(rows) + (self._writer.end(None) if self.is_done else b"")
-
-    async def _hold(self, rows: list[Row]) -> None:
-        self._holder.add(rows)
-        self._read += len(rows)
-        if self._plan.limit is None and self._read > self._most:
-            raise Refusal(
-                "TooMany",
-                held_parameter(self._plan),
-                f"without limit it is for at most {self._most} captures",
-            )
-        if self._selection.is_done or self._holder.is_full():
-            self._rows = self._holder.rows()
-            if self._plan.counts_duplicates:
-                DuplicateCounter().count(self._rows)
+    def _find_start(self, starts: PageStarts, plan: Plan, source: Source) -> None:
+        """Finds the start of one more page, or the number of pages."""
+        assert plan.page is not None
+        if len(starts.keys) == MOST_PAGES:
+            cause = f"a query has at most {MOST_PAGES} pages; follow resume keys, or give a larger pageSize"
+            raise Refusal("BadPage", "page", cause)
+        last = starts.keys[-1] if starts.keys else None
+        if plan.conditions or plan.collapses:
+            has_rows, key = passed(Selection(plan, source, self._limits, last), plan.page.size)
+        else:
+            shown = f"fl=offset&limit={plan.page.size}&showResumeKey=true"
+            lines = [line for each in source.lines(f"{with_key(plan.selected, last)}&{shown}") for line in each]
+            has_rows = bool(lines)
+            key = lines[-1].decode() if lines[-2:-1] == [b""] else None
+        if key is None:
+            starts.count = len(starts.keys) + has_rows
+        else:
+            starts.keys.append(key)
 
 
-def held_parameter(plan: Plan) -> str:
-    """Returns the parameter because of which captures are held."""
-    if plan.order is Order.CLOSEST:
-        return "closest"
-    return "sort" if plan.order is Order.REVERSE else "showDupeCount"
+def passed(selection: Selection, size: int) -> tuple[bool, Optional[str]]:
+    """Passes over a page. Returns whether it has captures, and the resume key of the next."""
+    count, last = 0, None
+    for rows in selection.rows():
+        if rows and count < size:
+            last = rows[min(size - count, len(rows)) - 1]
+        count += len(rows)
+        if count > size and last is not None:
+            return True, resume_key(last)
+    return count > 0, None
 
 
-def pages_text(plan: Plan, count: int) -> bytes:
-    """Returns the number of pages as the Internet Archive writes it, or as pywb does."""
-    assert plan.page is not None
-    if plan.form is Form.WAYBACK:
-        return f"{count}\n".encode()
-    blocks = plan.page.size // 3000
-    return f'{{"pages": {count}, "pageSize": {blocks}, "blocks": {count * blocks}}}\n'.encode()
+def forward(plan: Plan, selection: Selection, limit: Optional[int]) -> Iterator[bytes]:
+    """Yields captures in the order of the index."""
+    writer, counter = writer_of(plan.output, plan.fields), DuplicateCounter()
+    left, has_more, last = limit, False, None
+    for rows in skipped(selection.rows(), plan.skip):
+        if left is not None:
+            has_more = len(rows) > left
+            rows = rows[:left]
+            left -= len(rows)
+        if plan.counts_duplicates:
+            counter.count(rows)
+        last = rows[-1] if rows else last
+        yield writer.rows(rows) if rows else b""
+        # To show a resume key, a capture that follows has to be found.
+        if left == 0 and (has_more or not plan.shows_key):
+            break
+    is_shown = has_more and plan.shows_key
+    yield writer.end(resume_key(last) if is_shown and last is not None else None)
+
+
+def skipped(groups: Iterator[list[Row]], count: int) -> Iterator[list[Row]]:
+    """Yields captures without the first ones."""
+    for rows in groups:
+        yield rows[count:]
+        count -= min(count, len(rows))
+
+
+def or_nothing(pieces: Iterator[bytes]) -> Iterator[bytes]:
+    """Yields an array of rows, as the Internet Archive does: without captures it is empty."""
+    begun = b""
+    for piece in pieces:
+        begun += piece
+        if begun.count(b"\n") > 1:  # the first row ends with the line of the names
+            yield begun
+            break
+    else:
+        yield b"[]\n"
+    yield from pieces
+
+
+def ordered(plan: Plan, selection: Selection, window: Window) -> Iterator[bytes]:
+    """Yields the captures of a window in the order of the plan."""
+    writer, counter = writer_of(plan.output, plan.fields), DuplicateCounter()
+    groups = selection.between(window.first, window.end)
+    if plan.order not in (Order.FORWARD, Order.LAST):
+        groups = batched(sorted_rows(plan, window, groups))
+    for rows in groups:
+        if plan.counts_duplicates:
+            counter.count(rows)
+        yield writer.rows(rows) if rows else b""
+    yield writer.end(None)
+
+
+def values_of(lines: list[bytes]) -> list[list[str]]:
+    """Returns the values of captures from lines of `output=json`, each of which ends in `,` or `]`."""
+    rows: list[list[str]] = json.loads(b"[" + b",".join([line[:-1] for line in lines]) + b"]")
+    return rows
+
+
+def with_key(query: str, key: Optional[str]) -> str:
+    return query if key is None else f"{query}&resumeKey={key}"

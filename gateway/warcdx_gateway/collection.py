@@ -1,136 +1,151 @@
 """A collection: indexes that are queried as one, and the folders of their archives."""
-import asyncio
-import concurrent.futures
-import contextlib
 import hashlib
+import json
 import os
 import pathlib
-import sys
-from collections import OrderedDict
-from collections.abc import AsyncIterator, Callable, Sequence
-from typing import Optional, TypeVar
+import time
+from collections.abc import Sequence
+from email.utils import formatdate
+from typing import Any, Optional
+from urllib.parse import quote_plus
 
-from warcdx.aio import AsyncIndex
-from warcdx.query import Query
+from warcdx import Error, Fault, Index, Refused, command
+from warcdx.errors import fault
 
-from .lanes import Lane, PageStarts
-
-T = TypeVar("T")
-Stamp = tuple[tuple[int, int, int, int], ...]
+from .settings import CollectionSettings, Settings
 
 LOOKS = 0.25  # seconds between two looks at the files
-MOST_REPLY = 8 << 20  # bytes of a piece, unless it is a single capture
-PAGE = 1000  # captures
+MOST_REPLY = 8 << 20  # bytes of a reply, unless no shorter one can be had
+MOST_END = 1 << 16  # bytes in which the last line of an index is looked for
+CHECK_SECONDS = 10  # for the first queries of an index
+MOST_SUMMARY = 16 << 20  # bytes
+SUMMARY = ".summary.json"  # what is added to the name of an index
+SETTLED = 2  # seconds after which no other files get the same time
 TRIES = 3  # to open files while they are replaced
-WIDE_NICENESS = 5
+# A capture before all others, and one after all: their searches read the ends of each index.
+CHECKS = ("key=!&limit=1&fl=offset", "key=%F4%8F%BF%BF&matchType=prefix&limit=1&fl=offset")
+
+Stamp = tuple[tuple[int, ...], ...]
 
 
 class Generation:
-    """The processes over the files that the indexes were at one time.
+    """The files that the indexes were at one time, which stay open.
 
-    Answers that began with them end with them.
+    The program opens them by their descriptors. So a program that is started again reads the
+    same files, also after others have taken their names.
     """
 
-    def __init__(self, stamp: Stamp, exact: Lane, wide: Lane) -> None:
-        self.stamp = stamp
-        self.exact = exact
-        self.wide = wide
-        self.users = 0
-        self.is_retired = False
-        self.page_starts: OrderedDict[str, PageStarts] = OrderedDict()
-        self.tag = hashlib.sha256(repr(stamp).encode()).hexdigest()[:20]
-        self.modified = max(nanoseconds for *_, nanoseconds in stamp) // 10**9
+    def __init__(self, paths: Sequence[pathlib.Path]) -> None:
+        self._paths = paths
+        self.files: list[int] = []
+        try:
+            for path in paths:
+                self.files.append(os.open(path, os.O_RDONLY | os.O_CLOEXEC | os.O_NONBLOCK))
+            self.stamp = stamp_of(map(os.fstat, self.files))
+        except BaseException:
+            self.close()
+            raise
 
-    async def close(self) -> None:
-        await asyncio.gather(self.exact.index.close(), self.wide.index.close())
+    def index(self, program: str, seconds: Optional[float]) -> Index:
+        return Index(self._names(), program=program, processes=2, seconds=seconds, most=MOST_REPLY)
+
+    def _names(self) -> list[str]:
+        return [f"/proc/{os.getpid()}/fd/{file}" for file in self.files]
+
+    def check(self, program: str) -> None:
+        """Asks for the ends of the new files. Raises an Error of the package at what is no index."""
+        with self.index(program, CHECK_SECONDS) as index:
+            for query in (*CHECKS, *map(query_of_end, self.files)):
+                try:
+                    index.text(query)
+                except Refused:
+                    continue  # the last line has no key for a query
+                except Fault as error:
+                    paths = dict(zip(self._names(), map(str, self._paths)))
+                    path = paths.get(error.file or "", error.file)
+                    raise fault(error.name, path, error.offset) from None
+
+    def close(self) -> None:
+        for file in self.files:
+            os.close(file)
+        self.files.clear()
 
 
 class Collection:
     """The indexes and archives of one name.
 
-    Queries of one key have processes of their own, `exact` of them, so that all others, which share
-    `wide` processes, don't delay them. Files that were replaced are seen within half a second after
-    `start`.
+    `name`, `title` and `settings` are as given. `tag` changes with the files and with the
+    settings that change answers. `modified` is when the files were changed or got their names, in
+    seconds since 1970. The master opens the indexes, and each worker goes on with its files.
     """
 
-    def __init__(
-        self,
-        name: str,
-        title: str,
-        indexes: Sequence[pathlib.Path],
-        archives: Sequence[pathlib.Path] = (),
-        *,
-        program: str = "warcdx",
-        exact: int = 2,
-        wide: int = 2,
-        seconds: Optional[float] = None,
-        waiting: int = 1000,
-    ) -> None:
-        self.name = name
-        self.title = title
-        self.indexes = tuple(indexes)
-        self.archives = tuple(archives)
-        self.program = program
-        self.renewals = 0
-        self.failed_renewals = 0
-        self._exact = exact
-        self._wide = wide
-        self._seconds = seconds
-        self._waiting = waiting
+    def __init__(self, each: CollectionSettings, settings: Settings) -> None:
+        self.name = each.name
+        self.title = each.title
+        self.settings = each
+        self.program = settings.program
+        self._limits = settings.limits
         self._generation: Optional[Generation] = None
-        self._starting: Optional[asyncio.Future[None]] = None
-        self._watcher: Optional[asyncio.Task[None]] = None
-        self._closing: set[asyncio.Task[None]] = set()
-        self._threads = concurrent.futures.ThreadPoolExecutor(
-            exact + wide + 2, thread_name_prefix=name
-        )
+        self._index: Optional[Index] = None
+        self._owner = 0
+        self._looked = 0.0
+        self._bad: Optional[Stamp] = None
+        self.tag = ""
+        self.modified = 0
+        self._date = ""
 
-    async def start(self) -> None:
-        """Opens the indexes. Raises an Error of the package if the program can't, or OSError."""
-        self._generation = await self._renewed()
-        self._watcher = asyncio.create_task(self._watch())
+    def open(self) -> None:
+        """Opens the indexes. Raises OSError, or an Error of the package if they are none."""
+        self._use(self._renewed())
 
-    @contextlib.asynccontextmanager
-    async def use(self) -> AsyncIterator[Generation]:
-        """Gives the processes over the present files, which stay the same until the answer has
-        ended.
+    @property
+    def index(self) -> Index:
+        """The index of this process over the files that were the present ones at the last look."""
+        if self._index is None or self._owner != os.getpid():
+            assert self._generation is not None
+            self._index = self._generation.index(self.program, self._limits.query)
+            self._owner = os.getpid()
+        return self._index
+
+    def look(self, *, is_told: bool = False) -> str:
+        """Opens the indexes anew if their files were replaced. Returns `done`, `failed` or nothing.
+
+        If that fails, the old files stay in use. It is told on standard error if `is_told`.
         """
-        if self._generation is None:
-            await self._start_once()
+        now = time.monotonic()
+        if now - self._looked < LOOKS:
+            return ""
+        self._looked = now
         assert self._generation is not None
-        generation = self._generation
-        generation.users += 1
+        stamp: Stamp = ()
         try:
-            yield generation
-        finally:
-            generation.users -= 1
-            self._close_unused(generation)
+            stamp = stamp_of(map(os.stat, self.settings.indexes))
+            if stamp == self._generation.stamp:
+                self._bad = None
+            if stamp in (self._generation.stamp, self._bad):
+                return ""
+            self._use(self._renewed())
+        except (Error, OSError) as error:
+            if stamp == self._bad:  # they are still missing
+                return ""
+            self._bad = stamp
+            if is_told:
+                text = f"{self.name}: the old indexes stay in use: {error}"
+                command.report("warcdx-gateway", command.printable(text))
+            return "failed"
+        self._bad = None
+        return "done"
 
-    async def rows(self, fields: Sequence[str], query: str, *, limit: int) -> list[list[str]]:
-        """Returns these fields of the first captures that a query selects, at most `limit`.
-
-        The query is in the program's own language, without `fl`, `limit` and `output`.
-        """
-        found: list[list[str]] = []
-        async with self.use() as generation:
-            asked, key = query, None
-            while len(found) < limit:
-                size = min(limit - len(found), PAGE)
-                async with generation.wide.turn():
-                    rows, key = await generation.wide.index.page(fields, asked, size=size)
-                found += rows
-                if key is None:
-                    break
-                asked = str(Query.of(query, {}).with_value("resumeKey", key))
-        return found
-
-    async def run(self, function: Callable[..., T], *arguments: object) -> T:
-        """Returns what a blocking function returns, which runs in a thread of the collection."""
-        return await asyncio.get_running_loop().run_in_executor(self._threads, function, *arguments)
+    def validators(self) -> dict[str, str]:
+        """Returns the headers by which a client asks whether it has an answer already."""
+        headers = {"Cache-Control": "no-cache", "ETag": f'"{self.tag}"'}
+        if time.time() - self.modified > SETTLED:  # else other files may have the same second
+            headers["Last-Modified"] = self._date
+        return headers
 
     def archive(self, filename: str) -> Optional[pathlib.Path]:
         """Returns the file of this name in the folders, or None. It is never outside of them."""
-        for folder in self.archives:
+        for folder in self.settings.archives:
             root = folder.resolve()
             try:
                 path = (root / filename).resolve()
@@ -140,91 +155,62 @@ class Collection:
                 continue
         return None
 
-    async def close(self) -> None:
-        """Ends the processes, after the queries that are being answered."""
-        if self._watcher is not None:
-            self._watcher.cancel()
-        if self._generation is not None:
-            await self._generation.close()
-        if self._closing:
-            await asyncio.wait(self._closing)
-        self._threads.shutdown(wait=False)
-
-    async def _start_once(self) -> None:
-        """Starts, unless another task does."""
-        if self._starting is None:
-            self._starting = asyncio.ensure_future(self.start())
+    def summary(self) -> Optional[dict[str, Any]]:
+        """Returns what the file beside the first index says of the collection, if there is one."""
+        first = self.settings.indexes[0]
+        path = first.with_name(first.name + SUMMARY)
         try:
-            await asyncio.shield(self._starting)
-        finally:
-            if self._starting is not None and self._starting.done():
-                self._starting = None
+            if path.stat().st_size > MOST_SUMMARY:
+                return None
+            found = json.loads(path.read_bytes())
+        except (OSError, ValueError, RecursionError):
+            return None
+        return found if isinstance(found, dict) else None
 
-    async def _watch(self) -> None:
-        """Looks at the files again and again, and replaces the processes after the files were
-        replaced.
-        """
-        while True:
-            await asyncio.sleep(LOOKS)
-            old = self._generation
-            assert old is not None
-            try:
-                if await self.run(self._stamp) != old.stamp:
-                    self._generation = await self._renewed()
-                    self.renewals += 1
-                    old.is_retired = True
-                    self._close_unused(old)
-            except (
-                Exception
-            ) as error:  # whatever it is, the old files are open, and are compared again
-                self.failed_renewals += 1
-                if self.failed_renewals == 1 or self.failed_renewals % 1000 == 0:
-                    print(
-                        f"warcdx-gateway: {self.name}: the indexes can't be opened again: {error}",
-                        file=sys.stderr,
-                        flush=True,
-                    )
+    def close(self) -> None:
+        """Ends the programs of this process, and closes the files."""
+        if self._index is not None and self._owner == os.getpid():
+            self._index.close()
+        self._index = None
+        if self._generation is not None:
+            self._generation.close()
+            self._generation = None
 
-    async def _renewed(self) -> Generation:
-        """Returns new processes. The files are the same before and after all have opened them."""
+    def _use(self, generation: Generation) -> None:
+        self.close()
+        self._generation = generation
+        key = (self.settings, generation.stamp, self._limits)
+        self.tag = hashlib.sha256(repr(key).encode()).hexdigest()[:20]
+        self.modified = max(max(times[-2:]) for times in generation.stamp) // 10**9
+        self._date = formatdate(self.modified, usegmt=True)
+
+    def _renewed(self) -> Generation:
+        """Returns the present files. They have their names before and after they were asked."""
         for _ in range(TRIES):
-            stamp = await self.run(self._stamp)
-            generation = self._generation_of(stamp)
+            generation = Generation(self.settings.indexes)
             try:
-                await asyncio.gather(generation.exact.index.start(), generation.wide.index.start())
-                after = await self.run(self._stamp)
+                generation.check(self.program)
+                if stamp_of(map(os.stat, self.settings.indexes)) == generation.stamp:
+                    return generation
             except BaseException:
-                await generation.close()
+                generation.close()
                 raise
-            if after == stamp:
-                return generation
-            await generation.close()
+            generation.close()
         raise OSError("the indexes are being changed")
 
-    def _generation_of(self, stamp: Stamp) -> Generation:
-        lanes = [
-            Lane(
-                AsyncIndex(
-                    self.indexes,
-                    program=self.program,
-                    processes=processes,
-                    niceness=niceness,
-                    seconds=self._seconds,
-                    most=MOST_REPLY,
-                ),
-                processes,
-                self._waiting,
-            )
-            for processes, niceness in ((self._exact, 0), (self._wide, WIDE_NICENESS))
-        ]
-        return Generation(stamp, *lanes)
 
-    def _stamp(self) -> Stamp:
-        found = map(os.stat, self.indexes)
-        return tuple((each.st_dev, each.st_ino, each.st_size, each.st_mtime_ns) for each in found)
+def query_of_end(file: int) -> str:
+    """Returns a query for the last line of a file, as far as its key is short enough for one."""
+    size = os.fstat(file).st_size
+    tail = os.pread(file, MOST_END, max(size - MOST_END, 0)) if size else b""
+    key, _, rest = tail.removesuffix(b"\n").rpartition(b"\n")[2].partition(b" ")
+    place = f"{quote_plus(key)}+{quote_plus(rest[:14])}+%21+0"
+    return f"key={quote_plus(key)}&resumeKey={place}&fl=offset"
 
-    def _close_unused(self, generation: Generation) -> None:
-        if generation.is_retired and generation.users == 0:
-            task = asyncio.ensure_future(generation.close())
-            self._closing.add(task)
-            task.add_done_callback(self._closing.discard)
+
+def stamp_of(found: "map[os.stat_result]") -> Stamp:
+    """Returns what differs if other files get the names."""
+    return tuple(
+        (each.st_dev, each.st_ino, each.st_size, each.st_mtime_ns, each.st_ctime_ns)
+        for each in found
+    )

@@ -6,11 +6,11 @@ usage: warcdx-gateway [OPTION]... SETTINGS
 Answers the clients of Wayback CDX servers over indexes, by HTTP. SETTINGS is a file in TOML with
 the collections. With --indexes there is one collection, named main.
 
-Prints the address when it answers. SIGTERM and SIGINT end it after the answers that are being sent.
+Prints the address when it answers. SIGTERM ends it after the answers that are being sent, and SIGHUP
+makes it read SETTINGS again.
 The exit status is 0; 1 if it can't start, with the reason on one line; 2 after a usage error; or 3 if
 standard output or memory failed.
 """
-import asyncio
 import dataclasses
 import pathlib
 from collections.abc import Sequence
@@ -18,7 +18,7 @@ from typing import Optional
 
 from warcdx import Error, __version__, command
 
-from .settings import BadSettings, CollectionSettings, Settings, read_settings
+from .settings import BadSettings, CollectionSettings, Settings, checked, read_settings
 
 NAME = "warcdx-gateway"
 
@@ -38,6 +38,8 @@ def read_arguments(arguments: Optional[Sequence[str]]) -> Settings:
         "--address", help="the address to listen at, instead of that of the settings"
     )
     parser.add_argument("--port", type=int, help="the port, 0 for any that is free")
+    parser.add_argument("--host", help="a name that requests may have in their field Host")
+    parser.add_argument("--workers", type=int, help="how many processes answer requests")
     parser.add_argument("--program", help="the program warcdx")
     given = parser.parse(arguments)
     if (given.settings is None) == (given.indexes is None):
@@ -45,28 +47,30 @@ def read_arguments(arguments: Optional[Sequence[str]]) -> Settings:
     if given.settings is not None:
         settings = read_settings(pathlib.Path(given.settings))
     else:
-        paths = (
+        indexes, archives = (
             tuple(pathlib.Path(name).absolute() for name in names)
             for names in (given.indexes, given.archives)
         )
-        settings = Settings((CollectionSettings("main", "Captures", *paths),), "main")
+        settings = Settings((CollectionSettings("main", "Captures", indexes, archives),), "main")
     changed = {
         name: getattr(given, name)
-        for name in ("address", "port", "program")
+        for name in ("address", "port", "program", "workers")
         if getattr(given, name) is not None
     }
-    return dataclasses.replace(settings, **changed)
+    if given.host is not None:
+        changed["hosts"] = (*settings.hosts, given.host)
+    return checked(dataclasses.replace(settings, **changed))
 
 
 def work(arguments: Optional[Sequence[str]]) -> int:
     try:
         settings = read_arguments(arguments)
-        # Imported here, because help and usage errors don't need the packages of the service.
-        from .service import run
+        # Imported here, because help and usage errors don't need the packages of the server.
+        from .server import run
 
-        asyncio.run(run(settings))
+        run(settings, lambda: read_arguments(arguments))
     except ModuleNotFoundError as error:
-        packages = "Debian's packages python3-aiohttp and python3-regex"
+        packages = "Debian's packages gunicorn, python3-werkzeug, python3-prometheus-client and python3-regex"
         command.report(NAME, f"{error.name} is missing ({packages})")
         return 1
     except command.OutputError:

@@ -1,6 +1,7 @@
 """Conditions on captures that the gateway checks itself: texts and regular expressions."""
+import re
 import time
-from collections.abc import Callable, Sequence
+from collections.abc import Sequence
 from dataclasses import dataclass
 from enum import Enum
 from typing import Optional
@@ -8,7 +9,7 @@ from typing import Optional
 import regex
 
 from .refusal import Refusal
-from .row import PLACES, Row
+from .rows import PLACES, Row
 
 SPECIAL = frozenset("\\^$.|?*+()[]{}")  # characters that a literal text has not
 LONGEST = 1000  # characters of a regular expression
@@ -17,6 +18,8 @@ LONGEST_VALUE = (
 )
 MOST_COPIES = 200_000  # characters of a regular expression in which repeated parts are written out
 STEP = 1.0  # seconds for one match
+ESCAPE = re.compile(r"\\.", re.DOTALL)
+RECURSION = re.compile(r"\(\?(?:R|[+-]?[0-9]|&|P>)")
 
 
 class Test(Enum):
@@ -38,6 +41,10 @@ class Condition:
     is_negated: bool = False
     parameter: str = "filter"
 
+    @property
+    def is_pattern(self) -> bool:
+        return self.test in (Test.MATCHES, Test.BEGINS)
+
 
 class Conditions:
     """Conditions that all have to hold.
@@ -47,39 +54,42 @@ class Conditions:
 
     def __init__(self, conditions: Sequence[Condition], seconds: float) -> None:
         self._left = seconds
-        self._tests = [self._test_of(condition) for condition in conditions]
-        self.has_patterns = any(each.test in (Test.MATCHES, Test.BEGINS) for each in conditions)
+        self._end = 0.0
+        self._tests = [
+            (each, PLACES[each.field], compiled(each) if each.is_pattern else None)
+            for each in conditions
+        ]
 
     def select(self, rows: list[Row]) -> list[Row]:
         """Returns the rows for which all conditions hold. Raises Refusal if that takes too long."""
-        start = time.monotonic()
+        self._end = time.monotonic() + self._left
         try:
-            return [row for row in rows if all(test(row) for test in self._tests)]
+            for condition, place, pattern in self._tests:
+                is_wanted = not condition.is_negated
+                rows = [
+                    row for row in rows if self._holds(condition, pattern, row[place]) is is_wanted
+                ]
+            return rows
         finally:
-            self._left -= time.monotonic() - start
+            self._left = self._end - time.monotonic()
 
-    def _test_of(self, condition: Condition) -> Callable[[Row], bool]:
-        place, text, is_negated = PLACES[condition.field], condition.text, condition.is_negated
-        if condition.test is Test.EQUALS:
-            return lambda row: (row[place] == text) is not is_negated
-        if condition.test is Test.CONTAINS:
-            return lambda row: (text in row[place]) is not is_negated
-        pattern = compiled(condition)
+    def _holds(
+        self, condition: Condition, pattern: Optional["regex.Pattern[str]"], value: str
+    ) -> bool:
+        if pattern is None:
+            text, is_equal = condition.text, condition.test is Test.EQUALS
+            return value == text if is_equal else text in value
+        left = self._end - time.monotonic()
+        if left <= 0:
+            raise too_slow(condition)
+        if len(value) > LONGEST_VALUE:
+            cause = f"a value has more than {LONGEST_VALUE} characters"
+            raise Refusal("TooSlow", condition.parameter, cause, condition.text)
         match = pattern.fullmatch if condition.test is Test.MATCHES else pattern.match
-
-        def holds(row: Row) -> bool:
-            if self._left <= 0:
-                raise too_slow(condition)
-            if len(row[place]) > LONGEST_VALUE:
-                cause = f"a value has more than {LONGEST_VALUE} characters"
-                raise Refusal("TooSlow", condition.parameter, cause, condition.text)
-            try:
-                found = match(row[place], timeout=min(STEP, self._left), concurrent=True)
-            except TimeoutError:
-                raise too_slow(condition) from None
-            return (found is not None) is not is_negated
-
-        return holds
+        try:
+            return match(value, timeout=min(STEP, left)) is not None
+        except TimeoutError:
+            raise too_slow(condition) from None
 
 
 def is_literal(text: str) -> bool:
@@ -87,19 +97,16 @@ def is_literal(text: str) -> bool:
 
 
 def compiled(condition: Condition) -> "regex.Pattern[str]":
-    """Returns a regular expression. Raises Refusal."""
-    if len(condition.text) > LONGEST:
-        cause = f"a regular expression has at most {LONGEST} characters"
-        raise Refusal("BadFilter", condition.parameter, cause, condition.text)
-    if copies(condition.text) > MOST_COPIES:
-        raise Refusal(
-            "BadFilter",
-            condition.parameter,
-            "the regular expression repeats too much",
-            condition.text,
-        )
+    """Returns a regular expression, which is kept nowhere else. Raises Refusal."""
+    text = condition.text
+    if len(text) > LONGEST:
+        raise bad_pattern(condition, f"a regular expression has at most {LONGEST} characters")
+    if RECURSION.search(ESCAPE.sub("", text)):
+        raise bad_pattern(condition, "a regular expression doesn't refer to a part of itself")
+    if copies(condition) > MOST_COPIES:
+        raise bad_pattern(condition, "the regular expression repeats too much")
     try:
-        return regex.compile(condition.text, regex.VERSION0)
+        return regex.compile(text, regex.VERSION0, cache_pattern=False)
     except (
         regex.error,
         ValueError,
@@ -109,21 +116,27 @@ def compiled(condition: Condition) -> "regex.Pattern[str]":
         IndexError,
         TypeError,
     ) as error:
-        cause = f"the regular expression can't be read: {error}"
-        raise Refusal("BadFilter", condition.parameter, cause, condition.text) from error
+        raise bad_pattern(condition, f"the regular expression can't be read: {error}") from error
 
 
-def copies(text: str) -> int:
+def copies(condition: Condition) -> int:
     """Returns at least how long an expression is in which `a{3}` is written as `aaa`, as it is
     compiled.
     """
-    count = len(text)
-    for braces in text.split("{")[1:]:
-        least = "".join(filter(str.isdigit, braces.partition("}")[0].partition(",")[0]))
+    count = len(condition.text)
+    for braces in condition.text.split("{")[1:]:
+        bound = braces.partition("}")[0].partition(",")[0]
+        least = "".join(filter(str.isdigit, bound))
+        if not least.isascii():
+            raise bad_pattern(condition, "the number of a repeat is in the digits 0 to 9")
         if len(least) > 6:
             return MOST_COPIES + 1
         count *= max(int(least or "1"), 1)
     return count
+
+
+def bad_pattern(condition: Condition, cause: str) -> Refusal:
+    return Refusal("BadFilter", condition.parameter, cause, condition.text)
 
 
 def too_slow(condition: Condition) -> Refusal:

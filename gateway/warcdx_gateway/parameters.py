@@ -1,12 +1,15 @@
-"""The values of single parameters: what each may be."""
-from collections.abc import Callable
+"""The parameters of a query: their names, and what the value of each may be."""
+import re
+from datetime import datetime, timezone
+from enum import Enum
+from urllib.parse import quote_plus, unquote_to_bytes
 
 from warcdx import FIELDS
 
-from .conditions import Condition, Test, is_literal
-from .plan import Collapse, Form
+from .conditions import Condition, Test, compiled, is_literal
 from .refusal import Refusal
-from .row import ORIGINALS
+from .rows import GROUPED, ORIGINALS, UNKNOWN, Collapse
+from .settings import Limits
 
 PYWB_NAMES = {"url": "original", "mime": "mimetype", "status": "statuscode"}
 TESTS = {
@@ -15,100 +18,71 @@ TESTS = {
     "has": (Test.CONTAINS, False),
     "hasnot": (Test.CONTAINS, True),
 }
-FLAGS = ("true", "false")
-OUTPUTS = ("text", "json", "cdxj")
-SORTS = ("default", "regular", "reverse", "closest")
-MOST_DIGITS = 7
 FIELD_LIST = ", ".join(FIELDS)
-
-
-def check_flag(name: str, value: str) -> None:
-    if value not in FLAGS:
-        raise Refusal("BadFlag", name, "it is true or false", value)
-
-
-def check_false(name: str, value: str) -> None:
-    if value != "false":
-        raise Refusal("Unknown", name, "this server counts no captures that are left out", value)
-
-
-def check_stamp(name: str, value: str) -> None:
-    if not (is_number(value) and len(value) <= 14):
-        raise Refusal("BadStamp", name, "it is 1 to 14 digits", value)
-
-
-def check_number(name: str, value: str) -> None:
-    if not (is_number(value) and len(value) <= MOST_DIGITS):
-        raise Refusal("BadPage", name, f"it is a number of at most {MOST_DIGITS} digits", value)
-
-
-def check_size(name: str, value: str) -> None:
-    check_number(name, value)
-    if int(value) == 0:
-        raise Refusal("BadPage", name, "it is 1 or more", value)
-
-
-def check_limit(name: str, value: str) -> None:
-    digits = value.removeprefix("-")
-    if not (is_number(digits) and len(digits) <= MOST_DIGITS and 1 <= int(digits) <= 1_000_000):
-        raise Refusal(
-            "BadLimit",
-            name,
-            "it is a number from 1 to 1,000,000, or such a number after a -",
-            value,
-        )
-
-
-def check_output(name: str, value: str) -> None:
-    if value not in OUTPUTS:
-        raise Refusal("BadOutput", name, "it is text, json or cdxj", value)
-
-
-def check_sort(name: str, value: str) -> None:
-    if value not in SORTS:
-        raise Refusal("BadSort", name, f"it is one of {', '.join(SORTS)}", value)
-
-
-def check_fields(name: str, value: str) -> None:
-    for field in value.split(","):
-        if PYWB_NAMES.get(field, field) not in (*FIELDS, "dupecount", *ORIGINALS):
-            raise Refusal(
-                "BadField",
-                name,
-                f"it is a list of fields, separated by commas: {FIELD_LIST}",
-                field or value,
-            )
-
-
-def check_nothing(name: str, value: str) -> None:
-    """The program checks the value."""
-
-
-# Parameters that may be given once. Those without a check of their own are checked by the program.
-SINGLE: dict[str, Callable[[str, str], None]] = {
-    "url": check_nothing,
-    "key": check_nothing,
-    "matchType": check_nothing,
-    "from": check_stamp,
-    "to": check_stamp,
-    "limit": check_limit,
-    "resumeKey": check_nothing,
-    "showResumeKey": check_flag,
-    "fl": check_fields,
-    "output": check_output,
-    "gzip": check_flag,
-    "page": check_number,
-    "pageSize": check_size,
-    "showNumPages": check_flag,
-    "fastLatest": check_flag,
-    "closest": check_stamp,
-    "sort": check_sort,
-    "reverse": check_flag,
-    "resolveRevisits": check_flag,
-    "showDupeCount": check_flag,
-    "showSkipCount": check_false,
-    "lastSkipTimestamp": check_false,
+ADDED = (*UNKNOWN, *GROUPED, *ORIGINALS, "dupecount")
+FIELD = "|".join(map(re.escape, (*FIELDS, *PYWB_NAMES, *ADDED)))
+FLAG = ("true|false", "BadFlag", "it is true or false")
+STAMP = ("[0-9]{1,14}", "BadStamp", "it is 1 to 14 digits")
+MILLION = "(?:[1-9][0-9]{0,5}|1000000)"
+NUMBER = "[0-9]{1,7}"
+NEVER = ("false", "Unknown", "this server counts no captures that are left out")
+# Parameters that may be given once: what each may be, and how it is refused. Each is checked where the
+# program checks it, so that of two that are at fault both name the same one.
+SINGLE = {
+    "url": (".*", "", ""),
+    "key": (".*", "", ""),
+    "matchType": ("exact|prefix|host|domain", "BadMatch", "it is exact, prefix, host or domain"),
+    "from": STAMP,
+    "to": STAMP,
+    "limit": (
+        f"-?0{{0,6}}{MILLION}",
+        "BadLimit",
+        "it is a number from 1 to 1,000,000, or such a number after a -",
+    ),
+    "resumeKey": ("[^ ]* [0-9]{14} .+ [0-9]+", "BadResume", "it isn't the resume key of a page"),
+    "showResumeKey": FLAG,
+    "fl": (
+        f"(?:{FIELD})(?:,(?:{FIELD}))*",
+        "BadField",
+        f"it is a list of fields, separated by commas: {FIELD_LIST}",
+    ),
+    "output": ("text|json|cdxj", "BadOutput", "it is text, json or cdxj"),
+    "gzip": FLAG,
+    "page": (NUMBER, "BadPage", "it is a number of at most 7 digits"),
+    "pageSize": (f"(?!0+$){NUMBER}", "BadPage", "it is a number from 1 on of at most 7 digits"),
+    "showNumPages": FLAG,
+    "fastLatest": FLAG,
+    "closest": STAMP,
+    "sort": (
+        "default|regular|reverse|closest",
+        "BadSort",
+        "it is one of default, regular, reverse, closest",
+    ),
+    "reverse": FLAG,
+    "resolveRevisits": FLAG,
+    "showDupeCount": FLAG,
+    "showGroupCount": FLAG,
+    "showUniqCount": FLAG,
+    "offset": (NUMBER, "BadPage", "it is a number of at most 7 digits"),
+    "showSkipCount": NEVER,
+    "lastSkipTimestamp": NEVER,
 }
+CLIENT_FLAGS = frozenset(
+    "fastLatest gzip lastSkipTimestamp omitSelfRedirects resolveRevisits reverse showDupeCount "
+    "showGroupCount showNumPages showPagedIndex showResumeKey showSkipCount showUniqCount".split()
+)
+# Parameters that change no answer here: a number against caches, the name of a function of a page's
+# script, and what depends on columns that indexes in CDXJ don't have.
+IGNORED = frozenset(("_", "callback", "omitSelfRedirects"))
+ESCAPED = re.compile("[%+]")
+CHECKS = {name: re.compile(pattern, re.DOTALL) for name, (pattern, _, _) in SINGLE.items()}
+
+
+class Form(Enum):
+    """Whose parameters and outputs a path has."""
+
+    WAYBACK = "wayback"  # those of the Internet Archive's server
+    PYWB = "pywb"  # those of pywb and Common Crawl
 
 
 def filter_of(value: str, form: Form) -> Condition:
@@ -156,5 +130,111 @@ def collapse_of(value: str) -> Collapse:
     return Collapse(field, int(digits) if colon else None)
 
 
+def unquoted(name: str, value: str) -> tuple[str, str]:
+    """Returns the name and the value of a parameter without escapes. Raises Refusal."""
+    if not ESCAPED.search(name + value):
+        return name, value
+    try:
+        found, text = (unquote_to_bytes(each.replace("+", " ")) for each in (name, value))
+        return found.decode(), text.decode()
+    except UnicodeDecodeError:
+        raise Refusal("NotText", name, "it isn't UTF-8", value) from None
+
+
 def is_number(text: str) -> bool:
     return text.isascii() and text.isdigit()
+
+
+class Given:
+    """The parameters of a query. Each piece stays as it is written, for the program."""
+
+    def __init__(self, form: Form, limits: Limits) -> None:
+        self.form = form
+        self.limits = limits
+        self.values: dict[str, str] = {}  # decoded
+        self.pieces: dict[str, str] = {}
+        self.conditions: list[tuple[Condition, str]] = []
+        self.collapses: list[Collapse] = []
+
+    def add(self, piece: str) -> None:
+        """Takes the next parameter. Raises Refusal."""
+        name, value = unquoted(*piece.partition("=")[::2])
+        if name == "fields" and self.form is Form.PYWB:
+            name = "fl"
+        if name not in (*TESTS, *SINGLE, "filter", "collapse"):
+            raise Refusal("Unknown", name, "there is no such parameter")
+        if not value and name not in ("url", "key", *TESTS):
+            return  # an empty field of a form
+        if name in TESTS:
+            test, is_negated = TESTS[name]
+            self.conditions.append((condition_of(value, test, is_negated, name), piece))
+        elif name == "filter":
+            self.add_filter(filter_of(value, self.form))
+        elif name == "collapse":
+            self.collapses += map(collapse_of, value.split(","))
+        else:
+            self.add_single(name, value, piece)
+        for kind, count, most in (
+            ("filter", len(self.conditions), self.limits.conditions),
+            ("collapse", len(self.collapses), self.limits.collapses),
+            ("fl", value.count(",") + 1 if name == "fl" else 0, self.limits.fields),
+        ):
+            if count > most:
+                raise Refusal("TooMany", kind, f"there are at most {most} in a query")
+
+    def add_filter(self, condition: Condition) -> None:
+        if condition.is_pattern:
+            compiled(condition)
+            self.conditions.append((condition, ""))
+        else:
+            name = ("is" if condition.test is Test.EQUALS else "has") + (
+                "not" if condition.is_negated else ""
+            )
+            self.conditions.append(
+                (condition, f"{name}={quote_plus(f'{condition.field}:{condition.text}')}")
+            )
+
+    def add_single(self, name: str, value: str, piece: str) -> None:
+        if name in self.values:
+            raise Refusal("RepeatedParameter", name, "it may be given once")
+        if not CHECKS[name].fullmatch(value):
+            _, cause, text = SINGLE[name]
+            bad = [each for each in value.split(",") if not CHECKS[name].fullmatch(each)]
+            raise Refusal(cause, name, text, bad[0] or value if name == "fl" else value)
+        self.values[name] = value
+        self.pieces[name] = piece
+
+    def is_true(self, name: str) -> bool:
+        return self.values.get(name) == "true"
+
+    def is_one_key(self) -> bool:
+        """Returns whether the match is `exact`."""
+        url = self.values.get("url", "")
+        has_star = url.startswith("*.") or url.endswith("*")
+        return self.values.get("matchType", "prefix" if has_star else "exact") == "exact"
+
+
+def translated(query: str) -> str:
+    """Returns a query of a client in the words of the gateway. What it doesn't know stays."""
+    pieces = []
+    pairs = [(piece, *unquoted(*piece.partition("=")[::2])) for piece in query.split("&")]
+    has_time = all(value for _, name, value in pairs if name == "closest")
+    for piece, name, value in pairs:
+        if name in CLIENT_FLAGS and value in ("True", "False"):
+            piece, value = f"{name}={value.lower()}", value.lower()
+        if name == "closest" and value == "now":
+            piece = f"closest={datetime.now(timezone.utc):%Y%m%d%H%M%S}"
+        elif name == "output" and value == "txt":
+            piece = "output=text"
+        elif name == "collapseTime":
+            piece = f"collapse=timestamp:{quote_plus(value)}"
+        elif name == "showPagedIndex" and value == "true":
+            raise Refusal("Unknown", name, "the indexes of this server have no blocks", value)
+        is_dropped = (
+            name in IGNORED
+            or (name, value) in (("limit", "0"), ("page", "/"), ("showPagedIndex", "false"))
+            or (name, value, has_time) == ("sort", "closest", False)
+        )
+        if not is_dropped:
+            pieces.append(piece)
+    return "&".join(pieces)

@@ -2,28 +2,12 @@
 from collections.abc import Sequence
 from urllib.parse import unquote_plus
 
-from warcdx import FIELDS
-
 MOST_SHOWN = 100  # characters of a value
 
-# For each name of a refusal: the parameters that it may be of, and what they have to be.
+# What the program refuses and the gateway doesn't: the parameters, and what they have to be.
 CAUSES: dict[str, tuple[tuple[str, ...], str]] = {
     "QueryTooLong": ((), "a query has at most 65,536 bytes"),
-    "NotText": ((), "a query is in UTF-8"),
-    "Unknown": ((), "there is no such parameter"),
-    "RepeatedParameter": ((), "it may be given once"),
-    "BadMatch": (("matchType",), "it is exact, prefix, host or domain"),
-    "BadStamp": (("from", "to"), "it is 1 to 14 digits"),
-    "BadFilter": (
-        ("filter", "is", "isnot", "has", "hasnot"),
-        f"it is FIELD:TEXT, with one of the fields {', '.join(FIELDS)}",
-    ),
-    "BadLimit": (("limit",), "it is a number from 1 to 1,000,000"),
     "BadResume": (("resumeKey",), "it isn't the resume key of a page"),
-    "BadFlag": (("showResumeKey",), "it is true or false"),
-    "BadField": (("fl",), f"it is a list of fields, separated by commas: {', '.join(FIELDS)}"),
-    "BadOutput": (("output",), "it is text, json or cdxj"),
-    "BadCollapse": (("collapse",), "it is FIELD or FIELD:N"),
     "NoUrl": (("url",), "it is missing"),
     "UrlAndKey": (("url", "key"), "only one of both may be given"),
     "BadUrl": (("url",), "it isn't an address, or none of a web page where it has to be"),
@@ -62,10 +46,7 @@ def printable(text: str) -> str:
 def program_refusal(name: str, pieces: Sequence[str]) -> Refusal:
     """Returns what the program has refused, from the pieces of the query."""
     names, cause = CAUSES.get(name, ((), "the program refuses it"))
-    given = [piece.partition("=") for piece in pieces]
-    for parameter, _, value in given:
+    for parameter, _, value in (piece.partition("=") for piece in pieces):
         if unquote_plus(parameter) in names:
-            found = unquote_plus(value)
-            if name != "BadStamp" or not (found.isascii() and found.isdigit() and len(found) <= 14):
-                return Refusal(name, unquote_plus(parameter), cause, found)
+            return Refusal(name, unquote_plus(parameter), cause, unquote_plus(value))
     return Refusal(name, names[0] if names else "", cause)

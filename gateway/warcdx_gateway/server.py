@@ -1,248 +1,260 @@
-"""The HTTP server: its paths, and what it answers."""
-import asyncio
-import importlib.util
+"""The workers: gunicorn runs the application in processes of limits of their own."""
+import gc
+import logging
+import os
+import pathlib
+import resource
+import shutil
+import signal
+import socket
 import sys
-import time
-from collections.abc import Awaitable, Callable, Mapping
-from email.utils import formatdate, parsedate_to_datetime
-from typing import Optional
+import tempfile
+from collections.abc import Callable
+from types import FrameType
+from typing import Any, Optional
 
-from aiohttp import web
+import gunicorn.arbiter
+import gunicorn.glogging
+import gunicorn.http.message
+import gunicorn.http.wsgi
+import gunicorn.systemd
+import gunicorn.workers.sync
+from gunicorn.app.base import BaseApplication
+from gunicorn.errors import HaltServer
 
-from warcdx import Error, Fault, Refused, ReplyTooLate
+from warcdx import Error
+from warcdx.program import end_with_parent
 
-from .answers import answer_of
-from .collection import Collection, Generation
-from .connections import Connection
-from .metrics import Metrics
-from .plan import Form, Output, Plan
-from .refusal import Refusal, program_refusal
-from .sending import Sender, accepts_gzip
-from .settings import Settings
-from .translation import plan_of
+from .application import NAME, Gateway, say
+from .collection import Collection
+from .settings import BadSettings, Settings
+from .shared import Metrics, Shares
 
-METHODS = "GET, HEAD, OPTIONS"
-TEXT = "text/plain; charset=utf-8"
-KINDS = {
-    Output.TEXT: TEXT,
-    Output.JSON: "application/json",
-    Output.CDXJ: TEXT,
-    Output.LINES: "text/x-ndjson; charset=utf-8",
-}
-WAYBACK_PATHS = ("/cdx", "/cdx/search/cdx", "/web/timemap/cdx")
-HEALTH_SECONDS = 5
-Handler = Callable[[web.Request], Awaitable[web.StreamResponse]]
-LEFT = 499  # the status that is counted if a client has left before its answer
+BACKLOG = 1024  # connections that wait for a worker
+MOST_LINE = 70_000  # bytes of the line of a request: a query has at most 65,536
+ENDS = (signal.SIGTERM, signal.SIGINT, signal.SIGQUIT, signal.SIGABRT)
+OTHER_FILES = 200  # that are open beside indexes
 
 
-class Gateway:
-    """Answers requests from collections."""
+class Log(gunicorn.glogging.Logger):
+    """What gunicorn reports: one line each, and never a traceback."""
+
+    error_fmt = f"{NAME}: %(message)s"
+
+    def exception(self, msg: str, *args: Any, **kwargs: Any) -> None:
+        self.error_log.error(f"{msg}: %s", *args, sys.exc_info()[1])
+
+    def info(self, msg: str, *args: Any, **kwargs: Any) -> None:
+        if kwargs.get("exc_info"):
+            self.exception(msg, *args)
+
+
+class Master(gunicorn.arbiter.Arbiter):
+    """The process that keeps the workers."""
+
+    def manage_workers(self) -> None:
+        self.app.look()
+        super().manage_workers()
+
+    def handle_usr2(self) -> None:
+        """Does nothing: the address has one master."""
+
+    def spawn_worker(self) -> Any:
+        """Starts a worker, which gets a signal that comes meanwhile when it can handle it."""
+        signal.pthread_sigmask(signal.SIG_BLOCK, ENDS)
+        try:
+            return super().spawn_worker()
+        finally:
+            if os.getpid() == self.pid:
+                signal.pthread_sigmask(signal.SIG_UNBLOCK, ENDS)
+
+    def stop(self, graceful: bool = True) -> None:
+        gunicorn.systemd.sd_notify("STOPPING=1", self.log)
+        super().stop(graceful)
+
+
+class Worker(gunicorn.workers.sync.SyncWorker):
+    """A process that answers one request at a time."""
+
+    def init_signals(self) -> None:
+        super().init_signals()
+        signal.pthread_sigmask(signal.SIG_UNBLOCK, ENDS)
+
+    def handle_request(self, listener: Any, req: Any, client: Any, addr: Any) -> None:
+        """Answers a request. gunicorn would take a field SCRIPT_NAME of the client for its own."""
+        req.headers = [each for each in req.headers if each[0] != "SCRIPT_NAME"]
+        super().handle_request(listener, req, client, addr)
+
+    def handle_exit(self, sig: int, frame: Optional[FrameType]) -> None:
+        """Ends after the present answer. No connection waits for this worker then.
+
+        A socket that doesn't listen takes the place of each that does, as it is used until then.
+        """
+        super().handle_exit(sig, frame)
+        with socket.socket() as silent:
+            for listener in self.sockets:
+                os.dup2(silent.fileno(), listener.fileno())
+
+    def accept(self, listener: Any) -> None:
+        try:
+            super().accept(listener)
+        except OSError:
+            if self.alive:
+                raise
+
+
+class Server(BaseApplication):
+    """Runs workers until a signal. `read` returns the settings anew, after SIGHUP."""
 
     def __init__(
-        self, settings: Settings, collections: Mapping[str, Collection], metrics: Metrics
+        self, settings: Settings, read: Callable[[], Settings], folder: pathlib.Path, listener: int
     ) -> None:
-        self.settings = settings
-        self.collections = collections
-        self.metrics = metrics
-        self.is_ending = False
-        self._sender = Sender(settings.limits, metrics)
+        self._settings = settings
+        self._read = read
+        self._folder = folder
+        self._listener = listener
+        self._metrics = Metrics(folder, settings.workers)
+        self._gateway = self._opened(settings)
+        self._ended = 0  # workers that aren't counted yet
+        super().__init__()
 
-    def application(self) -> web.Application:
-        application = web.Application(middlewares=[self.counted])
-        application.on_response_prepare.append(self.add_headers)
-        for path in WAYBACK_PATHS:
-            application.router.add_route("*", path, self.answer_main)
-        application.router.add_route("*", "/{collection}/cdx", self.answer_wayback)
-        application.router.add_route("*", "/{collection}/index", self.answer_pywb)
-        application.router.add_get("/", self.list_collections)
-        application.router.add_get("/health", self.health)
-        application.router.add_get("/metrics", self.show_metrics)
-        if importlib.util.find_spec("warcdx_gateway.browse") is not None:
-            importlib.import_module("warcdx_gateway.browse").setup(application, self.collections)
-        return application
+    def load_config(self) -> None:
+        settings = self._settings
+        for name, value in {
+            "bind": f"fd://{self._listener}",
+            "proc_name": NAME,
+            "workers": settings.workers,
+            "worker_class": f"{__name__}.Worker",
+            "worker_tmp_dir": str(self._folder),
+            "timeout": settings.timeout,
+            "graceful_timeout": settings.limits.drain,
+            "backlog": BACKLOG,
+            "limit_request_line": MOST_LINE,
+            "preload_app": True,
+            "logger_class": Log,
+            "loglevel": "warning",
+            "accesslog": settings.access_log or None,
+            "post_fork": self.begin_worker,
+            "child_exit": self.note_end,
+            "worker_exit": self.end_worker,
+        }.items():
+            self.cfg.set(name, value)
 
-    async def answer_main(self, request: web.Request) -> web.StreamResponse:
-        return await self.answer(request, self.collections[self.settings.main], Form.WAYBACK)
+    def load(self) -> Gateway:
+        return self._gateway
 
-    async def answer_wayback(self, request: web.Request) -> web.StreamResponse:
-        return await self.answer(request, self.collection_of(request), Form.WAYBACK)
-
-    async def answer_pywb(self, request: web.Request) -> web.StreamResponse:
-        return await self.answer(request, self.collection_of(request), Form.PYWB)
-
-    def collection_of(self, request: web.Request) -> Collection:
-        found = self.collections.get(request.match_info["collection"])
-        if found is None:
-            raise web.HTTPNotFound(text="there is no such collection\n")
-        return found
-
-    async def answer(
-        self, request: web.Request, collection: Collection, form: Form
-    ) -> web.StreamResponse:
-        request["collection"] = collection.name
-        if request.method == "OPTIONS":
-            return web.Response(status=204, headers={"Allow": METHODS, **preflight(request)})
-        if request.method not in ("GET", "HEAD"):
-            return refusal_response(
-                Refusal("Method", request.method, f"the methods are {METHODS}", status=405)
-            )
-        query = request.raw_path.partition("?")[2]
+    def reload(self) -> None:
+        """Reads the settings again. If they are bad, the old ones stay in use."""
         try:
-            plan = plan_of(query, form, self.settings.limits)
-            async with collection.use() as generation:
-                return await self.respond(request, plan, generation)
-        except Refusal as refusal:
-            return self.refused(refusal)
-        except Refused as error:
-            return self.refused(program_refusal(error.name, query.split("&")))
-        except ReplyTooLate as error:
-            return self.refused(Refusal("TooSlow", "", f"{error}; restrict the query", status=503))
-        except Fault as fault:
-            print(f"warcdx-gateway: {collection.name}: {fault}", file=sys.stderr, flush=True)
-            return web.Response(
-                status=500, text=f"fault {fault.name} {fault.number} {fault.offset}\n"
-            )
-        except Error as error:
-            print(f"warcdx-gateway: {collection.name}: {error}", file=sys.stderr, flush=True)
-            return web.Response(status=500, text="warcdx has ended\n")
+            settings = self._read()
+            gateway = self._opened(settings)
+        except (BadSettings, Error, OSError) as error:
+            say(f"the old settings stay in use: {error}")
+            return
+        old = self._gateway
+        self._settings, self._gateway, self.callable = settings, gateway, None
+        for collection in old.collections.values():
+            collection.close()
+        super().reload()
 
-    async def respond(
-        self, request: web.Request, plan: Plan, generation: Generation
-    ) -> web.StreamResponse:
-        headers = {
-            "Content-Type": kind_of(plan),
-            "Cache-Control": "no-cache",
-            "ETag": f'"{generation.tag}"',
-            "Last-Modified": formatdate(generation.modified, usegmt=True),
-            "Vary": "Accept-Encoding",
-        }
-        if is_unchanged(request, generation):
-            return web.Response(
-                status=304,
-                headers={name: headers[name] for name in ("ETag", "Cache-Control", "Vary")},
-            )
-        answer = await answer_of(plan, generation, self.settings.limits)
-        return await self._sender.send(
-            request, answer, headers, plan.allows_gzip and accepts_gzip(request)
-        )
+    def look(self) -> None:
+        """Looks whether indexes were replaced, so that new workers begin with them."""
+        ended, self._ended = self._ended, 0
+        self._metrics.ended.inc(ended)
+        for collection in self._gateway.collections.values():
+            result = collection.look(is_told=True)
+            if result:
+                self._metrics.renewals.labels(collection.name, result).inc()
 
-    def refused(self, refusal: Refusal) -> web.Response:
-        self.metrics.refusals[refusal.name] += 1
-        return refusal_response(refusal)
+    def run(self) -> None:
+        logging.raiseExceptions = False  # a line that can't be written is lost
+        gunicorn.http.wsgi.SERVER = NAME
+        gunicorn.http.message.MAX_REQUEST_LINE = MOST_LINE
+        try:
+            Master(self).run()
+        except HaltServer as error:  # the workers that run end with this process
+            raise OSError(error.reason) from None
 
-    async def list_collections(self, request: web.Request) -> web.Response:
-        lines = (f"/{each.name}/cdx\t{each.title}\n" for each in self.collections.values())
-        return web.Response(text="".join(lines))
+    def begin_worker(self, server: Master, worker: Any) -> None:
+        end_with_parent(worker.ppid, signal.SIGTERM)
+        memory, most = self._settings.memory, resource.getrlimit(resource.RLIMIT_AS)[1]
+        memory = memory if most == resource.RLIM_INFINITY else min(memory, most)
+        resource.setrlimit(resource.RLIMIT_AS, (memory, memory))
+        gc.freeze()  # what the master has loaded stays
+        self._metrics.sit()
+        self._gateway.beat = worker.notify
 
-    async def health(self, request: web.Request) -> web.Response:
-        """Asks each collection for a capture that no index has."""
-        for collection in self.collections.values():
-            try:
-                await asyncio.wait_for(ask_something(collection), HEALTH_SECONDS)
-            except (Error, Refusal, OSError, asyncio.TimeoutError) as error:
-                return web.Response(
-                    status=503, text=f"{collection.name}: {error or 'no answer in time'}\n"
-                )
-        return web.Response(text="ok\n")
+    def end_worker(self, server: Master, worker: Any) -> None:
+        if os.getpid() == worker.pid:
+            signal.signal(signal.SIGTERM, signal.SIG_IGN)  # it ends already
+        if os.getpid() == worker.pid and os.getppid() != worker.ppid:  # the master was killed
+            shutil.rmtree(self._folder, ignore_errors=True)
 
-    async def show_metrics(self, request: web.Request) -> web.Response:
-        text = self.metrics.text(self.collections)
-        return web.Response(
-            text=text, headers={"Content-Type": "text/plain; version=0.0.4; charset=utf-8"}
-        )
+    def note_end(self, server: Master, worker: Any) -> None:
+        """Counts a worker that has ended. gunicorn calls it in the handler of a signal.
 
-    @web.middleware
-    async def counted(self, request: web.Request, handler: Handler) -> web.StreamResponse:
-        """Counts a request, and its seconds until its answer is written or handed to the
-        connection.
+        The handler may interrupt itself, so it takes no lock: the count is added by `look`.
         """
-        start, status = time.monotonic(), 500
-        self.metrics.running += 1
+        self._ended += 1
+
+    def _opened(self, settings: Settings) -> Gateway:
+        """Returns the application of settings. Raises Error or OSError."""
+        for folder in (folder for each in settings.collections for folder in each.archives):
+            if not folder.is_dir():
+                raise OSError(f"{folder}: no such folder")
+        collections = {each.name: Collection(each, settings) for each in settings.collections}
+        shares = Shares(self._folder, settings.workers, settings.wide)
         try:
-            response: web.StreamResponse = await handler(request)
-            status = response.status
-            return response
-        except web.HTTPException as error:
-            status = error.status
+            for collection in collections.values():
+                collection.open()
+            return Gateway(settings, collections, shares, self._metrics)
+        except BaseException:
+            for collection in collections.values():
+                collection.close()
             raise
-        except ConnectionError:
-            status = LEFT
-            raise
-        finally:
-            self.metrics.running -= 1
-            self.metrics.add_request(
-                request.get("collection", ""), status, time.monotonic() - start
-            )
-            if isinstance(request.protocol, Connection):
-                request.protocol.rest()
-
-    async def add_headers(self, request: web.Request, response: web.StreamResponse) -> None:
-        response.headers["Server"] = "warcdx-gateway"
-        response.headers.setdefault("X-Content-Type-Options", "nosniff")
-        origin = self.allowed_origin(request)
-        if origin:
-            response.headers["Access-Control-Allow-Origin"] = origin
-            response.headers["Access-Control-Expose-Headers"] = "ETag, Last-Modified"
-            if origin != "*":
-                response.headers["Vary"] = ", ".join(
-                    filter(None, (response.headers.get("Vary"), "Origin"))
-                )
-        if self.is_ending:
-            response.force_close()
-
-    def allowed_origin(self, request: web.Request) -> str:
-        if "collection" not in request:
-            return ""
-        if "*" in self.settings.origins:
-            return "*"
-        origin = request.headers.get("Origin", "")
-        return origin if origin in self.settings.origins else ""
 
 
-async def ask_something(collection: Collection) -> None:
-    async with collection.use() as generation, generation.exact.turn() as index:
-        await index.text("key=!&limit=1&fl=offset")
-
-
-def kind_of(plan: Plan) -> str:
-    if plan.counts_pages:
-        return TEXT if plan.form is Form.WAYBACK else "application/json"
-    if plan.output is Output.CDXJ and plan.form is Form.PYWB:
-        return "text/x-cdxj; charset=utf-8"
-    return KINDS[plan.output]
-
-
-def is_unchanged(request: web.Request, generation: Generation) -> bool:
-    """Returns whether the client has an answer from the present indexes."""
-    tags = request.headers.get("If-None-Match")
-    if tags is not None:
-        known = {tag.strip().removeprefix("W/") for tag in tags.split(",")}
-        return not known.isdisjoint({"*", f'"{generation.tag}"', f'"{generation.tag}-gzip"'})
-    since = time_of(request.headers.get("If-Modified-Since"))
-    return since is not None and generation.modified <= since
-
-
-def time_of(text: Optional[str]) -> Optional[float]:
+def run(settings: Settings, read: Callable[[], Settings]) -> None:
+    """Answers requests until a signal. Raises Error or OSError if it can't start."""
+    allow_files(sum(len(each.indexes) for each in settings.collections) + OTHER_FILES)
+    master = os.getpid()
+    # systemd has a folder for a service in which nothing is removed because of its age.
+    base = os.environ.get("RUNTIME_DIRECTORY")
+    folder = pathlib.Path(tempfile.mkdtemp(prefix=f"{NAME}-", dir=base))
     try:
-        return None if text is None else parsedate_to_datetime(text).timestamp()
-    except (ValueError, TypeError, OverflowError):
-        return None
+        with listening(settings.address, settings.port) as listener:
+            address = shown_address(listener)
+            server = Server(settings, read, folder, listener.detach())  # gunicorn closes it
+        print(f"http://{address}/", flush=True)
+        server.run()
+    finally:
+        if os.getpid() == master:
+            shutil.rmtree(folder, ignore_errors=True)
 
 
-def preflight(request: web.Request) -> dict[str, str]:
-    return {
-        "Access-Control-Allow-Methods": METHODS,
-        "Access-Control-Allow-Headers": "*",
-        "Access-Control-Max-Age": "86400",
-    }
+def listening(address: str, port: int) -> socket.socket:
+    family, _, _, _, found = socket.getaddrinfo(
+        address, port, type=socket.SOCK_STREAM, flags=socket.AI_PASSIVE
+    )[0]
+    listener = socket.socket(family, socket.SOCK_STREAM)
+    try:
+        listener.setsockopt(socket.SOL_SOCKET, socket.SO_REUSEADDR, 1)
+        listener.bind(found)
+        listener.listen(BACKLOG)
+    except OSError as error:
+        listener.close()
+        raise OSError(error.errno, f"{address}:{port}: {error.strerror}") from None
+    return listener
 
 
-def refusal_response(refusal: Refusal) -> web.Response:
-    headers = (
-        {"Retry-After": "1"}
-        if refusal.status == 503
-        else {"Allow": METHODS}
-        if refusal.status == 405
-        else {}
-    )
-    return web.Response(status=refusal.status, text=f"{refusal}\n", headers=headers)
+def shown_address(found: socket.socket) -> str:
+    address, port = found.getsockname()[:2]
+    return f"[{address}]:{port}" if ":" in address else f"{address}:{port}"
+
+
+def allow_files(wanted: int) -> None:
+    """Raises the limit of open files if that is necessary and possible."""
+    soft, hard = resource.getrlimit(resource.RLIMIT_NOFILE)
+    if soft != resource.RLIM_INFINITY and soft < wanted:
+        soft = wanted if hard == resource.RLIM_INFINITY else min(wanted, hard)
+        resource.setrlimit(resource.RLIMIT_NOFILE, (soft, hard))

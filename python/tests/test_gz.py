@@ -1,6 +1,7 @@
 """Compressed archives."""
 import gzip
 import io
+import itertools
 import json
 import os
 import pathlib
@@ -10,11 +11,11 @@ import subprocess
 import sys
 import unittest
 import unittest.mock
-from collections.abc import Sequence
+from collections.abc import Iterator, Sequence
 
-from warcdx import Archive, Fault, ProgramEnded, faults
+from warcdx import Archive, Fault, ProgramEnded, faults, gz
 from warcdx.gz import CompressedArchive
-from warcdx.members import MAGIC
+from warcdx.members import MAGIC, MOST_TEXT, PIECE
 
 from .support import PROGRAM, SAMPLES, Case
 
@@ -157,6 +158,23 @@ class Bad(Gz):
         self.assertEqual(([], "SeveralRecords", 0), self.listed(archive))
         self.raises(faults.SeveralRecords, list, archive.verify())
         self.raises(faults.SeveralRecords, archive.get, 0)
+
+    def test_what_follows_a_record_in_its_member_is_hardly_read(self) -> None:
+        start = resource(1) + RECORD.replace(b"%d\r\n\r\n%s\r\n\r\n", b"%d\r\n\r\n") % (2, 16 << 30)
+        taken = 0
+
+        def pieces() -> Iterator[bytes]:
+            nonlocal taken
+            for piece in itertools.chain((start,), itertools.repeat(bytes(PIECE), (16 << 30) // PIECE)):
+                taken += len(piece)
+                yield piece
+
+        for _ in gz._first_record(pieces()):
+            pass
+        self.assertLessEqual(taken, len(start) + MOST_TEXT + PIECE)
+        archive = self.archive(packed(start + bytes(64 << 20)))
+        for read in (archive.get, archive.verdict):
+            self.raises(faults.SeveralRecords, read, 0)
 
     def test_a_record_over_several_members_is_refused(self) -> None:
         one, text = packed(resource(1))[0], resource(2)

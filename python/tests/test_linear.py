@@ -77,6 +77,23 @@ class Costs(unittest.TestCase):
                     self.assertTrue(any(ratio < LINEAR for ratio in ratios), size)
 
 
+class Blanks(unittest.TestCase):
+    """A million blanks, as an archive may have them in one field, take under a second."""
+
+    def test_heads_and_bodies_with_a_million_blanks(self) -> None:
+        for blanks in (b" " * 10**6, b"\t" * 10**6, b"\r\n " * (10**6 // 3), b" \n" * (10**6 // 2)):
+            http = b"HTTP/1.1 200\r\nX: a" + blanks + b"b"
+            block = http + b"\r\n\r\nbody"
+            record = FIRST + b"Content-Type: application/http\r\nX: a" + blanks + b"b\r\n\r\n" + block + b"\r\n\r\n"
+            for read, text in ((Head.fields_of, record), (HttpHead.of, http), (Record.read, record), (payload, record), (CHUNKED, blanks)):
+                start = time.process_time()
+                try:
+                    read(text)
+                except Unreadable:
+                    pass
+                self.assertLess(time.process_time() - start, 1, (read, blanks[:3]))
+
+
 def field_of(line: str) -> tuple[str, str]:
     name, _, value = line.partition(":")
     return name, value.strip(" \t")

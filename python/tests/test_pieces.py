@@ -4,7 +4,7 @@ import unittest
 from typing import Optional
 from unittest import mock
 
-from warcdx import Index, faults, refusals
+from warcdx import Index, ReplyTooLong, faults, refusals
 from warcdx.pieces import Pieces
 
 from .support import ALL, LINE, PROGRAM, Case, lines
@@ -160,6 +160,33 @@ class PiecesOfPages(Case):
         self.assertEqual(
             ["url=a&limit=2&showResumeKey=true", "url=a&limit=1&showResumeKey=true"], asked
         )
+
+    def test_a_long_reply_ends_its_program(self) -> None:
+        index = self.open(self.put(lines(3000)), most=100_000)
+        self.raises(ReplyTooLong, index.text, ALL)
+        self.raises(ReplyTooLong, index.page, ALL)
+        self.assertEqual(b"7\n", index.text("url=example.com/0000007&fl=offset"))
+
+    def test_pieces_shrink_for_long_lines(self) -> None:
+        """Two lines are longer than the bound, each by itself."""
+        text = "".join(
+            LINE % (f"{number:04}", "x" * (30_000 if number in (5, 6) else 9), 1, number)
+            for number in range(9)
+        )
+        index = self.open(self.put(text), most=20_000)
+        for output in OUTPUTS:
+            query = f"{ALL}&output={output}"
+            self.assertEqual(self.page(query), b"".join(index.pieces(query)))
+
+    def test_pieces_end_over_keys_that_fit_no_query(self) -> None:
+        text = "".join(LINE % (f"{number:04}" + "x" * 66_000, "a", 1, number) for number in range(20))
+        index = self.open(self.put(text), most=200_000)
+        for output in OUTPUTS:
+            pieces, found = Pieces(f"{ALL}&output={output}"), b""
+            for _ in range(100):
+                found += index.piece(pieces)
+            self.assertTrue(pieces.is_last)
+            self.assertEqual(self.page(f"{ALL}&output={output}"), found)
 
 
 if __name__ == "__main__":

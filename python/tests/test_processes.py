@@ -1,17 +1,38 @@
 """Programs that end, threads, and clients that take their time."""
 import os
+import pathlib
 import signal
+import subprocess
+import sys
 import threading
 import time
 import unittest
+from collections.abc import Callable
 from typing import Any
 
-from warcdx import Index, ProgramEnded, ProgramMissing, ProgramTooOld
+from warcdx import Index, ProgramEnded, ProgramMissing, ProgramTooOld, ReplyTooLate
 
 from .support import ALL, PROGRAM, WAIT, Case, lines, processes_of
 
+ROOT = pathlib.Path(__file__).resolve().parents[1]
+
+
+def is_running(number: int) -> bool:
+    """Returns whether a process runs: it exists, and isn't one that has ended and whose status isn't read."""
+    try:
+        state = pathlib.Path(f"/proc/{number}/stat").read_text().rpartition(") ")[2][:1]
+    except FileNotFoundError:
+        return False
+    return state != "Z"
+
 
 class Programs(Case):
+    def wait_for(self, condition: Callable[[], bool]) -> None:
+        end = time.monotonic() + WAIT
+        while not condition():
+            self.assertLess(time.monotonic(), end)
+            time.sleep(0.01)
+
     def test_a_missing_program_is_named(self) -> None:
         for name in (str(self.folder / "nosuch"), "warcdx-nosuch", str(self.folder)):
             self.assertIn(name, str(self.raises(ProgramMissing, Index, "index", program=name)))
@@ -46,6 +67,58 @@ class Programs(Case):
         index = self.open(self.put(lines(3)), program=self.script(text % PROGRAM))
         for _ in range(3):
             self.assertEqual(-signal.SIGKILL, self.raises(ProgramEnded, index.count, ALL).status)
+
+    def test_a_query_whose_program_is_killed_is_asked_once_more(self) -> None:
+        """The first run writes a part of a page. The second one answers."""
+        text = '[ "$1" = serve ] || exec "%s" "$@"\nmkdir "$0.first" 2> /dev/null || exec "%s" "$@"\n'
+        ends = ("read query\nprintf '[[\"offset\"],\\n[\"1\"],'\nkill -9 $$", "kill -9 $$", "read query; exit 0")
+        for number, end in enumerate(ends):
+            folder = self.folder / str(number)
+            folder.mkdir()
+            program = folder / "program"
+            program.write_text("#!/bin/sh\n" + text % (PROGRAM, PROGRAM) + end)
+            program.chmod(0o755)
+            index = self.open(self.put(lines(3)), program=str(program))
+            with self.subTest(end):
+                self.assertEqual([0, 1, 2], [capture.offset for capture in index.captures(ALL)])
+                self.assertTrue((folder / "program.first").exists())
+
+    def test_each_page_of_an_iterator_survives_a_killed_program(self) -> None:
+        index = self.open(self.put(lines(3000)))
+        found: list[int] = []
+        for capture in index.captures(ALL, page_size=100):
+            if len(found) % 100 == 50:
+                os.kill(processes_of(index)[0], signal.SIGKILL)
+            found.append(capture.offset)
+        self.assertEqual(list(range(3000)), found)
+
+    def test_a_program_ends_with_the_process_that_started_it(self) -> None:
+        """Also while it writes no reply."""
+        text = f'[ "$1" = serve ] || exec "{PROGRAM}" "$@"\necho $$ > "$0.pid"\nexec sleep {WAIT}'
+        program = self.script(text)
+        code = f"import warcdx; warcdx.Index({str(self.put(lines(3)))!r}, program={program!r}).count({ALL!r})"
+        asking = subprocess.Popen((sys.executable, "-c", code), cwd=ROOT)
+        self.addCleanup(asking.wait)
+        self.addCleanup(asking.kill)
+        path = self.folder / "program.pid"
+        self.wait_for(lambda: path.exists() and path.read_text().endswith("\n"))
+        asking.kill()
+        number = int(path.read_text())
+        self.wait_for(lambda: not is_running(number))
+
+    def test_a_late_reply_ends_its_program(self) -> None:
+        text = f'[ "$1" = serve ] || exec "{PROGRAM}" "$@"\nread query\necho "["\nexec sleep {WAIT}'
+        index = self.open(self.put(lines(3)), program=self.script(text), seconds=0.2)
+        start = time.monotonic()
+        for _ in range(2):
+            self.raises(ReplyTooLate, index.text, ALL)
+        self.raises(ReplyTooLate, index.count, ALL)
+        self.assertLess(time.monotonic() - start, 5)
+
+    def test_a_program_that_reads_no_query_is_late(self) -> None:
+        text = f'[ "$1" = serve ] || exec "{PROGRAM}" "$@"\nexec sleep {WAIT}'
+        index = self.open(self.put(lines(3)), program=self.script(text), seconds=0.2)
+        self.raises(ReplyTooLate, index.text, "url=" + "a" * 200_000)
 
     def test_a_program_that_closes_its_pipes_has_ended(self) -> None:
         for closed in ("exec <&-; sleep 0.1; exit 7", "exec >&-; cat > /dev/null; exit 7", "exit 7"):

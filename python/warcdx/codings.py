@@ -110,7 +110,17 @@ class Buffer:
 
 def codings(head: bytes) -> list[bytes]:
     """Returns the codings that an HTTP head names, the last one that was applied first."""
-    return [coding for name in (b"transfer-encoding", b"content-encoding") for coding in _values(head, name)]
+    return transfer_codings(head) + content_codings(head)
+
+
+def transfer_codings(head: bytes) -> list[bytes]:
+    """Returns the transfer codings that an HTTP head names, the last one that was applied first."""
+    return _values(head, b"transfer-encoding")
+
+
+def content_codings(head: bytes) -> list[bytes]:
+    """Returns the content codings that an HTTP head names, the last one that was applied first."""
+    return _values(head, b"content-encoding")
 
 
 def _values(head: bytes, name: bytes) -> list[bytes]:
@@ -119,9 +129,14 @@ def _values(head: bytes, name: bytes) -> list[bytes]:
     return [coding for part in reversed(values.split(b",")) if (coding := part.strip())]
 
 
-def decoded(head: bytes, body: Pieces, limits: Limits = UNLIMITED) -> Pieces:
-    """Yields a body without the codings that its HTTP head names. Raises Unreadable."""
-    named = codings(head)
+def decoded(
+    head: bytes,
+    body: Pieces,
+    limits: Limits = UNLIMITED,
+    undone: Callable[[bytes], list[bytes]] = codings,
+) -> Pieces:
+    """Yields a body without the codings that its HTTP head names, of them those of `undone`. Raises Unreadable."""
+    named = undone(head)
     if len(named) > MOST_CODINGS:
         raise Unreadable(f"the body has more than {MOST_CODINGS} codings")
     count = limits.start()

@@ -24,7 +24,7 @@ from .feeding import BATCH, Run, fed
 from .members import MAGIC, MOST_TEXT, Member, Members, Piece
 from .places import Places
 from .program import Path, close, find_program, started
-from .record import Record, RecordStream, Unreadable, size_of_record
+from .record import HEAD_LIMIT, Record, RecordStream, Unreadable, size_of_record
 
 MOST_NAME = 255  # bytes
 GOOD = (0, 1)  # the exit statuses of the program if its output is complete
@@ -210,10 +210,10 @@ class CompressedArchive:
     def _one(self, command: str, file: IO[bytes], offset: int) -> bytes:
         """Returns what a command prints of the one record of the member at an offset.
 
-        Raises why the member isn't one whole record.
+        Raises why the member isn't one whole record. What is after the record costs at most MOST_TEXT bytes.
         """
         members = Members(file, self.path, offset)
-        with fed((self._program, command, "-"), members.one(offset)) as run:
+        with fed((self._program, command, "-"), _first_record(members.one(offset))) as run:
             first, second = run.line(), run.line()
             if first is None:
                 if run.fault is None and run.status() in GOOD:
@@ -222,7 +222,7 @@ class CompressedArchive:
             if first.is_fault:
                 run.skip(sys.maxsize)
                 raise run.fault or fault(first.said.decode(), self.path, offset)
-            if second is not None:  # so much of what follows the record is read as a damage may be in
+            if second is not None:
                 run.skip(MOST_TEXT)
                 raise run.fault or SeveralRecords("SeveralRecords", self.path, offset)
             if run.status() not in GOOD:
@@ -243,6 +243,19 @@ class CompressedArchive:
             if first.is_fault:
                 raise fault(first.said.decode(), self.path, offset)
         raise SeveralMembers("SeveralMembers", self.path, offset)
+
+
+def _first_record(pieces: Iterator[Piece]) -> Iterator[Piece]:
+    """Yields pieces up to MOST_TEXT bytes behind the end of the record that they begin with."""
+    head, taken, end = bytearray(), 0, None
+    for piece in pieces:
+        if end is None and len(head) <= HEAD_LIMIT:
+            head += piece
+            end = size_of_record(head)
+        taken += len(piece)
+        yield piece
+        if end is not None and taken > end + MOST_TEXT:
+            return
 
 
 class _Source:

@@ -6,7 +6,7 @@ from collections.abc import Callable, Iterator, Sequence
 from types import TracebackType
 from typing import Any, Optional, Union
 
-from .errors import Refused, refused
+from .errors import Refused, ReplyTooLong, refused
 from .faults import CannotOpen
 from .parameters import parameter_of
 from .pieces import Pieces
@@ -30,16 +30,27 @@ class Index:
                 print(capture.timestamp, capture.original)
 
     The constructor raises `faults.CannotOpen` if an index can't be opened. A query that the program refuses
-    raises the class of `warcdx.refusals` that is named as the program names the cause, an index that is at
-    fault one of `warcdx.faults`, and a program that has ended ProgramEnded. After each of these the next query
-    is answered as usual.
+    raises the class of `warcdx.refusals` that is named as the program names the cause, and an index that is at
+    fault one of `warcdx.faults`. A query whose program ends before its reply is whole is asked once more, and
+    raises ProgramEnded if that ends too. After each of these the next query is answered as usual.
 
     Threads may share an Index. `processes` is how many queries are answered at a time. A process is
     started when it is first needed. Other processes need an Index of their own.
+
+    `seconds` is how long a reply may take, and `most` how many bytes it may have; None is no bound. The program
+    of a reply beyond them is ended, and ReplyTooLate or ReplyTooLong is raised. An iterator reads a reply for
+    each page. `pieces` makes its pieces shorter so that they have no more than `most` bytes, except those that
+    can't be: one of a single capture, and one in which no capture but the last has a key that fits a query.
     """
 
     def __init__(
-        self, paths: Union[Path, Sequence[Path]], *, program: str = "warcdx", processes: int = 1
+        self,
+        paths: Union[Path, Sequence[Path]],
+        *,
+        program: str = "warcdx",
+        processes: int = 1,
+        seconds: Optional[float] = None,
+        most: Optional[int] = None,
     ) -> None:
         if processes < 1:
             raise ValueError("processes has to be 1 or more")
@@ -51,6 +62,8 @@ class Index:
         found = find_program(program)
         for name in names:
             _check_that_it_opens(name)
+        self.seconds = seconds
+        self.most = most
         self._processes = processes
         self._is_closed = False
         # The last one that was used is used next, so that no more are started than are needed.
@@ -120,7 +133,7 @@ class Index:
         asked = Query.of(line, {})
         is_json = asked.has("output", "json")
         with _naming_parameters(asked), self._serve() as serve:
-            return serve.text(line.encode(errors="surrogateescape"), is_json)
+            return serve.text(line.encode(errors="surrogateescape"), is_json, self.seconds, self.most)
 
     def pieces(self, query: str) -> Iterator[bytes]:
         """Yields a page as `warcdx query` writes it, in pieces of some hundred kilobytes.
@@ -128,12 +141,33 @@ class Index:
         Other queries are answered between two pieces, however slowly they are taken.
         """
         pieces = Pieces(query)
-        while (asked := pieces.next_query()) is not None:
-            with _naming_parameters(Query.of(asked, {})), self._serve() as serve:
-                page = serve.text(asked.encode(errors="surrogateescape"), pieces.is_json)
-            piece = pieces.add(page)
-            if piece:
+        while not pieces.is_last:
+            if piece := self.piece(pieces):
                 yield piece
+
+    def stream(self, query: str) -> Iterator[bytes]:
+        """Yields a page as `warcdx query` writes it, in pieces as the program writes them.
+
+        It is read by one query, whose process answers no other until the last piece is taken or the iterator is
+        closed. `seconds` is the time for each piece, and `most` bounds none.
+        """
+        line = one_line(query)
+        asked = Query.of(line, {})
+        with _naming_parameters(asked), self._serve() as serve:
+            encoded = line.encode(errors="surrogateescape")
+            yield from serve.stream(encoded, asked.has("output", "json"), self.seconds)
+
+    def piece(self, pieces: Pieces) -> bytes:
+        """Returns the next piece of a page, which may be empty."""
+        while (asked := pieces.next_query()) is not None:
+            most = self.most if pieces.is_bounded else None
+            line = asked.encode(errors="surrogateescape")
+            try:
+                with _naming_parameters(Query.of(asked, {})), self._serve() as serve:
+                    return pieces.add(serve.text(line, pieces.is_json, self.seconds, most))
+            except ReplyTooLong:
+                pieces.shrink()
+        return b""
 
     def close(self) -> None:
         """Ends the processes, after the queries that are being answered. A second call does nothing."""
@@ -156,7 +190,7 @@ class Index:
         """Returns the rows of a page of at most `size` captures, and the resume key of the next."""
         asked = rows_query(query, fields, size)
         with _naming_parameters(asked), self._serve() as serve:
-            return split_rows(serve.rows(asked.encoded()))
+            return split_rows(serve.rows(asked.encoded(), self.seconds, self.most))
 
     @contextlib.contextmanager
     def _serve(self) -> Iterator[Serve]:

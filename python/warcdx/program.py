@@ -1,12 +1,15 @@
 """Finds the program, and runs it."""
 import contextlib
+import ctypes
 import functools
 import os
 import re
 import shutil
+import signal
 import subprocess
 import sys
-from collections.abc import Iterator
+import threading
+from collections.abc import Callable, Iterator
 from typing import IO, Optional, Union
 
 from .command import deferred, temporary_file
@@ -15,6 +18,7 @@ from .errors import Error, ProgramMissing, ProgramTooOld, error_of
 Path = Union[str, os.PathLike[str]]
 
 LEAST_VERSION = (0, 1, 0)
+_PARENT_DEATH_SIGNAL = 1  # PR_SET_PDEATHSIG of prctl(2)
 _HELP = re.compile(rb"warcdx ([0-9]+)\.([0-9]+)\.([0-9]+)")
 
 
@@ -64,11 +68,34 @@ def start(
     stdout: Union[int, IO[bytes]] = subprocess.PIPE,
     room: int = -1,
 ) -> subprocess.Popen[bytes]:
-    """Starts the program, whose standard error goes to the file `said`. A pipe to it has a buffer of `room` bytes."""
+    """Starts the program, whose standard error goes to the file `said`. A pipe to it has a buffer of `room` bytes.
+
+    A program that the main thread has started ends with this process, also if that is killed.
+    """
     try:
-        return subprocess.Popen(command, room, stdin=stdin, stdout=stdout, stderr=said)
+        return subprocess.Popen(command, room, stdin=stdin, stdout=stdout, stderr=said, preexec_fn=_ending_with_starter())
     except OSError as error:
         raise ProgramMissing(f"{command[0]}: {error.strerror}") from error
+
+
+def _ending_with_starter() -> Optional[Callable[[], None]]:
+    """Returns what a new process does to end with the thread that has started it, if that is the main one."""
+    if threading.current_thread() is not threading.main_thread():
+        return None  # the thread may end before the process
+    _system_library()  # a new process loads nothing
+    return functools.partial(end_with_parent, os.getpid(), signal.SIGKILL)
+
+
+def end_with_parent(parent: int, number: int) -> None:
+    """Lets the system send a signal to this process when the process ends that has started it (Linux)."""
+    _system_library().prctl(_PARENT_DEATH_SIGNAL, number, 0, 0, 0)
+    if os.getppid() != parent:
+        os.kill(os.getpid(), number)
+
+
+@functools.lru_cache(maxsize=None)
+def _system_library() -> ctypes.CDLL:
+    return ctypes.CDLL(None)
 
 
 @contextlib.contextmanager

@@ -1,11 +1,11 @@
 """Records, and the body of a page without the codings of HTTP."""
 import functools
 import re
-from collections.abc import Iterator
+from collections.abc import Callable, Iterator
 from dataclasses import dataclass
 from typing import IO, Optional, Union
 
-from .codings import UNLIMITED, Buffer, Limits, Unreadable, decoded
+from .codings import UNLIMITED, Buffer, Limits, Unreadable, codings, decoded, transfer_codings
 
 __all__ = ["Head", "HttpHead", "Record", "RecordStream", "Unreadable", "payload"]
 
@@ -161,8 +161,12 @@ class RecordStream:
         """Yields the body without its codings, as `payload` returns it. One beyond the limits is Unreadable."""
         return _payload(self.head, self.http_head, self._body, limits)
 
+    def stored_payload(self, limits: Limits = UNLIMITED) -> Iterator[bytes]:
+        """Yields the body without its transfer codings only, such as chunks. Its content codings stay."""
+        return _payload(self.head, self.http_head, self._body, limits, transfer_codings)
 
-def size_of_record(start: Union[bytes, memoryview]) -> Optional[int]:
+
+def size_of_record(start: Union[bytes, bytearray, memoryview]) -> Optional[int]:
     """Returns the size of the record that begins so, in bytes, or None if its head isn't whole or has no length.
 
     If `warcdx` accepts the record, this is its size.
@@ -199,12 +203,18 @@ def _length_of(head: Head) -> int:
     return int(value)
 
 
-def _payload(head: Head, http_head: Optional[bytes], body: Buffer, limits: Limits) -> Iterator[bytes]:
+def _payload(
+    head: Head,
+    http_head: Optional[bytes],
+    body: Buffer,
+    limits: Limits,
+    undone: Callable[[bytes], list[bytes]] = codings,
+) -> Iterator[bytes]:
     if not head.is_http:
         return body.rest()
     if http_head is None:
         raise Unreadable("the block has no HTTP head")
-    return decoded(http_head, body.rest(), limits)
+    return decoded(http_head, body.rest(), limits, undone)
 
 
 def payload(record: Union[Record, bytes]) -> bytes:

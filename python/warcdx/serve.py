@@ -1,21 +1,26 @@
 """A `warcdx serve` that is kept: each query is a line, and its reply ends with the line `.`."""
 import contextlib
 import os
+import select
 import subprocess
 import tempfile
+import time
+from collections.abc import Generator, Iterator
 from typing import IO, Optional
 
-from .errors import Error
+from .errors import Error, ProgramEnded, ProgramError, ReplyTooLate, ReplyTooLong
 from .program import end_of, start
 from .reply import END, MARK, NOTHING, PIECE, is_whole, refusal_of, rows_of, text_of
 
 PATIENCE = 10  # seconds for the program to end
+TAIL = 256  # bytes that hold the end of a reply, and the line of a fault before it
 
 
 class Serve:
     """One run of `warcdx serve`, which is started for the first query, and again if it has ended.
 
-    Only one thread at a time may ask it.
+    If it ends before a reply is whole, it is started again and asked once more. Only one thread at a time
+    may ask it. If a reply takes more than `seconds`, or has more than `most` bytes, the program is ended.
     """
 
     def __init__(self, program: str, indexes: tuple[str, ...]) -> None:
@@ -24,50 +29,123 @@ class Serve:
         self._process: Optional[subprocess.Popen[bytes]] = None
         self._said: Optional[IO[bytes]] = None
 
-    def rows(self, query: bytes) -> list[list[str]]:
+    def rows(self, query: bytes, seconds: Optional[float] = None, most: Optional[int] = None) -> list[list[str]]:
         """Returns the rows of a page, from a query for `output=json`. The first one has the names."""
-        return rows_of(self._reply(query + b"\n", MARK), self._indexes)
+        return rows_of(self._reply(query + b"\n", MARK, seconds, most), self._indexes)
 
-    def text(self, query: bytes, is_json: bool) -> bytes:
+    def text(
+        self, query: bytes, is_json: bool, seconds: Optional[float] = None, most: Optional[int] = None
+    ) -> bytes:
         """Returns a page as the program writes it. Whether it is JSON decides what a fault follows."""
-        reply = self._reply(query + b"\n\n", END)
+        reply = self._reply(query + b"\n\n", END, seconds, most)
         refusal = refusal_of(reply)
-        if refusal is not None and self._reply(query + NOTHING + b"\n\n", END) == reply:
+        if refusal is not None and self._reply(query + NOTHING + b"\n\n", END, seconds, most) == reply:
             raise refusal
         return text_of(reply, is_json, self._indexes)
+
+    def stream(self, query: bytes, is_json: bool, seconds: Optional[float] = None) -> Iterator[bytes]:
+        """Yields a page as `text` returns it, in pieces as the program writes them, each within `seconds`.
+
+        A program that ends meanwhile is started again, and goes on after the bytes that were given, unless it
+        ends twice without another one.
+        """
+        given, left = 0, 1
+        while True:
+            read = 0
+            try:
+                with contextlib.closing(self._pieces(query, is_json, seconds)) as pieces:
+                    for piece in pieces:
+                        read += len(piece)
+                        if read > given:
+                            yield piece[given - read :]
+                            given, left = read, 1
+                if read < given:
+                    raise ProgramError("the program has replied otherwise to the same query")
+                return
+            except ProgramEnded:
+                if not left:
+                    raise
+                left -= 1
 
     def end(self) -> None:
         """Ends the program, if it runs."""
         if self._process is not None:
             self._forget(self._process).wait()
 
-    def _reply(self, asked: bytes, end: bytes) -> bytes:
-        """Returns the reply to what is asked, without the lines that end it.
+    def _reply(self, asked: bytes, end: bytes, seconds: Optional[float], most: Optional[int]) -> bytes:
+        """Returns the reply to what is asked, without the lines that end it."""
+        limit = _limit(seconds)
+        try:
+            return self._try(asked, end, limit, most)
+        except ProgramEnded:
+            return self._try(asked, end, limit, most)
 
-        If anything fails before they are read, an interrupt for example, the program is ended. So the next
+    def _try(self, asked: bytes, end: bytes, limit: Optional[float], most: Optional[int]) -> bytes:
+        """Asks once.
+
+        If anything fails before the reply is whole, an interrupt for example, the program is ended. So the next
         query has a program of its own, which has nothing of this reply.
         """
         process = self._running()
         try:
-            return self._exchange(process, asked, end)
+            return self._exchange(process, asked, end, limit, most)
         except BaseException:
             process.kill()
             self._forget(process).wait()
             raise
 
-    def _exchange(self, process: subprocess.Popen[bytes], asked: bytes, end: bytes) -> bytes:
-        assert process.stdin is not None and process.stdout is not None and self._said is not None
-        with contextlib.suppress(BrokenPipeError):
-            process.stdin.write(asked)
-            process.stdin.flush()
+    def _pieces(self, query: bytes, is_json: bool, seconds: Optional[float]) -> Generator[bytes, None, None]:
+        process, held, is_first = self._running(), bytearray(), True
+        try:
+            limit = _limit(seconds)
+            self._ask(process, query + b"\n\n", limit)
+            while not is_whole(held, END):
+                if len(held) > TAIL:
+                    yield bytes(held[:-TAIL])
+                    del held[:-TAIL]
+                    is_first, limit = False, _limit(seconds)
+                held += self._read(process, limit)
+        except BaseException:
+            process.kill()
+            self._forget(process).wait()
+            raise
+        last = bytes(held[: -len(END)])
+        refusal = refusal_of(last) if is_first else None
+        if refusal is not None and self._reply(query + NOTHING + b"\n\n", END, seconds, None) == last:
+            raise refusal
+        yield text_of(last, is_json, self._indexes)
+
+    def _exchange(
+        self, process: subprocess.Popen[bytes], asked: bytes, end: bytes, limit: Optional[float], most: Optional[int]
+    ) -> bytes:
+        self._ask(process, asked, limit)
         reply = bytearray()
         while not is_whole(reply, end):
-            piece = os.read(process.stdout.fileno(), PIECE)
-            if not piece:
-                raise self._end_of(process, self._said)
-            reply += piece
+            reply += self._read(process, limit)
+            if most is not None and len(reply) > most:
+                raise ReplyTooLong(f"the reply has more than {most} bytes")
         del reply[-len(end) :]
         return bytes(reply)
+
+    @staticmethod
+    def _ask(process: subprocess.Popen[bytes], asked: bytes, limit: Optional[float]) -> None:
+        assert process.stdin is not None
+        left = memoryview(asked)
+        with contextlib.suppress(BrokenPipeError):
+            while left:
+                try:
+                    left = left[os.write(process.stdin.fileno(), left) :]
+                except BlockingIOError:
+                    _wait(process.stdin, select.POLLOUT, limit)
+
+    def _read(self, process: subprocess.Popen[bytes], limit: Optional[float]) -> bytes:
+        assert process.stdout is not None and self._said is not None
+        if limit is not None:
+            _wait(process.stdout, select.POLLIN, limit)
+        piece = os.read(process.stdout.fileno(), PIECE)
+        if not piece:
+            raise self._end_of(process, self._said)
+        return piece
 
     @staticmethod
     def _end_of(process: subprocess.Popen[bytes], said: IO[bytes]) -> Error:
@@ -89,6 +167,8 @@ class Serve:
         said = tempfile.TemporaryFile()
         try:
             self._process = start(self._command, said, subprocess.PIPE)
+            assert self._process.stdin is not None
+            os.set_blocking(self._process.stdin.fileno(), False)
         except BaseException:
             said.close()
             raise
@@ -102,3 +182,17 @@ class Serve:
                     pipe.close()
         self._process = self._said = None
         return process
+
+
+def _limit(seconds: Optional[float]) -> Optional[float]:
+    """Returns the moment at which seconds from now are over."""
+    return None if seconds is None else time.monotonic() + seconds
+
+
+def _wait(pipe: IO[bytes], event: int, limit: Optional[float]) -> None:
+    """Waits until a pipe can be read or written, or has ended. Raises ReplyTooLate after a time."""
+    poll = select.poll()
+    poll.register(pipe, event)
+    left = None if limit is None else max(limit - time.monotonic(), 0) * 1000
+    if not poll.poll(left):
+        raise ReplyTooLate("the reply took too long")

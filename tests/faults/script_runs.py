@@ -79,7 +79,7 @@ def scripts_of(program: pathlib.Path) -> tuple[Script, ...]:
 
 def gateway(program: pathlib.Path) -> tuple[Script, ...]:
     """Returns the run of the gateway, if the packages that it needs are there."""
-    if not all(map(importlib.util.find_spec, ("aiohttp", "regex"))):
+    if not all(map(importlib.util.find_spec, ("gunicorn", "prometheus_client", "regex", "werkzeug"))):
         return ()
     words = ("--program", str(program), "--port", "0", "--indexes", "a.cdxj")
     return (Script("warcdx-gateway", ROOT / "gateway/bin/warcdx-gateway", words, has_output=False),)

@@ -83,7 +83,7 @@ Maintainer: $(maintainer)
 Installed-Size: $(installed_size "$1")
 Depends: adduser, libc6 (>= $(c_library_version "$1/usr/bin/warcdx"))
 Recommends: libdeflate0, python3 (>= 3.9)
-Suggests: python3-aiohttp, python3-distributed, python3-matplotlib, python3-regex, python3-tqdm
+Suggests: gunicorn, nginx-light, python3-distributed, python3-matplotlib, python3-prometheus-client, python3-regex, python3-tqdm, python3-werkzeug
 Section: web
 Priority: optional
 Description: indexer of web archives, with queries over the indexes
@@ -96,7 +96,8 @@ Description: indexer of web archives, with queries over the indexes
  The command warcdx-gz does the same for compressed archives, and a Python
  package from programs. The command warcdx-verify checks the digests of blocks
  and payloads. The command warcdx-gateway is an HTTP server for the clients of
- Wayback CDX servers; it needs python3-aiohttp and python3-regex.
+ Wayback CDX servers; it needs gunicorn, python3-werkzeug,
+ python3-prometheus-client and python3-regex.
 END
 }
 

@@ -1,4 +1,4 @@
 """Pages by which anybody sees in a browser what archives hold."""
-from .routes import setup
+from .routes import rules
 
-__all__ = ["setup"]
+__all__ = ["rules"]

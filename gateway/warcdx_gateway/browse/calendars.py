@@ -7,11 +7,12 @@ import calendar
 import datetime
 import math
 from collections.abc import Mapping
+from typing import Optional
 
 from . import dates
 from .counting import Counts
 from .layout import row, table
-from .markup import Child, Markup, element
+from .markup import Child, Markup, element, joined
 from .searching import Search
 
 LEVELS = 4
@@ -23,15 +24,18 @@ _DAY, _ROW, _WEEKS_TOP = 32, 28, 24
 
 
 def years_of(counts: Counts) -> list[int]:
-    """Returns the years that are drawn: all from the first to the last, or only those with captures if these are far apart."""
+    """Returns the years that are drawn.
+
+    These are all from the first to the last, or those with captures if these are far apart.
+    """
     found = sorted(int(year) for year in counts.years)
     if found and found[-1] - found[0] < _MOST_GAP:
         return list(range(found[0], found[-1] + 1))
     return found[:MOST_YEARS]
 
 
-def draw_years(counts: Counts, search: Search, chosen: str = "") -> Markup:
-    """Returns the bars of all years, each a link to the captures of its year."""
+def draw_years(counts: Counts, search: Optional[Search], chosen: str = "") -> Markup:
+    """Returns the bars of all years, each a link to the captures of its year in a search."""
     years, most = years_of(counts), max(counts.years.values(), default=1)
     bar = min(_MOST_BAR, max(_LEAST_BAR, _WIDTH // max(1, len(years))))
     width, height = bar * max(1, len(years)), _TOP + _BAR_HEIGHT + _BOTTOM
@@ -43,14 +47,21 @@ def draw_years(counts: Counts, search: Search, chosen: str = "") -> Markup:
         "line", x1=0, x2=width, y1=_TOP + _BAR_HEIGHT, y2=_TOP + _BAR_HEIGHT, class_="axis"
     )
     drawing = element(
-        "svg", line, bars, viewBox=f"0 0 {width} {height}", width=width, height=height, class_="years",
-        role="group", aria_label="Captures of each year",
-    )  # fmt: skip
+        "svg",
+        line,
+        bars,
+        viewBox=f"0 0 {width} {height}",
+        width=width,
+        height=height,
+        class_="years",
+        role="group",
+        aria_label="Captures of each year",
+    )
     return element("div", drawing, class_="scroll")
 
 
 def _bar(
-    x: int, width: int, year: str, count: int, most: int, search: Search, chosen: str
+    x: int, width: int, year: str, count: int, most: int, search: Optional[Search], chosen: str
 ) -> Markup:
     middle, bottom = x + width / 2, _TOP + _BAR_HEIGHT
     name = element("text", year, x=middle, y=bottom + 15, class_="year")
@@ -58,13 +69,18 @@ def _bar(
         return element("g", name, class_="none", aria_hidden="true")
     height = max(2, round(_BAR_HEIGHT * count / most))
     words = f"{year}: {dates.many(count, 'capture')}"
-    return element(
-        "a",
+    drawn = joined(
         element("title", words),
         element("rect", x=x, y=0, width=width, height=_TOP + _BAR_HEIGHT + _BOTTOM, class_="reach"),
         element("rect", x=x + 4, y=bottom - height, width=width - 8, height=height, class_="bar"),
         element("text", short(count), x=middle, y=bottom - height - 4, class_="count"),
         name,
+    )
+    if search is None:
+        return element("g", drawn, role="img", aria_label=words)
+    return element(
+        "a",
+        drawn,
         href=search.link("search", "year", year=year),
         aria_label=words,
         aria_current="true" if year == chosen else None,
@@ -82,13 +98,14 @@ def short(count: int) -> str:
     return "1G+"
 
 
-def years_table(counts: Counts, search: Search) -> Markup:
+def years_table(counts: Counts, search: Optional[Search]) -> Markup:
     """Returns the years with captures, and how many each has."""
     names = {"year": "Year", "count": "Captures"}
-    rows = (
-        row(names, element("a", year, href=search.link("search", "year", year=year)), f"{count:,}")
-        for year, count in sorted(counts.years.items())
-    )
+
+    def year_of(year: str) -> Child:
+        return element("a", year, href=search.link("search", "year", year=year)) if search else year
+
+    rows = (row(names, year_of(year), f"{count:,}") for year, count in sorted(counts.years.items()))
     return _details("The years as a table", table("Captures of each year", names, rows, "counts"))
 
 
@@ -116,16 +133,27 @@ def _draw_month(
     cells = (_draw_day(day, week, days.get(day, 0), most, search) for week, day in of_month)
     words = f"{name} {year}: {dates.many(total, 'capture') if total else 'no captures'}"
     drawing = element(
-        "svg", letters, cells, viewBox=f"0 0 {7 * _DAY} {_WEEKS_TOP + 6 * _ROW}", class_="month",
-        role="group" if total else "img", aria_label=words,
-    )  # fmt: skip
+        "svg",
+        letters,
+        cells,
+        viewBox=f"0 0 {7 * _DAY} {_WEEKS_TOP + 6 * _ROW}",
+        class_="month",
+        role="group" if total else "img",
+        aria_label=words,
+    )
     return element("section", element("h3", name), drawing, class_="month")
 
 
 def _draw_day(day: datetime.date, week: int, count: int, most: int, search: Search) -> Markup:
     x, y = day.weekday() * _DAY, _WEEKS_TOP + week * _ROW
-    number = element("text", day.day, x=x + _DAY / 2, y=y + 18, class_="day" if count else "none",
-                     aria_hidden=None if count else "true")  # fmt: skip
+    number = element(
+        "text",
+        day.day,
+        x=x + _DAY / 2,
+        y=y + 18,
+        class_="day" if count else "none",
+        aria_hidden=None if count else "true",
+    )
     if not count:
         return number
     words = f"{dates.full_day(day)}: {dates.many(count, 'capture')}"

@@ -1,4 +1,5 @@
 """The page with the texts of two captures side by side."""
+import functools
 import json
 import pathlib
 import subprocess
@@ -6,15 +7,20 @@ import sys
 from dataclasses import dataclass
 from typing import Any
 
-from aiohttp import web
+from werkzeug.wrappers import Response
 
+from warcdx import Capture
+
+from ..application import Gateway
 from ..collection import Collection
+from ..history import original_of
 from . import comparing, dates, reading
 from .layout import collection_page
-from .markup import Child, Markup, cut, element, joined, link
-from .reading import Place, Read
-from .record_page import original_of, target_of
-from .searching import Refusal
+from .markup import Child, Markup, cut, element, followed, joined
+from .places import record_link
+from .reading import Read
+from .record_page import target_of
+from .searching import NotShown
 
 SECONDS = 10  # for the process that compares
 _PROGRAM = pathlib.Path(comparing.__file__)
@@ -24,7 +30,7 @@ _PROGRAM = pathlib.Path(comparing.__file__)
 class Side:
     """A capture that is compared. `content` is its record, or the original of a revisit."""
 
-    place: Place
+    capture: Capture
     record: Read
     content: Read
 
@@ -34,21 +40,21 @@ class Side:
 
     @property
     def when(self) -> str:
-        stamp = dates.stamp_of(self.record.head.field("WARC-Date") or "")
-        return dates.in_words(stamp) if stamp else "no date"
+        timestamp = dates.timestamp_of(self.record.head.field("WARC-Date") or "")
+        return dates.in_words(timestamp) if timestamp else "no date"
 
 
-async def compare_page(collection: Collection, first: Place, second: Place) -> web.Response:
-    """Returns the page of two captures. Raises Refusal if they can't be compared."""
-    sides = [await side_of(collection, place) for place in (first, second)]
+def compare_page(
+    gateway: Gateway, collection: Collection, captures: list[Capture]
+) -> Response:
+    """Returns the page of two captures. Raises NotShown if they can't be compared."""
+    sides = [side_of(gateway, collection, capture) for capture in captures]
     for side in sides:
         if not side.content.is_text:
-            kind = side.content.kind or "not named"
-            why = f"The type of the capture of {side.when} is {cut(kind, 80)}. Only texts are compared."
-            raise Refusal("The captures can't be compared.", why, 422)
-    return collection_page(
-        collection, "Two captures side by side", await collection.run(_content, sides)
-    )
+            kind = cut(side.content.kind or "not named", 80)
+            why = f"The type of the capture of {side.when} is {kind}. Only texts are compared."
+            raise NotShown("The captures can't be compared.", why, 422)
+    return collection_page(collection, "Two captures side by side", _content(sides))
 
 
 def _content(sides: list[Side]) -> Markup:
@@ -59,31 +65,20 @@ def _content(sides: list[Side]) -> Markup:
     )
 
 
-async def side_of(collection: Collection, place: Place) -> Side:
+def side_of(gateway: Gateway, collection: Collection, capture: Capture) -> Side:
     """Reads a capture, and the original if it is a revisit without a payload."""
-    record = await _read(collection, place)
-    if record.head.kind == "revisit" and not record.payload.content:
-        original = await original_of(collection, record.head)
-        if original is None:
-            raise Refusal(
-                "The captures can't be compared.",
-                "The original of a revisit isn't in the indexes.",
-                422,
-            )
-        return Side(
-            place, record, await _read(collection, Place(original.filename, original.offset))
-        )
-    return Side(place, record, record)
-
-
-async def _read(collection: Collection, place: Place) -> Read:
-    return await collection.run(
-        reading.read, place.path(collection), collection.program, place.offset
-    )
+    record = reading.read(collection, capture)
+    if record.head.kind != "revisit" or record.payload.content:
+        return Side(capture, record, record)
+    original = original_of(functools.partial(gateway.captures, collection), record.head)
+    if original is None:
+        why = "The original of a revisit isn't in the indexes."
+        raise NotShown("The captures can't be compared.", why, 422)
+    return Side(capture, record, reading.read(collection, original))
 
 
 def run(pages: list[Read]) -> dict[str, Any]:
-    """Returns the comparison of two pages, by a process of its own. Raises Refusal if it needs too much."""
+    """Compares two pages by a process of its own. Raises NotShown if it needs too much."""
     head = {
         "sizes": [len(page.payload.content) for page in pages],
         "charsets": [page.charset for page in pages],
@@ -103,9 +98,10 @@ def run(pages: list[Read]) -> dict[str, Any]:
     return found
 
 
-def _too_much() -> Refusal:
-    why = f"They need more than {comparing.SECONDS} seconds, or more than {comparing.MEMORY >> 20:,} MB of memory."
-    return Refusal("The captures can't be compared.", why, 422)
+def _too_much() -> NotShown:
+    memory = comparing.MEMORY >> 20
+    why = f"They need more than {comparing.SECONDS} seconds, or more than {memory:,} MB of memory."
+    return NotShown("The captures can't be compared.", why, 422)
 
 
 def _summary(sides: list[Side], found: dict[str, Any]) -> Markup:
@@ -122,8 +118,8 @@ def _summary(sides: list[Side], found: dict[str, Any]) -> Markup:
         words.append("The payloads differ in what isn't visible text.")
     if any(found["cut"]) or not (first.is_whole and second.is_whole):
         words.append(
-            f"At most {comparing.MOST_LINES:,} lines, {comparing.MOST_CHARACTERS:,} characters and {comparing.MOST_LINE:,} "
-            "characters of a line are compared. What is after these isn't."
+            f"At most {comparing.MOST_LINES:,} lines, {comparing.MOST_CHARACTERS:,} characters and "
+            f"{comparing.MOST_LINE:,} characters of a line are compared. What is after these isn't."
         )
     return element("p", " ".join(words))
 
@@ -146,9 +142,7 @@ def _table(sides: list[Side], rows: list[dict[str, Any]]) -> Markup:
 
 
 def _head(side: Side) -> Markup:
-    where = element(
-        "a", side.when, href=link("record", archive=side.place.filename, offset=side.place.offset)
-    )
+    where = followed(side.when, record_link(side.capture))
     address = element("bdi", cut(target_of(side.record.head), 300), class_="address")
     return joined(
         where, " (a revisit: the text of its original)" if side.is_revisit else None, " ", address

@@ -1,11 +1,12 @@
-"""Compares the texts of two pages. It is run as a process of its own, with bounds on time and memory.
+"""Compares the texts of two pages, as a process of its own with bounds on time and memory.
 
 usage: comparing.py < INPUT > OUTPUT
 
-INPUT is a line of JSON, an object with the lists `sizes` (bytes), `charsets` and `html` (whether it is HTML) for the two
-pages, and then the bytes of both. OUTPUT is JSON: `rows`, and `cut`, whether each text has more than is compared.
+INPUT is a line of JSON, an object with the lists `sizes` (bytes), `charsets` and `html` (whether it
+is HTML) for the two pages, and then the bytes of both. OUTPUT is JSON: `rows`, and `cut`, whether
+each text has more than is compared.
 
-A page of an archive may be made to take a parser or a comparison very long, which can't be ended in a thread.
+A page of an archive may be made to take a parser or a comparison very long.
 """
 import difflib
 import json
@@ -40,8 +41,9 @@ _NOT_SHOWN = frozenset(
     )
 )
 _BLOCKS = frozenset(
-    "address article aside blockquote br caption dd details dialog div dl dt fieldset figcaption figure footer form h1 h2 h3 "
-    "h4 h5 h6 header hgroup hr legend li main menu nav ol option p pre section summary table td th title tr ul".split()
+    "address article aside blockquote br caption dd details dialog div dl dt fieldset figcaption "
+    "figure footer form h1 h2 h3 h4 h5 h6 header hgroup hr legend li main menu nav ol option p pre "
+    "section summary table td th title tr ul".split()
 )
 _META_CHARSET = re.compile(
     rb"""<meta[^>]{0,200}?charset\s*=\s*["']?([A-Za-z0-9._:-]{1,40})""", re.IGNORECASE
@@ -176,7 +178,9 @@ def _differing(left: Optional[str], right: Optional[str]) -> Row:
 
 def main() -> None:
     resource.setrlimit(resource.RLIMIT_CPU, (SECONDS, SECONDS + 1))
-    resource.setrlimit(resource.RLIMIT_AS, (MEMORY, MEMORY))
+    most = resource.getrlimit(resource.RLIMIT_AS)[1]
+    memory = MEMORY if most == resource.RLIM_INFINITY else min(MEMORY, most)
+    resource.setrlimit(resource.RLIMIT_AS, (memory, memory))
     pages = json.loads(sys.stdin.buffer.readline())
     texts = []
     for size, charset, is_html in zip(pages["sizes"], pages["charsets"], pages["html"]):

@@ -1,25 +1,25 @@
-"""How many captures each year and each day has. Pages of captures are counted one after another."""
+"""How many captures each year and each day has, and how many a URL has."""
 import datetime
 from collections import Counter
+from collections.abc import Iterator
 from dataclasses import dataclass, field
 
-from warcdx import ReplyTooLong
+from warcdx import Refused
 
-from ..collection import PAGE as MOST_ROWS
-from ..collection import Collection
+from ..answers import Source
 from . import dates
-from .searching import Search, place_of
+from .searching import Search
 
 MOST = 500_000  # captures that are counted for a page
-PAGE = MOST_ROWS - 1  # captures that are held at a time
-FIELDS = ("timestamp", "urlkey", "filename", "offset")
+MOST_OF_URL = 1000  # captures that are counted for a row of a list
 
 
 @dataclass
 class Counts:
-    """The captures of each year, and of each day by eight digits of a stamp.
+    """The captures of each year, and of each day by eight digits of a timestamp.
 
-    `is_whole` is whether all captures were counted. If not, `last` is the stamp of the last one that was.
+    `is_whole` is whether all captures were counted. If not, `last` is the timestamp of the last one
+    that was.
     """
 
     years: Counter[str] = field(default_factory=Counter)
@@ -35,34 +35,36 @@ class Counts:
 
     @property
     def undated(self) -> int:
-        """The captures whose stamp has no date."""
+        """The captures whose timestamp has no date."""
         return self.total - sum(self.dated.values())
 
-    def add(self, stamp: str) -> None:
-        self.years[stamp[:4]] += 1
-        self.days[stamp[:8]] += 1
-        self.total += 1
-        self.last = stamp
+
+def count(source: Source, search: Search, most: int = MOST) -> Counts:
+    """Counts the captures that a search selects, or the first `most` of them."""
+    days: Counter[bytes] = Counter()
+    total, last = 0, b""
+    for timestamps in _timestamps(source, search, most + 1):
+        total += len(timestamps)
+        if total > most:
+            timestamps.pop()
+        days.update(each[:8] for each in timestamps)
+        last = timestamps[-1] if timestamps else last
+    counts = Counts(total=min(total, most), last=last.decode(), is_whole=total <= most)
+    for day, captures in days.items():
+        counts.days[day.decode()] += captures
+        counts.years[day[:4].decode()] += captures
+    return counts
 
 
-async def count(collection: Collection, search: Search, most: int = MOST) -> Counts:
-    """Counts the captures that a search selects: the first `most` of them, or those before lines that are very long."""
-    counts, place = Counts(), ""
-    while True:
-        size = min(PAGE, most - counts.total)
-        try:
-            rows = await collection.rows(FIELDS, search.query(resumeKey=place), limit=size + 1)
-        except ReplyTooLong:
-            if not counts.total:
-                raise
-            counts.is_whole = False
-            return counts
-        for row in rows[:size]:
-            counts.add(row[0])
-        if len(rows) <= size:
-            return counts
-        if counts.total == most:
-            counts.is_whole = False
-            return counts
-        stamp, key, filename, offset = rows[size - 1]
-        place = place_of(key, stamp, filename, offset)
+def count_of_url(source: Source, search: Search) -> str:
+    """Returns how many captures a search selects, in words if they are many or can't be counted."""
+    try:
+        count = sum(map(len, _timestamps(source, search, MOST_OF_URL + 1)))
+    except Refused:  # the key is longer than a query may be
+        return "not counted"
+    return f"{count:,}" if count <= MOST_OF_URL else f"more than {MOST_OF_URL:,}"
+
+
+def _timestamps(source: Source, search: Search, limit: int) -> Iterator[list[bytes]]:
+    """Yields the timestamps of the first captures, some of them each time."""
+    return source.lines(search.query(fl="timestamp", limit=str(limit)))

@@ -1,4 +1,4 @@
-"""Stamps of captures, as dates in words. A stamp is fourteen digits, which need not be a date."""
+"""Timestamps of captures, as dates in words. Their fourteen digits need not be a date."""
 import datetime
 import re
 from typing import Optional
@@ -9,7 +9,7 @@ MONTHS = (
 )  # fmt: skip
 DAYS = ("Monday", "Tuesday", "Wednesday", "Thursday", "Friday", "Saturday", "Sunday")
 _TYPED = re.compile(r"(\d{4})(?:-?(\d\d)(?:-?(\d\d))?)?", re.ASCII)
-_STAMP = re.compile(r"\d{14}", re.ASCII)
+_TIMESTAMP = re.compile(r"\d{14}", re.ASCII)
 
 
 def day_of(digits: str) -> Optional[datetime.date]:
@@ -20,14 +20,14 @@ def day_of(digits: str) -> Optional[datetime.date]:
         return None
 
 
-def time_of(stamp: str) -> Optional[datetime.datetime]:
-    """Returns the time of a stamp in UTC, or None if it is no time. A leap second is none."""
-    if not _STAMP.fullmatch(stamp):
+def time_of(timestamp: str) -> Optional[datetime.datetime]:
+    """Returns the time of a timestamp in UTC, or None if it is no time. A leap second is none."""
+    if not _TIMESTAMP.fullmatch(timestamp):
         return None
-    month, day, hour, minute, second = (int(stamp[at : at + 2]) for at in range(4, 14, 2))
+    month, day, hour, minute, second = (int(timestamp[at : at + 2]) for at in range(4, 14, 2))
     try:
         return datetime.datetime(
-            int(stamp[:4]), month, day, hour, minute, second, tzinfo=datetime.timezone.utc
+            int(timestamp[:4]), month, day, hour, minute, second, tzinfo=datetime.timezone.utc
         )
     except ValueError:
         return None
@@ -41,39 +41,39 @@ def full_day(day: datetime.date) -> str:
     return f"{DAYS[day.weekday()]}, {day_in_words(day)}"
 
 
-def in_words(stamp: str) -> str:
-    """Returns `3 March 2016, 09:34:31`, or the digits if the stamp is no time."""
-    time = time_of(stamp)
-    return f"{day_in_words(time)}, {time:%H:%M:%S}" if time else f"{stamp} (not a date)"
+def in_words(timestamp: str) -> str:
+    """Returns `3 March 2016, 09:34:31`, or the digits if the timestamp is no time."""
+    time = time_of(timestamp)
+    return f"{day_in_words(time)}, {time:%H:%M:%S}" if time else f"{timestamp} (not a date)"
 
 
-def machine_time(stamp: str) -> Optional[str]:
-    """Returns the stamp as the attribute `datetime` of HTML has it, or None if it is no time."""
-    time = time_of(stamp)
+def machine_time(timestamp: str) -> Optional[str]:
+    """Returns the value of the attribute `datetime` of HTML, or None if it is no time."""
+    time = time_of(timestamp)
     return f"{time:%Y-%m-%dT%H:%M:%SZ}" if time and time.year >= 1000 else None
 
 
-def stamp_of(date: str) -> Optional[str]:
-    """Returns the stamp of a value of WARC-Date, or None."""
+def timestamp_of(date: str) -> Optional[str]:
+    """Returns the timestamp of a value of WARC-Date, or None."""
     digits = re.sub(r"\D", "", date.partition(".")[0])
-    return digits if _STAMP.fullmatch(digits) else None
+    return digits if _TIMESTAMP.fullmatch(digits) else None
 
 
 def digits_of(typed: str) -> str:
-    """Returns the first digits of a stamp for a year, month or day as it is typed, or what was typed."""
+    """Returns the first digits of a timestamp for a year, month or day, or what was typed."""
     found = _TYPED.fullmatch(typed.strip())
     return "".join(part for part in found.groups() if part) if found else typed.strip()
 
 
 def typed(digits: str) -> str:
-    """Returns the first digits of a stamp as they may be typed: `2016-03` for `201603`."""
+    """Returns the first digits of a timestamp as they may be typed: `2016-03` for `201603`."""
     if len(digits) not in (4, 6, 8) or not digits.isdigit():
         return digits
     return "-".join(part for part in (digits[:4], digits[4:6], digits[6:]) if part)
 
 
 def period_in_words(digits: str) -> str:
-    """Returns `2016`, `March 2016` or `3 March 2016` for the first 4, 6 or 8 digits of a stamp."""
+    """Returns `2016`, `March 2016` or `3 March 2016` for 4, 6 or 8 digits of a timestamp."""
     if len(digits) == 8 and (day := day_of(digits)):
         return day_in_words(day)
     if len(digits) == 6 and 1 <= int(digits[4:]) <= 12:

@@ -2,12 +2,12 @@
 from collections.abc import Mapping
 from typing import Optional
 
-from aiohttp import web
+from werkzeug.wrappers import Response
 
 from ..collection import Collection
-from . import answers, dates
+from . import dates, responses
 from .markup import Child, Link, Markup, document, element, joined, link
-from .searching import MATCHES, Refusal, Search
+from .searching import MATCHES, NotShown, Search
 
 UP = "../../"  # from a page of a collection to the list of collections
 
@@ -18,7 +18,7 @@ def collection_page(
     *content: Child,
     search: Optional[Search] = None,
     status: int = 200,
-) -> web.Response:
+) -> Response:
     """Returns a page of a collection: its name, the form of the search, and what is on it."""
     path = element(
         "nav",
@@ -33,10 +33,10 @@ def collection_page(
         _banner(path, search_form(search)), element("main", *content, id="content", tabindex=-1)
     )
     shown = f"{title} – {collection.title}" if title != collection.title else title
-    return answers.page(_document(shown, body, UP), status)
+    return responses.page(_document(shown, body, UP), status)
 
 
-def list_page(collections: Mapping[str, Collection]) -> web.Response:
+def list_page(collections: Mapping[str, Collection]) -> Response:
     """Returns the page with all collections."""
     entries = (_entry(collection) for collection in collections.values())
     content = joined(
@@ -47,7 +47,7 @@ def list_page(collections: Mapping[str, Collection]) -> web.Response:
         else element("p", "There is no collection."),
     )
     body = joined(_banner(None, None), element("main", content, id="content", tabindex=-1))
-    return answers.page(_document("Web archives", body, ""))
+    return responses.page(_document("Web archives", body, ""))
 
 
 def _entry(collection: Collection) -> Markup:
@@ -56,8 +56,8 @@ def _entry(collection: Collection) -> Markup:
 
 
 def refusal_page(
-    collection: Collection, refusal: Refusal, search: Optional[Search] = None
-) -> web.Response:
+    collection: Collection, refusal: NotShown, search: Optional[Search] = None
+) -> Response:
     """Returns a page that says what was refused, and why."""
     content = element(
         "div",
@@ -80,27 +80,59 @@ def search_form(search: Optional[Search]) -> Markup:
         "form",
         _labelled(
             "Address or host",
-            element("input", type="text", name="url", id="url", value=search.typed, required=True, inputmode="url",
-                    autocapitalize="none", autocomplete="off", spellcheck="false", aria_describedby="url-help"),
-            "url", "wide",
+            element(
+                "input",
+                type="text",
+                name="url",
+                id="url",
+                value=search.typed,
+                required=True,
+                inputmode="url",
+                autocapitalize="none",
+                autocomplete="off",
+                spellcheck="false",
+                aria_describedby="url-help",
+            ),
+            "url",
+            "wide",
         ),
         _labelled("Match", element("select", options, name="match", id="match"), "match"),
         _labelled("From", _time_input("from", search.first), "from"),
         _labelled("To", _time_input("to", search.last), "to"),
         element("button", "Search", type="submit"),
         element(
-            "p", "An address such as ", element("code", "example.com/page"), ", all below it ",
-            element("code", "example.com/page*"), ", or a host with all hosts below it ",
-            element("code", "*.example.com"), ". Times are a year, a month or a day: ", element("code", "2016-03"), ".",
-            id="url-help", class_="help",
+            "p",
+            "An address such as ",
+            element("code", "example.com/page"),
+            ", all below it ",
+            element("code", "example.com/page*"),
+            ", or a host with all hosts below it ",
+            element("code", "*.example.com"),
+            ". Times are a year, a month or a day: ",
+            element("code", "2016-03"),
+            ".",
+            id="url-help",
+            class_="help",
         ),
-        action=Link("search"), method="get", role="search", class_="search",
-    )  # fmt: skip
+        action=Link("search"),
+        method="get",
+        role="search",
+        class_="search",
+    )
 
 
 def _time_input(name: str, value: str) -> Markup:
-    return element("input", type="text", name=name, id=name, value=dates.typed(value), size=10, maxlength=14, autocomplete="off",
-                   aria_describedby="url-help")  # fmt: skip
+    return element(
+        "input",
+        type="text",
+        name=name,
+        id=name,
+        value=dates.typed(value),
+        size=10,
+        maxlength=14,
+        autocomplete="off",
+        aria_describedby="url-help",
+    )
 
 
 def _labelled(words: str, field: Markup, name: str, kind: str = "") -> Markup:
@@ -123,10 +155,11 @@ def _document(title: str, content: Markup, up: str) -> bytes:
 
 def table(caption: Child, names: Mapping[str, str], rows: Child, kind: str = "") -> Markup:
     """Returns a table. `names` has the words of each column, by the class of its cells."""
-    head = element(
-        "tr", (element("th", words, scope="col", role="columnheader", class_=each) for each, words in names.items()),
-        role="row",
-    )  # fmt: skip
+    heads = (
+        element("th", words, scope="col", role="columnheader", class_=each)
+        for each, words in names.items()
+    )
+    head = element("tr", heads, role="row")
     return element(
         "table",
         element("caption", caption),
@@ -138,7 +171,7 @@ def table(caption: Child, names: Mapping[str, str], rows: Child, kind: str = "")
 
 
 def row(names: Mapping[str, str], *cells: Child) -> Markup:
-    """Returns a row of such a table. Its first cell is its head. Each cell has the words of its column."""
+    """Returns a row of such a table. Its first cell is its head. Each has its column's words."""
     first, *rest = zip(names.items(), cells)
     return element(
         "tr",

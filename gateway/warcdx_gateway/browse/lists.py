@@ -1,53 +1,61 @@
 """Lists of captures and of addresses, a page at a time."""
-from dataclasses import dataclass
+from dataclasses import dataclass, replace
 from typing import Optional
 
-from warcdx import FIELDS, Capture
+from warcdx import Capture
 
+from ..answers import Source
+from ..application import Gateway
 from ..collection import Collection
+from ..history import REVISIT, place_of
+from ..shared import Share
 from . import dates
+from .counting import count_of_url
 from .layout import row, table
-from .markup import Child, Link, Markup, cut, element, followed, joined, link
-from .searching import Search, place_of
+from .markup import MOST_LINK, Child, Link, Markup, cut, element, followed, joined, link
+from .places import record_link, text_of
+from .searching import Search, quoted
 
 SIZE = 50  # rows of a page
 _MOST_ADDRESS = 300  # characters of an address that are shown in a list
 MOST_DIGEST = 100  # characters of a digest, of which SHA-256 has 64
-MOST_NAME = 300  # characters of an offset and a file name, of which Linux takes 255 bytes
-REVISIT = "warc/revisit"
+
 
 
 @dataclass(frozen=True)
 class Part:
-    """The rows of a page, and the place of the last one if others follow."""
+    """The rows of a page, and the place of the last one if others follow.
+
+    `counts` has the captures of each URL key, in a list of addresses.
+    """
 
     captures: tuple[Capture, ...]
     next: str
     is_first: bool
+    counts: tuple[str, ...] = ()
 
 
-async def captures(collection: Collection, search: Search, after: str) -> Part:
+def captures(gateway: Gateway, collection: Collection, search: Search, after: str) -> Part:
     """Returns the captures that follow a place, in the order of the index."""
-    return await _part(collection, search.query(resumeKey=after), bool(after))
+    return _part(gateway, collection, search.query(resumeKey=after), bool(after))
 
 
-async def addresses(collection: Collection, search: Search, after: str) -> Part:
-    """Returns the first capture of each address that follows a place."""
-    return await _part(collection, search.query(collapse="urlkey", resumeKey=after), bool(after))
+def addresses(gateway: Gateway, collection: Collection, search: Search, after: str) -> Part:
+    """Returns the first capture of each URL key that follows a place, and how many each has."""
+    query = search.query(collapse="urlkey", resumeKey=after)
+    part = _part(gateway, collection, query, bool(after))
+    times = Search("", "exact", search.first, search.last)
+    source = Source(collection.index, gateway.clock(Share.WIDE))
+    counts = tuple(
+        count_of_url(source, replace(times, key=each.urlkey)) for each in part.captures
+    )
+    return replace(part, counts=counts)
 
 
-async def _part(collection: Collection, query: str, is_later: bool) -> Part:
-    found = await collection.rows(FIELDS, query, limit=SIZE + 1)
-    rows = tuple(map(Capture.of, found[:SIZE]))
-    place = ""
-    if len(found) > SIZE:
-        last = rows[-1]
-        place = place_of(last.urlkey, last.timestamp, last.filename, str(last.offset))
-    return Part(rows, place, not is_later)
-
-
-def record_link(capture: Capture) -> Link:
-    return link("record", archive=capture.filename, offset=capture.offset)
+def _part(gateway: Gateway, collection: Collection, query: str, is_later: bool) -> Part:
+    found = gateway.captures(collection, query, SIZE + 1)
+    place = place_of(found[SIZE - 1]) if len(found) > SIZE else ""
+    return Part(tuple(found[:SIZE]), place, not is_later)
 
 
 def captures_section(part: Part, search: Search, words: str) -> Markup:
@@ -66,7 +74,7 @@ def captures_section(part: Part, search: Search, words: str) -> Markup:
         "size": "Record",
         "digest": "Digest",
     }
-    can_compare = len(part.captures) > 1
+    can_compare = sum(map(_can_be_picked, part.captures)) > 1
     if can_compare:
         names["pick"] = "Compare"
     if not search.is_single:
@@ -106,15 +114,18 @@ def _capture_row(
         "address": _address(capture.original),
         "status": status_words(capture.statuscode),
         "type": "revisit" if capture.mimetype == REVISIT else cut(capture.mimetype, 80),
-        "size": f"{capture.length:,} bytes" if capture.length is not None else "-",
+        "size": "-" if capture.length is None else dates.many(capture.length, "byte"),
         "digest": digest,
-        "pick": _picks(capture, number) if number is not None else None,
+        "pick": _picks(capture, number)
+        if number is not None and _can_be_picked(capture)
+        else None,
     }
     return row(names, *(cells[name] for name in names))
 
 
-def _time(stamp: str) -> Markup:
-    return element("time", dates.in_words(stamp), datetime=dates.machine_time(stamp))
+def _time(timestamp: str) -> Markup:
+    time = dates.machine_time(timestamp)
+    return element("time", dates.in_words(timestamp), datetime=time)
 
 
 def _address(address: str) -> Markup:
@@ -127,9 +138,17 @@ def status_words(status: str) -> Child:
     return element("span", cut(status, 12), class_=f"status s{hundred}")
 
 
+def _can_be_picked(capture: Capture) -> bool:
+    """Whether a link with two such captures isn't longer than a server takes."""
+    return 2 * len(quoted(text_of(capture))) <= MOST_LINK
+
+
 def _picks(capture: Capture, number: int) -> Markup:
-    """Returns the two fields by which a capture is chosen for a comparison, the first and second row at first."""
-    value = cut(f"{capture.offset} {capture.filename}", MOST_NAME)
+    """Returns the two fields by which a capture is chosen for a comparison.
+
+    At first the first and second row are chosen.
+    """
+    value = text_of(capture)
     return joined(
         element(
             "label",
@@ -157,7 +176,13 @@ def addresses_section(part: Part, search: Search) -> Markup:
             element("p", "There are no addresses here."),
             class_="card",
         )
-    names = {"address": "Address", "time": "First capture", "status": "Status", "type": "Type"}
+    names = {
+        "address": "Address",
+        "count": "Captures",
+        "time": "First capture",
+        "status": "Status",
+        "type": "Type",
+    }
     rows = (
         row(
             names,
@@ -165,16 +190,22 @@ def addresses_section(part: Part, search: Search) -> Markup:
                 _address(capture.original if capture.original != "-" else capture.urlkey),
                 _history(capture),
             ),
+            count,
             _time(capture.timestamp),
             status_words(capture.statuscode),
             cut(capture.mimetype, 80),
         )
-        for capture in part.captures
+        for capture, count in zip(part.captures, part.counts)
     )
     listed = table("Addresses", names, rows, "addresses")
     return element(
-        "section", element("h2", "Addresses"), listed, _further(part, search, "search"), class_="card", id="list"
-    )  # fmt: skip
+        "section",
+        element("h2", "Addresses"),
+        listed,
+        _further(part, search, "search"),
+        class_="card",
+        id="list",
+    )
 
 
 def _history(capture: Capture) -> Link:

@@ -1,7 +1,7 @@
 """HTML and SVG in which every text is escaped.
 
 Markup is made by `element` alone, from names that this package writes. Texts and values are escaped
-there, and characters that can't be seen, or that change the direction of others, are written as their
+there. Characters that can't be seen, or that change the direction of others, are written as their
 code points. An address is a `Link`, which is made of this package's own paths, so no address of an
 archive becomes one that can be followed.
 """
@@ -37,7 +37,7 @@ class Markup:
 
 @dataclass(frozen=True)
 class Link:
-    """A path of this package, relative to the page, with the values of its query and the id of an element."""
+    """A path relative to the page, with the values of its query and the id of an element."""
 
     path: str
     query: tuple[tuple[str, str], ...] = ()
@@ -74,7 +74,7 @@ Value = Union[str, int, float, bool, Link, None]
 def element(name: str, /, *children: Child, **attributes: Value) -> Markup:
     """Returns an element.
 
-    An attribute that is a word of Python is written with `_` at its end, and `_` within its name is `-`.
+    An attribute that is a word of Python has `_` at its end. `_` within a name stands for `-`.
     One whose value is None or False is left out, and one whose value is True has no value.
     """
     if not _NAME.fullmatch(name) or name in _FORBIDDEN:
@@ -126,7 +126,7 @@ def _attribute(name: str, value: Value) -> str:
 
 
 def is_unseen(character: str) -> bool:
-    """Whether a character can't be seen, or acts on others: controls, bidirectional marks, surrogates."""
+    """Whether a character can't be seen, or acts on others, as controls and bidirectional marks."""
     return unicodedata.category(character) in _UNSEEN and character not in _ALLOWED
 
 
@@ -145,7 +145,7 @@ def visible(text: str) -> str:
 
 
 def shown(text: str) -> Markup:
-    """Returns the markup of a text, with the code points of characters that can't be seen as marks."""
+    """Returns the markup of a text, with marked code points for characters that can't be seen."""
     if text.isascii() and text.isprintable():
         return Markup(html.escape(text))
     parts = (

@@ -1,25 +1,23 @@
 """Reads records for these pages, with bounds on what is read, unpacked and held."""
 import contextlib
-import pathlib
 import re
 from collections.abc import Iterator
 from dataclasses import dataclass
 from typing import Optional
 
-from warcdx import Error, Fault, Unreadable, faults
+from warcdx import Capture, Error, Fault, Unreadable, faults, open_archive
 from warcdx.codings import Limits
-from warcdx.gz import open_archive
 from warcdx.record import Head, HttpHead, RecordStream
+from warcdx.record_digests import RecordCheck, Verdicts
 
 from ..collection import Collection
-from .searching import Refusal
+from .searching import NotShown
 
 MOST_SHOWN = 4 << 20  # bytes of a payload that are shown
 MOST_VERIFIED = 1 << 28  # bytes of a block whose digest is compared for a page
 # What unpacking a payload may take, for a page and for a download.
 SHOWN = Limits(size=64 << 20, seconds=5)
 DOWNLOADED = Limits(size=16 << 30, seconds=3600)
-_OFFSET = re.compile("[0-9]{1,19}")
 _CHARSET = re.compile(r"""charset\s*=\s*["']?([A-Za-z0-9._:-]{1,40})""", re.IGNORECASE)
 _HTML = ("text/html", "application/xhtml+xml")
 _IMAGES = ("image/png", "image/jpeg", "image/gif", "image/webp")
@@ -31,50 +29,17 @@ _TEXTS = (
     "application/warc-fields",
 )
 _CHARSETS = frozenset(
-    "utf-8 us-ascii iso-8859-1 iso-8859-2 iso-8859-3 iso-8859-4 iso-8859-5 iso-8859-6 iso-8859-7 iso-8859-8 "
-    "iso-8859-9 iso-8859-10 iso-8859-13 iso-8859-14 iso-8859-15 iso-8859-16 windows-1250 windows-1251 windows-1252 "
-    "windows-1253 windows-1254 windows-1255 windows-1256 windows-1257 windows-1258 windows-874 koi8-r koi8-u "
+    "utf-8 us-ascii iso-8859-1 iso-8859-2 iso-8859-3 iso-8859-4 iso-8859-5 iso-8859-6 iso-8859-7 "
+    "iso-8859-8 iso-8859-9 iso-8859-10 iso-8859-13 iso-8859-14 iso-8859-15 iso-8859-16 "
+    "windows-1250 windows-1251 windows-1252 windows-1253 windows-1254 windows-1255 windows-1256 "
+    "windows-1257 windows-1258 windows-874 koi8-r koi8-u "
     "shift_jis euc-jp iso-2022-jp euc-kr gb2312 gbk gb18030 big5 utf-16 utf-16le utf-16be".split()
 )
 
 
 @dataclass(frozen=True)
-class Place:
-    """The file name of an archive, and the offset of a record in it in bytes."""
-
-    filename: str
-    offset: int
-
-    @classmethod
-    def of(cls, filename: str, offset: str) -> "Place":
-        """Returns the place of two texts. Raises Refusal."""
-        if not _OFFSET.fullmatch(offset) or int(offset) >= 1 << 63:
-            raise Refusal(
-                "The offset of the record was refused.",
-                "An offset is a number of bytes below 2^63.",
-            )
-        return cls(filename, int(offset))
-
-    @classmethod
-    def of_pair(cls, pair: str) -> "Place":
-        """Returns the place of an offset and a file name with a space between them. Raises Refusal."""
-        offset, _, filename = pair.partition(" ")
-        return cls.of(filename, offset)
-
-    def path(self, collection: Collection) -> pathlib.Path:
-        """Returns the archive. Raises Refusal if it isn't in the folders of the collection."""
-        path = collection.archive(self.filename)
-        if path is None:
-            raise Refusal(
-                f"The archive “{self.filename}” isn't here.",
-                "The collection has no archive of this name in its folders, so its record can't be read.", 404,
-            )  # fmt: skip
-        return path
-
-
-@dataclass(frozen=True)
 class Payload:
-    """A payload without its codings, or its first MOST_SHOWN bytes. `fault` says why it ends before its end."""
+    """A payload without its codings, or its first MOST_SHOWN bytes. `fault` says why it is cut."""
 
     content: bytes
     is_whole: bool
@@ -133,17 +98,28 @@ class Read:
 
 
 @contextlib.contextmanager
-def opened(path: pathlib.Path, program: str, offset: int) -> Iterator[RecordStream]:
-    """Opens a record. Raises Refusal if none begins at the offset, or it can't be read."""
+def opened(collection: Collection, capture: Capture) -> Iterator[RecordStream]:
+    """Opens the record of a capture, by its offset and length. Raises NotShown."""
+    path = collection.archive(capture.filename)
+    if path is None:
+        raise NotShown(
+            f"The archive “{capture.filename}” isn't here.",
+            "The collection has no archive of this name in its folders, "
+            "so its record can't be read.",
+            404,
+        )
     try:
-        with open_archive(path, program=program).stream(offset) as record:
+        archive = open_archive(path, program=collection.program)
+        with archive.stream(capture.offset, length=capture.length) as record:
             yield record
     except faults.NoRecord:
-        raise Refusal(
-            "There is no record here.", "No record of the archive begins at this offset.", 404
+        raise NotShown(
+            "There is no record here.",
+            "No record of the archive begins at this offset and has this length.",
+            404,
         ) from None
     except (Fault, Unreadable) as error:
-        raise Refusal("The record can't be read.", reason_of(error), 502) from error
+        raise NotShown("The record can't be read.", reason_of(error), 502) from error
 
 
 def reason_of(error: Error) -> str:
@@ -155,9 +131,9 @@ def reason_of(error: Error) -> str:
     return text[:1].upper() + text[1:] + "."
 
 
-def read(path: pathlib.Path, program: str, offset: int) -> Read:
-    """Reads a record, and the first MOST_SHOWN bytes of its payload. Raises Refusal."""
-    with opened(path, program, offset) as record:
+def read(collection: Collection, capture: Capture) -> Read:
+    """Reads a record, and the first MOST_SHOWN bytes of its payload. Raises NotShown."""
+    with opened(collection, capture) as record:
         http = HttpHead.of(record.http_head) if record.http_head is not None else None
         return Read(record.head, http, record.length, _payload(record))
 
@@ -175,45 +151,73 @@ def _payload(record: RecordStream) -> Payload:
     return Payload(bytes(content[:MOST_SHOWN]), is_whole, fault)
 
 
-def verdict(path: pathlib.Path, program: str, offset: int) -> str:
-    """Returns the verdict on the digest of a block. Raises Refusal."""
-    try:
-        return open_archive(path, program=program).verdict(offset)
-    except (Fault, Unreadable) as error:
-        raise Refusal(
-            "The digest of the record can't be compared.", reason_of(error), 502
-        ) from error
+def verdicts(collection: Collection, capture: Capture) -> Optional[Verdicts]:
+    """Returns the verdicts on a record's digests, or None if it is too long. Raises NotShown."""
+    check = RecordCheck()
+    with opened(collection, capture) as record:
+        if record.length > MOST_VERIFIED:
+            return None
+        for piece in record.whole():
+            check.add(memoryview(piece))
+    if not check.is_whole:
+        raise NotShown("The record can't be read.", "The archive ends in it.", 502)
+    return check.verdicts()
+
+
+def _pieces_of(record: RecordStream, what: str) -> Iterator[bytes]:
+    if what == "record":
+        yield from record.whole()
+    elif what == "payload":
+        yield from record.payload(DOWNLOADED)
+    else:
+        yield from record.stored_payload(DOWNLOADED)
 
 
 class Download:
-    """A record, or its payload, that is read in pieces while a client takes them."""
+    """The pieces of a record, of its payload, or of the payload as it is stored with its codings.
 
-    def __init__(self, path: pathlib.Path, program: str, offset: int, what: str) -> None:
-        self._stack = contextlib.ExitStack()
-        try:
-            record = self._stack.enter_context(opened(path, program, offset))
-            self.head = record.head
-            self.size = record.size if what == "record" else None
-            self._pieces = record.whole() if what == "record" else record.payload(DOWNLOADED)
-            self._first = next(self._pieces, b"")
-        except Unreadable as error:
-            self._stack.close()
-            raise Refusal("The payload can't be unpacked.", reason_of(error), 422) from error
-        except BaseException:
-            self._stack.close()
-            raise
+    What `stack` has to close is closed with it. The constructor raises NotShown, and so does the
+    iterator if the record ends before its end.
+    """
 
-    def piece(self) -> bytes:
-        """Returns the next piece, or no bytes at the end. Raises Refusal if the record ends before its end."""
-        piece, self._first = self._first, b""
+    def __init__(self, stack: contextlib.ExitStack, record: RecordStream, what: str) -> None:
+        self.head = record.head
+        self.size = record.size if what == "record" else None
+        self._pieces = _pieces_of(record, what)
+        self._first: Optional[bytes] = self._next()
+        self._stack = stack.pop_all()
+
+    def held(self, most: int) -> Optional[bytes]:
+        """Returns the pieces if they have at most `most` bytes. If not, they stay to be read."""
+        held = bytearray()
+        while len(held) <= most:
+            piece = next(self, b"")
+            if not piece:
+                return bytes(held)
+            held += piece
+        self._first = bytes(held)
+        return None
+
+    def __iter__(self) -> Iterator[bytes]:
+        return self
+
+    def __next__(self) -> bytes:
+        piece, self._first = self._first, None
+        if piece is None:
+            piece = self._next()
         if not piece:
-            try:
-                piece = next(self._pieces, b"")
-            except Unreadable as error:
-                raise Refusal("The payload can't be unpacked.", reason_of(error)) from error
-        if not piece:
-            self._stack.close()
+            self._stack.close()  # which raises why the record has ended, if that is too early
+            raise StopIteration
         return piece
 
     def close(self) -> None:
-        self._stack.close()
+        """Ends what is still read, after a client has left."""
+        with contextlib.suppress(NotShown):
+            self._stack.close()
+
+    def _next(self) -> bytes:
+        try:
+            return next(self._pieces, b"")
+        except Unreadable as error:
+            why = reason_of(error)
+            raise NotShown("The payload can't be unpacked.", why, 422) from error

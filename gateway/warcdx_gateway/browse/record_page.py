@@ -1,76 +1,97 @@
-"""The page of a record: its heads as they stand, the verdict on its digest, and its payload in a frame."""
-import re
+"""The page of a record: its headers as they stand, the verdict on its digests, its payload."""
+import functools
 from collections.abc import Sequence
 from typing import Optional
 
-from aiohttp import web
+from werkzeug.wrappers import Response
 
-from warcdx import Capture, Refused
-from warcdx.query import FIELDS
+from warcdx import Capture
 from warcdx.record import Head
+from warcdx.record_digests import Verdict, Verdicts
 
+from ..application import Gateway
 from ..collection import Collection
+from ..history import History, original_of, without_brackets
 from . import dates, reading
 from .layout import collection_page, row, table
-from .lists import REVISIT, record_link
-from .markup import Child, Link, Markup, cut, element, followed, joined, link
-from .reading import MOST_SHOWN, MOST_VERIFIED, Place, Read
-from .searching import Search, quoted
+from .markup import Child, Markup, cut, element, followed, joined, link
+from .places import record_link
+from .reading import MOST_SHOWN, MOST_VERIFIED, Read
+from .searching import Search
 
 MOST_FIELDS = 300  # of a head that are shown
 MOST_VALUE = 2000  # characters of a name or value that are shown
 MOST_TEXT = 100_000  # characters of all fields of a head
 _VERDICTS = {
-    "same": ("good", "The block is as it was recorded: its SHA-1 is the one in WARC-Block-Digest."),
-    "differs": ("bad", "The block differs: its SHA-1 isn't the one in WARC-Block-Digest."),
-    "not-sha1": ("open", "Not compared: WARC-Block-Digest isn't a SHA-1 in base 32."),
-    "absent": (
+    Verdict.SAME: ("good", "The {part} is as it was recorded: it has the digest in {name}."),
+    Verdict.DIFFERS: ("bad", "The {part} differs: it doesn't have the digest in {name}."),
+    Verdict.UNKNOWN: ("open", "Not compared: {name} has another algorithm or form."),
+    Verdict.ABSENT: ("open", "No digest: the record has no {name}."),
+    Verdict.ELSEWHERE: ("open", "{name} is the digest of a payload that isn't in the record."),
+    Verdict.EMPTY: (
         "open",
-        "No digest: the record has no WARC-Block-Digest, so a change of its block wouldn't show.",
+        "{name} is the digest of no bytes, which some crawlers write into each revisit.",
     ),
 }
-_TOO_LONG = (
-    "open",
-    f"Not compared: the block has more than {MOST_VERIFIED:,} bytes. warcdx verify compares it.",
+_HELD = (
+    "Images and style sheets are those of the archive. Scripts, forms, links and everything else "
+    "that the page would fetch are blocked."
 )
-_OF_REVISIT = " Some crawlers, such as wget, write the digest of an empty block into each revisit."
-_SHA1 = re.compile("^sha1:", re.IGNORECASE)
+_TOO_LONG = f"Not compared: the block has more than {MOST_VERIFIED:,} bytes."
 
 
-async def record_page(collection: Collection, place: Place) -> web.Response:
-    """Returns the page of the record at a place. Raises Refusal."""
-    path = place.path(collection)
-    record = await collection.run(reading.read, path, collection.program, place.offset)
-    verdict = None
-    if record.length <= MOST_VERIFIED:
-        verdict = await collection.run(reading.verdict, path, collection.program, place.offset)
-    original = await original_of(collection, record.head) if record.head.kind == "revisit" else None
+def record_page(gateway: Gateway, collection: Collection, capture: Capture) -> Response:
+    """Returns the page of the record of a capture. Raises NotShown."""
+    record = reading.read(collection, capture)
+    is_short = record.length <= MOST_VERIFIED
+    verdicts = reading.verdicts(collection, capture) if is_short else None
+    is_revisit = record.head.kind == "revisit"
+    ask = functools.partial(gateway.captures, collection)
+    original = original_of(ask, record.head) if is_revisit else None
+    history = History(ask, key=capture.urlkey)
+    around = history.before(capture.timestamp), history.after(capture.timestamp)
     address = target_of(record.head)
     search = Search(cut(address, MOST_VALUE)) if address else None
     title = cut(f"{_title(record.head)}: {address}" if address else _title(record.head), 200)
-    content = await collection.run(_content, record, place, verdict, original)
-    return collection_page(collection, title, content, search=search)
+    head = record.head
+    heading = element("h1", element("bdi", cut(address or _title(head), 400)))
+    return collection_page(
+        collection,
+        title,
+        element("hgroup", element("p", f"{cut(head.kind, 40)} record"), heading),
+        _around(*around),
+        _facts(record, capture),
+        element("section", element("h2", "Digests"), _verdicts(verdicts), class_="card"),
+        _original(original) if is_revisit else None,
+        _payload(record, capture),
+        _fields("WARC headers", head.fields),
+        _http(record),
+        search=search,
+    )
+
+
+def _around(before: Optional[Capture], after: Optional[Capture]) -> Child:
+    """Returns the links to the captures of the URL before and after this one."""
+    links = [
+        element(
+            "li",
+            followed(
+                f"{words}: {dates.in_words(each.timestamp)}",
+                record_link(each),
+                rel="prev" if each is before else "next",
+            ),
+        )
+        for each, words in ((before, "Previous capture"), (after, "Next capture"))
+        if each is not None
+    ]
+    if not links:
+        return None
+    return element("nav", element("ul", links), aria_label="Captures", class_="pages")
 
 
 def _title(head: Head) -> str:
-    stamp = dates.stamp_of(head.field("WARC-Date") or "")
-    return f"Record of {dates.in_words(stamp)}" if stamp else "Record"
-
-
-def _content(
-    record: Read, place: Place, verdict: Optional[str], original: Optional[Capture]
-) -> Markup:
-    head = record.head
-    heading = element("h1", element("bdi", cut(target_of(head) or _title(head), 400)))
-    return joined(
-        element("hgroup", element("p", f"{cut(head.kind, 40)} record"), heading),
-        _facts(record, place),
-        element("section", element("h2", "Digest"), _verdict(head, verdict), class_="card"),
-        _original(original) if head.kind == "revisit" else None,
-        _payload(record, place),
-        _fields("WARC headers", head.fields),
-        _http(record),
-    )
+    timestamp = dates.timestamp_of(head.field("WARC-Date") or "")
+    return f"Record of {dates.in_words(timestamp)}" if timestamp else "Record"
 
 
 def target_of(head: Head) -> str:
@@ -78,42 +99,45 @@ def target_of(head: Head) -> str:
     return without_brackets(head.field("WARC-Target-URI") or "")
 
 
-def without_brackets(address: str) -> str:
-    return address[1:-1] if address.startswith("<") and address.endswith(">") else address
-
-
-def _facts(record: Read, place: Place) -> Markup:
-    stamp, address = dates.stamp_of(record.head.field("WARC-Date") or ""), target_of(record.head)
-    when = dates.in_words(stamp) if stamp else "no date"
+def _facts(record: Read, capture: Capture) -> Markup:
+    timestamp = dates.timestamp_of(record.head.field("WARC-Date") or "")
+    when = dates.in_words(timestamp) if timestamp else "no date"
+    machine_time = dates.machine_time(timestamp) if timestamp else None
+    archive = element("bdi", element("code", capture.filename))
+    history = link("search", key=capture.urlkey, url=cut(target_of(record.head), MOST_VALUE))
     facts: list[tuple[str, Child]] = [
-        ("Time", element("time", when, datetime=dates.machine_time(stamp) if stamp else None)),
-        (
-            "Archive",
-            joined(element("bdi", element("code", place.filename)), f", at byte {place.offset:,}"),
-        ),
-        ("Block", f"{record.length:,} bytes"),
+        ("Time", element("time", when, datetime=machine_time)),
+        ("Archive", joined(archive, f", at byte {capture.offset:,}")),
+        ("Block", dates.many(record.length, "byte")),
+        ("Other captures", followed("All captures of this address", history)),
     ]
-    if address:
-        history = link("search", url=address, match="exact")
-        facts.append(("Other captures", followed("All captures of this address", history)))
     listed = (element("div", element("dt", name), element("dd", value)) for name, value in facts)
     return element("dl", listed, class_="facts")
 
 
-def _verdict(head: Head, verdict: Optional[str]) -> Markup:
-    kind, words = (
-        _VERDICTS.get(verdict, ("open", f"The verdict is {verdict}.")) if verdict else _TOO_LONG
-    )
-    if verdict == "differs" and head.kind == "revisit":
-        words += _OF_REVISIT
-    return element("p", words, class_=f"verdict {kind}")
+def _verdicts(verdicts: Optional[Verdicts]) -> Markup:
+    """Returns the verdict on the digest of the block, and that on the payload's if it has one."""
+    if verdicts is None:
+        return element("p", _TOO_LONG, class_="verdict open")
+    found = [_verdict(verdicts.block, "block", "WARC-Block-Digest")]
+    if verdicts.payload is not Verdict.ABSENT:
+        found.append(_verdict(verdicts.payload, "payload", "WARC-Payload-Digest"))
+    return joined(found)
 
 
-def _payload(record: Read, place: Place) -> Markup:
+def _verdict(verdict: Verdict, part: str, name: str) -> Markup:
+    kind, words = _VERDICTS[verdict]
+    return element("p", words.format(part=part, name=name), class_=f"verdict {kind}")
+
+
+def _payload(record: Read, capture: Capture) -> Markup:
     payload, size = record.payload, len(record.payload.content)
     count = dates.many(size, "byte")
     if payload.fault:
-        words = f"The payload can't be unpacked to its end. {payload.fault} The first {count} were unpacked."
+        words = (
+            f"The payload can't be unpacked to its end. {payload.fault} "
+            f"The first {count} were unpacked."
+        )
     elif not payload.is_whole:
         words = f"The payload has more than {MOST_SHOWN:,} bytes."
     else:
@@ -127,41 +151,42 @@ def _payload(record: Read, place: Place) -> Markup:
     if size and record.shown_type:
         if not payload.is_whole:
             words += " Its beginning is shown."
-        shown = [element("p", f"The type is {kind}. Scripts, forms, links to other sites and everything that the page "
-                         "would fetch are blocked.", class_="help")]  # fmt: skip
-        shown.append(_frame(record, place))
+        held = f" {_HELD}" if record.is_html else ""
+        shown = [element("p", f"The type is {kind}.{held}", class_="help")]
+        shown.append(_frame(record, capture))
     elif size:
         words += f" It isn't shown, for its type is {kind}. It can be saved."
     return element(
-        "section", element("h2", "Payload"), element("p", words), shown, _downloads(place, bool(size)),
-        class_="card", id="payload",
-    )  # fmt: skip
+        "section",
+        element("h2", "Payload"),
+        element("p", words),
+        shown,
+        _downloads(capture, bool(size)),
+        class_="card",
+        id="payload",
+    )
 
 
-def _frame(record: Read, place: Place) -> Markup:
+def _frame(record: Read, capture: Capture) -> Markup:
     return element(
-        "iframe", title="The payload of the record", src=_link("payload", place), sandbox=True, loading="lazy",
-        referrerpolicy="no-referrer", class_="image" if record.kind.startswith("image/") else None,
-    )  # fmt: skip
+        "iframe",
+        title="The payload of the record",
+        src=record_link(capture, "payload"),
+        sandbox=True,
+        loading="lazy",
+        referrerpolicy="no-referrer",
+        class_="image" if record.kind.startswith("image/") else None,
+    )
 
 
-def _downloads(place: Place, has_payload: bool) -> Markup:
-    links: list[Child] = [
-        element("li", element("a", "Save the record", href=_link("download", place, what="record")))
+def _downloads(capture: Capture, has_payload: bool) -> Markup:
+    names = {"payload": "Save the payload", "record": "Save the record"}
+    links = [
+        element("li", element("a", words, href=record_link(capture, "download", what=what)))
+        for what, words in names.items()
+        if has_payload or what == "record"
     ]
-    if has_payload:
-        links.insert(
-            0,
-            element(
-                "li",
-                element("a", "Save the payload", href=_link("download", place, what="payload")),
-            ),
-        )
     return element("ul", links, class_="buttons")
-
-
-def _link(page: str, place: Place, **more: str) -> Link:
-    return link(page, archive=place.filename, offset=place.offset, **more)
 
 
 def _http(record: Read) -> Child:
@@ -209,22 +234,3 @@ def _original(original: Optional[Capture]) -> Markup:
     return element(
         "section", element("h2", "The original of this revisit"), element("p", words), class_="card"
     )
-
-
-async def original_of(collection: Collection, head: Head) -> Optional[Capture]:
-    """Returns the capture that a revisit points to: of its address, with its digest, and of its time if that is given."""
-    digest = _SHA1.sub("", head.field("WARC-Payload-Digest") or "", count=1)
-    address = without_brackets(head.field("WARC-Refers-To-Target-URI") or "") or target_of(head)
-    if not digest or not address:
-        return None
-    stamp = dates.stamp_of(head.field("WARC-Refers-To-Date") or "")
-    search = Search(address, "exact")
-    same = f"is=digest:{quoted(digest)}&isnot=mimetype:{REVISIT}"
-    for times in ([search.within(stamp)] if stamp else []) + [search]:
-        try:
-            rows = await collection.rows(FIELDS, f"{times.query()}&{same}", limit=1)
-        except Refused:
-            return None
-        if rows:
-            return Capture.of(rows[0])
-    return None

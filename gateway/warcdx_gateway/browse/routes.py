@@ -1,214 +1,186 @@
 """The paths of these pages."""
-import asyncio
-import concurrent.futures
+import contextlib
 import functools
 import pathlib
-from collections.abc import Awaitable, Callable, Mapping
-from typing import Optional, TypeVar
+from collections.abc import Callable, Mapping
+from typing import Optional
 
-from aiohttp import web
+from werkzeug.routing import Rule
+from werkzeug.wrappers import Request, Response
 
 from warcdx import Error, Fault, Refused, ReplyTooLate, ReplyTooLong
 
+from ..application import Gateway, rule
 from ..collection import Collection
-from ..refusal import Refusal as GatewayRefusal
-from . import answers, dates, layout, reading
+from ..refusal import Refusal
+from ..shared import Share
+from . import dates, embedding, layout, reading, responses
 from .compare_page import compare_page
-from .markup import element
-from .reading import Download, Place
+from .places import Place
+from .reading import Download
 from .record_page import record_page, target_of
 from .search_page import captures_page, search_page
-from .searching import Refusal, Search
+from .searching import NotShown, Search
+from .start_page import start_page
 
-DOWNLOADS = 8  # at a time
-SECONDS = 60  # for a client to take a piece of a download
 PARTS = {"style.css": "text/css; charset=utf-8", "icon.svg": "image/svg+xml"}
 WINDOW = "document"  # the value of Sec-Fetch-Dest for a page that gets a window of its own
 
-T = TypeVar("T")
-Handler = Callable[[Collection, web.Request], Awaitable[web.StreamResponse]]
+Page = Callable[[Gateway, Collection, Request], Response]
 
 
-def setup(app: web.Application, collections: Mapping[str, Collection]) -> None:
-    """Adds the pages of these collections: `/browse`, and `/COLLECTION/browse/` with what is below it."""
-    pages = Pages()
-
-    async def listed(request: web.Request) -> web.Response:
-        return layout.list_page(collections)
-
-    app.router.add_get("/browse", listed)
-    app.router.add_get("/browse/", functools.partial(_redirect, "../browse"))
-    app.router.add_get("/{collection}/browse", functools.partial(_redirect, "browse/"))
+def rules(gateway: Gateway) -> list[Rule]:
+    """Returns the rules of `/browse`, and of `/COLLECTION/browse/` with what is below it."""
+    found = [
+        rule("/", _root),
+        rule("/browse", _collections),
+        rule("/browse/", functools.partial(_redirect, "../browse")),
+        rule("/<collection>/browse", functools.partial(_redirect, "browse/")),
+    ]
     for name, kind in PARTS.items():
         text = pathlib.Path(__file__).with_name(name).read_bytes()
-        app.router.add_get(f"/browse/{name}", functools.partial(_part, text, kind))
-    for name, handler in pages.handlers().items():
-        app.router.add_get(
-            f"/{{collection}}/browse/{name}", functools.partial(_answer, collections, handler)
-        )
-    app.on_cleanup.append(pages.close)
+        found.append(rule(f"/browse/{name}", functools.partial(_part, text, kind)))
+    for name, page in PAGES.items():
+        found.append(rule(f"/<collection>/browse/{name}", functools.partial(_answer, page)))
+    return found
 
 
-async def _redirect(path: str, request: web.Request) -> web.Response:
-    """Sends a browser from a path with or without its last slash to the other. Links are relative, so one of both is right."""
-    return web.Response(status=308, headers={**answers.COMMON, "Location": path})
+def _root(gateway: Gateway, request: Request) -> Response:
+    """Lists the collections, for a browser as a page and else as text."""
+    if request.accept_mimetypes.best_match(("text/plain", "text/html")) == "text/html":
+        response = layout.list_page(gateway.collections)
+    else:
+        lines = (f"/{each.name}/cdx\t{each.title}\n" for each in gateway.collections.values())
+        response = Response("".join(lines), content_type="text/plain; charset=utf-8")
+    response.vary.add("Accept")
+    return response
 
 
-async def _part(text: bytes, kind: str, request: web.Request) -> web.Response:
-    return answers.part(text, kind)
+def _collections(gateway: Gateway, request: Request) -> Response:
+    return layout.list_page(gateway.collections)
 
 
-async def _answer(
-    collections: Mapping[str, Collection], handler: Handler, request: web.Request
-) -> web.StreamResponse:
-    """Answers a request by a handler, or by a page that says what was refused."""
-    collection = collections.get(request.match_info["collection"])
-    if collection is None:
-        raise web.HTTPNotFound(text="There is no such collection.\n", headers=answers.COMMON)
-    search = None
+def _redirect(path: str, gateway: Gateway, request: Request, collection: str = "") -> Response:
+    """Sends a browser to the path with or without a last slash: links are relative to one."""
+    return responses.redirect(path, 308)
+
+
+def _part(text: bytes, kind: str, gateway: Gateway, request: Request) -> Response:
+    return responses.part(text, kind)
+
+
+def _answer(page: Page, gateway: Gateway, request: Request, collection: str) -> Response:
+    """Returns a page, or one that says why it isn't shown."""
+    found, search = gateway.collection(collection), None
     try:
-        if "url" in request.query or "key" in request.query:
-            search = Search.of(request.query)
-        return await handler(collection, request)
-    except (Refusal, Error, GatewayRefusal) as error:
-        return layout.refusal_page(collection, _refusal_of(error, search), search)
+        if page in (search_of, captures_of):
+            search = Search.of(request.args)
+        return page(gateway, found, request)
+    except (NotShown, Error, Refusal, MemoryError) as error:
+        return layout.refusal_page(found, _not_shown(error, search), search)
 
 
-def _refusal_of(error: Exception, search: Optional[Search]) -> Refusal:
+def _not_shown(error: Exception, search: Optional[Search]) -> NotShown:
     """Returns in words why a page can't be made."""
-    if isinstance(error, Refusal):
+    if isinstance(error, NotShown):
         return error
     if isinstance(error, Refused):
-        return (
-            search.refusal(error.name)
-            if search
-            else Refusal("The query was refused.", f"The program says {error.name}.")
-        )
+        if search:
+            return search.refusal(error.name)
+        return NotShown("The query was refused.", f"The program says {error.name}.")
     if isinstance(error, Fault):
-        return Refusal(
-            "An index of the collection can't be read.", f"Its fault is {error.name}.", 502
-        )
-    if isinstance(error, ReplyTooLong):
-        return Refusal("The captures can't be shown.", "The lines of the index are too long.", 502)
-    if isinstance(error, ReplyTooLate):
-        return Refusal(
-            "The search takes too long.", "Search for a shorter time, or for fewer addresses.", 503
-        )
-    return Refusal("The collection can't be read now.", "Try again later.", 503)
+        why = f"Its fault is {error.name}."
+        return NotShown("An index of the collection can't be read.", why, 502)
+    if isinstance(error, (ReplyTooLong, MemoryError)):
+        return NotShown("The captures can't be shown.", "The lines of the index are too long.", 502)
+    if isinstance(error, ReplyTooLate) or isinstance(error, Refusal) and error.name == "TooSlow":
+        why = "Search for a shorter time, or for fewer addresses."
+        return NotShown("The search takes too long.", why, 503)
+    return NotShown("The collection can't be read now.", "Try again in a minute.", 503)
 
 
-class Pages:
-    """The handlers of the pages of a collection, and the threads of downloads."""
+def start(gateway: Gateway, collection: Collection, request: Request) -> Response:
+    return start_page(gateway, collection)
 
-    def __init__(self) -> None:
-        self._threads = concurrent.futures.ThreadPoolExecutor(
-            DOWNLOADS, thread_name_prefix="download"
-        )
-        self._downloads = 0
 
-    def handlers(self) -> dict[str, Handler]:
-        """Returns the handler of each page, by its name."""
-        return {
-            "": self.start,
-            "search": self.search,
-            "captures": self.captures,
-            "compare": self.compare,
-            "record": self.record,
-            "payload": self.payload,
-            "download": self.download,
-        }
-
-    async def close(self, app: web.Application) -> None:
-        self._threads.shutdown(wait=False, cancel_futures=True)
-
-    async def start(self, collection: Collection, request: web.Request) -> web.Response:
-        title = element("h1", collection.title)
-        words = element("p", "Search for an address or a host to see when it was captured.")
-        return layout.collection_page(collection, collection.title, title, words)
-
-    async def search(self, collection: Collection, request: web.Request) -> web.Response:
-        query = request.query
-        return await search_page(
-            collection, Search.of(query), query.get("year", ""), query.get("after", "")
+def search_of(gateway: Gateway, collection: Collection, request: Request) -> Response:
+    query = request.args
+    with gateway.slot(Share.WIDE):
+        return search_page(
+            gateway, collection, Search.of(query), query.get("year", ""), query.get("after", "")
         )
 
-    async def captures(self, collection: Collection, request: web.Request) -> web.Response:
-        return await captures_page(
-            collection, Search.of(request.query), request.query.get("after", "")
-        )
 
-    async def compare(self, collection: Collection, request: web.Request) -> web.Response:
-        first, second = (Place.of_pair(request.query.get(name, "")) for name in ("first", "second"))
-        return await compare_page(collection, first, second)
+def captures_of(gateway: Gateway, collection: Collection, request: Request) -> Response:
+    query = request.args
+    with gateway.slot(Share.WIDE):
+        return captures_page(gateway, collection, Search.of(query), query.get("after", ""))
 
-    async def record(self, collection: Collection, request: web.Request) -> web.Response:
-        return await record_page(collection, _place(request))
 
-    async def payload(self, collection: Collection, request: web.Request) -> web.StreamResponse:
-        """Answers with a payload for the frame of its record's page. A window of its own shows that page instead."""
-        if request.headers.get("Sec-Fetch-Dest") == WINDOW:
-            raise web.HTTPSeeOther(f"record?{request.query_string}", headers=answers.COMMON)
-        place = _place(request)
-        record = await collection.run(
-            reading.read, place.path(collection), collection.program, place.offset
-        )
+def compare(gateway: Gateway, collection: Collection, request: Request) -> Response:
+    places = [Place.of_text(request.args.get(name, "")) for name in ("first", "second")]
+    with gateway.slot(Share.WIDE):
+        captures = [place.capture(gateway, collection) for place in places]
+        return compare_page(gateway, collection, captures)
+
+
+def record(gateway: Gateway, collection: Collection, request: Request) -> Response:
+    capture = Place.of(request.args).capture(gateway, collection)
+    with gateway.slot(Share.WIDE):
+        return record_page(gateway, collection, capture)
+
+
+def payload(gateway: Gateway, collection: Collection, request: Request) -> Response:
+    """Answers with a payload for the frame of its record's page.
+
+    A window of its own shows that page instead.
+    """
+    if request.headers.get("Sec-Fetch-Dest") == WINDOW:
+        return responses.redirect(f"record?{request.query_string.decode('latin-1')}")
+    capture = Place.of(request.args).capture(gateway, collection)
+    with gateway.slot(Share.WIDE):
+        record = reading.read(collection, capture)
         kind = record.shown_type
         if kind is None:
-            raise Refusal(
-                "The payload isn't shown.",
-                "Its type isn't one that these pages show. It can be saved.",
-                415,
-            )
-        return web.Response(body=record.payload.content, headers=answers.payload_headers(kind))
-
-    async def download(self, collection: Collection, request: web.Request) -> web.StreamResponse:
-        """Answers with a record or its payload, as a file to save, piece by piece."""
-        what, place = request.query.get("what", "record"), _place(request)
-        if what not in ("record", "payload"):
-            raise Refusal("The download was refused.", "A record or its payload can be saved.")
-        path = place.path(collection)
-        if self._downloads >= DOWNLOADS:
-            raise Refusal("There are too many downloads now.", "Try again in a minute.", 503)
-        self._downloads += 1
-        try:
-            download = await self._run(Download, path, collection.program, place.offset, what)
-            try:
-                return await self._send(request, download, _file_name(download, place, what))
-            finally:
-                await asyncio.shield(asyncio.to_thread(download.close))
-        finally:
-            self._downloads -= 1
-
-    async def _send(
-        self, request: web.Request, download: Download, name: str
-    ) -> web.StreamResponse:
-        response = web.StreamResponse(headers=answers.attachment_headers(name))
-        if download.size is not None:
-            response.content_length = download.size
-        await response.prepare(request)
-        try:
-            while request.method != "HEAD" and (piece := await self._run(download.piece)):
-                await asyncio.wait_for(response.write(piece), SECONDS)
-            await response.write_eof()
-        except (Refusal, asyncio.TimeoutError, OSError):
-            # The headers were sent. The connection ends, so that the client notices that the file isn't whole.
-            if request.transport is not None:
-                request.transport.abort()
-        return response
-
-    async def _run(self, function: Callable[..., T], *arguments: object) -> T:
-        return await asyncio.get_running_loop().run_in_executor(self._threads, function, *arguments)
+            why = "Its type isn't one that these pages show. It can be saved."
+            raise NotShown("The payload isn't shown.", why, 415)
+        content = record.payload.content
+        if record.is_html:
+            content = embedding.embedded(gateway, collection, capture, record)
+    return Response(content, 200, responses.payload_headers(), content_type=kind)
 
 
-def _place(request: web.Request) -> Place:
-    return Place.of(request.query.get("archive", ""), request.query.get("offset", ""))
+def download(gateway: Gateway, collection: Collection, request: Request) -> Response:
+    """Answers with a record or its payload, as a file to save, piece by piece."""
+    what, place = request.args.get("what", "record"), Place.of(request.args)
+    if what not in ("record", "payload"):
+        raise NotShown("The download was refused.", "A record or its payload can be saved.")
+    capture = place.capture(gateway, collection)
+    with contextlib.ExitStack() as stack:
+        stack.enter_context(gateway.slot(Share.WIDE))
+        opened = Download(stack, stack.enter_context(reading.opened(collection, capture)), what)
+    headers = responses.attachment_headers(_file_name(opened, place, what))
+    response = Response(opened, 200, headers, content_type="application/octet-stream")
+    if opened.size is not None:
+        response.content_length = opened.size
+    return response
 
 
 def _file_name(download: Download, place: Place, what: str) -> str:
-    """Returns a name for the file: that of the archive with the offset, or the end of the address."""
+    """Returns a name for the file: that of the archive with the offset, or the end of the URL."""
     if what == "record":
         return f"{place.filename}-{place.offset}.warc"
     path = target_of(download.head).partition("?")[0].partition("#")[0].rstrip("/")
-    name = answers.file_name(path)
-    stamp = dates.stamp_of(download.head.field("WARC-Date") or "") or str(place.offset)
-    return f"{stamp}-{name}"
+    timestamp = dates.timestamp_of(download.head.field("WARC-Date") or "") or str(place.offset)
+    return f"{timestamp}-{responses.file_name(path)}"
+
+
+PAGES: Mapping[str, Page] = {
+    "": start,
+    "search": search_of,
+    "captures": captures_of,
+    "compare": compare,
+    "record": record,
+    "payload": payload,
+    "download": download,
+}

@@ -1,9 +1,12 @@
-"""The page of a search: how many captures there are and when, a year's calendar, and the captures or addresses."""
+"""The page of a search: how many captures there are and when, a calendar, and a list."""
 import re
 
-from aiohttp import web
+from werkzeug.wrappers import Response
 
+from ..answers import Source
+from ..application import Gateway
 from ..collection import Collection
+from ..shared import Share
 from . import calendars, dates, lists
 from .counting import Counts, count
 from .layout import collection_page
@@ -13,11 +16,14 @@ from .searching import Search
 _YEAR = re.compile("[0-9]{4}")
 
 
-async def search_page(
-    collection: Collection, search: Search, year: str, after: str
-) -> web.Response:
-    """Returns the page of a search, with the calendar of a year, by default the last one with captures."""
-    counts = await count(collection, search)
+def search_page(
+    gateway: Gateway, collection: Collection, search: Search, year: str, after: str
+) -> Response:
+    """Returns the page of a search.
+
+    It has the calendar of a year, for one URL that of the last year with captures by default.
+    """
+    counts = count(Source(collection.index, gateway.clock(Share.WIDE)), search)
     if not counts.total:
         return collection_page(collection, title_of(search), nothing(search), search=search)
     chosen = year if _YEAR.fullmatch(year) else ""
@@ -25,17 +31,23 @@ async def search_page(
         chosen = max(counts.years)
     if search.is_single:
         within = search.within(chosen)
-        found = await lists.captures(collection, within, after)
+        found = lists.captures(gateway, collection, within, after)
         listed = lists.captures_section(found, within, f"Captures in {chosen}")
     else:
         within = search.within(chosen) if chosen else search
-        listed = lists.addresses_section(await lists.addresses(collection, within, after), within)
+        found = lists.addresses(gateway, collection, within, after)
+        listed = lists.addresses_section(found, within)
     content: list[Child] = [
         heading(search),
         element("p", caption(counts, search)),
         _years(counts, search, chosen),
-        _year(counts, search, chosen) if chosen else None,
-        listed,
+        element(
+            "div",
+            _year(counts, search, chosen) if chosen else None,
+            listed,
+            id="year",
+            class_="year-and-list",
+        ),
     ]
     return collection_page(collection, title_of(search), *content, search=search)
 
@@ -58,17 +70,18 @@ def _year(counts: Counts, search: Search, chosen: str) -> Markup:
         days = {day: number for day, number in counts.dated.items() if day.year == year}
         drawn = [calendars.legend(days), calendars.draw_year(year, counts, search)]
         drawn.append(calendars.days_table(year, counts, search))
-    return element("section", element("h2", words), drawn, class_="card", id="year")
+    return element("section", element("h2", words), drawn, class_="card")
 
 
-async def captures_page(collection: Collection, search: Search, after: str) -> web.Response:
+def captures_page(
+    gateway: Gateway, collection: Collection, search: Search, after: str
+) -> Response:
     """Returns the list of the captures of a search, for example of a day."""
-    found = await lists.captures(collection, search, after)
+    found = lists.captures(gateway, collection, search, after)
     words = "Captures"
     if search.first and search.first == search.last:
-        words += (
-            f" {'on' if len(search.first) == 8 else 'in'} {dates.period_in_words(search.first)}"
-        )
+        where = "on" if len(search.first) == 8 else "in"
+        words += f" {where} {dates.period_in_words(search.first)}"
     back = element(
         "p",
         element("a", "All years of this search", href=search.ever().link("search")),
@@ -86,9 +99,12 @@ def title_of(search: Search) -> str:
 
 def heading(search: Search) -> Markup:
     """Returns the head of a page, with what is searched for."""
-    what = "Address" if search.is_single else {
-        "host": "Host", "domain": "Host and all hosts below it",
-    }.get(search.match, "Host and all hosts below it" if search.typed.startswith("*.") else "Addresses that begin so")  # fmt: skip
+    domain, prefix = "Host and all hosts below it", "Addresses that begin with"
+    what = {"host": "Host", "domain": domain, "prefix": prefix}.get(
+        search.match, domain if search.typed.startswith("*.") else prefix
+    )
+    if search.is_single:
+        what = "Address"
     return element("hgroup", element("p", what), element("h1", element("bdi", search.shown)))
 
 
@@ -103,7 +119,10 @@ def caption(counts: Counts, search: Search) -> Markup:
         undated = f" The time of {dates.many(counts.undated, 'capture')} is no date."
     if counts.is_whole:
         return joined(f"{dates.many(counts.total, 'capture')} {when}.{undated}")
-    rest = "The captures after these aren't in the drawings. Search for a shorter time to count them all."
+    rest = (
+        "The captures after these aren't in the drawings. "
+        "Search for a shorter time to count them all."
+    )
     order = (
         f"up to {dates.in_words(counts.last)}"
         if search.is_single
@@ -124,7 +143,7 @@ def nothing(search: Search) -> Markup:
         )
     if search.is_single and search.typed:
         for match, words in (
-            ("prefix", "Search for addresses that begin so"),
+            ("prefix", "Search for addresses that begin with it"),
             ("host", "Search the whole host"),
         ):
             hints.append(
@@ -132,7 +151,8 @@ def nothing(search: Search) -> Markup:
             )
     when = ""
     if search.first or search.last:
-        when = f" in the time from {dates.typed(search.first) or 'the first'} to {dates.typed(search.last) or 'the last'}"
+        first, last = (dates.typed(each) for each in (search.first, search.last))
+        when = f" in the time from {first or 'the first'} to {last or 'the last'}"
     return joined(
         heading(search),
         element("p", f"The collection has no capture of this{when}."),

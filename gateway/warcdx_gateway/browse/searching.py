@@ -1,4 +1,4 @@
-"""What is searched for: an address, a host or all hosts below one, and a time; as the text of a query."""
+"""What is searched for, an address or a host and a time, as the text of a query."""
 import re
 from collections.abc import Mapping
 from dataclasses import dataclass, replace
@@ -11,15 +11,15 @@ from .markup import Link, link
 MATCHES = {
     "": "as it is typed",
     "exact": "this address only",
-    "prefix": "addresses that begin so",
+    "prefix": "addresses that begin with it",
     "host": "all addresses of the host",
     "domain": "the host and all hosts below it",
 }
 _DIGITS = re.compile("[0-9]{1,14}")
 
 
-class Refusal(Exception):
-    """What is refused, and why, in words."""
+class NotShown(Exception):
+    """Why a page isn't shown: what was refused and why, in words, and the status of the answer."""
 
     def __init__(self, what: str, why: str, status: int = 400) -> None:
         super().__init__(what, why)
@@ -27,23 +27,27 @@ class Refusal(Exception):
         self.why = why
         self.status = status
 
+    def __str__(self) -> str:
+        return f"{self.what} {self.why}"
+
 
 # Why the program refuses a query, by the names that docs/QUERY.md has.
 REASONS = {
     "QueryTooLong": "It has more than 65,536 bytes.",
     "NotText": "It isn't a text in UTF-8.",
     "BadMatch": "There is no such match.",
-    "BadStamp": "A time is a year, a year and a month, or a year, a month and a day: 2016, 2016-03 or 2016-03-01.",
+    "BadStamp": "A time is a year, a year and a month, or a year, a month and a day: 2016, 2016-03 "
+    "or 2016-03-01.",
     "BadResume": "The place at which the list was to continue isn't one.",
     "NoUrl": "Nothing was typed.",
-    "BadUrl": "It isn't an address that the URL Standard accepts. All addresses of a host are found only for web "
-    "addresses, which begin with http:// or https://.",
+    "BadUrl": "It isn't an address that the URL Standard accepts. All addresses of a host are "
+    "found only for web addresses, which begin with http:// or https://.",
 }
 
 
 @dataclass(frozen=True)
 class Search:
-    """What was typed, which addresses match it, and the first digits of the first and last stamp.
+    """What was typed, which addresses match, and the first digits of the first and last timestamp.
 
     `key` is a key of an index, which is searched for in the place of what was typed.
     """
@@ -56,7 +60,7 @@ class Search:
 
     @classmethod
     def of(cls, query: Mapping[str, str]) -> "Search":
-        """Returns the search of the values of a form. Raises Refusal."""
+        """Returns the search of the values of a form. Raises NotShown."""
         search = cls(
             query.get("url", "").strip(),
             query.get("match", ""),
@@ -65,15 +69,15 @@ class Search:
             query.get("key", ""),
         )
         if not search.typed and not search.key:
-            raise Refusal("The search was refused.", REASONS["NoUrl"])
+            raise NotShown("The search was refused.", REASONS["NoUrl"])
         if search.match not in MATCHES:
-            raise Refusal(f"The match “{search.match}” was refused.", REASONS["BadMatch"])
+            raise NotShown(f"The match “{search.match}” was refused.", REASONS["BadMatch"])
         for typed, digits in (
             (query.get("from", ""), search.first),
             (query.get("to", ""), search.last),
         ):
             if digits and not _DIGITS.fullmatch(digits):
-                raise Refusal(f"The time “{typed}” was refused.", REASONS["BadStamp"])
+                raise NotShown(f"The time “{typed}” was refused.", REASONS["BadStamp"])
         return search
 
     @property
@@ -90,7 +94,7 @@ class Search:
         return self.typed or self.key
 
     def within(self, digits: str) -> "Search":
-        """Returns the search in the year, month or day of these first digits of a stamp."""
+        """Returns the search in the year, month or day of these first digits of a timestamp."""
         return replace(self, first=digits, last=digits)
 
     def ever(self) -> "Search":
@@ -111,20 +115,20 @@ class Search:
     def link(self, path: str, fragment: str = "", /, **more: Optional[str]) -> Link:
         """Returns a link to a page of this search."""
         values: dict[str, Optional[str]] = {
-            "url": self.typed, "match": self.match, "from_": self.first, "to": self.last, "key": self.key, **more
-        }  # fmt: skip
+            "url": self.typed,
+            "match": self.match,
+            "from_": self.first,
+            "to": self.last,
+            "key": self.key,
+            **more,
+        }
         return link(path, fragment, **values)
 
-    def refusal(self, name: str) -> Refusal:
-        """Returns the refusal of this search, from the name that the program gives it."""
+    def refusal(self, name: str) -> NotShown:
+        """Returns why this search is refused, from the name that the program gives it."""
         why = REASONS.get(name, "The program has refused the query.")
-        return Refusal(f"The search for “{self.shown}” was refused ({name}).", why)
+        return NotShown(f"The search for “{self.shown}” was refused ({name}).", why)
 
 
 def quoted(value: str) -> str:
     return quote_plus(value, errors="replace")
-
-
-def place_of(key: str, stamp: str, filename: str, offset: str) -> str:
-    """Returns the resume key of a place, as a value that isn't form-encoded yet."""
-    return f"{key} {stamp} {filename} {offset}"

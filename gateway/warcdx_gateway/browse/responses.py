@@ -1,9 +1,9 @@
-"""The answers of these pages, with the headers that keep what an archive holds from acting on a reader."""
+"""The answers of these pages, with headers that keep what an archive holds from acting."""
 import re
 import unicodedata
 from urllib.parse import quote
 
-from aiohttp import web
+from werkzeug.wrappers import Response
 
 COMMON = {
     "X-Content-Type-Options": "nosniff",
@@ -16,42 +16,38 @@ PAGE_POLICY = (
     "default-src 'none'; style-src 'self'; img-src 'self'; frame-src 'self'; form-action 'self'; "
     "base-uri 'none'; frame-ancestors 'none'"
 )
-# What an archive holds gets an origin of its own, runs no script, fetches nothing and sends no form.
+# What an archive holds has its own origin, runs no script, fetches nothing and sends no form.
+# Its images and style sheets are those that `embedding` has put into it.
 PAYLOAD_POLICY = (
-    "sandbox; default-src 'none'; style-src 'unsafe-inline'; img-src data:; form-action 'none'; "
-    "base-uri 'none'; frame-ancestors 'self'"
+    "sandbox; default-src 'none'; style-src 'unsafe-inline' data:; img-src data:; "
+    "form-action 'none'; base-uri 'none'; frame-ancestors 'self'"
 )
 _UNSAFE = re.compile(r"[^A-Za-z0-9._-]+")
 _MOST_NAME = 150  # characters of a file name
 
 
-def page(text: bytes, status: int = 200) -> web.Response:
+def page(text: bytes, status: int = 200) -> Response:
     headers = {**COMMON, "Content-Security-Policy": PAGE_POLICY, "Cache-Control": "no-cache"}
-    return web.Response(
-        body=text, status=status, headers={**headers, "Content-Type": "text/html; charset=utf-8"}
-    )
+    if status == 503:
+        headers["Retry-After"] = "1"  # seconds
+    return Response(text, status, headers, content_type="text/html; charset=utf-8")
 
 
-def part(text: bytes, kind: str) -> web.Response:
+def part(text: bytes, kind: str) -> Response:
     """Returns a part of the pages themselves: the style sheet or the icon."""
     policy = "default-src 'none'; frame-ancestors 'none'"
-    headers = {
-        **COMMON,
-        "Content-Security-Policy": policy,
-        "Content-Type": kind,
-        "Cache-Control": "max-age=3600",
-    }
-    return web.Response(body=text, headers=headers)
+    headers = {**COMMON, "Content-Security-Policy": policy, "Cache-Control": "max-age=3600"}
+    return Response(text, 200, headers, content_type=kind)
 
 
-def payload_headers(kind: str) -> dict[str, str]:
-    """Returns the headers of a payload that is shown in its frame, with a type of this package."""
-    return {
-        **COMMON,
-        "Content-Security-Policy": PAYLOAD_POLICY,
-        "Content-Type": kind,
-        "Cache-Control": "no-cache",
-    }
+def redirect(path: str, status: int = 303) -> Response:
+    """Sends a browser to a path that is relative to that of the request."""
+    return Response(b"", status, {**COMMON, "Location": path}, content_type="text/plain")
+
+
+def payload_headers() -> dict[str, str]:
+    """Returns the headers of a payload: whatever its type is, it can't act."""
+    return {**COMMON, "Content-Security-Policy": PAYLOAD_POLICY, "Cache-Control": "no-cache"}
 
 
 def attachment_headers(name: str) -> dict[str, str]:
@@ -59,7 +55,6 @@ def attachment_headers(name: str) -> dict[str, str]:
     return {
         **COMMON,
         "Content-Security-Policy": "sandbox; default-src 'none'; frame-ancestors 'none'",
-        "Content-Type": "application/octet-stream",
         "Content-Disposition": disposition(name),
         "Cache-Control": "no-cache",
     }
@@ -73,7 +68,7 @@ def disposition(name: str) -> str:
 
 
 def file_name(text: str) -> str:
-    """Returns a name for a file that has no folder, no control, no mark of direction, and no dot in front."""
+    """Returns a file name without folders, controls, marks of direction and a dot in front."""
     last = text.replace("\\", "/").rstrip("/").rpartition("/")[2]
     kept = "".join(
         "_" if unicodedata.category(each)[0] in "CZ" or each in '<>:"|?*%' else each

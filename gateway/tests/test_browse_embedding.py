@@ -1,0 +1,108 @@
+"""The images and style sheets that are put into a payload."""
+import base64
+import time
+import unittest
+from typing import Optional
+from unittest import mock
+
+from . import browse_support as support
+from .browse_support import Archives, response, revisit
+
+from warcdx_gateway.browse import embedding
+from warcdx_gateway.browse.embedding import MOST_BYTES, filled, styled
+
+HOME = "http://example.com/a/page"
+DATE, OLD = "2016-03-03T09:34:31Z", "2010-01-01T00:00:00Z"
+PNG = b"\x89PNG\r\n\x1a\n"
+LONG = 10**6
+
+
+def url_of(kind: str, content: bytes) -> str:
+    return f"data:{kind};base64,{base64.b64encode(content).decode()}"
+
+
+def named(url: str, kind: str) -> Optional[str]:
+    """Stands for an archive that has each URL of example.com."""
+    return f"data:{kind or 'image'},{url}" if url.startswith("http://example.com/") else None
+
+
+class Filling(unittest.TestCase):
+    def test_images_and_style_sheets_are_those_of_the_archive(self) -> None:
+        base, image, style = "http://example.com", "data:image", "data:text/css"
+        for given, wanted in (
+            ("<img src=b.png>", f'<img src="{image},{base}/a/b.png">'),
+            ("<IMG alt='>' SRC='/b.png'>", "<IMG alt='>' SRC='/b.png'>"),
+            ("<IMG SRC = '/b.png' >", f'<IMG src="{image},{base}/b.png" >'),
+            ('<img src="//example.com/b?c&amp;d">', f'<img src="{image},{base}/b?c&d">'),
+            ("<img src=http://evil.example/x>", "<img src=http://evil.example/x>"),
+            ("<img src=b srcset='c 2x'>", f'<img src="{image},{base}/a/b" srcset="">'),
+            ("<link rel=stylesheet href=s>", f'<link rel=stylesheet href="{style},{base}/a/s">'),
+            ("<link rel=next href=s.css>", "<link rel=next href=s.css>"),
+            ("<a href=b.png>", "<a href=b.png>"),
+            ("<script src=b.js>", "<script src=b.js>"),
+            ("<base href='/c/'><img src=b>", f"<base href='/c/'><img src=\"{image},{base}/c/b\">"),
+            ("<base href=/c/><base href=/d/><img src=b>",
+             f'<base href=/c/><base href=/d/><img src="{image},{base}/c/b">'),
+            ("<td background=b>", f'<td background="{image},{base}/a/b">'),
+            ("<style>p { background: url( 'b' ) }</style>",
+             f"<style>p {{ background: url({image},{base}/a/b) }}</style>"),
+            ('<table style="background:url(&quot;b&quot;)">',
+             f'<table style="background:url({image},{base}/a/b)">'),
+        ):  # fmt: skip
+            self.assertEqual(wanted.encode(), filled(given.encode(), HOME, named), given)
+
+    def test_a_style_sheet_has_its_imports(self) -> None:
+        for given, wanted in (
+            (b'@import "s.css";', b'@import "data:text/css,http://example.com/a/s.css";'),
+            (b"@import url(s.css);", b"@import url(data:text/css,http://example.com/a/s.css);"),
+            (b"a{b:url(http://evil.example/)}", b"a{b:url(http://evil.example/)}"),
+            (b"a{b:url(data:image/png;base64,AA)}", b"a{b:url(data:image/png;base64,AA)}"),
+        ):
+            self.assertEqual(wanted, styled(given, HOME, named), given)
+
+    def test_hostile_pages_take_linear_time(self) -> None:
+        for part in (
+            b"<img", b"<img ", b"<img src=", b"<img src=a ", b"<img src=a>", b"<style>", b"url(",
+            b"<link rel=stylesheet ", b"<style>url(", b"<img src='", b'<img src="',
+            b"<base href=a/>",
+            b"<table style=url(", b"<td style='url(a", b"&#", b" src", b" src ", b'@import "',
+            b"@import  ",
+        ):  # fmt: skip
+            for before in (b"", b"<style>", b"<img "):
+                start = time.process_time()
+                filled(before + part * (LONG // len(part)), HOME, lambda url, kind: None)
+                self.assertLess(time.process_time() - start, 5, (before, part))
+
+
+class Parts(support.Pages):
+    def fill(self, archives: Archives) -> None:
+        page = b"<link rel=stylesheet href=/s.css><img src=b.png><img src=c.png><img src=d.png>"
+        style = b"p { background: url(a/b.png) } @import '/s.css';"
+        archives.add("a.warc", [
+            response(HOME, DATE, page),
+            response("http://example.com/a/b.png", "2010-01-01T00:00:00Z", b"old", "image/png"),
+            response("http://example.com/a/b.png", "2016-04-01T00:00:00Z", PNG, "image/png"),
+            response("http://example.com/a/c.png", "2010-01-01T00:00:00Z", PNG, "image/png"),
+            revisit("http://example.com/a/c.png", "2016-04-01T00:00:00Z", PNG, OLD),
+            response("http://example.com/a/d.png", DATE, b"<p>no image</p>", "text/html"),
+            response("http://example.com/s.css", DATE, style, "text/css"),
+            response("http://example.com/many", DATE, b"<img src=/a/b.png>" * 200_000),
+        ])  # fmt: skip
+
+    def test_a_payload_has_the_nearest_captures_of_its_parts(self) -> None:
+        found = self.ask("payload", **self.place(HOME)).data
+        image = url_of("image/png", PNG).encode()
+        style = b"p { background: url(" + image + b") } @import '/s.css';"
+        self.assertIn(b'<img src="' + image + b'"><img src="' + image + b'"><img src=d.png>', found)
+        self.assertIn(url_of("text/css", style).encode(), found)
+
+    def test_what_parts_add_is_bounded(self) -> None:
+        content = b"\0" * 100_000
+        made = url_of("image/png", content)
+        with mock.patch.object(embedding.Parts, "_make", return_value=made):
+            found = self.ask("payload", **self.place("http://example.com/many")).data
+        self.assertLess(len(found), MOST_BYTES + 5_000_000)
+
+
+if __name__ == "__main__":
+    unittest.main()

@@ -1,0 +1,396 @@
+"""The WSGI application: its paths, and what every answer has."""
+import contextlib
+import errno
+import functools
+import importlib
+import itertools
+import json
+import socket
+import struct
+import time
+from collections.abc import Callable, Generator, Iterable, Iterator, Mapping
+from typing import Any, Optional
+from urllib.parse import urlsplit
+
+from werkzeug.exceptions import HTTPException, MethodNotAllowed, NotFound
+from werkzeug.routing import Map, Rule
+from werkzeug.wrappers import Request, Response
+
+from warcdx import FIELDS, Capture, Error, Fault, Refused, ReplyTooLate, ReplyTooLong, command
+
+from .answers import Answers, Clock, Source, or_nothing
+from .collection import Collection
+from .parameters import Form, translated
+from .plan import Plan, plan_of
+from .refusal import Refusal, program_refusal
+from .rows import Output
+from .settings import Settings, is_loopback
+from .shared import Metrics, Share, Shares
+
+NAME = "warcdx-gateway"
+METHODS = ("GET", "HEAD")
+TEXT = "text/plain; charset=utf-8"
+KINDS = {
+    Output.TEXT: TEXT,
+    Output.JSON: "application/json",
+    Output.CDXJ: TEXT,
+    Output.LINES: "text/x-ndjson; charset=utf-8",
+}
+# The paths of the main collection in the form of the Internet Archive.
+WAYBACK_PATHS = (
+    "/cdx",
+    "/cdx/search",
+    "/cdx/search/cdx",
+    "/cdx/search/xd",
+    "/web/timemap/cdx",
+    "/web/timemap/json",
+)
+MODULES = ("memento", "clients", "browse")  # each has `rules(gateway)`
+MOST_BODY = 1 << 17  # bytes of a request
+HEALTH_SECONDS = 5
+MOST_WHOLE = 1 << 16  # bytes of an answer that is made before it is sent
+
+Handler = Callable[..., Response]  # of the gateway, a request and the values of its path
+
+
+class GatewayRequest(Request):
+    max_content_length = MOST_BODY
+
+    @property
+    def query_text(self) -> str:
+        """The query as it was sent, with its escapes. Raises Refusal if it isn't UTF-8."""
+        try:
+            return self.query_string.decode()
+        except UnicodeDecodeError:
+            raise Refusal("NotText", "", "a query is in UTF-8") from None
+
+
+class Gateway:
+    """Answers requests from collections."""
+
+    def __init__(
+        self,
+        settings: Settings,
+        collections: Mapping[str, Collection],
+        shares: Shares,
+        metrics: Metrics,
+    ) -> None:
+        self.settings = settings
+        self.collections = collections
+        self.main = collections[settings.main]
+        self.shares = shares
+        self.metrics = metrics
+        self._answers = Answers(settings.limits)
+        self.beat: Callable[[], None] = lambda: None  # shows the master that an answer goes on
+        found = list(own_rules())
+        for name in MODULES:  # which stand on this one
+            found += importlib.import_module(f"{__package__}.{name}").rules(self)
+        self._paths = Map(found, strict_slashes=False, merge_slashes=False)
+
+    def collection(self, name: str) -> Collection:
+        """Returns the collection of a name in a path. Raises NotFound."""
+        if name not in self.collections:
+            raise NotFound("there is no such collection")
+        return self.collections[name]
+
+    def slot(self, kind: Share) -> contextlib.AbstractContextManager[None]:
+        """Takes a slot for a block. Raises Refusal with status 503 if none is free in time."""
+        return self.shares.slot(kind)
+
+    def clock(self, kind: Share, client: Optional[socket.socket] = None) -> Clock:
+        """Returns the clock of an answer, which is checked before each costly step of it.
+
+        It raises ConnectionResetError if the client has left with a reset.
+        """
+        limits = self.settings.limits
+        if kind is Share.EXACT:
+            return Clock(limits.exact, limits.query, self.beat)
+
+        def beat() -> None:
+            self.beat()
+            if client is not None:
+                with contextlib.suppress(BlockingIOError):
+                    client.recv(1, socket.MSG_PEEK | socket.MSG_DONTWAIT)
+
+        return Clock(limits.wide, limits.query, beat)
+
+    def captures(
+        self, collection: Collection, query: str, limit: int, kind: Share = Share.WIDE
+    ) -> list[Capture]:
+        """Returns the first captures that a query of the program selects, at most `limit`.
+
+        Raises the errors of the package, or Refusal if it takes too long.
+        """
+        source = Source(collection.index, self.clock(kind))
+        groups = source.values(f"{query}&limit={limit}", FIELDS)
+        return [Capture.of(values) for group in groups for values in group]
+
+    def answer(
+        self,
+        request: GatewayRequest,
+        collection: Collection,
+        form: Form,
+        query: Optional[str] = None,
+    ) -> Response:
+        """Answers a query, by default that of the request, in a form of its parameters."""
+        text = translated(request.query_text if query is None else query)
+        plan = plan_of(text, form, self.settings.limits)
+        kind = Share.EXACT if plan.is_exact else Share.WIDE
+        clock = self.clock(kind, request.environ.get("gunicorn.socket"))
+        index = collection.index
+        headers = collection.validators()
+        if is_unchanged(request, headers):
+            clock.check(index)
+            index.text(plan.plain_query(plan.resume_key, 1))  # a query that is refused has no 304
+            return Response(status=304, headers=headers)
+
+        def pieces() -> Iterator[bytes]:
+            with self.slot(kind):
+                made = self._answers.pieces(plan, index, collection.tag, clock)
+                yield from or_nothing(made) if plan.is_array else made
+
+        return streamed(pieces(), headers, kind_of(plan))
+
+    def rows(self, collection: Collection, query: str) -> list[list[str]]:
+        """Returns the rows of a query in the form of the Internet Archive, which names `fl`."""
+        plan = plan_of(f"{query}&output=json", Form.WAYBACK, self.settings.limits)
+        with self.slot(Share.WIDE):
+            clock = self.clock(Share.WIDE)
+            made = self._answers.pieces(plan, collection.index, collection.tag, clock)
+            return list(json.loads(b"".join(made)))[1:]
+
+    def __call__(self, environ: dict[str, Any], start_response: Any) -> Iterable[bytes]:
+        start, request = time.monotonic(), GatewayRequest(environ, populate_request=False)
+        name, response = self._response(request)
+        response.headers.setdefault("X-Content-Type-Options", "nosniff")
+        # What a browser shows, with a policy of its own, is for readers alone.
+        is_shown = "Content-Security-Policy" in response.headers
+        if name and not is_shown and (origin := self._allowed_origin(request)):
+            response.headers["Access-Control-Allow-Origin"] = origin
+            response.headers["Access-Control-Expose-Headers"] = "ETag, Last-Modified, Link"
+            if origin != "*":
+                response.vary.add("Origin")
+        response.call_on_close(lambda: self.metrics.seconds.observe(time.monotonic() - start))
+        self.metrics.requests.labels(name, str(response.status_code)).inc()
+        if response.status_code != 200:
+            return Sent(self, environ, response(environ, start_response))
+        # What Werkzeug does for other statuses costs more than an exact answer.
+        if response.is_sequence and "Content-Length" not in response.headers:
+            response.headers["Content-Length"] = str(sum(map(len, response.response)))
+        start_response(response.status, response.headers.to_wsgi_list())
+        return Sent(self, environ, response.get_app_iter(environ))
+
+    def _response(self, request: GatewayRequest) -> tuple[str, Response]:
+        """Returns the name of the collection, if there is one, and the response."""
+        name = ""
+        try:
+            self._check_host(request)
+            for collection in self.collections.values():
+                collection.look()
+            adapter = self._paths.bind("", path_info=request.path, default_method=request.method)
+            if request.method == "OPTIONS" and self.settings.origins:
+                return self.settings.main, preflight(adapter.allowed_methods())
+            found, values = adapter.match(return_rule=True)
+            is_main = found.rule in WAYBACK_PATHS or found.rule.startswith("/web/")
+            name = values.get("collection", self.settings.main if is_main else "")
+            name = name if name in self.collections else ""
+            handler: Any = found.endpoint
+            return name, handler(self, request, **values)
+        except ConnectionError:
+            raise  # the client has left
+        except HTTPException as error:
+            return name, http_response(error)
+        except Exception as error:
+            return name, self.failed(request, name, error)
+
+    def failed(self, request: GatewayRequest, name: str, error: BaseException) -> Response:
+        """Returns the plain response to a request that has met an error."""
+        if isinstance(error, Refused):
+            error = program_refusal(error.name, request.query_string.decode(errors="replace").split("&"))
+        elif isinstance(error, ReplyTooLate):
+            error = Refusal("TooSlow", "", "it takes too long; restrict the query", status=503)
+        elif isinstance(error, (ReplyTooLong, MemoryError)):
+            error = Refusal("TooLarge", "", "it takes too much memory; restrict the query")
+        if isinstance(error, Refusal):
+            self.metrics.refusals.labels(error.name).inc()
+            headers = {"Retry-After": "1"} if error.status == 503 else {}
+            return Response(f"{error}\n", error.status, headers, content_type=TEXT)
+        say(f"{name}: {text_of(error)}")
+        text = text_of(error) if isinstance(error, Fault) else "the program has failed"
+        return Response(f"{text}\n", 500, content_type=TEXT)
+
+    def _check_host(self, request: Request) -> None:
+        """Refuses a request for another server, as a page of a hostile site may send it.
+
+        The name of the host is the one that a browser looked up.
+        """
+        host = host_of(request.environ.get("HTTP_HOST") or "localhost")
+        if self.settings.is_local and is_loopback(host):
+            return
+        if host not in self.settings.hosts and "*" not in self.settings.hosts:
+            raise Refusal("Host", "Host", "this server has another name", host, status=421)
+
+    def _allowed_origin(self, request: Request) -> str:
+        if "*" in self.settings.origins:
+            return "*"
+        origin = request.headers.get("Origin", "")
+        return origin if origin in self.settings.origins else ""
+
+
+class Sent:
+    """An answer as gunicorn sends it. One that fails is broken off, so that it is seen."""
+
+    def __init__(self, gateway: "Gateway", environ: dict[str, Any], pieces: Iterable[bytes]) -> None:
+        self._gateway = gateway
+        self._environ = environ
+        self._pieces = pieces
+        self._is_whole = False
+
+    def __iter__(self) -> Iterator[bytes]:
+        try:
+            for piece in self._pieces:
+                self._gateway.beat()
+                self._gateway.metrics.bytes.inc(len(piece))
+                yield piece
+            self._is_whole = True
+        except (ConnectionError, GeneratorExit):
+            raise  # the client has left
+        except BaseException as error:
+            self._is_whole = True  # it is counted here
+            self._break(error)
+            if not isinstance(error, Exception):
+                raise
+            # gunicorn closes the connection then, and says nothing.
+            raise BrokenPipeError(errno.EPIPE, "an answer was broken off") from None
+
+    def close(self) -> None:
+        if not self._is_whole:
+            self._gateway.metrics.broken.labels("client left").inc()
+        close = getattr(self._pieces, "close", None)
+        if close is not None:
+            close()
+
+    def _break(self, error: BaseException) -> None:
+        cause = type(error).__name__
+        self._gateway.metrics.broken.labels(cause).inc()
+        say(f"an answer was broken off: {text_of(error)}")
+        found = self._environ.get("gunicorn.socket")
+        if found is not None and self._environ.get("SERVER_PROTOCOL") == "HTTP/1.0":
+            # Without chunks, the end of the connection would be that of the answer.
+            found.setsockopt(socket.SOL_SOCKET, socket.SO_LINGER, struct.pack("ii", 1, 0))
+
+
+def rule(path: str, handler: Handler, methods: Iterable[str] = METHODS) -> Rule:
+    """Returns the rule of a path, in the words of Werkzeug, whose requests a handler answers."""
+    endpoint: Any = handler
+    return Rule(path, endpoint=endpoint, methods=methods)
+
+
+def own_rules() -> Iterator[Rule]:
+    yield rule("/health", health)
+    yield rule("/metrics", show_metrics)
+
+
+def health(gateway: Gateway, request: GatewayRequest) -> Response:
+    """Asks each collection for a capture that no index has."""
+    for collection in gateway.collections.values():
+        try:
+            index = collection.index
+            index.seconds = HEALTH_SECONDS
+            index.text("key=!&limit=1&fl=offset")
+        except (Error, OSError) as error:
+            return Response(f"{collection.name}: {error}\n", 503, content_type=TEXT)
+    return Response("ok\n", content_type=TEXT)
+
+
+def show_metrics(gateway: Gateway, request: GatewayRequest) -> Response:
+    kind = "text/plain; version=0.0.4; charset=utf-8"
+    return Response(gateway.metrics.text(), content_type=kind)
+
+
+def streamed(pieces: Iterator[bytes], headers: Mapping[str, str], kind: str) -> Response:
+    """Returns the response of an answer whose pieces are made when they are sent.
+
+    The first ones are made at once. So what fails until then has a status, and a short answer has
+    a length.
+    """
+    begun, size = list[bytes](), 0
+    for piece in pieces:
+        begun.append(piece)
+        size += len(piece)
+        if size > MOST_WHOLE:
+            break
+    else:
+        return Response(b"".join(begun), 200, headers, content_type=kind)
+    response = Response(itertools.chain(begun, pieces), 200, headers, content_type=kind)
+    if isinstance(pieces, Generator):
+        response.call_on_close(pieces.close)
+    return response
+
+
+def is_unchanged(request: Request, headers: Mapping[str, str]) -> bool:
+    """Returns whether the client has an answer from the present indexes (RFC 9110, 13.2.2).
+
+    An index of before may have come back. So only the very time that was sent is taken.
+    """
+    if "If-None-Match" in request.headers:
+        return request.if_none_match.contains_weak(headers["ETag"].strip('"'))
+    since = request.headers.get("If-Modified-Since")
+    return since is not None and since == headers.get("Last-Modified")
+
+
+def http_response(error: HTTPException) -> Response:
+    """Returns the plain response to a path or method that there isn't."""
+    if isinstance(error.response, Response):
+        return error.response
+    name, cause = (error.name or "").title().replace(" ", ""), error.description or ""
+    headers = [each for each in error.get_headers() if each[0] not in ("Content-Type", "Allow")]
+    if isinstance(error, MethodNotAllowed):
+        methods = ", ".join(sorted(error.valid_methods or ()))
+        headers.append(("Allow", methods))
+        cause = f"the methods are {methods}"
+    elif cause == NotFound.description:
+        cause = "there is no such path"
+    return Response(f"refused {name}: {cause}\n", error.code, headers, content_type=TEXT)
+
+
+def preflight(methods: Iterable[str]) -> Response:
+    allowed = ", ".join(sorted({*methods, "OPTIONS"}))
+    headers = {
+        "Allow": allowed,
+        "Access-Control-Allow-Methods": allowed,
+        "Access-Control-Allow-Headers": "*",
+        "Access-Control-Max-Age": "86400",
+    }
+    return Response(status=204, headers=headers)
+
+
+def kind_of(plan: Plan) -> str:
+    if plan.counts_pages:
+        return TEXT if plan.form is Form.WAYBACK else "application/json"
+    if plan.output is Output.CDXJ and plan.form is Form.PYWB:
+        return "text/x-cdxj; charset=utf-8"
+    return KINDS[plan.output]
+
+
+@functools.lru_cache
+def host_of(field: str) -> str:
+    """Returns the host of a field `Host` without its port, nothing if it can't be read."""
+    try:
+        return urlsplit(f"//{field}").hostname or ""
+    except ValueError:
+        return ""
+
+
+def text_of(error: BaseException) -> str:
+    """Returns an error on one line. An index is named by its number in the settings, from 0."""
+    if isinstance(error, Fault):
+        parts = ("fault", error.name, error.number, error.offset)
+        return " ".join(str(part) for part in parts if part is not None)
+    is_known = isinstance(error, (Error, Refusal, OSError)) and str(error)
+    return str(error) if is_known else f"{type(error).__name__} {error}".rstrip()
+
+
+def say(text: str) -> None:
+    """Writes a line to standard error."""
+    command.report(NAME, command.printable(text))

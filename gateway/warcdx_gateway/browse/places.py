@@ -1,0 +1,106 @@
+"""Where records are, as the links to them say it: only what an index names is read."""
+import functools
+import re
+from collections.abc import Mapping
+from dataclasses import dataclass
+from typing import Optional
+
+from warcdx import Capture
+
+from ..application import Gateway
+from ..collection import Collection
+from ..history import MOST, Ask, History, before_time, place_of, quoted, resumed
+from .markup import Link, link
+from .searching import NotShown
+
+_OFFSET = re.compile("[0-9]{1,19}")
+_TIMESTAMP = re.compile("[0-9]{14}")
+
+
+@dataclass(frozen=True)
+class Place:
+    """The file name of an archive, the offset of a record in bytes, and the index line with both.
+
+    The line is found by its timestamp and its URL key, or a URL with this key.
+    """
+
+    filename: str
+    offset: int
+    timestamp: str
+    key: str
+    url: str = ""
+
+    @classmethod
+    def of(cls, query: Mapping[str, str]) -> "Place":
+        """Returns the place of the query of a link. Raises NotShown."""
+        given = (query.get(name, "") for name in ("archive", "offset", "timestamp", "key", "url"))
+        return cls._of(*given)
+
+    @classmethod
+    def of_text(cls, text: str) -> "Place":
+        """Returns the place of `OFFSET TIMESTAMP KEY FILENAME`. Raises NotShown."""
+        offset, timestamp, key, filename = (text.split(" ", 3) + [""] * 3)[:4]
+        return cls._of(filename, offset, timestamp, key, "")
+
+    @classmethod
+    def _of(cls, filename: str, offset: str, timestamp: str, key: str, url: str) -> "Place":
+        if not _OFFSET.fullmatch(offset) or int(offset) >= 1 << 63:
+            raise NotShown(
+                "The offset of the record was refused.",
+                "An offset is a number of bytes below 2^63.",
+            )
+        if not _TIMESTAMP.fullmatch(timestamp) or not (key or url) or " " in key or not filename:
+            raise NotShown(
+                "The link to the record was refused.",
+                "It has the URL key of the capture, its timestamp of 14 digits and its file name.",
+            )
+        return cls(filename, int(offset), timestamp, key, url)
+
+    def capture(self, gateway: Gateway, collection: Collection) -> Capture:
+        """Returns the line of an index that names the record. Raises NotShown if there is none."""
+        ask, key = functools.partial(gateway.captures, collection), self.key
+        if not key:
+            first = History(ask, url=self.url).first()
+            key = first.urlkey if first else ""
+        none = ("-",) * 4
+        place = Capture(key, self.timestamp, *none, None, self.offset, self.filename)
+        found = capture_at(ask, place) if key else None
+        if found is None:
+            raise NotShown(
+                "There is no such record.",
+                "No index of the collection names a record at this place.",
+                404,
+            )
+        return found
+
+
+def capture_at(ask: Ask, place: Capture) -> Optional[Capture]:
+    """Returns the capture with the key, timestamp, file name and offset of a place, or None."""
+    after = before_time(place.urlkey, int(place.timestamp))
+    if place.offset:
+        after = resumed(place_of(place._replace(offset=place.offset - 1)))
+    while True:
+        found = ask(f"key={quoted(place.urlkey)}{after}", 1 if place.offset else MOST)
+        for each in found:
+            if place_of(each) == place_of(place):
+                return each
+        if place.offset or len(found) < MOST or found[-1].timestamp != place.timestamp:
+            return None
+        after = resumed(place_of(found[-1]))
+
+
+def text_of(capture: Capture) -> str:
+    """Returns the place of a capture as `Place.of_text` reads it."""
+    return f"{capture.offset} {capture.timestamp} {capture.urlkey} {capture.filename}"
+
+
+def record_link(capture: Capture, page: str = "record", **more: str) -> Link:
+    """Returns the link to a page of the record of a capture."""
+    return link(
+        page,
+        archive=capture.filename,
+        offset=capture.offset,
+        timestamp=capture.timestamp,
+        key=capture.urlkey,
+        **more,
+    )

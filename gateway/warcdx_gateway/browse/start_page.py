@@ -1,0 +1,180 @@
+"""The start page of a collection: what it holds."""
+import contextlib
+import datetime
+import re
+from collections import Counter
+from collections.abc import Mapping
+from typing import Any, Optional
+
+from werkzeug.wrappers import Response
+
+from warcdx.counting import host_of
+
+from ..application import Gateway
+from ..collection import Collection
+from ..history import quoted
+from . import calendars, dates
+from .counting import Counts
+from .layout import collection_page, row, table
+from .markup import Child, cut, element, followed, link
+
+MOST_ROWS = 20  # of a table
+MOST_DAMAGED = 20
+_MOST_NAME = 200  # characters of a value
+_YEAR = re.compile("[0-9]{4}")
+# With the front of a key before it, the place after all keys that begin so.
+_AFTER = "\U0010ffff 00000000000000 - 0"
+
+
+def start_page(gateway: Gateway, collection: Collection) -> Response:
+    summary = collection.summary()
+    content: list[Child] = [
+        element("h1", collection.title),
+        element("p", "Search for an address or a host to see when it was captured."),
+    ]
+    if summary is not None:
+        content += _summary(summary)
+    else:
+        content += _some_hosts(some_hosts(gateway, collection))
+        content.append(_files(collection))
+    return collection_page(collection, collection.title, *content)
+
+
+def _summary(summary: Mapping[str, Any]) -> list[Child]:
+    """Returns what a summary says. What isn't as `warcdx-update` writes it is left out."""
+    captures, archives = (_number(summary.get(name)) for name in ("captures", "archives"))
+    facts: list[Child] = []
+    if captures is not None:
+        facts.append(f"{dates.many(captures, 'capture')}")
+    if archives is not None:
+        facts.append(f" in {dates.many(archives, 'archive')}")
+    if (size := _number(summary.get("bytes"))) is not None:
+        facts.append(f" of {in_units(size)}")
+    if isinstance(made := summary.get("made"), str):
+        timestamp = dates.timestamp_of(made)
+        facts.append(f", as of {dates.in_words(timestamp) if timestamp else cut(made, 40)}")
+    found: list[Child] = [element("p", facts, ".", class_="held")] if facts else []
+    counted = _counts(summary.get("years"))
+    years = {year: count for year, count in counted.items() if _YEAR.fullmatch(year)}
+    if years:
+        counts = Counts(years=Counter(years), total=sum(years.values()))
+        found.append(
+            element(
+                "section",
+                element("h2", "Years"),
+                calendars.draw_years(counts, None),
+                calendars.years_table(counts, None),
+                class_="card",
+            )
+        )
+    tables = [
+        _table(words, one, _counts(summary.get(name)))
+        for name, words, one in (
+            ("hosts", "Hosts", "Host"),
+            ("types", "Types", "Type"),
+            ("statuses", "Statuses", "Status"),
+        )
+    ]
+    found.append(element("div", tables, class_="columns"))
+    found.append(_damaged(summary.get("damaged")))
+    return found
+
+
+def _number(value: object) -> Optional[int]:
+    return value if type(value) is int and value >= 0 else None
+
+
+def _counts(value: object) -> dict[str, int]:
+    if not isinstance(value, dict):
+        return {}
+    return {str(name): count for name, count in value.items() if _number(count) is not None}
+
+
+def _table(words: str, one: str, counts: Mapping[str, int]) -> Child:
+    """Returns the values with the most captures. Hosts are links to their captures."""
+    if not counts:
+        return None
+    names = {"value": one, "count": "Captures"}
+    most = sorted(counts.items(), key=lambda each: -each[1])[:MOST_ROWS]
+    rows = (
+        row(names, _host(value) if one == "Host" else cut(value, _MOST_NAME), f"{count:,}")
+        for value, count in most
+    )
+    return element(
+        "section", element("h2", words), table(words, names, rows, "counts"), class_="card"
+    )
+
+
+def _host(host: str) -> Child:
+    shown = element("bdi", cut(host, _MOST_NAME))
+    if host.endswith(":"):  # a scheme, whose URLs have no host
+        return shown
+    return followed(shown, link("search", url=host, match="host"))
+
+
+def _damaged(value: object) -> Child:
+    """Returns the archives that are damaged, each with the offset at which, and the cause."""
+    if not isinstance(value, list) or not value:
+        return None
+    names = {"archive": "Archive", "offset": "At byte", "cause": "Cause"}
+    rows = []
+    for each in value[:MOST_DAMAGED]:
+        if isinstance(each, dict):
+            fields = (each.get(name, "-") for name in names)
+            texts = (f"{field:,}" if type(field) is int else str(field) for field in fields)
+            rows.append(row(names, *(element("bdi", cut(text, _MOST_NAME)) for text in texts)))
+    rest = len(value) - MOST_DAMAGED
+    return element(
+        "section",
+        element("h2", "Damaged archives"),
+        element("p", "Captures after the damage of an archive aren't in the collection."),
+        table("Damaged archives", names, rows),
+        element("p", f"{dates.many(rest, 'archive')} more.") if rest > 0 else None,
+        class_="card",
+    )
+
+
+def some_hosts(gateway: Gateway, collection: Collection) -> list[str]:
+    """Returns the first hosts in the order of the index, by one short query for each."""
+    found: dict[str, None] = {}
+    after = ""
+    for _ in range(MOST_ROWS):
+        query = "key=&matchType=prefix" + (f"&resumeKey={quoted(after)}" if after else "")
+        captures = gateway.captures(collection, query, 1)
+        if not captures:
+            break
+        key = captures[0].urlkey
+        host = host_of(key)
+        scheme = key.partition(":")[0] + ":"
+        found[host or scheme] = None
+        after = (key.partition(")")[0] + ")" if host else scheme) + _AFTER
+    return list(found)
+
+
+def _some_hosts(hosts: list[str]) -> list[Child]:
+    if not hosts:
+        return [element("p", "The collection has no captures.")]
+    words = "Hosts" if len(hosts) < MOST_ROWS else "Some of the hosts"
+    listed = element("ul", (element("li", _host(host)) for host in hosts), class_="hosts")
+    return [element("section", element("h2", words), listed, class_="card")]
+
+
+def _files(collection: Collection) -> Child:
+    """Returns how many indexes there are, their size, and when they were changed."""
+    sizes = []
+    for path in collection.settings.indexes:
+        with contextlib.suppress(OSError):
+            sizes.append(path.stat().st_size)
+    changed = datetime.datetime.fromtimestamp(collection.modified, datetime.timezone.utc)
+    words = dates.many(len(sizes), "index", "indexes")
+    day = dates.day_in_words(changed.date())
+    return element("p", f"{words} of {in_units(sum(sizes))}, changed on {day}.", class_="help")
+
+
+def in_units(size: int) -> str:
+    """Returns a number of bytes in the unit in which it has up to four digits."""
+    for unit in ("bytes", "kB", "MB", "GB"):
+        if size < 10_000:
+            return f"{size:,} {unit}"
+        size = round(size / 1000)
+    return f"{size:,} TB"

@@ -1,0 +1,165 @@
+"""The captures of one URL, found by their time without reading all of them."""
+import re
+from collections.abc import Callable
+from typing import Optional
+from urllib.parse import quote_plus
+
+from warcdx import Capture, Refused
+from warcdx.record import Head
+
+from .orders import seconds_of
+
+# Returns the first captures that a query selects, in order, at most as many as it is told.
+Ask = Callable[[str, int], list[Capture]]
+
+FIRST, LAST = 0, 10**14 - 1  # timestamps as numbers
+MOST = 200  # captures that are read at once
+REVISIT = "warc/revisit"
+# A file name and an offset that are after all others.
+_LAST_PLACE = "\U0010ffff 9223372036854775807"
+_SHA1 = re.compile("^sha1:", re.IGNORECASE)
+
+
+class History:
+    """The captures of one URL or URL key that have a date, by a few short queries.
+
+    One query is enough if there are fewer than MOST captures. Timestamps have 14 digits. Of more
+    than MOST captures of one second, the last may be another one.
+    """
+
+    def __init__(self, ask: Ask, *, url: str = "", key: str = "") -> None:
+        self.ask = ask
+        self._start: Optional[list[Capture]] = None  # the first captures
+        target = f"key={quoted(key)}" if key else f"url={quoted(url)}"
+        self._target = f"{target}&matchType=exact"
+
+    def where(self, field: str, value: str) -> "History":
+        """Returns the history of the captures with a value."""
+        found = History(self.ask)
+        found._target = f"{self._target}&is={field}:{quoted(value)}"
+        return found
+
+    def first(self) -> Optional[Capture]:
+        return self._first_from(FIRST)
+
+    def last(self) -> Optional[Capture]:
+        return self._last_in(FIRST, LAST)
+
+    def before(self, timestamp: str) -> Optional[Capture]:
+        """Returns the last capture before a time."""
+        return self._last_in(FIRST, int(timestamp) - 1)
+
+    def after(self, timestamp: str) -> Optional[Capture]:
+        """Returns the first capture after a time."""
+        return self._first_from(int(timestamp) + 1)
+
+    def at(self, timestamp: str, original: str = "") -> Optional[Capture]:
+        """Returns the capture at a time: that of this URL, or else the first one."""
+        found = self._dated(int(timestamp), int(timestamp))
+        same = (each for each in found if each.original == original)
+        return next(same, found[0] if found else None)
+
+    def nearest(self, timestamp: str, original: str = "") -> Optional[Capture]:
+        """Returns the capture nearest to a time, and of two that are as near the earlier one."""
+        if exact := self.at(timestamp, original):
+            return exact
+        earlier, later = self.before(timestamp), self.after(timestamp)
+        if earlier is None or later is None:
+            return earlier or later
+        back = seconds_of(timestamp) - seconds_of(earlier.timestamp)
+        on = seconds_of(later.timestamp) - seconds_of(timestamp)
+        return earlier if back <= on else later
+
+    def page(self, timestamp: str, most: int) -> tuple[list[Capture], Optional[Capture]]:
+        """Returns the first captures from a time on, about `most`, and the one that follows them.
+
+        Those of one second are on one page if there are no more than `most`.
+        """
+        found = self._dated(int(timestamp), LAST, most + 1)
+        if len(found) <= most:
+            return found, None
+        following = found.pop()
+        kept = [each for each in found if each.timestamp != following.timestamp]
+        if kept:
+            return kept, found[len(kept)] if len(kept) < len(found) else following
+        return found, self._first_from(int(following.timestamp) + 1)
+
+    def _first_from(self, low: int) -> Optional[Capture]:
+        found = self._dated(low, LAST)
+        return found[0] if found else None
+
+    def _last_in(self, low: int, high: int) -> Optional[Capture]:
+        """Halves the times that the last capture may have, until few captures are in them."""
+        best, start = None, low
+        while low <= high:
+            found = self._between(start, high)
+            if found:
+                best = next((each for each in reversed(found) if each.datetime), best)
+                low = int(found[-1].timestamp)
+                if len(found) < MOST or start == high:
+                    break
+            else:
+                high = start - 1
+            start = (low + high + 1) // 2
+        return best
+
+    def _dated(self, low: int, high: int, most: int = MOST) -> list[Capture]:
+        return [each for each in self._between(low, high, most) if each.datetime]
+
+    def _between(self, low: int, high: int, most: int = MOST) -> list[Capture]:
+        if self._start is None:
+            self._start = self.ask(self._target, MOST)
+        found = self._start
+        if len(found) == MOST and low <= high:
+            # A resume key is searched for, while all captures before `from` are read.
+            after = before_time(found[0].urlkey, low)
+            found = self.ask(f"{self._target}{after}", most)
+        return [each for each in found if low <= int(each.timestamp) <= high][:most]
+
+
+def place_of(capture: Capture) -> str:
+    """Returns the place of a capture as a resume key, which isn't form-encoded yet."""
+    return f"{capture.urlkey} {capture.timestamp} {capture.filename} {capture.offset}"
+
+
+def before_time(key: str, timestamp: int) -> str:
+    """Returns the parameter with which a query begins at the captures of a key from a time on."""
+    return resumed(f"{key} {timestamp - 1:014} {_LAST_PLACE}") if timestamp > 0 else ""
+
+
+def resumed(place: str) -> str:
+    return f"&resumeKey={quoted(place)}"
+
+
+def original_of(ask: Ask, head: Head) -> Optional[Capture]:
+    """Returns the capture that a revisit points to by its head, or None if no index has it.
+
+    It is one of the URL, with the digest and the time if the revisit has them, or else with the
+    digest alone.
+    """
+    digest = _SHA1.sub("", head.field("WARC-Payload-Digest") or "", count=1)
+    url = without_brackets(head.field("WARC-Refers-To-Target-URI") or "")
+    url = url or without_brackets(head.field("WARC-Target-URI") or "")
+    if not url:
+        return None
+    digits = re.sub("[^0-9]", "", head.field("WARC-Refers-To-Date") or "")[:14]
+    times = f"&from={digits}&to={digits}" if len(digits) == 14 else ""
+    same = f"&is=digest:{quoted(digest)}" if digest else ""
+    target = f"url={quoted(url)}&matchType=exact&isnot=mimetype:{REVISIT}"
+    for conditions in dict.fromkeys(filter(None, (times and times + same, same))):
+        try:
+            found = ask(target + conditions, 1)
+        except Refused:
+            return None
+        if found:
+            return found[0]
+    return None
+
+
+def without_brackets(url: str) -> str:
+    """Returns a URL without the brackets that wget writes around it."""
+    return url[1:-1] if url.startswith("<") and url.endswith(">") else url
+
+
+def quoted(value: str) -> str:
+    return quote_plus(value, errors="replace")

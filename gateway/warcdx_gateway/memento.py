@@ -1,0 +1,279 @@
+"""Memento (RFC 7089): captures of a URL by their time, in lists, and as they were archived."""
+import contextlib
+import functools
+import re
+from collections.abc import Callable
+from dataclasses import dataclass
+from datetime import datetime, timezone
+from email.utils import parsedate_to_datetime
+from typing import Optional
+from urllib.parse import quote, unquote, urljoin
+
+from werkzeug.exceptions import NotFound
+from werkzeug.http import http_date
+from werkzeug.routing import Rule
+from werkzeug.wrappers import Request, Response
+
+from warcdx import Capture
+
+from .application import Gateway, rule
+from .browse import responses
+from .browse.raw_captures import RawCapture
+from .collection import Collection
+from .history import History, quoted
+from .orders import FIRST_MOMENT
+from .shared import Share
+
+LINK_FORMAT = "application/link-format"
+MOST_MEMENTOS = 5000  # of a page of a TimeMap
+MOST_LINKS = 6000  # bytes of the field Link
+# What stays as it is in a URL of a link: the characters of RFC 3986.
+_SAFE = "%:/?#[]@!$&'()*+,;=-._~"
+_ENCODED = re.compile(r"[A-Za-z][A-Za-z0-9+.-]*%3A", re.IGNORECASE)
+_ONE_SLASH = re.compile(r"(https?|ftp):/(?!/)", re.IGNORECASE)
+_PAGE = re.compile(r"([0-9]{14})/(.*)", re.DOTALL)
+# A replayed page of other servers: it is answered by the raw capture, or by a calendar.
+_REPLAYED = re.compile(r"([0-9]{1,14})(?:[a-z]{2}_)?/(.+)", re.DOTALL)
+_CALENDAR = re.compile(r"([0-9]{0,14})\*/(.+)", re.DOTALL)
+_DATE = re.compile(
+    "(Mon|Tue|Wed|Thu|Fri|Sat|Sun)(, [0-9]{2} [A-Z][a-z]{2} [0-9]{4} [0-9:]{8} GMT)"
+)
+
+
+def rules(gateway: Gateway) -> list[Rule]:
+    """Returns the rules of these paths, of which `/web` is the main collection."""
+    paths: dict[str, Callable[..., Response]] = {
+        "timegate/": time_gate,
+        "timemap/link/": time_map,
+        "<timestamp>id_/": raw_capture,
+        "": time_gate,
+    }
+    return [
+        rule(f"/{front}/{path}<path:url>", functools.partial(handler, 1 + path.count("/")))
+        for front in ("web", "<collection>")
+        for path, handler in paths.items()
+    ]
+
+
+@dataclass(frozen=True)
+class Resource:
+    """A URL of a collection, whose paths begin with `root`, and the history of its captures."""
+
+    root: str
+    collection: Collection
+    url: str
+    history: History
+
+    @classmethod
+    def of(cls, gateway: Gateway, request: Request, collection: str, url: str) -> "Resource":
+        """Returns the resource of a URL as it was sent. Raises NotFound if it isn't one.
+
+        Without the name of a collection, it is one of the main collection.
+        """
+        if _ENCODED.match(url):
+            url = unquote(url)
+        url = _ONE_SLASH.sub(r"\1://", url, count=1)
+        host = url.partition("/")[0]
+        if ":" not in host and "." not in host and host != "localhost":
+            raise NotFound()
+        found = gateway.collection(collection) if collection else gateway.main
+        history = History(functools.partial(gateway.captures, found), url=url)
+        return cls(f"{request.root_url.rstrip('/')}/{collection or 'web'}", found, url, history)
+
+    @property
+    def original(self) -> str:
+        """The URL, with a scheme."""
+        has_scheme = re.match(r"[A-Za-z][A-Za-z0-9+.-]*://", self.url)
+        return self.url if has_scheme else f"http://{self.url}"
+
+    def memento(self, capture: Capture) -> str:
+        """Returns the URL of a capture as it was archived. The line of an index may have no URL."""
+        url = capture.original if ":" in capture.original else self.original
+        return f"{self.root}/{capture.timestamp}id_/{escaped(url)}"
+
+    def time_map(self, timestamp: str = "") -> str:
+        start = f"{timestamp}/" if timestamp else ""
+        return f"{self.root}/timemap/link/{start}{escaped(self.original)}"
+
+    def time_gate(self) -> str:
+        return f"{self.root}/timegate/{escaped(self.original)}"
+
+    def links(self, chosen: Capture) -> str:
+        """Returns the field Link of a capture, or of a TimeGate that has chosen it."""
+        found = [
+            link(self.original, rel="original"),
+            link(self.time_gate(), rel="timegate"),
+            link(self.time_map(), rel="timemap", type=LINK_FORMAT),
+        ]
+        history, at = self.history, chosen.timestamp
+        relations: dict[Capture, list[str]] = {}
+        for capture, relation in (
+            (history.first(), "first"),
+            (history.before(at), "prev"),
+            (chosen, ""),
+            (history.after(at), "next"),
+            (history.last(), "last"),
+        ):
+            if capture is not None:
+                relations.setdefault(capture, []).extend([relation] if relation else [])
+        for capture, names in relations.items():
+            found.append(self.memento_link(capture, *names))
+        if sum(map(len, found)) > MOST_LINKS:
+            del found[3:]
+        return ", ".join(found) if sum(map(len, found)) <= MOST_LINKS else ""
+
+    def memento_link(self, capture: Capture, *relations: str) -> str:
+        relation = " ".join((*relations, "memento"))
+        return link(self.memento(capture), rel=relation, datetime=date_of(capture))
+
+
+def url_of(request: Request, segments: int) -> str:
+    """Returns the URL behind the first segments of the path, as it was sent and with its query."""
+    sent = str(request.environ.get("RAW_URI") or request.environ.get("REQUEST_URI") or "")
+    path = re.sub(r"^[a-z]+://[^/]*", "", sent, count=1)
+    path = path.removeprefix(request.environ.get("SCRIPT_NAME", ""))
+    parts = path.encode("latin-1", "replace").decode(errors="replace").split("/", segments + 1)
+    return parts[segments + 1] if len(parts) == segments + 2 else ""
+
+
+def time_gate(
+    segments: int, gateway: Gateway, request: Request, url: str, collection: str = ""
+) -> Response:
+    """Sends a client to the capture that is nearest to its time, or to the last one without a time.
+
+    RFC 7089, sections 4.2.1 and 4.5.3: a datetime that can't be read has status 400.
+    """
+    sent = url_of(request, segments)
+    if found := _REPLAYED.fullmatch(sent):
+        resource = Resource.of(gateway, request, collection, found[2])
+        return redirect(f"{resource.root}/{found[1]}id_/{escaped(resource.url)}", {})
+    if found := _CALENDAR.fullmatch(sent):
+        resource = Resource.of(gateway, request, collection, found[2])
+        year = f"&year={found[1][:4]}" if len(found[1]) >= 4 else ""
+        target = f"/{resource.collection.name}/browse/search?url={quoted(resource.url)}{year}"
+        return redirect(request.root_url.rstrip("/") + target, {})
+    resource = Resource.of(gateway, request, collection, sent)
+    vary = {"Vary": "accept-datetime"}
+    wanted = request.headers.get("Accept-Datetime")
+    moment = None if wanted is None else timestamp_of(wanted)
+    if wanted is not None and moment is None:
+        text = "refused BadDatetime: Accept-Datetime: it is a date as in RFC 7089, section 2.1.1\n"
+        return Response(text, 400, vary)
+    history = resource.history
+    chosen = history.last() if moment is None else history.nearest(moment)
+    if chosen is None:
+        return Response("there is no capture of this URL\n", 404, vary)
+    return redirect(resource.memento(chosen), {**vary, "Link": resource.links(chosen)})
+
+
+def time_map(
+    segments: int, gateway: Gateway, request: Request, url: str, collection: str = ""
+) -> Response:
+    """Lists the captures of a URL, a page at a time (RFC 7089, section 5).
+
+    A page begins at the time that is before the URL. It links the next one.
+    """
+    sent, start = url_of(request, segments), ""
+    if found := _PAGE.fullmatch(sent):
+        start, sent = found[1], found[2]
+    return time_map_of(gateway, Resource.of(gateway, request, collection, sent), start)
+
+
+def time_map_of(gateway: Gateway, resource: Resource, start: str = "") -> Response:
+    with gateway.slot(Share.WIDE):
+        captures, following = resource.history.page(start or "0" * 14, MOST_MEMENTOS)
+    if not captures:
+        return Response("there is no capture of this URL\n", 404)
+    first, last = captures[0], captures[-1]
+    times = {"from": date_of(first), "until": date_of(last)}
+    lines = [
+        link(resource.original, rel="original"),
+        link(resource.time_map(start), rel="self", type=LINK_FORMAT, **times),
+        link(resource.time_gate(), rel="timegate"),
+    ]
+    if following is not None:
+        next_map = resource.time_map(following.timestamp)
+        begin = {"from": date_of(following)}
+        lines.append(link(next_map, rel="timemap", type=LINK_FORMAT, **begin))
+    for capture in captures:
+        relations = ["first"] if capture is first and not start else []
+        relations += ["last"] if capture is last and following is None else []
+        lines.append(resource.memento_link(capture, *relations))
+    return Response(",\n".join(lines) + "\n", content_type=LINK_FORMAT)
+
+
+def raw_capture(
+    segments: int,
+    gateway: Gateway,
+    request: Request,
+    timestamp: str,
+    url: str,
+    collection: str = "",
+) -> Response:
+    """Answers with a capture as it was archived, or sends a client to the nearest one."""
+    if not (timestamp.isascii() and timestamp.isdigit() and len(timestamp) <= 14):
+        raise NotFound()
+    wanted = timestamp + FIRST_MOMENT[len(timestamp) :]
+    resource = Resource.of(gateway, request, collection, url_of(request, segments))
+    capture = resource.history.nearest(wanted, resource.original)
+    if capture is None:
+        raise NotFound("there is no capture of this URL")
+    if capture.timestamp != timestamp:
+        return redirect(resource.memento(capture), {})
+    own = {"Memento-Datetime": date_of(capture)}
+    if links := resource.links(capture):
+        own["Link"] = links
+    with contextlib.ExitStack() as stack:
+        stack.enter_context(gateway.slot(Share.WIDE))
+        raw = RawCapture(request, resource.collection, resource.history.ask, capture, stack)
+        response = raw.response(own, functools.partial(_capture_of, resource, capture))
+    return response
+
+
+def _capture_of(resource: Resource, capture: Capture, target: str) -> str:
+    """Returns the URL of the capture of a redirect's target, or no text if there can't be one.
+
+    A redirect to another spelling of its URL, such as https, has the same URL key. It leads to a
+    capture of that spelling, and never to itself.
+    """
+    try:
+        url = urljoin(capture.original, target.strip())
+    except ValueError:
+        url = ""
+    if not url.startswith(("http://", "https://")):
+        return ""
+    history = History(resource.history.ask, url=url)
+    if history.nearest(capture.timestamp, url) == capture:
+        other = history.where("original", url).nearest(capture.timestamp)
+        return resource.memento(other) if other else ""
+    return f"{resource.root}/{capture.timestamp}id_/{escaped(url)}"
+
+
+def redirect(url: str, headers: dict[str, str]) -> Response:
+    return Response(b"", 302, {**responses.COMMON, **headers, "Location": url})
+
+
+def timestamp_of(date: str) -> Optional[str]:
+    """Returns the timestamp of a date of Accept-Datetime, or None (RFC 7089, section 2.1.1)."""
+    found = _DATE.fullmatch(date.strip())
+    if not found:
+        return None
+    try:
+        moment = parsedate_to_datetime(date.strip())
+    except ValueError:
+        return None
+    return f"{moment:%Y%m%d%H%M%S}".rjust(14, "0") if http_date(moment)[3:] == found[2] else None
+
+
+def date_of(capture: Capture) -> str:
+    """Returns the time of a capture as HTTP writes it."""
+    return http_date(capture.datetime or datetime(1, 1, 1, tzinfo=timezone.utc))
+
+
+def link(url: str, **attributes: str) -> str:
+    values = "".join(f'; {name}="{value}"' for name, value in attributes.items())
+    return f"<{escaped(url)}>{values}"
+
+
+def escaped(url: str) -> str:
+    return quote(url, safe=_SAFE, errors="replace")

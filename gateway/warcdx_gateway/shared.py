@@ -1,0 +1,142 @@
+"""What the workers share: slots for costly requests, and counts for Prometheus."""
+import contextlib
+import fcntl
+import os
+import pathlib
+import time
+from collections.abc import Iterator
+from enum import Enum
+from typing import Optional
+
+from prometheus_client import CollectorRegistry, generate_latest, multiprocess, values
+from prometheus_client.metrics import Counter, Histogram
+
+from .refusal import Refusal
+
+WAIT = 1.0  # seconds for a slot
+LOOKS = 0.02  # seconds between two looks for a slot
+FILE = 1 << 16  # bytes of a file of counts, as prometheus_client makes it
+MOST_SEATS = 4096  # workers that run at a time
+BOUNDS = (0.005, 0.01, 0.025, 0.05, 0.1, 0.25, 0.5, 1.0, 2.5, 5.0, 10.0, 30.0)  # seconds
+
+
+class Share(Enum):
+    """Which workers may answer a request."""
+
+    EXACT = "exact"  # each
+    WIDE = "wide"  # as many at a time as there are slots
+
+
+class Slots:
+    """Files, each of which is locked by at most one process.
+
+    The system gives a slot back when its process ends, however it ends.
+    """
+
+    def __init__(self, folder: pathlib.Path, name: str, count: int) -> None:
+        self._paths = [folder / f"{name}-{number}" for number in range(count)]
+
+    def take(self) -> Optional[tuple[int, int]]:
+        """Returns the number of a slot that was free and its open file, or None."""
+        for number, path in enumerate(self._paths):
+            file = os.open(path, os.O_RDWR | os.O_CREAT | os.O_CLOEXEC, 0o600)
+            try:
+                fcntl.flock(file, fcntl.LOCK_EX | fcntl.LOCK_NB)
+                return number, file
+            except BlockingIOError:
+                os.close(file)
+            except BaseException:
+                os.close(file)
+                raise
+        return None
+
+
+class Shares:
+    """How many workers answer wide or costly requests at a time, `wide` of `workers`.
+
+    Of the others at most half wait for a slot, so that exact queries are always answered.
+    """
+
+    def __init__(self, folder: pathlib.Path, workers: int, wide: int) -> None:
+        self._wide = Slots(folder, "wide", wide)
+        self._waiting = Slots(folder, "waiting", (workers - wide) // 2)
+
+    @contextlib.contextmanager
+    def slot(self, kind: Share) -> Iterator[None]:
+        """Takes a slot for a block, and waits a second for it. Raises Refusal with status 503."""
+        if kind is Share.EXACT:
+            yield
+            return
+        taken = self._wide.take() or self._waited()
+        if taken is None:
+            raise Refusal(
+                "TooBusy", "", "too many costly queries are being answered; ask again", status=503
+            )
+        try:
+            yield
+        finally:
+            os.close(taken[1])
+
+    def _waited(self) -> Optional[tuple[int, int]]:
+        place = self._waiting.take()
+        if place is None:
+            return None
+        try:
+            end = time.monotonic() + WAIT
+            while time.monotonic() < end:
+                time.sleep(LOOKS)
+                if taken := self._wide.take():
+                    return taken
+            return None
+        finally:
+            os.close(place[1])
+
+
+class Metrics:
+    """Counts of all workers since the start, in files of a folder.
+
+    A worker has the files of a seat. Its successor goes on with them. They are filled at the
+    start, since a process ends that writes to a page of a file for which the disk has no room.
+    """
+
+    def __init__(self, folder: pathlib.Path, workers: int = 1) -> None:
+        self._folder = folder
+        self._seats = Slots(folder, "seat", MOST_SEATS)
+        self._seat = "master"
+        for seat in ("master", *map(str, range(2 * workers))):
+            for kind in ("counter", "histogram"):
+                (folder / f"{kind}_{seat}.db").write_bytes(bytes(FILE))
+        os.environ["PROMETHEUS_MULTIPROC_DIR"] = str(folder)
+        values.ValueClass = values.MultiProcessValue(lambda: self._seat)
+        # The registry is of this object, as a master that reads its settings again has another one.
+        registry = CollectorRegistry()
+
+        def counter(name: str, text: str, *labels: str) -> Counter:
+            return Counter(f"warcdx_gateway_{name}", text, labels, registry=registry)
+
+        self.requests = counter("requests", "Requests.", "collection", "status")
+        self.refusals = counter("refusals", "Queries that were refused.", "cause")
+        self.broken = counter("broken_answers", "Answers that were broken off.", "cause")
+        self.bytes = counter("answer_bytes", "Bytes of answers.")
+        self.ended = counter("ended_workers", "Workers that were ended, or have failed.")
+        self.renewals = counter(
+            "index_renewals", "Indexes that were replaced and opened.", "collection", "result"
+        )
+        self.seconds = Histogram(
+            "warcdx_gateway_request_seconds",
+            "Seconds from a request to the end of its answer.",
+            registry=registry,
+            buckets=BOUNDS,
+        )
+
+    def sit(self) -> None:
+        """Takes a seat, in a new worker."""
+        taken = self._seats.take()
+        if taken is not None:
+            self._seat = str(taken[0])
+
+    def text(self) -> bytes:
+        """Returns all counts in the text format of Prometheus."""
+        registry = CollectorRegistry()
+        multiprocess.MultiProcessCollector(registry, str(self._folder))
+        return bytes(generate_latest(registry))
