@@ -8,6 +8,9 @@ In the pages and in the manual pages
 - a sentence has at most 25 words, and at most one of `which`, `whose` and `whom`;
 - a line has at most 100 columns, if it isn't code, a row of a table or a link.
 
+README.md and the pages of docs/ for users contain no word for which web archives have another, and no
+word that stands for a thing that can be named.
+
 The pages, the texts of help, the docstrings of the crates, and the scripts contain none of the phrases
 that docs/STYLE.md replaces. A comment `<!-- prose: REASON -->` on a line of its own excuses the block of
 lines that follows it.
@@ -37,6 +40,9 @@ PHRASES = re.compile(
     r"|(?:is|are) looked at|(?:is|are) gone through|is of no use|no good|by chance)\b",
     re.IGNORECASE,
 )
+# Pages of docs/ that use the words of the code.
+OTHER_PAGES = ("ARCHITECTURE", "COMMANDS", "DECISIONS", "GLOSSARY", "LIBRARY", "PROVED", "PYTHON", "STATEMENT", "STYLE", "TRUST")
+HOUSE_WORDS = re.compile(r"\b(?:stamps?|heads?|stands?|(?:that|those) of|as for|all else)\b", re.IGNORECASE)
 RELATIVES = re.compile(r"\b(?:which|whose|whom)\b", re.IGNORECASE)
 
 FENCE = re.compile(r"\s*(```|~~~)")
@@ -149,6 +155,11 @@ def is_wide(line: str) -> bool:
     return len(line) > MOST_COLUMNS and not line.startswith(("|", "![")) and " " in line[MOST_COLUMNS // 2 :]
 
 
+def is_for_users(page: Path) -> bool:
+    """Tests whether a page has the words of web archives alone."""
+    return page == ROOT / "README.md" or (ROOT / "docs" in page.parents and page.suffix == ".md" and page.stem not in OTHER_PAGES)
+
+
 def page_faults(page: Path) -> Iterator[str]:
     """Yields what is wrong in a page or in a manual page."""
     lines = page.read_text().splitlines()
@@ -158,7 +169,7 @@ def page_faults(page: Path) -> Iterator[str]:
                 yield f"line {block.line}: {words_of(sentence)} words: {sentence}"
             if len(RELATIVES.findall(sentence)) > MOST_RELATIVES:
                 yield f"line {block.line}: several relative clauses: {sentence}"
-            if found := PHRASES.search(sentence):
+            for found in filter(None, (PHRASES.search(sentence), is_for_users(page) and HOUSE_WORDS.search(sentence))):
                 yield f"line {block.line}: {found[0]!r}: {sentence}"
     if page.suffix == ".md":
         yield from (f"line {number}: {len(line)} columns" for number, line in text_lines(lines) if is_wide(line))

@@ -8,13 +8,14 @@
 # errors included; without such a block it prints nothing. Each recipe runs in a folder of its own
 # that contains the archives of samples/, with the scripts of examples/ on the PATH. If the recipe
 # names a file that recipe_files.py writes, the folder contains that too. If Python's package surt
-# is missing, a stand-in takes its place.
+# is missing, a stand-in takes its place. Ports, timestamps, offsets and identifiers of the first
+# crawl differ from run to run, and aren't compared.
 #
 # Then the contents in docs/RECIPES.md are compared with the headings of the pages.
 #
 # Prints a line for each recipe, with the differences if there are any, and the counts. The exit
 # status is 0, or 1 if a recipe differs. With --print it prints only what RECIPE prints. Needs
-# Debian's packages gnuplot-nox, gzip, jq, parallel, pv, sqlite3 and xxd.
+# Debian's packages gnuplot-nox, gzip, jq, parallel, pv, sqlite3, wget and xxd.
 set -euo pipefail
 source "$(dirname "$0")/../program.sh"
 chosen=
@@ -24,7 +25,7 @@ if [ "${1-}" = --print ]; then
     shift 2
 fi
 read_program "$@"
-need gnuplot:gnuplot-nox gzip jq parallel pv sqlite3 xxd
+need gnuplot:gnuplot-nox gzip jq parallel pv sqlite3 wget xxd
 
 pages=("$root"/docs/recipes/{indexes,records,queries,counts,other-programs}.md)
 work=$(mktemp -d)
@@ -71,6 +72,15 @@ run() { # RECIPE: prints what its blocks print
         bash "$work/script" 2>&1 < /dev/null) || true
 }
 
+masked() { # RECIPE: without what differs from run to run
+    if [ "$1" = 'A first crawl' ]; then
+        sed -E -e 's/127\.0\.0\.1:[0-9]+/HOST/' -e 's/ [0-9]{14} [0-9]+$/ TIMESTAMP OFFSET/' \
+            -e 's/urn:uuid:[0-9a-f-]+/IDENTIFIER/' -e 's/\r$//'
+    else
+        cat
+    fi
+}
+
 recipes() { # their names
     sed -n 's/^## //p' "${pages[@]}"
 }
@@ -109,9 +119,9 @@ if [ -n "$chosen" ]; then
 fi
 
 while IFS= read -r recipe; do
-    lines_of "$recipe" | wanted_of > "$work/wanted"
+    lines_of "$recipe" | wanted_of | masked "$recipe" > "$work/wanted"
     if [ -s "$work/wanted" ]; then
-        run "$recipe" > "$work/found"
+        run "$recipe" | masked "$recipe" > "$work/found"
         expect_file "$recipe" "$work/wanted" "$work/found"
     fi
 done < <(recipes)

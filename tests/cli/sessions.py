@@ -1,13 +1,13 @@
 #!/usr/bin/env python3
-"""Runs the sessions of docs/COMMANDS.md, docs/QUERY.md and examples/README.md.
+"""Runs the sessions of docs/COMMANDS.md, docs/FAQ.md, docs/QUERY.md and examples/README.md.
 
 usage: sessions.py [PROGRAM]
 
 A session is an indented block whose first line begins with "$ ". Its lines that begin so are
 commands, and the lines after each are what that command prints, on standard output and standard
 error together. The sessions of a page run one after another in one folder, which contains samples/,
-examples/ and the program as ./warcdx. Sessions with a server or with the package surt don't run:
-examples/ has tests of them.
+examples/ and the program as ./warcdx. The program and the Python commands are on the PATH too.
+Sessions with a server or with the package surt don't run: examples/ has tests of them.
 
 Prints a line for each command, and the counts. The exit status is 0, or 1 if a command prints
 something else than its page shows.
@@ -24,7 +24,7 @@ sys.path.insert(0, str(pathlib.Path(__file__).resolve().parents[1]))
 
 from program import ROOT, Report, add_program, find_program, parser_of
 
-PAGES = ("docs/COMMANDS.md", "docs/QUERY.md", "examples/README.md")
+PAGES = ("docs/COMMANDS.md", "docs/FAQ.md", "docs/QUERY.md", "examples/README.md")
 BLOCK = re.compile(r"(?:^    .*\n|^\n(?=(?:\n)*    ))+", re.MULTILINE)
 COMMAND = re.compile(r"^\$ (.*)\n((?:(?!\$ ).*\n)*)", re.MULTILINE)
 NOT_RUN = ("socat", "surt_keys.py")
@@ -41,11 +41,12 @@ def sessions_of(page: str) -> Iterator[list[tuple[str, str]]]:
 
 def run(commands: list[str], folder: str) -> list[str]:
     """Runs commands one after another by one bash, and returns what each of them prints."""
+    path = os.pathsep.join((folder, str(ROOT / "python/bin"), os.environ["PATH"]))
     lines = (f"{command}\nkept=$?; echo '{MARK}'; (exit $kept)" for command in commands)
     done = subprocess.run(
         ("bash", "-c", "\n".join(lines)),
         cwd=folder,
-        env={**os.environ, "LC_ALL": "C.UTF-8"},
+        env={**os.environ, "LC_ALL": "C.UTF-8", "PATH": path},
         stdin=subprocess.DEVNULL,
         stdout=subprocess.PIPE,
         stderr=subprocess.STDOUT,

@@ -201,7 +201,7 @@ row "\`TooManySources\`"
 ulimit -n 4096
 sees "1,025 indexes" "" "warcdx: TooManySources" 1 merge response.cdxj "${indexes[@]}"
 
-row "An address of pywb's index isn't found"
+row "A URL of pywb's index isn't found"
 line "com,example)/goo" 0 | sed 's|http://example.com/|&goo/|' > pywb.cdxj
 sees "by url" "" "" 0 query "url=example.com/goo/" pywb.cdxj
 finds "by key" "key=com,example)/goo" pywb.cdxj
