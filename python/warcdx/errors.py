@@ -118,9 +118,14 @@ def fault(
     return faults.BY_NAME.get(name, Fault)(name, file, offset, number)
 
 
+def without_advice(said: str) -> str:
+    """Returns what the program has said without the second lines of its messages, which begin with two spaces."""
+    return _ADVICE.sub("", said)
+
+
 def error_of(status: int, said: str) -> Error:
     """Returns what the program has reported on standard error before it ended."""
-    said = _ADVICE.sub("", said)
+    said = without_advice(said)
     if found := _FAULT_AT.fullmatch(said):
         return fault(found[3], found[1], int(found[2]))
     if found := _LINE_AT.fullmatch(said):

@@ -227,5 +227,7 @@ def _whole_lines(pipe: IO[bytes]) -> Iterator[bytes]:
 
 
 def _text_of(said: IO[bytes]) -> str:
+    """Returns what a program has said, without the second lines of its messages, which begin with two spaces."""
     said.seek(0)
-    return said.read().decode(errors="replace").rstrip("\n")
+    lines = said.read().decode(errors="replace").split("\n")
+    return "\n".join(line for line in lines if line and not line.startswith("  "))
