@@ -1,4 +1,5 @@
 """HTTP: keep-alive, HEAD, OPTIONS, CORS, tags, compression, limits, health and metrics."""
+import os
 import socket
 import subprocess
 import unittest
@@ -237,6 +238,18 @@ class Starts(Case):
             said = self.fails("--port", "0", "--program", PROGRAM, "--indexes", index)
             self.assertIn("index", said)
             self.assertIn("BadLine", said)
+
+    def test_what_is_no_file_is_named(self) -> None:
+        pipe = self.folder / "pipe"
+        os.mkfifo(pipe)
+        for path, reason in (
+            (str(self.folder / "nosuch"), "No such file or directory"),
+            (str(self.folder), "not a regular file"),
+            (str(pipe), "not a regular file"),
+            ("/dev/zero", "not a regular file"),
+        ):
+            said = self.fails("--port", "0", "--program", PROGRAM, "--indexes", path)
+            self.assertEqual(f"warcdx-gateway: {path}: {reason}\n", said)
 
     def test_a_used_port_is_named(self) -> None:
         server = self.run_command(

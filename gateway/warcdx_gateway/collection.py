@@ -1,8 +1,10 @@
 """A collection: indexes that are queried as one, and the folders of their archives."""
+import errno
 import hashlib
 import json
 import os
 import pathlib
+import stat
 import time
 from collections.abc import Sequence
 from email.utils import formatdate
@@ -41,6 +43,8 @@ class Generation:
         try:
             for path in paths:
                 self.files.append(os.open(path, os.O_RDONLY | os.O_CLOEXEC | os.O_NONBLOCK))
+                if not stat.S_ISREG(os.fstat(self.files[-1]).st_mode):
+                    raise OSError(errno.EINVAL, "not a regular file", str(path))
             self.stamp = stamp_of(map(os.fstat, self.files))
         except BaseException:
             self.close()
@@ -130,7 +134,7 @@ class Collection:
                 return ""
             self._bad = stamp
             if is_told:
-                text = f"{self.name}: the old indexes stay in use: {error}"
+                text = f"{self.name}: the old indexes stay in use: {command.reason_of(error)}"
                 command.report("warcdx-gateway", command.printable(text))
             return "failed"
         self._bad = None

@@ -76,7 +76,7 @@ def work(arguments: Optional[Sequence[str]]) -> int:
     except command.OutputError:
         raise
     except (BadSettings, Error, OSError, OverflowError) as error:
-        command.report(NAME, command.printable(str(error)))
+        command.report(NAME, command.printable(command.reason_of(error)))
         return 1
     return 0
 

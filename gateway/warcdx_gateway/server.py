@@ -22,7 +22,7 @@ import gunicorn.workers.sync
 from gunicorn.app.base import BaseApplication
 from gunicorn.errors import HaltServer
 
-from warcdx import Error
+from warcdx import Error, command
 from warcdx.program import end_with_parent
 
 from .application import NAME, Gateway, say
@@ -169,7 +169,7 @@ class Server(BaseApplication):
             settings = self._read()
             gateway = self._opened(settings)
         except (BadSettings, Error, OSError) as error:
-            say(f"the old settings stay in use: {error}")
+            say(f"the old settings stay in use: {command.reason_of(error)}")
             return
         old = self._gateway
         self._settings, self._gateway, self.callable = settings, gateway, None

@@ -207,7 +207,7 @@ def run(name: str, work: Callable[[BinaryIO], int]) -> int:
         report(name, f"Write: {error.strerror}")
         status = FAILED
     except OSError as error:
-        report(name, _reason(error))
+        report(name, reason_of(error))
         status = FAILED
     except MemoryError:
         report(name, "Memory")
@@ -233,9 +233,13 @@ def _end_of_thread(arguments: threading.ExceptHookArgs) -> None:
         _usual_end_of_thread(arguments)
 
 
-def _reason(error: OSError) -> str:
-    reason = error.strerror or str(error)
-    return reason if error.filename is None else f"{printable(os.fsdecode(error.filename))}: {reason}"
+def reason_of(error: Exception) -> str:
+    """Returns what an error says: of a failed system call the file, if it is known, and the system's reason."""
+    if not isinstance(error, OSError) or error.strerror is None:
+        return str(error)
+    if error.filename is None:
+        return error.strerror
+    return f"{printable(os.fsdecode(error.filename))}: {error.strerror}"
 
 
 def _open_closed_streams() -> None:
