@@ -2,7 +2,9 @@
 import os
 import pathlib
 import signal
+import subprocess
 import tempfile
+import time
 import unittest
 from collections.abc import Callable
 from typing import Any
@@ -61,3 +63,15 @@ class Case(unittest.TestCase):
 def processes_of(index: Index) -> list[int]:
     """Returns the process IDs of an index that is idle."""
     return [serve._process.pid for serve in list(index._idle.queue) if serve._process is not None]
+
+
+def wait_until_caught(process: "subprocess.Popen[bytes]", number: int) -> None:
+    """Waits until a process handles a signal (Linux)."""
+    end = time.monotonic() + WAIT
+    while process.poll() is None and time.monotonic() < end:
+        status = pathlib.Path(f"/proc/{process.pid}/status").read_text()
+        caught = next(line.split()[1] for line in status.splitlines() if line.startswith("SigCgt:"))
+        if int(caught, 16) >> (number - 1) & 1:
+            return
+        time.sleep(0.01)
+    raise AssertionError("the signal isn't handled")

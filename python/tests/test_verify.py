@@ -18,7 +18,7 @@ from warcdx.digests import Digest
 from warcdx.record_digests import RecordCheck
 from warcdx.verifying import check_archive
 
-from .support import PROGRAM, SAMPLES, WAIT, Case
+from .support import PROGRAM, SAMPLES, WAIT, Case, wait_until_caught
 
 COMMAND = pathlib.Path(__file__).resolve().parents[1] / "bin/warcdx-verify"
 # Of `abc`, in base 32 and in hexadecimal digits.
@@ -303,8 +303,9 @@ class Command(Case):
                     (sys.executable, COMMAND, "--warcdx", os.path.abspath(PROGRAM), *arguments), cwd=self.folder,
                     stdout=subprocess.PIPE, stderr=subprocess.STDOUT, env={**os.environ, "TMPDIR": str(temporary)},
                 )  # fmt: skip
+                wait_until_caught(process, signal.SIGTERM)  # until then Python itself handles SIGINT
                 with self.assertRaises(subprocess.TimeoutExpired):
-                    process.wait(timeout=0.7)
+                    process.wait(timeout=0.2)
                 process.send_signal(number)
                 found = process.communicate(timeout=WAIT)[0]
                 self.assertEqual(-number, process.returncode)
