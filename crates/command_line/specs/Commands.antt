@@ -1,5 +1,5 @@
 -- The commands, and what the words of a command line ask for.
-use Rattle.std.specs.Prelude.{ℕ, List, [], ◌∷◌, ◌||◌, ◌&&◌, Bool, true, false, Option, None, Some, Result, Ok, Err}
+use Rattle.std.specs.Prelude.{ℕ, List, [], ◌∷◌, ◌||◌, ◌&&◌, Bool, false, Option, None, Some, Result, Ok, Err}
 use Rattle.std.specs.Prelude.{MatchResult, ◌≡◌, if◌then◌else◌, codes, bytes_eq, find, is_some, option_map}
 use Rattle.std.specs.Prelude.{option_and_then, string_bytes}
 use Rattle.std.specs.List.{list_any}
