@@ -4,7 +4,7 @@ import socket
 import subprocess
 import unittest
 
-from .support import PROGRAM, ROOT, SAMPLE, WAIT, Case, Shared, connected, lines
+from .support import COMMAND, PROGRAM, ROOT, SAMPLE, WAIT, Case, Shared, connected, lines
 
 
 class Http(Shared):
@@ -250,6 +250,16 @@ class Starts(Case):
         ):
             said = self.fails("--port", "0", "--program", PROGRAM, "--indexes", path)
             self.assertEqual(f"warcdx-gateway: {path}: {reason}\n", said)
+
+    def test_too_few_files_are_named(self) -> None:
+        index = str(self.put(SAMPLE))
+        command = f'ulimit -n 64; exec /usr/bin/python3 "{COMMAND}" "$@"'
+        arguments = ("--port", "0", "--program", PROGRAM, "--indexes", index)
+        run = subprocess.run(
+            ("sh", "-c", command, "sh", *arguments), capture_output=True, text=True, timeout=60
+        )
+        said = "a process may open 64 files, and 65 are needed: raise the limit, as by ulimit -n"
+        self.assertEqual((1, "", f"warcdx-gateway: {said}\n"), (run.returncode, run.stdout, run.stderr))
 
     def test_a_used_port_is_named(self) -> None:
         server = self.run_command(

@@ -34,7 +34,8 @@ BACKLOG = 1024  # connections that wait for a worker
 MOST_LINE = 70_000  # bytes of the line of a request: a query has at most 65,536
 ENDS = (signal.SIGTERM, signal.SIGINT, signal.SIGQUIT, signal.SIGABRT)
 SILENCE = 2  # seconds for a client to send its request when a worker ends
-OTHER_FILES = 200  # that are open beside indexes
+OTHER_FILES = 200  # that a process may open beside indexes
+LEAST_FILES = 64  # beside indexes, without which requests would fail
 
 
 class Log(gunicorn.glogging.Logger):
@@ -236,7 +237,7 @@ class Server(BaseApplication):
 
 def run(settings: Settings, read: Callable[[], Settings]) -> None:
     """Answers requests until a signal. Raises Error or OSError if it can't start."""
-    allow_files(sum(len(each.indexes) for each in settings.collections) + OTHER_FILES)
+    allow_files(sum(len(each.indexes) for each in settings.collections))
     master = os.getpid()
     # systemd has a folder for a service in which nothing is removed because of its age.
     base = os.environ.get("RUNTIME_DIRECTORY")
@@ -272,9 +273,14 @@ def shown_address(found: socket.socket) -> str:
     return f"[{address}]:{port}" if ":" in address else f"{address}:{port}"
 
 
-def allow_files(wanted: int) -> None:
-    """Raises the limit of open files if that is necessary and possible."""
+def allow_files(indexes: int) -> None:
+    """Raises the limit of open files if that is necessary and possible. Raises OSError if it stays too low."""
+    wanted, least = indexes + OTHER_FILES, indexes + LEAST_FILES
     soft, hard = resource.getrlimit(resource.RLIMIT_NOFILE)
     if soft != resource.RLIM_INFINITY and soft < wanted:
         soft = wanted if hard == resource.RLIM_INFINITY else min(wanted, hard)
         resource.setrlimit(resource.RLIMIT_NOFILE, (soft, hard))
+    if soft != resource.RLIM_INFINITY and soft < least:
+        raise OSError(
+            f"a process may open {soft} files, and {least} are needed: raise the limit, as by ulimit -n"
+        )

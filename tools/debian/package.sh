@@ -45,7 +45,7 @@ if [ ! -x /usr/bin/python3 ]; then
     echo "${1##*/}: python3 is missing (Debian's package python3)" >&2
     exit 3
 fi
-exec /usr/bin/python3 $2 "\$@"
+exec /usr/bin/python3 -S $2 "\$@"
 END
 }
 
