@@ -2,26 +2,32 @@
 
 _warcdx() {
     local word=${COMP_WORDS[COMP_CWORD]} command=${COMP_WORDS[1]} operand=$((COMP_CWORD - 1))
+    local option='' options=''
     COMPREPLY=()
     if ((COMP_CWORD == 1)) && [[ $word != -* ]]; then
         _warcdx_offer list verify index merge check query pages serve get scan
         return
     fi
-    if [[ $command == index || $command == scan ]] && [[ ${COMP_WORDS[2]} == --types ]] && ((COMP_CWORD > 2)); then
-        if ((COMP_CWORD == 3)); then
-            _warcdx_types
-            return
-        fi
+    case $command in
+        index | scan) options=' --types --name ' ;;
+        get) options=' --length ' ;;
+    esac
+    while ((operand > 1)); do
+        option=${COMP_WORDS[COMP_CWORD - operand + 1]}
+        if [[ $options != *" $option "* ]]; then break; fi
+        options=${options/"$option "/}
         operand=$((operand - 2))
-    fi
-    if [[ $command == get && ${COMP_WORDS[2]} == --length ]] && ((COMP_CWORD > 2)); then
-        operand=$((operand - 2))
+    done
+    if ((operand == 0 && COMP_CWORD > 1)); then
+        if [[ $option == --types ]]; then _warcdx_types; fi
+        return
     fi
     if [[ $word == -* ]]; then
         _warcdx_offer -h --help
         if ((COMP_CWORD == 1)); then _warcdx_offer -V --version; fi
-        if [[ $command:$COMP_CWORD == index:2 || $command:$COMP_CWORD == scan:2 ]]; then _warcdx_offer --types; fi
-        if [[ $command:$COMP_CWORD == get:2 ]]; then _warcdx_offer --length; fi
+        if ((operand == 1)); then
+            for option in $options; do _warcdx_offer "$option"; done
+        fi
         return
     fi
     case $command:$operand in

@@ -1,31 +1,31 @@
 # Completion of the words of warcdx for fish.
 
-# What may stand at the cursor: command, types-option, types, length-option, archive, index, query or nothing.
+# What may stand at the cursor: command, types-option, types, name-option, name, length-option, length, archive, index, query or nothing.
 function __warcdx_place
     set -l words (commandline -opc)
     set -l command $words[2]
     set -l given $words[3..]
+    set -l options
     switch $command
         case ''
             echo command
             return
         case index scan
-            if not set -q given[1]
-                echo types-option
-            else if test "$given[1]" = --types
-                if not set -q given[2]
-                    echo types
-                    return
-                end
-                set given $given[3..]
-            end
+            set options types name
         case get
-            if not set -q given[1]
-                echo length-option
-            else if test "$given[1]" = --length
-                set -q given[2] || return
-                set given $given[3..]
-            end
+            set options length
+    end
+    while set -q given[1] && contains -- $given[1] --$options
+        set -l option (string sub --start 3 -- $given[1])
+        if not set -q given[2]
+            echo $option
+            return
+        end
+        set options (string match --invert -- $option $options)
+        set given $given[3..]
+    end
+    if not set -q given[1]
+        string replace --regex -- '$' -option $options
     end
     switch $command:(count $given)
         case 'list:*' 'verify:*' 'index:*' get:1
@@ -57,6 +57,7 @@ complete -c warcdx -f
 complete -c warcdx -s h -l help -d 'Print help'
 complete -c warcdx -n '__warcdx_at command' -s V -l version -d 'Print the version'
 complete -c warcdx -n '__warcdx_at types-option' -l types -d 'Index records of these types'
+complete -c warcdx -n '__warcdx_at name-option' -l name -d 'The name of the archive -'
 complete -c warcdx -n '__warcdx_at length-option' -l length -d 'Write a record of this length only'
 complete -c warcdx -n '__warcdx_at types' -a '(__warcdx_types)' -d Types
 complete -c warcdx -n '__warcdx_at archive' -k -a '(__fish_complete_suffix .warc)'

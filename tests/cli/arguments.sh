@@ -53,6 +53,11 @@ misplaced() { # OPTION
         "For more information, try '--help'."
 }
 
+misplaced_name() { # OPTION
+    lines "error: unexpected option '$1'" "" "  tip: '--name NAME' stands once, directly after 'index', 'scan' or their '--types TYPES'" "" \
+        "For more information, try '--help'."
+}
+
 no_length() { # WORD
     lines "error: invalid value '$1' for '--length <LENGTH>': a length is 1 to 19 digits, below 2^63" "" \
         "For more information, try '--help'."
@@ -92,6 +97,7 @@ one_too_many=$(refusal "unexpected argument 'q.warc' found" "get [OPTIONS] <OFFS
 misspelt=$(refusal "unrecognized subcommand 'lst'"$'\n\n  tip: a similar subcommand exists: \'list\'' "[COMMAND]")
 no_typed=$(refusal "the following required arguments were not provided:"$'\n  <WARC>...' "index --types <TYPES> <WARC>...")
 no_value=$(lines "error: a value is required for '--types <TYPES>' but none was supplied" "" "For more information, try '--help'.")
+no_input=$(lines "error: '--name <NAME>' names the archive '-', which isn't given" "" "For more information, try '--help'.")
 no_length_value=$(lines "error: a value is required for '--length <LENGTH>' but none was supplied" "" "For more information, try '--help'.")
 no_archive_of_length=$(refusal "the following required arguments were not provided:"$'\n  <WARC>' "get --length <LENGTH> <OFFSET> <WARC>")
 long_name=$(printf '%04096d' 0)
@@ -141,6 +147,21 @@ check "--length=5"                      "" "$(misplaced_length --length=5)" 2 ge
 check "--types of get"                  "" "$(misplaced --types)"          2 get --types metadata 0 r.warc
 check "--types alone"                   "" "$no_value"                     2 index --types
 check "--types without an archive"      "" "$no_typed"                     2 index --types metadata
+check "--name without -"                "" "$no_input"                     2 index --name a.warc m.warc
+check "--name without -, after types"   "" "$no_input"                     2 index --types metadata --name a.warc m.warc
+check "--name without -, scan"          "" "$no_input"                     2 scan --name a.warc 1 url=a m.warc
+check "--name without an archive"       "" "$no_index"                     2 index --name a.warc
+check "--name alone"                    "" "$(misplaced_name --name)"      2 index --name
+check "--name twice"                    "" "$(misplaced_name --name)"      2 index --name a.warc --name b.warc -
+check "--name behind an archive"        "" "$(misplaced_name --name)"      2 index - --name a.warc
+check "--name behind sizes"             "" "$(misplaced_name --name)"      2 scan 1 --name a.warc url=a -
+check "--name before a command"         "" "$(misplaced_name --name)"      2 --name a.warc index -
+check "--name of another command"       "" "$(misplaced_name --name)"      2 list --name a.warc -
+check "--name in the place of types"    "" "$(misplaced_name --name)"      2 index --types --name a.warc -
+check "--name=a.warc"                   "" "$(misplaced_name --name=a.warc)" 2 index --name=a.warc -
+check "--name of an option"             "" "$(misplaced_name --name)"      2 index --name -x -
+check "--name, then an option"          "" "$(unexpected -x)"              2 index --name a.warc -x -
+check "--name, then bad types"          "" "$(no_types all)"               2 index --name a.warc --types all -
 check "get alone"                       "" "$no_get"                       2 get
 check "get without an archive"          "" "$no_archive"                   2 get 0
 check "get of two archives"             "" "$one_too_many"                 2 get 0 r.warc q.warc
@@ -204,6 +225,7 @@ check_help "verify NAME NAME --help"    "$of_verify"  verify same.warc missing -
 check_help "index -h"                   "$of_index"   index -h
 check_help "index --types -h"           "$of_index"   index --types -h
 check_help "index --types TYPES -h"     "$of_index"   index --types request missing -h
+check_help "index --name NAME -h"       "$of_index"   index --name a.warc missing -h
 check_help "check -h"                   "$of_check"   check -h
 check_help "query --help"               "$of_query"   query --help
 check_help "query NAME -h"              "$of_query"   query missing -h

@@ -3,7 +3,8 @@
 #
 # usage: commands.sh [PROGRAM]
 #
-# Prints a line for each case, and the counts. The exit status is 0, or 1 if a case differs. arguments.sh tests help and usage errors. Needs python3.
+# Prints a line for each case, and the counts. The exit status is 0, or 1 if a case differs. arguments.sh tests help and usage errors. Needs python3, and Debian's
+# package bsdutils.
 set -euo pipefail
 
 source "$(dirname "$0")/../program.sh"
@@ -23,6 +24,16 @@ missing="warcdx: missing: cannot open"
 #     case                              output           error             status, arguments and input
 check "no arguments"                    "$one"           ""                0 < same.warc
 check "-"                               "$one"           ""                0 list - < same.warc
+
+# `script` runs a command at a terminal, whose input ends after this byte.
+at_terminal() { # CASE WANTED [ARGUMENT..]
+    script --quiet --command "$(printf '%q ' "$program" "${@:3}") 2> said" /dev/null <<< $'\004' > /dev/null
+    expect "$1" "$2" "$(cat said)"
+}
+
+at_terminal "no arguments at a terminal" "warcdx: reading a WARC file from the terminal; see 'warcdx --help'"
+at_terminal "- at a terminal"            "" list -
+
 check "an archive"                      "$one"           ""                0 list same.warc
 check "a name after ./"                 "$one"           ""                0 list ./-dash.warc
 check "names of commands as names"      ""  "$(lines "warcdx: list: cannot open" "warcdx: get: cannot open")" 3 list list get
@@ -96,6 +107,13 @@ check "index: --types, two"             "$of_both_types" ""                0 ind
 check "index: --types, others"          ""               ""                0 index --types response,conversion r.warc m.warc
 check "index: --types, a fault"         "$of_torn"       "$torn"           1 index --types revisit,resource torn.warc
 check "index: --types, -"               "$of_input"      ""                0 index --types resource - < r.warc
+check "index: --name of a path"                "$of_r"          ""                0 index --name x/r.warc - < r.warc
+check "index: --name after --types"     "$of_metadata"   ""                0 index --types metadata --name x/m.warc - < m.warc
+check "index: --name before --types"    "$of_metadata"   ""                0 index --name x/m.warc --types metadata - < m.warc
+check "index: --name, a file's too"     "$of_r" "warcdx: -: DuplicateName" 1 index --name r.warc r.warc - < m.warc
+check "index: --name of a folder"       ""      "warcdx: -: BadName"       1 index --name folder/ - < r.warc
+check "index: --name of -"              "$of_input"      ""                0 index --name - - < r.warc
+check "index: --name, damage"           "$of_torn" "${torn/torn.warc/-}"   1 index --name x/torn.warc - < torn.warc
 check "index: a head of 1,048,577 bytes" "" "warcdx: long_head.warc: fault 0 HeadTooLong" 1 index head.warc long_head.warc
 
 # A record ends with LF, which the comparing adds.
@@ -298,6 +316,7 @@ check "scan: missing, before too many"  ""               "$missing"        3 sca
 check "scan: of the usual types"        ""               ""                0 scan 9 "$of_archives" m.warc
 check "scan: --types"            "com,example)/r m.warc 0" ""              0 scan --types metadata 9 "$of_archives" m.warc r.warc
 check "scan: --types, two"              "$scanned_types" ""                0 scan --types metadata,resource 9 "$of_archives" r.warc m.warc
+check "scan: --name"             "com,example)/r m.warc 0" ""              0 scan --types metadata --name x/m.warc 9 "$of_archives" - < m.warc
 check "scan: --types, a refused query"  "" "warcdx: query: BadUrl"         1 scan --types metadata 1 url= missing
 
 # The second line of a message, of which docs/COMMANDS.md says only that it may follow.

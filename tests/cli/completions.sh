@@ -63,6 +63,15 @@ warcdx list --t|
 warcdx index --t|--types
 warcdx index --types re|resource response revisit
 warcdx scan --types response,re|response,resource response,revisit
+warcdx index --n|--name
+warcdx index --|--help --name --types
+warcdx index --types resource --|--help --name
+warcdx index --name x.warc --|--help --types
+warcdx index --name x.warc --types re|resource response revisit
+warcdx index --name x.warc --types resource --|--help
+warcdx index --name |
+warcdx index --name x.warc |a.warc
+warcdx scan --name x.warc --types resource 5 url=x |a.warc
 warcdx scan --types resource |
 warcdx scan --types resource 5 url=x |a.warc
 warcdx list |a.warc

@@ -9,7 +9,7 @@ use Rattle.clap.specs.Faults.{walk_fault, defaults_fault}
 use Rattle.clap.specs.declared.error.kind.ErrorKind.{ErrorKind}
 use Rattle.clap.specs.declared.error.kind.ErrorKind.TheVariants as kind
 use Rattle.command_line.specs.Words.{Text, asks_for_help, is_unknown_option}
-use Rattle.command_line.specs.Commands.{Meaning, ToGet, ToIndex, ToScan, Form, Offset, Typed, TypedSizes, Refusal}
+use Rattle.command_line.specs.Commands.{Meaning, ToGet, to_index, to_scan, Form, Offset, Typed, TypedSizes, Refusal}
 use Rattle.command_line.specs.Commands.{Help, Usage, asked_of, help_or_usage, task_of, operands_task, command_of}
 use Rattle.command_line.specs.Commands.{commands, other_words, takes_option}
 use Rattle.command_line.specs.Clap.{warcdx, matches_task, refusal_for}
@@ -72,8 +72,8 @@ taken_told : (word option : Text) (rest : List Text) → takes_option word optio
     → length rest < 2 ^ 64
     → Tells (word ∷ option ∷ rest)
 taken_told word option rest t p short = elim (taken word option t) [
-  | inl e ↦ rw (e.named, e.taken) (option_told (codes "index") (Typed ToIndex) rest refl refl p short)
-  | inr (inl e) ↦ rw (e.named, e.taken) (option_told (codes "scan") (TypedSizes ToScan) rest refl refl p short)
+  | inl e ↦ rw (e.named, e.taken) (option_told (codes "index") (Typed to_index) rest refl refl p short)
+  | inr (inl e) ↦ rw (e.named, e.taken) (option_told (codes "scan") (TypedSizes to_scan) rest refl refl p short)
   | inr (inr e) ↦ rw (e.named, e.taken) (option_told (codes "get") (Offset ToGet) rest refl refl p short)
 ]
 

@@ -1,4 +1,5 @@
 pub mod Finding
+pub mod InputName
 pub mod SizeDigits
 pub mod PlainWords
 pub mod OtherWords

@@ -39,13 +39,17 @@ option_rule id = record (new_rule id) {
 abbrev types_rule : Rule
 types_rule = option_rule (codes "types")
 
+-- of the help; clap is given no words with it
+abbrev name_rule : Rule
+name_rule = option_rule (codes "name")
+
 abbrev pub rules_for : Form → List Rule
 rules_for (Names make) = names_rule ∷ []
 rules_for (Query make) = word_rule (codes "query") ∷ names_rule ∷ []
 rules_for (Sizes make) = word_rule (codes "sizes") ∷ word_rule (codes "query") ∷ names_rule ∷ []
 rules_for (Offset make) = option_rule (codes "length") ∷ word_rule (codes "offset") ∷ word_rule (codes "name") ∷ []
-rules_for (Typed make) = types_rule ∷ names_rule ∷ []
-rules_for (TypedSizes make) = types_rule ∷ word_rule (codes "sizes") ∷ word_rule (codes "query") ∷ names_rule ∷ []
+rules_for (Typed make) = types_rule ∷ name_rule ∷ names_rule ∷ []
+rules_for (TypedSizes make) = types_rule ∷ name_rule ∷ word_rule (codes "sizes") ∷ word_rule (codes "query") ∷ names_rule ∷ []
 
 abbrev pub command_with : Text → List Rule → Shape
 command_with name rules = record (new_shape name) { rules = rules }

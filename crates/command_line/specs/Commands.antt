@@ -1,7 +1,7 @@
 -- The commands, and what the words of a command line ask for.
 use Rattle.std.specs.Prelude.{ℕ, List, [], ◌∷◌, ◌||◌, ◌&&◌, Bool, false, Option, None, Some, Result, Ok, Err}
 use Rattle.std.specs.Prelude.{MatchResult, ◌≡◌, if◌then◌else◌, codes, bytes_eq, find, is_some, option_map}
-use Rattle.std.specs.Prelude.{option_and_then, string_bytes}
+use Rattle.std.specs.Prelude.{not, option_and_then, string_bytes}
 use Rattle.std.specs.List.{list_any}
 use Rattle.std.specs.Option.{IfSome, ok_or}
 use Rattle.capture_core.specs.Types.{types_of, usual_types}
@@ -11,23 +11,23 @@ use Rattle.command_line.specs.declared.fault.WordsFault.{WordsFault}
 use Rattle.command_line.specs.declared.fault.WordsFault.TheVariants as fault
 use Rattle.command_line.specs.declared.task.Task.{Task}
 use Rattle.command_line.specs.declared.task.Task.TheVariants as task
-use Rattle.command_line.specs.Words.{Text, texts, asks_for_help, is_unknown_option, is_version}
+use Rattle.command_line.specs.Words.{Text, texts, asks_for_help, is_option, is_unknown_option, is_version}
 use Rattle.command_line.specs.Sizes.{sizes_of}
 
 -- ---- the table of commands
 
--- a task, with its names as texts
+-- a task, with its names as texts; of an index or a scan with the name of standard input, where one is given
 pub data Meaning : Type 0 where
   ToList : List Text → Meaning
   ToVerify : List Text → Meaning
-  ToIndex : Types → List Text → Meaning
+  ToIndex : Types → Option Text → List Text → Meaning
   ToMerge : List Text → Meaning
   ToCheck : List Text → Meaning
   ToQuery : Text → List Text → Meaning
   ToPages : List ℕ → Text → List Text → Meaning
   ToServe : List Text → Meaning
   ToGet : Option ℕ → ℕ → Text → Meaning
-  ToScan : Types → List ℕ → Text → List Text → Meaning
+  ToScan : Types → Option Text → List ℕ → Text → List Text → Meaning
 
 -- which operands a command takes, and the task that they make: one name or more; those after a query, or after sizes
 -- and a query; an offset and a name, with the length that an option may give; names, or sizes, a query and names, with
@@ -40,11 +40,18 @@ pub data Form : Type 0 where
   Typed : (Types → List Text → Meaning) → Form
   TypedSizes : (Types → List ℕ → Text → List Text → Meaning) → Form
 
+-- standard input has no name
+abbrev pub to_index : Types → List Text → Meaning
+to_index types names = ToIndex types None names
+
+abbrev pub to_scan : Types → List ℕ → Text → List Text → Meaning
+to_scan types sizes query names = ToScan types None sizes query names
+
 abbrev pub commands : List (Text × Form)
-commands = (codes "list", Names ToList) ∷ (codes "verify", Names ToVerify) ∷ (codes "index", Typed ToIndex)
+commands = (codes "list", Names ToList) ∷ (codes "verify", Names ToVerify) ∷ (codes "index", Typed to_index)
     ∷ (codes "merge", Names ToMerge) ∷ (codes "check", Names ToCheck) ∷ (codes "query", Query ToQuery)
     ∷ (codes "pages", Sizes ToPages) ∷ (codes "serve", Names ToServe) ∷ (codes "get", Offset ToGet)
-    ∷ (codes "scan", TypedSizes ToScan) ∷ []
+    ∷ (codes "scan", TypedSizes to_scan) ∷ []
 
 -- ---- words with a task
 
@@ -152,23 +159,69 @@ asked_of words = if list_any is_unknown_option (other_words words) then Err Usag
     else (if list_any asks_for_help (other_words words) then Err (help_or_usage words)
     else ok_or (task_of words) Usage)
 
+-- ---- the name of standard input
+
+-- `--name`
+abbrev pub gives_name : Text → Bool
+gives_name option = bytes_eq option (codes "--name")
+
+-- the option names standard input for a command that takes types
+abbrev pub names_input : Text → Text → Text → Bool
+names_input command option name = takes_option command (codes "--types") && gives_name option && not (is_option name)
+
+-- the name after a command, its option and a text, and the other words
+abbrev pub named_later : List Text → Option (Text × List Text)
+named_later (command ∷ option ∷ text ∷ second ∷ name ∷ words) =
+    if takes_option command option && names_input command second name
+    then Some (name, command ∷ option ∷ text ∷ words) else None
+named_later words = None
+
+-- the name of standard input and the other words, where `--name` and a name stand directly after a command, or after
+-- its option and a text
+abbrev pub named : List Text → Option (Text × List Text)
+named (command ∷ option ∷ name ∷ words) =
+    if names_input command option name then Some (name, command ∷ words)
+    else named_later (command ∷ option ∷ name ∷ words)
+named words = None
+
+-- `-`
+abbrev pub is_input : Text → Bool
+is_input name = bytes_eq name (codes "-")
+
+-- the task with this name of standard input, which is one of its archives
+abbrev pub with_input : Text → Meaning → Option Meaning
+with_input name (ToIndex types given names) =
+    if list_any is_input names then Some (ToIndex types (Some name) names) else None
+with_input name (ToScan types given sizes query names) =
+    if list_any is_input names then Some (ToScan types (Some name) sizes query names) else None
+with_input name task = None
+
+abbrev pub named_as : Text → Result Meaning Refusal → Result Meaning Refusal
+named_as name (Ok task) = ok_or (with_input name task) Usage
+named_as name (Err refusal) = Err refusal
+
+abbrev pub named_task : Option (Text × List Text) → List Text → Result Meaning Refusal
+named_task None words = asked_of words
+named_task (Some given) words = named_as given.0 (asked_of given.1)
+
 -- the version is printed as help is
 abbrev pub asked : List Text → Result Meaning Refusal
-asked words = if asks_for_version words then Err Help else asked_of words
+asked words = if asks_for_version words then Err Help else named_task (named words) words
 
 -- ---- what the code answers
 
 abbrev pub view : Task → Meaning
 view (task.List names) = ToList (texts names.items)
 view (task.Verify names) = ToVerify (texts names.items)
-view (task.Index types names) = ToIndex types (texts names.items)
+view (task.Index types input names) = ToIndex types (option_map string_bytes input) (texts names.items)
 view (task.Merge names) = ToMerge (texts names.items)
 view (task.Check names) = ToCheck (texts names.items)
 view (task.Query query names) = ToQuery (string_bytes query) (texts names.items)
 view (task.Pages sizes query names) = ToPages sizes.items (string_bytes query) (texts names.items)
 view (task.Serve names) = ToServe (texts names.items)
 view (task.Get length offset name) = ToGet length offset (string_bytes name)
-view (task.Scan types sizes query names) = ToScan types sizes.items (string_bytes query) (texts names.items)
+view (task.Scan types input sizes query names) =
+    ToScan types (option_map string_bytes input) sizes.items (string_bytes query) (texts names.items)
 
 -- nothing for want of memory
 abbrev pub refusal_of : WordsFault → Option Refusal

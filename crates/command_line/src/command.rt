@@ -7,7 +7,7 @@ ghost use Rattle.command_line.specs.Clap.{word_rule, names_rule, option_rule, co
 use crate::help::archives::{GET, INDEX, LIST, SCAN, VERIFY};
 use crate::help::indexes::{CHECK, MERGE, PAGES, QUERY, SERVE};
 use crate::help::{
-    ARCHIVE, CDXJ, LENGTH, OFFSET, Operand, PROGRAM, Page, QUERY_TEXT, SIZES, TYPES,
+    ARCHIVE, CDXJ, LENGTH, NAME, OFFSET, Operand, PROGRAM, Page, QUERY_TEXT, SIZES, TYPES,
 };
 use clap::{Arg, Command};
 use std::alloc::{AllocError, Global};
@@ -34,6 +34,7 @@ pub fn command_line<'a>(alloc: Global) -> Result<Command<'a>, AllocError>
         .no_binary_name(true)
         .disable_help_subcommand(true);
     let types = Argument::Option("types", TYPES);
+    let name = Argument::Option("name", NAME);
     let text = Argument::Word("query", QUERY_TEXT);
     let sizes = Argument::Word("sizes", SIZES);
     let indexes = Argument::Names(CDXJ);
@@ -43,14 +44,14 @@ pub fn command_line<'a>(alloc: Global) -> Result<Command<'a>, AllocError>
     let archive = Argument::Word("name", ARCHIVE);
     let list = with_command(program, alloc, "list", LIST, &[archives])?;
     let verify = with_command(list, alloc, "verify", VERIFY, &[archives])?;
-    let index = with_command(verify, alloc, "index", INDEX, &[types, archives])?;
+    let index = with_command(verify, alloc, "index", INDEX, &[types, name, archives])?;
     let merge = with_command(index, alloc, "merge", MERGE, &[indexes])?;
     let check = with_command(merge, alloc, "check", CHECK, &[indexes])?;
     let query = with_command(check, alloc, "query", QUERY, &[text, indexes])?;
     let pages = with_command(query, alloc, "pages", PAGES, &[sizes, text, indexes])?;
     let serve = with_command(pages, alloc, "serve", SERVE, &[indexes])?;
     let get = with_command(serve, alloc, "get", GET, &[length, offset, archive])?;
-    let all = &[types, sizes, text, archives];
+    let all = &[types, name, sizes, text, archives];
     let scan = with_command(get, alloc, "scan", SCAN, all)?;
     Ok(scan)
 }

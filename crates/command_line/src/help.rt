@@ -84,6 +84,12 @@ pub const TYPES: Operand = Operand {
     help: "Types of records to index, such as response,metadata",
 };
 
+/// The operand `NAME`.
+pub const NAME: Operand = Operand {
+    name: "NAME",
+    help: "The name of the archive -, such as crawl.warc",
+};
+
 /// The operand `OFFSET`.
 pub const OFFSET: Operand = Operand {
     name: "OFFSET",

@@ -2,7 +2,7 @@
 ghost use Rattle.std.specs.Prelude.{◌≡◌, IfOk, Some, option_map, codes, map, string_bytes};
 ghost use Rattle.clap.specs.Words.{all_of, first_of, found_of, rows_of, subcommand_rows_of};
 ghost use Rattle.command_line.specs.Words.{texts};
-ghost use Rattle.command_line.specs.Commands.{Offset, Query, Sizes, ToGet, ToIndex, ToPages, ToQuery, ToScan, Typed, TypedSizes, list_input, view};
+ghost use Rattle.command_line.specs.Commands.{Offset, Query, Sizes, ToGet, ToPages, ToQuery, Typed, TypedSizes, list_input, to_index, to_scan, view};
 ghost use Rattle.command_line.specs.Clap.{chosen_length, chosen_types, matches_task, offset_and_name, sized_query, values_task};
 
 use crate::sizes::read_sizes;
@@ -62,13 +62,17 @@ fn list_input(alloc: Global) -> Result<Task, AllocError>
 
 fn index_task(alloc: Global, values: &ArgMatches) -> Result<Option<Task>, AllocError>
     ensures { IfOk result (λ task. option_map view task
-        ≡ values_task (Typed ToIndex) (rows_of (found_of values.now))) }
+        ≡ values_task (Typed to_index) (rows_of (found_of values.now))) }
 {
     let Some(types) = chosen_types(values) else {
         return Ok(None);
     };
     match names_of(alloc, values)? {
-        Some(names) => Ok(Some(Task::Index { types, names })),
+        Some(names) => Ok(Some(Task::Index {
+            types,
+            input: None,
+            names,
+        })),
         None => Ok(None),
     }
 }
@@ -102,7 +106,7 @@ fn pages_task(alloc: Global, values: &ArgMatches) -> Result<Option<Task>, AllocE
 
 fn scan_task(alloc: Global, values: &ArgMatches) -> Result<Option<Task>, AllocError>
     ensures { IfOk result (λ task. option_map view task
-        ≡ values_task (TypedSizes ToScan) (rows_of (found_of values.now))) }
+        ≡ values_task (TypedSizes to_scan) (rows_of (found_of values.now))) }
 {
     let Some(types) = chosen_types(values) else {
         return Ok(None);
@@ -110,6 +114,7 @@ fn scan_task(alloc: Global, values: &ArgMatches) -> Result<Option<Task>, AllocEr
     match sized_query(alloc, values)? {
         Some((sizes, query, names)) => Ok(Some(Task::Scan {
             types,
+            input: None,
             sizes,
             query,
             names,

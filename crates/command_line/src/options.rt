@@ -1,7 +1,7 @@
 //! Which arguments are options.
-ghost use Rattle.std.specs.Prelude.{◌≡◌, find, option_map, string_bytes};
+ghost use Rattle.std.specs.Prelude.{◌≡◌, ◌++◌, find, option_map, string_bytes};
 ghost use Rattle.command_line.specs.Words.{texts, is_option, asks_for_help, is_unknown_option, is_version};
-ghost use Rattle.command_line.specs.Commands.{asks_for_version, other_words, takes_option};
+ghost use Rattle.command_line.specs.Commands.{asks_for_version, is_input, named, named_later, names_input, other_words, takes_option};
 
 /// Returns `true` if the only argument asks for the version.
 pub fn asks_for_version(words: &[String]) -> bool
@@ -31,6 +31,72 @@ fn takes_option(command: &str, option: &str) -> bool
         "get" => option == "--length",
         _ => false,
     }
+}
+
+/// A name of standard input, and the arguments beside it.
+#[derive(Drop)]
+pub struct NamedInput<'a> {
+    pub name: &'a String,
+    /// The arguments before `--name`.
+    pub before: &'a [String],
+    /// The arguments after the name.
+    pub after: &'a [String],
+}
+
+/// Returns the name that `--name` gives to standard input, directly after a command or after its option and a text.
+pub fn named(words: &[String]) -> Option<NamedInput<'_>>
+    ensures { option_map (λ n. (string_bytes n.name.now, texts n.before.now ++ texts n.after.now))
+        result ≡ named (texts words.now) }
+{
+    match words {
+        [command, option, name, after @ ..] if names_input(command, option, name) => {
+            let before = &words[..1];
+            Some(NamedInput {
+                name,
+                before,
+                after,
+            })
+        }
+        _ => named_later(words),
+    }
+}
+
+/// The same after a command, its option and a text.
+fn named_later(words: &[String]) -> Option<NamedInput<'_>>
+    ensures { option_map (λ n. (string_bytes n.name.now, texts n.before.now ++ texts n.after.now))
+        result ≡ named_later (texts words.now) }
+{
+    match words {
+        [command, option, _text, second, name, after @ ..]
+            if takes_option(command, option) && names_input(command, second, name) => {
+            let before = &words[..3];
+            Some(NamedInput {
+                name,
+                before,
+                after,
+            })
+        }
+        _ => None,
+    }
+}
+
+fn names_input(command: &str, option: &str, name: &str) -> bool
+    ensures { result ≡ names_input command.now option.now name.now }
+{
+    takes_option(command, "--types") && option == "--name" && !is_option(name.as_bytes())
+}
+
+/// Returns the first name that is standard input.
+pub fn input_of(names: &[String]) -> Option<&String>
+    ensures { option_map (λ name. string_bytes name.now) result ≡ find is_input (texts names.now) }
+{
+    names.iter().find(|name| is_input(name))
+}
+
+fn is_input(name: &str) -> bool
+    ensures { result ≡ is_input name.now }
+{
+    name == "-"
 }
 
 /// Returns the first argument that begins with `-`, except `-` alone and arguments that ask for help.

@@ -12,9 +12,10 @@ pub enum Task {
     Verify {
         names: Vec<String>,
     },
-    /// Index the captures of the archives: the records of these types.
+    /// Index the captures of the archives: the records of these types. `input` is the name of standard input.
     Index {
         types: Types,
+        input: Option<String>,
         names: Vec<String>,
     },
     /// Merge the indexes into one.
@@ -47,9 +48,11 @@ pub enum Task {
         offset: u64,
         name: String,
     },
-    /// Answer the query over the captures of the archives, page by page: the records of these types.
+    /// Answer the query over the captures of the archives, page by page: the records of these types. `input` is the
+    /// name of standard input.
     Scan {
         types: Types,
+        input: Option<String>,
         sizes: Vec<u64>,
         query: String,
         names: Vec<String>,

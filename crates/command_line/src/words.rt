@@ -1,17 +1,19 @@
 //! Reading the arguments of a command line.
-ghost use Rattle.std.specs.Prelude.{◌≡◌, IfOk, IfErr, true, false, Err, Some, [], ◌∷◌, string_bytes, take};
+ghost use Rattle.std.specs.Prelude.{◌≡◌, ◌++◌, is_some, IfOk, IfErr, OnOk, true, false, Err, Ok, Some, [], ◌∷◌, string_bytes, take};
 ghost use Rattle.std.specs.List.{list_any};
 ghost use Rattle.std.specs.Option.{IfSome, ok_or};
 ghost use Rattle.clap.specs.Words.{kind_of, subcommand_rows_of};
 ghost use Rattle.command_line.specs.Words.{texts, asks_for_help, is_unknown_option};
-ghost use Rattle.command_line.specs.Commands.{IsMeant, IsUsage, Help, Usage, asked, asked_of, help_or_usage, other_words, refusal_of};
+ghost use Rattle.command_line.specs.Commands.{IsMeant, IsUsage, Help, Usage, asked, asked_of, help_or_usage, is_input, named_as, other_words, refusal_of, view, with_input};
 ghost use Rattle.command_line.specs.Clap.{matches_task, refusal_for};
 
 use crate::command::command_line;
 use crate::fault::WordsFault;
 use crate::help::VERSION;
 use crate::matches::{operand_word, task_of};
-use crate::options::{asks_for_version, help_option, other_words, unknown_option};
+use crate::options::{
+    NamedInput, asks_for_version, help_option, input_of, named, other_words, unknown_option,
+};
 use crate::task::Task;
 use capture_core::Types;
 use cdxj_places::read_offset;
@@ -23,7 +25,8 @@ use std::alloc::{AllocError, Global};
 ///
 /// `-V` and `--version`, as the only argument, ask for the version. `-h` and `--help` ask for help: as the first argument for the program's help, after a command for the command's
 /// help, whatever the number of its arguments. `--types` is an option of `index` and `scan` only, and `--length` one of
-/// `get`. Each stands directly after the command.
+/// `get`. Each stands directly after the command. `--name` is an option of `index` and `scan`, directly after the command
+/// or after `--types` and its text: it gives a name to the archive `-`.
 ///
 /// # Errors
 ///
@@ -31,7 +34,7 @@ use std::alloc::{AllocError, Global};
 /// - `Usage` for another argument that begins with `-`, except `-` alone, wherever it stands. Otherwise for a first
 ///   argument that isn't a command, for a wrong number of arguments, for an offset or a length that isn't 1 to 19
 ///   digits below 2^63, for sizes that aren't 1 to 1,000 numbers from 1 to 1,000,000, each of at most 7 digits, separated by commas,
-///   and for types that `Types::read` doesn't accept.
+///   for types that `Types::read` doesn't accept, and for a name without an archive `-`.
 /// - `Memory` if memory could not be allocated.
 pub fn read_words(alloc: Global, words: &[String]) -> Result<Task, WordsFault>
     ensures { IsMeant (asked (texts words.now)) result }
@@ -39,7 +42,97 @@ pub fn read_words(alloc: Global, words: &[String]) -> Result<Task, WordsFault>
     if asks_for_version(words) {
         return Err(version(alloc));
     }
-    read_task(alloc, words)
+    match named(words) {
+        Some(named) => read_named_task(alloc, &named),
+        None => read_task(alloc, words),
+    }
+}
+
+/// Reads arguments that give a name to standard input.
+fn read_named_task(alloc: Global, named: &NamedInput<'_>) -> Result<Task, WordsFault>
+    ensures { IsMeant (named_as (string_bytes named.now.name.now)
+        (asked_of (texts named.now.before.now ++ texts named.now.after.now))) result }
+{
+    let words = joined(alloc, named.before, named.after)?;
+    let task = read_task(alloc, &words)?;
+    with_input(alloc, task, named.name)
+}
+
+/// Gives a name to standard input, which has to be an archive of the task.
+fn with_input(alloc: Global, task: Task, name: &str) -> Result<Task, WordsFault>
+    ensures { IsMeant (named_as name.now (Ok (view task))) result }
+{
+    if !takes_name(&task) {
+        return Err(no_input(alloc));
+    }
+    let name = String::from_str(alloc, name)?;
+    Ok(replace_name(task, name))
+}
+
+/// Returns `true` for a task that indexes archives, one of which is standard input.
+fn takes_name(task: &Task) -> bool
+    ensures { result ≡ is_some (with_input [] (view task.now)) }
+{
+    match task {
+        Task::Index { names, .. } | Task::Scan { names, .. } => has_input(names),
+        _ => false,
+    }
+}
+
+fn replace_name(task: Task, name: String) -> Task
+    requires { is_some (with_input (string_bytes name) (view task)) ≡ true }
+    ensures { Some (view result) ≡ with_input (string_bytes name) (view task) }
+{
+    match task {
+        Task::Index {
+            types,
+            input: _input,
+            names,
+        } => Task::Index {
+            types,
+            input: Some(name),
+            names,
+        },
+        Task::Scan {
+            types,
+            input: _input,
+            sizes,
+            query,
+            names,
+        } => Task::Scan {
+            types,
+            input: Some(name),
+            sizes,
+            query,
+            names,
+        },
+        task => task,
+    }
+}
+
+fn has_input(names: &[String]) -> bool
+    ensures { result ≡ list_any is_input (texts names.now) }
+{
+    input_of(names).is_some()
+}
+
+/// Returns copies of these arguments.
+fn joined(alloc: Global, before: &[String], after: &[String]) -> Result<Vec<String>, AllocError>
+    ensures { IfOk result (λ words. texts words.items ≡ texts before.now ++ texts after.now) }
+{
+    let mut words = Vec::new(alloc);
+    push_copies(&mut words, before)?;
+    push_copies(&mut words, after)?;
+    Ok(words)
+}
+
+fn push_copies(words: &mut Vec<String>, more: &[String]) -> Result<(), AllocError>
+    ensures { OnOk result (texts words.new.items ≡ texts words.old.items ++ texts more.now) }
+{
+    for word in more {
+        words.push(word.clone()?)?;
+    }
+    Ok(())
 }
 
 /// Returns the program's name and version, as a help text.
@@ -144,6 +237,8 @@ fn tip_for(option: &str) -> &'static str {
         "'--types TYPES' stands once, directly after 'index' or 'scan'"
     } else if option.starts_with("--length") {
         "'--length LENGTH' stands once, directly after 'get'"
+    } else if option.starts_with("--name") {
+        "'--name NAME' stands once, directly after 'index', 'scan' or their '--types TYPES'"
     } else if option == "--version" || option == "-V" {
         "'--version' is the only argument"
     } else {
@@ -185,6 +280,15 @@ fn no_length(alloc: Global, word: &str) -> WordsFault
 {
     usage(format!(in alloc;
         "error: invalid value '{word}' for '--length <LENGTH>': a length is 1 to 19 digits, below 2^63\n\n\
+         For more information, try '--help'.\n"
+    ))
+}
+
+fn no_input(alloc: Global) -> WordsFault
+    ensures { IsUsage result }
+{
+    usage(format!(in alloc;
+        "error: '--name <NAME>' names the archive '-', which isn't given\n\n\
          For more information, try '--help'.\n"
     ))
 }

@@ -186,7 +186,7 @@ module _ (before after : List ℕ) (unchanged : Type 0) where
   serves (inr unopened) = grind arith
 
   pub scans : ScanIsOne → Performs shelf (Some before) (Some after) unchanged outcomes.Done
-      (ToScan usual_types (1 ∷ []) orgs_text (archive_name ∷ [])) → after ≡ before ++ codes "org,a)/ 0\n"
+      (ToScan usual_types None (1 ∷ []) orgs_text (archive_name ∷ [])) → after ≡ before ++ codes "org,a)/ 0\n"
   scans one (inl (q, meaning, inl s)) = scanned before after one s.answer s.outcome_is s.scanned
   scans one (inl (q, meaning, inr unopened)) = grind arith
   scans one (inr refused) = grind arith

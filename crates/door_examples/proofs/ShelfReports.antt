@@ -121,7 +121,7 @@ module _ (before after : List ℕ) (unchanged : Type 0) where
 -- ---- the index
 
 added : OneIndexed → (held : Held)
-    → AddsOne shelf.archive_of shelf.ArchiveFailed (nothing_of usual_types) archive_name outcomes.Done held
+    → AddsOne shelf.archive_of shelf.ArchiveFailed None (nothing_of usual_types) archive_name outcomes.Done held
     → held.captures ≡ a_entry ∷ []
 added one held (inl a) = go a.answer a.outcome_is a.adds
   where
@@ -139,7 +139,7 @@ indexed before after held outcome are (Ok n, is, fault, text) = text ∙ ap (λ 
 indexed before after held outcome are (Err f, is, fault, text) = grind arith
 
 pub indexes : OneIndexed → (before after : List ℕ) (unchanged : Type 0)
-    → Performs shelf (Some before) (Some after) unchanged outcomes.Done (ToIndex usual_types (archive_name ∷ []))
+    → Performs shelf (Some before) (Some after) unchanged outcomes.Done (ToIndex usual_types None (archive_name ∷ []))
     → after ≡ before ++ a_line
 indexes one before after unchanged (held, reached, (ended, next, step, rest), write) =
     let w = added_done reached unchanged held (Some before) (Some after) write in
@@ -147,4 +147,4 @@ indexes one before after unchanged (held, reached, (ended, next, step, rest), wr
     ((r ≡ Rattle.tasks.specs.Outcome.worse_of outcomes.Done ended) × (held ≡ next))) w.0 rest) in
     indexed before after held reached (added one held (subst (λ s. AddsOne shelf.archive_of shelf.ArchiveFailed
     (nothing_of usual_types) archive_name outcomes.Done s) (sym d.1)
-    (subst (λ o. AddsOne shelf.archive_of shelf.ArchiveFailed (nothing_of usual_types) archive_name o next) d.0 step))) w.1
+    (subst (λ o. AddsOne shelf.archive_of shelf.ArchiveFailed None (nothing_of usual_types) archive_name o next) d.0 step))) w.1

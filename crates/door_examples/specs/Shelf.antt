@@ -32,12 +32,12 @@ shelf = record {
 pub record WritesOfShelf (task : Meaning) (before after : List ℕ) : Type 0 where
   pub list : task ≡ ToList (archive_name ∷ []) → after ≡ before ++ codes "0 201 resource\n"
   pub verify : task ≡ ToVerify (archive_name ∷ []) → after ≡ before ++ codes "0 absent\n"
-  pub index : task ≡ ToIndex usual_types (archive_name ∷ []) → after ≡ before ++ a_line
+  pub index : task ≡ ToIndex usual_types None (archive_name ∷ []) → after ≡ before ++ a_line
   pub merge : task ≡ ToMerge (index_name ∷ index_name ∷ []) → after ≡ before ++ a_line
   pub check : task ≡ ToCheck (index_name ∷ []) → after ≡ before ++ codes "a.cdxj 1\n"
   pub query : task ≡ ToQuery orgs_text (index_name ∷ []) → after ≡ before ++ codes "org,a)/ 0\n"
   pub pages : task ≡ ToPages (1 ∷ []) orgs_text (index_name ∷ []) → after ≡ before ++ codes "org,a)/ 0\n"
   pub serve : task ≡ ToServe (index_name ∷ []) → after ≡ before ++ codes "org,a)/\n.\n"
   pub get : task ≡ ToGet None 0 archive_name → after ≡ before ++ a_archive
-  pub scan : task ≡ ToScan usual_types (1 ∷ []) orgs_text (archive_name ∷ [])
+  pub scan : task ≡ ToScan usual_types None (1 ∷ []) orgs_text (archive_name ∷ [])
       → after ≡ before ++ codes "org,a)/ 0\n"

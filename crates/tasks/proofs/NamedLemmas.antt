@@ -6,7 +6,7 @@ use Rattle.std.proofs.lemmas.List.Elements.{AllZip-push}
 use Rattle.std.proofs.lemmas.Simd.{map-map}
 use Rattle.std.proofs.lemmas.Grind.{take_at_read}
 use Rattle.scan_core.specs.declared.named.Named.{Named}
-use Rattle.tasks.specs.Indexing.{file_name}
+use Rattle.tasks.specs.Indexing.{archive_name}
 use Rattle.tasks.specs.Opening.{HasTold}
 use Rattle.tasks.specs.Scanning.{AreOpened, archive_names, inputs}
 
@@ -21,11 +21,11 @@ of_ok r e p = grind arith
 
 -- one more archive was opened
 pub opened-more : {I : Type 0} (remaining : I → Option (List ℕ)) (bytes_of : List ℕ → Option (List ℕ))
-    (before after : List (List ℕ)) (name named : List ℕ) (input : I) (old new : List (Named I))
-    → after ≡ before ++ name ∷ [] → named ≡ file_name name → HasTold (bytes_of name) (remaining input)
+    (given : Option (List ℕ)) (before after : List (List ℕ)) (name named : List ℕ) (input : I) (old new : List (Named I))
+    → after ≡ before ++ name ∷ [] → named ≡ archive_name given name → HasTold (bytes_of name) (remaining input)
     → archive_names new ≡ archive_names old ++ named ∷ [] → inputs new ≡ inputs old ++ input ∷ []
-    → AreOpened remaining bytes_of before old → AreOpened remaining bytes_of after new
-opened-more remaining bytes_of before after name named input old new grown is has names gained opened = record {
+    → AreOpened remaining bytes_of given before old → AreOpened remaining bytes_of given after new
+opened-more remaining bytes_of given before after name named input old new grown is has names gained opened = record {
   named = grind (arith, map-append);
   bytes =
       let told : map bytes_of after ≡ map bytes_of before ++ bytes_of name ∷ [] = grind (arith, map-append) in

@@ -102,7 +102,7 @@ module _ {U V : Type 0} (less : U → V) where
       → Performs files before after U outcome task → Performs files before after V outcome task
   performs_less files before after outcome (ToList names) h = h
   performs_less files before after outcome (ToVerify names) h = h
-  performs_less files before after outcome (ToIndex types names) h =
+  performs_less files before after outcome (ToIndex types input names) h =
       (h.0, h.1, h.2, at_end _ _ (ends_command h.1) h.3)
   performs_less files before after outcome (ToMerge names) h = opens (merges _ _ _ _) h
   performs_less files before after outcome (ToCheck names) h = h
@@ -112,5 +112,5 @@ module _ {U V : Type 0} (less : U → V) where
       reads text outcome (λ query. opens (pages query sizes _ _ _ _)) h
   performs_less files before after outcome (ToServe names) h = opens (serves _ _ _ _ _) h
   performs_less files before after outcome (ToGet len offset name) h = opens (fetches len offset _ _ _ _) h
-  performs_less files before after outcome (ToScan types sizes text names) h =
+  performs_less files before after outcome (ToScan types input sizes text names) h =
       reads text outcome (λ query. opens (λ scans. scans)) h

@@ -1,11 +1,14 @@
 -- The name of an archive in an index, its adding, and the writing of an index.
-use Rattle.std.specs.Prelude.{◌≡◌, ◌↔◌, ℕ, List, Option, Bool, true, ◌==◌, Result, Ok, Err, IfErr, MatchBool, []}
+use Rattle.std.specs.Prelude.{◌≡◌, ◌↔◌, ℕ, List, Option, None, Some, if◌then◌else◌, Bool, true, ◌==◌, Result, Ok, Err}
+use Rattle.std.specs.Prelude.{IfErr, MatchBool, [], option_map}
+use Rattle.std.specs.Borrow.{Bor}
 use Rattle.std.specs.List.{after_last}
 use Rattle.devices.specs.Writing.{WritesText}
 use Rattle.warc_core.specs.declared.next.TheConstants.{HEAD_LIMIT}
 use Rattle.capture_core.specs.Types.{includes}
 use Rattle.capture_core.specs.declared.types.Types.{Types}
 use Rattle.capture_core.specs.CaptureAnswer.{usual_limits}
+use Rattle.command_line.specs.Commands.{is_input}
 use Rattle.index_core.specs.declared.fault.IndexFault.{IndexFault}
 use Rattle.index_core.specs.declared.fault.IndexFault.TheVariants as faults
 use Rattle.index_core.specs.Adding.{Adds}
@@ -24,14 +27,27 @@ is_slash byte = byte == 47
 abbrev pub file_name : List ℕ → List ℕ
 file_name name = after_last is_slash name
 
--- an archive was added under its file name, by the outcome
+-- the bytes of a name, where one is given
+abbrev pub bytes_of_name : Option (Bor (List ℕ)) → Option (List ℕ)
+bytes_of_name given = option_map (λ name. name.now) given
+
+-- an archive's name: for standard input, the one that is given to it
+abbrev pub given_name : Option (List ℕ) → List ℕ → List ℕ
+given_name None name = name
+given_name (Some given) name = if is_input name then given else name
+
+-- the name under which an archive is indexed
+abbrev pub archive_name : Option (List ℕ) → List ℕ → List ℕ
+archive_name input name = file_name (given_name input name)
+
+-- an archive was added under a name, by the outcome
 pub record AddsArchive (name : List ℕ) (archive : Option (List ℕ)) (old new : Held) (outcome : Outcome) : Type 0 where
   pub answer : Result ℕ IndexFault
   pub outcome_is : outcome ≡ outcome_of answer
-  pub bad : (answer ≡ Err faults.BadName) ↔ ¬ (IsName (file_name name))
+  pub bad : (answer ≡ Err faults.BadName) ↔ ¬ (IsName name)
   pub duplicate : (answer ≡ Err faults.DuplicateName)
-      ↔ (IsName (file_name name) × (is_among old.names (file_name name) ≡ true))
-  pub adds : Adds (includes old.types) usual_limits HEAD_LIMIT (file_name name) archive old new answer
+      ↔ (IsName name × (is_among old.names name ≡ true))
+  pub adds : Adds (includes old.types) usual_limits HEAD_LIMIT name archive old new answer
 
 -- the outcome of the adding, unless the writing was refused
 abbrev pub unless_refused : {A : Type 0} → Outcome → Result A IndexFault → Outcome
@@ -45,9 +61,10 @@ WritesIndex held added before after outcome =
     × WritesText answer before after (index_text held.captures)
 
 -- the archive of this name was added, unless it couldn't be opened
-abbrev pub AddsOne : (List ℕ → Option (List ℕ)) → (List ℕ → Type 0) → Held → List ℕ → Outcome → Held → Type 0
-AddsOne bytes_of Failed old name outcome new =
-    OpensFirst (IsUnopened (Failed name) outcome) (new ≡ old) (AddsArchive name (bytes_of name) old new outcome)
+abbrev pub AddsOne : (List ℕ → Option (List ℕ)) → (List ℕ → Type 0) → Option (List ℕ) → Held → List ℕ → Outcome
+    → Held → Type 0
+AddsOne bytes_of Failed input old name outcome new = OpensFirst (IsUnopened (Failed name) outcome) (new ≡ old)
+    (AddsArchive (archive_name input name) (bytes_of name) old new outcome)
 
 -- nothing, of these types
 abbrev pub nothing_of : Types → Held
@@ -55,9 +72,9 @@ nothing_of chosen = record { types = chosen; names = []; captures = [] }
 
 -- the archives of these names were added, one after another, and the index of what was added was written, unless adding
 -- ended the command
-abbrev pub IndexesArchives : (List ℕ → Option (List ℕ)) → (List ℕ → Type 0) → Types → List (List ℕ)
-    → Option (List ℕ) → Option (List ℕ) → Type 0 → Outcome → Type 0
-IndexesArchives bytes_of Failed types names before after unchanged outcome =
+abbrev pub IndexesArchives : (List ℕ → Option (List ℕ)) → (List ℕ → Type 0) → Types → Option (List ℕ)
+    → List (List ℕ) → Option (List ℕ) → Option (List ℕ) → Type 0 → Outcome → Type 0
+IndexesArchives bytes_of Failed types input names before after unchanged outcome =
     (held : Held) × (added : Outcome)
-    × GoesOver (AddsOne bytes_of Failed) outcomes.Done (nothing_of types) names added held
+    × GoesOver (AddsOne bytes_of Failed input) outcomes.Done (nothing_of types) names added held
     × MatchBool (ends_command added) ((outcome ≡ added) × unchanged) (WritesIndex held added before after outcome)

@@ -34,8 +34,8 @@ module _ (files : Openings) (before after : Option (List ℕ)) (unchanged : Type
   Performs (ToList names) = ReportsOn files.archive_of files.ArchiveFailed reports.Listing names before after outcome
   Performs (ToVerify names) =
       ReportsOn files.archive_of files.ArchiveFailed reports.Verdicts names before after outcome
-  Performs (ToIndex types names) =
-      IndexesArchives files.archive_of files.ArchiveFailed types names before after unchanged outcome
+  Performs (ToIndex types input names) =
+      IndexesArchives files.archive_of files.ArchiveFailed types input names before after unchanged outcome
   Performs (ToMerge names) =
       OverIndexFiles names (MergesIndexes (map files.index_of names) before after unchanged outcome)
   Performs (ToCheck names) = ChecksIndexes files.index_of files.IndexFailed names before after outcome
@@ -48,8 +48,8 @@ module _ (files : Openings) (before after : Option (List ℕ)) (unchanged : Type
   Performs (ToGet len offset name) =
       OpensFirst (IsUnopened (files.ArchiveFailed name) outcome) unchanged
       (WritesRecord len offset (files.archive_of name) before after unchanged outcome)
-  Performs (ToScan types sizes text names) =
-      ScansNamed files.archive_of files.ArchiveFailed (includes types) sizes text names before after unchanged outcome
+  Performs (ToScan types input sizes text names) = ScansNamed files.archive_of files.ArchiveFailed (includes types) input
+      sizes text names before after unchanged outcome
 
 -- the files of the system, of which nothing is told
 abbrev pub system_files : Openings

@@ -6,7 +6,7 @@ use Rattle.scan_core.specs.declared.fault.ScanFault.{ScanFault}
 use Rattle.scan_core.specs.declared.fault.ScanFault.TheVariants as scans
 use Rattle.scan_core.specs.declared.named.Named.{Named}
 use Rattle.scan_core.specs.Scanning.{Scanned, ScannedInPart, IsScanFault, IsBeforeWriting}
-use Rattle.tasks.specs.Indexing.{file_name}
+use Rattle.tasks.specs.Indexing.{archive_name}
 use Rattle.tasks.specs.Opening.{HasTold, IsUnopened, OpensFirst}
 use Rattle.tasks.specs.Queries.{ReadsFirst}
 use Rattle.tasks.specs.declared.outcome.Outcome.{Outcome}
@@ -20,10 +20,11 @@ archive_names archives = map (λ archive. string_bytes archive.name) archives
 abbrev pub inputs : {I : Type 0} → List (Named I) → List I
 inputs archives = map (λ archive. archive.input) archives
 
--- archives of these names were opened: each stands under its file name and has the bytes that are told of it
+-- archives of these names were opened: each stands under the name under which it is indexed, and has the bytes that are
+-- told of it
 pub record AreOpened {I : Type 0} (remaining : I → Option (List ℕ)) (bytes_of : List ℕ → Option (List ℕ))
-    (names : List (List ℕ)) (archives : List (Named I)) : Type 0 where
-  pub named : archive_names archives ≡ map file_name names
+    (input : Option (List ℕ)) (names : List (List ℕ)) (archives : List (Named I)) : Type 0 where
+  pub named : archive_names archives ≡ map (archive_name input) names
   pub bytes : AllZip HasTold (map bytes_of names) (map (λ archive. remaining archive.input) archives)
 
 -- how a scan ended
@@ -45,10 +46,10 @@ pub record ScansArchives (types : Kind → Bool) (names : List (List ℕ)) (inpu
       → ScannedInPart types names inputs sizes query before after)
   pub unwritten : IfErr answer (λ fault. IsBeforeWriting fault → after ≡ before)
 
--- the query text was read, the archives of these names were opened, and then they were scanned under their file names;
--- or nothing was written, as the query is refused or an archive can't be opened
-abbrev pub ScansNamed : (List ℕ → Option (List ℕ)) → (List ℕ → Type 0) → (Kind → Bool) → List ℕ → List ℕ
-    → List (List ℕ) → Option (List ℕ) → Option (List ℕ) → Type 0 → Outcome → Type 0
-ScansNamed bytes_of Failed types sizes query names before after unchanged outcome = ReadsFirst query outcome unchanged
+-- the query text was read, the archives of these names were opened, and then they were scanned under the names under
+-- which they are indexed; or nothing was written, as the query is refused or an archive can't be opened
+abbrev pub ScansNamed : (List ℕ → Option (List ℕ)) → (List ℕ → Type 0) → (Kind → Bool) → Option (List ℕ) → List ℕ
+    → List ℕ → List (List ℕ) → Option (List ℕ) → Option (List ℕ) → Type 0 → Outcome → Type 0
+ScansNamed bytes_of Failed types input sizes query names before after unchanged outcome = ReadsFirst query outcome unchanged
     (λ _. OpensFirst (IsUnopened (Any Failed names) outcome) unchanged
-    (ScansArchives types (map file_name names) (map bytes_of names) sizes query before after outcome))
+    (ScansArchives types (map (archive_name input) names) (map bytes_of names) sizes query before after outcome))

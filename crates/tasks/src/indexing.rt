@@ -1,11 +1,11 @@
 //! The indexing of archives.
 ghost use Rattle.std.specs.Prelude.{◌≡◌, true, false, MatchResult};
 ghost use Rattle.command_line.specs.Words.{texts};
-ghost use Rattle.tasks.specs.Indexing.{AddsArchive, AddsOne, IndexesArchives, WritesIndex};
+ghost use Rattle.tasks.specs.Indexing.{AddsArchive, AddsOne, bytes_of_name, IndexesArchives, WritesIndex};
 ghost use Rattle.tasks.specs.Outcome.{ends_command};
 ghost use Rattle.tasks.specs.Writes.{CountsWrites};
 
-use crate::archive_names::file_name;
+use crate::archive_names::archive_name;
 use crate::each::with_each;
 use crate::exit_status::ends_command;
 use crate::faults::said_outcome;
@@ -16,17 +16,18 @@ use index_core::Indexer;
 use std::rt::Runtime;
 use warc_core::{Input, Output};
 
-/// Writes one index of the archives' records of these types. An archive that can't be read to its end is indexed up to
+/// Writes one index of the archives' records of these types. `input` is the name of standard input. An archive that can't be read to its end is indexed up to
 /// the fault. If memory failed before the index is written, nothing is written.
 pub fn index_all<R: Runtime + AllocGlobal, F: Opener, O: Output>(
     rt: &R,
     files: &F,
     types: Types,
+    input: Option<&str>,
     names: &[String],
     out: &mut O,
 ) -> Outcome
     ensures indexes { IndexesArchives (F.archive_bytes files.now) (F.archive_failed files.now)
-        types (texts names.now) (O.written out.old) (O.written out.new) (out.new ≡ out.old)
+        types (bytes_of_name input) (texts names.now) (O.written out.old) (O.written out.new) (out.new ≡ out.old)
         result }
     ensures writes { CountsWrites result (O.failures out.old) (O.failures out.new) }
 {
@@ -36,30 +37,34 @@ pub fn index_all<R: Runtime + AllocGlobal, F: Opener, O: Output>(
         &mut indexer,
         |indexer, name|
             ensures adds { AddsOne (F.archive_bytes files.entry.now)
-                (F.archive_failed files.entry.now)
+                (F.archive_failed files.entry.now) (bytes_of_name input)
                 indexer.old name.now result indexer.new }
             ensures unwritten { CountsWrites result 0 0 }
-        { add_opened(rt, indexer, name, files.open_archive(name)) },
+        {
+            let opened = files.open_archive(name);
+            add_opened(rt, indexer, name, archive_name(input, name), opened)
+        },
     );
     write_index(&indexer, added, out)
 }
 
-/// Adds an archive under its file name, unless it couldn't be opened.
+/// Adds an archive under this name, unless it couldn't be opened.
 fn add_opened<R: Runtime, I: Input + Drop>(
     rt: &R,
     indexer: &mut Indexer,
     name: &str,
+    file_name: &str,
     opened: Result<I, Outcome>,
 ) -> Outcome
     ensures adds { MatchResult opened
-        (λ archive. AddsArchive name.now (I.remaining archive) indexer.old indexer.new result)
+        (λ archive. AddsArchive file_name.now (I.remaining archive) indexer.old indexer.new result)
         (λ outcome. (result ≡ outcome) × (indexer.new ≡ indexer.old)) }
     ensures unwritten { MatchResult opened (λ _. CountsWrites result 0 0)
         (λ outcome. result ≡ outcome) }
 {
     match opened {
         Ok(mut archive) => {
-            let answer = indexer.add(file_name(name), &mut archive);
+            let answer = indexer.add(file_name, &mut archive);
             said_outcome(rt, name, answer)
         }
         Err(outcome) => outcome,

@@ -25,7 +25,7 @@ use devices::Prompt;
 use index_core::IndexFault;
 use query_core::AnswerFault;
 use std::env::{self, Env, FillError};
-use std::io::{self, BufWriter, ErrorKind, Write};
+use std::io::{self, BufWriter, ErrorKind, IsTerminal, Write};
 use std::rt::Runtime;
 use warc_core::{FromWrite, Output};
 
@@ -50,12 +50,24 @@ fn run_arguments<R: Runtime + AllocGlobal>(rt: &R) -> Outcome
     ensures { result ≡ Outcome.Done → EndsAsDone }
 {
     match words(rt) {
-        Ok(words) => run_words(rt, &words),
+        Ok(words) => {
+            if words.is_empty() {
+                say_waiting(rt);
+            }
+            run_words(rt, &words)
+        }
         Err(error) if error.kind() == ErrorKind::OutOfMemory => say_outcome(rt, MEMORY),
         Err(_error) => {
             say_not_utf8(rt);
             Outcome::Usage
         }
+    }
+}
+
+/// Says on standard error that the archive is read from a terminal, if it is.
+fn say_waiting<R: Runtime>(rt: &R) {
+    if rt.stdin().is_terminal() {
+        let _ = eprintln!(rt; "warcdx: reading a WARC file from the terminal; see 'warcdx --help'");
     }
 }
 
@@ -189,7 +201,11 @@ pub fn perform<R: Runtime + AllocGlobal, F: Opener, O: Output>(
     match task {
         Task::List { names } => report_on(rt, files, names, ArchiveReport::Listing, out),
         Task::Verify { names } => report_on(rt, files, names, ArchiveReport::Verdicts, out),
-        Task::Index { types, names } => index_all(rt, files, *types, names, out),
+        Task::Index {
+            types,
+            input,
+            names,
+        } => index_all(rt, files, *types, input.as_deref(), names, out),
         Task::Merge { names } => merge_all(rt, files, names, out),
         Task::Check { names } => check_all(rt, files, names, out),
         Task::Query { query, names } => answer_query(rt, files, query, names, out),
@@ -206,9 +222,13 @@ pub fn perform<R: Runtime + AllocGlobal, F: Opener, O: Output>(
         } => fetch(rt, files, *length, *offset, name, out),
         Task::Scan {
             types,
+            input,
             sizes,
             query,
             names,
-        } => scan_all(rt, files, *types, sizes, query, names, out),
+        } => {
+            let input = input.as_deref();
+            scan_all(rt, files, *types, input, sizes, query, names, out)
+        }
     }
 }

@@ -2,12 +2,12 @@
 ghost use Rattle.std.specs.Prelude.{◌≡◌, Any, ◌∷◌, ◌++◌, [], IfOk, MatchResult, map};
 ghost use Rattle.capture_core.specs.Types.{includes};
 ghost use Rattle.command_line.specs.Words.{texts};
-ghost use Rattle.tasks.specs.Indexing.{file_name};
+ghost use Rattle.tasks.specs.Indexing.{archive_name, bytes_of_name};
 ghost use Rattle.tasks.specs.Opening.{IsUnopened, OpensFirst};
 ghost use Rattle.tasks.specs.Scanning.{AreOpened, ScansArchives, ScansNamed, archive_names, inputs, scan_outcome};
 ghost use Rattle.tasks.specs.Writes.{CountsWrites};
 
-use crate::archive_names::file_name;
+use crate::archive_names::archive_name;
 use crate::faults::say_scan_fault;
 use crate::opening::Opener;
 use crate::outcome::Outcome;
@@ -20,23 +20,24 @@ use std::rt::Runtime;
 use warc_core::{Input, Output};
 
 /// Writes the pages of the query text over the captures of these archives' records of these types. Each page has its
-/// size, and the last size is repeated. Faults are reported on standard error.
+/// size, and the last size is repeated. `input` is the name of standard input. Faults are reported on standard error.
 pub fn scan_all<R: Runtime + AllocGlobal, F: Opener, O: Output>(
     rt: &R,
     files: &F,
     types: Types,
+    input: Option<&str>,
     sizes: &[u64],
     query: &str,
     names: &[String],
     out: &mut O,
 ) -> Outcome
     ensures scans { ScansNamed (F.archive_bytes files.now) (F.archive_failed files.now)
-        (includes types) sizes.now query.now (texts names.now)
+        (includes types) (bytes_of_name input) sizes.now query.now (texts names.now)
         (O.written out.old) (O.written out.new) (out.new ≡ out.old) result }
     ensures writes { CountsWrites result (O.failures out.old) (O.failures out.new) }
 {
     match read_query(rt, query) {
-        Ok(_query) => open_and_scan(rt, files, types, sizes, query, names, out),
+        Ok(_query) => open_and_scan(rt, files, types, input, sizes, query, names, out),
         Err(outcome) => outcome,
     }
 }
@@ -46,6 +47,7 @@ fn open_and_scan<R: Runtime + AllocGlobal, F: Opener, O: Output>(
     rt: &R,
     files: &F,
     types: Types,
+    input: Option<&str>,
     sizes: &[u64],
     query: &str,
     names: &[String],
@@ -54,33 +56,34 @@ fn open_and_scan<R: Runtime + AllocGlobal, F: Opener, O: Output>(
     ensures scans { OpensFirst
         (IsUnopened (Any (F.archive_failed files.now) (texts names.now)) result)
         (out.new ≡ out.old)
-        (ScansArchives (includes types) (map file_name (texts names.now))
+        (ScansArchives (includes types) (map (archive_name (bytes_of_name input)) (texts names.now))
         (map (F.archive_bytes files.now) (texts names.now)) sizes.now query.now
         (O.written out.old) (O.written out.new) result) }
     ensures writes { CountsWrites result (O.failures out.old) (O.failures out.new) }
 {
-    match open_archives(rt.alloc(), files, names) {
+    match open_archives(rt.alloc(), files, input, names) {
         Ok(mut archives) => scan_opened(rt, types, sizes, query, names, &mut archives, out),
         Err(outcome) => outcome,
     }
 }
 
-/// Opens the archives of these arguments, under their file names. Returns the outcome of the first that can't be
-/// opened, if there is one.
+/// Opens the archives of these arguments, under the names under which they are indexed. Returns the outcome of the
+/// first that can't be opened, if there is one.
 fn open_archives<F: Opener>(
     alloc: Global,
     files: &F,
+    input: Option<&str>,
     names: &[String],
 ) -> Result<Vec<Named<F::Archive>>, Outcome>
     ensures { MatchResult result
         (λ archives. AreOpened F.Archive.remaining (F.archive_bytes files.now)
-        (texts names.now) archives.items)
+        (bytes_of_name input) (texts names.now) archives.items)
         (IsUnopened (Any (F.archive_failed files.now) (texts names.now))) }
 {
     let mut archives = Vec::new(alloc);
     for name in names {
-        let input = files.open_archive(name)?;
-        if push_named(alloc, &mut archives, file_name(name), input).is_err() {
+        let archive = files.open_archive(name)?;
+        if push_named(alloc, &mut archives, archive_name(input, name), archive).is_err() {
             return Err(Outcome::Index(IndexFault::Memory));
         }
     }

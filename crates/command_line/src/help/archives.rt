@@ -98,12 +98,14 @@ docs/CDXJ.md has the rules.
 
 TYPES are one or more of these, separated by commas, none twice: response,
 resource, revisit, conversion, metadata. Without --types, response, resource and
-revisit records are indexed. --types follows the command's name directly.
+revisit records are indexed. --types follows the command's name directly, and
+--name follows the command's name, or --types and its TYPES.
 
 An archive's file name in the index is the part of its argument after the last
-/, 1 to 255 bytes; - is the file name of standard input. An archive with another
-file name is left out, and so is one whose file name an earlier archive has.
-That is reported on standard error as BadName or DuplicateName.
+/, 1 to 255 bytes. For standard input it is that part of NAME, or - without
+--name. An archive with another file name is left out, and so is one whose file
+name an earlier archive has. That is reported on standard error as BadName or
+DuplicateName.
 
 A damaged archive is indexed up to the damage. This is reported on standard
 error, with the offset of the record at fault:
@@ -121,6 +123,7 @@ Examples:
   warcdx index crawl-1.warc crawl-2.warc > crawl.cdxj
   warcdx index --types response,metadata crawl.warc > crawl.cdxj
   gunzip --keep crawl.warc.gz && warcdx index crawl.warc > crawl.cdxj
+  ssh host cat crawl.warc | warcdx index --name crawl.warc - > crawl.cdxj
 
 Exit status:
   0  everything was indexed
@@ -178,7 +181,8 @@ page by page, as 'warcdx pages' does with an index of each. 'warcdx index
 
 TYPES are one or more of these, separated by commas, none twice: response,
 resource, revisit, conversion, metadata. Without --types, response, resource and
-revisit records are indexed. --types follows the command's name directly.
+revisit records are indexed. --types follows the command's name directly, and
+--name follows the command's name, or --types and its TYPES.
 
 The query is read first. Then all archives are opened, at most 1,024. The first
 fault ends the command, and is reported on standard error. Nothing is written
@@ -194,7 +198,8 @@ before all archives are indexed:
 'warcdx query --help' lists the causes for queries, and 'warcdx list --help'
 those for archives. OFFSET is the byte at which the record at fault begins. An
 archive's file name is the part of its argument after the last /, 1 to 255 bytes
-that no earlier archive has; - is the file name of standard input.
+that no earlier archive has. For standard input it is that part of NAME, or -
+without --name.
 
 Examples:
   warcdx scan 100 'url=example.com/*' crawl-1.warc crawl-2.warc

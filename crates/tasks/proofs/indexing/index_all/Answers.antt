@@ -1,5 +1,5 @@
 use Rattle.std.proofs.Common.{ap, refl, rules, sym}
-use Rattle.tasks.specs.Indexing.{AddsOne}
+use Rattle.tasks.specs.Indexing.{AddsOne, bytes_of_name}
 use Rattle.tasks.specs.Outcome.{ends_command}
 use Rattle.tasks.specs.Writes.{CountsWrites}
 use Rattle.tasks.proofs.EachLemmas.{goes_over-calls, match_bool-of}
@@ -10,7 +10,7 @@ pub returns-clause-indexes : goal.returns-clause-indexes
 returns-clause-indexes g c =
     let bytes_of = g.F.Opener.archive_bytes c.args.files.now in
     let added = c.with_each-added.result in
-    let over = goes_over-calls _ _ (AddsOne bytes_of (g.F.Opener.archive_failed c.args.files.now)) (λ held. held)
+    let over = goes_over-calls _ _ (AddsOne bytes_of (g.F.Opener.archive_failed c.args.files.now) (bytes_of_name c.args.input)) (λ held. held)
     (λ indexer name ended left met. search rules) _ _ _ _ _ c.with_each-added.ensures in (
       c.with_each-added.new.state,
       added,
