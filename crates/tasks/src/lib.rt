@@ -19,8 +19,10 @@ mod program;
 mod queries;
 mod reports;
 mod scanning;
+mod standard_input;
 
 pub use crate::exit_status::{status, status_zero_is_done};
 pub use crate::opening::{Opener, System};
 pub use crate::outcome::Outcome;
 pub use crate::program::{perform, run};
+pub use crate::standard_input::StandardInput;

@@ -20,12 +20,13 @@ use crate::outcome::{Outcome, flushed_outcome, message};
 use crate::queries::{answer_query, write_pages};
 use crate::reports::{ArchiveReport, report_on};
 use crate::scanning::scan_all;
+use crate::standard_input::StandardInput;
 use command_line::{Task, WordsFault, read_words};
 use devices::Prompt;
 use index_core::IndexFault;
 use query_core::AnswerFault;
 use std::env::{self, Env, FillError};
-use std::io::{self, BufWriter, ErrorKind, IsTerminal, Write};
+use std::io::{self, BufWriter, ErrorKind, Write};
 use std::rt::Runtime;
 use warc_core::{FromWrite, Output};
 
@@ -39,19 +40,19 @@ const ARGUMENT_ROOM: usize = 4_096;
 
 /// Runs the program, and returns its exit status. It is 0 only if the task of the arguments ended as done, or if they
 /// asked for help.
-pub fn run<R: Runtime + AllocGlobal>(rt: &R) -> u8
+pub fn run<R: Runtime + AllocGlobal>(rt: &R, input: StandardInput) -> u8
     ensures { result ≡ 0 → EndsAsDone }
 {
-    status(&run_arguments(rt))
+    status(&run_arguments(rt, input))
 }
 
 /// Runs the program, and returns its outcome.
-fn run_arguments<R: Runtime + AllocGlobal>(rt: &R) -> Outcome
+fn run_arguments<R: Runtime + AllocGlobal>(rt: &R, input: StandardInput) -> Outcome
     ensures { result ≡ Outcome.Done → EndsAsDone }
 {
     match words(rt) {
         Ok(words) => {
-            if words.is_empty() {
+            if words.is_empty() && input == StandardInput::Terminal {
                 say_waiting(rt);
             }
             run_words(rt, &words)
@@ -64,11 +65,9 @@ fn run_arguments<R: Runtime + AllocGlobal>(rt: &R) -> Outcome
     }
 }
 
-/// Says on standard error that the archive is read from a terminal, if it is.
+/// Says on standard error that the program waits for an archive.
 fn say_waiting<R: Runtime>(rt: &R) {
-    if rt.stdin().is_terminal() {
-        let _ = eprintln!(rt; "warcdx: reading a WARC file from the terminal; see 'warcdx --help'");
-    }
+    let _ = eprintln!(rt; "warcdx: reading a WARC file from the terminal; see 'warcdx --help'");
 }
 
 /// Reports on standard error that an argument isn't UTF-8.

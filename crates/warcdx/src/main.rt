@@ -3,9 +3,15 @@
 //! The program is `run` of `tasks`. Its definitions begin there.
 #![tactic(auto)]
 
+use std::io::IsTerminal;
 use std::process::ExitCode;
-use tasks::run;
+use tasks::{StandardInput, run};
 
 fn main(rt: HostRuntime) -> ExitCode {
-    ExitCode::from(run(&rt))
+    let input = if rt.stdin().is_terminal() {
+        StandardInput::Terminal
+    } else {
+        StandardInput::Other
+    };
+    ExitCode::from(run(&rt, input))
 }
