@@ -27,7 +27,8 @@ pub fn index_all<R: Runtime + AllocGlobal, F: Opener, O: Output>(
     out: &mut O,
 ) -> Outcome
     ensures indexes { IndexesArchives (F.archive_bytes files.now) (F.archive_failed files.now)
-        types (bytes_of_name input) (texts names.now) (O.written out.old) (O.written out.new) (out.new ≡ out.old)
+        types (bytes_of_name input.entry) (texts names.now) (O.written out.old)
+        (O.written out.new) (out.new ≡ out.old)
         result }
     ensures writes { CountsWrites result (O.failures out.old) (O.failures out.new) }
 {
@@ -37,7 +38,7 @@ pub fn index_all<R: Runtime + AllocGlobal, F: Opener, O: Output>(
         &mut indexer,
         |indexer, name|
             ensures adds { AddsOne (F.archive_bytes files.entry.now)
-                (F.archive_failed files.entry.now) (bytes_of_name input)
+                (F.archive_failed files.entry.now) (bytes_of_name input.entry)
                 indexer.old name.now result indexer.new }
             ensures unwritten { CountsWrites result 0 0 }
         {

@@ -32,7 +32,7 @@ pub fn scan_all<R: Runtime + AllocGlobal, F: Opener, O: Output>(
     out: &mut O,
 ) -> Outcome
     ensures scans { ScansNamed (F.archive_bytes files.now) (F.archive_failed files.now)
-        (includes types) (bytes_of_name input) sizes.now query.now (texts names.now)
+        (includes types) (bytes_of_name input.entry) sizes.now query.now (texts names.now)
         (O.written out.old) (O.written out.new) (out.new ≡ out.old) result }
     ensures writes { CountsWrites result (O.failures out.old) (O.failures out.new) }
 {
@@ -56,7 +56,8 @@ fn open_and_scan<R: Runtime + AllocGlobal, F: Opener, O: Output>(
     ensures scans { OpensFirst
         (IsUnopened (Any (F.archive_failed files.now) (texts names.now)) result)
         (out.new ≡ out.old)
-        (ScansArchives (includes types) (map (archive_name (bytes_of_name input)) (texts names.now))
+        (ScansArchives (includes types)
+        (map (archive_name (bytes_of_name input.entry)) (texts names.now))
         (map (F.archive_bytes files.now) (texts names.now)) sizes.now query.now
         (O.written out.old) (O.written out.new) result) }
     ensures writes { CountsWrites result (O.failures out.old) (O.failures out.new) }
@@ -77,7 +78,7 @@ fn open_archives<F: Opener>(
 ) -> Result<Vec<Named<F::Archive>>, Outcome>
     ensures { MatchResult result
         (λ archives. AreOpened F.Archive.remaining (F.archive_bytes files.now)
-        (bytes_of_name input) (texts names.now) archives.items)
+        (bytes_of_name input.entry) (texts names.now) archives.items)
         (IsUnopened (Any (F.archive_failed files.now) (texts names.now))) }
 {
     let mut archives = Vec::new(alloc);
