@@ -1,5 +1,5 @@
 #!/usr/bin/env python3
-"""Runs the sessions of docs/COMMANDS.md, docs/FAQ.md, docs/QUERY.md and examples/README.md.
+"""Runs the sessions of docs/CDX.md, docs/COMMANDS.md, docs/FAQ.md, docs/QUERY.md, docs/VERIFY.md and examples/README.md.
 
 usage: sessions.py [PROGRAM]
 
@@ -24,7 +24,9 @@ sys.path.insert(0, str(pathlib.Path(__file__).resolve().parents[1]))
 
 from program import ROOT, Report, add_program, find_program, parser_of
 
-PAGES = ("docs/COMMANDS.md", "docs/FAQ.md", "docs/QUERY.md", "examples/README.md")
+PAGES = (
+    "docs/CDX.md", "docs/COMMANDS.md", "docs/FAQ.md", "docs/QUERY.md", "docs/VERIFY.md", "examples/README.md"
+)  # fmt: skip
 BLOCK = re.compile(r"(?:^    .*\n|^\n(?=(?:\n)*    ))+", re.MULTILINE)
 COMMAND = re.compile(r"^\$ (.*)\n((?:(?!\$ ).*\n)*)", re.MULTILINE)
 NOT_RUN = ("socat", "surt_keys.py")

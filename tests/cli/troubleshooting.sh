@@ -201,6 +201,24 @@ row "\`TooManySources\`"
 ulimit -n 4096
 sees "1,025 indexes" "" "warcdx: TooManySources" 1 merge response.cdxj "${indexes[@]}"
 
+cdx() {
+    "$root/python/bin/warcdx-cdx" --warcdx "$program" "$@"
+}
+
+row "\`BadLine 0\` of a file with \` CDX \` in its first line"
+cdx to response.cdxj > response.cdx
+sees "a CDX file" "" "warcdx: response.cdx: BadLine 0" 1 check response.cdx
+from_cdx() { # FILE
+    cdx from "$1" | LC_ALL=C sort
+}
+prints "an index of it" "$(< response.cdxj)" from_cdx response.cdx
+
+row "\`line N\` of \`warcdx-cdx\`"
+sed '1a x' response.cdx > bad.cdx
+prints "a bad line" "warcdx-cdx: bad.cdx: line 2: it has 1 columns, and not 11" cdx from bad.cdx
+sed 2d bad.cdx > good.cdx
+prints "without it" "$(< response.cdxj)" cdx from good.cdx
+
 row "A URL of pywb's index isn't found"
 line "com,example)/goo" 0 | sed 's|http://example.com/|&goo/|' > pywb.cdxj
 sees "by url" "" "" 0 query "url=example.com/goo/" pywb.cdxj
