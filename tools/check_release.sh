@@ -51,7 +51,7 @@ library_versions() {
 
 other_modes() { # FOLDER: files of other modes than 644, programs and folders of others than 755
     find "$1" ! -type l ! -perm 755 ! \( -type f -perm 644 \) -printf '%m %P\n'
-    find "$1" -type f -perm 755 ! -path '*/bin/*' ! -path '*/share/warcdx/*' ! -name '*.py' -printf '%m %P\n'
+    find "$1" -type f -perm 755 ! -path '*/bin/*' ! -path '*/share/warcdx/*' ! -path '*/gateway/container/start' ! -name '*.py' -printf '%m %P\n'
     find "$1" -type f -path '*/bin/*' ! -perm 755 -printf '%m %P\n'
 }
 
