@@ -118,7 +118,7 @@ def members_of_one_name(folder: pathlib.Path, size: int) -> Sequence[str]:
 
 
 def line_of(sign: str, query: str) -> Callable[[pathlib.Path, int], Sequence[str]]:
-    """Returns the shape of two lines whose URL and URL key have so many signs. With a query, its pages are of one line."""
+    """Returns the shape of two lines whose URL and URL key have this number of signs. With a query, its pages are of one line."""
 
     def write(folder: pathlib.Path, size: int) -> Sequence[str]:
         (folder / "input").write_text(line(sign * size, 0) + line(sign * size, 1))
