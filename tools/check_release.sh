@@ -111,7 +111,7 @@ END
     expect "licence" "" "$(diff /usr/share/common-licenses/Apache-2.0 "$doc/LICENSE" 2>&1)"
     expect "version in CHANGELOG.md" "## [$version]" "$(grep --only-matching --fixed-strings "## [$version]" "$doc/CHANGELOG.md")"
     mkdir "$work/recipe"
-    expect "files for the recipes" "dedup.warc years.cdxj" "$(installed python3 "$doc/samples/recipe_files.py" "$work/recipe" && ls "$work/recipe" | in_a_line)"
+    expect "files for the recipes" "dedup.warc years.cdxj" "$(installed python3 "$doc/samples/recipe_files.py" "$work/recipe" && cd "$work/recipe" && echo *)"
     expect "scripts that its examples name" "" "$(absent_scripts)"
     check_command "links of its pages" "$root/tools/check_links.py" "$doc"
 }
