@@ -146,6 +146,8 @@ class From(Cdx):
             (row(a="http://a/\rb"), "the URL can't be indexed"),
             (row(a="http://a/" + "%" * (1 << 20)), "the URL has more than 1,048,576 bytes"),
             (row(g="a b"), "it has 12 columns, and not 11"), (b"\n", "it has 1 columns, and not 11"),
+            (b" CDX" + b" x" * 65 + b"\n", "the header has more than 64 columns"),
+            (b" " * (MOST - 1) + b"\n", "it has 16,777,216 columns, and not 11"),
             (b" CDX N b a\n", "the header hasn't the columns a, b, g, and V or v"),
             (b"\0" * (MOST + 1), "it has more than 16,777,216 bytes"),
             (row(m="\x01" * (MOST // 5)), "its line in the index has more than 16,777,216 bytes"),

@@ -14,6 +14,7 @@ HEADER = b" CDX N b a m s k r M S V g\n"
 MOST_LINE = 1 << 24  # bytes of a line, with its line feed
 _MOST_ROWS = 4096  # that one run of the program makes keys for
 _MOST_BYTES = 1 << 18  # of their URLs, one row aside
+_MOST_COLUMNS = 64  # of a header
 _USUAL_LETTERS = {11: b"NbamskrMSVg", 9: b"NbamskrVg"}  # of files without a header, by their columns
 _TIMESTAMP = re.compile(rb"[0-9]{14}")
 _NUMBER = re.compile(rb"[0-9]{1,19}")
@@ -170,14 +171,16 @@ def _rows(file: IO[bytes]) -> Iterator[_Row]:
             raise BadRow(number, f"it has more than {MOST_LINE:,} bytes")
         line = line.removesuffix(b"\n").removesuffix(b"\r")
         if line.startswith(b" CDX ") or number == 1 and line.startswith(b"CDX "):
-            columns = _columns_of(line.split(b" ")[1 + line.startswith(b" ") :], number)
+            columns = _columns_of(line.lstrip(b" ").split(b" ", _MOST_COLUMNS + 1)[1:], number)
             continue
-        values = line.split(b" ")
+        count = line.count(b" ") + 1
         if columns is None:
-            if len(values) not in _USUAL_LETTERS:
-                raise BadRow(number, f"it has {len(values):,} columns, and not 11 or 9; a header names other columns")
-            columns = _columns_of([bytes([letter]) for letter in _USUAL_LETTERS[len(values)]], number)
-        yield _row_of(values, columns, number)
+            if count not in _USUAL_LETTERS:
+                raise BadRow(number, f"it has {count:,} columns, and not 11 or 9; a header names other columns")
+            columns = _columns_of([bytes([letter]) for letter in _USUAL_LETTERS[count]], number)
+        if count != columns.number_of_columns:
+            raise BadRow(number, f"it has {count:,} columns, and not {columns.number_of_columns}")
+        yield _row_of(line.split(b" "), columns, number)
 
 
 def _line_of(file: IO[bytes]) -> bytes:
@@ -192,6 +195,8 @@ def _columns_of(letters: list[bytes], number: int) -> _Columns:
     def find(letter: bytes) -> Optional[int]:
         return letters.index(letter) if letter in letters else None
 
+    if len(letters) > _MOST_COLUMNS:
+        raise BadRow(number, f"the header has more than {_MOST_COLUMNS} columns")
     offset = find(b"V") if b"V" in letters else find(b"v")
     timestamp, url, filename = find(b"b"), find(b"a"), find(b"g")
     if timestamp is None or url is None or filename is None or offset is None:
@@ -201,9 +206,6 @@ def _columns_of(letters: list[bytes], number: int) -> _Columns:
 
 
 def _row_of(values: list[bytes], columns: _Columns, number: int) -> _Row:
-    if len(values) != columns.number_of_columns:
-        raise BadRow(number, f"it has {len(values):,} columns, and not {columns.number_of_columns}")
-
     def value(column: Optional[int]) -> bytes:
         return b"-" if column is None else values[column]
 
