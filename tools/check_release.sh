@@ -6,8 +6,8 @@
 # FOLDER has what `tools/release` made; the default is release/ at the top of the repository. These
 # are checked: the checksums, the modes, the files, each in the place that docs/INSTALL.md names,
 # the links of the pages, the program, the manual page, the commands, the wheel in a new virtual environment,
-# and the package by lintian. With PROGRAM the release is made of it once more, with another umask, locale and
-# time zone, and has to be the same.
+# and the package by lintian. With PROGRAM the release is made of it once more, of a copy that only its owner
+# may read, with another umask, locale and time zone, and has to be the same.
 #
 # The program is run with an environment that has neither the Rattle kit nor this repository.
 # tools/check_package.sh installs the package. tests/cli/install.sh runs the lines of docs/INSTALL.md,
@@ -51,7 +51,7 @@ library_versions() {
 
 other_modes() { # FOLDER: files of other modes than 644, programs and folders of others than 755
     find "$1" ! -type l ! -perm 755 ! \( -type f -perm 644 \) -printf '%m %P\n'
-    find "$1" -type f -perm 755 ! -path '*/bin/*' ! -path '*/share/warcdx/*' ! -name '*.py' -printf '%m %P\n'
+    find "$1" -type f -perm 755 ! -path '*/bin/*' ! -path '*/share/warcdx/*' ! -path '*/gateway/container/start' ! -name '*.py' -printf '%m %P\n'
     find "$1" -type f -path '*/bin/*' ! -perm 755 -printf '%m %P\n'
 }
 
@@ -110,6 +110,8 @@ END
 )"
     expect "licence" "" "$(diff /usr/share/common-licenses/Apache-2.0 "$doc/LICENSE" 2>&1)"
     expect "version in CHANGELOG.md" "## [$version]" "$(grep --only-matching --fixed-strings "## [$version]" "$doc/CHANGELOG.md")"
+    mkdir "$work/recipe"
+    expect "files for the recipes" "dedup.warc years.cdxj" "$(installed python3 "$doc/samples/recipe_files.py" "$work/recipe" && cd "$work/recipe" && echo *)"
     expect "scripts that its examples name" "" "$(absent_scripts)"
     check_command "links of its pages" "$root/tools/check_links.py" "$doc"
 }
@@ -257,8 +259,15 @@ check_planted_modules() {
     done
 }
 
+copy_for_owner_alone() { # FOLDER: copies the checkout, whose files only their owner may read
+    git clone --quiet --shared "$root" "$1"
+    (cd "$root" && git ls-files -z --cached --others --exclude-standard | tar --create --null --files-from=- --ignore-failed-read) | tar --extract --directory="$1"
+    chmod --recursive go-rwx "$1"
+}
+
 check_same_again() { # PROGRAM
-    (umask 077 && TZ=Pacific/Kiritimati LC_ALL=C "$root/tools/release" --output "$work/again" "$1" > "$work/output")
+    copy_for_owner_alone "$work/copy"
+    (umask 077 && TZ=Pacific/Kiritimati LC_ALL=C "$work/copy/tools/release" --output "$work/again" "$1" > "$work/output")
     expect "the same release again" "" "$(diff "$folder/SHA256SUMS" "$work/again/SHA256SUMS" 2>&1)"
     expect "modes of the files of a release" "" "$(find "$work/again" -type f ! -perm 644)"
 }

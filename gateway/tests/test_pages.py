@@ -1,8 +1,12 @@
 """Answers that the gateway doesn't have to change are what `warcdx query` writes, byte by byte."""
+import itertools
 import subprocess
+import time
 import unittest
 
-from .support import LINE, Case, Shared, lines
+from .support import LINE, Case, Shared, lines  # it finds the package first
+
+from warcdx_gateway.answers import or_nothing  # noqa: E402
 
 # Queries, and the start of the type of their answers. The values read like replies of the program.
 QUERIES = (
@@ -135,6 +139,24 @@ class Changed(Shared):
                 f"/cdx?url=example.com/f&filter={field.replace(' ', '%20')}&output=cdxj"
             )
             self.assertEqual(OTHER.encode(), found.body, field)
+
+
+class Arrays(unittest.TestCase):
+    def test_an_array_is_given_when_it_has_a_row(self) -> None:
+        names, row = b'[["urlkey"]', b',\n["k"]]\n'
+        for pieces, wanted in (
+            ((names + row,), [names + row]),
+            ((names, row, b"x"), [names + row, b"x"]),
+            ((names + b"]\n",), [b"[]\n"]),
+            ((), [b"[]\n"]),
+        ):
+            self.assertEqual(wanted, list(or_nothing(iter(pieces))))
+
+    def test_a_long_row_in_many_pieces_is_searched_once(self) -> None:
+        start = time.process_time()
+        found = list(or_nothing(itertools.chain(itertools.repeat(bytes(1000), 20_000), [b"\n\n"])))
+        self.assertEqual([20_000_002], [len(each) for each in found])
+        self.assertLess(time.process_time() - start, 2)  # seconds; a search of all before each piece takes minutes
 
 
 class Long(Case):

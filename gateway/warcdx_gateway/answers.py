@@ -356,11 +356,12 @@ def skipped(groups: Iterator[list[Row]], count: int) -> Iterator[list[Row]]:
 
 def or_nothing(pieces: Iterator[bytes]) -> Iterator[bytes]:
     """Yields an array of rows, as the Internet Archive does: without captures it is empty."""
-    begun = b""
+    begun, lines = list[bytes](), 0
     for piece in pieces:
-        begun += piece
-        if begun.count(b"\n") > 1:  # the first row ends with the line of the names
-            yield begun
+        begun.append(piece)
+        lines += piece.count(b"\n")
+        if lines > 1:  # the first row ends with the line of the names
+            yield b"".join(begun)
             break
     else:
         yield b"[]\n"

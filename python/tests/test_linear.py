@@ -1,4 +1,6 @@
 """What archived bytes may cost: twice as many take at most about twice the time."""
+import contextlib
+import io
 import itertools
 import re
 import time
@@ -6,10 +8,12 @@ import unittest
 from collections.abc import Callable
 from typing import NamedTuple
 
+from warcdx.cdx import BadRow, _cdx_line, _rows
 from warcdx.codings import Unreadable, codings, decoded
 from warcdx.errors import error_of
 from warcdx.record import Head, HttpHead, Record, payload
 from warcdx.reply import refusal_of, text_of
+from warcdx.url_keys import _LINE
 
 SIZE = 5_000  # bytes of the smallest input
 LEAST_SECONDS = 0.01  # what is shorter can't be measured
@@ -34,6 +38,11 @@ def body_of(head: bytes) -> Callable[[bytes], object]:
     return lambda body: b"".join(decoded(head, iter((body,))))
 
 
+def rows_of(text: bytes) -> None:
+    with contextlib.suppress(BadRow):
+        list(_rows(io.BytesIO(text)))
+
+
 CHUNKED = body_of(b"HTTP/1.1 200\r\nTransfer-Encoding: chunked")
 GZIP = body_of(b"HTTP/1.1 200\r\nContent-Encoding: gzip")
 LINE_BREAKS = (b" \r\n", b"\r\n ", b"\r\n \r\n", b"\n", b"\n ", b" \n", b"\r", b"\r\r\n ")
@@ -50,6 +59,10 @@ SHAPES = (
     *(Shape(CHUNKED, b"1 ", each, b"x") for each in (b" ", b";", b"\r")),
     Shape(GZIP, b"", bytes.fromhex("1f8b08000000000000030300000000000000000000")[:20]),
     *(Shape(lambda text: error_of(3, text.decode()), b"warcdx: ", each, b"\n\n") for each in SAID),
+    *(Shape(rows_of, b" CDX a b g V", each, b"\n") for each in (b" ", b" a")),
+    *(Shape(rows_of, b"k 20160101000000 http://a/ t 200 - - - - 0 ", each, b"\n") for each in (b" ", b"a", b"%", b"\xff")),
+    *(Shape(_cdx_line, b'k 20160101000000 {"offset": "0", "filename": "', each, b'"}\n') for each in (b"a", b"\\t", b" ")),
+    *(Shape(_LINE.fullmatch, b'k 20000101000000 {"url": "', each) for each in (b'", "mime": "-"', b'"', b'", "mime')),
     *(Shape(refusal_of, b"refused ", each) for each in (b"a", b"\n")),
     *(Shape(lambda text: text_of(text, False, ()), b"fault ", each) for each in (b"1", b"\n", b"1 ")),
 )

@@ -169,7 +169,7 @@ class Drawings(Plots):
         page = (ROOT / "docs/recipes/counts.md").read_text()
         commands = [shlex.split(line)[3:] for line in page.splitlines() if line.startswith("    python3 -m warcdx.plot")]
         self.assertEqual(4, len(commands))
-        subprocess.run((sys.executable, ROOT / "tests/cli/recipe_files.py", self.folder), stdout=subprocess.DEVNULL, check=True)
+        subprocess.run((sys.executable, ROOT / "samples/recipe_files.py", self.folder), stdout=subprocess.DEVNULL, check=True)
         for option, name, *words, index in commands:
             self.assertEqual("--output", option)
             self.assertEqual((0, "", ""), self.run_command(option, self.folder / name, *words, self.folder / index))

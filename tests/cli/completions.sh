@@ -1,5 +1,6 @@
 #!/usr/bin/env bash
-# Asks a shell for the completions of command lines of warcdx, warcdx-gz, warcdx-update and warcdx-verify, and compares them with the table in this file.
+# Asks a shell for the completions of command lines of warcdx and of the commands in Python, and compares them
+# with the table in this file.
 #
 # usage: completions.sh SHELL [PROGRAM]      SHELL is bash, zsh or fish
 #
@@ -33,7 +34,7 @@ offered_after() { # LINE: the completions that the shell offers, in order
         bash) zsh "$root/tests/cli/complete_bash.zsh" "$completions/$command.bash" "$1" ;;
         zsh) zsh "$root/tests/cli/complete_zsh.zsh" "$completions" "$1" ;;
         fish) fish --no-config -c "$fish_offers" "$completions/$command.fish" "$1" ;;
-    esac < /dev/null | sorted
+    esac < /dev/null | sed "s:/\$::" | LC_ALL=C sort --unique | sorted
 }
 
 expect_offers() { # on standard input lines, each with the completions that are wanted after it
@@ -46,12 +47,14 @@ expect_offers() { # on standard input lines, each with the completions that are 
 # The shell finds the program, and neither reads nor writes the files of the user.
 mkdir "$work/bin" "$work/home" "$work/archives" "$work/indexes"
 ln -s "$program" "$work/bin/warcdx"
-ln -s "$root"/python/bin/* "$work/bin"
+ln -s "$root"/{python,gateway}/bin/* "$work/bin"
 export PATH=$work/bin:$PATH HOME=$work/home
 unset XDG_CONFIG_HOME XDG_DATA_HOME XDG_CACHE_HOME ZDOTDIR
 commands=$(warcdx --help | sed -n '/^Commands:/,/^$/s/^  \([a-z]*\) .*/\1/p' | sorted)
 
 mkdir "$work/both"
+mkdir "$work"/{cdx,settings,folders} "$work/folders/a"
+touch "$work/cdx/a.cdx" "$work/settings/a.toml"
 touch "$work/archives/a.warc" "$work/indexes/a.cdxj" "$work"/both/{a.warc,b.warc.gz}
 cd "$work/archives"
 expect_offers << END
@@ -124,6 +127,38 @@ warcdx-gz get 0 |a.warc b.warc.gz
 warcdx-gz --warcdx x get 0 |a.warc b.warc.gz
 END
 
+cd "$work/cdx"
+expect_offers << END
+warcdx-cdx |from to
+warcdx-cdx --w|--warcdx
+warcdx-cdx --v|--version
+warcdx-cdx --warcdx a.cdx f|from
+warcdx-cdx from |a.cdx
+warcdx-cdx from a.cdx |a.cdx
+warcdx-cdx from --h|--help
+warcdx-cdx --warcdx x from |a.cdx
+END
+cd "$work/indexes"
+expect_offers << END
+warcdx-cdx to |a.cdxj
+warcdx-cdx to a.cdxj |a.cdxj
+warcdx-gateway --|--address --archives --help --host --indexes --port --program --version --workers
+warcdx-gateway --a|--address --archives
+warcdx-gateway --port |
+warcdx-gateway --indexes |a.cdxj
+warcdx-gateway --indexes a.cdxj |a.cdxj
+END
+cd "$work/settings"
+expect_offers << END
+warcdx-gateway |a.toml
+END
+cd "$work/folders"
+expect_offers << END
+warcdx-gateway --archives |a
+warcdx-gateway --indexes a.cdxj --archives |a
+warcdx-gateway --indexes a.cdxj --archives a |a
+END
+
 expect_none_run() { # on standard input lines with a command that would make the file `run`
     local line
     while read -r line; do
@@ -142,6 +177,11 @@ warcdx-verify '$(touch run)'
 warcdx-verify --jobs '$(touch run)'
 warcdx-gz index --types '$(touch run)',
 warcdx-gz list \`touch\ run\`/
+warcdx-cdx to '$(touch run)'
+warcdx-cdx from \`touch\ run\`/
+warcdx-gateway '$(touch run)'
+warcdx-gateway --indexes '$(touch run)'
+warcdx-update '$(touch run)'
 END
 if [ "$shell" != zsh ]; then # zsh itself expands a word that isn't quoted, or is so in double quotes
     expect_none_run << 'END'

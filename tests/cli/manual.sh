@@ -1,10 +1,13 @@
 #!/usr/bin/env bash
-# Checks the manual page docs/warcdx.1: its form, and that it has what the program's help and the other pages have.
+# Checks the manual pages: their form, and that they have what the help of the commands and the other pages have.
 #
 # usage: manual.sh [PROGRAM]
 #
-# `mandoc -T lint -W warning` has to be silent. The page has to have the program's version; a synopsis and a section for each command that the help
-# lists; each exit status; each line of standard error of docs/COMMANDS.md; and each cause of docs/RECORDS.md and docs/QUERY.md.
+# `mandoc -T lint -W warning` has to be silent. docs/warcdx.1 has to have the program's version; a synopsis and a section for each command that the
+# help lists; each exit status; each line of standard error of docs/COMMANDS.md; and each cause of docs/RECORDS.md and docs/QUERY.md.
+#
+# Each command in Python has to have a page with its options and the same version, and completions for bash, zsh and fish. SEE ALSO of each page
+# names all other pages.
 #
 # Prints a line for each check, and the counts. The exit status is 0, or 1 if a check fails. Needs Debian's packages mandoc and bsdextrautils.
 set -euo pipefail
@@ -57,4 +60,28 @@ expect "sections" "$commands" "$(commands_between DESCRIPTION QUERIES '   ')"
 expect "exit statuses" "0 1 2 3" "$(sed -n '/^EXIT STATUS/,/^EXAMPLES/s/^ *\([0-9]\) .*/\1/p' "$work/page" | in_a_line)"
 expect_on_page "lines of standard error" < <(diagnostics)
 expect_on_page "causes" < <(causes)
+
+options_of_help() { # COMMAND
+    "$1" --help | grep --only-matching -- '--[a-z][a-z-]*' | sort --unique
+}
+
+see_also() { # PAGE: the commands of the release that it names there
+    mandoc -T utf8 -O width=200 "$1" | col -bx | sed -n '/^SEE ALSO/,/^[A-Z]*$/p' | grep --only-matching 'warcdx[a-z-]*(1)' | in_a_line
+}
+
+pages=("$root"/docs/*.1)
+for page in "${pages[@]}"; do
+    name=$(basename "$page" .1)
+    expect "$name: mandoc -T lint" "" "$(mandoc -T lint -W warning "$page")"
+    expect "$name: SEE ALSO" "$(printf '%s\n' "${pages[@]##*/}" | grep --invert-match --line-regexp --fixed-strings "$name.1" | sed 's/\.1$/(1)/' | in_a_line)" "$(see_also "$page")"
+    expect "$name: completions" "$(printf '%s\n' "_$name" "$name.bash" "$name.fish" | in_a_line)" \
+        "$(cd "$root/completions" && find "_$name" "$name.bash" "$name.fish" 2>&1 | in_a_line)"
+done
+for command in "$root"/{python,gateway}/bin/*; do
+    name=${command##*/}
+    if ! "$command" --help > "$work/help" 2>&1; then continue; fi # a package is missing that the gateway needs
+    mandoc -T utf8 -O width=200 "$root/docs/$name.1" | col -bx > "$work/page"
+    expect "$name: version" "$("$command" --version)" "$(sed -n 's/^\(warcdx\) \([0-9.]*\) .*/'"$name"' \2/p' "$work/page" | tail --lines=1)"
+    expect "$name: options" "" "$(options_of_help "$command" | while read -r option; do grep --quiet --fixed-strings -- "$option" "$work/page" || echo "$option"; done)"
+done
 end_script

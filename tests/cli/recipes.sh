@@ -1,31 +1,36 @@
 #!/usr/bin/env bash
 # Runs the recipes of docs/recipes/, and compares what they print with what the pages show.
 #
-# usage: recipes.sh [--print RECIPE] [PROGRAM]
+# usage: recipes.sh [--shell SHELL] [--print RECIPE] [PROGRAM]
 #
-# A recipe is a section of a page. One bash runs its blocks that begin with ```sh, one after
-# another. The block that begins with ```text and follows one of them contains what that one prints,
-# errors included; without such a block it prints nothing. Each recipe runs in a folder of its own
-# that contains the archives of samples/, with the scripts of examples/ on the PATH. If the recipe
-# names a file that recipe_files.py writes, the folder contains that too. If Python's package surt
-# is missing, a stand-in takes its place. Ports, timestamps, offsets and identifiers of the first
-# crawl differ from run to run, and aren't compared.
+# A recipe is a section of a page. One SHELL, bash or zsh (default: bash), runs its blocks that begin
+# with ```sh, one after another. The block that begins with ```text and follows one of them contains
+# what that one prints, errors included; without such a block it prints nothing. Each recipe runs in a
+# folder of its own, which the lines of docs/RECIPES.md have made. If Python's package surt is missing,
+# a stand-in takes its place. Ports, timestamps, offsets and identifiers of the first crawl differ from
+# run to run, and aren't compared.
 #
 # Then the contents in docs/RECIPES.md are compared with the headings of the pages.
 #
 # Prints a line for each recipe, with the differences if there are any, and the counts. The exit
 # status is 0, or 1 if a recipe differs. With --print it prints only what RECIPE prints. Needs
-# Debian's packages gnuplot-nox, gzip, jq, parallel, pv, sqlite3, wget and xxd.
+# Debian's packages gnuplot-nox, gzip, jq, parallel, pv, sqlite3, wget, xxd and that of the shell.
 set -euo pipefail
 source "$(dirname "$0")/../program.sh"
-chosen=
+source "$root/tests/cli/pages.sh"
+chosen='' shell=bash
+if [ "${1-}" = --shell ]; then
+    shell=${2-}
+    if [ "$shell" != bash ] && [ "$shell" != zsh ]; then stop_usage "--shell needs bash or zsh"; fi
+    shift 2
+fi
 if [ "${1-}" = --print ]; then
     if [ $# -lt 2 ]; then stop_usage "--print needs a recipe"; fi
     chosen=$2
     shift 2
 fi
 read_program "$@"
-need gnuplot:gnuplot-nox gzip jq parallel pv sqlite3 wget xxd
+need gnuplot:gnuplot-nox gzip jq parallel pv sqlite3 wget xxd "$shell"
 
 pages=("$root"/docs/recipes/{indexes,records,queries,counts,other-programs}.md)
 work=$(mktemp -d)
@@ -58,18 +63,25 @@ script_of() {
     '
 }
 
+in_folder() { # FOLDER SCRIPT: runs a script as a user does who has the commands on the PATH
+    (cd "$1" && env HOME="$1" TMPDIR="$work" LC_ALL=C.UTF-8 PATH="$work/bin:$root/examples:$root/python/bin:$PATH" \
+        PYTHONPATH="$root/python${PYTHONPATH:+:$PYTHONPATH}" "$shell" "$2" 2>&1 < /dev/null)
+}
+
+# Makes a folder by the lines of docs/RECIPES.md. The folders of the recipes are copies of it.
+prepare() {
+    block_of "$root/docs/RECIPES.md" "share=" | sed "s:^share=.*:share='$root':" > "$work/script"
+    echo "cp --archive . '$work/files'" >> "$work/script"
+    in_folder "$work" "$work/script"
+}
+
 run() { # RECIPE: prints what its blocks print
-    local folder file
+    local folder
     folder=$(mktemp -d -p "$work")
-    cp "$root"/samples/*.warc "$folder"
-    for file in "$work"/files/*; do
-        if lines_of "$1" | grep --quiet --fixed-strings "${file##*/}"; then ln "$file" "$folder"; fi
-    done
+    cp --archive --link "$work/files/." "$folder"
     lines_of "$1" | script_of > "$work/script"
     # The exit status is that of the last command, and may be any.
-    (cd "$folder" && env HOME="$folder" LC_ALL=C.UTF-8 PYTHONPATH="$root/python${PYTHONPATH:+:$PYTHONPATH}" \
-        PATH="$work/bin:$root/examples:$root/python/bin:$PATH" \
-        bash "$work/script" 2>&1 < /dev/null) || true
+    in_folder "$folder" "$work/script" || true
 }
 
 masked() { # RECIPE: without what differs from run to run
@@ -111,7 +123,7 @@ make_stand_in() { # a module surt
 
 mkdir "$work/bin" "$work/files"
 ln -s "$program" "$work/bin/warcdx"
-"$root/tests/cli/recipe_files.py" "$work/files"
+prepare
 if ! python3 -c 'import surt' 2> /dev/null; then make_stand_in; fi
 if [ -n "$chosen" ]; then
     run "$chosen"

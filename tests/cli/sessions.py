@@ -1,5 +1,5 @@
 #!/usr/bin/env python3
-"""Runs the sessions of docs/COMMANDS.md, docs/FAQ.md, docs/QUERY.md and examples/README.md.
+"""Runs the sessions of pages: of docs/COMMANDS.md and of the others in PAGES.
 
 usage: sessions.py [PROGRAM]
 
@@ -7,11 +7,13 @@ A session is an indented block whose first line begins with "$ ". Its lines that
 commands, and the lines after each are what that command prints, on standard output and standard
 error together. The sessions of a page run one after another in one folder, which contains samples/,
 examples/ and the program as ./warcdx. The program and the Python commands are on the PATH too.
-Sessions with a server or with the package surt don't run: examples/ has tests of them.
+Sessions of examples/ with a server or with the package surt don't run: it has tests of them. If
+that package is missing, a stand-in takes its place in other sessions.
 
 Prints a line for each command, and the counts. The exit status is 0, or 1 if a command prints
 something else than its page shows.
 """
+import importlib.util
 import os
 import pathlib
 import re
@@ -24,11 +26,15 @@ sys.path.insert(0, str(pathlib.Path(__file__).resolve().parents[1]))
 
 from program import ROOT, Report, add_program, find_program, parser_of
 
-PAGES = ("docs/COMMANDS.md", "docs/FAQ.md", "docs/QUERY.md", "examples/README.md")
+PAGES = (
+    "docs/CDX.md", "docs/COMMANDS.md", "docs/FAQ.md", "docs/PYWB.md", "docs/QUERY.md", "docs/VERIFY.md",
+    "examples/README.md",
+)  # fmt: skip
 BLOCK = re.compile(r"(?:^    .*\n|^\n(?=(?:\n)*    ))+", re.MULTILINE)
 COMMAND = re.compile(r"^\$ (.*)\n((?:(?!\$ ).*\n)*)", re.MULTILINE)
-NOT_RUN = ("socat", "surt_keys.py")
+NOT_RUN = ("socat", "examples/surt_keys.py")
 MARK = "-- end of command"
+STAND_IN = "def surt(url):\n    return url[::-1]\n"
 
 
 def sessions_of(page: str) -> Iterator[list[tuple[str, str]]]:
@@ -41,12 +47,13 @@ def sessions_of(page: str) -> Iterator[list[tuple[str, str]]]:
 
 def run(commands: list[str], folder: str) -> list[str]:
     """Runs commands one after another by one bash, and returns what each of them prints."""
-    path = os.pathsep.join((folder, str(ROOT / "python/bin"), os.environ["PATH"]))
+    path = os.pathsep.join((folder, str(ROOT / "python/bin"), str(ROOT / "examples"), os.environ["PATH"]))
+    modules = os.pathsep.join(filter(None, (os.environ.get("PYTHONPATH"), f"{folder}/modules")))
     lines = (f"{command}\nkept=$?; echo '{MARK}'; (exit $kept)" for command in commands)
     done = subprocess.run(
         ("bash", "-c", "\n".join(lines)),
         cwd=folder,
-        env={**os.environ, "LC_ALL": "C.UTF-8", "PATH": path},
+        env={**os.environ, "LC_ALL": "C.UTF-8", "PATH": path, "PYTHONPATH": modules},
         stdin=subprocess.DEVNULL,
         stdout=subprocess.PIPE,
         stderr=subprocess.STDOUT,
@@ -60,6 +67,9 @@ def check_page(report: Report, name: str, program: pathlib.Path) -> None:
         for linked in ("samples", "examples"):
             pathlib.Path(folder, linked).symlink_to(ROOT / linked)
         pathlib.Path(folder, "warcdx").symlink_to(program)
+        if importlib.util.find_spec("surt") is None:
+            pathlib.Path(folder, "modules").mkdir()
+            pathlib.Path(folder, "modules/surt.py").write_text(STAND_IN)
         for session in sessions_of((ROOT / name).read_text()):
             found = run([command for command, _ in session], folder)
             for (command, wanted), output in zip(session, found):

@@ -5,14 +5,17 @@
 #
 # usage: troubleshooting.sh [PROGRAM]
 #
-# Prints a line for each case, and the counts. The last case is that each row of the page has cases.
-# The exit status is 0, or 1 if a case differs. Needs python3 and Debian's packages wget and xxd.
+# Some rows of the Python commands and of the gateway have no case here, because other tests make
+# their situations: those of the Python package, of warcdx-update and of the gateway.
+#
+# Prints a line for each case, and the counts. The last case is that each row of the page is here.
+# The exit status is 0, or 1 if a case differs. Needs python3 and Debian's packages util-linux, wget and xxd.
 # shellcheck disable=SC2317 # `prints` and `shows` run the functions
 set -euo pipefail
 
 source "$(dirname "$0")/../program.sh"
 read_program "$@"
-need python3 wget xxd
+need flock:util-linux python3 wget xxd
 source "$(dirname "$0")/check_functions.sh"
 page=$root/docs/TROUBLESHOOTING.md
 
@@ -130,6 +133,31 @@ sees "within a block" "$two"$'\nfault 448 ShortBlock' "" 1 list damaged.warc
 head -c 300 damaged.warc > head.warc
 sees "within a head" $'0 264 response\nfault 264 ShortHead' "" 1 list head.warc
 
+row "\`fault N FieldLine\`, \`HeadTooLong\`, \`Missing\`, \`Repeated\`, \`BadLength\`, \`BadDate\`, \`TooFar\`"
+changed() { # CAUSE COMMAND: of sed, which changes the first header
+    sed "$2" response.warc > changed.warc
+    sees "$1" "fault 0 $1" "" 1 list changed.warc
+}
+changed FieldLine '2ix\r'
+changed Missing '/^WARC-Date/d'
+changed Repeated 's/^WARC-Date.*/&\n&/'
+changed BadLength '0,/^Content-Length:.*/s//Content-Length: x\r/'
+changed BadDate 's/^WARC-Date.*/WARC-Date: 2016-13\r/'
+changed TooFar '0,/^Content-Length:.*/s//Content-Length: 9223372036854775807\r/'
+{ head --lines=1 response.warc && echo "A: $(head -c 1100000 /dev/zero | tr '\0' a)"; } > changed.warc
+sees "HeadTooLong" "fault 0 HeadTooLong" "" 1 list changed.warc
+header_at() { # OFFSET
+    tail -c +$(($1 + 1)) wget.warc | head -c 8
+}
+prints "the header at an offset" "WARC/1.0" header_at 725
+
+row "\`fault N KeyTooLong\`, \`LineTooLong\`"
+{ head --lines=3 response.warc && printf 'WARC-Date: 2016\r\nContent-Length: 0\r\nWARC-Target-URI: ' && head -c 1048000 /dev/zero | tr '\0' '\1' && printf '\r\n\r\n\r\n\r\n'; } > long.warc
+long_index() {
+    "$program" index long.warc | wc --lines
+}
+prints "the longest URL of a header" 1 long_index
+
 gz() {
     "$root/python/bin/warcdx-gz" --warcdx "$program" "$@"
 }
@@ -149,6 +177,19 @@ size=$(stat --format=%s good.warc.gz)
 for case in cut:CutMember bad:BadMember longer:NoMember; do
     prints "${case%:*}" $'0 '"$size"$' response\nfault '"$size ${case#*:}" gz list "${case%:*}.warc.gz"
 done
+
+row "\`SeveralMembers\` of \`warcdx-gz\`"
+{ head -c 100 response.warc | gzip && tail -c +101 response.warc | gzip; } > two.warc.gz
+prints "a record in two members" "fault 0 SeveralMembers" gz list two.warc.gz
+gunzip two.warc.gz
+prints "unpacked" "0 264 response" gz list two.warc
+
+row "\`NotCompressed\` in Python"
+in_python() { # TEXT
+    PYTHONPATH=$root/python python3 -c "import sys, warcdx.gz; $1" "$program"
+}
+shows "a plain archive" "warcdx.faults.NotCompressed" in_python "list(warcdx.gz.CompressedArchive('response.warc', program=sys.argv[1]).list())"
+prints "either form" 1 in_python "print(len(list(warcdx.gz.open_archive('response.warc', program=sys.argv[1]).list())))"
 
 row "\`verify\` prints \`differs\` for revisits"
 crawl_twice
@@ -201,6 +242,24 @@ row "\`TooManySources\`"
 ulimit -n 4096
 sees "1,025 indexes" "" "warcdx: TooManySources" 1 merge response.cdxj "${indexes[@]}"
 
+cdx() {
+    "$root/python/bin/warcdx-cdx" --warcdx "$program" "$@"
+}
+
+row "\`BadLine 0\` of a file with \` CDX \` in its first line"
+cdx to response.cdxj > response.cdx
+sees "a CDX file" "" "warcdx: response.cdx: BadLine 0" 1 check response.cdx
+from_cdx() { # FILE
+    cdx from "$1" | LC_ALL=C sort
+}
+prints "an index of it" "$(< response.cdxj)" from_cdx response.cdx
+
+row "\`line N\` of \`warcdx-cdx\`"
+sed '1a x' response.cdx > bad.cdx
+prints "a bad line" "warcdx-cdx: bad.cdx: line 2: it has 1 columns, and not 11" cdx from bad.cdx
+sed 2d bad.cdx > good.cdx
+prints "without it" "$(< response.cdxj)" cdx from good.cdx
+
 row "A URL of pywb's index isn't found"
 line "com,example)/goo" 0 | sed 's|http://example.com/|&goo/|' > pywb.cdxj
 sees "by url" "" "" 0 query "url=example.com/goo/" pywb.cdxj
@@ -210,6 +269,37 @@ finds "by is" "url=example.com/goo*&is=original:http://example.com/goo/" pywb.cd
 row "\`query: Unknown\`"
 refuses Unknown "http://example.com/" "example.com" "url=example.com&page=0"
 finds "with a name" "url=example.com" response.cdxj
+
+row "\`query: NoUrl\`, \`query: UrlAndKey\`"
+refuses NoUrl "limit=1"
+refuses UrlAndKey "url=example.com&key=com"
+finds "all captures" "key=&matchType=prefix" response.cdxj
+
+row "\`query: BadUrl\`"
+refuses BadUrl "url=http://[/" "url=dns:example.com&matchType=host"
+finds "escaped" "url=example.com/%2523/../" response.cdxj
+
+row "\`query: BadMatch\`, \`query: BadOutput\`, \`query: BadFlag\`"
+refuses BadMatch "url=example.com&matchType=all"
+refuses BadOutput "url=example.com&output=xml"
+refuses BadFlag "url=example.com&showResumeKey=1"
+finds "the values" "url=example.com&matchType=host&output=text&showResumeKey=false" response.cdxj
+
+row "\`query: RepeatedParameter\`"
+refuses RepeatedParameter "url=example.com&limit=1&limit=1"
+finds "conditions" "url=example.com&is=statuscode:200&is=mimetype:text/html" response.cdxj
+
+row "\`query: BadResume\`"
+refuses BadResume "url=example.com&resumeKey=x"
+
+row "\`query: QueryTooLong\`"
+refuses QueryTooLong "url=$(head -c 65536 /dev/zero | tr '\0' a)"
+
+row "\`NotText\` of \`serve\` and of the gateway"
+served() {
+    printf 'url=\377\n' | "$program" serve response.cdxj
+}
+prints "a query" $'refused NotText\n.' served
 
 row "\`query: NotLiteral\`"
 for filter in "original:.*" "mimetype:image/svg%2Bxml" "original:http://example.com/"; do
@@ -260,6 +350,29 @@ not_utf_8() {
 shows "the message" "isn't UTF-8" "$program" index names/*
 prints "the command that finds it" $'\xff.warc' not_utf_8
 
+row "\`cannot open\`; \`CannotOpen\` in Python"
+prints "no file" $'warcdx: nosuch: cannot open\n  No such file or directory (os error 2)' "$program" check nosuch
+
+row "\`Read\`, or \`Input\` for standard input"
+mkdir folders
+prints "a folder" $'warcdx: folders: Read\n  It is a folder.' "$program" check folders
+# shellcheck disable=SC2016 # the other shell expands it
+shows "Input of serve" "Input" bash -c '"$1" serve response.cdxj < folders' bash "$program"
+
+row "\`cannot flush\` or \`Write\`, with \`No space left on device\`; \`CannotFlush\` in Python"
+on_full_disk() {
+    "$program" check response.cdxj > /dev/full
+}
+prints "a full disk" $'warcdx: cannot flush\n  No space left on device (os error 28)' on_full_disk
+
+row "\`Memory\`"
+{ printf 'k 20160101000000 {"offset": "0", "filename": "f", "x": "' && head -c 10000000 /dev/zero | tr '\0' a && echo '"}'; } > large.cdxj
+with_little_memory() {
+    ulimit -v 12000
+    "$program" check large.cdxj
+}
+shows "a limit of memory" "warcdx: Memory" with_little_memory
+
 row "Messages come before the output of earlier arguments"
 on_terminal() { # ARGUMENT..
     python3 -c 'import pty, sys; pty.spawn(sys.argv[1:])' "$program" "$@"
@@ -275,6 +388,8 @@ in_front_of_head() {
 }
 prints "the message" $'0 264 response\nwarcdx: Write\n  Broken pipe (os error 32)' in_front_of_head
 
+source "$root/tests/cli/troubleshooting_python.sh"
+
 sed -n -e '/^| What you see/d' -e '/^|---/d' -e 's/^| \([^|]*\) | .*/\1/p' "$page" > page-rows
-expect_file "each row has cases" page-rows rows
+expect_file "each row is here" page-rows rows
 end_script

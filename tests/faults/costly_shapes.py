@@ -24,6 +24,7 @@ from measured_runs import RECORD, Costs, line, measure
 from program import Report, add_program, find_program, parser_of
 
 ALL = "key=&matchType=prefix"
+RESUMED = f"{ALL}&showResumeKey=true"
 LINEAR = 2.5  # the most that doubling may cost
 FLAT = 1.5  # the same, of an input of which no more needs to be read
 LEAST_SECONDS = 0.02  # what is shorter can't be measured
@@ -116,6 +117,16 @@ def members_of_one_name(folder: pathlib.Path, size: int) -> Sequence[str]:
     return "check", "input"
 
 
+def line_of(sign: str, query: str) -> Callable[[pathlib.Path, int], Sequence[str]]:
+    """Returns the shape of two lines whose URL and URL key have this number of signs. With a query, its pages are of one line."""
+
+    def write(folder: pathlib.Path, size: int) -> Sequence[str]:
+        (folder / "input").write_text(line(sign * size, 0) + line(sign * size, 1))
+        return ("pages", "1", query, "input") if query else ("check", "input")
+
+    return write
+
+
 class Shape(NamedTuple):
     """A shape, the first of its sizes, and what it may cost."""
 
@@ -139,6 +150,10 @@ SHAPES = (
     Shape("folders and as many steps up", many_folders_up, 10_000, seconds),
     Shape("a line of nested objects", nested_objects, 800, seconds),
     Shape("a line of members of one name", members_of_one_name, 100_000, seconds),
+    Shape("a line of %, checked", line_of("%", ""), 1_000_000, seconds),
+    Shape("a line of é, checked", line_of("é", ""), 500_000, seconds),
+    Shape("pages of lines of %, with resume keys", line_of("%", RESUMED), 1_000_000, seconds),
+    Shape("pages of lines of é, with resume keys", line_of("é", RESUMED), 500_000, seconds),
 )
 
 

@@ -31,6 +31,7 @@ VERIFIED = (
     b"WARC/1.1\r\nWARC-Type: resource\r\nWARC-Record-ID: <urn:x:1>\r\nWARC-Date: 2016-09-19T17:20:24Z\r\n"
     b"WARC-Block-Digest: sha256:%b\r\nContent-Length: 5\r\n\r\n%b\r\n\r\n"
 )
+CDX_LINE = b"com,example)/%07d 20160919172024 http://example.com/%07d text/html 200 - - - 1 %d a.warc\n"
 BODY = bytes(range(256)) * 2000
 STAND_IN = "def surt(url):\n    return url[::-1]\n"
 Word = Union[str, bytes]
@@ -60,6 +61,7 @@ class Script(NamedTuple):
 def scripts_of(program: pathlib.Path) -> tuple[Script, ...]:
     """Returns the runs of each command. A new command has its own here."""
     gz, verify = ROOT / "python/bin/warcdx-gz", ROOT / "python/bin/warcdx-verify"
+    cdx = ROOT / "python/bin/warcdx-cdx"
     of_gz = ("--warcdx", str(program))
     return (
         Script("warcdx-gz index of two", gz, (*of_gz, "index", "a.warc.gz", "b.warc"), "a.warc.gz"),
@@ -70,6 +72,10 @@ def scripts_of(program: pathlib.Path) -> tuple[Script, ...]:
         Script("warcdx-verify", verify, (*of_gz, "digests.warc.gz"), "digests.warc.gz"),
         Script("warcdx-verify of a plain archive", verify, (*of_gz, "digests.warc"), "digests.warc"),
         Script("warcdx-verify of two at a time", verify, (*of_gz, "--jobs", "2", "digests.warc.gz", "digests.warc")),
+        Script("warcdx-cdx to", cdx, (*of_gz, "to", "a.cdxj"), "a.cdxj"),
+        Script("warcdx-cdx to of standard input", cdx, (*of_gz, "to"), reads="a.cdxj"),
+        Script("warcdx-cdx from", cdx, (*of_gz, "from", "a.cdx"), "a.cdx"),
+        Script("warcdx-cdx from of standard input", cdx, (*of_gz, "from"), reads="a.cdx"),
         Script("warcdx-update", ROOT / "python/bin/warcdx-update", has_output=False),
         *gateway(program),
         Script("body.py", ROOT / "examples/body.py", reads="page.warc", has_version=False),
@@ -115,6 +121,7 @@ def inputs() -> Mapping[str, bytes]:
         "digests.warc": b"".join(with_digests),
         "page.warc": PAGE % (len(page), page),
         "a.cdxj": b"".join(LINE % (number, number, number) for number in range(MANY)),
+        "a.cdx": b"".join(CDX_LINE % (number, number, number) for number in range(MANY)),
         "surt.py": STAND_IN.encode(),
     }
 

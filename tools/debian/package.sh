@@ -95,9 +95,9 @@ Description: indexer of web archives, with queries over the indexes
  Wayback CDX Server API, page by page. It fetches records from their offsets.
  The command warcdx-gz does the same for compressed archives, and a Python
  package from programs. The command warcdx-verify checks the digests of blocks
- and payloads. The command warcdx-gateway is an HTTP server for the clients of
- Wayback CDX servers; it needs gunicorn, python3-werkzeug,
- python3-prometheus-client and python3-regex.
+ and payloads, and warcdx-cdx converts CDX files of eleven columns. The command
+ warcdx-gateway is an HTTP server for the clients of Wayback CDX servers; it
+ needs gunicorn, python3-werkzeug, python3-prometheus-client and python3-regex.
 END
 }
 

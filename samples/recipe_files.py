@@ -1,5 +1,5 @@
 #!/usr/bin/env python3
-"""Writes the files that the recipes of docs/ use beside the archives of samples/.
+"""Writes the files that the recipes of docs/ use beside the archives of this folder.
 
 usage: recipe_files.py FOLDER
 
@@ -11,18 +11,14 @@ dedup.warc  a crawl as wget writes it with --warc-dedup: its revisit records hav
 
 The same files are written each time. FOLDER has to exist.
 """
+import argparse
 import base64
 import calendar
 import datetime
 import hashlib
 import json
 import pathlib
-import sys
 from collections.abc import Iterator
-
-sys.path.insert(0, str(pathlib.Path(__file__).resolve().parents[1]))
-
-from program import parser_of
 
 FIRST_YEAR = 2017
 # The captures of each month, a line for each year.
@@ -104,7 +100,9 @@ def deduplicated() -> bytes:
 
 
 def main() -> None:
-    parser = parser_of(__doc__)
+    parser = argparse.ArgumentParser(
+        usage=argparse.SUPPRESS, description=__doc__, formatter_class=argparse.RawDescriptionHelpFormatter
+    )
     parser.add_argument("folder", metavar="FOLDER", type=pathlib.Path)
     folder = parser.parse_args().folder
     (folder / "years.cdxj").write_bytes(years())

@@ -1,0 +1,61 @@
+"""URL keys of many URLs, as `warcdx index` makes them."""
+import re
+import subprocess
+from collections.abc import Iterator, Sequence
+from typing import NamedTuple
+
+from .codings import Unreadable
+from .command import temporary_file
+from .errors import Fault, error_of
+from .program import close, started
+
+MOST_URL = 1 << 20  # bytes: the program refuses the head of a record that is longer
+_HEAD = (
+    b"WARC/1.1\r\nWARC-Type: resource\r\nWARC-Record-ID: <urn:x:1>\r\nWARC-Date: 2000-01-01T00:00:00Z\r\n"
+    b"WARC-Payload-Digest: x\r\nContent-Length: 0\r\nWARC-Target-URI: <"
+)
+_END = b">\r\n\r\n\r\n\r\n"  # the program takes the brackets off, and so no other ones
+_LINE = re.compile(
+    rb'([^ ]+) 20000101000000 \{"url": "(.*)", "mime": "-", "status": "-", "digest": "x", "length": "[0-9]+", '
+    rb'"offset": "([0-9]+)", "filename": "-"\}\n'
+)
+
+
+class Keyed(NamedTuple):
+    """A URL: its key, and its text as it stands in JSON between the quotes, both in UTF-8."""
+
+    key: bytes
+    escaped: bytes
+
+
+def keys_of(program: str, urls: Sequence[bytes]) -> Iterator[Keyed]:
+    """Yields the keys of URLs, in their order. It stops before the first URL that the program can't index.
+
+    No URL has a line feed. The program reads the URLs as the targets of records. Raises Error if it fails.
+    """
+    found: dict[int, Keyed] = {}
+    with temporary_file() as said, temporary_file() as lines:
+        with started((program, "index", "-"), said, subprocess.PIPE, lines) as process:
+            assert process.stdin is not None
+            try:
+                process.stdin.writelines(_HEAD + url + _END for url in urls)
+            except BrokenPipeError:  # the program has ended at a fault
+                pass
+            close(process.stdin)
+            status = process.wait()
+        said.seek(0)
+        reported = error_of(status, said.read().decode(errors="surrogateescape")) if status else None
+        if reported is not None and not (isinstance(reported, Fault) and reported.offset is not None):
+            raise reported
+        lines.seek(0)
+        for line in lines:
+            parts = _LINE.fullmatch(line)
+            if parts is None:
+                raise Unreadable("the program has written no line of an index")
+            found[int(parts[3])] = Keyed(parts[1], parts[2])
+    offset = 0
+    for url in urls:
+        if offset not in found:
+            return
+        yield found[offset]
+        offset += len(_HEAD) + len(url) + len(_END)
