@@ -95,12 +95,12 @@ def rows(folder: pathlib.Path) -> Iterator[Row]:
     numbers = [with_numbers(index) for index in one]
     yield Row("list of a file, a record of 20 kB", ["list"], *archives, 4500)
     yield Row("index of a file, a capture", ["index"], *crawls, 11_700)
-    yield Row("check, a line", ["check"], *one, 1350)
-    yield Row("merge of 4 files, a line that is read", ["merge"], *four, 2100)
-    yield Row("merge of 1,024 files, a line that is read", ["merge"], *many, 2600)
-    yield Row("query of all lines as text, a line", ["query", QUERY], *one, 2850)
-    yield Row("the same as json", ["query", f"{QUERY}&output=json"], *one, 2750)
-    yield Row("the same as cdxj", ["query", f"{QUERY}&output=cdxj"], *one, 2300)
+    yield Row("check, a line", ["check"], *one, 950)
+    yield Row("merge of 4 files, a line that is read", ["merge"], *four, 1600)
+    yield Row("merge of 1,024 files, a line that is read", ["merge"], *many, 1950)
+    yield Row("query of all lines as text, a line", ["query", QUERY], *one, 2250)
+    yield Row("the same as json", ["query", f"{QUERY}&output=json"], *one, 2300)
+    yield Row("the same as cdxj", ["query", f"{QUERY}&output=cdxj"], *one, 1650)
     yield Row("query of lines with numbers, as text", ["query", QUERY], *numbers, None)
     yield Row("the same with a filter", ["query", f"{QUERY}&filter=statuscode:200"], *numbers, None)
 

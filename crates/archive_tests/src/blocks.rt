@@ -241,7 +241,8 @@ fn a_long_block_is_not_read(rt: HostRuntime) -> Result<(), Fail> {
     let alloc = rt.alloc();
     let archive = long_archive(alloc)?;
     let index = first_of(alloc, &INDEX, 3)?;
-    assert!(rt; lists_by_skips(alloc, Slice::new(&archive), 8_409, 12_231)?);
+    let input = Fuse::new(Slice::new(&archive), 8192, 0);
+    assert!(rt; lists_by_skips(alloc, input, 8_409, 12_231)?);
     let file = written(&rt, "long.warc", &archive)?;
     assert!(rt; lists_by_skips(alloc, file, 8_409, 12_231)?);
     let file = written(&rt, "long.warc", &archive)?;
@@ -253,7 +254,8 @@ fn a_long_block_is_not_read(rt: HostRuntime) -> Result<(), Fail> {
 #[test]
 fn a_payload_whose_digest_is_given_is_not_read(rt: HostRuntime) -> Result<(), Fail> {
     let record = long_record(rt.alloc(), RESPONSE_HEAD, HTTP_HEAD)?;
+    let input = Fuse::new(Slice::new(&record), 8192, 0);
     let counts = (8_196, 12_024);
-    assert!(rt; indexes_by_skips(rt.alloc(), Slice::new(&record), RESPONSE_LINE, 1, counts)?);
+    assert!(rt; indexes_by_skips(rt.alloc(), input, RESPONSE_LINE, 1, counts)?);
     Ok(())
 }

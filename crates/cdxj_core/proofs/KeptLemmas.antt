@@ -1,34 +1,38 @@
 -- A line that is kept in one text.
-use Rattle.std.proofs.Common.{◌≡◌, ℕ, ◌+◌, ◌<◌, ◌^◌, true, List, [], ◌∷◌, ◌++◌, take, drop, length}
-use Rattle.std.proofs.Common.{decimal, Some, refl, sym, arith, append_assoc, append-nil, length-append}
-use Rattle.std.proofs.Common.{drop-drop, IsUtf8}
-use Rattle.std.specs.List.{list_all, before_first, after_first}
+use Rattle.std.proofs.Common.{◌≡◌, ℕ, ◌+◌, ◌<◌, ◌≤◌, ◌^◌, true, List, [], ◌∷◌, ◌++◌, get_or, take, drop, length, length-take, length-drop, get_or-drop}
+use Rattle.std.proofs.lemmas.Fmt.{digits_value-decimal}
+use Rattle.cdxj_places.proofs.Offsets.{own}
+use Rattle.cdxj_places.proofs.PlaceLaw.{offset_text}
+use Rattle.std.proofs.Common.{Some, refl, sym, arith, append_assoc, append-nil, length-append}
+use Rattle.std.proofs.Common.{ap, ◌∙◌, drop-drop, IsUtf8}
+use Rattle.std.specs.List.{list_all, prefix_len, before_first, after_first}
 use Rattle.std.specs.Str.{IsCharBoundary}
 use Rattle.std.proofs.lemmas.Str.{IsCharBoundary-before_ascii, IsCharBoundary-end}
 use Rattle.std.proofs.Math.Seq.{take-append_seam, drop-append_seam, get_or-append_seam}
 use Rattle.cdxj_places.specs.Pair.{is_space, is_key, is_stamp}
 use Rattle.cdxj_places.specs.Places.{offset_of}
 use Rattle.cdxj_objects.specs.declared.member_ends.MemberEnds.{MemberEnds}
+use Rattle.cdxj_objects.specs.declared.member_ends.PlainMembers.{PlainMembers}
 use Rattle.cdxj_objects.specs.declared.member_ends.TheConstants.{OPEN}
 use Rattle.cdxj_objects.specs.FoundMembers.{FoundValue, members_in}
 use Rattle.cdxj_objects.specs.MemberValues.{filename_value, offset_value}
-use Rattle.cdxj_objects.specs.Plain.{ArePlain, IsCutAtByte, plain_text, values_of_texts}
-use Rattle.cdxj_objects.specs.PlainPlaces.{AreEndsOf}
+use Rattle.cdxj_objects.specs.Plain.{ArePlain, is_neither, is_unescaped, plain_text, values_of_texts}
+use Rattle.cdxj_objects.specs.PlainPlaces.{AreEndsOf, ArePlainMembers, texts_at}
 use Rattle.cdxj_objects.specs.Spelling.{IsSpelled, raw_texts}
 use Rattle.cdxj_objects.specs.Texts.{TextsValue}
-use Rattle.cdxj_objects.proofs.PlainBytes.{plain_decimal}
+use Rattle.cdxj_objects.proofs.PlainBytes.{plain_decimal, plain_where_unescaped}
+use Rattle.cdxj_objects.proofs.PlainCuts.{cut_behind, front_passes}
 use Rattle.cdxj_objects.proofs.PlainPlaces.{GoesOn, next, parts_there, texts_there}
 use Rattle.cdxj_core.specs.declared.spans.Spans.{Spans}
 use Rattle.cdxj_core.specs.declared.spans.TheConstants.{TO_STAMP, TO_STAMP_END, TO_URL}
-use Rattle.cdxj_core.specs.Clean.{is_clean}
 use Rattle.cdxj_core.specs.KeptLine.{IsKept, member_in, texts_in}
-use Rattle.cdxj_core.specs.Lines.{LineValue, has_no_feed, line_value}
+use Rattle.cdxj_core.specs.Lines.{LineValue, body_of, has_no_feed, line_value}
 use Rattle.cdxj_core.specs.Members.{Member, line_entry}
 use Rattle.cdxj_core.proofs.FoundLines.{line_found, line_made}
-use Rattle.cdxj_core.proofs.LineCuts.{first_cut, first_stamp}
-use Rattle.cdxj_core.proofs.MemberLemmas.{body_entry, entry_valued}
+use Rattle.cdxj_core.proofs.LineCuts.{first_key, first_stamp}
+use Rattle.cdxj_core.proofs.MemberLemmas.{body_entry, entry_valued, line_of_body}
 use Rattle.cdxj_core.proofs.ObjectLines.{line_object-plain}
-use Rattle.cdxj_core.proofs.UnescapedAscii.{all_parts, clean_feed, clean_key}
+use Rattle.cdxj_core.proofs.UnescapedAscii.{all_parts, unescaped_feed, unescaped_key}
 
 plain_values : (t : TextsValue) (v : LineValue) → v.offset < 2 ^ 63 → values_of_texts t ≡ texts_in v → ArePlain t
     → ArePlain (texts_in v)
@@ -54,35 +58,50 @@ kept_line limit text tail member t at s utf8 entry seam values size line_ends ke
     grind (arith, plain_values, IsCharBoundary-before_ascii, take-append_seam, get_or-append_seam, length-append)
 
 -- a plain line is its own text
-pub plain_kept : (limit : ℕ) (text key rest stamp object : List ℕ) (t : TextsValue) (offset : ℕ) (ends : MemberEnds)
-    → IsUtf8 text → list_all is_clean text ≡ true → length text < limit → IsCutAtByte 32 text key rest → 0 < length key
-    → (rest ≡ stamp ++ 32 ∷ object) × (is_stamp stamp ≡ true) → (object ≡ plain_text t) × ArePlain t
-    → offset_of t.offset ≡ Some offset → t.offset ≡ decimal offset → 0 < length t.filename
-    → AreEndsOf (length key + TO_URL) t ends
+pub plain_kept : (limit : ℕ) (text : List ℕ) (key : ℕ) (m : PlainMembers) → IsUtf8 text
+    → list_all is_unescaped text ≡ true → length text < limit → key ≡ prefix_len (is_neither 32 127) text → 0 < key
+    → key + 17 ≤ length text → get_or text key 0 ≡ 32 → is_stamp (take 14 (drop (key + 1) text)) ≡ true
+    → get_or text (key + 15) 0 ≡ 32 → ArePlainMembers text (key + 16) m
     → IsKept limit text (record {
       size = length text;
-      key = length key;
-      stamp = stamp;
-      offset = offset;
-      start = length key + TO_URL;
-      ends = ends;
+      key = key;
+      stamp = take 14 (drop (key + 1) text);
+      offset = m.offset;
+      start = key + TO_URL;
+      ends = m.ends;
     }) (member_in limit (take (length text) text))
-plain_kept limit text key rest stamp object t offset ends utf8 all short first some second plain value digits
-    named begins =
-    let good_key = clean_key key (all_parts is_clean text key rest 32 first.0 all).0 first.1 some in
-    let keys = first_cut text key rest first in
-    let stamps = first_stamp rest stamp object second in
-    let values = line_object-plain key stamp t offset plain.1 value named in
-    let member : Member = record { values = line_value key stamp (values_of_texts t) offset; line = text } in
-    let entry = body_entry limit text key rest stamp object member.values utf8 short (clean_feed text all) (grind arith)
-    (grind arith) (grind arith) (grind arith) (grind arith) in
-    let cut : text ≡ key ++ 32 ∷ (stamp ++ 32 ∷ object) = grind arith in
-    let there = next text utf8 32 (omega arith) 0 key stamp object (length key + 1) (length key + 15) (omega arith, cut)
-    (omega arith) (grind arith) in
-    let to_object : drop (length key + 16) text ≡ plain_text t = grind (arith, drop-drop 1 (length key + 15) text) in
-    kept_line limit text [] member t (length key + 16) _ utf8 entry (sym (append-nil text)) (grind arith) refl
-    (grind (arith, IsCharBoundary-end)) refl refl refl (grind (arith, length-append), to_object) (omega arith) begins
-    (λ e. plain.1)
+plain_kept limit text key m utf8 all short run some long space good_stamp second members =
+    let front = take key text in
+    let rest = drop (key + 1) text in
+    let stamp = take 14 rest in
+    let object = drop (key + 16) text in
+    let t = texts_at text (key + 16 + OPEN) m.ends in
+    let first_cut : text ≡ front ++ 32 ∷ rest = grind (arith, cut_behind text key) in
+    let later : drop 15 rest ≡ object = grind (arith, drop-drop 15 (key + 1) text) in
+    let there : get_or rest 14 0 ≡ 32 = grind (arith, get_or-drop) in
+    let stamp_cut : rest ≡ stamp ++ 32 ∷ object = grind (arith, cut_behind rest 14, length-drop (key + 1) text) in
+    let size : length front ≡ key = grind (arith, length-take) in
+    let good_key = unescaped_key front (all_parts is_unescaped key text all).0 (grind (arith, front_passes))
+    (omega (arith, size)) in
+    let keys = first_key text front rest first_cut good_key in
+    let stamps = first_stamp rest stamp object (stamp_cut, good_stamp) in
+    let plain = plain_where_unescaped t members.no_quotes
+    (ap (list_all is_unescaped) (sym members.is) ∙ (all_parts is_unescaped (key + 16) text all).1) in
+    let value : offset_of t.offset ≡ Some m.offset = grind (arith, offset_text, digits_value-decimal, own) in
+    let values = line_object-plain front stamp t m.offset plain value members.named in
+    let member : Member = record { values = line_value front stamp (values_of_texts t) m.offset; line = text } in
+    let entry = body_entry limit text front rest stamp object member.values utf8 short (unescaped_feed text all)
+    (grind arith) (grind arith) (grind arith) (grind arith) (grind arith) in
+    let start : key + 16 + OPEN ≡ key + TO_URL = omega arith in
+    kept_line limit text [] member t (key + 16) _ utf8 entry (sym (append-nil text)) (grind arith) refl
+    (grind (arith, IsCharBoundary-end)) (sym size) refl refl (omega arith, members.is) (omega arith)
+    (rw (← start) members.ends) (λ e. plain)
+
+-- a line whose body is read as a text
+pub line_of_text : (limit : ℕ) (line body text : List ℕ) (member : Member) → text ≡ body → body ≡ body_of line
+    → list_all is_unescaped text ≡ true → line_entry limit text ≡ Some member → line_entry limit line ≡ Some member
+line_of_text limit line body text member same its all h =
+    line_of_body limit line body text member same its (sym (rw same at (unescaped_feed text all))) h
 
 -- any other line is followed by a plain object with its texts
 pub json_kept : (limit : ℕ) (text body key rest stamp object filename : List ℕ) (f : FoundValue) (offset : ℕ)

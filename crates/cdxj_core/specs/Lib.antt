@@ -1,6 +1,5 @@
 pub mod Entries
 pub mod Lines
-pub mod Clean
 pub mod EntryView
 pub mod LineTexts
 pub mod Members

@@ -1,12 +1,13 @@
 //! The body of a line: the line without its line feed.
 ghost use Rattle.std.specs.Prelude.{◌≡◌, ◌<◌, length, true, IfSome, IsUtf8};
 ghost use Rattle.std.specs.List.{list_all};
+ghost use Rattle.cdxj_objects.specs.Plain.{is_unescaped, is_unescaped_ascii};
 ghost use Rattle.cdxj_core.specs.declared.limit.TheConstants.{LINE_LIMIT};
-ghost use Rattle.cdxj_core.specs.Clean.{is_clean};
 ghost use Rattle.cdxj_core.specs.Lines.{body_of, has_no_feed};
 
 use crate::limit::LINE_LIMIT;
-use crate::unescaped::{is_clean, is_unescaped_ascii};
+use crate::unescaped::is_unescaped;
+use cdxj_objects::unescaped_length;
 use memchr::memchr;
 
 /// Returns the line without a line feed at its end.
@@ -26,35 +27,46 @@ pub(crate) fn has_no_feed(text: &[u8]) -> bool
     memchr(b'\n', text).is_none()
 }
 
-/// Returns the body as a text, if it is UTF-8 without controls, backslashes and DEL.
+/// Returns the body as a text, if it is UTF-8 without controls and backslashes.
 #[cold]
-fn clean_utf8(body: &[u8]) -> Option<&str>
+fn unescaped_utf8(body: &[u8]) -> Option<&str>
     ensures value { IfSome result (λ text. text.now ≡ body.now) }
     ensures utf8 { IfSome result (λ text. IsUtf8 text.now) }
-    ensures clean { IfSome result (λ text. list_all is_clean text.now ≡ true) }
+    ensures unescaped { IfSome result (λ text. list_all is_unescaped text.now ≡ true) }
 {
-    if is_clean(body) {
+    if is_unescaped(body) {
         str::from_utf8(body).ok()
     } else {
         None
     }
 }
 
-/// Returns the body as a text, if it is within the limit and consists of characters other than
-/// controls, backslashes and DEL.
+/// Returns a body of ASCII without controls and backslashes as a text.
 #[inline(always)]
-pub(crate) fn clean_text(body: &[u8]) -> Option<&str>
+pub(crate) fn ascii_text(body: &[u8]) -> &str
+    requires { list_all is_unescaped_ascii body.now ≡ true }
+    ensures value { result.now ≡ body.now }
+    ensures utf8 { IsUtf8 result.now }
+    ensures unescaped { list_all is_unescaped result.now ≡ true }
+{
+    unsafe { str::from_utf8_unchecked(body) }
+}
+
+/// Returns the body as a text, if it is within the limit and consists of characters other than
+/// controls and backslashes.
+#[inline(always)]
+pub(crate) fn unescaped_text(body: &[u8]) -> Option<&str>
     ensures value { IfSome result (λ text. text.now ≡ body.now) }
     ensures short { IfSome result (λ text. length text.now < LINE_LIMIT) }
     ensures utf8 { IfSome result (λ text. IsUtf8 text.now) }
-    ensures clean { IfSome result (λ text. list_all is_clean text.now ≡ true) }
+    ensures unescaped { IfSome result (λ text. list_all is_unescaped text.now ≡ true) }
 {
     if body.len() >= LINE_LIMIT {
         return None;
     }
-    if is_unescaped_ascii(body) {
-        Some(unsafe { str::from_utf8_unchecked(body) })
+    if unescaped_length(body) == body.len() {
+        Some(ascii_text(body))
     } else {
-        clean_utf8(body)
+        unescaped_utf8(body)
     }
 }

@@ -57,7 +57,10 @@ fn fill(buffer: &mut String, text: &str)
 }
 
 impl Line {
-    ghost use Rattle.std.specs.Prelude.{IfOk, OnErr, MatchResult, Ok, Err, Some};
+    ghost use Rattle.std.specs.Prelude.{true, IfOk, IfSome, OnErr, MatchResult, Ok, Err, Some};
+    ghost use Rattle.std.specs.List.{list_all};
+    ghost use Rattle.cdxj_objects.specs.Plain.{is_unescaped_ascii};
+    ghost use Rattle.cdxj_core.specs.Lines.{body_of};
     ghost use Rattle.cdxj_core.specs.Members.{member_place, line_entry, IsLineReading};
     ghost use Rattle.cdxj_places.specs.PlaceViews.{place_view};
 
@@ -73,6 +76,8 @@ impl Line {
     }
 
     /// Reads a line that has any JSON object.
+    #[cold]
+    #[inline(never)]
     pub(crate) fn read_json(alloc: Global, line: &[u8]) -> Result<Line, LineFault>
         ensures { IsLineReading LINE_LIMIT line.now result }
     {
@@ -148,12 +153,32 @@ impl Line {
 
     /// Reads another line into this line's buffer. If the buffer is large enough, a plain line
     /// takes no memory. Errors are those of `LineRef::read`; after an error this line is unchanged.
-    #[tactic(auto, using(crate::proofs::MemberLemmas::entry_is_short))]
     pub fn refill(&mut self, line: &[u8]) -> Result<(), LineFault>
         ensures { MatchResult result (λ _. IsLineReading LINE_LIMIT line.now (Ok self.new))
             (λ fault. IsLineReading LINE_LIMIT line.now (Err fault) × (self.new ≡ self.old)) }
     {
-        match LineParts::read(line) {
+        self.refill_from(line, LineParts::read(line))
+    }
+
+    /// The same for a line that consists of characters of ASCII other than controls and backslashes,
+    /// but for its line feed.
+    pub fn refill_unescaped(&mut self, line: &[u8]) -> Result<(), LineFault>
+        requires { list_all is_unescaped_ascii (body_of line.now) ≡ true }
+        ensures { MatchResult result (λ _. IsLineReading LINE_LIMIT line.now (Ok self.new))
+            (λ fault. IsLineReading LINE_LIMIT line.now (Err fault) × (self.new ≡ self.old)) }
+    {
+        self.refill_from(line, LineParts::read_unescaped(line))
+    }
+
+    /// The same for a line that was read as a plain one, or declined.
+    #[inline(always)]
+    #[tactic(auto, using(crate::proofs::MemberLemmas::entry_is_short))]
+    fn refill_from(&mut self, line: &[u8], parts: Option<LineParts<'_>>) -> Result<(), LineFault>
+        requires { IfSome parts (λ found. line_entry LINE_LIMIT line.now ≡ Some found) }
+        ensures { MatchResult result (λ _. IsLineReading LINE_LIMIT line.now (Ok self.new))
+            (λ fault. IsLineReading LINE_LIMIT line.now (Err fault) × (self.new ≡ self.old)) }
+    {
+        match parts {
             Some(parts) => {
                 self.keep(&parts)?;
                 Ok(())

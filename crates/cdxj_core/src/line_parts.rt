@@ -2,15 +2,18 @@
 ghost use Rattle.std.specs.Prelude.{◌≡◌, IfSome, true};
 ghost use Rattle.cdxj_core.specs.declared.limit.TheConstants.{LINE_LIMIT};
 
-use crate::body::{body_of, clean_text};
+use crate::body::{ascii_text, body_of, unescaped_text};
 use crate::field::Field;
-use crate::spans::{Spans, TO_STAMP, TO_STAMP_END, TO_URL};
+use crate::limit::LINE_LIMIT;
+use crate::spans::{Spans, TO_OBJECT, TO_STAMP, TO_STAMP_END, TO_URL};
 use cdxj_objects::{
-    CLOSE, MemberEnds, TO_DIGEST, TO_FILENAME, TO_LENGTH, TO_MIME, TO_OFFSET, TO_STATUS, cut_at,
-    cut_stamp, is_plain_text, or_missing, plain_offset, unescaped_texts,
+    CLOSE, TO_DIGEST, TO_FILENAME, TO_LENGTH, TO_MIME, TO_OFFSET, TO_STATUS, has_stamp,
+    is_plain_text, or_missing, place_of_either, plain_members,
 };
 use cdxj_places::Place;
 use std::marker::Model;
+
+const DELETE: u8 = 0x7f;
 
 /// A line's text, and where its parts stand in it.
 #[derive(Debug, Drop)]
@@ -34,12 +37,13 @@ impl<'a> Model for LineParts<'a> {
 }
 
 impl<'a> LineParts<'a> {
-    ghost use Rattle.std.specs.Prelude.{Some};
+    ghost use Rattle.std.specs.Prelude.{◌<◌, length, Some};
     ghost use Rattle.std.specs.List.{list_all};
+    ghost use Rattle.cdxj_objects.specs.Plain.{is_unescaped, is_unescaped_ascii};
     ghost use Rattle.json.specs.Run.{is_plain};
     ghost use Rattle.cdxj_places.specs.PlaceViews.{place_view};
     ghost use Rattle.cdxj_core.specs.declared.field.Field.{Field};
-    ghost use Rattle.cdxj_core.specs.Lines.{field_value};
+    ghost use Rattle.cdxj_core.specs.Lines.{body_of, field_value};
     ghost use Rattle.cdxj_core.specs.Members.{member_place, line_entry};
 
     /// Reads a plain line, with or without its line feed. It may decline any line, and takes no
@@ -48,28 +52,48 @@ impl<'a> LineParts<'a> {
     pub(crate) fn read(line: &'a [u8]) -> Option<LineParts<'a>>
         ensures { IfSome result (λ found. line_entry LINE_LIMIT line.now ≡ Some found) }
     {
+        LineParts::of_text(unescaped_text(body_of(line))?)
+    }
+
+    /// The same for a line of ASCII without controls and backslashes.
+    #[inline(always)]
+    pub(crate) fn read_unescaped(line: &'a [u8]) -> Option<LineParts<'a>>
+        requires { list_all is_unescaped_ascii (body_of line.now) ≡ true }
+        ensures { IfSome result (λ found. line_entry LINE_LIMIT line.now ≡ Some found) }
+    {
         let body = body_of(line);
-        let text = clean_text(body)?;
-        let (key, rest) = cut_at(text, b' ')?;
-        if key.is_empty() {
+        if body.len() >= LINE_LIMIT {
             return None;
         }
-        let (stamp, object) = cut_stamp(rest)?;
-        let texts = unescaped_texts(object)?;
-        let offset = plain_offset(texts)?;
-        let Ok(stamp) = <[u8; 14]>::try_from(stamp.as_bytes()) else {
+        LineParts::of_text(ascii_text(body))
+    }
+
+    /// Reads a plain line without its line feed, in which no byte is a control or a backslash. It may
+    /// decline any line.
+    #[inline(always)]
+    pub(crate) fn of_text(text: &'a str) -> Option<LineParts<'a>>
+        requires short { length text.now < LINE_LIMIT }
+        requires unescaped { list_all is_unescaped text.now ≡ true }
+        ensures { IfSome result (λ found. line_entry LINE_LIMIT text.now ≡ Some found) }
+    {
+        let bytes = text.as_bytes();
+        let key = place_of_either(bytes, 0, b' ', DELETE);
+        if key == 0 || !has_stamp(bytes, key + TO_STAMP) || bytes[key] != b' ' {
+            return None;
+        }
+        let Ok(stamp) = <[u8; 14]>::try_from(&bytes[key + TO_STAMP..key + TO_STAMP_END]) else {
             return None;
         };
-        let start = key.len() + TO_URL;
+        let members = plain_members(bytes, key + TO_OBJECT)?;
         Some(LineParts {
             text,
             spans: Spans {
                 size: text.len(),
-                key: key.len(),
+                key,
                 stamp,
-                offset,
-                start,
-                ends: MemberEnds::of(start, texts),
+                offset: members.offset,
+                start: key + TO_URL,
+                ends: members.ends,
             },
         })
     }

@@ -5,8 +5,10 @@ use cdxj_objects::{MemberEnds, OPEN};
 pub(crate) const TO_STAMP: usize = 1;
 
 pub(crate) const TO_STAMP_END: usize = 15;
+/// A space, the stamp and a space.
+pub(crate) const TO_OBJECT: usize = TO_STAMP_END + 1;
 /// A space, the stamp, a space, and what stands before the url.
-pub(crate) const TO_URL: usize = TO_STAMP_END + 1 + OPEN;
+pub(crate) const TO_URL: usize = TO_OBJECT + OPEN;
 
 /// Where the parts of a line stand in its text, as offsets in bytes from the text's start.
 ///

@@ -1,12 +1,16 @@
 -- From vectors that were compared to the fronts of lists.
-use Rattle.std.proofs.Common.{◌≡◌, ℕ, suc, ◌+◌, ◌≤◌, ◌%◌, ◌^◌, ◌||◌, Bool, not, cond, List, ◌∷◌}
-use Rattle.std.proofs.Common.{map, length, take, drop, bit_or, eqb, ltb, arith}
+use Rattle.std.proofs.Common.{◌≡◌, ℕ, suc, ◌+◌, ◌≤◌, ◌%◌, ◌^◌, ◌||◌, Bool, not, cond, List, [], ◌∷◌}
+use Rattle.std.proofs.Common.{◌-◌, ◌<◌, ◌∙◌, refl, ap, take_all, length-drop, map, length, take, drop, bit_or, eqb, ltb, arith}
 use Rattle.std.specs.Char.{is_ascii_digit}
 use Rattle.std.specs.List.{prefix_len}
 use Rattle.std.proofs.lemmas.List.{length-map}
 use Rattle.std.proofs.lemmas.Bool.Decides.{nat_tests}
-use Rattle.std.proofs.lemmas.Simd.{map-map, mask_l-mod}
-use lib.Lanes.{zip2, mask_l, top}
+use Rattle.std.specs.Int.{trailing_zeros, w64}
+use Rattle.std.proofs.lemmas.List.Folds.{prefix_len-append}
+use Rattle.std.proofs.lemmas.List.Sums.{prefix_len-le-length}
+use Rattle.std.proofs.lemmas.Simd.{chunk-drop, first_set_mask_l, length-chunk, map-map, mask_l-mod}
+use lib.Lanes.{chunk, zip2, mask_l, top}
+use Rattle.cdxj_objects.specs.Plain.{is_neither, is_unescaped_ascii}
 
 -- two numbers differ
 abbrev pub differ : ℕ → ℕ → Bool
@@ -22,6 +26,36 @@ pub front_behind : (p : ℕ → Bool) (k : ℕ) (xs : List ℕ) → k ≤ prefix
     prefix_len p xs
 front_behind p (suc k) (x ∷ xs) h = grind (arith, front_behind p k xs)
 front_behind p k xs h = grind arith
+
+-- ---- either of two bytes
+
+abbrev pub is_either : ℕ → ℕ → ℕ → Bool
+is_either first second x = eqb x first || eqb x second
+
+-- what a vector has for a byte, once it was compared with both
+abbrev pub either_lane : ℕ → ℕ → ℕ → ℕ
+either_lane first second x = bit_or (cond (eqb x first) 255 0) (cond (eqb x second) 255 0)
+
+either_tops : (first second : ℕ) (v : List ℕ) → map (λ x. top 7 (either_lane first second x)) v ≡ map
+    (is_either first second) v
+either_tops first second v = grind arith
+
+pub either_masks : (first second : ℕ) (v z : List ℕ) → length v ≡ 16 → z ≡ map (either_lane first second) v
+    → mask_l (map (top 7) z) % 2 ^ 64 ≡ mask_l (map (is_either first second) v)
+either_masks first second v z long e =
+    grind (
+      arith,
+      map-map,
+      either_tops,
+      mask_l-mod (map (is_either first second) v) 64 (omega (arith, length-map v (is_either first second), long)),
+    )
+
+neither : (first second x : ℕ) → not (is_either first second x) ≡ is_neither first second x
+neither first second x = grind arith
+
+pub either_runs : (first second : ℕ) (v : List ℕ) → prefix_len (λ x. not (is_either first second x)) v ≡ prefix_len
+    (is_neither first second) v
+either_runs first second v = λ i. prefix_len (λ x. neither first second x i) v
 
 -- ---- digits
 
@@ -45,3 +79,65 @@ digit x = grind (arith, nat_tests)
 
 pub digit_runs : (v : List ℕ) → prefix_len (λ x. not (no_digit x)) v ≡ prefix_len is_ascii_digit v
 digit_runs v = λ i. prefix_len (λ x. digit x i) v
+
+-- ---- bytes that need an escape, or are none of ASCII
+
+abbrev pub is_escaped : ℕ → Bool
+is_escaped x = (ltb x 32 || ltb 127 x) || eqb x 92
+
+-- what a vector has for a byte, once it was compared with all three
+abbrev pub escaped_lane : ℕ → ℕ
+escaped_lane x = bit_or (bit_or (cond (ltb x 32) 255 0) (cond (ltb 127 x) 255 0)) (cond (eqb x 92) 255 0)
+
+escaped_tops : (v : List ℕ) → map (λ x. top 7 (escaped_lane x)) v ≡ map is_escaped v
+escaped_tops v = grind arith
+
+pub escaped_masks : (v z : List ℕ) → length v ≡ 32 → z ≡ map escaped_lane v → mask_l (map (top 7) z) % 2 ^ 64 ≡ mask_l
+    (map is_escaped v)
+escaped_masks v z long e =
+    grind (arith, map-map, escaped_tops, mask_l-mod (map is_escaped v) 64 (omega (arith, length-map v is_escaped, long)))
+
+unescaped : (x : ℕ) → not (is_escaped x) ≡ is_unescaped_ascii x
+unescaped x = grind (arith, nat_tests)
+
+pub unescaped_runs : (v : List ℕ) → prefix_len (λ x. not (is_escaped x)) v ≡ prefix_len is_unescaped_ascii v
+unescaped_runs v = λ i. prefix_len (λ x. unescaped x i) v
+
+-- a mask is empty if no lane stops the run
+pub empty_mask : (p : ℕ → Bool) (v : List ℕ) → prefix_len (λ x. not (p x)) v ≡ length v → mask_l (map p v) ≡ 0
+empty_mask p [] h = refl
+empty_mask p (x ∷ xs) h = grind (arith, empty_mask p xs)
+
+pub escaped_first : (v z : List ℕ) → length v ≡ 32 → z ≡ map escaped_lane v
+    → (cond (eqb (mask_l (map (top 7) z) % 2 ^ 64) 0) 32 (trailing_zeros w64 (mask_l (map (top 7) z) % 2 ^ 64))
+    ≡ prefix_len is_unescaped_ascii v)
+    × (0 < mask_l (map (top 7) z) % 2 ^ 64 → trailing_zeros w64 (mask_l (map (top 7) z) % 2 ^ 64) < 32)
+escaped_first v z long e =
+    let mask = escaped_masks v z long e in
+    let first = first_set_mask_l is_escaped v 32 long (omega arith) in
+    let most = prefix_len-le-length (λ x. not (is_escaped x)) v in
+    (rw mask (first ∙ unescaped_runs v), rw mask (grind (arith, empty_mask is_escaped v)))
+
+-- ---- the run of bytes that pass a test, cut behind a vector
+
+pub run_ends : (p : ℕ → Bool) (i n : ℕ) (xs : List ℕ) → i + n ≤ length xs → prefix_len p (chunk i n xs) < n
+    → prefix_len p (drop i xs) ≡ prefix_len p (chunk i n xs)
+run_ends p i n xs room short =
+    let all = length-chunk i n xs room in
+    let cut = ap (prefix_len p) (chunk-drop i n xs) ∙ prefix_len-append p (chunk i n xs) (drop (i + n) xs) in
+    grind arith
+
+pub run_goes_on : (p : ℕ → Bool) (i n : ℕ) (xs : List ℕ) → i + n ≤ length xs → n ≤ prefix_len p (chunk i n xs)
+    → prefix_len p (drop i xs) ≡ n + prefix_len p (drop (i + n) xs)
+run_goes_on p i n xs room whole =
+    let all = length-chunk i n xs room in
+    let most = prefix_len-le-length p (chunk i n xs) in
+    let cut = ap (prefix_len p) (chunk-drop i n xs) ∙ prefix_len-append p (chunk i n xs) (drop (i + n) xs) in
+    grind arith
+
+-- the last vector of a text is all that is left of it
+pub last_run : (p : ℕ → Bool) (n : ℕ) (xs : List ℕ) → n ≤ length xs → length xs - n ≤ prefix_len p xs
+    → (length xs - n) + prefix_len p (chunk (length xs - n) n xs) ≡ prefix_len p xs
+last_run p n xs room before =
+    let whole = take_all n (drop (length xs - n) xs) (omega (arith, length-drop (length xs - n) xs)) in
+    grind (arith, front_behind p (length xs - n) xs)

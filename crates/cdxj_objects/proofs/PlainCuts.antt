@@ -1,18 +1,98 @@
--- A text cut at one of its bytes.
-use Rattle.std.proofs.Common.{◌≡◌, ℕ, suc, ◌+◌, ◌<◌, Bool, true, List, ◌∷◌, ◌++◌, length, take, drop, get_or}
-use Rattle.std.proofs.Common.{arith}
+-- A text cut at places.
+use Rattle.std.proofs.Common.{◌≡◌, ℕ, ◌+◌, ◌-◌, ◌<◌, ◌≤◌, ◌^◌, Bool, true, List, ◌∷◌, ◌++◌, length, take, drop, get_or}
+use Rattle.std.proofs.Common.{decimal, sym, arith, take-take}
+use Rattle.std.specs.Char.{is_ascii_digit}
 use Rattle.std.specs.List.{list_all, prefix_len}
-use Rattle.std.proofs.lemmas.List.{get_or-take}
+use Rattle.std.specs.Str.Parse.{digits_value}
+use Rattle.std.proofs.lemmas.Bool.Decides.{nat_tests}
+use Rattle.std.proofs.lemmas.Fmt.{decimal-digits_value}
+use Rattle.std.proofs.lemmas.List.{drop_more, drop-drop, get_or-drop, get_or-take, length-drop, length-take, take-append-drop}
 use Rattle.std.proofs.lemmas.List.Folds.{length-prefix_len}
-use Rattle.std.proofs.lemmas.List.Sums.{list_all-from_AllPass, prefix_len_passes}
+use Rattle.std.proofs.lemmas.List.Sums.{list_all-from_AllPass, prefix_len-le-length, prefix_len_passes}
+use Rattle.cdxj_places.proofs.Offsets.{own}
+use Rattle.cdxj_objects.specs.Plain.{is_neither, is_open}
+use Rattle.cdxj_objects.specs.PlainPlaces.{IsNumberAfter, IsTextAfter, part}
+use Rattle.cdxj_objects.proofs.PlainBytes.{weaker}
 
-cut_here : (xs : List ℕ) (i : ℕ) → i < length xs → xs ≡ take i xs ++ get_or xs i 0 ∷ drop (suc i) xs
-cut_here (x ∷ xs) (suc i) h = grind (arith, cut_here xs i)
-cut_here xs i h = grind arith
+-- what stands behind a front, up to a place and from there on
+pub behind : (text front : List ℕ) (at n end : ℕ) → take n (drop at text) ≡ front → at + n ≤ end → drop at text ≡ front
+    ++ (part text (at + n) end ++ drop end text)
+behind text front at n end same low =
+    let rest : drop (end - (at + n)) (drop (at + n) text) ≡ drop end text = grind (arith, drop-drop) in
+    grind (
+      arith,
+      take-append-drop n (drop at text),
+      drop-drop n at text,
+      take-append-drop (end - (at + n)) (drop (at + n) text),
+    )
 
-pub cut_at : (xs : List ℕ) (i : ℕ) → i < length xs → xs ≡ take i xs ++ get_or xs i 0 ∷ drop (i + 1) xs
-cut_at xs i h = grind (arith, cut_here)
+-- a text is cut at a byte
+pub cut_behind : (text : List ℕ) (at : ℕ) → at < length text → text ≡ take at text ++ get_or text at 0 ∷ drop (at + 1) text
+cut_behind text at within = grind (arith, take-append-drop, drop_more)
+
+open_byte : (b : ℕ) → is_neither 34 34 b ≡ true → is_open b ≡ true
+open_byte b h = grind arith
+
+digit_is_open : (b : ℕ) → is_ascii_digit b ≡ true → is_open b ≡ true
+digit_is_open b h = grind (arith, nat_tests, h)
 
 -- the front of bytes that pass a test passes it whole
 pub front_passes : (p : ℕ → Bool) (xs : List ℕ) → list_all p (take (prefix_len p xs) xs) ≡ true
 front_passes p xs = grind (arith, list_all-from_AllPass, length-prefix_len, get_or-take, prefix_len_passes)
+
+-- a text up to the first quote has none
+pub open_before : (text : List ℕ) (start end : ℕ) → end ≡ start + prefix_len (is_neither 34 34) (drop start text)
+    → list_all is_open (part text start end) ≡ true
+open_before text start end e =
+    let size : end - start ≡ prefix_len (is_neither 34 34) (drop start text) = omega arith in
+    grind (arith, front_passes (is_neither 34 34) (drop start text), weaker (is_neither 34 34) is_open open_byte)
+
+-- the digits that begin a text
+pub digits_before : (text : List ℕ) (n : ℕ) → n ≡ prefix_len is_ascii_digit (take 16 text) → n ≤ 16
+    → list_all is_ascii_digit (take n text) ≡ true
+digits_before text n e few = grind (arith, front_passes is_ascii_digit (take 16 text), take-take n 16 text)
+
+pub digits_open : (digits : List ℕ) → list_all is_ascii_digit digits ≡ true → list_all is_open digits ≡ true
+digits_open = weaker is_ascii_digit is_open digit_is_open
+
+-- digits without a leading zero are those of their number
+pub digits_decimal : (ds : List ℕ) → list_all is_ascii_digit ds ≡ true → 0 < length ds
+    → (get_or ds 0 0 ≡ 48 → length ds ≡ 1) → digits_value 10 ds < 2 ^ 64 → ds ≡ decimal (digits_value 10 ds)
+digits_decimal ds all some single small = sym (decimal-digits_value own ds all some single small)
+
+-- ---- what stands behind a front
+
+pub text_after : (text front : List ℕ) (at n end : ℕ) → take n (drop at text) ≡ front → at + n ≤ length text
+    → end ≡ at + n + prefix_len (is_neither 34 34) (drop (at + n) text) → IsTextAfter text at front (at + n) end
+text_after text front at n end same low e =
+    let room = length-drop (at + n) text in
+    let few = prefix_len-le-length (is_neither 34 34) (drop (at + n) text) in
+    record {
+      is = behind text front at n end same (omega arith);
+      no_quote = open_before text (at + n) end e;
+      order = omega arith;
+      inside = omega arith;
+    }
+
+pub number_after : (text front : List ℕ) (at n count number : ℕ) → take n (drop at text) ≡ front
+    → at + n + 16 ≤ length text → count ≡ prefix_len is_ascii_digit (take 16 (drop (at + n) text)) → 0 < count
+    → count < 16 → (get_or text (at + n) 0 ≡ 48 → count ≡ 1)
+    → number ≡ digits_value 10 (part text (at + n) (at + n + count)) → number < 2 ^ 63
+    → IsNumberAfter text at front (at + n) (at + n + count) number
+number_after text front at n count number same low e some few single value small =
+    let size : (at + n + count) - (at + n) ≡ count = omega arith in
+    let digits : list_all is_ascii_digit (part text (at + n) (at + n + count)) ≡ true =
+    rw size (digits_before (drop (at + n) text) count e (omega arith)) in
+    let long : length (part text (at + n) (at + n + count)) ≡ count = grind (arith, length-take, length-drop) in
+    let first : get_or (part text (at + n) (at + n + count)) 0 0 ≡ get_or text (at + n) 0 =
+    grind (arith, get_or-take, get_or-drop) in
+    record {
+      after = record {
+        is = behind text front at n (at + n + count) same (omega arith);
+        no_quote = digits_open (part text (at + n) (at + n + count)) digits;
+        order = omega arith;
+        inside = omega arith;
+      };
+      value = grind (arith, digits_decimal);
+      small = small;
+    }

@@ -1,14 +1,11 @@
 -- What a plain object is read as.
-use Rattle.std.proofs.Common.{◌≡◌, ℕ, true, List, [], ◌∷◌, ◌++◌, length, decimal}
-use Rattle.std.proofs.Common.{Some, get_or, append_assoc, flat_map, codes, refl, arith}
+use Rattle.std.proofs.Common.{◌≡◌, ℕ, true, List, [], ◌∷◌, ◌++◌}
+use Rattle.std.proofs.Common.{Some, append_assoc, flat_map, codes, refl, arith}
 use Rattle.std.specs.List.{list_all}
-use Rattle.std.proofs.lemmas.Fmt.{decimal-digits_value}
 use Rattle.json.specs.Print.{quoted, escape}
 use Rattle.json.specs.Run.{is_plain}
 use Rattle.json.proofs.Printed.Strings.{escape_byte_plain}
 use Rattle.serde_json.specs.Read.{read}
-use Rattle.cdxj_places.specs.Places.{offset_of}
-use Rattle.cdxj_places.proofs.Offsets.{own}
 use Rattle.cdxj_objects.specs.Names.{url_name, mime_name, status_name, digest_name, length_name, offset_name}
 use Rattle.cdxj_objects.specs.Names.{filename_name}
 use Rattle.cdxj_objects.specs.Objects.{member_text, object_text}
@@ -59,12 +56,6 @@ plain_text_is t h = grind (arith, object_is (first_of t) (later_of t))
 
 pub read_plain : (t : TextsValue) → ArePlain t → read (plain_text t) ≡ Some (data_of t)
 read_plain t h = grind (arith, plain_text_is, read_texts)
-
--- ---- the offset
-
-pub canonical_decimal : (ds : List ℕ) (n : ℕ) → offset_of ds ≡ Some n → (get_or ds 0 0 ≡ 48 → length ds ≡ 1)
-    → ds ≡ decimal n
-canonical_decimal ds n h single = grind (arith, decimal-digits_value own ds)
 
 -- ---- writing
 

@@ -1,15 +1,17 @@
 -- Where the texts of a plain object's members stand.
 use Rattle.std.proofs.Common.{◌≡◌, ℕ, zero, suc, ◌+◌, ◌-◌, ◌<◌, ◌≤◌, List, [], ◌∷◌, ◌++◌, drop, length, get_or}
-use Rattle.std.proofs.Common.{codes, ap, arith, length-append, length-drop, drop-drop, IsUtf8}
+use Rattle.std.proofs.Common.{codes, ap, arith, length-append, length-drop, length-take, drop-drop, IsUtf8}
 use Rattle.std.proofs.lemmas.Str.{IsCharBoundary-before_ascii, IsCharBoundary-after_ascii}
 use Rattle.std.proofs.Math.Seq.{take-append_seam, drop-append_seam}
 use Rattle.cdxj_objects.specs.declared.member_ends.MemberEnds.{MemberEnds}
+use Rattle.cdxj_objects.specs.declared.member_ends.PlainMembers.{PlainMembers}
 use Rattle.cdxj_objects.specs.declared.member_ends.TheConstants.{OPEN, TO_MIME, TO_STATUS, TO_DIGEST, TO_LENGTH}
 use Rattle.cdxj_objects.specs.declared.member_ends.TheConstants.{TO_OFFSET, TO_FILENAME, CLOSE}
 use Rattle.cdxj_objects.specs.Names.{url_name, mime_name, status_name, digest_name, length_name, offset_name}
 use Rattle.cdxj_objects.specs.Names.{filename_name}
-use Rattle.cdxj_objects.specs.Plain.{plain_text}
-use Rattle.cdxj_objects.specs.PlainPlaces.{AreEndsOf, AreParts, IsPartBetween, part, texts_at}
+use Rattle.cdxj_objects.specs.Plain.{first_front, later_front, plain_text}
+use Rattle.cdxj_objects.specs.PlainPlaces.{AreEndsOf, AreParts, ArePlainMembers, IsNumberAfter, IsPartBetween}
+use Rattle.cdxj_objects.specs.PlainPlaces.{IsTextAfter, part, texts_at}
 use Rattle.cdxj_objects.specs.Texts.{TextsValue}
 
 pub byte_at : (xs : List ℕ) (i b : ℕ) (ys : List ℕ) → drop i xs ≡ b ∷ ys → get_or xs i 0 ≡ b
@@ -83,3 +85,56 @@ module _ (text : List ℕ) (utf8 : IsUtf8 text) where
 
     pub texts_there : texts_at text start e ≡ t
     texts_there = there.1
+
+-- ---- the members of a plain object, one after another
+
+part_length : (text : List ℕ) (start end : ℕ) → end ≤ length text → length (part text start end) ≡ end - start
+part_length text start end high = grind (arith, length-take, length-drop)
+
+module _ (text : List ℕ) (object filename number : ℕ) (e : MemberEnds)
+    (url : IsTextAfter text object (first_front url_name) (object + OPEN) e.url)
+    (mime : IsTextAfter text e.url (34 ∷ later_front mime_name) (e.url + TO_MIME) e.mime)
+    (status : IsTextAfter text e.mime (34 ∷ later_front status_name) (e.mime + TO_STATUS) e.status)
+    (digest : IsTextAfter text e.status (34 ∷ later_front digest_name) (e.status + TO_DIGEST) e.digest)
+    (size : IsTextAfter text e.digest (34 ∷ later_front length_name) (e.digest + TO_LENGTH) e.length)
+    (offset : IsNumberAfter text e.length (34 ∷ later_front offset_name) (e.length + TO_OFFSET) e.offset number)
+    (name : IsTextAfter text e.offset (34 ∷ later_front filename_name) (e.offset + TO_FILENAME) filename)
+    (closed : drop filename text ≡ codes "\"}") (named : e.offset + TO_FILENAME < filename) where
+  last : length text - CLOSE ≡ filename
+  last = omega (arith, length-drop filename text, ap length closed, name.inside)
+
+  abbrev found : PlainMembers
+  found = record { ends = e; offset = number }
+
+  is_whole : drop object text ≡ plain_text (texts_at text (object + OPEN) e)
+  is_whole =
+      rw (last, url.is, mime.is, status.is, digest.is, size.is, offset.after.is, name.is, closed)
+
+  pub members_there : ArePlainMembers text object found
+  members_there = record {
+    is = is_whole;
+    no_quotes = record {
+      url = url.no_quote;
+      mime = mime.no_quote;
+      status = status.no_quote;
+      digest = digest.no_quote;
+      length = size.no_quote;
+      offset = offset.after.no_quote;
+      filename = rw last name.no_quote;
+    };
+    ends = record {
+      url = omega (arith, part_length text (object + OPEN) e.url url.inside, url.order);
+      mime = omega (arith, part_length text (e.url + TO_MIME) e.mime mime.inside, mime.order);
+      status = omega (arith, part_length text (e.mime + TO_STATUS) e.status status.inside, status.order);
+      digest = omega (arith, part_length text (e.status + TO_DIGEST) e.digest digest.inside, digest.order);
+      size = omega (arith, part_length text (e.digest + TO_LENGTH) e.length size.inside, size.order);
+      offset = omega (
+        arith,
+        part_length text (e.length + TO_OFFSET) e.offset offset.after.inside,
+        offset.after.order,
+      );
+    };
+    value = offset.value;
+    small = offset.small;
+    named = rw last (omega (arith, part_length text (e.offset + TO_FILENAME) filename name.inside));
+  }

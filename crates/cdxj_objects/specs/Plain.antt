@@ -1,6 +1,6 @@
 -- A plain object: seven members in the order and the spelling of a written line, with texts that
 -- stand between their quotes as they are.
-use Rattle.std.specs.Prelude.{◌≡◌, ℕ, ◌==◌, ◌&&◌, Bool, true, not, nat_le, List, ◌∷◌, ◌++◌, codes}
+use Rattle.std.specs.Prelude.{◌≡◌, ℕ, ◌==◌, ◌&&◌, Bool, true, not, nat_le, nat_lt, List, ◌∷◌, ◌++◌, codes}
 use Rattle.std.specs.List.{list_all}
 use Rattle.json.specs.Run.{is_plain}
 use Rattle.cdxj_places.specs.Bytes.{space, quote, backslash}
@@ -8,22 +8,21 @@ use Rattle.cdxj_objects.specs.Names.{url_name, mime_name, status_name, digest_na
 use Rattle.cdxj_objects.specs.Names.{filename_name}
 use Rattle.cdxj_objects.specs.Texts.{TextsValue, or_missing}
 
--- another byte
-abbrev pub is_other : ℕ → ℕ → Bool
-is_other byte b = not (b == byte)
-
--- a text is cut at the first of these bytes
-abbrev pub IsCutAtByte : ℕ → List ℕ → List ℕ → List ℕ → Type 0
-IsCutAtByte byte text front rest = (text ≡ front ++ byte ∷ rest)
-    × (list_all (is_other byte) front ≡ true)
+-- neither of two bytes
+abbrev pub is_neither : ℕ → ℕ → ℕ → Bool
+is_neither first second b = not (b == first) && not (b == second)
 
 -- no quote
 abbrev pub is_open : ℕ → Bool
-is_open = is_other quote
+is_open b = not (b == quote)
 
 -- no control and no backslash
 abbrev pub is_unescaped : ℕ → Bool
 is_unescaped b = nat_le space b && not (b == backslash)
+
+-- the same for a character of ASCII
+abbrev pub is_unescaped_ascii : ℕ → Bool
+is_unescaped_ascii b = is_unescaped b && nat_lt b 128
 
 -- no text has a quote
 pub record AreOpen (t : TextsValue) : Type 0 where

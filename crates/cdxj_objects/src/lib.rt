@@ -13,21 +13,23 @@ mod member_ends;
 mod member_value;
 mod member_values;
 mod members;
-mod offset;
 mod plain;
 mod plain_text;
 mod plain_writing;
 mod quoted_writing;
 mod spelling;
+mod unescaped;
 
 pub use crate::borrowed_members::{BorrowedMembers, or_missing};
 pub use crate::found_members::FoundMembers;
-pub use crate::lanes::{cut_at, cut_stamp};
+pub use crate::lanes::{has_stamp, place_of_either};
 pub use crate::member_ends::{
-    CLOSE, MemberEnds, OPEN, TO_DIGEST, TO_FILENAME, TO_LENGTH, TO_MIME, TO_OFFSET, TO_STATUS,
+    CLOSE, MemberEnds, OPEN, PlainMembers, TO_DIGEST, TO_FILENAME, TO_LENGTH, TO_MIME, TO_OFFSET,
+    TO_STATUS,
 };
-pub use crate::plain::{plain_offset, unescaped_texts};
+pub use crate::plain::plain_members;
 pub use crate::plain_text::is_plain_text;
 pub use crate::plain_writing::push_plain_object;
 pub use crate::quoted_writing::{push_escaped_object, push_quoted};
 pub use crate::spelling::spelled;
+pub use crate::unescaped::unescaped_length;

@@ -1,7 +1,4 @@
 //! Where the texts of a plain object's members end.
-ghost use Rattle.cdxj_objects.specs.MemberViews.{borrowed_view};
-
-use crate::borrowed_members::BorrowedMembers;
 use crate::members::{
     AFTER_FILENAME, BEFORE_DIGEST, BEFORE_FILENAME, BEFORE_LENGTH, BEFORE_MIME, BEFORE_OFFSET,
     BEFORE_STATUS, BEFORE_URL,
@@ -44,30 +41,9 @@ pub struct MemberEnds {
     pub offset: usize,
 }
 
-impl MemberEnds {
-    ghost use Rattle.std.specs.Prelude.{◌+◌, ◌<◌, ◌^◌, length};
-    ghost use Rattle.cdxj_objects.specs.Plain.{plain_text};
-    ghost use Rattle.cdxj_objects.specs.PlainPlaces.{AreEndsOf};
-
-    /// Returns the ends of these texts, the first of which begins at `start`.
-    #[inline(always)]
-    pub fn of(start: usize, texts: BorrowedMembers<'_>) -> MemberEnds
-        requires { start + length (plain_text (borrowed_view texts)) < 2 ^ 32 }
-        ensures { AreEndsOf start (borrowed_view texts.entry) result }
-    {
-        let url = start + texts.url.len();
-        let mime = url + TO_MIME + texts.mime.len();
-        let status = mime + TO_STATUS + texts.status.len();
-        let digest = status + TO_DIGEST + texts.digest.len();
-        let length = digest + TO_LENGTH + texts.length.len();
-        let offset = length + TO_OFFSET + texts.offset.len();
-        MemberEnds {
-            url,
-            mime,
-            status,
-            digest,
-            length,
-            offset,
-        }
-    }
+/// Where the texts of a plain object's members end, and its offset.
+#[derive(Clone, Copy, Debug, Drop)]
+pub struct PlainMembers {
+    pub ends: MemberEnds,
+    pub offset: u64,
 }

@@ -35,7 +35,7 @@ pub(crate) const BEFORE_FILENAME: &str = "\", \"filename\": \"";
 
 pub(crate) const AFTER_FILENAME: &str = "\"}";
 
-// The same from the comma on, filled up: a vector of 16 bytes is compared with each.
+// The same, filled up: a vector of 16 bytes is compared with each.
 
 pub(crate) const URL_FRONT: Front = Front {
     bytes: *b"{\"url\": \"       ",
@@ -43,31 +43,31 @@ pub(crate) const URL_FRONT: Front = Front {
 };
 
 pub(crate) const MIME_FRONT: Front = Front {
-    bytes: *b", \"mime\": \"     ",
-    length: BEFORE_MIME.len() - 1,
+    bytes: *b"\", \"mime\": \"    ",
+    length: BEFORE_MIME.len(),
 };
 
 pub(crate) const STATUS_FRONT: Front = Front {
-    bytes: *b", \"status\": \"   ",
-    length: BEFORE_STATUS.len() - 1,
+    bytes: *b"\", \"status\": \"  ",
+    length: BEFORE_STATUS.len(),
 };
 
 pub(crate) const DIGEST_FRONT: Front = Front {
-    bytes: *b", \"digest\": \"   ",
-    length: BEFORE_DIGEST.len() - 1,
+    bytes: *b"\", \"digest\": \"  ",
+    length: BEFORE_DIGEST.len(),
 };
 
 pub(crate) const LENGTH_FRONT: Front = Front {
-    bytes: *b", \"length\": \"   ",
-    length: BEFORE_LENGTH.len() - 1,
+    bytes: *b"\", \"length\": \"  ",
+    length: BEFORE_LENGTH.len(),
 };
 
 pub(crate) const OFFSET_FRONT: Front = Front {
-    bytes: *b", \"offset\": \"   ",
-    length: BEFORE_OFFSET.len() - 1,
+    bytes: *b"\", \"offset\": \"  ",
+    length: BEFORE_OFFSET.len(),
 };
 
 pub(crate) const FILENAME_FRONT: Front = Front {
-    bytes: *b", \"filename\": \" ",
-    length: BEFORE_FILENAME.len() - 1,
+    bytes: *b"\", \"filename\": \"",
+    length: BEFORE_FILENAME.len(),
 };

@@ -7,11 +7,14 @@ use crate::device::{DeviceFault, Input};
 use std::alloc::{AllocError, Global};
 use std::marker::Model;
 
-/// The number of bytes that one call requests from an input.
+/// The number of bytes that one call requests from a file, or from the source of an index.
 pub const PIECE: usize = 8192;
 
-/// Bytes that were read from an input and not yet consumed, at most [`PIECE`] of them. A buffer does not hold the
-/// input; each call that reads takes it.
+/// The number of bytes that one call requests from any other input.
+const ROOM: usize = 65_536;
+
+/// Bytes that were read from an input and not yet consumed, at most 65,536 of them. A buffer does not hold the input;
+/// each call that reads takes it.
 #[derive(Debug, Drop)]
 pub struct Buffer {
     bytes: Vec<u8>,
@@ -29,11 +32,11 @@ impl Model for Buffer {
 }
 
 impl Buffer {
-    /// Creates a buffer that holds nothing, with room for [`PIECE`] bytes. The only error is refused memory.
+    /// Creates a buffer that holds nothing, with room for 65,536 bytes. The only error is refused memory.
     pub fn new(alloc: Global) -> Result<Buffer, AllocError>
         ensures { IfOk result (λ b. b ≡ []) }
     {
-        let bytes = vec![in alloc; 0; PIECE]?;
+        let bytes = vec![in alloc; 0; ROOM]?;
         Ok(Buffer {
             bytes,
             from: 0,

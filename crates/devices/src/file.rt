@@ -4,6 +4,7 @@ ghost use Rattle.std.specs.Io.KnownBytes.{ReadConsumes, ConsumesCount};
 ghost use Rattle.devices.specs.Device.{CountsFailure};
 ghost use Rattle.devices.specs.Positions.{left_of, moved_on, size_left};
 
+use crate::buffer::PIECE;
 use crate::device::{DeviceFault, Input};
 use crate::positioned::Positioned;
 
@@ -46,10 +47,17 @@ impl<F: Positioned + Drop> FromFile<F> {
         Ok(FromFile {
             file,
             left,
-            next_read: usize::MAX,
+            next_read: usual_read(left),
             failures: 0,
         })
     }
+}
+
+/// Returns the maximum number of bytes of a read, if this many are left to skip.
+fn usual_read(left: u64) -> usize
+    ensures { 0 < result }
+{
+    if left == 0 { usize::MAX } else { PIECE }
 }
 
 /// Returns the size of a file, and sets the file to its start. Returns 0 if the file has no end to move to, or if its
@@ -79,7 +87,8 @@ impl<F: Positioned> Input for FromFile<F> {
 
     ghost failures = { file_failures };
 
-    /// Reads as many bytes as the file returns, but after a skip at most 2,048.
+    /// Reads at most [`PIECE`] bytes, and after a skip at most 2,048. If no byte is left to skip, as of a pipe, it reads
+    /// as many as the file returns.
     fn read(&mut self, piece: &mut [u8]) -> Result<usize, DeviceFault>
         ensures bound { IfOk result (λ n. n ≤ length piece.new) }
         ensures bytes { ReadConsumes (left_of (F.stream (file_of self.old)))
@@ -92,7 +101,7 @@ impl<F: Positioned> Input for FromFile<F> {
         match self.file.read_on(&mut piece[..most]) {
             Ok(count) => {
                 self.left = self.left.saturating_sub(count as u64);
-                self.next_read = usize::MAX;
+                self.next_read = usual_read(self.left);
                 Ok(count)
             }
             Err(_) => {

@@ -1,7 +1,10 @@
 //! The reading of lines into reused buffers.
-ghost use Rattle.std.specs.Prelude.{◌≡◌, ◌≢◌, ◌+◌, ◌<◌, ◌≤◌, ◌++◌, ◌∷◌, ℕ, List, [], length, drop, option_map, Some, None, MatchOption, MatchResult, IfOk, IfErr, OnOk};
+ghost use Rattle.std.specs.Prelude.{◌≡◌, ◌≢◌, ◌+◌, ◌<◌, ◌≤◌, ◌++◌, ◌∷◌, ℕ, List, [], true, length, drop, option_map, Some, None, MatchOption, MatchResult, IfOk, IfErr, OnOk};
 ghost use Rattle.source_core.specs.Device.{KeepsSource};
 ghost use Rattle.cdxj_core.specs.declared.limit.TheConstants.{LINE_LIMIT};
+ghost use Rattle.std.specs.List.{list_all};
+ghost use Rattle.cdxj_core.specs.Plain.{is_unescaped_ascii};
+ghost use Rattle.cdxj_core.specs.Lines.{body_of};
 ghost use Rattle.cdxj_core.specs.Members.{line_entry};
 ghost use Rattle.cdxj_places.specs.TextLines.{lines};
 ghost use Rattle.merge_core.specs.Failures.{CountsFeed};
@@ -25,15 +28,26 @@ fn boxed(alloc: Global, line: Line) -> Result<Box<Line>, LineFault>
     }
 }
 
-/// Returns the line of these bytes, in the buffer of a line that isn't needed any more if there is one.
+/// Returns the line of these bytes, in the buffer of a line that isn't needed any more if there is one. If `is_unescaped`,
+/// they are characters of ASCII other than controls and backslashes, but for the line feed.
 #[tactic(auto, using(crate::proofs::FeedLemmas::no_entry))]
-fn line_of(alloc: Global, spare: &mut Vec<Box<Line>>, bytes: &[u8]) -> Result<Box<Line>, LineFault>
+fn line_of(
+    alloc: Global,
+    spare: &mut Vec<Box<Line>>,
+    bytes: &[u8],
+    is_unescaped: bool,
+) -> Result<Box<Line>, LineFault>
+    requires { is_unescaped ≡ true → list_all is_unescaped_ascii (body_of bytes.now) ≡ true }
     ensures { MatchResult result (λ line. line_entry LINE_LIMIT bytes.now ≡ Some line.value)
         (λ fault. fault ≢ LineFault.Memory → line_entry LINE_LIMIT bytes.now ≡ None) }
 {
     match spare.pop() {
         Some(mut line) => {
-            line.refill(bytes)?;
+            if is_unescaped {
+                line.refill_unescaped(bytes)?;
+            } else {
+                line.refill(bytes)?;
+            }
             Ok(line)
         }
         None => boxed(alloc, Line::read(alloc, bytes)?),
@@ -109,9 +123,9 @@ impl Store {
             → IfErr result (IsFeedFaultAt LINE_LIMIT (lines (drop cursor.old.at t)) cursor.old.at) }
     {
         let begin = cursor.at();
-        if let Some(bytes) = cursor.held_line() {
+        if let Some((bytes, is_unescaped)) = cursor.held_line() {
             let size = bytes.len();
-            let read = line_of(self.alloc, &mut self.spare, bytes);
+            let read = line_of(self.alloc, &mut self.spare, bytes, is_unescaped);
             cursor.pass_line(source, size);
             return match read {
                 Ok(line) => Ok(Some(line)),
@@ -120,7 +134,7 @@ impl Store {
         }
         match cursor.next(source, &mut self.bytes) {
             Ok(false) => Ok(None),
-            Ok(true) => match line_of(self.alloc, &mut self.spare, &self.bytes) {
+            Ok(true) => match line_of(self.alloc, &mut self.spare, &self.bytes, false) {
                 Ok(line) => Ok(Some(line)),
                 Err(fault) => Err(fault_at(begin, fault)),
             },

@@ -1,8 +1,36 @@
 -- Lines that were read ahead.
-use Rattle.std.proofs.Common.{◌≡◌, ℕ, ◌+◌, List, [], ◌∷◌, length, take, drop, Option, Some, refl, arith}
+use Rattle.std.proofs.Common.{◌≡◌, ℕ, ◌+◌, ◌<◌, true, List, [], ◌∷◌, ◌++◌, length, take, drop, get_or, Option, Some, refl}
+use Rattle.std.proofs.Common.{ap, ◌∙◌, arith}
+use Rattle.std.specs.List.{list_all, prefix_len}
+use Rattle.std.proofs.lemmas.List.{take_more}
+use Rattle.cdxj_core.specs.Lines.{body_of}
+use Rattle.cdxj_core.proofs.EntryRead.{body_of-feed}
+use Rattle.cdxj_core.specs.Plain.{is_unescaped_ascii}
+use Rattle.cdxj_core.proofs.UnescapedAscii.{unescaped_front}
 use Rattle.cdxj_places.specs.TextLines.{lines}
 use Rattle.source_core.specs.Cursors.{CursorState, IsHeldLine, Stands}
+use Rattle.source_core.specs.LineParts.{NoFeed}
 use Rattle.source_core.proofs.Parts.{ended, given_more, given_out}
+
+no_feed : (xs : List ℕ) → list_all is_unescaped_ascii xs ≡ true → NoFeed xs
+no_feed [] h = tt
+no_feed (x ∷ xs) h = grind (arith, no_feed xs)
+
+-- a line feed ends the bytes of ASCII that are no control and no backslash
+pub unescaped_line : (held : List ℕ) (body : ℕ) → body ≡ prefix_len is_unescaped_ascii held → body < length held
+    → get_or held body 0 ≡ 10
+    → IsHeldLine held (body + 1) × (list_all is_unescaped_ascii (body_of (take (body + 1) held)) ≡ true)
+unescaped_line held body run inside feed =
+    let all : list_all is_unescaped_ascii (take body held) ≡ true = grind (arith, unescaped_front) in
+    let whole : take (body + 1) held ≡ take body held ++ 10 ∷ [] = grind (arith, take_more held body 0 inside) in (
+      record {
+        some = omega arith;
+        inside = omega arith;
+        part = (body, refl, no_feed (take body held) all, whole);
+      },
+      ap (λ line. list_all is_unescaped_ascii (body_of line)) whole
+          ∙ (ap (list_all is_unescaped_ascii) (body_of-feed (take body held)) ∙ all),
+    )
 
 module _ (text : Option (List ℕ)) (extent : ℕ) (c : CursorState) (size : ℕ) (h : Stands text extent c)
     (line : IsHeldLine c.ahead size) where

@@ -1,5 +1,5 @@
 //! The lines of a source, one after another.
-ghost use Rattle.std.specs.Prelude.{◌≡◌, ◌+◌, ◌<◌, ◌≤◌, ◌≢◌, ◌∷◌, ℕ, Option, List, length, take, drop, IfOk, IfErr, OnOk, MatchOption, IfSome, IfNone, Some};
+ghost use Rattle.std.specs.Prelude.{◌≡◌, ◌+◌, ◌<◌, ◌≤◌, ◌≢◌, ◌∷◌, ℕ, Option, List, true, length, take, drop, IfOk, IfErr, OnOk, MatchOption, IfSome, IfNone, Some};
 ghost use Rattle.source_core.specs.Device.{KeepsSource};
 ghost use Rattle.cdxj_core.specs.declared.limit.TheConstants.{LINE_LIMIT};
 
@@ -7,7 +7,7 @@ use crate::fault::LineReadFault;
 use crate::line_part::line_part;
 use crate::source::Source;
 use crate::window::Window;
-use cdxj_core::LINE_LIMIT;
+use cdxj_core::{LINE_LIMIT, unescaped_length};
 use devices::PIECE;
 use std::alloc::{AllocError, Global};
 use std::marker::Model;
@@ -39,6 +39,9 @@ impl Model for Cursor {
 }
 
 impl Cursor {
+    ghost use Rattle.std.specs.List.{list_all};
+    ghost use Rattle.cdxj_core.specs.Lines.{body_of};
+    ghost use Rattle.cdxj_core.specs.Plain.{is_unescaped_ascii};
     ghost use Rattle.source_core.specs.IndexLines.{lines, first_length, first_then, line_found};
     ghost use Rattle.source_core.specs.Cursors.{Filled, IsFresh, Stands, reach, CountsLineRead, IsHeldLine};
     ghost use Rattle.source_core.specs.Windows.{Holds};
@@ -88,15 +91,27 @@ impl Cursor {
         self.count
     }
 
-    /// Returns the next line, with its line feed, if all of it was read ahead.
-    pub fn held_line(&self) -> Option<&[u8]>
-        ensures line { IfSome result (λ l. (l.now ≡ take (length l.now) self.now.ahead)
-            × IsHeldLine self.now.ahead (length l.now)) }
+    /// Returns the next line, with its line feed, if all of it was read ahead. The second part is `true` if it consists of
+    /// characters of ASCII other than controls and backslashes, but for the line feed. It may be `false` for any line.
+    #[inline(always)]
+    pub fn held_line(&self) -> Option<(&[u8], bool)>
+        ensures line { IfSome result (λ l. (l.0.now ≡ take (length l.0.now) self.now.ahead)
+            × IsHeldLine self.now.ahead (length l.0.now)) }
         ensures none { IfNone result (NoFeed self.now.ahead) }
+        ensures unescaped { IfSome result
+            (λ l. l.1 ≡ true → list_all is_unescaped_ascii (body_of l.0.now) ≡ true) }
     {
         let held = self.window.from(self.at);
+        let body = unescaped_length(held);
+        if body < held.len() && held[body] == b'\n' {
+            return Some((&held[..body + 1], true));
+        }
         let (length, ends) = line_part(held);
-        if ends { Some(&held[..length]) } else { None }
+        if ends {
+            Some((&held[..length], false))
+        } else {
+            None
+        }
     }
 
     /// Goes on behind the next line, of `size` bytes, which [`Cursor::held_line`] returned.

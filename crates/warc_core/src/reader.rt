@@ -42,7 +42,7 @@ impl Reader {
     ghost use Rattle.warc_core.specs.ReaderView.{HasLeft, StandsAt, state_of};
     ghost use Rattle.warc_core.specs.Calls.{Finishes, GivesBlock, Fills, GoesNext, FinishesAndGoesNext};
 
-    /// Creates a reader at the start of an archive, with a buffer of 8,192 bytes.
+    /// Creates a reader at the start of an archive, with a buffer of 65,536 bytes.
     ///
     /// The only error is `Memory`, at offset 0.
     pub fn new(alloc: Global) -> Result<Reader, Fault>

@@ -1,0 +1,10 @@
+use Rattle.std.proofs.lemmas.Option.{IfSome_then}
+use Rattle.cdxj_core.specs.declared.limit.TheConstants.{LINE_LIMIT}
+use Rattle.cdxj_core.proofs.KeptLemmas.{line_of_text}
+use Rattle.cdxj_core.proofs.line_parts.LineParts.read_unescaped.Goals as goal
+
+pub returns : goal.returns
+returns c =
+    IfSome_then c.of_text.result c.of_text.ensures
+    (λ found. line_of_text LINE_LIMIT c.args.line.now c.body_of-body.result.now c.ascii_text.result.now found
+    c.ascii_text.ensures.value c.body_of-body.ensures c.ascii_text.ensures.unescaped)

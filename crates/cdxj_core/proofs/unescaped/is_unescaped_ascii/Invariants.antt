@@ -1,7 +1,0 @@
-use Rattle.std.proofs.Common.{◌≡◌, take}
-use Rattle.std.specs.List.{list_all}
-use Rattle.cdxj_core.specs.Clean.{is_unescaped_ascii}
-use Rattle.cdxj_core.proofs.unescaped.is_unescaped_ascii.Given as goal
-
-abbrev pub invariant-loop-byte : goal.invariant-loop-byte
-invariant-loop-byte l = l.good ≡ list_all is_unescaped_ascii (take l.byte-index l.text)

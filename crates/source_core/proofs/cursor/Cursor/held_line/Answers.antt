@@ -1,0 +1,17 @@
+use Rattle.std.proofs.Common.{◌≡◌, ◌+◌, length, take, refl, length-take, arith}
+use Rattle.source_core.proofs.HeldLines.{unescaped_line}
+use Rattle.source_core.proofs.cursor.Cursor.held_line.Goals as goal
+
+pub returns-then-held-body-eq10-clause-line : goal.returns-then-held-body-eq10-clause-line
+returns-then-held-body-eq10-clause-line c =
+    let held = c.from-held.result.now in
+    let body = c.unescaped_length-body.result in
+    let line = unescaped_line held body c.unescaped_length-body.ensures c.if-body-held.true c.if-held-body-eq10.true in
+    let size : length (take (body + 1) held) ≡ body + 1 = grind (arith, length-take) in
+    let there : c.args.self.now.ahead ≡ held = grind arith in
+    rw (size, there) (refl, line.0)
+
+pub returns-then-held-body-eq10-clause-unescaped : goal.returns-then-held-body-eq10-clause-unescaped
+returns-then-held-body-eq10-clause-unescaped c = λ _.
+    let line = unescaped_line c.from-held.result.now c.unescaped_length-body.result c.unescaped_length-body.ensures
+    c.if-body-held.true c.if-held-body-eq10.true in line.1
