@@ -1,0 +1,315 @@
+-- Sources and the feeds of a merge, while lines wait.
+use Rattle.std.specs.List.{AllZip, AllByRecursion}
+use Rattle.std.proofs.Common.{◌≡◌, ◌≢◌, ℕ, zero, suc, ◌+◌, ◌-◌, ◌<◌, ◌≤◌, List, [], ◌∷◌, ◌++◌, length, map, get_or, set}
+use Rattle.std.proofs.Common.{take, filter, Bool, true, false, Option, None, Some, MatchOption, option_map, refl, sym, ap}
+use Rattle.std.proofs.Common.{◌∙◌, arith, length-set, append-nil, take_all}
+use Rattle.std.specs.List.Sorted.{IsPermutation}
+use Rattle.std.proofs.lemmas.Bool.{not-true}
+use Rattle.std.proofs.lemmas.List.{get_or_default, nil_from_length, set-get_or, length-map}
+use Rattle.std.proofs.lemmas.List.Sorted.{length_permutation}
+use Rattle.cdxj_places.specs.Pairs.{Pair}
+use Rattle.cdxj_core.specs.Members.{Member, member_pair}
+use Rattle.source_core.specs.Cursors.{CursorState}
+use Rattle.merge_core.specs.declared.state.Merge.{Merge}
+use Rattle.merge_core.specs.WaitingLines.{WaitingLine, waiting_pair, waits_of}
+use Rattle.merge_core.specs.Feeds.{Aligned, AreFed, Fed, FedOf, Feed, done, feed_of, feeds, feeds_from, given, option_list, stays}
+use Rattle.merge_core.specs.Gathering.{IsDue, TookOf}
+use Rattle.merge_core.specs.PairOrders.{Alike}
+use Rattle.merge_core.proofs.FeedLemmas.{done_all}
+use Rattle.merge_core.proofs.GroupLemmas.{filter_all}
+use Rattle.cdxj_places.proofs.RisingLaws.{each_join}
+use Rattle.merge_core.proofs.HeapLemmas.{each_permuted, waits_here, waits_other, waits_permuted}
+use Rattle.merge_core.proofs.Many.{each_replaced}
+
+pub any_of : {X : Type 0} (xs : List X) (i : ℕ) → i < length xs → X
+any_of [] i l = absurd (omega arith)
+any_of (x ∷ xs) i l = x
+
+-- ---- lists beside each other
+
+pub zip_get : {A B : Type 0} (R : A → B → Type 0) (xs : List A) (ys : List B) (i : ℕ) (a : A) (b : B) → AllZip R xs ys
+    → i < length xs → R (get_or xs i a) (get_or ys i b)
+zip_get R (x ∷ xs) (y ∷ ys) zero a b h l = h.0
+zip_get R (x ∷ xs) (y ∷ ys) (suc i) a b h l = zip_get R xs ys i a b h.1 (omega arith)
+zip_get R xs ys i a b h l = grind arith
+
+pub zip_put : {A B : Type 0} (R : A → B → Type 0) (xs : List A) (ys : List B) (i : ℕ) (x : A) (y : B) → AllZip R xs ys
+    → R x y → AllZip R (set xs i x) (set ys i y)
+zip_put R (a ∷ xs) (b ∷ ys) (suc i) x y h r = (h.0, zip_put R xs ys i x y h.1 r)
+zip_put R xs ys i x y h r = grind arith
+
+-- ---- the feeds
+
+pub feeds_long : (n : ℕ) (cs : List CursorState) (ws : List WaitingLine) → length (feeds_from n cs ws) ≡ length cs
+feeds_long n [] ws = refl
+feeds_long n (c ∷ cs) ws = let h = feeds_long (n + 1) cs ws in omega arith
+
+pub cursors_of : (n : ℕ) (cs : List CursorState) (ws : List WaitingLine)
+    → map (λ (f : Feed). f.cursor) (feeds_from n cs ws) ≡ cs
+cursors_of n [] ws = refl
+cursors_of n (c ∷ cs) ws = ap (λ l. c ∷ l) (cursors_of (n + 1) cs ws)
+
+pub starts_of : (n : ℕ) (cs : List CursorState) (ws : List WaitingLine) → AllByRecursion (λ (c : CursorState). c.start ≡ 0) cs
+    → AllByRecursion (λ (f : Feed). f.cursor.start ≡ 0) (feeds_from n cs ws)
+starts_of n [] ws h = tt
+starts_of n (c ∷ cs) ws h = (h.0, starts_of (n + 1) cs ws h.1)
+
+feed_at : (n i m : ℕ) (cs : List CursorState) (ws : List WaitingLine) (c : CursorState) (b : Feed) → m ≡ n + i
+    → i < length cs → get_or (feeds_from n cs ws) i b ≡ feed_of (get_or cs i c) (waits_of m ws)
+feed_at n zero m (x ∷ cs) ws c b e l = grind arith
+feed_at n (suc i) m (x ∷ cs) ws c b e l = feed_at (n + 1) i m cs ws c b (omega arith) (omega arith)
+feed_at n i m [] ws c b e l = absurd (omega arith)
+
+-- where the waiting lines of all sources but one stay the same
+feeds_other : (n i : ℕ) (cs : List CursorState) (ws ws' : List WaitingLine) → i < n
+    → ((j : ℕ) → j ≢ i → waits_of j ws' ≡ waits_of j ws) → feeds_from n cs ws' ≡ feeds_from n cs ws
+feeds_other n i [] ws ws' l same = refl
+feeds_other n i (c ∷ cs) ws ws' l same = grind (arith, feeds_other (n + 1) i cs ws ws' (omega arith) same)
+
+feeds_set : (n i m : ℕ) (cs : List CursorState) (ws ws' : List WaitingLine) (c : CursorState) → m ≡ n + i
+    → ((j : ℕ) → j ≢ m → waits_of j ws' ≡ waits_of j ws)
+    → feeds_from n (set cs i c) ws' ≡ set (feeds_from n cs ws) i (feed_of c (waits_of m ws'))
+feeds_set n zero m (x ∷ cs) ws ws' c e same = grind (arith, feeds_other)
+feeds_set n (suc i) m (x ∷ cs) ws ws' c e same =
+    let here = same n (λ q. absurd (omega arith)) in
+    let rest = feeds_set (n + 1) i m cs ws ws' c (omega arith) same in
+    grind arith
+feeds_set n i m [] ws ws' c e same = refl
+
+pub feeds_push : (n m : ℕ) (cs : List CursorState) (ws ws' : List WaitingLine) (c : CursorState) → m ≡ n + length cs
+    → ((j : ℕ) → j ≢ m → waits_of j ws' ≡ waits_of j ws)
+    → feeds_from n (cs ++ c ∷ []) ws' ≡ feeds_from n cs ws ++ feed_of c (waits_of m ws') ∷ []
+feeds_push n m [] ws ws' c e same = grind arith
+feeds_push n m (x ∷ cs) ws ws' c e same =
+    let here = same n (λ q. absurd (omega arith)) in
+    let rest = feeds_push (n + 1) m cs ws ws' c (omega arith) same in
+    grind arith
+
+-- at most one line of each waits
+abbrev pub AreFew : List Feed → Type 0
+AreFew = AllByRecursion (λ f. length f.waits ≤ 1)
+
+pub feeds_permuted : (n : ℕ) (cs : List CursorState) (ws ws' : List WaitingLine) → IsPermutation ws ws'
+    → AreFew (feeds_from n cs ws) → feeds_from n cs ws' ≡ feeds_from n cs ws
+feeds_permuted n [] ws ws' p few = refl
+feeds_permuted n (c ∷ cs) ws ws' p few =
+    let here = waits_permuted n ws ws' p few.0 in
+    let rest = feeds_permuted (n + 1) cs ws ws' p few.1 in
+    grind arith
+
+pub few_of_fed : (limit : ℕ) (past : List ℕ → Bool) {S : Type 0} (text : S → Option (List ℕ)) (extent : S → ℕ) (ss : List S)
+    (fs : List Feed) → AreFed limit past text extent ss fs → AreFew fs
+few_of_fed limit past text extent (s ∷ ss) (f ∷ fs) h = (h.0.few, few_of_fed limit past text extent ss fs h.1)
+few_of_fed limit past text extent ss fs h = grind arith
+
+-- ---- one source, of which a line waits
+
+-- none of its lines waits
+abbrev pub idle : Feed → Feed
+idle f = feed_of f.cursor []
+
+module _ {limit : ℕ} {past : List ℕ → Bool} {text : Option (List ℕ)} {extent : ℕ} {f : Feed} {m : Member}
+    (fed : Fed limit past text extent f) (one : f.waits ≡ m ∷ []) where
+  module _ (t : List ℕ) (e : text ≡ Some t) where
+    its_front : AllByRecursion (λ m. stays past m ≡ true) (take (f.cursor.count - 1) (given limit t f.cursor))
+    its_front = (fed.told t e).within
+
+    its_last : given limit t f.cursor ≡ take (f.cursor.count - 1) (given limit t f.cursor) ++ m ∷ []
+    its_last = rw one at (fed.told t e).last
+
+    its_stays : stays past m ≡ true
+    its_stays = (rw one at (fed.told t e).waiting).0
+
+    all_stay : AllByRecursion (λ m. stays past m ≡ true) (given limit t f.cursor)
+    all_stay = rw its_last (each_join (λ m. stays past m ≡ true) _ (m ∷ []) its_front (its_stays, tt))
+
+    done_front : done limit past t f ≡ take (f.cursor.count - 1) (given limit t f.cursor)
+    done_front = rw one (filter_all (stays past) _ its_front)
+
+    -- then it counts as taken
+    done_idle : done limit past t (idle f) ≡ done limit past t f ++ m ∷ []
+    done_idle = done_all limit past t f.cursor (fed.told t e).as_many all_stay ∙ its_last ∙ ap (λ l. l ++ m ∷ []) (sym done_front)
+
+  fed_idle : Fed limit past text extent (idle f)
+  fed_idle = record {
+    stands = fed.stands;
+    few = omega arith;
+    counted = omega arith;
+    told = λ t e.
+        let was = fed.told t e in
+        let whole = take_all f.cursor.count (given limit t f.cursor) (grind (arith, length-map)) in
+        record {
+          begins = was.begins;
+          stood = was.stood;
+          as_many = was.as_many;
+          run = was.run;
+          last = grind (arith, append-nil);
+          within = was.within;
+          waiting = tt;
+        };
+  }
+
+-- ---- all sources
+
+module _ {limit : ℕ} {past : List ℕ → Bool} {S : Type 0} {text : S → Option (List ℕ)} {extent : S → ℕ} {ss : List S}
+    {m : Merge} (was : Aligned limit past text extent ss m) where
+  few : AreFew (feeds m)
+  few = few_of_fed limit past text extent ss (feeds m) was.fed
+
+  pub fed_at : (i : ℕ) (a : S) (b : Feed) → i < length ss
+      → Fed limit past (text (get_or ss i a)) (extent (get_or ss i a)) (get_or (feeds m) i b)
+  fed_at i a b l = zip_get (λ s f. Fed limit past (text s) (extent s) f) ss (feeds m) i a b was.fed l
+
+  pub waits_at : (i : ℕ) (b : Feed) → i < length ss → (get_or (feeds m) i b).waits ≡ waits_of i m.queue
+  waits_at i b l =
+      let same = was.same in
+      let c = any_of m.cursors.items i (omega arith) in
+      ap (λ (f : Feed). f.waits) (feed_at 0 i i m.cursors.items m.queue c b (omega arith) (omega arith))
+
+  pub few_wait : (i : ℕ) → i < length ss → length (waits_of i m.queue) ≤ 1
+  few_wait i l =
+      let b : Feed = feed_of (any_of m.cursors.items i (let same = was.same in omega arith)) [] in
+      rw (waits_at i b l) at (fed_at i (any_of ss i l) b l).few
+
+  pub aligned_set : (i : ℕ) (s : S) (f : Feed) (m' : Merge) → feeds m' ≡ set (feeds m) i f
+      → length m'.cursors.items ≡ length m.cursors.items
+      → AllByRecursion (λ (v : WaitingLine). v.source < length m.cursors.items) m'.queue
+      → Fed limit past (text s) (extent s) f → Aligned limit past text extent (set ss i s) m'
+  aligned_set i s f m' is long placed fed = record {
+    same = grind (arith, length-set, was.same);
+    placed = rw long placed;
+    fed = rw is (zip_put (λ s f. Fed limit past (text s) (extent s) f) ss (feeds m) i s f was.fed fed);
+  }
+
+-- the first in turn is taken out
+module _ {limit : ℕ} {past : List ℕ → Bool} {S : Type 0} {text : S → Option (List ℕ)} {extent : S → ℕ} {ss : List S}
+    {m : Merge} (m' : Merge) {w : WaitingLine} (was : Aligned limit past text extent ss m)
+    (same : m'.cursors.items ≡ m.cursors.items) (p : IsPermutation m.queue (w ∷ m'.queue)) where
+  placed : AllByRecursion (λ (v : WaitingLine). v.source < length m.cursors.items) (w ∷ m'.queue)
+  placed = each_permuted (λ (v : WaitingLine). v.source < length m.cursors.items) m.queue (w ∷ m'.queue) p was.placed
+
+  pub inside_sources : w.source < length ss
+  inside_sources = let l = placed.0 in let same = was.same in omega arith
+
+  waits_now : waits_of w.source m.queue ≡ w.member ∷ waits_of w.source m'.queue
+  waits_now = sym (waits_permuted w.source m.queue (w ∷ m'.queue) p (few_wait was w.source inside_sources))
+      ∙ waits_here w.source w m'.queue refl
+
+  pub none_left : waits_of w.source m'.queue ≡ []
+  none_left =
+      let few = few_wait was w.source inside_sources in
+      let now = waits_now in
+      grind (arith, nil_from_length)
+
+  its_one : (b : Feed) → (get_or (feeds m) w.source b).waits ≡ w.member ∷ []
+  its_one b = waits_at was w.source b inside_sources ∙ waits_now ∙ ap (λ l. w.member ∷ l) none_left
+
+  pub popped_feeds : (b : Feed) → feeds m' ≡ set (feeds m) w.source (idle (get_or (feeds m) w.source b))
+  popped_feeds b =
+      let i = w.source in
+      let cs = m.cursors.items in
+      let c = any_of cs i placed.0 in
+      let all = feeds_permuted 0 cs m.queue (w ∷ m'.queue) p (few was) in
+      let here = feed_at 0 i i cs m.queue c b (omega arith) placed.0 in
+      let now = feeds_set 0 i i cs (w ∷ m'.queue) m'.queue (get_or cs i c) (omega arith)
+      (λ j q. sym (waits_other j w m'.queue (λ e. absurd (omega arith)))) in
+      let still = set-get_or cs i c in
+      let none = none_left in
+      grind arith
+
+  pub popped_aligned : Aligned limit past text extent ss m'
+  popped_aligned =
+      let i = w.source in
+      let a : S = any_of ss i inside_sources in
+      let b : Feed = feed_of (any_of m.cursors.items i placed.0) [] in
+      rw (set-get_or ss i a) at (aligned_set was i (get_or ss i a) (idle (get_or (feeds m) i b)) m' (popped_feeds b)
+      (ap length same) placed.1 (fed_idle (fed_at was i a b inside_sources) (its_one b)))
+
+  pub popped : {pair : Pair} {group : List Member} (b : Feed) → Alike (waiting_pair w) pair
+      → TookOf limit past text pair w.source ss ss (feeds m) (feeds m') group (group ++ w.member ∷ [])
+  popped b at =
+      let i = w.source in
+      let a : S = any_of ss i inside_sources in
+      let fed = fed_at was i a b inside_sources in
+      record {
+        source = get_or ss i a;
+        feed = idle (get_or (feeds m) i b);
+        source_is = sym (set-get_or ss i a);
+        feeds_are = popped_feeds b;
+        text_is = λ x. ap text (get_or_default ss i a x inside_sources);
+        taken = w.member ∷ [];
+        rest_is = refl;
+        alike = (at, tt);
+        done_is = λ d t e.
+            let here = get_or_default (feeds m) i d b (let l = placed.0 in let n = feeds_long 0 m.cursors.items m.queue in omega arith) in
+            rw here (done_idle fed (its_one b) t e);
+      }
+
+  pub popped_due : {pair : Pair} (a : S) (b : Feed) → Alike (waiting_pair w) pair
+      → IsDue limit past pair (text (get_or ss w.source a)) (idle (get_or (feeds m) w.source b))
+  popped_due a b at = record {
+    none = refl;
+    last = λ t e.
+        let fed = fed_at was w.source a b inside_sources in
+        (_, w.member, its_last fed (its_one b) t e, at, not-true _ (its_stays fed (its_one b) t e));
+  }
+
+-- the lines of a source with the pair of a group were taken, and the next one waits
+module _ {limit : ℕ} {past : List ℕ → Bool} {S : Type 0} {text : S → Option (List ℕ)} {extent : S → ℕ} {ss : List S}
+    {m : Merge} {i : ℕ} (was : Aligned limit past text extent ss m) (inside : i < length ss) (b : Feed)
+    (none : (get_or (feeds m) i b).waits ≡ []) where
+  none_waits_here : waits_of i m.queue ≡ []
+  none_waits_here = sym (waits_at was i b inside) ∙ none
+
+  pub idle_here : (c : CursorState) → c ≡ get_or m.cursors.items i c → get_or (feeds m) i b ≡ feed_of c []
+  idle_here c is =
+      let same = was.same in
+      let here = feed_at 0 i i m.cursors.items m.queue c b (omega arith) (omega arith) in
+      let none = none_waits_here in
+      grind arith
+
+  -- only its cursor has moved
+  pub moved_feeds : (m' : Merge) (c : CursorState) → m'.cursors.items ≡ set m.cursors.items i c → m'.queue ≡ m.queue
+      → feeds m' ≡ set (feeds m) i (feed_of c [])
+  moved_feeds m' c cursors e =
+      let none = none_waits_here in
+      let now = feeds_set 0 i i m.cursors.items m.queue m.queue c (omega arith) (λ j q. refl) in
+      grind arith
+
+  module _ {B : Type 0} (value : B → Member) (m' : Merge) (c : CursorState)
+      (cursors : m'.cursors.items ≡ set m.cursors.items i c) where
+    abbrev pub Waited : Option B → Type 0
+    Waited o = MatchOption o (m'.queue ≡ m.queue)
+        (λ x. IsPermutation (record { member = value x; source = i } ∷ m.queue) m'.queue)
+
+    pub waited_feeds : (o : Option B) → Waited o
+        → feeds m' ≡ set (feeds m) i (feed_of c (option_list (option_map value o)))
+    waited_feeds None e = moved_feeds m' c cursors e
+    waited_feeds (Some x) p =
+        let w : WaitingLine = record { member = value x; source = i } in
+        let none = none_waits_here in
+        let now = feeds_set 0 i i m.cursors.items m.queue (w ∷ m.queue) c (omega arith)
+        (λ j q. waits_other j w m.queue (λ e. absurd (omega arith))) in
+        let here : waits_of i (w ∷ m.queue) ≡ value x ∷ [] = rw (← none) (waits_here i w m.queue refl) in
+        let few_now : AreFew (feeds_from 0 (set m.cursors.items i c) (w ∷ m.queue)) =
+        rw (now, here) (few_set (feeds m) (few was)) in
+        let same = feeds_permuted 0 (set m.cursors.items i c) (w ∷ m.queue) m'.queue p few_now in
+        grind arith
+      where
+        few_set : (fs : List Feed) → AreFew fs → AreFew (set fs i (feed_of c (value x ∷ [])))
+        few_set fs h = each_replaced (λ (f : Feed). length f.waits ≤ 1) fs i _ h (omega arith)
+
+    pub waited_aligned : (s : S) (o : Option B) → Waited o
+        → Fed limit past (text s) (extent s) (feed_of c (option_list (option_map value o)))
+        → Aligned limit past text extent (set ss i s) m'
+    waited_aligned s o h fed =
+        aligned_set was i s _ m' (waited_feeds o h) (rw cursors (length-set m.cursors.items i c)) (placed o h) fed
+      where
+        placed : (o : Option B) → Waited o → AllByRecursion (λ (v : WaitingLine). v.source < length m.cursors.items) m'.queue
+        placed None e = rw e was.placed
+        placed (Some x) p =
+            let same = was.same in
+            each_permuted (λ (v : WaitingLine). v.source < length m.cursors.items) (record { member = value x; source = i } ∷ m.queue) m'.queue p (omega arith, was.placed)
+
+    pub waited_length : (o : Option B) → Waited o → length m'.queue ≡ length m.queue + length (option_list (option_map value o))
+    waited_length o p = grind (arith, length_permutation)
