@@ -44,10 +44,10 @@ pub feeds_long : (n : ℕ) (cs : List CursorState) (ws : List WaitingLine) → l
 feeds_long n [] ws = refl
 feeds_long n (c ∷ cs) ws = let h = feeds_long (n + 1) cs ws in omega arith
 
-pub cursors_of : (n : ℕ) (cs : List CursorState) (ws : List WaitingLine)
-    → map (λ (f : Feed). f.cursor) (feeds_from n cs ws) ≡ cs
-cursors_of n [] ws = refl
-cursors_of n (c ∷ cs) ws = ap (λ l. c ∷ l) (cursors_of (n + 1) cs ws)
+pub counts_of : (n : ℕ) (cs : List CursorState) (ws : List WaitingLine)
+    → map (λ (f : Feed). f.cursor.count) (feeds_from n cs ws) ≡ map (λ (c : CursorState). c.count) cs
+counts_of n [] ws = refl
+counts_of n (c ∷ cs) ws = ap (λ l. c.count ∷ l) (counts_of (n + 1) cs ws)
 
 pub starts_of : (n : ℕ) (cs : List CursorState) (ws : List WaitingLine) → AllByRecursion (λ (c : CursorState). c.start ≡ 0) cs
     → AllByRecursion (λ (f : Feed). f.cursor.start ≡ 0) (feeds_from n cs ws)

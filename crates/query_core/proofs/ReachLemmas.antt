@@ -1,6 +1,6 @@
 -- What was read of indexes, beside the reach of a page.
 use Rattle.std.proofs.Common.{◌≡◌, ℕ, zero, suc, ◌≤◌, List, [], ◌∷◌, ◌++◌, length, map, filter, zip, Bool, true, false}
-use Rattle.std.proofs.Common.{not, Option, Some, refl, ap, arith, min, ◌-◌, ◌^◌, append_assoc}
+use Rattle.std.proofs.Common.{not, Option, Some, refl, sym, ap, arith, min, ◌-◌, ◌^◌, append_assoc}
 use Rattle.std.proofs.Common.{append-nil, nat_cmp, is_gt, is_lt, ◌∙◌}
 use Rattle.std.specs.List.{AllByRecursion, sum, AllZip}
 use Rattle.std.specs.Cmp.Lexicographic.{slice_cmp}
@@ -22,11 +22,10 @@ use Rattle.query_text.specs.Queries.{QueryValue}
 use Rattle.query_text.specs.Targets.{TargetValue}
 use Rattle.query_text.specs.Matching.{begins, covers, is_past}
 use Rattle.page_core.proofs.PageLaws.{each_kept}
-use Rattle.std.proofs.lemmas.Simd.{map-map}
 use Rattle.source_core.specs.Cursors.{CursorState}
 use Rattle.merge_core.specs.Feeds.{Feed, feeds}
 use Rattle.merge_core.proofs.RunLemmas.{none_wait}
-use Rattle.merge_core.proofs.StateLemmas.{cursors_of, feeds_long}
+use Rattle.merge_core.proofs.StateLemmas.{counts_of, feeds_long}
 use Rattle.merge_core.specs.PairOrders.{Alike, IsAbove, IsUpto, Upto, is_low}
 use Rattle.merge_core.specs.WaitingLines.{waiting_pair}
 use Rattle.merge_core.specs.Collections.{Known, OverIndexes, OverTexts, collection}
@@ -42,7 +41,7 @@ use Rattle.merge_core.proofs.MergeLemmas.{is_less}
 use Rattle.merge_core.proofs.RunLemmas.{parts_are, parts_count, took_of_parts}
 use Rattle.merge_core.proofs.TakenLemmas.{taken_first, taken_whole}
 use Rattle.merge_core.proofs.SpendLemmas.{are_read_to}
-use Rattle.merge_core.proofs.WholeLemmas.{texts_kept}
+use Rattle.merge_core.proofs.WholeLemmas.{all_kept}
 use Rattle.query_text.proofs.RangeLaw.{past_upward}
 use Rattle.query_core.proofs.AskedLemmas.{captures}
 use Rattle.query_core.specs.PageWriting.{is_wanted, place_before}
@@ -167,8 +166,8 @@ module _ {S : Type 0} {text : S → Option (List ℕ)} {extent gave : S → ℕ}
       grind (arith, length_zip)
 
   kept_now : map text r.sources ≡ map text olds
-  kept_now = texts_kept text extent gave r.opened r.sources (feeds r.begun) (feeds r.merge) long_before as_long
-      r.reached.moved ∙ r.start.kept
+  kept_now =
+      (all_kept text extent gave r.opened r.begun r.sources r.merge r.start.same as_long r.reached.moved).0 ∙ r.start.kept
 
   -- what sources gave that were read up to the bound
   pub gave_upto : (bound : Option Pair) (earlier : List Member) (news : List S) (fs : List Feed) → Cuts bound earlier
@@ -192,8 +191,9 @@ module _ {S : Type 0} {text : S → Option (List ℕ)} {extent gave : S → ℕ}
 
   module _ (lines : ℕ) (counted : lines ≡ min (sum (map (λ (c : CursorState). c.count) r.merge.cursors.items)) (2 ^ 64 - 1)) where
     -- the same count, by feeds
-    many : sum (map (λ (c : CursorState). c.count) r.merge.cursors.items) ≡ sum (map (λ (f : Feed). f.cursor.count) (feeds r.merge))
-    many = ap sum (rw (← cursors_of 0 r.merge.cursors.items r.merge.queue) (map-map _ _ (feeds r.merge)))
+    many : sum (map (λ (c : CursorState). c.count) r.merge.cursors.items)
+        ≡ sum (map (λ (f : Feed). f.cursor.count) (feeds r.merge))
+    many = ap sum (sym (counts_of 0 r.merge.cursors.items r.merge.queue))
 
     -- no more lines were read than are in reach, and one of each index
     pub lines_within : (earlier : List Member) → Cuts r.bound earlier → ReadFor q (map text olds) earlier lines

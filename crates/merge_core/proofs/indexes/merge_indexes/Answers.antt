@@ -28,7 +28,7 @@ use Rattle.merge_core.proofs.StateLemmas.{feeds_long, starts_of}
 use Rattle.merge_core.proofs.TakenLemmas.{taken_first}
 use Rattle.source_core.proofs.SortedCuts.{none_below_least}
 use Rattle.merge_core.proofs.SourceLemmas.{taken_lines}
-use Rattle.merge_core.proofs.WholeLemmas.{are_read, all_lines_are, its_lines, told_known, texts_kept, extents_kept}
+use Rattle.merge_core.proofs.WholeLemmas.{all_kept, all_lines_are, are_read, its_lines, told_known}
 use Rattle.merge_core.proofs.WholeLemmas.{starts_kept}
 use Rattle.merge_core.proofs.indexes.merge_indexes.Given.{Over}
 use Rattle.merge_core.proofs.indexes.merge_indexes.Goals.{After-merge, In_err-merge, In_ok-merge}
@@ -108,13 +108,10 @@ kept_long g c = grind arith
 kept : (g : Over) (c : After-merge g) → KeepsSources g.S.Source.text g.S.Source.extent c.args.sources.now c.merge.new.sources
 kept g c =
     let opened = c.in_ok-opened.ensures in
-    let texts = texts_kept g.S.Source.text g.S.Source.extent g.S.Source.gave c.open_at.new.sources c.merge.new.sources
-    (feeds c.in_ok-opened.opened.merge) (feeds c.merge.new.merge) (long_before g c) (kept_long g c)
+    let all = all_kept g.S.Source.text g.S.Source.extent g.S.Source.gave c.open_at.new.sources
+    c.in_ok-opened.opened.merge c.merge.new.sources c.merge.new.merge opened.ready.aligned.same (kept_long g c)
     c.merge.ensures.moved in
-    let extents = extents_kept g.S.Source.text g.S.Source.extent g.S.Source.gave c.open_at.new.sources
-    c.merge.new.sources (feeds c.in_ok-opened.opened.merge) (feeds c.merge.new.merge) (long_before g c) (kept_long g c)
-    c.merge.ensures.moved in
-    (texts ∙ opened.text, extents ∙ opened.extent)
+    (all.0 ∙ opened.text, all.1 ∙ opened.extent)
 
 -- each byte of each source was given at most once
 once : (g : Over) (c : After-merge g) → AllGaveOnce g.S.Source.extent g.S.Source.gave c.args.sources.now

@@ -13,7 +13,7 @@ use Rattle.merge_core.specs.Collections.{OverIndexes, all_lines}
 use Rattle.merge_core.specs.Counts.{ShareAtMost}
 use Rattle.merge_core.specs.Gathering.{Grouped}
 use Rattle.merge_core.specs.Reached.{Reached}
-use Rattle.merge_core.proofs.WholeLemmas.{texts_kept}
+use Rattle.merge_core.proofs.WholeLemmas.{all_kept}
 use Rattle.std.proofs.lemmas.Slice.Zip.{AllZip-long}
 use Rattle.merge_core.specs.Feeds.{feeds}
 use Rattle.merge_core.proofs.Many.{Move, length_zip, moved_trans, moved_still}
@@ -105,17 +105,15 @@ pub returns-in_err-first : goal.returns-in_err-first
 returns-in_err-first g c =
     let came = c.loop-rest.invariant.came in
     let text = g.S.Source.text in let extent = g.S.Source.extent in
-    let before : length c.args.sources.now ≡ length (feeds c.args.merge.now) =
-    let same = c.requires.ready.aligned.same in grind (arith, feeds_long) in
     let long : length c.loop-rest.sources ≡ length c.args.sources.now =
     let all = AllZip-long (Move text extent g.S.Source.gave) _ _ came.reached.moved in
     let same = came.reached.ready.aligned.same in grind (arith, length_zip, feeds_long) in
-    let texts = texts_kept text extent g.S.Source.gave c.args.sources.now c.loop-rest.sources (feeds c.args.merge.now)
-    (feeds c.loop-rest.merge) before long came.reached.moved in
+    let kept = all_kept text extent g.S.Source.gave c.args.sources.now c.args.merge.now c.loop-rest.sources
+    c.loop-rest.merge c.requires.ready.aligned.same long came.reached.moved in
     record {
       moved = moved_trans text extent g.S.Source.gave _ _ _ came.reached.moved c.gather.ensures.moved;
       failures = grind arith;
-      fault = let fault = rw texts at c.gather.ensures.fault in grind arith;
+      fault = let fault = rw kept.0 at c.gather.ensures.fault in grind arith;
       most_lines = rw c.gather.ensures.most_lines c.loop-rest.invariant.most_lines;
       passed = grind arith;
       broke = on_err _ _ _ c.from_residual.ensures.1 (broken_there came refl);

@@ -3,7 +3,8 @@ use Rattle.std.proofs.Common.{◌≡◌, Bool, true, false, refl, sym, ◌∙◌
 use Rattle.std.proofs.lemmas.List.{length-map}
 use Rattle.std.proofs.lemmas.Result.{err_from_is_err_and}
 use Rattle.query_core.proofs.ConversionLemmas.{merge_line}
-use Rattle.merge_core.proofs.WholeLemmas.{extents_kept, texts_kept}
+use Rattle.merge_core.proofs.WholeLemmas.{all_kept}
+use Rattle.merge_core.specs.Collections.{KeepsSources}
 use Rattle.devices.proofs.DeviceLemmas.{grows_not}
 use Rattle.query_core.proofs.CaptureLemmas.{captures_append}
 use Rattle.query_core.proofs.PageOfIndexes.{Opened, reading, told, wanted_whole}
@@ -13,16 +14,24 @@ use Rattle.merge_core.specs.Feeds.{feeds}
 use Rattle.query_core.specs.Passes.{ReadFor, WantedMore}
 use Rattle.cdxj_core.specs.Members.{Member}
 use Rattle.query_core.proofs.pass.read_lines.Given.{Over}
-use Rattle.query_core.proofs.pass.read_lines.Goals.{In_ok-opened}
+use Rattle.query_core.proofs.pass.read_lines.Goals.{After-merge, In_ok-opened}
 use Rattle.query_core.proofs.pass.read_lines.Goals as goal
 
 -- ---- what is kept, and failures
 
+kept : (g : Over) (c : After-merge g)
+    → KeepsSources g.S.Source.text g.S.Source.extent c.args.sources.now c.merge.new.sources
+kept g c =
+    let all = all_kept g.S.Source.text g.S.Source.extent g.S.Source.gave c.open_at.new.sources
+    c.in_ok-opened.opened.merge c.merge.new.sources c.merge.new.merge c.in_ok-opened.ensures.ready.aligned.same
+    (omega arith) c.merge.ensures.moved in
+    (all.0 ∙ c.open_at.ensures.text, all.1 ∙ c.open_at.ensures.extent)
+
 pub returns-in_err-all-clause-kept : goal.returns-in_err-all-clause-kept
-returns-in_err-all-clause-kept g c = grind (arith, texts_kept, extents_kept)
+returns-in_err-all-clause-kept g c = kept g (goal.at.returns-in_err-all-clause-kept g c).After-merge
 
 pub returns-clause-kept : goal.returns-clause-kept
-returns-clause-kept g c = grind (arith, texts_kept, extents_kept)
+returns-clause-kept g c = kept g (goal.at.returns-clause-kept g c).After-merge
 
 pub returns-in_err-opened-clause-fault : goal.returns-in_err-opened-clause-fault
 returns-in_err-opened-clause-fault g c = grind (arith, err_from_is_err_and, merge_line)
