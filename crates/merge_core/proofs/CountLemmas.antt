@@ -2,7 +2,7 @@
 use Rattle.std.proofs.lemmas.List.{take-map, take-take, length-map, map-append, nil_from_length}
 use Rattle.std.specs.List.{AllZip, AllByRecursion, sum}
 use Rattle.std.proofs.Common.{◌≡◌, ℕ, zero, suc, ◌+◌, ◌<◌, ◌≤◌, List, [], ◌∷◌, length, take, drop, map, filter, Bool}
-use Rattle.std.proofs.Common.{true, false, not, Option, Some, refl, ap, arith, length-append, ◌-◌, zip, length-take}
+use Rattle.std.proofs.Common.{true, false, not, Option, Some, refl, ap, arith, length-append, zip, length-take}
 use Rattle.merge_core.proofs.Filters.{filter_fewer, filter_weaker, filter_front, filter_back, each_both, each_take}
 use Rattle.std.proofs.lemmas.List.Elements.{filter-append}
 use Rattle.cdxj_places.specs.Pairs.{Pair}

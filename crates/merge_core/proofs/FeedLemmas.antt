@@ -70,9 +70,9 @@ last_passes : {X : Type 0} (test : X → Bool) (us vs : List X) → length vs �
 last_passes test us [] h each = inl (grind (arith, filter-append, filter_all, append-nil))
 last_passes test us (v ∷ []) h each = (elim (test v) as (λ b. test v ≡ b → (filter test (us ++ v ∷ []) ≡ us)
     ⊎ (filter test (us ++ v ∷ []) ≡ us ++ v ∷ [])) [
-  | true ↦ (λ e. inr (grind (arith, filter-append, filter_all)))
-  | false ↦ (λ e. inl (grind (arith, filter-append, filter_all, append-nil)))
-]) refl
+      | true ↦ (λ e. inr (grind (arith, filter-append, filter_all)))
+      | false ↦ (λ e. inl (grind (arith, filter-append, filter_all, append-nil)))
+    ]) refl
 last_passes test us (v ∷ w ∷ vs) h each = absurd (omega arith)
 
 -- how many of n lines were taken, of which w wait

@@ -74,7 +74,7 @@ module _ {S : Type 0} {limit : ℕ} {text : S → Option (List ℕ)} {past : Lis
   at = grind (arith, each_rising, place_cmp_total)
 
   pub told_here : AreTold text old → AreTold text ss0
-  told_here = 
+  told_here =
       let many : length ss0 ≡ length (feeds m0) = let same = was.ready.aligned.same in grind (arith, feeds_long) in
       told_moved text extent gave old ss0 (feeds begun) (feeds m0) many was.moved
 

@@ -1,5 +1,5 @@
 -- Each byte of a source is given at most once.
-use Rattle.std.proofs.Common.{arith, ◌≡◌, ℕ, ◌+◌, List, [], ◌∷◌, Bool, Option, length, map, zip}
+use Rattle.std.proofs.Common.{arith, ◌≡◌, ℕ, List, [], ◌∷◌, Bool, Option, length, map, zip}
 use Rattle.std.specs.List.{AllZip}
 use Rattle.merge_core.specs.Feeds.{AreFed, Feed}
 use Rattle.merge_core.specs.Spending.{AllGaveOnce, CameOnce}

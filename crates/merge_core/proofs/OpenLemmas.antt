@@ -1,5 +1,5 @@
 -- The opening of sources, one after another.
-use Rattle.std.proofs.Common.{◌≡◌, ◌≢◌, ℕ, zero, suc, ◌+◌, ◌<◌, List, [], ◌∷◌, ◌++◌, length, set, zip, map, take, Bool}
+use Rattle.std.proofs.Common.{◌≡◌, ℕ, suc, ◌+◌, ◌<◌, List, [], ◌∷◌, ◌++◌, length, set, zip, map, take, Bool}
 use Rattle.std.proofs.Common.{inl, ◌≤◌, drop, filter, ◌∙◌, Option, None, Some, MatchOption, refl, arith, length-append}
 use Rattle.std.specs.List.{AllByRecursion, AllZip, sum}
 use Rattle.std.proofs.lemmas.List.Sums.{sum-map, sum_by_push}

@@ -1,7 +1,7 @@
 -- What was taken of sources of any bytes, beside the lines that were read of them.
 use Rattle.std.specs.List.{AllByRecursion, AllZip, sum}
 use Rattle.std.proofs.Common.{◌≡◌, ℕ, ◌+◌, List, [], ◌∷◌, length, drop, map, filter, Bool, true, Option, Some}
-use Rattle.std.proofs.Common.{refl, ap, arith, take-append-drop, append_assoc}
+use Rattle.std.proofs.Common.{refl, arith, take-append-drop, append_assoc}
 use Rattle.std.proofs.lemmas.List.{length-map, nil_from_length}
 use Rattle.std.proofs.lemmas.List.Sums.{sum_by-cons}
 use Rattle.cdxj_places.specs.Pairs.{Pair}

@@ -1,5 +1,5 @@
 -- The lines that were taken of sources are lines of theirs.
-use Rattle.std.proofs.Common.{◌≡◌, ◌⊎◌, inl, inr, ℕ, suc, ◌+◌, List, [], ◌∷◌, ◌++◌, length, take, arith, map, Bool}
+use Rattle.std.proofs.Common.{◌≡◌, ◌⊎◌, inl, inr, ℕ, suc, List, [], ◌∷◌, ◌++◌, length, take, arith, map, Bool}
 use Rattle.std.proofs.Common.{Option, Some, refl}
 use Rattle.std.proofs.lemmas.Slice.Zip.{AllZip-long}
 use Rattle.std.specs.List.{AllByRecursion}
@@ -87,7 +87,7 @@ module _ (limit : ℕ) where
             let texts = texts_kept text extent gave ss0 ss (feeds m0) (feeds m) before long reached.moved in
             let told_now = told_moved text extent gave ss0 ss (feeds m0) (feeds m) now reached.moved told in
             rw ((reached.handed.told told).0, ← texts)
-                (each_rising member_place place_cmp place_cmp_total (IsLineOf limit (map text ss)) _ (all_lines_of past ss (feeds m) told_now aligned.fed))
+            (each_rising member_place place_cmp place_cmp_total (IsLineOf limit (map text ss)) _ (all_lines_of past ss (feeds m) told_now aligned.fed))
         | inr f ↦ each_weaker f taken reached.handed.entries
       ];
     }

@@ -1,18 +1,18 @@
 -- Sources and the feeds of a merge, while lines wait.
 use Rattle.std.specs.List.{AllZip, AllByRecursion}
 use Rattle.std.proofs.Common.{◌≡◌, ◌≢◌, ℕ, zero, suc, ◌+◌, ◌-◌, ◌<◌, ◌≤◌, List, [], ◌∷◌, ◌++◌, length, map, get_or, set}
-use Rattle.std.proofs.Common.{take, filter, Bool, true, false, Option, None, Some, MatchOption, option_map, refl, sym, ap}
+use Rattle.std.proofs.Common.{take, Bool, true, Option, None, Some, MatchOption, option_map, refl, sym, ap}
 use Rattle.std.proofs.Common.{◌∙◌, arith, length-set, append-nil, take_all}
 use Rattle.std.specs.List.Sorted.{IsPermutation}
 use Rattle.std.proofs.lemmas.Bool.{not-true}
 use Rattle.std.proofs.lemmas.List.{get_or_default, nil_from_length, set-get_or, length-map}
 use Rattle.std.proofs.lemmas.List.Sorted.{length_permutation}
 use Rattle.cdxj_places.specs.Pairs.{Pair}
-use Rattle.cdxj_core.specs.Members.{Member, member_pair}
+use Rattle.cdxj_core.specs.Members.{Member}
 use Rattle.source_core.specs.Cursors.{CursorState}
 use Rattle.merge_core.specs.declared.state.Merge.{Merge}
 use Rattle.merge_core.specs.WaitingLines.{WaitingLine, waiting_pair, waits_of}
-use Rattle.merge_core.specs.Feeds.{Aligned, AreFed, Fed, FedOf, Feed, done, feed_of, feeds, feeds_from, given, option_list, stays}
+use Rattle.merge_core.specs.Feeds.{Aligned, AreFed, Fed, Feed, done, feed_of, feeds, feeds_from, given, option_list, stays}
 use Rattle.merge_core.specs.Gathering.{IsDue, TookOf}
 use Rattle.merge_core.specs.PairOrders.{Alike}
 use Rattle.merge_core.proofs.FeedLemmas.{done_all}

@@ -1,6 +1,6 @@
 -- Sources of which all lines were read: each that tells its bytes is an index, and all its lines are done.
 use Rattle.std.specs.List.{AllZip, AllByRecursion}
-use Rattle.std.proofs.Common.{◌≡◌, ℕ, ◌+◌, List, [], ◌∷◌, length, map, Bool, false, true, Option, Some}
+use Rattle.std.proofs.Common.{◌≡◌, ℕ, List, [], ◌∷◌, length, map, Bool, false, true, Option, Some}
 use Rattle.std.proofs.Common.{refl, not, sym, drop, inl, inr, flat_map, zip, ap, ◌∙◌, arith, length-drop}
 use Rattle.std.specs.Option.{is_some}
 use Rattle.std.proofs.lemmas.List.{nil_from_length, take_all}

@@ -15,7 +15,6 @@ use Rattle.merge_core.specs.Gathering.{Grouped}
 use Rattle.merge_core.specs.Reached.{Reached}
 use Rattle.merge_core.proofs.WholeLemmas.{all_kept}
 use Rattle.std.proofs.lemmas.Slice.Zip.{AllZip-long}
-use Rattle.merge_core.specs.Feeds.{feeds}
 use Rattle.merge_core.proofs.Many.{Move, length_zip, moved_trans, moved_still}
 use Rattle.merge_core.proofs.StateLemmas.{feeds_long}
 use Rattle.merge_core.proofs.CountLemmas.{held_most}

@@ -1,4 +1,4 @@
-use Rattle.std.proofs.Common.{◌≡◌, ℕ, ◌+◌, ◌*◌, ◌≤◌, [], List, Some, None, Option, Box, Global, MatchOption, option_map, arith}
+use Rattle.std.proofs.Common.{◌≡◌, ℕ, ◌+◌, ◌*◌, ◌≤◌, [], List, Some, Box, Global, option_map, arith}
 use Rattle.source_core.specs.Cursors.{reach}
 use Rattle.source_core.specs.IndexLines.{lines, longest}
 use Rattle.cdxj_core.specs.declared.limit.TheConstants.{LINE_LIMIT}

@@ -1,5 +1,5 @@
 use Rattle.std.proofs.lemmas.List.{map-append}
-use Rattle.std.proofs.Common.{[], subst, ◌≡◌, Some, ◌+◌, ◌∷◌, Box, Global, List, get_or, set, map}
+use Rattle.std.proofs.Common.{[], ◌≡◌, Some, ◌+◌, ◌∷◌, Box, Global, List, map}
 use Rattle.std.proofs.Common.{refl, sym, ap, ◌∙◌, arith}
 use Rattle.std.proofs.lemmas.Cmp.{tied_itself}
 use Rattle.std.proofs.lemmas.List.Sorted.{IsPermutation-sym}
@@ -11,7 +11,7 @@ use Rattle.cdxj_core.specs.Members.{Member, member_pair}
 use Rattle.merge_core.specs.declared.state.Merge.{Merge}
 use Rattle.merge_core.specs.PairOrders.{Upto}
 use Rattle.merge_core.specs.WaitingLines.{WaitingLine, waiting_pair}
-use Rattle.merge_core.specs.Feeds.{AreSettled, Feed, feed_of, feeds}
+use Rattle.merge_core.specs.Feeds.{AreSettled, feeds}
 use Rattle.merge_core.specs.Gathering.{AreTold, all_done}
 use Rattle.merge_core.specs.Spending.{AreReadTo}
 use Rattle.merge_core.proofs.PairOrder.{upto_itself}

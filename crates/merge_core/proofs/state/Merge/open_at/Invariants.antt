@@ -1,5 +1,5 @@
 use Rattle.std.specs.List.{AllZip, AllByRecursion, sum}
-use Rattle.std.proofs.Common.{◌≡◌, ◌<◌, ◌≤◌, [], length, map, take, drop, zip}
+use Rattle.std.proofs.Common.{◌≡◌, ◌≤◌, [], length, map, take, drop, zip}
 use Rattle.cdxj_core.specs.declared.limit.TheConstants.{LINE_LIMIT}
 use Rattle.source_core.specs.Cursors.{CursorState}
 use Rattle.source_core.specs.Halving.{digits}

@@ -1,5 +1,5 @@
 use Rattle.std.specs.List.{AllByRecursion}
-use Rattle.std.proofs.Common.{◌≡◌, ℕ, List, [], Some, None, Box, Global, length, map, option_map, set, get_or, refl, arith}
+use Rattle.std.proofs.Common.{◌≡◌, [], Some, Box, Global, length, option_map, set, get_or, refl, arith}
 use Rattle.std.specs.Vec.{with_item}
 use Rattle.std.proofs.lemmas.List.{get_or_default}
 use Rattle.cdxj_core.specs.declared.limit.TheConstants.{LINE_LIMIT}
