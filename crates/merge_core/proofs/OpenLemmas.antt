@@ -19,7 +19,7 @@ use Rattle.source_core.specs.IndexLines.{BeginsAfter, first_length}
 use Rattle.cdxj_places.specs.TextLines.{lines}
 use Rattle.merge_core.specs.Gathering.{text_or}
 use Rattle.merge_core.proofs.HeapLemmas.{each_permuted, waits_here, waits_other}
-use Rattle.merge_core.proofs.StateLemmas.{AreFew, feeds_permuted, feeds_push, few_of_fed}
+use Rattle.merge_core.proofs.StateLemmas.{feeds_added, few_of_fed, placed_queued}
 
 -- none of a later source waits
 waits_none : (n : ℕ) (ws : List WaitingLine) → AllByRecursion (λ (w : WaitingLine). w.source < n) ws → waits_of n ws
@@ -37,62 +37,30 @@ module _ {limit : ℕ} {past : List ℕ → Bool} {S : Type 0} {text : S → Opt
     {m m' : Merge} (was : Ready limit past text extent ss m) {s : S} {IsCursor : CursorState → Type 0}
     (added : AddedSource limit past (text s) (extent s) IsCursor m m') where
   abbrev pub its_feed : Feed
-  its_feed = feed_of added.cursor (option_list added.first)
-
-  none_before : waits_of (length m.cursors.items) m.queue ≡ []
-  none_before = waits_none (length m.cursors.items) m.queue was.aligned.placed
+  its_feed = feed_of added.cursor added.first
 
   pub added_feeds : feeds m' ≡ feeds m ++ its_feed ∷ []
-  added_feeds = go added.first added.waits
-    where
-      go : (o : Option Member) → MatchOption o (m'.queue ≡ m.queue)
-          (λ x. IsPermutation (record { member = x; source = length m.cursors.items } ∷ m.queue) m'.queue)
-          → feeds m' ≡ feeds m ++ feed_of added.cursor (option_list o) ∷ []
-      go None e =
-          let none = none_before in
-          let now = feeds_push 0 (length m.cursors.items) m.cursors.items m.queue m.queue added.cursor (omega arith)
-          (λ j q. refl) in
-          let is = added.cursors_are in
-          grind arith
-      go (Some x) p =
-          let w : WaitingLine = record { member = x; source = length m.cursors.items } in
-          let none = none_before in
-          let now = feeds_push 0 (length m.cursors.items) m.cursors.items m.queue (w ∷ m.queue) added.cursor
-          (omega arith) (λ j q. waits_other j w m.queue (λ e. absurd (omega arith))) in
-          let here : waits_of w.source (w ∷ m.queue) ≡ x ∷ [] = rw (← none) (waits_here w.source w m.queue refl) in
-          let few = few_of_fed limit past text extent ss (feeds m) was.aligned.fed in
-          let few_now : AreFew (feeds_from 0 (m.cursors.items ++ added.cursor ∷ []) (w ∷ m.queue)) =
-          rw (now, here) (each_join (λ (f : Feed). length f.waits ≤ 1) (feeds m) (feed_of added.cursor (x ∷ []) ∷ [])
-          few (omega arith, tt)) in
-          let same = feeds_permuted 0 (m.cursors.items ++ added.cursor ∷ []) (w ∷ m.queue) m'.queue p few_now in
-          let is = added.cursors_are in
-          grind arith
+  added_feeds =
+      let none = waits_none (length m.cursors.items) m.queue was.aligned.placed in
+      rw added.cursors_are (feeds_added m.cursors.items m.queue m'.queue added.cursor added.first none added.fed.few
+      added.queue_is (few_of_fed limit past text extent ss (feeds m) was.aligned.fed))
 
   pub ready_added : Ready limit past text extent (ss ++ s ∷ []) m'
   ready_added =
       let same = was.aligned.same in
-      let is = added.cursors_are in
-      let long : length m'.cursors.items ≡ length m.cursors.items + 1 = grind (arith, length-append) in
+      let n = length m.cursors.items in
+      let long : length m'.cursors.items ≡ n + 1 = rw added.cursors_are (length-append m.cursors.items (added.cursor ∷ [])) in
       record {
         aligned = record {
           same = grind (arith, length-append);
-          placed = placed long added.first added.waits;
+          placed = rw long (placed_queued (n + 1) n m.queue m'.queue added.first (omega arith)
+              (each_weaker (λ v h. omega arith) m.queue was.aligned.placed) added.queue_is);
           fed = rw added_feeds (zip_push_each (λ s f. Fed limit past (text s) (extent s) f) ss (feeds m) s its_feed
               was.aligned.fed added.fed);
         };
         settled = rw added_feeds (zip_push_each (λ s f. IsSettled limit past (text s) f) ss (feeds m) s its_feed
             was.settled added.settled);
       }
-    where
-      placed : length m'.cursors.items ≡ length m.cursors.items + 1 → (o : Option Member)
-          → MatchOption o (m'.queue ≡ m.queue)
-          (λ x. IsPermutation (record { member = x; source = length m.cursors.items } ∷ m.queue) m'.queue)
-          → AllByRecursion (λ (v : WaitingLine). v.source < length m'.cursors.items) m'.queue
-      placed long None e = rw e (each_weaker (λ v h. omega arith) m.queue was.aligned.placed)
-      placed long (Some x) p =
-          each_permuted (λ (v : WaitingLine). v.source < length m'.cursors.items)
-          (record { member = x; source = length m.cursors.items } ∷ m.queue) m'.queue p
-          (omega arith, each_weaker (λ v h. omega arith) m.queue was.aligned.placed)
 
 -- ---- the first line of a source
 

@@ -37,26 +37,12 @@ IsUpward past = (key later : List ℕ) → past key ≡ true → is_gt (slice_cm
 
 -- ---- filters of what rises
 
--- Of lines that rise, what is wanted stands among those that pass a test which what is wanted passes
-module _ (wanted test : Member → Bool) (passes : (m : Member) → wanted m ≡ true → test m ≡ true) where
-  pub none_wanted : (xs : List Member) → AllByRecursion (λ m. test m ≡ false) xs
-      → filter wanted (rising member_place place_cmp xs) ≡ []
-  none_wanted xs h = grind (arith, filter_none, each_weaker, each_rising, place_cmp_total)
-
 pub wanted_parts : (wanted low : Member → Bool) → IsLower member_place place_cmp low → (xs : List Member)
     → filter wanted (rising member_place place_cmp xs)
     ≡ filter wanted (rising member_place place_cmp (filter low xs))
     ++ filter wanted (rising member_place place_cmp (filter (λ m. not (low m)) xs))
 wanted_parts wanted low lower xs = ap (filter wanted) (rising_split member_place place_cmp place_cmp_total low lower xs)
     ∙ filter-append wanted _ _
-
--- the first lines
-pub wanted_low : (wanted low : Member → Bool) → IsLower member_place place_cmp low
-    → ((m : Member) → wanted m ≡ true → low m ≡ true)
-    → (xs : List Member) → filter wanted (rising member_place place_cmp xs)
-    ≡ filter wanted (rising member_place place_cmp (filter low xs))
-wanted_low wanted low lower passes xs =
-    grind (arith, wanted_parts wanted low lower xs, none_wanted, filter_out, append-nil)
 
 -- the last lines
 pub wanted_high : (wanted low : Member → Bool) → IsLower member_place place_cmp low

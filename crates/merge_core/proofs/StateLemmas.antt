@@ -2,7 +2,7 @@
 use Rattle.std.specs.List.{AllZip, AllByRecursion}
 use Rattle.std.proofs.Common.{◌≡◌, ◌≢◌, ℕ, zero, suc, ◌+◌, ◌-◌, ◌<◌, ◌≤◌, List, [], ◌∷◌, ◌++◌, length, map, get_or, set}
 use Rattle.std.proofs.Common.{take, Bool, true, Option, None, Some, MatchOption, option_map, refl, sym, ap}
-use Rattle.std.proofs.Common.{◌∙◌, arith, length-set, append-nil, take_all}
+use Rattle.std.proofs.Common.{◌∙◌, arith, length-set, length-append, append-nil, take_all}
 use Rattle.std.specs.List.Sorted.{IsPermutation}
 use Rattle.std.proofs.lemmas.Bool.{not-true}
 use Rattle.std.proofs.lemmas.List.{get_or_default, nil_from_length, set-get_or, length-map}
@@ -11,14 +11,14 @@ use Rattle.cdxj_places.specs.Pairs.{Pair}
 use Rattle.cdxj_core.specs.Members.{Member}
 use Rattle.source_core.specs.Cursors.{CursorState}
 use Rattle.merge_core.specs.declared.state.Merge.{Merge}
-use Rattle.merge_core.specs.WaitingLines.{WaitingLine, waiting_pair, waits_of}
+use Rattle.merge_core.specs.WaitingLines.{WaitingLine, queued, waiting_pair, waits_of}
 use Rattle.merge_core.specs.Feeds.{Aligned, AreFed, Fed, Feed, done, feed_of, feeds, feeds_from, given, option_list, stays}
 use Rattle.merge_core.specs.Gathering.{IsDue, TookOf}
 use Rattle.merge_core.specs.PairOrders.{Alike}
 use Rattle.merge_core.proofs.FeedLemmas.{done_all}
 use Rattle.merge_core.proofs.GroupLemmas.{filter_all}
 use Rattle.cdxj_places.proofs.RisingLaws.{each_join}
-use Rattle.merge_core.proofs.HeapLemmas.{each_permuted, waits_here, waits_other, waits_permuted}
+use Rattle.merge_core.proofs.HeapLemmas.{each_permuted, waits_beside, waits_here, waits_other, waits_permuted, waits_queued}
 use Rattle.merge_core.proofs.Many.{each_replaced}
 
 pub any_of : {X : Type 0} (xs : List X) (i : ℕ) → i < length xs → X
@@ -37,6 +37,12 @@ pub zip_put : {A B : Type 0} (R : A → B → Type 0) (xs : List A) (ys : List B
     → R x y → AllZip R (set xs i x) (set ys i y)
 zip_put R (a ∷ xs) (b ∷ ys) (suc i) x y h r = (h.0, zip_put R xs ys i x y h.1 r)
 zip_put R xs ys i x y h r = grind arith
+
+set_last : {X : Type 0} (xs : List X) (x y : X) (i : ℕ) → i ≡ length xs → set (xs ++ x ∷ []) i y ≡ xs ++ y ∷ []
+set_last [] x y zero e = refl
+set_last [] x y (suc i) e = absurd (omega arith)
+set_last (z ∷ xs) x y zero e = absurd (omega arith)
+set_last (z ∷ xs) x y (suc i) e = ap (λ l. z ∷ l) (set_last xs x y i (omega arith))
 
 -- ---- the feeds
 
@@ -76,14 +82,12 @@ feeds_set n (suc i) m (x ∷ cs) ws ws' c e same =
     grind arith
 feeds_set n i m [] ws ws' c e same = refl
 
-pub feeds_push : (n m : ℕ) (cs : List CursorState) (ws ws' : List WaitingLine) (c : CursorState) → m ≡ n + length cs
-    → ((j : ℕ) → j ≢ m → waits_of j ws' ≡ waits_of j ws)
-    → feeds_from n (cs ++ c ∷ []) ws' ≡ feeds_from n cs ws ++ feed_of c (waits_of m ws') ∷ []
-feeds_push n m [] ws ws' c e same = grind arith
-feeds_push n m (x ∷ cs) ws ws' c e same =
-    let here = same n (λ q. absurd (omega arith)) in
-    let rest = feeds_push (n + 1) m cs ws ws' c (omega arith) same in
-    grind arith
+feeds_push : (n : ℕ) (cs : List CursorState) (ws : List WaitingLine) (c : CursorState)
+    → feeds_from n (cs ++ c ∷ []) ws ≡ feeds_from n cs ws ++ feed_of c (waits_of (n + length cs) ws) ∷ []
+feeds_push n [] ws c = let e : n ≡ n + 0 = omega arith in rw (← e) refl
+feeds_push n (x ∷ cs) ws c =
+    let e : n + 1 + length cs ≡ n + length (x ∷ cs) = omega arith in
+    rw (← e) (ap (λ l. feed_of x (waits_of n ws) ∷ l) (feeds_push (n + 1) cs ws c))
 
 -- at most one line of each waits
 abbrev pub AreFew : List Feed → Type 0
@@ -101,6 +105,44 @@ pub few_of_fed : (limit : ℕ) (past : List ℕ → Bool) {S : Type 0} (text : S
     (fs : List Feed) → AreFed limit past text extent ss fs → AreFew fs
 few_of_fed limit past text extent (s ∷ ss) (f ∷ fs) h = (h.0.few, few_of_fed limit past text extent ss fs h.1)
 few_of_fed limit past text extent ss fs h = grind arith
+
+-- a source's cursor moves, and these lines of it wait, where none did
+module _ (i : ℕ) (cs : List CursorState) (ws ws' : List WaitingLine) (c : CursorState) (new : List Member)
+    (none : waits_of i ws ≡ []) (most : length new ≤ 1) (p : IsPermutation (queued i new ++ ws) ws')
+    (few : AreFew (feeds_from 0 cs ws)) where
+  pub feeds_queued : feeds_from 0 (set cs i c) ws' ≡ set (feeds_from 0 cs ws) i (feed_of c new)
+  feeds_queued =
+      let here : waits_of i (queued i new ++ ws) ≡ new = rw (waits_queued i new ws, none) (append-nil new) in
+      let now = rw here at (feeds_set 0 i i cs ws (queued i new ++ ws) c (omega arith) (λ j. waits_beside i j new ws)) in
+      feeds_permuted 0 (set cs i c) (queued i new ++ ws) ws' p
+      (rw now (each_replaced (λ (f : Feed). length f.waits ≤ 1) (feeds_from 0 cs ws) i (feed_of c new) few most)) ∙ now
+
+-- a source is added behind the others, and these lines of it wait
+pub feeds_added : (cs : List CursorState) (ws ws' : List WaitingLine) (c : CursorState) (new : List Member)
+    → waits_of (length cs) ws ≡ [] → length new ≤ 1 → IsPermutation (queued (length cs) new ++ ws) ws'
+    → AreFew (feeds_from 0 cs ws) → feeds_from 0 (cs ++ c ∷ []) ws' ≡ feeds_from 0 cs ws ++ feed_of c new ∷ []
+feeds_added cs ws ws' c new none most p few =
+    let i = length cs in
+    let fs = feeds_from 0 cs ws in
+    let start : 0 + length cs ≡ length cs = omega arith in
+    let idle : feeds_from 0 (cs ++ c ∷ []) ws ≡ fs ++ feed_of c [] ∷ [] = rw (start, none) at (feeds_push 0 cs ws c) in
+    let few_now : AreFew (feeds_from 0 (cs ++ c ∷ []) ws) =
+    rw idle (each_join (λ (f : Feed). length f.waits ≤ 1) fs (feed_of c [] ∷ []) few (omega arith, tt)) in
+    let now = feeds_queued i (cs ++ c ∷ []) ws ws' c new none most p few_now in
+    let left = set_last cs c c i refl in
+    let right = set_last fs (feed_of c []) (feed_of c new) i (sym (feeds_long 0 cs ws)) in
+    rw (left, idle, right) at now
+
+pub placed_queued : (n i : ℕ) (ws ws' : List WaitingLine) (new : List Member) → i < n
+    → AllByRecursion (λ (w : WaitingLine). w.source < n) ws → IsPermutation (queued i new ++ ws) ws'
+    → AllByRecursion (λ (w : WaitingLine). w.source < n) ws'
+placed_queued n i ws ws' new l placed p =
+    each_permuted (λ (w : WaitingLine). w.source < n) (queued i new ++ ws) ws' p
+    (each_join (λ (w : WaitingLine). w.source < n) (queued i new) ws (each new) placed)
+  where
+    each : (ms : List Member) → AllByRecursion (λ (w : WaitingLine). w.source < n) (queued i ms)
+    each [] = tt
+    each (m ∷ ms) = (l, each ms)
 
 -- ---- one source, of which a line waits
 
@@ -276,40 +318,20 @@ module _ {limit : ℕ} {past : List ℕ → Bool} {S : Type 0} {text : S → Opt
       let now = feeds_set 0 i i m.cursors.items m.queue m.queue c (omega arith) (λ j q. refl) in
       grind arith
 
-  module _ {B : Type 0} (value : B → Member) (m' : Merge) (c : CursorState)
-      (cursors : m'.cursors.items ≡ set m.cursors.items i c) where
-    abbrev pub Waited : Option B → Type 0
-    Waited o = MatchOption o (m'.queue ≡ m.queue)
-        (λ x. IsPermutation (record { member = value x; source = i } ∷ m.queue) m'.queue)
+  -- and these lines wait
+  module _ (m' : Merge) (c : CursorState) (cursors : m'.cursors.items ≡ set m.cursors.items i c) (new : List Member)
+      (p : IsPermutation (queued i new ++ m.queue) m'.queue) where
+    pub waited_feeds : length new ≤ 1 → feeds m' ≡ set (feeds m) i (feed_of c new)
+    waited_feeds most = rw cursors (feeds_queued i m.cursors.items m.queue m'.queue c new none_waits_here most p (few was))
 
-    pub waited_feeds : (o : Option B) → Waited o
-        → feeds m' ≡ set (feeds m) i (feed_of c (option_list (option_map value o)))
-    waited_feeds None e = moved_feeds m' c cursors e
-    waited_feeds (Some x) p =
-        let w : WaitingLine = record { member = value x; source = i } in
-        let none = none_waits_here in
-        let now = feeds_set 0 i i m.cursors.items m.queue (w ∷ m.queue) c (omega arith)
-        (λ j q. waits_other j w m.queue (λ e. absurd (omega arith))) in
-        let here : waits_of i (w ∷ m.queue) ≡ value x ∷ [] = rw (← none) (waits_here i w m.queue refl) in
-        let few_now : AreFew (feeds_from 0 (set m.cursors.items i c) (w ∷ m.queue)) =
-        rw (now, here) (few_set (feeds m) (few was)) in
-        let same = feeds_permuted 0 (set m.cursors.items i c) (w ∷ m.queue) m'.queue p few_now in
-        grind arith
-      where
-        few_set : (fs : List Feed) → AreFew fs → AreFew (set fs i (feed_of c (value x ∷ [])))
-        few_set fs h = each_replaced (λ (f : Feed). length f.waits ≤ 1) fs i _ h (omega arith)
-
-    pub waited_aligned : (s : S) (o : Option B) → Waited o
-        → Fed limit past (text s) (extent s) (feed_of c (option_list (option_map value o)))
+    pub waited_aligned : (s : S) → Fed limit past (text s) (extent s) (feed_of c new)
         → Aligned limit past text extent (set ss i s) m'
-    waited_aligned s o h fed =
-        aligned_set was i s _ m' (waited_feeds o h) (rw cursors (length-set m.cursors.items i c)) (placed o h) fed
-      where
-        placed : (o : Option B) → Waited o → AllByRecursion (λ (v : WaitingLine). v.source < length m.cursors.items) m'.queue
-        placed None e = rw e was.placed
-        placed (Some x) p =
-            let same = was.same in
-            each_permuted (λ (v : WaitingLine). v.source < length m.cursors.items) (record { member = value x; source = i } ∷ m.queue) m'.queue p (omega arith, was.placed)
+    waited_aligned s fed =
+        let same = was.same in
+        aligned_set was i s _ m' (waited_feeds fed.few) (rw cursors (length-set m.cursors.items i c))
+        (placed_queued (length m.cursors.items) i m.queue m'.queue new (omega arith) was.placed p) fed
 
-    pub waited_length : (o : Option B) → Waited o → length m'.queue ≡ length m.queue + length (option_list (option_map value o))
-    waited_length o p = grind (arith, length_permutation)
+    pub waited_length : length m'.queue ≡ length m.queue + length new
+    waited_length =
+        let all = length_permutation (queued i new ++ m.queue) m'.queue p in
+        grind (arith, length-append, length-map)

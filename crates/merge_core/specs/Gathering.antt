@@ -9,7 +9,7 @@ use Rattle.cdxj_core.specs.Members.{Member, member_pair}
 use Rattle.source_core.specs.Cursors.{CursorState}
 use Rattle.merge_core.specs.declared.state.Merge.{Merge}
 use Rattle.merge_core.specs.PairOrders.{Alike, Below, Upto, IsAbove, is_low}
-use Rattle.merge_core.specs.WaitingLines.{WaitingLine, waiting_pair}
+use Rattle.merge_core.specs.WaitingLines.{WaitingLine, queued, waiting_pair}
 use Rattle.merge_core.specs.Feeds.{Aligned, Fed, Feed, IsSettled, done, feed_of, feeds, given}
 
 -- the lines below the pair were done before, and the others went into the group
@@ -48,11 +48,6 @@ pub record IsDue (limit : ℕ) (past : List ℕ → Bool) (pair : Pair) (text : 
   pub none : f.waits ≡ []
   pub last : (t : List ℕ) → text ≡ Some t → EndsAt past pair (given limit t f.cursor)
 
--- a line of the source waits beside the others, with a pair above this one, or none does
-abbrev pub WaitsAbove : Pair → ℕ → List WaitingLine → List WaitingLine → Type 0
-WaitsAbove pair i old new =
-    (new ≡ old) ⊎ ((w : WaitingLine) × IsPermutation (w ∷ old) new × (w.source ≡ i) × Below pair (waiting_pair w))
-
 -- The further lines of a source with the pair were read and taken, and the line after them, which waits unless it lies
 -- past the range.
 pub record ReadGroup (limit : ℕ) (past : List ℕ → Bool) (pair : Pair) (text : Option (List ℕ)) (extent : ℕ)
@@ -85,10 +80,11 @@ pub record ReadOn {S : Type 0} (limit : ℕ) (past : List ℕ → Bool) (text : 
     (pair : Pair) (i : ℕ) (olds : List S) (old : Merge) (news : List S) (new : Merge) (old_rest rest : List Member)
     : Type 0 where
   pub aligned : Aligned limit past text extent news new
-  pub waits : WaitsAbove pair i old.queue new.queue
   pub fewer : unread extent news (feeds new) + length new.queue ≤ unread extent olds (feeds old) + length old.queue
   pub took : TookOf limit past text pair i olds news (feeds old) (feeds new) old_rest rest
   pub settled : IsSettled limit past (text took.source) took.feed
+  pub later : AllByRecursion (λ m. Below pair (member_pair m)) took.feed.waits
+  pub queue_is : IsPermutation (queued i took.feed.waits ++ old.queue) new.queue
 
 -- The lines of the least pair were taken from all sources: of those that are done now, the ones that weren't
 pub record Grouped {S : Type 0} (limit : ℕ) (past : List ℕ → Bool) (text : S → Option (List ℕ)) (extent : S → ℕ)

@@ -7,7 +7,8 @@ use Rattle.cdxj_places.specs.Pairs.{Pair}
 use Rattle.source_core.specs.Cursors.{CursorState}
 use Rattle.source_core.specs.Search.{IsCut}
 use Rattle.merge_core.specs.declared.state.Merge.{Merge}
-use Rattle.merge_core.specs.Feeds.{Fed, IsSettled, done, feed_of, option_list}
+use Rattle.merge_core.specs.Feeds.{Fed, IsSettled, done, feed_of}
+use Rattle.merge_core.specs.WaitingLines.{queued}
 
 -- of an index, the lines before the cursor's start are those below the pair
 abbrev pub IsCutAt : ℕ → Pair → Option (List ℕ) → CursorState → Type 0
@@ -18,11 +19,10 @@ IsCutAt limit start text c = (t : List ℕ) → (members : List Member) → text
 pub record AddedSource (limit : ℕ) (past : List ℕ → Bool) (text : Option (List ℕ)) (extent : ℕ)
     (IsCursor : CursorState → Type 0) (old new : Merge) : Type 0 where
   pub cursor : CursorState
-  pub first : Option Member
+  pub first : List Member
   pub cursors_are : new.cursors.items ≡ old.cursors.items ++ cursor ∷ []
-  pub waits : MatchOption first (new.queue ≡ old.queue)
-      (λ m. IsPermutation (record { member = m; source = length old.cursors.items } ∷ old.queue) new.queue)
-  pub fed : Fed limit past text extent (feed_of cursor (option_list first))
-  pub settled : IsSettled limit past text (feed_of cursor (option_list first))
-  pub fresh : (t : List ℕ) → text ≡ Some t → done limit past t (feed_of cursor (option_list first)) ≡ []
+  pub queue_is : IsPermutation (queued (length old.cursors.items) first ++ old.queue) new.queue
+  pub fed : Fed limit past text extent (feed_of cursor first)
+  pub settled : IsSettled limit past text (feed_of cursor first)
+  pub fresh : (t : List ℕ) → text ≡ Some t → done limit past t (feed_of cursor first) ≡ []
   pub cursor_is : IsCursor cursor

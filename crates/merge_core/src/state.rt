@@ -1,10 +1,11 @@
 //! The state of a merge.
-ghost use Rattle.std.specs.Prelude.{◌≡◌, ◌≢◌, ◌+◌, ◌-◌, ◌^◌, ◌<◌, ◌≤◌, ◌∷◌, ℕ, [], length, map, max, min, slice_index_or, Option, Some, IfOk, IfErr, OnOk, OnErr, MatchOption};
+ghost use Rattle.std.specs.Prelude.{◌≡◌, ◌≢◌, ◌+◌, ◌-◌, ◌^◌, ◌<◌, ◌≤◌, ◌∷◌, ◌++◌, ℕ, [], length, map, option_map, max, min, slice_index_or, Option, Some, IfOk, IfErr, OnOk, OnErr, MatchOption};
 ghost use Rattle.std.specs.List.{AllByRecursion, sum};
 ghost use Rattle.std.specs.List.Sorted.{IsPermutation};
 ghost use Rattle.cdxj_core.specs.declared.limit.TheConstants.{LINE_LIMIT};
 ghost use Rattle.cdxj_core.specs.Members.{member_pair};
 ghost use Rattle.merge_core.specs.PairOrders.{Upto};
+ghost use Rattle.merge_core.specs.WaitingLines.{queued};
 ghost use Rattle.merge_core.specs.Failures.{CountsReads};
 ghost use Rattle.merge_core.specs.LineFaults.{IsMergeFaultOf};
 ghost use Rattle.merge_core.specs.Spending.{AreReadTo};
@@ -32,7 +33,7 @@ pub struct Merge {
 }
 
 impl Merge {
-    ghost use Rattle.merge_core.specs.Feeds.{Aligned, AllMoved, Feed, Ready, feeds};
+    ghost use Rattle.merge_core.specs.Feeds.{Aligned, AllMoved, Feed, Ready, feeds, option_list};
     ghost use Rattle.merge_core.specs.Gathering.{Grouped, IsDue, ReadOn, all_done};
     ghost use Rattle.merge_core.specs.Merging.{HaltedGroup};
 
@@ -42,9 +43,9 @@ impl Merge {
         source: usize,
     ) -> Result<(), AllocError>
         ensures cursors { self.new.cursors.items ≡ self.old.cursors.items }
-        ensures queue { OnOk result (MatchOption line (self.new.queue ≡ self.old.queue)
-            (λ b. IsPermutation (record { member = b.value; source = source } ∷ self.old.queue)
-            self.new.queue)) }
+        ensures queue { OnOk result (IsPermutation
+            (queued source (option_list (option_map (λ b. b.value) line)) ++ self.old.queue)
+            self.new.queue) }
         ensures refused { OnErr result (self.new.queue ≡ self.old.queue) }
         ensures most_lines { self.new.most_lines ≡ self.old.most_lines }
     {

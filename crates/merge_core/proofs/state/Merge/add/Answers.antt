@@ -4,7 +4,7 @@ use Rattle.source_core.specs.IndexLines.{lines, longest}
 use Rattle.cdxj_core.specs.declared.limit.TheConstants.{LINE_LIMIT}
 use Rattle.cdxj_core.specs.declared.line.Line.{Line}
 use Rattle.cdxj_core.specs.Members.{Member}
-use Rattle.merge_core.specs.Feeds.{Fed, feed_of}
+use Rattle.merge_core.specs.Feeds.{Fed, feed_of, option_list}
 use Rattle.merge_core.proofs.FeedLemmas.{bad_named}
 use Rattle.merge_core.proofs.FailLemmas.{if_err}
 use Rattle.merge_core.proofs.OpenLemmas.{fed_fresh, first_read}
@@ -58,9 +58,9 @@ returns-clause-added g c =
     (λ t e. ok.next t (grind arith)) c.within-first.ensures in
     record {
       cursor = c.next_line.new.cursor;
-      first = option_map value c.within-first.result;
+      first = option_list (option_map value c.within-first.result);
       cursors_are = grind arith;
-      waits = grind arith;
+      queue_is = grind arith;
       fed = read.fed;
       settled = read.settled;
       fresh = read.fresh;

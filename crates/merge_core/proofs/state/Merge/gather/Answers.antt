@@ -46,7 +46,7 @@ drained g c =
     let pair = member_pair c.new-keyed.result in
     gathers_on inv.gathers {m' = c.read_on.new.self} (c.new-keyed.result ∷ []) refl read.took (omega arith) inv.inside
     read.aligned c.read_on.ensures.moved
-    (from_waited pair (c.sources.i + 1) c.sources.i _ _ read.waits inv.gathers.from)
+    (from_waited pair (c.sources.i + 1) c.sources.i read.took.feed.waits _ _ read.later read.queue_is inv.gathers.from)
 
 -- and of the feeds
 drained_settled : (g : Over) (c : In_ok-read_on g)

@@ -30,7 +30,7 @@ loop-i-preserved g c =
     let olds = c.args.sources.now in let ss = c.loop-i.sources in let m = c.loop-i.merge in
     let fs = feeds m in
     let i = c.loop-i.i in let a = c.index-sources-i.result in let s = c.add_from.new.source in
-    let f = feed_of added.cursor (option_list added.first) in
+    let f = feed_of added.cursor added.first in
     let inside : i < length ss = omega arith in
     let text = g.S.Source.text in let extent = g.S.Source.extent in
     let now = added_feeds inv.ready added in

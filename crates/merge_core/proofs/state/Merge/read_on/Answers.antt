@@ -1,5 +1,5 @@
 use Rattle.std.specs.List.{AllByRecursion}
-use Rattle.std.proofs.Common.{◌≡◌, [], Some, Box, Global, length, option_map, set, get_or, refl, arith}
+use Rattle.std.proofs.Common.{List, ◌≡◌, [], Some, Box, Global, length, option_map, set, get_or, refl, arith}
 use Rattle.std.specs.Vec.{with_item}
 use Rattle.std.proofs.lemmas.List.{get_or_default}
 use Rattle.cdxj_core.specs.declared.limit.TheConstants.{LINE_LIMIT}
@@ -110,27 +110,27 @@ returns-in_err-enqueue-clause-most g c =
 pub returns : goal.returns
 returns g c =
     let at = (goal.at.returns g c).After-read_group in
-    let value : Box Line Global → Member = λ l. l.value in
     let old = c.args.self.now in
     let i = c.args.i in
     let now = c.read_group.new.cursor in
     let read = c.in-Ok.ensures.read in
-    let f = feed_of now (option_list (option_map value c.in-Ok.next)) in
+    let waits : List Member = option_list (option_map (λ (l : Box Line Global). l.value) c.in-Ok.next) in
+    let f = feed_of now waits in
     let is = here g at in
-    let feeds_now = waited_feeds c.requires.aligned c.requires.inside (was g at) (none g at) value c.enqueue.new.self
-    now c.enqueue.ensures.cursors c.in-Ok.next c.in_ok-enqueue.ensures.queue in
+    let cursors = c.enqueue.ensures.cursors in
+    let queue = c.in_ok-enqueue.ensures.queue in
+    let feeds_now = waited_feeds c.requires.aligned c.requires.inside (was g at) (none g at) c.enqueue.new.self now
+    cursors waits queue read.fed.few in
     record {
       moved = moved g at c.enqueue.new.self f refl feeds_now;
       failures = grind (arith, map_set_same);
       fault = grind arith;
       read = record {
-        aligned = waited_aligned c.requires.aligned c.requires.inside (was g at) (none g at) value
-            c.enqueue.new.self now c.enqueue.ensures.cursors c.read_group.new.source c.in-Ok.next
-            c.in_ok-enqueue.ensures.queue read.fed;
-        waits = grind arith;
+        aligned = waited_aligned c.requires.aligned c.requires.inside (was g at) (none g at) c.enqueue.new.self now
+            cursors waits queue c.read_group.new.source read.fed;
         fewer =
-            let longer = waited_length c.requires.aligned c.requires.inside (was g at) (none g at) value
-            c.enqueue.new.self now c.enqueue.ensures.cursors c.in-Ok.next c.in_ok-enqueue.ensures.queue in
+            let longer = waited_length c.requires.aligned c.requires.inside (was g at) (none g at) c.enqueue.new.self now
+            cursors waits queue in
             let left = unread_set g.S.Source.text g.S.Source.extent g.S.Source.gave c.args.sources.now (feeds old) i
             c.index-sources-i.result c.read_group.new.source (was g at) f (long g at) c.requires.inside in
             rw feeds_now (grind arith);
@@ -147,6 +147,8 @@ returns g c =
               (read.done_is t e);
         };
         settled = read.settled;
+        later = read.later;
+        queue_is = queue;
       };
       most = most g at c.enqueue.new.self f refl feeds_now;
       most_lines = grind arith;
