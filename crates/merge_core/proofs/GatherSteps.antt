@@ -17,7 +17,7 @@ use Rattle.merge_core.specs.Gathering.{Gathered, AreTold, text_or, all_done, unr
 use Rattle.merge_core.proofs.HeapLemmas.{each_get, each_permuted}
 use Rattle.merge_core.proofs.Many.{is_told, zip_set, zip_at, length_zip, Move, moved_trans, moved_still, moved_set}
 use Rattle.merge_core.proofs.Many.{move_not, told_moved, unread_set}
-use Rattle.merge_core.proofs.StateLemmas.{any_of, feeds_long, idle, inside_sources, none_left, popped_aligned, popped_feeds}
+use Rattle.merge_core.proofs.StateLemmas.{any_of, idle, long_of, inside_sources, none_left, popped_aligned, popped_feeds}
 use Rattle.merge_core.proofs.StateLemmas.{popped, popped_due, zip_put}
 use Rattle.merge_core.proofs.GroupLemmas.{from_popped, AreAt, AreBelow, gathered_none, source_more}
 
@@ -40,20 +40,13 @@ module _ (limit : ℕ) (past : List ℕ → Bool) {S : Type 0} (text : S → Opt
 
   pub gathers_start : Aligned limit past text extent ss0 m0 → AllByRecursion (λ w. Upto pair (waiting_pair w)) m0.queue
       → Gathers 0 ss0 m0 []
-  gathers_start aligned least = record {
-    aligned = aligned;
-    as_many = refl;
-    moved = moved_still text extent gave _;
-    each = tt;
-    from = each_weaker (λ w h. (h, λ e. omega arith)) _ least;
-    gathered = λ told low. (gathered_none pair _ low, low);
-  }
+  gathers_start aligned least = grind (arith, moved_still, each_weaker, gathered_none)
 
 module _ {limit n : ℕ} {past : List ℕ → Bool} {S : Type 0} {text : S → Option (List ℕ)} {extent gave : S → ℕ}
     {ss0 ss : List S} {m0 m : Merge} {pair : Pair} {group : List Member}
     (h : Gathers limit past text extent gave ss0 m0 pair n ss m group) where
   long : length ss ≡ length (feeds m)
-  long = let same = h.aligned.same in grind (arith, feeds_long)
+  long = long_of h.aligned
 
   -- more lines of a source are taken: of the group, all but those that lead are lines that the source is asked for
   pub gathers_on : {i : ℕ} {ss' : List S} {m' : Merge} (lead : List Member) {lines lines' : List Member}

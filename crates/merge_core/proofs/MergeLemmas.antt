@@ -16,7 +16,7 @@ use Rattle.merge_core.specs.Merging.{BrokenMerge, HaltedGroup, HaltedMerge, SoFa
 use Rattle.merge_core.specs.Reached.{Reached}
 use Rattle.merge_core.specs.declared.state.Merge.{Merge}
 use Rattle.merge_core.specs.Feeds.{AllMoved, Ready, feeds}
-use Rattle.merge_core.proofs.StateLemmas.{feeds_long}
+use Rattle.merge_core.proofs.StateLemmas.{long_of}
 use Rattle.merge_core.proofs.Many.{told_moved, moved_trans}
 use Rattle.merge_core.specs.SourceLines.{HasEntry}
 use Rattle.merge_core.proofs.PairOrder.{from_not_below, below_then, then_below, below_upto, same_upto, same_from}
@@ -74,9 +74,7 @@ module _ {S : Type 0} {limit : ℕ} {text : S → Option (List ℕ)} {past : Lis
   at = grind (arith, each_rising, place_cmp_total)
 
   pub told_here : AreTold text old → AreTold text ss0
-  told_here =
-      let many : length ss0 ≡ length (feeds m0) = let same = was.ready.aligned.same in grind (arith, feeds_long) in
-      told_moved text extent gave old ss0 (feeds begun) (feeds m0) many was.moved
+  told_here = told_moved text extent gave old ss0 (feeds begun) (feeds m0) (long_of was.ready.aligned) was.moved
 
   pub gathered_now : AreTold text old
       → Gathered pair (all_done limit past text ss0 (feeds m0)) (all_done limit past text ss (feeds m)) [] group
@@ -155,8 +153,8 @@ module _ {K S : Type 0} {Wrote : K → K → List Member → Option (List ℕ) �
         least = halted.least;
         read = λ told.
             let reached = so_far.reached in
-            let many : length sources ≡ length (feeds stood) = let same = reached.ready.aligned.same in grind (arith, feeds_long) in
-            halted.read (told_moved text extent gave olds sources (feeds begun) (feeds stood) many reached.moved told)
+            halted.read (told_moved text extent gave olds sources (feeds begun) (feeds stood)
+            (long_of reached.ready.aligned) reached.moved told)
             (below_next so_far.bound halted.pair above _ (reached.handed.told told).1);
       }
 

@@ -62,6 +62,20 @@ module _ {limit : ℕ} {past : List ℕ → Bool} {S : Type 0} {text : S → Opt
             was.settled added.settled);
       }
 
+pub added_by : {limit : ℕ} {past : List ℕ → Bool} {text : Option (List ℕ)} {extent : ℕ} {m m' : Merge}
+    {A B : CursorState → Type 0} → (added : AddedSource limit past text extent A m m') → B added.cursor
+    → AddedSource limit past text extent B m m'
+added_by added is = record {
+  cursor = added.cursor;
+  first = added.first;
+  cursors_are = added.cursors_are;
+  queue_is = added.queue_is;
+  fed = added.fed;
+  settled = added.settled;
+  fresh = added.fresh;
+  cursor_is = is;
+}
+
 -- ---- the first line of a source
 
 -- what is known of a source of which no line was read yet
@@ -69,20 +83,7 @@ pub fed_fresh : (limit : ℕ) (past : List ℕ → Bool) (text : Option (List �
     → Stands text extent c → c.count ≡ 0 → c.at ≡ c.start
     → ((t : List ℕ) → text ≡ Some t → (before : List (List ℕ)) × BeginsAfter t c.start before)
     → Fed limit past text extent (feed_of c [])
-fed_fresh limit past text extent c stands none at begins = record {
-  stands = stands;
-  few = omega arith;
-  counted = omega arith;
-  told = λ t e. rw none (record {
-    begins = begins t e;
-    stood = rw at (omega arith);
-    as_many = refl;
-    run = grind arith;
-    last = refl;
-    within = tt;
-    waiting = tt;
-  });
-}
+fed_fresh limit past text extent c stands none at begins = grind arith
 
 -- its first line was read, if it has one
 pub record FirstRead (limit : ℕ) (past : List ℕ → Bool) (text : Option (List ℕ)) (extent : ℕ) (f : Feed) : Type 0 where

@@ -21,7 +21,7 @@ use Rattle.merge_core.proofs.Many.{is_told, told_moved}
 use Rattle.merge_core.proofs.MergeLemmas.{lower_by_pair}
 use Rattle.merge_core.proofs.WholeLemmas.{told_known}
 use Rattle.merge_core.proofs.ReadLines.{IsUpward, is_read, IsLate, fed_read, wanted_high}
-use Rattle.merge_core.proofs.StateLemmas.{feeds_long}
+use Rattle.merge_core.proofs.StateLemmas.{feeds_long, long_of}
 use Rattle.merge_core.proofs.TakenLemmas.{Took}
 use Rattle.merge_core.proofs.StartLemmas.{RunsFrom, runs_sought, runs_kept}
 
@@ -66,7 +66,6 @@ took_of_indexes {text = text} {extent = extent} {gave = gave} {limit = limit} {p
     let long : length ss0 ≡ length (feeds m0) = grind (arith, feeds_long) in
     let found = runs_sought limit text start ss0 (feeds m0) texts indexes long known are cut in
     let told = told_known text ss0 texts known in
-    let many : length ss ≡ length (feeds m) = let same = reached.ready.aligned.same in grind (arith, feeds_long) in
     record {
       upward = upward;
       within = within;
@@ -77,7 +76,7 @@ took_of_indexes {text = text} {extent = extent} {gave = gave} {limit = limit} {p
       handed = reached.handed.told told;
       read = λ upto late each. all_read upto limit past upward text extent ss (feeds m) found.0
           (late_feeds upto 0 m.cursors.items m.queue late)
-          (told_moved text extent gave ss0 ss (feeds m0) (feeds m) many reached.moved told)
+          (told_moved text extent gave ss0 ss (feeds m0) (feeds m) (long_of reached.ready.aligned) reached.moved told)
           (runs_kept limit text extent gave (zip ss0 (feeds m0)) (zip ss (feeds m)) found.0 reached.moved found.1)
           reached.ready.aligned.fed reached.ready.settled each;
     }

@@ -17,7 +17,7 @@ use Rattle.merge_core.specs.Runs.{IsPart, parts}
 use Rattle.merge_core.proofs.Many.{is_told, told_moved}
 use Rattle.merge_core.proofs.ReadLines.{IsUpward, is_read, IsLate, given_read}
 use Rattle.merge_core.proofs.ReadLemmas.{late_feeds}
-use Rattle.merge_core.proofs.StateLemmas.{feeds_long}
+use Rattle.merge_core.proofs.StateLemmas.{long_of}
 use Rattle.std.proofs.lemmas.List.Elements.{filter-append}
 use Rattle.merge_core.proofs.GroupLemmas.{each_cut}
 use Rattle.merge_core.proofs.TakenLemmas.{Took}
@@ -97,8 +97,7 @@ took_of_parts {text = text} {extent = extent} {gave = gave} {limit = limit} {pas
   done = all_done limit past text ss (feeds m);
   handed = reached.handed.told told;
   read = λ upto late each.
-      let many : length ss ≡ length (feeds m) = let same = reached.ready.aligned.same in grind (arith, feeds_long) in
       parts_read limit past text extent upward upto ss (feeds m) (late_feeds upto 0 m.cursors.items m.queue late)
-      (told_moved text extent gave ss0 ss (feeds m0) (feeds m) many reached.moved told) reached.ready.aligned.fed
+      (told_moved text extent gave ss0 ss (feeds m0) (feeds m) (long_of reached.ready.aligned) reached.moved told) reached.ready.aligned.fed
       reached.ready.settled each;
 }

@@ -17,7 +17,7 @@ use Rattle.merge_core.specs.Reached.{Reached}
 use Rattle.merge_core.specs.SourceLines.{HasEntry, IsLineIn, IsLineOf, AreLinesOf}
 use Rattle.merge_core.proofs.FeedLemmas.{done_cut}
 use Rattle.merge_core.proofs.Filters.{each_take}
-use Rattle.merge_core.proofs.StateLemmas.{feeds_long}
+use Rattle.merge_core.proofs.StateLemmas.{feeds_long, long_of}
 use Rattle.merge_core.proofs.Many.{is_told, told_moved, length_zip}
 use Rattle.merge_core.proofs.WholeLemmas.{texts_kept}
 
@@ -82,7 +82,7 @@ module _ (limit : ℕ) where
         | inl told ↦
             let aligned = reached.ready.aligned in
             let before : length ss0 ≡ length (feeds m0) = grind (arith, feeds_long) in
-            let now : length ss ≡ length (feeds m) = let same = aligned.same in grind (arith, feeds_long) in
+            let now = long_of aligned in
             let long : length ss ≡ length ss0 = grind (arith, AllZip-long, length_zip) in
             let texts = texts_kept text extent gave ss0 ss (feeds m0) (feeds m) before long reached.moved in
             let told_now = told_moved text extent gave ss0 ss (feeds m0) (feeds m) now reached.moved told in

@@ -195,6 +195,9 @@ module _ {limit : ℕ} {past : List ℕ → Bool} {text : Option (List ℕ)} {ex
 
 module _ {limit : ℕ} {past : List ℕ → Bool} {S : Type 0} {text : S → Option (List ℕ)} {extent : S → ℕ} {ss : List S}
     {m : Merge} (was : Aligned limit past text extent ss m) where
+  pub long_of : length ss ≡ length (feeds m)
+  long_of = let same = was.same in grind (arith, feeds_long)
+
   few : AreFew (feeds m)
   few = few_of_fed limit past text extent ss (feeds m) was.fed
 

@@ -7,6 +7,7 @@ ghost use Rattle.cdxj_core.specs.declared.limit.TheConstants.{LINE_LIMIT};
 ghost use Rattle.source_core.specs.Cursors.{Stands, reach};
 ghost use Rattle.source_core.specs.Halving.{digits};
 ghost use Rattle.source_core.specs.IndexLines.{BeginsAfter, lines, longest};
+ghost use Rattle.merge_core.specs.Collections.{KeepsSources};
 ghost use Rattle.merge_core.specs.Failures.{CountsFeed, CountsReads};
 ghost use Rattle.merge_core.specs.LineFaults.{NamesLine, IsMergeFaultOf};
 ghost use Rattle.merge_core.specs.Spending.{AllGaveOnce, CameOnce, CameWithin, GaveOnce, OpenedWithin};
@@ -111,8 +112,7 @@ impl Merge {
         stamp: &[u8],
         range: &R,
     ) -> Result<OpenedMerge, MergeFault>
-        ensures text { map S.text sources.new ≡ map S.text sources.old }
-        ensures extent { map S.extent sources.new ≡ map S.extent sources.old }
+        ensures kept { KeepsSources S.text S.extent sources.old sources.new }
         ensures failures { CountsReads result (map S.failures sources.old)
             (map S.failures sources.new) }
         ensures spent { AllZip (λ x y.

@@ -25,7 +25,7 @@ use Rattle.page_core.proofs.PageLaws.{each_kept}
 use Rattle.source_core.specs.Cursors.{CursorState}
 use Rattle.merge_core.specs.Feeds.{Feed, feeds}
 use Rattle.merge_core.proofs.RunLemmas.{none_wait}
-use Rattle.merge_core.proofs.StateLemmas.{counts_of, feeds_long}
+use Rattle.merge_core.proofs.StateLemmas.{counts_of, feeds_long, long_of}
 use Rattle.merge_core.specs.PairOrders.{Alike, IsAbove, IsUpto, Upto, is_low}
 use Rattle.merge_core.specs.WaitingLines.{waiting_pair}
 use Rattle.merge_core.specs.Collections.{Known, OverIndexes, OverTexts, collection}
@@ -156,7 +156,7 @@ module _ {S : Type 0} {text : S → Option (List ℕ)} {extent gave : S → ℕ}
   long_before = let same = r.start.same in grind (arith, feeds_long)
 
   long_now : length r.sources ≡ length (feeds r.merge)
-  long_now = let same = r.reached.ready.aligned.same in grind (arith, feeds_long)
+  long_now = long_of r.reached.ready.aligned
 
   as_long : length r.sources ≡ length r.opened
   as_long =

@@ -24,7 +24,7 @@ use Rattle.merge_core.specs.SourceLines.{AreLinesOf}
 use Rattle.merge_core.proofs.ReadLemmas.{took_of_indexes}
 use Rattle.merge_core.proofs.OnceLemmas.{gave_once}
 use Rattle.merge_core.proofs.RunLemmas.{none_wait}
-use Rattle.merge_core.proofs.StateLemmas.{feeds_long, starts_of}
+use Rattle.merge_core.proofs.StateLemmas.{long_of, starts_of}
 use Rattle.merge_core.proofs.TakenLemmas.{taken_first}
 use Rattle.source_core.proofs.SortedCuts.{none_below_least}
 use Rattle.merge_core.proofs.SourceLemmas.{taken_lines}
@@ -51,14 +51,14 @@ module _ (g : Over) (c : After-merge g) {ss : List g.row.S.Denot} {m : Merge} {b
   front old new p texts indexes known are =
       let opened = c.in_ok-opened.ensures in
       let first = taken_first (took_of_indexes reached opened.ready.aligned.same ([], []) opened.cut texts indexes
-      (rw (← opened.text) at known) are (λ key later e h. absurd (true≢false (sym e))) (λ m. true) (λ m e. refl)
+      (rw (← opened.kept.0) at known) are (λ key later e h. absurd (true≢false (sym e))) (λ m. true) (λ m e. refl)
       (λ m e. none_below_least (member_pair m).0 (member_pair m).1)) in
       let whole : collection indexes ≡ taken ++ first.0 = grind (arith, filter_every) in
       rw (whole, flat_map-append) (prefix_longer old new _ _ p)
 
   -- and of any sources, it is lines of theirs
   lines : AreLinesOf LINE_LIMIT (map g.S.Source.text c.args.sources.now) taken
-  lines = rw (← c.in_ok-opened.ensures.text) (grind (arith, taken_lines))
+  lines = rw (← c.in_ok-opened.ensures.kept.0) (grind (arith, taken_lines))
 
 -- all lines that were taken were written and counted
 wrote : (g : Over) (c : In_ok-merge g)
@@ -100,7 +100,7 @@ returns-in_err-merge-clause-lines g c =
 
 -- as many sources
 long_before : (g : Over) (c : After-merge g) → length c.open_at.new.sources ≡ length (feeds c.in_ok-opened.opened.merge)
-long_before g c = let same = c.in_ok-opened.ensures.ready.aligned.same in grind (arith, feeds_long)
+long_before g c = long_of c.in_ok-opened.ensures.ready.aligned
 
 kept_long : (g : Over) (c : After-merge g) → length c.merge.new.sources ≡ length c.open_at.new.sources
 kept_long g c = grind arith
@@ -111,7 +111,7 @@ kept g c =
     let all = all_kept g.S.Source.text g.S.Source.extent g.S.Source.gave c.open_at.new.sources
     c.in_ok-opened.opened.merge c.merge.new.sources c.merge.new.merge opened.ready.aligned.same (kept_long g c)
     c.merge.ensures.moved in
-    (all.0 ∙ opened.text, all.1 ∙ opened.extent)
+    (all.0 ∙ opened.kept.0, all.1 ∙ opened.kept.1)
 
 -- each byte of each source was given at most once
 once : (g : Over) (c : After-merge g) → AllGaveOnce g.S.Source.extent g.S.Source.gave c.args.sources.now
@@ -120,7 +120,7 @@ once g c =
     let opened = c.in_ok-opened.ensures in
     let long : length c.merge.new.sources ≡ length c.open_at.new.sources = kept_long g c in
     gave_once g.S.Source.text g.S.Source.extent g.S.Source.gave c.args.sources.now c.open_at.new.sources
-    (feeds c.in_ok-opened.opened.merge) c.merge.new.sources (feeds c.merge.new.merge) LINE_LIMIT never opened.extent
+    (feeds c.in_ok-opened.opened.merge) c.merge.new.sources (feeds c.merge.new.merge) LINE_LIMIT never opened.kept.1
     opened.ready.aligned.fed (opened.came_once refl refl) c.merge.ensures.moved long
 
 pub returns-in_err-opened-clause-bytes : goal.returns-in_err-opened-clause-bytes
@@ -150,12 +150,12 @@ returns g c =
       merged = λ texts known.
           let lines = its_lines LINE_LIMIT never (λ key. refl) text extent sources (feeds m) in
           let empty : m.queue ≡ [] = grind (arith, cases_Bool) in
-          let long_now : length sources ≡ length (feeds m) = let same = reached.ready.aligned.same in grind (arith, feeds_long) in
+          let long_now = long_of reached.ready.aligned in
           let starts = starts_kept text extent g.S.Source.gave _ _ _ _ (long_before g at.After-merge) long_now
           c.merge.ensures.moved (starts_of 0 c.in_ok-opened.opened.merge.cursors.items _ (opened.start refl refl)) in
           let none : AllByRecursion (λ (f : Feed). f.waits ≡ []) (feeds m) = rw empty (none_wait 0 m.cursors.items) in
           let all : taken ≡ collection lines =
-          (reached.handed.told (told_known _ _ texts (rw (← opened.text) at known))).0
+          (reached.handed.told (told_known _ _ texts (rw (← opened.kept.0) at known))).0
           ∙ ap (rising member_place place_cmp) (all_lines_are LINE_LIMIT never (λ key. refl) text extent sources (feeds m)) in
           record {
             indexes = lines;
@@ -168,8 +168,8 @@ returns g c =
       part = front g at.After-merge reached _ _ (rw append-nil at (prefix_whole _ _ _ [] wrote.0));
       lines = (taken, grind (arith, lines), wrote);
       most_lines = λ texts indexes known are most share.
-          let same = ap length opened.extent in
-          let few = c.merge.ensures.most_lines texts indexes (rw (← opened.text) at known) are most share
+          let same = ap length opened.kept.1 in
+          let few = c.merge.ensures.most_lines texts indexes (rw (← opened.kept.0) at known) are most share
           (omega (arith, opened.most_lines)) in
           grind (arith, length-map);
     }

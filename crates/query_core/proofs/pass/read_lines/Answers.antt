@@ -25,7 +25,7 @@ kept g c =
     let all = all_kept g.S.Source.text g.S.Source.extent g.S.Source.gave c.open_at.new.sources
     c.in_ok-opened.opened.merge c.merge.new.sources c.merge.new.merge c.in_ok-opened.ensures.ready.aligned.same
     (omega arith) c.merge.ensures.moved in
-    (all.0 ∙ c.open_at.ensures.text, all.1 ∙ c.open_at.ensures.extent)
+    (all.0 ∙ c.open_at.ensures.kept.0, all.1 ∙ c.open_at.ensures.kept.1)
 
 pub returns-in_err-all-clause-kept : goal.returns-in_err-all-clause-kept
 returns-in_err-all-clause-kept g c = kept g (goal.at.returns-in_err-all-clause-kept g c).After-merge
@@ -41,7 +41,7 @@ returns-in_err-all-clause-fault g c = grind (arith, err_from_is_err_and, merge_l
 
 pub returns-clause-held : goal.returns-clause-held
 returns-clause-held g c = λ texts indexes known are most share.
-    let h = c.merge.ensures.most_lines texts indexes (rw c.open_at.ensures.text known) are most share in
+    let h = c.merge.ensures.most_lines texts indexes (rw c.open_at.ensures.kept.0 known) are most share in
     grind (arith, length-map)
 
 -- ---- sources that couldn't be opened
@@ -72,7 +72,7 @@ returns-in_err-opened-clause-halted g c =
 start : (g : Over) (c : In_ok-opened g) → Opened g.S.Source.text g.S.Source.extent g.S.Source.gave
     c.args.query.now c.args.sources.now c.open_at.new.sources c.in_ok-opened.opened.merge
 start g c = record {
-  kept = c.open_at.ensures.text;
+  kept = c.open_at.ensures.kept.0;
   same = c.in_ok-opened.ensures.ready.aligned.same;
   came = c.in_ok-opened.ensures.came;
   cut = rw (c.as_bytes-key.ensures.value, c.start_pair-start.ensures) at c.in_ok-opened.ensures.cut;

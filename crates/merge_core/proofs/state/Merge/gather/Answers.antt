@@ -17,12 +17,12 @@ use Rattle.merge_core.specs.Spending.{AreReadTo}
 use Rattle.merge_core.proofs.PairOrder.{upto_itself}
 use Rattle.merge_core.proofs.MergeLemmas.{on_err}
 use Rattle.merge_core.proofs.SpendLemmas.{idle_read}
-use Rattle.merge_core.proofs.WholeLemmas.{texts_kept}
+use Rattle.merge_core.proofs.WholeLemmas.{all_kept}
 use Rattle.merge_core.proofs.GroupLemmas.{AreBelow, from_waited}
 use Rattle.merge_core.proofs.GatherSteps.{Gathers, TakenNext, gathers_start, taken_next, gathers_on}
 use Rattle.merge_core.proofs.HeapLemmas.{each_permuted}
 use Rattle.merge_core.proofs.Many.{moved_trans, moved_still}
-use Rattle.merge_core.proofs.StateLemmas.{feeds_long, popped_feeds}
+use Rattle.merge_core.proofs.StateLemmas.{popped_feeds}
 use Rattle.merge_core.proofs.TurnLemmas.{above_popped, not_before}
 use Rattle.merge_core.proofs.state.Merge.gather.Given.{Over}
 use Rattle.merge_core.proofs.state.Merge.gather.Goals.{After-read_on, After-push, In_ok-read_on}
@@ -188,9 +188,8 @@ returns-in_err-read_on-clause-moved g c =
 pub returns-in_err-read_on-clause-fault : goal.returns-in_err-read_on-clause-fault
 returns-in_err-read_on-clause-fault g c =
     let gathers = c.sources.invariant.gathers in
-    let before = c.requires.ready.aligned.same in
-    let texts = texts_kept g.S.Source.text g.S.Source.extent g.S.Source.gave c.args.sources.now c.sources.sources
-    (feeds c.args.self.now) (feeds c.sources.self) (grind (arith, feeds_long)) gathers.as_many gathers.moved in
+    let kept = all_kept g.S.Source.text g.S.Source.extent g.S.Source.gave c.args.sources.now c.args.self.now
+    c.sources.sources c.sources.self c.requires.ready.aligned.same gathers.as_many gathers.moved in
     grind arith
 
 pub returns-in_err-read_on-clause-reads : goal.returns-in_err-read_on-clause-reads

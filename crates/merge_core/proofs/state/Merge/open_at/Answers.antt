@@ -61,11 +61,8 @@ loop-i-preserved g c =
           (rw same_here at added.cursor_is.1));
     }
 
-pub returns-in-Err-clause-text : goal.returns-in-Err-clause-text
-returns-in-Err-clause-text g c = grind (arith, map_set_same)
-
-pub returns-in-Err-clause-extent : goal.returns-in-Err-clause-extent
-returns-in-Err-clause-extent g c = grind (arith, map_set_same)
+pub returns-in-Err-clause-kept : goal.returns-in-Err-clause-kept
+returns-in-Err-clause-kept g c = grind (arith, map_set_same)
 
 pub returns-in-Err-clause-failures : goal.returns-in-Err-clause-failures
 returns-in-Err-clause-failures g c = grind (arith, raised_by_feed)

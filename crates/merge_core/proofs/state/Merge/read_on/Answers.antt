@@ -13,7 +13,7 @@ use Rattle.merge_core.specs.Spending.{AreReadTo}
 use Rattle.merge_core.proofs.SpendLemmas.{are_read_to, read_on}
 use Rattle.merge_core.proofs.FailLemmas.{raised_by_feed}
 use Rattle.merge_core.proofs.Many.{moved_set, map_set_same, unread_set}
-use Rattle.merge_core.proofs.StateLemmas.{fed_at, feeds_long, idle_here, moved_feeds, waited_aligned, waited_feeds}
+use Rattle.merge_core.proofs.StateLemmas.{fed_at, long_of, idle_here, moved_feeds, waited_aligned, waited_feeds}
 use Rattle.merge_core.proofs.StateLemmas.{waited_length}
 use Rattle.merge_core.proofs.state.Merge.read_on.Given.{Over}
 use Rattle.merge_core.proofs.state.Merge.read_on.Goals.{After-read_group}
@@ -41,7 +41,7 @@ module _ (g : Over) (c : After-read_group g) where
       c.index_mut-cursor.ensures.value
 
   long : length c.args.sources.now ≡ length (feeds c.args.self.now)
-  long = let same = c.requires.aligned.same in grind (arith, feeds_long)
+  long = long_of c.requires.aligned
 
   module _ (m : Merge) (f : Feed) (is : f.cursor ≡ c.read_group.new.cursor)
       (feeds_are : feeds m ≡ set (feeds c.args.self.now) c.args.i f) where
