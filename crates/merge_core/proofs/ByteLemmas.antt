@@ -11,10 +11,9 @@ use Rattle.cdxj_core.specs.Members.{Member, line_row, line_entry}
 use Rattle.cdxj_core.proofs.MemberLemmas.{entered}
 use Rattle.source_core.specs.Cursors.{CursorState}
 use Rattle.source_core.specs.Search.{IsCut}
-use Rattle.merge_core.specs.declared.feed.Feed.{Feed}
 use Rattle.merge_core.specs.PairOrders.{is_low}
 use Rattle.merge_core.specs.Collections.{Known}
-use Rattle.merge_core.specs.Feeds.{bytes_of}
+use Rattle.merge_core.specs.Feeds.{Feed, bytes_of}
 use Rattle.merge_core.specs.Openings.{IsCutAt}
 use Rattle.merge_core.specs.Spending.{ReadTo, CameWithin, AllGaveWithin}
 use Rattle.merge_core.specs.Written.{lines_text}

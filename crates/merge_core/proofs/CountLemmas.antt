@@ -2,7 +2,7 @@
 use Rattle.std.proofs.lemmas.List.{take-map, take-take, length-map, map-append, nil_from_length}
 use Rattle.std.specs.List.{AllZip, AllByRecursion, sum}
 use Rattle.std.proofs.Common.{◌≡◌, ℕ, zero, suc, ◌+◌, ◌<◌, ◌≤◌, List, [], ◌∷◌, length, take, drop, map, filter, Bool}
-use Rattle.std.proofs.Common.{true, false, not, Option, Some, refl, ap, arith, length-append, ◌-◌, zip, length-take}
+use Rattle.std.proofs.Common.{true, false, not, Option, Some, refl, ap, arith, length-append, zip, length-take}
 use Rattle.merge_core.proofs.Filters.{filter_fewer, filter_weaker, filter_front, filter_back, each_both, each_take}
 use Rattle.std.proofs.lemmas.List.Elements.{filter-append}
 use Rattle.cdxj_places.specs.Pairs.{Pair}
@@ -10,22 +10,22 @@ use Rattle.cdxj_places.specs.TextLines.{lines}
 use Rattle.cdxj_places.proofs.RisingLaws.{each_weaker}
 use Rattle.cdxj_core.specs.Indexes.{IsIndex}
 use Rattle.cdxj_core.specs.Members.{Member, member_pair}
-use Rattle.merge_core.specs.declared.feed.Feed.{Feed}
+use Rattle.merge_core.specs.declared.state.Merge.{Merge}
 use Rattle.merge_core.specs.PairOrders.{Upto, is_low, IsUpto}
 use Rattle.merge_core.specs.WaitingLines.{WaitingLine, is_of, waits_of}
 use Rattle.merge_core.specs.Collections.{Known, OverIndexes, all_lines}
 use Rattle.merge_core.specs.Counts.{is_at, ShareAtMost}
-use Rattle.merge_core.specs.Feeds.{Fed, AreFed, member_of, done, held}
+use Rattle.merge_core.specs.Feeds.{AreFed, Fed, Feed, done, feeds, given, member_of}
 use Rattle.merge_core.specs.Gathering.{Grouped, all_done, text_or}
 use Rattle.merge_core.specs.Reached.{Reached}
 use Rattle.merge_core.proofs.MergeLemmas.{gathered_now}
 use Rattle.merge_core.proofs.ReadLines.{members_are}
-use Rattle.merge_core.proofs.StreamLemmas.{few_wait}
+use Rattle.merge_core.proofs.FeedLemmas.{done_cut, done_within}
+use Rattle.merge_core.proofs.StateLemmas.{few_wait, feeds_long}
 use Rattle.merge_core.proofs.WholeLemmas.{told_known, texts_kept}
 use Rattle.std.proofs.lemmas.List.Sums.{sum_by-cons}
 use Rattle.std.proofs.lemmas.List.Filters.{length-filter_both}
 use Rattle.source_core.specs.Search.{IsCut}
-use Rattle.merge_core.specs.declared.feed.Progress.{Progress}
 use Rattle.merge_core.specs.Openings.{IsCutAt}
 use Rattle.merge_core.proofs.GroupLemmas.{each_cut, filter_all}
 use Rattle.merge_core.proofs.StartLemmas.{run_after}
@@ -49,55 +49,56 @@ few_of zero (w ∷ ws) placed few = grind arith
 
 -- ---- the lines of a group
 
--- what is done of an index is among its lines
-pub done_fewer : {limit : ℕ} {past : List ℕ → Bool} {t : List ℕ} {extent : ℕ} {f : Feed} {ws ms : List Member}
-    (test : Member → Bool) → Fed limit past (Some t) extent f ws → IsIndex limit t ms
-    → length (filter test (done limit t f)) ≤ length (filter test ms)
-done_fewer {limit = limit} {t = t} {f = f} {ms = ms} test fed index =
+-- what was taken of an index is among its lines
+pub done_fewer : {limit : ℕ} {past : List ℕ → Bool} {t : List ℕ} {extent : ℕ} {f : Feed} {ms : List Member}
+    (test : Member → Bool) → Fed limit past (Some t) extent f → IsIndex limit t ms
+    → length (filter test (done limit past t f)) ≤ length (filter test ms)
+done_fewer {limit = limit} {past = past} {t = t} {f = f} {ms = ms} test fed index =
     let told = fed.told t refl in
     let from = lines (drop f.cursor.start t) in
     let all = members_are limit (lines t) ms index.entries in
-    let cut = told.begins.1.0 in
+    let first = told.begins.1.0 in
+    let cut = done_cut fed t refl in
     let whole = map-append (member_of limit) told.begins.0 from in
     let read = take-map (member_of limit) f.cursor.count from in
-    grind (arith, filter_front, filter_back)
+    let a = filter_front test cut.0 (given limit t f.cursor) in
+    let b = filter_front test f.cursor.count (map (member_of limit) from) in
+    let c = filter_back test (map (member_of limit) told.begins.0) (map (member_of limit) from) in
+    grind arith
 
 module _ (limit : ℕ) (past : List ℕ → Bool) {S : Type 0} (text : S → Option (List ℕ)) (extent : S → ℕ) where
-  all_fewer : (n : ℕ) (ss : List S) (fs : List Feed) (ws : List WaitingLine) (texts : List (List ℕ))
-      (indexes : List (List Member)) (test : Member → Bool) → length ss ≡ length fs → Known (map text ss) texts
-      → AllZip (IsIndex limit) texts indexes
-      → AreFed limit past text extent n ss fs ws
-      → length (filter test (all_done limit text ss fs)) ≤ length (filter test (all_lines indexes))
-  all_fewer n (s ∷ ss) (f ∷ fs) ws (t ∷ ts) (i ∷ is) test e known are fed =
+  all_fewer : (ss : List S) (fs : List Feed) (texts : List (List ℕ)) (indexes : List (List Member))
+      (test : Member → Bool) → Known (map text ss) texts → AllZip (IsIndex limit) texts indexes
+      → AreFed limit past text extent ss fs
+      → length (filter test (all_done limit past text ss fs)) ≤ length (filter test (all_lines indexes))
+  all_fewer (s ∷ ss) (f ∷ fs) (t ∷ ts) (i ∷ is) test known are fed =
       let here = done_fewer test (rw known.0 at fed.0) are.0 in
-      grind (arith, filter-append, length-append, all_fewer (n + 1) ss fs ws ts is test)
-  all_fewer n ss fs ws ts is test e known are fed = grind arith
+      grind (arith, filter-append, length-append, all_fewer ss fs ts is test)
+  all_fewer ss fs ts is test known are fed = grind arith
 
 at_pair : (pair : Pair) (m : Member) → Upto (member_pair m) pair → not (is_low pair m) ≡ true → is_at pair m ≡ true
 at_pair pair m u = grind arith
 
 module _ {S : Type 0} {limit : ℕ} {text : S → Option (List ℕ)} {past : List ℕ → Bool} {extent gave : S → ℕ}
-    {old ss0 ss : List S} {old_fs fs0 fs : List Feed} {ws0 ws : List WaitingLine} {b c : Option Pair} {pair : Pair}
-    {taken more group : List Member} (was : Reached limit text past extent gave old old_fs ss0 fs0 ws0 b taken)
-    (grouped : Grouped limit text extent ss0 fs0 ws0 ss fs ws pair group)
-    (now : Reached limit text past extent gave old old_fs ss fs ws c more) (long : length ss ≡ length old)
-    (same : length old ≡ length old_fs) where
+    {old ss0 ss : List S} {begun m0 m : Merge} {b c : Option Pair} {pair : Pair} {taken more group : List Member}
+    (was : Reached limit text past extent gave old begun ss0 m0 b taken)
+    (grouped : Grouped limit past text extent ss0 m0 ss m pair group)
+    (now : Reached limit text past extent gave old begun ss m c more) (long : length ss ≡ length old)
+    (same : length old ≡ length begun.cursors.items) where
   -- the lines that wait and the group are one line of each source, and as many as share a pair
   pub held_most : OverIndexes limit (map text old) (λ texts indexes. (most : ℕ) → ShareAtMost most (all_lines indexes)
-      → length ws + length group ≤ length old + most)
+      → length m.queue + length group ≤ length old + most)
   held_most texts indexes known are most share =
-      let known_now = rw (← texts_kept text extent gave old ss old_fs fs same long now.moved) at known in
+      let aligned = now.ready.aligned in
+      let before : length old ≡ length (feeds begun) = grind (arith, feeds_long) in
+      let known_now = rw (← texts_kept text extent gave old ss (feeds begun) (feeds m) before long now.moved) at known in
       let gathered = gathered_now was grouped (told_known text old texts known) in
-      let there = all_fewer limit past text extent 0 ss fs ws texts indexes (is_at pair) now.ready.same known_now are
-      now.ready.fed in
-      let few = few_of (length ss) ws (rw (← now.ready.same) at now.ready.placed) (few_wait now.ready) in
+      let there = all_fewer limit past text extent ss (feeds m) texts indexes (is_at pair) known_now are aligned.fed in
+      let few = few_of (length ss) m.queue (rw (← aligned.same) at aligned.placed) (few_wait aligned) in
       let taken = ap length gathered.taken in
       grind (arith, filter_weaker, each_weaker, at_pair)
 
 -- ---- the lines that were read
-
-pub one_held : (p : Progress) → held p ≤ 1
-one_held p = grind arith
 
 -- this test holds of all lines that lie within the range, aren't below the pair and don't stand above the bound
 pub record Passes (past : List ℕ → Bool) (start : Pair) (b : Option Pair) (test : Member → Bool) : Type 0 where
@@ -114,34 +115,39 @@ module _ {past : List ℕ → Bool} {start : Pair} {b : Option Pair} {test : Mem
   each_passes (m ∷ ms) within not_low =
       (p.passes m within.0.0 not_low.0 within.0.1, each_passes ms within.1 not_low.1)
 
-  source_most : {limit : ℕ} {t : List ℕ} {extent : ℕ} {f : Feed} {ws ms : List Member}
-      → Fed limit past (Some t) extent f ws
+  source_most : {limit : ℕ} {t : List ℕ} {extent : ℕ} {f : Feed} {ms : List Member} → Fed limit past (Some t) extent f
       → IsIndex limit t ms → IsCut start t ms f.cursor.start
-      → AllByRecursion (λ m. IsUpto b (member_pair m)) (done limit t f) → f.cursor.count ≤ length (filter test ms) + 1
-  source_most {limit} {t} {f = f} {ms = ms} fed index cut upto =
+      → AllByRecursion (λ m. IsUpto b (member_pair m)) (done limit past t f)
+      → f.cursor.count ≤ length (filter test ms) + 1
+  source_most {limit = limit} {t = t} {f = f} {ms = ms} fed index cut upto =
       let told = fed.told t refl in
       let run = run_after limit start t ms f.cursor.start index cut in
       let high : map (member_of limit) (lines (drop f.cursor.start t))
       ≡ cut.high = members_are limit _ cut.high run.0.entries in
-      let k = f.cursor.count - held f.progress in
-      let front : done limit t f ≡ take k cut.high = grind (arith, take-map, take-take) in
+      let done_of = done_cut fed t refl in
+      let k = done_of.0 in
+      let long : length (given limit t f.cursor) ≡ f.cursor.count = grind (arith, length-map, told.as_many) in
+      let front : done limit past t f ≡ take k cut.high = grind (arith, take-map, take-take) in
       let not_low = rw (← front) at (each_take (λ m. is_low start m ≡ false) k cut.high cut.none_below) in
       let fewer = done_fewer test fed index in
-      grind (arith, each_passes, each_both, one_held, length-map, filter_all, length-take)
+      let within = done_within limit past t f in
+      let pass = filter_all test (done limit past t f) (each_passes _ (each_both _ _ _ within upto) not_low) in
+      let many = length-take k (given limit t f.cursor) in
+      grind arith
 
-  module _ (limit : ℕ) {S : Type 0} (text : S → Option (List ℕ)) (extent : S → ℕ) (ws : List WaitingLine) where
+  module _ (limit : ℕ) {S : Type 0} (text : S → Option (List ℕ)) (extent : S → ℕ) where
     -- No more lines were read than those that pass, and one of each source
-    pub lines_most : (n : ℕ) (ss : List S) (fs : List Feed) (texts : List (List ℕ)) (indexes : List (List Member))
-        → length ss ≡ length fs → Known (map text ss) texts → AllZip (IsIndex limit) texts indexes
+    pub lines_most : (ss : List S) (fs : List Feed) (texts : List (List ℕ)) (indexes : List (List Member))
+        → Known (map text ss) texts → AllZip (IsIndex limit) texts indexes
         → AllByRecursion (λ x. IsCutAt limit start (text x.0) x.1.cursor) (zip ss fs)
-        → AreFed limit past text extent n ss fs ws
-        → AllByRecursion (λ m. IsUpto b (member_pair m)) (all_done limit text ss fs)
+        → AreFed limit past text extent ss fs
+        → AllByRecursion (λ m. IsUpto b (member_pair m)) (all_done limit past text ss fs)
         → sum (map (λ (f : Feed). f.cursor.count) fs) ≤ length (filter test (all_lines indexes)) + length indexes
-    lines_most n (s ∷ ss) (f ∷ fs) (t ∷ ts) (i ∷ is) same known are cut fed upto =
-        let parts = each_cut (λ m. IsUpto b (member_pair m)) (done limit (text_or (text s)) f)
-        (all_done limit text ss fs) upto in
+    lines_most (s ∷ ss) (f ∷ fs) (t ∷ ts) (i ∷ is) known are cut fed upto =
+        let parts = each_cut (λ m. IsUpto b (member_pair m)) (done limit past (text_or (text s)) f)
+        (all_done limit past text ss fs) upto in
         let here = source_most (rw known.0 at fed.0) are.0 (cut.0 t i known.0 are.0) (rw known.0 at parts.0) in
-        let rest = lines_most (n + 1) ss fs ts is (omega arith) known.1 are.1 cut.1 fed.1 parts.1 in
+        let rest = lines_most ss fs ts is known.1 are.1 cut.1 fed.1 parts.1 in
         let count = sum_by-cons (λ (k : ℕ). k) f.cursor.count (map (λ (f : Feed). f.cursor.count) fs) in
         grind (arith, length-append, filter-append)
-    lines_most n ss fs ts is same known are cut fed upto = grind (arith, nil_from_length)
+    lines_most ss fs ts is known are cut fed upto = grind (arith, nil_from_length)

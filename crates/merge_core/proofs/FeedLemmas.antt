@@ -1,14 +1,16 @@
 -- What one line more makes of a feed.
-use Rattle.std.proofs.lemmas.List.{map-append, take-map, take-take, drop_all}
-use Rattle.std.proofs.Common.{true, ◌⊎◌, ◌≡◌, ℕ, suc, ◌+◌, ◌≤◌, List, [], ◌∷◌, ◌++◌, length, refl, arith, Bool, false}
+use Rattle.std.proofs.lemmas.List.{map-append, drop_all, length-map}
+use Rattle.std.proofs.Common.{true, ◌⊎◌, inl, inr, ◌≡◌, ℕ, zero, suc, ◌+◌, ◌-◌, ◌≤◌, List, [], ◌∷◌, ◌++◌, length, refl}
+use Rattle.std.proofs.Common.{arith, Bool, false, filter, ap, take_all, take_at, length-drop}
 use Rattle.std.proofs.Common.{Option, Some, None, take, drop, map, append-nil, length-append, ◌<◌, length-take}
 use Rattle.std.proofs.Common.{append_assoc, take-append-drop}
+use Rattle.std.proofs.lemmas.List.Elements.{filter-append}
 use Rattle.std.specs.List.{AllByRecursion}
 use Rattle.std.specs.FinMap.{nat_cmp-IsAntisymmetric, slice_cmp-IsAntisymmetric}
 use Rattle.std.proofs.lemmas.Cmp.{tied_back}
 use Rattle.std.proofs.lemmas.List.Concat.{flat_map-append}
 use Rattle.cdxj_places.proofs.PairLemmas.{pair_cmp_total}
-use Rattle.cdxj_places.proofs.RisingLaws.{each_join}
+use Rattle.cdxj_places.proofs.RisingLaws.{each_join, each_weaker}
 use Rattle.cdxj_places.specs.Pairs.{Pair, pair_cmp}
 use Rattle.cdxj_places.specs.Rising.{NeverFalls}
 use Rattle.cdxj_places.specs.TextLines.{lines}
@@ -17,19 +19,16 @@ use Rattle.cdxj_core.specs.Members.{Member, member_pair, line_entry}
 use Rattle.cdxj_core.proofs.MemberLemmas.{entry_is_short, long_line_none}
 use Rattle.source_core.specs.Cursors.{CursorState, Stands}
 use Rattle.source_core.specs.IndexLines.{first_length}
-use Rattle.merge_core.specs.declared.feed.Progress.{Progress}
-use Rattle.merge_core.specs.declared.feed.Progress.TheVariants.{Due, Waiting, Past}
-use Rattle.merge_core.specs.declared.feed.Feed.{Feed}
 use Rattle.merge_core.specs.PairOrders.{Alike, Upto, Below}
 use Rattle.merge_core.specs.Gathering.{EndsAt}
-use Rattle.merge_core.specs.Feeds.{IsNext, Fed, held, read_lines, given, done}
-use Rattle.merge_core.proofs.PairOrder.{upto_both, below_then}
-use Rattle.std.proofs.lemmas.Bool.{cases_lt}
+use Rattle.merge_core.specs.Feeds.{Feed, Fed, IsSettled, feed_of, read_lines, given, done, stays}
+use Rattle.merge_core.proofs.PairOrder.{below_then, same_upto, same_from, upto_upto}
+use Rattle.std.proofs.lemmas.Bool.{cases_lt, not-true}
 use Rattle.source_core.specs.LinesAtFault.{IsOutOfOrder, LineBeginsAt}
 use Rattle.source_core.proofs.SortedCuts.{begins_at}
 use Rattle.merge_core.specs.declared.fault.FeedFault.{FeedFault}
 use Rattle.merge_core.specs.NextLine.{IsNextLine}
-use Rattle.merge_core.proofs.GroupLemmas.{each_cut}
+use Rattle.merge_core.proofs.GroupLemmas.{filter_all}
 use Rattle.merge_core.specs.LineFaults.{IsBadFirst, IsFeedFaultAt, NamesLine}
 
 pub no_entry : (limit : ℕ) (line : List ℕ) (o : Option Member) → o ≡ line_entry limit line
@@ -40,6 +39,17 @@ pub take_next : {X : Type 0} (n : ℕ) (all : List X) (x : X) (rest : List X) �
     ≡ take n all ++ x ∷ []
 take_next (suc n) (y ∷ ys) x rest e = grind (arith, take_next n ys x rest e)
 take_next n all x rest e = grind arith
+
+-- what stands before the last of lines that never fall is not above it
+pub falls_last : (xs : List Member) (y : Member) → NeverFalls member_pair pair_cmp (xs ++ y ∷ [])
+    → AllByRecursion (λ m. Upto (member_pair m) (member_pair y)) xs
+falls_last [] y h = tt
+falls_last (x ∷ xs) y h = (at_end xs h.0, falls_last xs y h.1)
+  where
+    at_end : (us : List Member) → AllByRecursion (λ m. Upto (member_pair x) (member_pair m)) (us ++ y ∷ [])
+        → Upto (member_pair x) (member_pair y)
+    at_end [] a = a.0
+    at_end (u ∷ us) a = at_end us a.1
 
 -- one line more was read
 pub one_more : (t : List ℕ) (was now : CursorState) (line : List ℕ) → lines (drop was.at t)
@@ -52,89 +62,208 @@ pub falls_push : (xs : List Member) (y : Member) → NeverFalls member_pair pair
 falls_push (x ∷ xs) y h k = grind (arith, each_join, falls_push xs y h.1 k.1)
 falls_push xs y h k = grind arith
 
--- the next line waits, or lies past the range
-next_is : (past : List ℕ → Bool) (m : Member) (p : Progress) (ws : List Member) → IsNext past m p ws
-    → ((p ≡ Waiting) × (ws ≡ m ∷ []) × (past m.values.key ≡ false))
-    ⊎ ((p ≡ Past) × (ws ≡ []) × (past m.values.key ≡ true))
-next_is past m p ws n = grind arith
+-- ---- what was taken of a source
 
--- a line that has the pair of the last one, which lies within the range, lies within it
-pub same_stays : (past : List ℕ → Bool) (pair : Pair) (m : Member) (ms : List Member)
-    → AllByRecursion (λ (k : Member). past k.values.key ≡ false) ms → AllByRecursion (λ k. Upto (member_pair k) pair) ms
-    → EndsAt pair ms → Alike (member_pair m) pair → past m.values.key ≡ false
-same_stays past pair m ms within low end alike =
-    let last = end.1 in
-    let stays = (each_cut (λ (k : Member). past k.values.key ≡ false) end.0 (last ∷ []) (rw (← end.2) within)).1.0 in
-    let upto = (each_cut (λ k. Upto (member_pair k) pair) end.0 (last ∷ []) (rw (← end.2) low)).1.0 in
-    let back = upto_both (member_pair last) pair upto end.3 in
-    let both = pair_cmp_total.congr (member_pair m) pair (member_pair last) alike in
-    grind (arith, slice_cmp-IsAntisymmetric, nat_cmp-IsAntisymmetric, tied_back, pair_cmp_total)
+-- of lines that pass a test, save the last perhaps
+last_passes : {X : Type 0} (test : X → Bool) (us vs : List X) → length vs ≤ 1 → AllByRecursion (λ x. test x ≡ true) us
+    → (filter test (us ++ vs) ≡ us) ⊎ (filter test (us ++ vs) ≡ us ++ vs)
+last_passes test us [] h each = inl (grind (arith, filter-append, filter_all, append-nil))
+last_passes test us (v ∷ []) h each = (elim (test v) as (λ b. test v ≡ b → (filter test (us ++ v ∷ []) ≡ us)
+    ⊎ (filter test (us ++ v ∷ []) ≡ us ++ v ∷ [])) [
+      | true ↦ (λ e. inr (grind (arith, filter-append, filter_all)))
+      | false ↦ (λ e. inl (grind (arith, filter-append, filter_all, append-nil)))
+    ]) refl
+last_passes test us (v ∷ w ∷ vs) h each = absurd (omega arith)
 
--- the limit of a line, in bytes
-module _ (limit : ℕ) where
-  -- what is done of a feed, beside what was read before
-  pub done_is : (t : List ℕ) (f : Feed) (old : CursorState) → f.cursor.start ≡ old.start → f.cursor.count
-      ≡ old.count + held f.progress → done limit t f ≡ given limit t old
-  done_is t f old start count = grind (arith, take-map, take-take)
+-- how many of n lines were taken, of which w wait
+abbrev Cut : {X : Type 0} → (X → Bool) → ℕ → ℕ → List X → Type 0
+Cut test n w xs = (k : ℕ) × (k ≤ n) × (n ≤ k + 1) × (filter test (take (n - w) xs) ≡ take k xs)
 
-  pub done_due : (t : List ℕ) (f : Feed) → f.progress ≡ Due → done limit t f ≡ given limit t f.cursor
-  done_due t f e = grind (arith, done_is)
+cut_last : {X : Type 0} (test : X → Bool) (n w : ℕ) (xs : List X) → length xs ≡ n → w ≤ 1 → w ≤ n
+    → AllByRecursion (λ x. test x ≡ true) (take (n - 1) xs) → Cut test n w xs
+cut_last test n zero xs long few some each =
+    let whole = take-append-drop (n - 1) xs in
+    let all = take_all n xs in
+    elim (last_passes test (take (n - 1) xs) (drop (n - 1) xs) (grind (arith, length-drop)) each) [
+      | inl e ↦ (n - 1, omega arith, omega arith, grind arith)
+      | inr e ↦ (n, omega arith, omega arith, grind arith)
+    ]
+cut_last test n (suc w) xs long few some each =
+    (n - 1, omega arith, omega arith, grind (arith, filter_all))
 
-  -- the next line of a feed was read, which is this one
-  pub record LineRead (past : List ℕ → Bool) (text : Option (List ℕ)) (extent : ℕ) (old f : Feed) (m : Member) : Type 0
-    where
-      pub is_due : old.progress ≡ Due
-      pub was : Fed limit past text extent old []
-      pub stands : Stands text extent f.cursor
-      pub start : f.cursor.start ≡ old.cursor.start
-      pub count : f.cursor.count ≡ old.cursor.count + 1
-      pub near : (t : List ℕ) → text ≡ Some t
-          → f.cursor.at ≤ old.cursor.at + first_length (lines (drop old.cursor.at t))
-      pub next : (t : List ℕ) → text ≡ Some t → IsNextLine limit t old.cursor.at f.cursor.at (Some m)
-      pub low : (t : List ℕ) → text ≡ Some t
-          → AllByRecursion (λ k. Upto (member_pair k) (member_pair m)) (done limit t old)
+pub filter_passes : {X : Type 0} (test : X → Bool) (xs : List X) → AllByRecursion (λ x. test x ≡ true) (filter test xs)
+filter_passes test [] = tt
+filter_passes test (x ∷ xs) = grind (arith, filter_passes test xs)
 
-module _ {limit : ℕ} {past : List ℕ → Bool} {text : Option (List ℕ)} {extent : ℕ} {old f : Feed} {m : Member}
-    (r : LineRead limit past text extent old f m) where
-  given_old : (t : List ℕ) → done limit t old ≡ given limit t old.cursor
-  given_old t = done_due limit t old r.is_due
+-- the limit of a line, in bytes, and which keys lie past the range
+module _ (limit : ℕ) (past : List ℕ → Bool) where
+  pub done_within : (t : List ℕ) (f : Feed)
+      → AllByRecursion (λ (m : Member). past m.values.key ≡ false) (done limit past t f)
+  done_within t f = each_weaker (λ (m : Member) (e : stays past m ≡ true). not-true _ e) _ (filter_passes (stays past) _)
 
-  read_more : (t : List ℕ) (e : text ≡ Some t) → read_lines t f.cursor
-      ≡ read_lines t old.cursor ++ (r.next t e).0 ∷ []
-  read_more t e = one_more t old.cursor f.cursor _ (r.was.stands.rest t e) r.count r.start (r.next t e).1
+  -- where all lines lie within the range and none waits, all were taken
+  pub done_all : (t : List ℕ) (c : CursorState) → length (read_lines t c) ≡ c.count
+      → AllByRecursion (λ m. stays past m ≡ true) (given limit t c) → done limit past t (feed_of c []) ≡ given limit t c
+  done_all t c long each =
+      let whole = take_all c.count (given limit t c) (grind (arith, length-map)) in
+      grind (arith, filter_all)
 
-  given_next : (t : List ℕ) → text ≡ Some t → given limit t f.cursor ≡ given limit t old.cursor ++ m ∷ []
+  -- the next line of a source was read, which is this one
+  pub record LineRead (text : Option (List ℕ)) (extent : ℕ) (old c : CursorState) (m : Member) : Type 0 where
+    pub was : Fed limit past text extent (feed_of old [])
+    pub inside : (t : List ℕ) → text ≡ Some t → AllByRecursion (λ m. stays past m ≡ true) (given limit t old)
+    pub stands : Stands text extent c
+    pub start : c.start ≡ old.start
+    pub count : c.count ≡ old.count + 1
+    pub near : (t : List ℕ) → text ≡ Some t → c.at ≤ old.at + first_length (lines (drop old.at t))
+    pub next : (t : List ℕ) → text ≡ Some t → IsNextLine limit t old.at c.at (Some m)
+    pub low : (t : List ℕ) → text ≡ Some t
+        → AllByRecursion (λ k. Upto (member_pair k) (member_pair m)) (given limit t old)
+
+-- what was taken are the first of the lines that were read, all but one at most
+pub done_cut : {limit : ℕ} {past : List ℕ → Bool} {text : Option (List ℕ)} {extent : ℕ} {f : Feed}
+    → Fed limit past text extent f → (t : List ℕ) → text ≡ Some t
+    → (k : ℕ) × (k ≤ f.cursor.count) × (f.cursor.count ≤ k + 1)
+    × (done limit past t f ≡ take k (given limit t f.cursor))
+done_cut {limit = limit} {past = past} {f = f} fed t e =
+    let told = fed.told t e in
+    cut_last (stays past) f.cursor.count (length f.waits) (given limit t f.cursor) (grind (arith, length-map)) fed.few
+    fed.counted told.within
+
+module _ {limit : ℕ} {past : List ℕ → Bool} {text : Option (List ℕ)} {extent : ℕ} {old c : CursorState} {m : Member}
+    (r : LineRead limit past text extent old c m) where
+  read_more : (t : List ℕ) (e : text ≡ Some t) → read_lines t c ≡ read_lines t old ++ (r.next t e).0 ∷ []
+  read_more t e = one_more t old c _ (r.was.stands.rest t e) r.count r.start (r.next t e).1
+
+  pub given_next : (t : List ℕ) → text ≡ Some t → given limit t c ≡ given limit t old ++ m ∷ []
   given_next t e = let more = read_more t e in grind (arith, map-append)
 
-  pub done_next : (ws : List Member) → IsNext past m f.progress ws → (t : List ℕ) → done limit t f ≡ done limit t old
-  done_next ws n t = grind (arith, done_is, next_is, given_old)
+  -- how many were read before
+  as_many : (t : List ℕ) → text ≡ Some t → length (given limit t old) ≡ old.count
+  as_many t e = let was = (r.was.told t e).as_many in grind (arith, length-map)
 
-  pub done_taken : f.progress ≡ Due → (t : List ℕ) → text ≡ Some t → done limit t f ≡ done limit t old ++ m ∷ []
-  done_taken d t e = grind (arith, done_due, given_next, given_old)
+  front : (t : List ℕ) → text ≡ Some t → take (c.count - 1) (given limit t c) ≡ given limit t old
+  front t e =
+      let n = as_many t e in
+      let long : length (given limit t old) ≡ c.count - 1 = omega (arith, n, r.count) in
+      rw (given_next t e) (take_at (given limit t old) (m ∷ []) (c.count - 1) long)
 
-  -- it waits or lies past the range, or it was taken
-  pub fed_more : (ws : List Member)
-      → IsNext past m f.progress ws ⊎ ((f.progress ≡ Due) × (ws ≡ [])
-      × ((t : List ℕ) → text ≡ Some t → past m.values.key ≡ false)) → Fed limit past text extent f ws
+  whole : (t : List ℕ) → text ≡ Some t → take c.count (given limit t c) ≡ given limit t c
+  whole t e =
+      let n = as_many t e in
+      let more = given_next t e in
+      take_all c.count (given limit t c) (grind (arith, length-append))
+
+  -- it waits unless it lies past the range, or it was taken
+  abbrev pub Goes : List Member → Type 0
+  Goes ws = (ws ≡ filter (stays past) (m ∷ []))
+      ⊎ ((ws ≡ []) × ((t : List ℕ) → text ≡ Some t → stays past m ≡ true))
+
+  pub fed_more : (ws : List Member) → Goes ws → Fed limit past text extent (feed_of c ws)
   fed_more ws cases = record {
     stands = r.stands;
-    waits = grind (arith, next_is);
-    counted = grind (arith, next_is);
+    few = grind arith;
+    counted = grind arith;
     told = λ t e.
         let was = r.was.told t e in
         let more = read_more t e in
+        let next = given_next t e in
+        let front = front t e in
+        let whole = whole t e in
         record {
           begins = rw r.start was.begins;
           stood = grind (arith, flat_map-append, length-append, append-nil);
           as_many = grind (arith, length-append);
-          within = grind (arith, done_next, done_taken, each_join);
-          run = rw (given_next t e, more) (record {
+          run = rw (next, more) (record {
             entries = grind (arith, map-append);
-            ordered = falls_push _ m was.run.ordered (rw (given_old t) at (r.low t e));
+            ordered = falls_push _ m was.run.ordered (r.low t e);
           });
-          head = grind (arith, next_is, given_next, done_next, done_due, given_old);
+          last = grind (arith, append-nil);
+          within = rw front (r.inside t e);
+          waiting = grind arith;
         };
   }
+
+  pub settled_more : (ws : List Member) → ws ≡ filter (stays past) (m ∷ [])
+      → IsSettled limit past text (feed_of c ws)
+  settled_more ws is t e none = inr (given limit t old, m, given_next t e, grind arith)
+
+  pub done_next : (ws : List Member) → ws ≡ filter (stays past) (m ∷ []) → (t : List ℕ) → text ≡ Some t
+      → done limit past t (feed_of c ws) ≡ given limit t old
+  done_next ws is t e =
+      let next = given_next t e in
+      let front = front t e in
+      let whole = whole t e in
+      let inside = r.inside t e in
+      grind (arith, filter_all, filter-append, append-nil)
+
+-- a line that has the pair of the last one, which lies within the range, lies within it
+pub same_stays : (past : List ℕ → Bool) (pair : Pair) (m : Member) (ms : List Member) → EndsAt past pair ms
+    → Alike (member_pair m) pair → past m.values.key ≡ false
+same_stays past pair m ms end alike =
+    let last = end.1 in
+    let both = pair_cmp_total.congr (member_pair m) pair (member_pair last) alike in
+    let back = tied_back pair_cmp_total (member_pair last) pair end.3 in
+    grind (arith, slice_cmp-IsAntisymmetric, nat_cmp-IsAntisymmetric, pair_cmp_total)
+
+-- none of lines that never fall is above the last
+pub low_of : (past : List ℕ → Bool) (pair : Pair) (ms : List Member) → NeverFalls member_pair pair_cmp ms
+    → EndsAt past pair ms → AllByRecursion (λ k. Upto (member_pair k) pair) ms
+low_of past pair ms falls end =
+    let last = end.1 in
+    let up = same_upto (member_pair last) pair end.3 in
+    rw end.2 (each_join (λ k. Upto (member_pair k) pair) end.0 (last ∷ [])
+    (each_weaker (λ (k : Member) (h : Upto (member_pair k) (member_pair last)). upto_upto (member_pair k) (member_pair last)
+    pair h up) end.0 (falls_last end.0 last (rw end.2 at falls))) (up, tt))
+
+-- nor lies past the range
+pub inside_of : (past : List ℕ → Bool) (pair : Pair) (n : ℕ) (ms : List Member) → length ms ≡ n
+    → AllByRecursion (λ m. stays past m ≡ true) (take (n - 1) ms) → EndsAt past pair ms
+    → AllByRecursion (λ m. stays past m ≡ true) ms
+inside_of past pair n ms long each end =
+    let last = end.1 in
+    let l = ap length end.2 in
+    let before : length end.0 ≡ n - 1 = grind (arith, length-append) in
+    let front : take (n - 1) ms ≡ end.0 = rw end.2 (take_at end.0 (last ∷ []) (n - 1) before) in
+    rw end.2 (each_join (λ m. stays past m ≡ true) end.0 (last ∷ []) (rw front at each) (grind arith, tt))
+
+-- where the last line has the pair and lies within the range, all lines were taken
+module _ {limit : ℕ} {past : List ℕ → Bool} {text : Option (List ℕ)} {extent : ℕ} {c : CursorState} {pair : Pair}
+    (fed : Fed limit past text extent (feed_of c [])) (t : List ℕ) (e : text ≡ Some t)
+    (end : EndsAt past pair (given limit t c)) where
+  pub all_inside : AllByRecursion (λ m. stays past m ≡ true) (given limit t c)
+  all_inside =
+      let told = fed.told t e in
+      inside_of past pair c.count (given limit t c) (grind (arith, length-map)) told.within end
+
+  pub all_upto : AllByRecursion (λ k. Upto (member_pair k) pair) (given limit t c)
+  all_upto = low_of past pair (given limit t c) (fed.told t e).run.ordered end
+
+  pub all_taken : done limit past t (feed_of c []) ≡ given limit t c
+  all_taken = done_all limit past t c (fed.told t e).as_many all_inside
+
+-- a source ended
+pub fed_end : {limit : ℕ} {past : List ℕ → Bool} {text : Option (List ℕ)} {extent : ℕ} {old : CursorState}
+    → Fed limit past text extent (feed_of old []) → (c : CursorState) → Stands text extent c → c.start ≡ old.start
+    → c.count ≡ old.count → ((t : List ℕ) → text ≡ Some t → c.at ≤ old.at + first_length (lines (drop old.at t)))
+    → ((t : List ℕ) → text ≡ Some t → lines (drop old.at t) ≡ []) → Fed limit past text extent (feed_of c [])
+fed_end fed c stands start count near none = record {
+  stands = stands;
+  few = omega arith;
+  counted = omega arith;
+  told = λ t e.
+      let was = fed.told t e in
+      let nearer = rw (none t e) at (near t e) in
+      rw (start, count) (record {
+        begins = was.begins;
+        stood = grind arith;
+        as_many = was.as_many;
+        run = was.run;
+        last = was.last;
+        within = was.within;
+        waiting = was.waiting;
+      });
+}
 
 -- ---- lines at fault, by where the cursor stands
 
@@ -152,7 +281,7 @@ last_line limit (l ∷ []) [] last e = ([], l, refl, grind arith)
 last_line limit ls before last e = absurd (cc)
 
 module _ {limit : ℕ} {past : List ℕ → Bool} {t : List ℕ} {extent : ℕ} {f : Feed}
-    (fed : Fed limit past (Some t) extent f []) where
+    (fed : Fed limit past (Some t) extent f) where
   -- the line at which the cursor stands, after those before it
   begins_here : (line : List ℕ) (after : List (List ℕ)) → lines (drop f.cursor.at t) ≡ line ∷ after
       → LineBeginsAt t f.cursor.at ((fed.told t refl).begins.0 ++ read_lines t f.cursor) line
@@ -170,13 +299,13 @@ module _ {limit : ℕ} {past : List ℕ → Bool} {t : List ℕ} {extent : ℕ} 
   bad_named e h = grind (arith, begins_here)
 
   -- the next line has a pair below that of the last line before it
-  pub order_named : (pair : Pair) (new : CursorState) (m : Member) → f.progress ≡ Due → EndsAt pair (done limit t f)
+  pub order_named : (pair : Pair) (new : CursorState) (m : Member) → EndsAt past pair (given limit t f.cursor)
       → IsNextLine limit t f.cursor.at new.at (Some m) → Below (member_pair m) pair → IsOutOfOrder limit t f.cursor.at
-  order_named pair new m due end next below =
+  order_named pair new m end next below =
       let told = fed.told t refl in
-      let last = last_line limit (read_lines t f.cursor) end.0 end.1 (grind (arith, done_due)) in
+      let last = last_line limit (read_lines t f.cursor) end.0 end.1 (grind arith) in
       let turned = pair_cmp_total.antisymm (member_pair end.1) (member_pair m) in
-      let lower = below_then (member_pair m) pair (member_pair end.1) below end.3 in
+      let lower = below_then (member_pair m) pair (member_pair end.1) below (same_from (member_pair end.1) pair end.3) in
       let here = begins_here next.0 (lines (drop new.at t)) next.1 in
       record {
         before = told.begins.0 ++ last.0;

@@ -5,11 +5,6 @@ use Rattle.std.specs.List.{AllByRecursion}
 use Rattle.std.proofs.lemmas.Bool.{cond-true}
 use Rattle.std.proofs.lemmas.List.Elements.{filter-append}
 
-pub filter_same : {X : Type 0} (f g : X → Bool) (xs : List X) → AllByRecursion (λ x. f x ≡ g x) xs → filter f xs
-    ≡ filter g xs
-filter_same f g [] h = refl
-filter_same f g (x ∷ xs) h = grind (arith, filter_same f g xs h.1)
-
 -- what a filter lets through, of things that have a property
 pub each_filter : {X : Type 0} (A : X → Type 0) (f : X → Bool) (xs : List X) → AllByRecursion A xs
     → AllByRecursion (λ x. A x × (f x ≡ true)) (filter f xs)

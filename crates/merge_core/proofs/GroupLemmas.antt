@@ -13,8 +13,9 @@ use Rattle.cdxj_places.proofs.PairLemmas.{pair_cmp_total}
 use Rattle.cdxj_places.proofs.RisingLaws.{each_join, each_weaker}
 use Rattle.cdxj_core.specs.Members.{Member, member_pair}
 use Rattle.merge_core.specs.PairOrders.{Alike, Below, Upto}
-use Rattle.merge_core.specs.WaitingLines.{WaitingLine, waiting_pair, turn_cmp, waits_of}
-use Rattle.merge_core.specs.Gathering.{Gathered, IsFrom, WaitsAbove}
+use Rattle.merge_core.specs.WaitingLines.{WaitingLine, queued, turn_cmp, waiting_pair, waits_of}
+use Rattle.merge_core.specs.Gathering.{Gathered, IsFrom}
+use Rattle.std.specs.List.Sorted.{IsPermutation}
 use Rattle.merge_core.proofs.Filters.{each_both}
 use Rattle.merge_core.proofs.PairOrder.{below_upto, same_upto, same_from, upto_upto, not_below_itself}
 use Rattle.merge_core.proofs.TurnLemmas.{not_before, source_after}
@@ -99,9 +100,18 @@ from_popped pair w ws e first none =
           let later = source_after v w h.0 at in let other = h.1 in omega arith),
     )) ws (each_both _ _ ws first (none_waits w.source ws none))
 
-pub from_waited : (pair : Pair) (n i : ℕ) (old new : List WaitingLine) → WaitsAbove pair i old new
+pub from_waited : (pair : Pair) (n i : ℕ) (waits : List Member) (old new : List WaitingLine)
+    → AllByRecursion (λ m. Below pair (member_pair m)) waits → IsPermutation (queued i waits ++ old) new
     → AllByRecursion (IsFrom pair n) old → AllByRecursion (IsFrom pair n) new
-from_waited pair n i old new (inl e) h = grind arith
-from_waited pair n i old new (inr (w, p, e, b)) h =
-    let not_at = not_below_itself pair (waiting_pair w) b in
-    each_permuted (IsFrom pair n) (w ∷ old) new p (grind (arith, below_upto, same_upto))
+from_waited pair n i waits old new later p h =
+    each_permuted (IsFrom pair n) (queued i waits ++ old) new p
+    (each_join (IsFrom pair n) (queued i waits) old (above waits later) h)
+  where
+    above : (ms : List Member) → AllByRecursion (λ m. Below pair (member_pair m)) ms
+        → AllByRecursion (IsFrom pair n) (queued i ms)
+    above [] h = tt
+    above (m ∷ ms) h = (
+      (below_upto pair (member_pair m) h.0,
+      λ a. absurd (not_below_itself pair (member_pair m) h.0 (same_upto (member_pair m) pair a))),
+      above ms h.1,
+    )

@@ -1,7 +1,7 @@
 -- Which lines of each source wait, as lines come and go.
 use Rattle.std.proofs.lemmas.Grind.{common_steps}
 use Rattle.std.proofs.Common.{◌≡◌, ◌≢◌, ℕ, suc, ◌==◌, ◌<◌, ◌≤◌, List, [], ◌∷◌, length, get_or, map, filter, true}
-use Rattle.std.proofs.Common.{false, cond, refl, sym, subst, arith, sum_by}
+use Rattle.std.proofs.Common.{◌++◌, ◌∙◌, false, cond, refl, sym, subst, arith, sum_by}
 use Rattle.std.specs.List.{AllByRecursion, All}
 use Rattle.std.specs.List.Sorted.{IsPermutation}
 use Rattle.std.proofs.lemmas.Bool.{cond-true, cond-false}
@@ -9,7 +9,7 @@ use Rattle.std.proofs.lemmas.List.Sorted.{All-permutation, sum_by-IsPermutation}
 use Rattle.std.proofs.lemmas.List.Sums.{sum_by-cons}
 use Rattle.cdxj_places.proofs.RisingLaws.{each_weaker}
 use Rattle.cdxj_core.specs.Members.{Member}
-use Rattle.merge_core.specs.WaitingLines.{WaitingLine, is_of, waits_of}
+use Rattle.merge_core.specs.WaitingLines.{WaitingLine, is_of, queued, waits_of}
 
 pub each_get : {X : Type 0} (P : X → Type 0) (xs : List X) (i : ℕ) (d : X) → AllByRecursion P xs → i < length xs
     → P (get_or xs i d)
@@ -32,6 +32,17 @@ waits_here i w ws e = grind arith
 
 pub waits_other : (i : ℕ) (w : WaitingLine) (ws : List WaitingLine) → w.source ≢ i → waits_of i (w ∷ ws) ≡ waits_of i ws
 waits_other i w ws n = grind arith
+
+pub waits_queued : (i : ℕ) (ms : List Member) (ws : List WaitingLine) → waits_of i (queued i ms ++ ws)
+    ≡ ms ++ waits_of i ws
+waits_queued i [] ws = refl
+waits_queued i (m ∷ ms) ws = grind (arith, waits_here, waits_queued i ms ws)
+
+pub waits_beside : (i j : ℕ) (ms : List Member) (ws : List WaitingLine) → j ≢ i
+    → waits_of j (queued i ms ++ ws) ≡ waits_of j ws
+waits_beside i j [] ws n = refl
+waits_beside i j (m ∷ ms) ws n =
+    waits_other j (record { member = m; source = i }) (queued i ms ++ ws) (λ e. n (sym e)) ∙ waits_beside i j ms ws n
 
 -- how many are of the source
 abbrev many_of : ℕ → List WaitingLine → ℕ

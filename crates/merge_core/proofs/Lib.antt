@@ -4,7 +4,7 @@ pub mod TurnLemmas
 pub mod KeyStarts
 pub mod Filters
 pub mod FeedLemmas
-pub mod StreamLemmas
+pub mod StateLemmas
 pub mod Many
 pub mod FailLemmas
 pub mod GroupLemmas

@@ -6,8 +6,7 @@ use Rattle.std.specs.Option.{is_some}
 use Rattle.std.proofs.lemmas.List.{get_or-map, map-set, set-get_or}
 use Rattle.std.proofs.lemmas.List.Sums.{sum-map, sum_by-set}
 use Rattle.std.proofs.lemmas.Slice.Zip.{get_or-zip, length-zip}
-use Rattle.merge_core.specs.declared.feed.Feed.{Feed}
-use Rattle.merge_core.specs.Feeds.{Moved}
+use Rattle.merge_core.specs.Feeds.{Feed, Moved}
 use Rattle.merge_core.specs.Gathering.{text_or, unread}
 
 pub is_told : (o : Option (List ℕ)) → is_some o ≡ true → o ≡ Some (text_or o)

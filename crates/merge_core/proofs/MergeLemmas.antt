@@ -1,5 +1,5 @@
 -- One group more of a merge.
-use Rattle.std.proofs.Common.{arith, ◌≡◌, ℕ, Result, inl, IsErrAnd, OnErr, List, [], ◌∷◌, ◌++◌}
+use Rattle.std.proofs.Common.{arith, ◌≡◌, ℕ, Result, inl, IsErrAnd, OnErr, List, [], ◌∷◌, ◌++◌, length}
 use Rattle.std.proofs.Common.{Bool, Option, Some, None, true, Less, Ordering, is_lt, is_gt}
 use Rattle.std.specs.List.{AllByRecursion}
 use Rattle.cdxj_places.specs.Pairs.{Pair}
@@ -8,15 +8,15 @@ use Rattle.cdxj_places.specs.Rising.{IsLower, Rises, rising}
 use Rattle.cdxj_places.proofs.PlaceOrder.{place_cmp_total}
 use Rattle.cdxj_places.proofs.RisingLaws.{each_weaker, each_rising, rises_rising, rising_split, each_join}
 use Rattle.cdxj_core.specs.Members.{Member, member_pair, member_place}
-use Rattle.merge_core.specs.declared.feed.Feed.{Feed}
 use Rattle.merge_core.specs.PairOrders.{Alike, Below, IsAbove, IsUpto, is_low}
 use Rattle.merge_core.specs.WaitingLines.{WaitingLine, waiting_pair}
 use Rattle.merge_core.specs.Gathering.{Gathered, Grouped, AreTold, all_done}
 use Rattle.devices.specs.Device.{Grows}
 use Rattle.merge_core.specs.Merging.{BrokenMerge, HaltedGroup, HaltedMerge, SoFar}
 use Rattle.merge_core.specs.Reached.{Reached}
-use Rattle.merge_core.specs.declared.streams.Streams.{Streams}
-use Rattle.merge_core.specs.Feeds.{Ready, AreSettled, AllMoved}
+use Rattle.merge_core.specs.declared.state.Merge.{Merge}
+use Rattle.merge_core.specs.Feeds.{AllMoved, Ready, feeds}
+use Rattle.merge_core.proofs.StateLemmas.{long_of}
 use Rattle.merge_core.proofs.Many.{told_moved, moved_trans}
 use Rattle.merge_core.specs.SourceLines.{HasEntry}
 use Rattle.merge_core.proofs.PairOrder.{from_not_below, below_then, then_below, below_upto, same_upto, same_from}
@@ -64,28 +64,29 @@ place_above pair u v h k =
     cc
 
 module _ {S : Type 0} {limit : ℕ} {text : S → Option (List ℕ)} {past : List ℕ → Bool} {extent gave : S → ℕ}
-    {old ss0 ss : List S} {old_fs fs0 fs : List Feed} {ws0 ws : List WaitingLine} {b : Option Pair} {pair : Pair}
-    {taken group : List Member} (was : Reached limit text past extent gave old old_fs ss0 fs0 ws0 b taken)
-    (grouped : Grouped limit text extent ss0 fs0 ws0 ss fs ws pair group) where
+    {old ss0 ss : List S} {begun m0 m : Merge} {b : Option Pair} {pair : Pair} {taken group : List Member}
+    (was : Reached limit text past extent gave old begun ss0 m0 b taken)
+    (grouped : Grouped limit past text extent ss0 m0 ss m pair group) where
   low : AreBelow pair taken
   low = below_next b pair (grouped.above b was.above) taken was.handed.upto
 
   at : AreAt pair (rising member_place place_cmp group)
   at = grind (arith, each_rising, place_cmp_total)
 
+  pub told_here : AreTold text old → AreTold text ss0
+  told_here = told_moved text extent gave old ss0 (feeds begun) (feeds m0) (long_of was.ready.aligned) was.moved
+
   pub gathered_now : AreTold text old
-      → Gathered pair (all_done limit text ss0 fs0) (all_done limit text ss fs) [] group
+      → Gathered pair (all_done limit past text ss0 (feeds m0)) (all_done limit past text ss (feeds m)) [] group
   gathered_now told =
       let above = grouped.above b was.above in
-      grind (arith, told_moved, below_next)
+      grouped.gathered (told_here told) (below_next b pair above _ (was.handed.told told).1)
 
-  pub reached_next : Ready limit past text extent ss fs ws → AreSettled fs → AllMoved text extent gave ss0 fs0 ss fs
+  pub reached_next : Ready limit past text extent ss m → AllMoved text extent gave ss0 m0 ss m
       → AllByRecursion (HasEntry limit) group
-      → Reached limit text past extent gave old old_fs ss fs ws (Some pair)
-      (taken ++ rising member_place place_cmp group)
-  reached_next ready settled moved entries = record {
+      → Reached limit text past extent gave old begun ss m (Some pair) (taken ++ rising member_place place_cmp group)
+  reached_next ready moved entries = record {
     ready = ready;
-    settled = settled;
     moved = grind (arith, moved_trans);
     above = grouped.later;
     handed = record {
@@ -96,25 +97,48 @@ module _ {S : Type 0} {limit : ℕ} {text : S → Option (List ℕ)} {past : Lis
     };
   }
 
+-- a merge that differs in its buffers alone
+pub reached_same : {S : Type 0} {limit : ℕ} {text : S → Option (List ℕ)} {past : List ℕ → Bool} {extent gave : S → ℕ}
+    {old ss : List S} {begun m : Merge} {b : Option Pair} {taken : List Member} (m' : Merge)
+    → m'.cursors.items ≡ m.cursors.items → m'.queue ≡ m.queue
+    → Reached limit text past extent gave old begun ss m b taken
+    → Reached limit text past extent gave old begun ss m' b taken
+reached_same m' cursors queue was =
+    let ready = was.ready in
+    let aligned = ready.aligned in
+    record {
+      ready = record {
+        aligned = record {
+          same = rw cursors aligned.same;
+          placed = rw (cursors, queue) aligned.placed;
+          fed = rw (cursors, queue) aligned.fed;
+        };
+        settled = rw (cursors, queue) ready.settled;
+      };
+      moved = rw (cursors, queue) was.moved;
+      above = rw queue was.above;
+      handed = rw (cursors, queue) was.handed;
+    }
+
 -- these lines were passed on, when a fault came
 module _ {K S : Type 0} {Wrote : K → K → List Member → Option (List ℕ) → Option (List ℕ) → Type 0}
     {Enough : K → Type 0} {past : List ℕ → Bool} {text : S → Option (List ℕ)} {extent gave : S → ℕ}
-    {olds sources : List S} {begun stood : Streams} {sink state : K} {old middle now : Option (List ℕ)}
+    {olds sources : List S} {begun stood : Merge} {sink state : K} {old middle now : Option (List ℕ)}
     (so_far : SoFar Wrote Enough past text extent gave olds begun sink old sources stood state middle) where
   pub broken_there : {Broke : K → List Member → Option (List ℕ) → Option (List ℕ) → Type 0} → now ≡ middle
       → BrokenMerge Wrote Enough past text extent gave olds begun sink old Broke now
   broken_there same = record {
     sources = sources;
-    streams = stood;
+    merge = stood;
     bound = so_far.bound;
     taken = so_far.taken;
     reached = so_far.reached;
     wrote = λ begin start w. inl (state, rw same (so_far.came begin start w));
   }
 
-  pub halted_there : {news : List S} {streams : Streams} → ((Enough sink → ⊥) → Enough state → ⊥)
-      → HaltedGroup past text sources stood news streams
-      → Grows middle now → HaltedMerge Wrote Enough past text extent gave olds begun sink old news streams now
+  pub halted_there : {news : List S} {merge : Merge} → ((Enough sink → ⊥) → Enough state → ⊥)
+      → HaltedGroup past text sources stood news merge
+      → Grows middle now → HaltedMerge Wrote Enough past text extent gave olds begun sink old news merge now
   halted_there more halted grows =
       let above = halted.above so_far.bound so_far.reached.above in record {
         sources = sources;
@@ -127,7 +151,11 @@ module _ {K S : Type 0} {Wrote : K → K → List Member → Option (List ℕ) �
         next = halted.pair;
         above = above;
         least = halted.least;
-        read = grind (arith, told_moved, below_next);
+        read = λ told.
+            let reached = so_far.reached in
+            halted.read (told_moved text extent gave olds sources (feeds begun) (feeds stood)
+            (long_of reached.ready.aligned) reached.moved told)
+            (below_next so_far.bound halted.pair above _ (reached.handed.told told).1);
       }
 
 pub on_err : {A E : Type 0} (r : Result A E) (e : E) (P : Type 0) → IsErrAnd r (λ x. x ≡ e) → P → OnErr r P

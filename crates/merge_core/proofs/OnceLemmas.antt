@@ -1,31 +1,29 @@
 -- Each byte of a source is given at most once.
-use Rattle.std.proofs.Common.{arith, ◌≡◌, ℕ, ◌+◌, List, [], ◌∷◌, Bool, Option, length, map, zip}
+use Rattle.std.proofs.Common.{arith, ◌≡◌, ℕ, List, [], ◌∷◌, Bool, Option, length, map, zip}
 use Rattle.std.specs.List.{AllZip}
-use Rattle.merge_core.specs.declared.feed.Feed.{Feed}
-use Rattle.merge_core.specs.WaitingLines.{WaitingLine}
-use Rattle.merge_core.specs.Feeds.{AllMoved, AreFed}
+use Rattle.merge_core.specs.Feeds.{AreFed, Feed}
 use Rattle.merge_core.specs.Spending.{AllGaveOnce, CameOnce}
+use Rattle.merge_core.proofs.Many.{Move}
 
 module _ {S : Type 0} (text : S → Option (List ℕ)) (extent gave : S → ℕ) where
   -- sources before they were opened, when they were, and after they were read
   pub gave_once : (olds ss : List S) (fs : List Feed) (news : List S) (fs' : List Feed) (limit : ℕ)
-      (past : List ℕ → Bool) (n : ℕ) (ws : List WaitingLine) → map extent ss ≡ map extent olds
-      → AreFed limit past text extent n ss fs ws → length ss ≡ length fs
+      (past : List ℕ → Bool) → map extent ss ≡ map extent olds → AreFed limit past text extent ss fs
       → AllZip (λ x y. CameOnce (gave x) (gave y.0) y.1.cursor) olds (zip ss fs)
-      → AllMoved text extent gave ss fs news fs' → length news ≡ length ss → AllGaveOnce extent gave olds news
-  gave_once (x ∷ olds) (s ∷ ss) (f ∷ fs) (y ∷ news) (f' ∷ fs') limit past n ws same fed long came moved longer =
+      → AllZip (Move text extent gave) (zip ss fs) (zip news fs') → length news ≡ length ss
+      → AllGaveOnce extent gave olds news
+  gave_once (x ∷ olds) (s ∷ ss) (f ∷ fs) (y ∷ news) (f' ∷ fs') limit past same fed came moved longer =
       let within = fed.0.stands.filled.within in
       let inside = moved.0.inside within in (
         grind arith,
-        gave_once olds ss fs news fs' limit past (n + 1) ws (cc) fed.1 (omega arith) came.1 moved.1
-            (omega arith),
+        gave_once olds ss fs news fs' limit past (cc) fed.1 came.1 moved.1 (omega arith),
       )
-  gave_once [] [] fs [] fs' limit past n ws same fed long came moved longer = tt
-  gave_once olds ss fs [] fs' limit past n ws same fed long came moved longer = grind arith
-  gave_once olds [] fs news fs' limit past n ws same fed long came moved longer = absurd (grind arith)
-  gave_once olds ss [] news fs' limit past n ws same fed long came moved longer = absurd (grind arith)
-  gave_once olds ss fs news [] limit past n ws same fed long came moved longer = absurd (grind arith)
-  gave_once [] ss fs news fs' limit past n ws same fed long came moved longer = absurd (grind arith)
+  gave_once [] [] fs [] fs' limit past same fed came moved longer = tt
+  gave_once olds ss fs [] fs' limit past same fed came moved longer = grind arith
+  gave_once olds [] fs news fs' limit past same fed came moved longer = absurd (grind arith)
+  gave_once olds ss [] news fs' limit past same fed came moved longer = absurd (grind arith)
+  gave_once olds ss fs news [] limit past same fed came moved longer = absurd (grind arith)
+  gave_once [] ss fs news fs' limit past same fed came moved longer = absurd (grind arith)
 
   pub once_none : (ss : List S) → AllGaveOnce extent gave ss ss
   once_none [] = tt

@@ -1,18 +1,25 @@
 -- The opening of sources, one after another.
-use Rattle.std.proofs.Common.{◌≡◌, ◌≢◌, ℕ, zero, suc, ◌+◌, ◌<◌, List, [], ◌∷◌, ◌++◌, length, set, zip, map, take, Bool}
-use Rattle.std.proofs.Common.{Option, Some, MatchOption, refl, arith, length-append}
-use Rattle.std.specs.List.{AllByRecursion, sum}
+use Rattle.std.proofs.Common.{◌≡◌, ℕ, suc, ◌+◌, ◌<◌, List, [], ◌∷◌, ◌++◌, length, set, zip, map, take, Bool}
+use Rattle.std.proofs.Common.{inl, ◌≤◌, drop, filter, ◌∙◌, Option, None, Some, MatchOption, refl, arith, length-append}
+use Rattle.std.specs.List.{AllByRecursion, AllZip, sum}
 use Rattle.std.proofs.lemmas.List.Sums.{sum-map, sum_by_push}
 use Rattle.std.specs.List.Sorted.{IsPermutation}
 use Rattle.std.proofs.lemmas.List.{drop_all, take_more_set}
-use Rattle.cdxj_places.proofs.RisingLaws.{each_weaker}
+use Rattle.cdxj_places.proofs.RisingLaws.{each_join, each_weaker}
 use Rattle.cdxj_core.specs.Members.{Member}
-use Rattle.merge_core.specs.declared.feed.Feed.{Feed}
+use Rattle.source_core.specs.Cursors.{CursorState}
+use Rattle.merge_core.specs.declared.state.Merge.{Merge}
 use Rattle.merge_core.specs.WaitingLines.{WaitingLine, waits_of}
-use Rattle.merge_core.specs.Feeds.{Fed, AreFed, option_list, done}
+use Rattle.merge_core.specs.Feeds.{Fed, Feed, IsSettled, Ready, done, feed_of, feeds, feeds_from, given, option_list, stays}
+use Rattle.merge_core.specs.NextLine.{IsNextLine}
+use Rattle.merge_core.specs.Openings.{AddedSource}
+use Rattle.merge_core.proofs.FeedLemmas.{LineRead, done_next, fed_end, fed_more, settled_more}
+use Rattle.source_core.specs.Cursors.{Stands}
+use Rattle.source_core.specs.IndexLines.{BeginsAfter, first_length}
+use Rattle.cdxj_places.specs.TextLines.{lines}
 use Rattle.merge_core.specs.Gathering.{text_or}
 use Rattle.merge_core.proofs.HeapLemmas.{each_permuted, waits_here, waits_other}
-use Rattle.merge_core.proofs.StreamLemmas.{fed_permuted}
+use Rattle.merge_core.proofs.StateLemmas.{feeds_added, few_of_fed, placed_queued}
 
 -- none of a later source waits
 waits_none : (n : ℕ) (ws : List WaitingLine) → AllByRecursion (λ (w : WaitingLine). w.source < n) ws → waits_of n ws
@@ -20,41 +27,107 @@ waits_none : (n : ℕ) (ws : List WaitingLine) → AllByRecursion (λ (w : Waiti
 waits_none n [] h = refl
 waits_none n (w ∷ ws) h = grind (arith, waits_other, waits_none n ws h.1)
 
-module _ (limit : ℕ) (past : List ℕ → Bool) where
-  module _ {S : Type 0} (text : S → Option (List ℕ)) (extent : S → ℕ) where
-    pub fed_nil : (n : ℕ) (ss : List S) (ws : List WaitingLine) → AreFed limit past text extent n ss [] ws
-    fed_nil n [] ws = tt
-    fed_nil n (s ∷ ss) ws = tt
+zip_push_each : {A B : Type 0} (R : A → B → Type 0) (xs : List A) (ys : List B) (x : A) (y : B) → AllZip R xs ys → R x y
+    → AllZip R (xs ++ x ∷ []) (ys ++ y ∷ [])
+zip_push_each R (a ∷ xs) (b ∷ ys) x y h r = (h.0, zip_push_each R xs ys x y h.1 r)
+zip_push_each R xs ys x y h r = grind arith
 
-    fed_push : (n i m : ℕ) (ss : List S) (fs : List Feed) (ws ws' : List WaitingLine) (s : S) (f : Feed) → m ≡ n + i
-        → length fs ≡ i → i < length ss → AreFed limit past text extent n ss fs ws
-        → ((j : ℕ) → j ≢ m → waits_of j ws' ≡ waits_of j ws) → Fed limit past (text s) (extent s) f (waits_of m ws')
-        → AreFed limit past text extent n (set ss i s) (fs ++ f ∷ []) ws'
-    fed_push n (suc i) m (x ∷ ss) (y ∷ fs) ws ws' s f q e l h same k =
-        (grind arith, fed_push (n + 1) i m ss fs ws ws' s f (omega arith) (omega arith) (omega arith) h.1 same k)
-    fed_push n zero m (x ∷ ss) [] ws ws' s f q e l h same k = grind (arith, fed_nil)
-    fed_push n i m ss fs ws ws' s f q e l h same k = absurd (omega arith)
+-- a source was added to those that are read
+module _ {limit : ℕ} {past : List ℕ → Bool} {S : Type 0} {text : S → Option (List ℕ)} {extent : S → ℕ} {ss : List S}
+    {m m' : Merge} (was : Ready limit past text extent ss m) {s : S} {IsCursor : CursorState → Type 0}
+    (added : AddedSource limit past (text s) (extent s) IsCursor m m') where
+  abbrev pub its_feed : Feed
+  its_feed = feed_of added.cursor added.first
 
-    pub fed_added : (i : ℕ) (ss : List S) (fs : List Feed) (ws ws' : List WaitingLine) (s : S) (f : Feed)
-        (o : Option Member) → length fs ≡ i → i < length ss
-        → AllByRecursion (λ (w : WaitingLine). w.source < length fs) ws
-        → AreFed limit past text extent 0 ss fs ws
-        → MatchOption o (ws' ≡ ws) (λ m. IsPermutation (record { member = m; source = length fs } ∷ ws) ws')
-        → Fed limit past (text s) (extent s) f (option_list o)
-        → AllByRecursion (λ (w : WaitingLine). w.source < length (fs ++ f ∷ [])) ws'
-        × AreFed limit past text extent 0 (set ss i s) (fs ++ f ∷ []) ws'
-    fed_added i ss fs ws ws' s f o e l placed h m fed =
-        grind (
-          arith,
-          length-append,
-          each_weaker,
-          fed_push,
-          waits_none,
-          waits_here,
-          each_permuted,
-          fed_permuted,
-          waits_other,
-        )
+  pub added_feeds : feeds m' ≡ feeds m ++ its_feed ∷ []
+  added_feeds =
+      let none = waits_none (length m.cursors.items) m.queue was.aligned.placed in
+      rw added.cursors_are (feeds_added m.cursors.items m.queue m'.queue added.cursor added.first none added.fed.few
+      added.queue_is (few_of_fed limit past text extent ss (feeds m) was.aligned.fed))
+
+  pub ready_added : Ready limit past text extent (ss ++ s ∷ []) m'
+  ready_added =
+      let same = was.aligned.same in
+      let n = length m.cursors.items in
+      let long : length m'.cursors.items ≡ n + 1 = rw added.cursors_are (length-append m.cursors.items (added.cursor ∷ [])) in
+      record {
+        aligned = record {
+          same = grind (arith, length-append);
+          placed = rw long (placed_queued (n + 1) n m.queue m'.queue added.first (omega arith)
+              (each_weaker (λ v h. omega arith) m.queue was.aligned.placed) added.queue_is);
+          fed = rw added_feeds (zip_push_each (λ s f. Fed limit past (text s) (extent s) f) ss (feeds m) s its_feed
+              was.aligned.fed added.fed);
+        };
+        settled = rw added_feeds (zip_push_each (λ s f. IsSettled limit past (text s) f) ss (feeds m) s its_feed
+            was.settled added.settled);
+      }
+
+pub added_by : {limit : ℕ} {past : List ℕ → Bool} {text : Option (List ℕ)} {extent : ℕ} {m m' : Merge}
+    {A B : CursorState → Type 0} → (added : AddedSource limit past text extent A m m') → B added.cursor
+    → AddedSource limit past text extent B m m'
+added_by added is = record {
+  cursor = added.cursor;
+  first = added.first;
+  cursors_are = added.cursors_are;
+  queue_is = added.queue_is;
+  fed = added.fed;
+  settled = added.settled;
+  fresh = added.fresh;
+  cursor_is = is;
+}
+
+-- ---- the first line of a source
+
+-- what is known of a source of which no line was read yet
+pub fed_fresh : (limit : ℕ) (past : List ℕ → Bool) (text : Option (List ℕ)) (extent : ℕ) (c : CursorState)
+    → Stands text extent c → c.count ≡ 0 → c.at ≡ c.start
+    → ((t : List ℕ) → text ≡ Some t → (before : List (List ℕ)) × BeginsAfter t c.start before)
+    → Fed limit past text extent (feed_of c [])
+fed_fresh limit past text extent c stands none at begins = grind arith
+
+-- its first line was read, if it has one
+pub record FirstRead (limit : ℕ) (past : List ℕ → Bool) (text : Option (List ℕ)) (extent : ℕ) (f : Feed) : Type 0 where
+  pub fed : Fed limit past text extent f
+  pub settled : IsSettled limit past text f
+  pub fresh : (t : List ℕ) → text ≡ Some t → done limit past t f ≡ []
+
+pub first_read : {limit : ℕ} {past : List ℕ → Bool} {text : Option (List ℕ)} {extent : ℕ} {old : CursorState}
+    → Fed limit past text extent (feed_of old []) → old.count ≡ 0 → (c : CursorState) (o : Option Member) (ws : List Member)
+    → Stands text extent c → c.start ≡ old.start
+    → MatchOption o (c.count ≡ old.count) (λ m. c.count ≡ old.count + 1)
+    → ((t : List ℕ) → text ≡ Some t → c.at ≤ old.at + first_length (lines (drop old.at t)))
+    → ((t : List ℕ) → text ≡ Some t → IsNextLine limit t old.at c.at o) → ws ≡ filter (stays past) (option_list o)
+    → FirstRead limit past text extent (feed_of c ws)
+first_read {limit = limit} {past = past} {text = text} {extent = extent} {old = old} fed fresh c None ws stands start
+    count near next is =
+    let zero_count : c.count ≡ 0 = count ∙ fresh in
+    rw is (record {
+      fed = fed_end fed c stands start count near next;
+      settled = λ t e none.
+          let before = fed.stands.rest t e in
+          let now = stands.rest t e in
+          let end = next t e in
+          inl (grind arith);
+      fresh = λ t e. rw zero_count refl;
+    })
+first_read {limit = limit} {past = past} {text = text} {extent = extent} {old = old} fed fresh c (Some m) ws stands start
+    count near next is =
+    let none : (t : List ℕ) → given limit t old ≡ [] = λ t. rw fresh refl in
+    let read : LineRead limit past text extent old c m = record {
+      was = fed;
+      inside = λ t e. rw (none t) tt;
+      stands = stands;
+      start = start;
+      count = count;
+      near = near;
+      next = next;
+      low = λ t e. rw (none t) tt;
+    } in
+    record {
+      fed = fed_more read ws (inl is);
+      settled = settled_more read ws is;
+      fresh = λ t e. done_next read ws is t e ∙ none t;
+    }
 
 pub zip_none : {A B : Type 0} (xs : List A) (ys : List B) → ys ≡ [] → zip xs ys ≡ []
 zip_none [] ys e = refl
@@ -66,9 +139,9 @@ pub zip_push : {A B : Type 0} (xs : List A) (ys : List B) (i : ℕ) (x : A) (y :
 zip_push (a ∷ xs) (b ∷ ys) (suc i) x y e l = grind (arith, zip_push xs ys i x y)
 zip_push xs ys i x y e l = grind (arith, zip_none)
 
-pub fresh_of : (limit : ℕ) (text : Option (List ℕ)) (f : Feed) → ((t : List ℕ) → text ≡ Some t → done limit t f ≡ [])
-    → done limit (text_or text) f ≡ []
-fresh_of limit text f h = grind (arith, drop_all)
+pub fresh_of : (limit : ℕ) (past : List ℕ → Bool) (text : Option (List ℕ)) (f : Feed)
+    → ((t : List ℕ) → text ≡ Some t → done limit past t f ≡ []) → done limit past (text_or text) f ≡ []
+fresh_of limit past text f h = grind (arith, drop_all)
 
 -- one more of those that are summed
 pub sum_turn : {X : Type 0} (n : X → ℕ) (xs : List X) (i : ℕ) (y : X) → i < length xs

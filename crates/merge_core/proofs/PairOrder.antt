@@ -49,7 +49,3 @@ upto_upto p q r h k = elim (not_above p q h) [
 
 pub not_below_itself : (p q : Pair) → Below p q → Upto q p → ⊥
 not_below_itself p q h k = grind (arith, pair_cmp_total, tied_back)
-
--- not above, and not below
-pub upto_both : (p q : Pair) → Upto p q → Upto q p → pair_cmp p q ≡ Equal
-upto_both p q h k = grind (arith, not_below_itself)

@@ -1,9 +1,9 @@
 -- The lines of one source that were come to, among all that it has from its start on.
 use Rattle.std.proofs.Common.{arith, ◌≡◌, ℕ, List, [], ◌∷◌, ◌++◌, refl, sym, ap, ◌∙◌, Bool, true, false, not, ◌&&◌}
-use Rattle.std.proofs.Common.{Some, take, drop, map, filter, append-nil, append_assoc, take-append-drop, is_gt}
+use Rattle.std.proofs.Common.{inl, inr, ◌-◌, length, Some, take, drop, map, filter, append-nil, append_assoc, take-append-drop, is_gt}
 use Rattle.std.proofs.lemmas.List.{take-map, drop-map}
 use Rattle.std.specs.List.{AllByRecursion}
-use Rattle.merge_core.proofs.Filters.{filter_same, filter_out}
+use Rattle.merge_core.proofs.Filters.{filter_out}
 use Rattle.std.specs.Ordering.{nat_cmp}
 use Rattle.std.specs.Cmp.Lexicographic.{slice_cmp}
 use Rattle.std.proofs.lemmas.Cmp.{nat_list_cmp_total}
@@ -16,9 +16,8 @@ use Rattle.cdxj_places.proofs.PlaceOrder.{place_cmp_total}
 use Rattle.cdxj_places.proofs.RisingLaws.{each_weaker, each_rising, rising_split}
 use Rattle.cdxj_core.specs.Indexes.{IsRun}
 use Rattle.cdxj_core.specs.Members.{Member, member_pair, member_place, line_entry}
-use Rattle.merge_core.specs.declared.feed.Feed.{Feed}
 use Rattle.merge_core.specs.PairOrders.{Upto}
-use Rattle.merge_core.specs.Feeds.{IsSettled, Fed, done, given, member_of}
+use Rattle.merge_core.specs.Feeds.{Feed, Fed, IsSettled, done, given, member_of, stays}
 use Rattle.merge_core.proofs.PairOrder.{upto_itself}
 use Rattle.merge_core.proofs.GroupLemmas.{filter_none}
 use Rattle.merge_core.proofs.MergeLemmas.{place_below}
@@ -38,26 +37,12 @@ IsUpward past = (key later : List ℕ) → past key ≡ true → is_gt (slice_cm
 
 -- ---- filters of what rises
 
--- Of lines that rise, what is wanted stands among those that pass a test which what is wanted passes
-module _ (wanted test : Member → Bool) (passes : (m : Member) → wanted m ≡ true → test m ≡ true) where
-  pub none_wanted : (xs : List Member) → AllByRecursion (λ m. test m ≡ false) xs
-      → filter wanted (rising member_place place_cmp xs) ≡ []
-  none_wanted xs h = grind (arith, filter_none, each_weaker, each_rising, place_cmp_total)
-
 pub wanted_parts : (wanted low : Member → Bool) → IsLower member_place place_cmp low → (xs : List Member)
     → filter wanted (rising member_place place_cmp xs)
     ≡ filter wanted (rising member_place place_cmp (filter low xs))
     ++ filter wanted (rising member_place place_cmp (filter (λ m. not (low m)) xs))
 wanted_parts wanted low lower xs = ap (filter wanted) (rising_split member_place place_cmp place_cmp_total low lower xs)
     ∙ filter-append wanted _ _
-
--- the first lines
-pub wanted_low : (wanted low : Member → Bool) → IsLower member_place place_cmp low
-    → ((m : Member) → wanted m ≡ true → low m ≡ true)
-    → (xs : List Member) → filter wanted (rising member_place place_cmp xs)
-    ≡ filter wanted (rising member_place place_cmp (filter low xs))
-wanted_low wanted low lower passes xs =
-    grind (arith, wanted_parts wanted low lower xs, none_wanted, filter_out, append-nil)
 
 -- the last lines
 pub wanted_high : (wanted low : Member → Bool) → IsLower member_place place_cmp low
@@ -79,10 +64,6 @@ members_are limit (l ∷ ls) (m ∷ ms) e = grind (arith, members_are limit ls m
 members_are limit [] [] e = refl
 members_are limit ls ms e = cc
 
--- the key doesn't lie past the range
-abbrev pub stays : (List ℕ → Bool) → Member → Bool
-stays past m = not (past m.values.key)
-
 pub stays_lower : (past : List ℕ → Bool) → IsUpward past → IsLower member_place place_cmp (stays past)
 stays_lower past upward x y h k =
     let turned = nat_list_cmp_total.antisymm x.values.key y.values.key in
@@ -98,9 +79,16 @@ module _ (past : List ℕ → Bool) (upto : Member → Bool) where
   abbrev pub is_read : Member → Bool
   is_read m = upto m && stays past m
 
-  read_is : (before tail ms : List Member) → ms ≡ before ++ tail → AllByRecursion (λ m. upto m ≡ true) before
+  read_all : (xs : List Member) → AllByRecursion (λ m. upto m ≡ true) (filter (stays past) xs)
+      → filter is_read xs ≡ filter (stays past) xs
+  read_all [] h = refl
+  read_all (x ∷ xs) h = (elim (stays past x) as (λ b. stays past x ≡ b → filter is_read (x ∷ xs) ≡ filter (stays past) (x ∷ xs))
+      [ true ↦ (λ e. grind (arith, read_all xs)) | false ↦ (λ e. grind (arith, read_all xs)) ]) refl
+
+  read_is : (before tail ms : List Member) → ms ≡ before ++ tail
+      → AllByRecursion (λ m. upto m ≡ true) (filter (stays past) before)
       → AllByRecursion (λ m. is_read m ≡ false) tail → filter is_read ms ≡ filter (stays past) before
-  read_is before tail ms e h k = grind (arith, filter-append, filter_same, each_weaker, filter_none, append-nil)
+  read_is before tail ms e h k = grind (arith, filter-append, read_all, filter_none, append-nil)
 
   -- the first line of the rest isn't read, and so none
   rest_unread : (before : List Member) (m : Member) (rest ms : List Member) → ms ≡ before ++ m ∷ rest
@@ -111,24 +99,47 @@ module _ (past : List ℕ → Bool) (upto : Member → Bool) where
       (f m (upto_itself (member_pair m)), grind (arith, each_weaker, falls_after))
 
 module _ {limit : ℕ} {past : List ℕ → Bool} (upward : IsUpward past) (upto : Member → Bool) {t : List ℕ} {extent : ℕ}
-    {f : Feed} {ws : List Member} (fed : Fed limit past (Some t) extent f ws) (settled : IsSettled f)
-    (late : AllByRecursion (IsLate upto) ws) (each : AllByRecursion (λ m. upto m ≡ true) (done limit t f)) where
-  read_of : (ms rest : List Member) → ms ≡ given limit t f.cursor ++ rest → NeverFalls member_pair pair_cmp ms
-      → (lines (drop f.cursor.at t) ≡ [] → rest ≡ [])
-      → filter (is_read past upto) ms ≡ filter (stays past) (done limit t f)
-  read_of ms rest is falls end =
-      let waits = fed.waits in let head = (fed.told t refl).head in grind (arith, append_assoc, read_is, rest_unread)
+    {f : Feed} (fed : Fed limit past (Some t) extent f) (settled : IsSettled limit past (Some t) f)
+    (late : AllByRecursion (IsLate upto) f.waits) (each : AllByRecursion (λ m. upto m ≡ true) (done limit past t f)) where
+  -- a line at which the range has ended, and those after it
+  unread_past : (last k : Member) → past last.values.key ≡ true → Upto (member_pair last) (member_pair k)
+      → is_read past upto k ≡ false
+  unread_past last k e u = let up = upward last.values.key k.values.key e in grind arith
 
-  -- Of the lines from the start on, those that were come to are those that are done
+  -- the lines that wait, and those after them
+  tail_unread : (ws ms rest : List Member) → ws ≡ f.waits → ms ≡ given limit t f.cursor ++ rest
+      → NeverFalls member_pair pair_cmp ms → (lines (drop f.cursor.at t) ≡ [] → rest ≡ [])
+      → AllByRecursion (λ m. is_read past upto m ≡ false) (ws ++ rest)
+  tail_unread [] ms rest e is falls end = elim (settled t refl (sym e)) [
+    | inl none ↦ rw (end none) tt
+    | inr past_one ↦ (rest_unread past upto past_one.0 past_one.1 rest ms (grind (arith, append_assoc)) falls
+        (λ k u. unread_past past_one.1 k past_one.3 u)).1
+  ]
+  tail_unread (w ∷ []) ms rest e is falls end =
+      let last = (fed.told t refl).last in
+      let here = rw (← e) at late in
+      rest_unread past upto (take (f.cursor.count - length f.waits) (given limit t f.cursor)) w rest ms
+      (grind (arith, append_assoc)) falls (λ k u. let no = here.0 k u in grind arith)
+  tail_unread (w ∷ v ∷ ws) ms rest e is falls end = let few = rw (← e) at fed.few in absurd (omega arith)
+
+  read_of : (ms rest : List Member) → ms ≡ given limit t f.cursor ++ rest → NeverFalls member_pair pair_cmp ms
+      → (lines (drop f.cursor.at t) ≡ [] → rest ≡ []) → filter (is_read past upto) ms ≡ done limit past t f
+  read_of ms rest is falls end =
+      let last = (fed.told t refl).last in
+      read_is past upto (take (f.cursor.count - length f.waits) (given limit t f.cursor)) (f.waits ++ rest) ms
+      (grind (arith, append_assoc)) each (tail_unread f.waits ms rest refl is falls end)
+
+  -- Of the lines from the start on, those that were come to are those that were taken
   pub fed_read : (ms : List Member) → IsRun limit (lines (drop f.cursor.start t)) ms
-      → filter (is_read past upto) ms ≡ filter (stays past) (done limit t f)
+      → filter (is_read past upto) ms ≡ done limit past t f
   fed_read ms run =
       let n = f.cursor.count in
       let whole : map (member_of limit) (lines (drop f.cursor.start t)) ≡ ms = members_are limit _ ms run.entries in
       let read : given limit t f.cursor ≡ take n ms = grind (arith, take-map) in
+      let stood = fed.stands.rest t refl in
       let rest : drop n ms ≡ map (member_of limit) (lines (drop f.cursor.at t)) = grind (arith, drop-map) in
       read_of ms (drop n ms) (grind (arith, take-append-drop)) run.ordered (grind arith)
 
   -- the same of the lines that were read
-  pub given_read : filter (is_read past upto) (given limit t f.cursor) ≡ filter (stays past) (done limit t f)
+  pub given_read : filter (is_read past upto) (given limit t f.cursor) ≡ done limit past t f
   given_read = read_of _ [] (sym (append-nil _)) (fed.told t refl).run.ordered (λ e. refl)

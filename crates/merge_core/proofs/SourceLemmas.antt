@@ -1,5 +1,5 @@
 -- The lines that were taken of sources are lines of theirs.
-use Rattle.std.proofs.Common.{◌≡◌, ◌⊎◌, inl, inr, ℕ, suc, ◌+◌, List, [], ◌∷◌, ◌++◌, length, take, arith, map, Bool}
+use Rattle.std.proofs.Common.{◌≡◌, ◌⊎◌, inl, inr, ℕ, suc, List, [], ◌∷◌, ◌++◌, length, take, arith, map, Bool}
 use Rattle.std.proofs.Common.{Option, Some, refl}
 use Rattle.std.proofs.lemmas.Slice.Zip.{AllZip-long}
 use Rattle.std.specs.List.{AllByRecursion}
@@ -8,14 +8,16 @@ use Rattle.cdxj_places.specs.Rising.{IsIn}
 use Rattle.cdxj_places.specs.TextLines.{lines}
 use Rattle.cdxj_places.proofs.PlaceOrder.{place_cmp_total}
 use Rattle.cdxj_places.proofs.RisingLaws.{each_weaker, each_rising, each_join}
-use Rattle.cdxj_core.specs.Members.{Member, line_entry}
-use Rattle.merge_core.specs.declared.feed.Feed.{Feed}
-use Rattle.merge_core.specs.WaitingLines.{WaitingLine}
-use Rattle.merge_core.specs.Feeds.{Fed, AreFed, read_lines, given, done}
+use Rattle.cdxj_core.specs.Members.{Member, line_entry, member_place}
+use Rattle.cdxj_places.specs.Places.{place_cmp}
+use Rattle.merge_core.specs.declared.state.Merge.{Merge}
+use Rattle.merge_core.specs.Feeds.{AreFed, Fed, Feed, done, feeds, given, read_lines}
 use Rattle.merge_core.specs.Gathering.{AreTold, text_or, all_done}
 use Rattle.merge_core.specs.Reached.{Reached}
 use Rattle.merge_core.specs.SourceLines.{HasEntry, IsLineIn, IsLineOf, AreLinesOf}
+use Rattle.merge_core.proofs.FeedLemmas.{done_cut}
 use Rattle.merge_core.proofs.Filters.{each_take}
+use Rattle.merge_core.proofs.StateLemmas.{feeds_long, long_of}
 use Rattle.merge_core.proofs.Many.{is_told, told_moved, length_zip}
 use Rattle.merge_core.proofs.WholeLemmas.{texts_kept}
 
@@ -37,14 +39,15 @@ module _ (limit : ℕ) where
   each_entry ls all [] e f = tt
   each_entry ls all ms e f = cc
 
-  -- what is done of a source are lines of it
-  done_lines : {past : List ℕ → Bool} {t : List ℕ} {extent : ℕ} {f : Feed} {ws : List Member}
-      → Fed limit past (Some t) extent f ws → AllByRecursion (IsLineIn limit t) (done limit t f)
+  -- what was taken of a source are lines of it
+  done_lines : {past : List ℕ → Bool} {t : List ℕ} {extent : ℕ} {f : Feed} → Fed limit past (Some t) extent f
+      → AllByRecursion (IsLineIn limit t) (done limit past t f)
   done_lines {t = t} {f = f} fed =
       let told = fed.told t refl in
-      each_take (IsLineIn limit t) _ (given limit t f.cursor)
+      let cut = done_cut fed t refl in
+      rw cut.3 (each_take (IsLineIn limit t) _ (given limit t f.cursor)
       (each_entry (read_lines t f.cursor) (lines t) (given limit t f.cursor) told.run.entries
-      (grind (arith, in_later, in_take)))
+      (grind (arith, in_later, in_take))))
 
   later_source : (o : Option (List ℕ)) (sources : List (Option (List ℕ))) (m : Member) → IsLineOf limit sources m
       → IsLineOf limit (o ∷ sources) m
@@ -55,14 +58,14 @@ module _ (limit : ℕ) where
   first_source o sources m h = grind arith
 
   module _ {S : Type 0} (text : S → Option (List ℕ)) (extent : S → ℕ) where
-    all_lines_of : (past : List ℕ → Bool) (n : ℕ) (ss : List S) (fs : List Feed) (ws : List WaitingLine)
-        → AreTold text ss → AreFed limit past text extent n ss fs ws
-        → AllByRecursion (IsLineOf limit (map text ss)) (all_done limit text ss fs)
-    all_lines_of past n (s ∷ ss) (f ∷ fs) ws told fed =
-        let others = all_lines_of past (n + 1) ss fs ws told.1 fed.1 in
+    all_lines_of : (past : List ℕ → Bool) (ss : List S) (fs : List Feed) → AreTold text ss
+        → AreFed limit past text extent ss fs
+        → AllByRecursion (IsLineOf limit (map text ss)) (all_done limit past text ss fs)
+    all_lines_of past (s ∷ ss) (f ∷ fs) told fed =
+        let others = all_lines_of past ss fs told.1 fed.1 in
         let here = done_lines (rw (is_told (text s) told.0) at fed.0) in
         grind (arith, each_join, each_weaker, first_source, later_source)
-    all_lines_of past n ss fs ws told fed = tt
+    all_lines_of past ss fs told fed = grind arith
 
     -- all sources tell their bytes, or one doesn't
     told_or : (ss : List S) → AreTold text ss ⊎ ((m : Member) → HasEntry limit m → IsLineOf limit (map text ss) m)
@@ -70,14 +73,21 @@ module _ (limit : ℕ) where
     told_or (s ∷ ss) = elim (told_or ss) [ inl h ↦ grind arith | inr f ↦ grind (arith, later_source, f) ]
 
     -- what was taken are lines of the sources
-    pub taken_lines : (past : List ℕ → Bool) (gave : S → ℕ) (ss0 : List S) (fs0 : List Feed) (ss : List S)
-        (fs : List Feed) (ws : List WaitingLine) (b : Option Pair) (taken : List Member) → length ss0 ≡ length fs0
-        → Reached limit text past extent gave ss0 fs0 ss fs ws b taken → AreLinesOf limit (map text ss0) taken
-    taken_lines past gave ss0 fs0 ss fs ws b taken same reached = record {
+    pub taken_lines : (past : List ℕ → Bool) (gave : S → ℕ) (ss0 : List S) (m0 : Merge) (ss : List S) (m : Merge)
+        (b : Option Pair) (taken : List Member) → length ss0 ≡ length m0.cursors.items
+        → Reached limit text past extent gave ss0 m0 ss m b taken → AreLinesOf limit (map text ss0) taken
+    taken_lines past gave ss0 m0 ss m b taken same reached = record {
       rise = reached.handed.rises;
       each = elim (told_or ss0) [
-        | inl told ↦ rw (reached.handed.told told).0
-            (grind (arith, each_rising, place_cmp_total, all_lines_of, told_moved, texts_kept, AllZip-long, length_zip))
+        | inl told ↦
+            let aligned = reached.ready.aligned in
+            let before : length ss0 ≡ length (feeds m0) = grind (arith, feeds_long) in
+            let now = long_of aligned in
+            let long : length ss ≡ length ss0 = grind (arith, AllZip-long, length_zip) in
+            let texts = texts_kept text extent gave ss0 ss (feeds m0) (feeds m) before long reached.moved in
+            let told_now = told_moved text extent gave ss0 ss (feeds m0) (feeds m) now reached.moved told in
+            rw ((reached.handed.told told).0, ← texts)
+            (each_rising member_place place_cmp place_cmp_total (IsLineOf limit (map text ss)) _ (all_lines_of past ss (feeds m) told_now aligned.fed))
         | inr f ↦ each_weaker f taken reached.handed.entries
       ];
     }

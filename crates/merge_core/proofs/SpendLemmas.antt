@@ -2,7 +2,7 @@
 use Rattle.std.proofs.lemmas.Grind.{drop_more_same}
 use Rattle.std.proofs.lemmas.List.{take-map}
 use Rattle.std.specs.List.{AllZip, AllByRecursion}
-use Rattle.std.proofs.Common.{◌≡◌, ℕ, suc, ◌+◌, ◌-◌, ◌*◌, ◌≤◌, List, [], ◌∷◌, ◌++◌, length, take, drop, map, get_or}
+use Rattle.std.proofs.Common.{◌≡◌, ℕ, suc, ◌+◌, ◌*◌, ◌≤◌, List, [], ◌∷◌, ◌++◌, length, take, drop, map, get_or}
 use Rattle.std.proofs.Common.{set, Bool, false, Option, None, Some, refl, sym, ap, ◌∙◌, arith, append_assoc, append-nil}
 use Rattle.std.proofs.Common.{take-append-drop, length-append, length-drop, drop-set-lt, get_or-drop}
 use Rattle.std.proofs.lemmas.List.Concat.{flat_map-append}
@@ -12,16 +12,15 @@ use Rattle.cdxj_core.specs.Members.{Member, member_pair, line_entry}
 use Rattle.source_core.specs.Cursors.{CursorState, reach}
 use Rattle.source_core.specs.IndexLines.{first_length, longest}
 use Rattle.source_core.proofs.LongestLines.{first_most, longest_drop}
-use Rattle.merge_core.specs.declared.feed.Feed.{Feed}
 use Rattle.merge_core.specs.PairOrders.{IsUpto}
-use Rattle.merge_core.specs.WaitingLines.{WaitingLine}
-use Rattle.merge_core.specs.Feeds.{Fed, AreFed, bytes_of, read_lines, given, held, done, due}
-use Rattle.merge_core.specs.Gathering.{text_or, all_done}
+use Rattle.merge_core.specs.Feeds.{AreFed, Fed, Feed, bytes_of, done, feed_of, given, read_lines}
+use Rattle.merge_core.specs.Gathering.{EndsAt, text_or, all_done}
 use Rattle.merge_core.specs.Spending.{ReadTo, AreReadTo, OpenedWithin}
-use Rattle.merge_core.proofs.CountLemmas.{one_held}
+use Rattle.merge_core.proofs.FeedLemmas.{all_taken, all_upto, done_cut, done_within}
 use Rattle.merge_core.proofs.Filters.{each_both}
 use Rattle.merge_core.proofs.GroupLemmas.{each_cut}
 use Rattle.merge_core.proofs.Many.{zip_set, each_replaced, two_same}
+use Rattle.merge_core.proofs.StateLemmas.{idle}
 
 longest_later : (k : ℕ) (ls : List (List ℕ)) → longest (drop k ls) ≤ longest ls
 longest_later (suc k) (l ∷ ls) = let h = longest_later k ls in omega arith
@@ -36,58 +35,33 @@ one_line : (ls : List (List ℕ)) → length ls ≤ 1 → bytes_of ls ≤ longes
 one_line (l ∷ []) h = omega (arith, ap length (append-nil l))
 one_line ls h = omega arith
 
-module _ {limit : ℕ} {past : List ℕ → Bool} {text : Option (List ℕ)} {extent : ℕ} {f : Feed} {ws : List Member}
-    (fed : Fed limit past text extent f ws) where
-  -- a cursor that passed one line more at most than those that the feed gave
+module _ {limit : ℕ} {past : List ℕ → Bool} {text : Option (List ℕ)} {extent : ℕ} {f : Feed}
+    (fed : Fed limit past text extent f) where
+  -- a cursor that passed one line more at most than those that were read
   pub read_to : (b : Option Pair) (t : List ℕ) (new : CursorState) → text ≡ Some t
-      → AllByRecursion (λ m. IsUpto b (member_pair m)) (done limit t f) → new.start ≡ f.cursor.start
+      → AllByRecursion (λ m. IsUpto b (member_pair m)) (done limit past t f) → new.start ≡ f.cursor.start
       → new.at ≤ f.cursor.at + first_length (lines (drop f.cursor.at t)) → length new.ahead ≤ 8192
       → ReadTo limit past b t new
   read_to b t new is upto start near ahead =
       let told = fed.told t is in
       let from = lines (drop f.cursor.start t) in
       let all = read_lines t f.cursor in
-      let k = f.cursor.count - held f.progress in
-      let last = one_line (drop k all) (grind (arith, one_held, length-drop)) in
+      let cut = done_cut fed t is in
+      let k = cut.0 in
+      let stood = fed.stands.rest t is in
+      let last = one_line (drop k all) (grind (arith, length-drop)) in
       let whole = ap bytes_of (take-append-drop k all) in
+      let within = done_within limit past t f in
       record {
         read = take k all;
         rest = drop k all ++ drop f.cursor.count from;
         cut = rw (start, ← append_assoc, take-append-drop, take-append-drop);
-        members = done limit t f;
-        entries = sym (take-map (line_entry limit) k all) ∙ ap (take k) told.run.entries
-            ∙ take-map Some k (given limit t f.cursor);
-        within = grind (arith, each_both);
+        members = done limit past t f;
+        entries = rw cut.3 (sym (take-map (line_entry limit) k all) ∙ ap (take k) told.run.entries
+            ∙ take-map Some k (given limit t f.cursor));
+        within = each_both _ _ _ within upto;
         most = grind (arith, flat_map-append, length-append, longest_later, longest_front, longest_drop, first_most);
       }
-
-module _ (limit : ℕ) (past : List ℕ → Bool) where
-  module _ {S : Type 0} (text : S → Option (List ℕ)) (extent : S → ℕ) (b : Option Pair) where
-    -- sources of which no line above the bound is done
-    pub are_read_to : (n : ℕ) (ss : List S) (fs : List Feed) (ws : List WaitingLine)
-        → AreFed limit past text extent n ss fs ws
-        → AllByRecursion (λ m. IsUpto b (member_pair m)) (all_done limit text ss fs) → AreReadTo limit past text b ss fs
-    are_read_to n (s ∷ ss) (f ∷ fs) ws fed upto =
-        let cut = each_cut (λ m. IsUpto b (member_pair m)) (done limit (text_or (text s)) f) _ upto in (
-          (λ t e. read_to fed.0 b t f.cursor e (grind arith) refl (omega arith) fed.0.stands.filled.most),
-          are_read_to (n + 1) ss fs
-              ws fed.1 cut.1,
-        )
-    are_read_to n ss fs ws fed upto = tt
-
-    -- one of them was read on
-    pub read_on : (ss : List S) (fs : List Feed) (i : ℕ) (s : S) (f : Feed) → AreReadTo limit past text b ss fs
-        → ((t : List ℕ) → text s ≡ Some t → ReadTo limit past b t f.cursor)
-        → AreReadTo limit past text b (set ss i s) (set fs i f)
-    read_on ss fs i s f h k = grind (arith, zip_set, each_replaced)
-
-    -- the next line of one of them is to be read
-    pub due_read : (ss : List S) (fs : List Feed) (i : ℕ) (d : Feed) → AreReadTo limit past text b ss fs
-        → AreReadTo limit past text b ss (set fs i (due (get_or fs i d)))
-    due_read (s ∷ ss) (f ∷ fs) (suc i) d h = (h.0, due_read ss fs i d h.1)
-    due_read ss fs i d h = grind arith
-
--- ---- the opening of sources
 
 -- where nothing may be read, little was
 pub read_none : (limit : ℕ) (past : List ℕ → Bool) (t : List ℕ) (c : CursorState) → ReadTo limit past None t c
@@ -99,6 +73,49 @@ read_none limit past t c h =
         → AllByRecursion (λ m. (past m.values.key ≡ false) × IsUpto None (member_pair m)) ms → bytes_of ls ≡ 0
     no_bytes (l ∷ ls) (m ∷ ms) e within = absurd within.0.1
     no_bytes ls ms e within = grind arith
+
+-- the same where the last line that was read has the pair
+pub group_most : {limit : ℕ} {past : List ℕ → Bool} {text : Option (List ℕ)} {extent : ℕ} {c : CursorState} {pair : Pair}
+    → Fed limit past text extent (feed_of c []) → (t : List ℕ) → text ≡ Some t → EndsAt past pair (given limit t c)
+    → (new : CursorState) → new.start ≡ c.start → new.at ≤ c.at + first_length (lines (drop c.at t))
+    → length new.ahead ≤ 8192 → ReadTo limit past (Some pair) t new
+group_most {pair = pair} fed t is end new start near ahead =
+    read_to fed (Some pair) t new is (rw (all_taken fed t is end) (all_upto fed t is end)) start near ahead
+
+-- the same where no line was read before
+pub opening_most : {limit : ℕ} {past : List ℕ → Bool} {text : Option (List ℕ)} {extent : ℕ} {c : CursorState}
+    → Fed limit past text extent (feed_of c []) → c.count ≡ 0 → (t : List ℕ) → text ≡ Some t → (new : CursorState)
+    → new.start ≡ c.start → new.at ≤ c.at + first_length (lines (drop c.at t)) → length new.ahead ≤ 8192
+    → reach new ≤ new.start + 2 * longest (lines t) + 8192
+opening_most {limit = limit} {past = past} fed none t is new start near ahead =
+    read_none limit past t new (read_to fed None t new is (rw none tt) start near ahead)
+
+module _ (limit : ℕ) (past : List ℕ → Bool) where
+  module _ {S : Type 0} (text : S → Option (List ℕ)) (extent : S → ℕ) (b : Option Pair) where
+    -- sources of which no line above the bound was taken
+    pub are_read_to : (ss : List S) (fs : List Feed) → AreFed limit past text extent ss fs
+        → AllByRecursion (λ m. IsUpto b (member_pair m)) (all_done limit past text ss fs)
+        → AreReadTo limit past text b ss fs
+    are_read_to (s ∷ ss) (f ∷ fs) fed upto =
+        let cut = each_cut (λ m. IsUpto b (member_pair m)) (done limit past (text_or (text s)) f) _ upto in (
+          (λ t e. read_to fed.0 b t f.cursor e (grind arith) refl (omega arith) fed.0.stands.filled.most),
+          are_read_to ss fs fed.1 cut.1,
+        )
+    are_read_to ss fs fed upto = grind arith
+
+    -- one of them was read on
+    pub read_on : (ss : List S) (fs : List Feed) (i : ℕ) (s : S) (f : Feed) → AreReadTo limit past text b ss fs
+        → ((t : List ℕ) → text s ≡ Some t → ReadTo limit past b t f.cursor)
+        → AreReadTo limit past text b (set ss i s) (set fs i f)
+    read_on ss fs i s f h k = grind (arith, zip_set, each_replaced)
+
+    -- a line of one of them is taken
+    pub idle_read : (ss : List S) (fs : List Feed) (i : ℕ) (d : Feed) → AreReadTo limit past text b ss fs
+        → AreReadTo limit past text b ss (set fs i (idle (get_or fs i d)))
+    idle_read (s ∷ ss) (f ∷ fs) (suc i) d h = (h.0, idle_read ss fs i d h.1)
+    idle_read ss fs i d h = grind arith
+
+-- ---- the opening of sources
 
 pub opened_none : {S : Type 0} (text : S → Option (List ℕ)) (extent gave : S → ℕ) (ss : List S)
     → AllZip (λ x y. OpenedWithin (text x) (extent x) (gave x) (gave y)) ss ss

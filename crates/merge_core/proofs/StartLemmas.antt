@@ -11,7 +11,7 @@ use Rattle.cdxj_places.proofs.RisingLaws.{each_weaker}
 use Rattle.cdxj_core.specs.Indexes.{IsRun, IsIndex}
 use Rattle.cdxj_core.specs.Members.{Member, member_pair}
 use Rattle.source_core.specs.Search.{IsCut}
-use Rattle.merge_core.specs.declared.feed.Feed.{Feed}
+use Rattle.merge_core.specs.Feeds.{Feed}
 use Rattle.merge_core.specs.PairOrders.{is_low}
 use Rattle.merge_core.specs.Collections.{Known, all_lines}
 use Rattle.merge_core.specs.Openings.{IsCutAt}

@@ -16,7 +16,8 @@ use Rattle.merge_core.specs.PairOrders.{Below, Upto, IsAbove, IsUpto, is_low}
 use Rattle.merge_core.specs.WaitingLines.{WaitingLine, waiting_pair}
 use Rattle.merge_core.proofs.PairOrder.{below_then, then_below, from_not_below, upto_upto}
 use Rattle.merge_core.proofs.MergeLemmas.{place_below, below_next, is_less}
-use Rattle.merge_core.proofs.ReadLines.{wanted_parts, IsUpward, stays, is_read, IsLate, stays_lower, wanted_low}
+use Rattle.merge_core.specs.Feeds.{stays}
+use Rattle.merge_core.proofs.ReadLines.{wanted_parts, IsUpward, is_read, IsLate, stays_lower}
 
 -- ---- what stands above a bound
 
@@ -65,7 +66,7 @@ pub record Took (past : List ℕ → Bool) (wanted : Member → Bool) (b : Optio
   pub done : List Member
   pub handed : (taken ≡ rising member_place place_cmp done) × AllByRecursion (λ m. IsUpto b (member_pair m)) done
   pub read : (upto : Member → Bool) → AllByRecursion (λ (w : WaitingLine). IsLate upto w.member) ws
-      → AllByRecursion (λ m. upto m ≡ true) done → filter (is_read past upto) all ≡ filter (stays past) done
+      → AllByRecursion (λ m. upto m ≡ true) done → filter (is_read past upto) all ≡ done
 
 module _ {past : List ℕ → Bool} {wanted : Member → Bool} {b : Option Pair} {ws : List WaitingLine}
     {whole taken : List Member} (r : Took past wanted b ws whole taken) where
@@ -81,7 +82,7 @@ module _ {past : List ℕ → Bool} {wanted : Member → Bool} {b : Option Pair}
       let others = rising member_place place_cmp (filter (λ m. not (low m)) r.all) in (
         filter wanted others,
         r.wanted_of ∙ wanted_parts wanted low is_lower r.all
-            ∙ ap (λ l. l ++ filter wanted others) (grind (arith, wanted_low, stays, stays_lower)),
+            ∙ ap (λ l. l ++ filter wanted others) (grind arith),
         each_filter (λ m. low m ≡ false) wanted others
             (each_rising member_place place_cmp place_cmp_total (λ m. low m ≡ false) _ (filter_out low r.all)),
       )

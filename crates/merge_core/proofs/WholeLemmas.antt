@@ -1,45 +1,60 @@
 -- Sources of which all lines were read: each that tells its bytes is an index, and all its lines are done.
 use Rattle.std.specs.List.{AllZip, AllByRecursion}
-use Rattle.std.proofs.Common.{◌≡◌, ℕ, ◌+◌, List, [], ◌∷◌, length, map, Bool, false, true, Option, Some}
-use Rattle.std.proofs.Common.{flat_map, zip, ap, ◌∙◌, arith, length-drop}
+use Rattle.std.proofs.Common.{◌≡◌, ℕ, List, [], ◌∷◌, length, map, Bool, false, true, Option, Some}
+use Rattle.std.proofs.Common.{refl, not, sym, drop, inl, inr, flat_map, zip, ap, ◌∙◌, arith, length-drop}
 use Rattle.std.specs.Option.{is_some}
 use Rattle.std.proofs.lemmas.List.{nil_from_length, take_all}
 use Rattle.cdxj_core.specs.Members.{Member}
 use Rattle.cdxj_core.specs.Indexes.{IsIndex}
-use Rattle.merge_core.specs.declared.feed.Progress.{Progress}
-use Rattle.merge_core.specs.declared.feed.Progress.TheVariants.{Due}
-use Rattle.merge_core.specs.declared.feed.Feed.{Feed}
-use Rattle.merge_core.specs.Feeds.{AreWaits, IsHead, IsSettled, AreSettled, Fed, AreFed, done}
+use Rattle.merge_core.specs.Feeds.{AllMoved, AreFed, AreSettled, Fed, Feed, IsSettled, done, feeds, given, stays}
 use Rattle.merge_core.specs.Gathering.{text_or, all_done}
+use Rattle.merge_core.specs.declared.state.Merge.{Merge}
+use Rattle.merge_core.specs.Collections.{KeepsSources}
+use Rattle.merge_core.proofs.StateLemmas.{feeds_long}
+use Rattle.merge_core.proofs.FeedLemmas.{done_all}
 use Rattle.merge_core.proofs.Many.{Move}
+use Rattle.std.proofs.lemmas.Bool.{true≢false}
+use Rattle.cdxj_places.specs.TextLines.{lines}
 
 module _ (limit : ℕ) (past : List ℕ → Bool) (never : (key : List ℕ) → past key ≡ false) where
-  -- a feed of which no line waits, and which isn't due, has ended
-  ended : (p : Progress) (before all : List Member) (rest : List (List ℕ)) → (p ≡ Due → ⊥) → AreWaits p []
-      → IsHead limit past before all rest [] p → (all ≡ before) × (rest ≡ [])
-  ended p before all rest s w h = grind arith
+  stays_all : (ms : List Member) → AllByRecursion (λ m. stays past m ≡ true) ms
+  stays_all [] = tt
+  stays_all (m ∷ ms) = (ap not (never m.values.key), stays_all ms)
 
-  -- then its source is an index
-  index_read : {t : List ℕ} {extent : ℕ} {f : Feed} → f.cursor.start ≡ 0 → IsSettled f
-      → Fed limit past (Some t) extent f [] → IsIndex limit t (done limit t f)
-  index_read zero_start s fed = grind (arith, ended, take_all, length-drop {A = List ℕ})
+  -- a source of which no line waits was read to its end
+  ended : (t : List ℕ) (f : Feed) → IsSettled limit past (Some t) f → f.waits ≡ [] → lines (drop f.cursor.at t) ≡ []
+  ended t f settled none = elim (settled t refl none) [
+    | inl end ↦ end
+    | inr last ↦ absurd (true≢false (sym last.3 ∙ never last.1.values.key))
+  ]
+
+  -- then it is an index
+  index_read : {t : List ℕ} {extent : ℕ} {f : Feed} → f.cursor.start ≡ 0 → f.waits ≡ []
+      → IsSettled limit past (Some t) f → Fed limit past (Some t) extent f → IsIndex limit t (done limit past t f)
+  index_read {t = t} {f = f} zero_start none settled fed =
+      let told = fed.told t refl in
+      let end = ended t f settled none in
+      let stood = fed.stands.rest t refl in
+      let all : done limit past t f ≡ given limit t f.cursor = rw none (done_all limit past t f.cursor told.as_many (stays_all _)) in
+      grind (arith, take_all, length-drop {A = List ℕ})
 
   module _ {S : Type 0} (text : S → Option (List ℕ)) (extent : S → ℕ) where
     -- the lines of each
     abbrev pub its_lines : List S → List Feed → List (List Member)
-    its_lines ss fs = map (λ x. done limit (text_or (text x.0)) x.1) (zip ss fs)
+    its_lines ss fs = map (λ x. done limit past (text_or (text x.0)) x.1) (zip ss fs)
 
-    pub are_read : (n : ℕ) (ss : List S) (fs : List Feed) (texts : List (List ℕ)) → length ss ≡ length fs
+    pub are_read : (ss : List S) (fs : List Feed) (texts : List (List ℕ))
         → AllZip (λ told t. told ≡ Some t) (map text ss) texts
-        → AllByRecursion (λ (f : Feed). f.cursor.start ≡ 0) fs → AreSettled fs
-        → AreFed limit past text extent n ss fs [] → AllZip (IsIndex limit) texts (its_lines ss fs)
-    are_read n (s ∷ ss) (f ∷ fs) (t ∷ texts) same known start settled fed = (
-      rw known.0 (index_read start.0 settled.0 (rw known.0 at fed.0)),
-      are_read (n + 1) ss fs texts (omega arith) known.1 start.1 settled.1 fed.1,
+        → AllByRecursion (λ (f : Feed). f.cursor.start ≡ 0) fs → AllByRecursion (λ (f : Feed). f.waits ≡ []) fs
+        → AreSettled limit past text extent ss fs → AreFed limit past text extent ss fs
+        → AllZip (IsIndex limit) texts (its_lines ss fs)
+    are_read (s ∷ ss) (f ∷ fs) (t ∷ texts) known start none settled fed = (
+      rw known.0 (index_read start.0 none.0 (rw known.0 at settled.0) (rw known.0 at fed.0)),
+      are_read ss fs texts known.1 start.1 none.1 settled.1 fed.1,
     )
-    are_read n ss fs texts same known start settled fed = grind arith
+    are_read ss fs texts known start none settled fed = grind arith
 
-    pub all_lines_are : (ss : List S) (fs : List Feed) → all_done limit text ss fs
+    pub all_lines_are : (ss : List S) (fs : List Feed) → all_done limit past text ss fs
         ≡ flat_map (λ (members : List Member). members) (its_lines ss fs)
     all_lines_are (s ∷ ss) (f ∷ fs) = grind (arith, all_lines_are ss fs)
     all_lines_are ss fs = grind arith
@@ -77,3 +92,12 @@ module _ {S : Type 0} (text : S → Option (List ℕ)) (extent gave : S → ℕ)
   )
   starts_kept ss [] fs fs' e e' h z = grind (arith, nil_from_length)
   starts_kept ss (s' ∷ ss') fs fs' e e' h z = grind arith
+
+  -- what is kept of the sources of a merge
+  pub all_kept : (olds : List S) (old : Merge) (news : List S) (new : Merge) → length olds ≡ length old.cursors.items
+      → length news ≡ length olds → AllMoved text extent gave olds old news new → KeepsSources text extent olds news
+  all_kept olds old news new same long moved =
+      let before : length olds ≡ length (feeds old) = grind (arith, feeds_long) in (
+        texts_kept olds news (feeds old) (feeds new) before long moved,
+        extents_kept olds news (feeds old) (feeds new) before long moved,
+      )

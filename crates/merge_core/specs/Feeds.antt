@@ -1,7 +1,7 @@
 -- What was read of a source.
-use Rattle.std.specs.Prelude.{◌≡◌, ℕ, ◌+◌, ◌-◌, ◌≤◌, ◌<◌, List, [], ◌∷◌, ◌++◌, flat_map, length, take, drop, map, Bool}
-use Rattle.std.specs.Prelude.{true, false, Option, Some, None}
-use Rattle.std.specs.List.{AllByRecursion, AllZip, zip}
+use Rattle.std.specs.Prelude.{◌≡◌, ◌⊎◌, ℕ, ◌+◌, ◌-◌, ◌≤◌, ◌<◌, List, [], ◌∷◌, ◌++◌, flat_map, length, take, drop, map, Bool, not}
+use Rattle.std.specs.Prelude.{true, Option, Some, None}
+use Rattle.std.specs.List.{AllByRecursion, AllZip, filter, zip}
 use Rattle.cdxj_places.specs.TextLines.{lines}
 use Rattle.cdxj_core.specs.Members.{Member}
 use Rattle.cdxj_core.specs.Indexes.{IsRun}
@@ -9,35 +9,28 @@ pub use Rattle.cdxj_core.specs.KeptLine.{no_member}
 use Rattle.cdxj_core.specs.KeptLine.{member_in}
 use Rattle.source_core.specs.Cursors.{CursorState, Stands, reach}
 use Rattle.source_core.specs.IndexLines.{BeginsAfter}
-use Rattle.merge_core.specs.declared.feed.Progress.{Progress}
-use Rattle.merge_core.specs.declared.feed.Progress.TheVariants.{Due, Waiting, Past, Ended}
-use Rattle.merge_core.specs.declared.feed.Feed.{Feed}
+use Rattle.merge_core.specs.declared.state.Merge.{Merge}
 use Rattle.merge_core.specs.WaitingLines.{WaitingLine, waits_of}
+
+-- a source that is read: its cursor, and those of its lines that wait
+pub record Feed : Type 0 where
+  pub cursor : CursorState
+  pub waits : List Member
+
+abbrev pub feed_of : CursorState → List Member → Feed
+feed_of c ws = record { cursor = c; waits = ws }
+
+-- those of the sources from this number on, which have these cursors
+abbrev pub feeds_from : ℕ → List CursorState → List WaitingLine → List Feed
+feeds_from n [] ws = []
+feeds_from n (c ∷ cs) ws = feed_of c (waits_of n ws) ∷ feeds_from (n + 1) cs ws
+
+abbrev pub feeds : Merge → List Feed
+feeds m = feeds_from 0 m.cursors.items m.queue
 
 abbrev pub option_list : {X : Type 0} → Option X → List X
 option_list None = []
 option_list (Some x) = x ∷ []
-
--- these are the lines that wait: one or none
-abbrev pub AreWaits : Progress → List Member → Type 0
-AreWaits Due ws = ws ≡ []
-AreWaits Waiting ws = (m : Member) × (ws ≡ m ∷ [])
-AreWaits Past ws = ws ≡ []
-AreWaits Ended ws = ws ≡ []
-
--- what becomes of the next line, where these keys lie past the range that is read
-abbrev pub IsNext : (List ℕ → Bool) → Member → Progress → List Member → Type 0
-IsNext past m Due ws = ⊥
-IsNext past m Waiting ws = (ws ≡ m ∷ []) × (past m.values.key ≡ false)
-IsNext past m Past ws = (ws ≡ []) × (past m.values.key ≡ true)
-IsNext past m Ended ws = ⊥
-
--- how many of the lines that were read aren't done
-abbrev pub held : Progress → ℕ
-held Due = 0
-held Waiting = 1
-held Past = 1
-held Ended = 0
 
 -- the lines that were read, of a source with this text
 abbrev pub read_lines : List ℕ → CursorState → List (List ℕ)
@@ -47,16 +40,14 @@ read_lines text c = take c.count (lines (drop c.start text))
 abbrev pub bytes_of : List (List ℕ) → ℕ
 bytes_of ls = length (flat_map (λ l. l) ls)
 
--- the feed whose next line is to be read
-abbrev pub due : Feed → Feed
-due f = record { cursor = f.cursor; progress = Due }
+-- the line's key doesn't lie past the range that is read, where these keys do
+abbrev pub stays : (List ℕ → Bool) → Member → Bool
+stays past m = not (past m.values.key)
 
--- its next line was read, or there is none
-abbrev pub IsSettled : Feed → Type 0
-IsSettled f = f.progress ≡ Due → ⊥
-
-abbrev pub AreSettled : List Feed → Type 0
-AreSettled = AllByRecursion IsSettled
+-- the last of these lines lies past the range
+abbrev pub EndsPast : (List ℕ → Bool) → List Member → Type 0
+EndsPast past ms = (before : List Member) × (last : Member) × (ms ≡ before ++ last ∷ [])
+    × (past last.values.key ≡ true)
 
 -- the limit of a line, in bytes
 module _ (limit : ℕ) where
@@ -68,48 +59,52 @@ module _ (limit : ℕ) where
   abbrev pub given : List ℕ → CursorState → List Member
   given text c = map member_of (read_lines text c)
 
-  -- those of them that are done
-  abbrev pub done : List ℕ → Feed → List Member
-  done text f = take (f.cursor.count - held f.progress) (given text f.cursor)
-
   -- which keys lie past the range that is read
   module _ (past : List ℕ → Bool) where
-    -- how the lines that were read follow from those that are done, where these wait and those are left
-    abbrev pub IsHead : List Member → List Member → List (List ℕ) → List Member → Progress → Type 0
-    IsHead before all rest ws Due = all ≡ before
-    IsHead before all rest ws Waiting = (all ≡ before ++ ws)
-        × AllByRecursion (λ (m : Member). past m.values.key ≡ false) ws
-    IsHead before all rest ws Past = (m : Member) × (all ≡ before ++ m ∷ []) × (past m.values.key ≡ true)
-    IsHead before all rest ws Ended = (all ≡ before) × (rest ≡ [])
+    -- those of them that were taken: they lie within the range and don't wait
+    abbrev pub done : List ℕ → Feed → List Member
+    done text f = filter (stays past) (take (f.cursor.count - length f.waits) (given text f.cursor))
 
-    -- what is known of a source with this text, of whose lines these wait
-    pub record FedOf (text : List ℕ) (f : Feed) (ws : List Member) : Type 0 where
+    -- What is known of a source with this text. The lines that wait are the last that were read. No line lies past the
+    -- range but the last, where it doesn't wait.
+    pub record FedOf (text : List ℕ) (f : Feed) : Type 0 where
       pub begins : (before : List (List ℕ)) × BeginsAfter text f.cursor.start before
       pub stood : f.cursor.at ≤ f.cursor.start + bytes_of (read_lines text f.cursor)
       pub as_many : length (read_lines text f.cursor) ≡ f.cursor.count
-      pub within : AllByRecursion (λ (m : Member). past m.values.key ≡ false) (done text f)
       pub run : IsRun limit (read_lines text f.cursor) (given text f.cursor)
-      pub head : IsHead (done text f) (given text f.cursor) (lines (drop f.cursor.at text)) ws f.progress
+      pub last : given text f.cursor ≡ take (f.cursor.count - length f.waits) (given text f.cursor) ++ f.waits
+      pub within : AllByRecursion (λ m. stays past m ≡ true) (take (f.cursor.count - 1) (given text f.cursor))
+      pub waiting : AllByRecursion (λ m. stays past m ≡ true) f.waits
 
     -- what holds of a feed beside its source
-    pub record Fed (text : Option (List ℕ)) (extent : ℕ) (f : Feed) (ws : List Member) : Type 0 where
+    pub record Fed (text : Option (List ℕ)) (extent : ℕ) (f : Feed) : Type 0 where
       pub stands : Stands text extent f.cursor
-      pub waits : AreWaits f.progress ws
-      pub counted : held f.progress ≤ f.cursor.count
-      pub told : (t : List ℕ) → text ≡ Some t → FedOf t f ws
+      pub few : length f.waits ≤ 1
+      pub counted : length f.waits ≤ f.cursor.count
+      pub told : (t : List ℕ) → text ≡ Some t → FedOf t f
 
-    -- what holds of sources and feeds, of which the first has this number, while these lines wait
+    -- a line of the source waits, or its lines were read to the end of the range
+    abbrev pub IsSettled : Option (List ℕ) → Feed → Type 0
+    IsSettled text f = (t : List ℕ) → text ≡ Some t → f.waits ≡ []
+        → (lines (drop f.cursor.at t) ≡ []) ⊎ EndsPast past (given t f.cursor)
+
     module _ {S : Type 0} (text : S → Option (List ℕ)) (extent : S → ℕ) where
-      abbrev pub AreFed : ℕ → List S → List Feed → List WaitingLine → Type 0
-      AreFed n [] fs ws = Unit {0}
-      AreFed n (s ∷ ss) [] ws = Unit {0}
-      AreFed n (s ∷ ss) (f ∷ fs) ws = Fed (text s) (extent s) f (waits_of n ws) × AreFed (n + 1) ss fs ws
+      abbrev pub AreFed : List S → List Feed → Type 0
+      AreFed = AllZip (λ s f. Fed (text s) (extent s) f)
 
-      -- a feed for each source, and each line that waits is of one of them
-      pub record Ready (ss : List S) (fs : List Feed) (ws : List WaitingLine) : Type 0 where
-        pub same : length ss ≡ length fs
-        pub placed : AllByRecursion (λ (w : WaitingLine). w.source < length fs) ws
-        pub fed : AreFed 0 ss fs ws
+      abbrev pub AreSettled : List S → List Feed → Type 0
+      AreSettled = AllZip (λ s f. IsSettled (text s) f)
+
+      -- a cursor for each source, and each line that waits is of one of them
+      pub record Aligned (ss : List S) (m : Merge) : Type 0 where
+        pub same : length ss ≡ length m.cursors.items
+        pub placed : AllByRecursion (λ (w : WaitingLine). w.source < length m.cursors.items) m.queue
+        pub fed : AreFed ss (feeds m)
+
+      -- and a line of each source waits whose range has more lines
+      pub record Ready (ss : List S) (m : Merge) : Type 0 where
+        pub aligned : Aligned ss m
+        pub settled : AreSettled ss (feeds m)
 
 -- what may change of a source and its cursor in a call, whatever it answers
 pub record Moved (old_text text : Option (List ℕ)) (old_extent extent old_gave gave : ℕ) (old now : CursorState) : Type
@@ -120,8 +115,8 @@ pub record Moved (old_text text : Option (List ℕ)) (old_extent extent old_gave
   pub start_kept : now.start ≡ old.start
   pub inside : reach old ≤ old_extent → reach now ≤ extent
 
--- the same of each source and its feed
-abbrev pub AllMoved : {S : Type 0} → (S → Option (List ℕ)) → (S → ℕ) → (S → ℕ) → List S → List Feed → List S
-    → List Feed → Type 0
-AllMoved text extent gave olds old_feeds news feeds = AllZip (λ x y. Moved (text x.0) (text y.0) (extent x.0)
-    (extent y.0) (gave x.0) (gave y.0) x.1.cursor y.1.cursor) (zip olds old_feeds) (zip news feeds)
+-- the same of each source and its cursor
+abbrev pub AllMoved : {S : Type 0} → (S → Option (List ℕ)) → (S → ℕ) → (S → ℕ) → List S → Merge → List S → Merge
+    → Type 0
+AllMoved text extent gave olds old news new = AllZip (λ x y. Moved (text x.0) (text y.0) (extent x.0) (extent y.0)
+    (gave x.0) (gave y.0) x.1.cursor y.1.cursor) (zip olds (feeds old)) (zip news (feeds new))

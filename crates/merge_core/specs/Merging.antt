@@ -6,7 +6,8 @@ use Rattle.cdxj_core.specs.declared.limit.TheConstants.{LINE_LIMIT}
 use Rattle.cdxj_core.specs.Members.{Member, member_pair}
 use Rattle.merge_core.specs.PairOrders.{Alike, Below, IsAbove, Upto}
 use Rattle.merge_core.specs.WaitingLines.{waiting_pair}
-use Rattle.merge_core.specs.declared.streams.Streams.{Streams}
+use Rattle.merge_core.specs.declared.state.Merge.{Merge}
+use Rattle.merge_core.specs.Feeds.{feeds}
 use Rattle.merge_core.specs.Gathering.{AreTold, all_done}
 use Rattle.devices.specs.Device.{Grows}
 use Rattle.merge_core.specs.Reached.{Reached}
@@ -15,14 +16,13 @@ use Rattle.merge_core.specs.Spending.{AreReadTo}
 -- The lines of this pair, which no waiting line is below, were being taken. No source that tells its bytes was read
 -- beyond them.
 pub record HaltedGroup {S : Type 0} (past : List ℕ → Bool) (text : S → Option (List ℕ)) (olds : List S)
-    (begun : Streams)
-    (news : List S) (streams : Streams) : Type 0 where
+    (begun : Merge) (news : List S) (merge : Merge) : Type 0 where
   pub pair : Pair
-  pub above : (b : Option Pair) → AllByRecursion (λ w. IsAbove b (waiting_pair w)) begun.waiting → IsAbove b pair
-  pub least : AllByRecursion (λ w. Upto pair (waiting_pair w)) begun.waiting
+  pub above : (b : Option Pair) → AllByRecursion (λ w. IsAbove b (waiting_pair w)) begun.queue → IsAbove b pair
+  pub least : AllByRecursion (λ w. Upto pair (waiting_pair w)) begun.queue
   pub read : AreTold text olds
-      → AllByRecursion (λ m. Below (member_pair m) pair) (all_done LINE_LIMIT text olds begun.feeds.items)
-      → AreReadTo LINE_LIMIT past text (Some pair) news streams.feeds.items
+      → AllByRecursion (λ m. Below (member_pair m) pair) (all_done LINE_LIMIT past text olds (feeds begun))
+      → AreReadTo LINE_LIMIT past text (Some pair) news (feeds merge)
 
 -- A sink, by what it wrote of lines: it came from this state and output to others by these lines
 module _ {K : Type 0} (Wrote : K → K → List Member → Option (List ℕ) → Option (List ℕ) → Type 0) (sink : K)
@@ -31,17 +31,16 @@ module _ {K : Type 0} (Wrote : K → K → List Member → Option (List ℕ) →
   CameTo state now lines =
       (begin : K) → (start : Option (List ℕ)) → Wrote begin sink [] start old → Wrote begin state lines start now
 
--- A sink: what it wrote of lines, and that it wants no more. The sources, and the streams that read them; the sink and
+-- A sink: what it wrote of lines, and that it wants no more. The sources, and the merge that reads them; the sink and
 -- what was written, before the merge.
 module _ {K S : Type 0} (Wrote : K → K → List Member → Option (List ℕ) → Option (List ℕ) → Type 0) (Enough : K → Type 0)
-    (past : List ℕ → Bool) (text : S → Option (List ℕ)) (extent gave : S → ℕ) (olds : List S) (begun : Streams)
+    (past : List ℕ → Bool) (text : S → Option (List ℕ)) (extent gave : S → ℕ) (olds : List S) (begun : Merge)
     (sink : K) (old : Option (List ℕ)) where
   -- these lines were passed on when the merge stood here
-  pub record SoFar (news : List S) (streams : Streams) (state : K) (now : Option (List ℕ)) : Type 0 where
+  pub record SoFar (news : List S) (merge : Merge) (state : K) (now : Option (List ℕ)) : Type 0 where
     pub bound : Option Pair
     pub taken : List Member
-    pub reached : Reached LINE_LIMIT text past extent gave olds begun.feeds.items news streams.feeds.items
-        streams.waiting bound taken
+    pub reached : Reached LINE_LIMIT text past extent gave olds begun news merge bound taken
     pub came : CameTo Wrote sink old state now taken
 
   -- of these lines the last ones share a pair, and before them the sink wanted more
@@ -59,10 +58,10 @@ module _ {K S : Type 0} (Wrote : K → K → List Member → Option (List ℕ) �
     pub came : CameTo Wrote sink old state middle earlier
 
   -- all lines were passed on and none waits, or the sink has enough, which it got with the last lines
-  pub record Passed (news : List S) (streams : Streams) (state : K) (now : Option (List ℕ)) (all : Bool) : Type 0 where
-    pub so_far : SoFar news streams state now
+  pub record Passed (news : List S) (merge : Merge) (state : K) (now : Option (List ℕ)) (all : Bool) : Type 0 where
+    pub so_far : SoFar news merge state now
     pub last : all ≡ false → LastGroup so_far.bound so_far.taken
-    pub ended : all ≡ true → streams.waiting ≡ []
+    pub ended : all ≡ true → merge.queue ≡ []
     pub enough : all ≡ false → Enough state
     pub further : all ≡ true → (Enough sink → ⊥) → Enough state → ⊥
 
@@ -70,18 +69,17 @@ module _ {K S : Type 0} (Wrote : K → K → List Member → Option (List ℕ) �
   pub record BrokenMerge (Broke : K → List Member → Option (List ℕ) → Option (List ℕ) → Type 0)
       (now : Option (List ℕ)) : Type 0 where
     pub sources : List S
-    pub streams : Streams
+    pub merge : Merge
     pub bound : Option Pair
     pub taken : List Member
-    pub reached : Reached LINE_LIMIT text past extent gave olds begun.feeds.items sources streams.feeds.items
-        streams.waiting bound taken
+    pub reached : Reached LINE_LIMIT text past extent gave olds begun sources merge bound taken
     pub wrote : (begin : K) → (start : Option (List ℕ)) → Wrote begin sink [] start old
         → ((state : K) × Wrote begin state taken start now) ⊎ Broke begin taken start now
 
   -- lines were passed on before a fault, and those of the next pair were being read
-  pub record HaltedMerge (news : List S) (streams : Streams) (now : Option (List ℕ)) : Type 0 where
+  pub record HaltedMerge (news : List S) (merge : Merge) (now : Option (List ℕ)) : Type 0 where
     pub sources : List S
-    pub stood : Streams
+    pub stood : Merge
     pub state : K
     pub middle : Option (List ℕ)
     pub so_far : SoFar sources stood state middle
@@ -89,5 +87,5 @@ module _ {K S : Type 0} (Wrote : K → K → List Member → Option (List ℕ) �
     pub grows : Grows middle now
     pub next : Pair
     pub above : IsAbove so_far.bound next
-    pub least : AllByRecursion (λ w. Upto next (waiting_pair w)) stood.waiting
-    pub read : AreTold text olds → AreReadTo LINE_LIMIT past text (Some next) news streams.feeds.items
+    pub least : AllByRecursion (λ w. Upto next (waiting_pair w)) stood.queue
+    pub read : AreTold text olds → AreReadTo LINE_LIMIT past text (Some next) news (feeds merge)

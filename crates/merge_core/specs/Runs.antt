@@ -1,11 +1,10 @@
 -- The lines that were read of a source: a part of it that is an index by itself.
-use Rattle.std.specs.Prelude.{◌≡◌, ◌⊎◌, ℕ, List, [], ◌∷◌, ◌++◌, map, Bool, true, Option}
+use Rattle.std.specs.Prelude.{◌≡◌, ◌⊎◌, ℕ, List, [], ◌++◌, map, Bool, true, Option}
 use Rattle.std.specs.List.{zip}
 use Rattle.cdxj_places.specs.TextLines.{lines}
 use Rattle.cdxj_core.specs.Indexes.{IsRun}
 use Rattle.cdxj_core.specs.Members.{Member}
-use Rattle.merge_core.specs.declared.feed.Feed.{Feed}
-use Rattle.merge_core.specs.Feeds.{given}
+use Rattle.merge_core.specs.Feeds.{EndsPast, Feed, given}
 use Rattle.merge_core.specs.Gathering.{text_or}
 
 -- Consecutive lines of a text are these members, whose pairs never fall. Where they are to be all of the range, they go
@@ -17,8 +16,7 @@ pub record IsPart (limit : ℕ) (past : List ℕ → Bool) (whole : Bool) (text 
     pub after : List (List ℕ)
     pub cut : lines text ≡ before ++ read ++ after
     pub run : IsRun limit read members
-    pub ended : whole ≡ true → (after ≡ [])
-        ⊎ ((earlier : List Member) × (last : Member) × (members ≡ earlier ++ last ∷ []) × (past last.values.key ≡ true))
+    pub ended : whole ≡ true → (after ≡ []) ⊎ EndsPast past members
 
 -- the lines that were read, source by source
 abbrev pub parts : {S : Type 0} → ℕ → (S → Option (List ℕ)) → List S → List Feed → List (List Member)

@@ -7,8 +7,7 @@ use Rattle.cdxj_core.specs.Members.{Member, member_pair, line_entry}
 use Rattle.source_core.specs.Cursors.{CursorState, reach}
 use Rattle.source_core.specs.Halving.{digits}
 use Rattle.source_core.specs.IndexLines.{longest}
-use Rattle.merge_core.specs.declared.feed.Feed.{Feed}
-use Rattle.merge_core.specs.Feeds.{bytes_of}
+use Rattle.merge_core.specs.Feeds.{Feed, bytes_of}
 use Rattle.merge_core.specs.PairOrders.{IsUpto}
 use Rattle.merge_core.specs.Written.{lines_text}
 

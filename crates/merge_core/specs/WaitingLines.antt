@@ -28,3 +28,7 @@ is_of i w = w.source == i
 -- those of a source
 abbrev pub waits_of : ℕ → List WaitingLine → List Member
 waits_of i ws = map (λ w. w.member) (filter (is_of i) ws)
+
+-- these lines, as those of a source
+abbrev pub queued : ℕ → List Member → List WaitingLine
+queued i ms = map (λ m. record { member = m; source = i }) ms

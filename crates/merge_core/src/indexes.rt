@@ -14,7 +14,7 @@ use crate::fault::MergeFault;
 use crate::line_writer::LineWriter;
 use crate::merging::merge;
 use crate::range::All;
-use crate::streams::Streams;
+use crate::state::Merge;
 use devices::Output;
 use source_core::Source;
 use std::alloc::Global;
@@ -25,7 +25,7 @@ pub struct MergedLines {
     /// The number of lines written. It saturates at 2^64 - 1.
     pub count: u64,
     /// The greatest number of lines held at once.
-    pub held: u64,
+    pub most_lines: u64,
 }
 
 /// Writes the collection of the indexes: their lines in the order of places, only the first line at each place.
@@ -50,15 +50,15 @@ pub fn merge_indexes<S: Source, O: Output>(
     ensures lines { WritesLinesOf LINE_LIMIT (λ merged. merged.count) (map S.text sources.old)
         result (O.written out.old) (O.written out.new) }
     ensures bytes { AllGaveOnce S.extent S.gave sources.old sources.new }
-    ensures held { OverIndexes LINE_LIMIT (map S.text sources.old) (λ texts indexes.
+    ensures most_lines { OverIndexes LINE_LIMIT (map S.text sources.old) (λ texts indexes.
         (most : ℕ) → ShareAtMost most (all_lines indexes)
-        → IfOk result (λ merged. merged.held ≤ length sources.old + most)) }
+        → IfOk result (λ merged. merged.most_lines ≤ length sources.old + most)) }
 {
-    let mut opened = Streams::open_at(alloc, sources, b"", b"", &All)?;
+    let mut opened = Merge::open_at(alloc, sources, b"", b"", &All)?;
     let mut writer = LineWriter::new();
-    merge(alloc, sources, &mut opened.streams, &All, &mut writer, out)?;
+    merge(alloc, sources, &mut opened.merge, &All, &mut writer, out)?;
     Ok(MergedLines {
         count: writer.count,
-        held: opened.streams.held,
+        most_lines: opened.merge.most_lines,
     })
 }

@@ -4,27 +4,27 @@
 #![tactic(auto)]
 
 mod fault;
-mod feed;
+mod group;
 mod indexes;
 mod key_start;
 mod keyed_line;
+mod line_buffers;
+mod line_queue;
 mod line_writer;
 mod merging;
 mod opening;
 mod pair;
-mod queue;
+mod queued_line;
 mod range;
 mod sink;
-mod store;
-mod streams;
-mod waiting;
+mod state;
 
 pub use crate::fault::{FeedFault, MergeFault};
 pub use crate::indexes::{MergedLines, merge_indexes};
+pub use crate::line_buffers::LineBuffers;
 pub use crate::line_writer::LineWriter;
 pub use crate::merging::merge;
-pub use crate::opening::Opened;
+pub use crate::opening::OpenedMerge;
 pub use crate::range::{All, Range};
 pub use crate::sink::Sink;
-pub use crate::store::Store;
-pub use crate::streams::Streams;
+pub use crate::state::Merge;

@@ -4,43 +4,40 @@ ghost use Rattle.source_core.specs.Device.{KeepsSource};
 ghost use Rattle.std.specs.Prelude.{◌≡◌, ◌⊎◌, ◌+◌, ◌*◌, ◌≤◌, ℕ, List, [], map, Some, IfOk, IfErr, OnOk};
 ghost use Rattle.std.specs.List.{AllByRecursion, zip, sum};
 ghost use Rattle.cdxj_core.specs.declared.limit.TheConstants.{LINE_LIMIT};
-ghost use Rattle.cdxj_core.specs.Indexes.{IsIndex};
-ghost use Rattle.cdxj_core.specs.Members.{Member};
 ghost use Rattle.source_core.specs.Cursors.{Stands, reach};
 ghost use Rattle.source_core.specs.Halving.{digits};
 ghost use Rattle.source_core.specs.IndexLines.{BeginsAfter, lines, longest};
-ghost use Rattle.source_core.specs.Search.{IsCut};
+ghost use Rattle.merge_core.specs.Collections.{KeepsSources};
 ghost use Rattle.merge_core.specs.Failures.{CountsFeed, CountsReads};
 ghost use Rattle.merge_core.specs.LineFaults.{NamesLine, IsMergeFaultOf};
-ghost use Rattle.merge_core.specs.Spending.{search_most, AllGaveOnce, CameOnce, CameWithin, GaveOnce, OpenedWithin};
+ghost use Rattle.merge_core.specs.Spending.{AllGaveOnce, CameOnce, CameWithin, GaveOnce, OpenedWithin};
 
 use crate::fault::{FeedFault, MergeFault};
-use crate::feed::{Feed, Progress};
-use crate::queue::Queue;
+use crate::line_buffers::LineBuffers;
+use crate::line_queue::LineQueue;
 use crate::range::Range;
-use crate::store::Store;
-use crate::streams::Streams;
+use crate::state::Merge;
 use source_core::{Cursor, Found, Source, search};
 use std::alloc::Global;
 
-/// Sources that were opened by a search.
+/// The merge of sources that were opened by a search.
 #[derive(Debug, Drop)]
-pub struct Opened {
-    pub streams: Streams,
+pub struct OpenedMerge {
+    pub merge: Merge,
     /// The number of steps of the searches. It saturates at 2^64 - 1.
     pub probes: u64,
 }
 
-impl Streams {
-    ghost use Rattle.merge_core.specs.Feeds.{Ready, AreSettled};
-    ghost use Rattle.merge_core.specs.Openings.{AddedFeed, IsCutAt};
+impl Merge {
+    ghost use Rattle.merge_core.specs.Feeds.{Ready, feeds};
+    ghost use Rattle.merge_core.specs.Openings.{AddedSource, IsCutAt};
     ghost use Rattle.merge_core.specs.Gathering.{all_done};
 
     /// Adds a source, and reads the first line after the cursor.
     fn add<S: Source, R: Range>(
         &mut self,
         source: &mut S,
-        cursor: Cursor,
+        mut cursor: Cursor,
         range: &R,
     ) -> Result<(), FeedFault>
         requires stands { Stands (S.text source.old) (S.extent source.old) cursor }
@@ -52,26 +49,21 @@ impl Streams {
         ensures failures { CountsFeed result (S.failures source.old) (S.failures source.new) }
         ensures fault { (t : List ℕ) → S.text source.old ≡ Some t
             → IfErr result (NamesLine LINE_LIMIT t) }
-        ensures settled { AreSettled self.old.feeds.items
-            → OnOk result (AreSettled self.new.feeds.items) }
-        ensures held { self.new.held ≡ self.old.held }
+        ensures most_lines { self.new.most_lines ≡ self.old.most_lines }
         ensures added { OnOk result
-            (AddedFeed LINE_LIMIT (R.past range.now) (S.text source.new) (S.extent source.new)
+            (AddedSource LINE_LIMIT (R.past range.now) (S.text source.new) (S.extent source.new)
             (λ c. (c.start ≡ cursor.start)
             × (S.gave source.new + reach cursor ≤ S.gave source.old + reach c))
-            self.old.feeds.items self.new.feeds.items self.old.waiting self.new.waiting) }
+            self.old self.new) }
         ensures spent { (t : List ℕ) → S.text source.old ≡ Some t → S.gave source.new + reach cursor
             ≤ S.gave source.old + cursor.start + 2 * longest (lines t) + 8192 }
         ensures once { GaveOnce (S.extent source.old) (S.gave source.old) (S.gave source.new) }
     {
-        let mut feed = Feed {
-            cursor,
-            progress: Progress::Due,
-        };
-        let next = feed.begin(source, range, &mut self.store)?;
-        let number = self.feeds.len();
-        self.feeds.push(feed)?;
-        self.let_wait(next, number)?;
+        let next = self.buffers.next_line(source, &mut cursor)?;
+        let first = self.buffers.within(next, range);
+        let number = self.cursors.len();
+        self.cursors.push(cursor)?;
+        self.enqueue(first, number)?;
         Ok(())
     }
 
@@ -90,17 +82,15 @@ impl Streams {
         ensures probes { IfOk result (λ n. n ≤ digits (S.extent source.old)) }
         ensures fault { (t : List ℕ) → S.text source.old ≡ Some t
             → IfErr result (NamesLine LINE_LIMIT t) }
-        ensures settled { AreSettled self.old.feeds.items
-            → OnOk result (AreSettled self.new.feeds.items) }
-        ensures held { self.new.held ≡ self.old.held }
+        ensures most_lines { self.new.most_lines ≡ self.old.most_lines }
         ensures added { OnOk result
-            (AddedFeed LINE_LIMIT (R.past range.now) (S.text source.new) (S.extent source.new)
+            (AddedSource LINE_LIMIT (R.past range.now) (S.text source.new) (S.extent source.new)
             (λ c. IsCutAt LINE_LIMIT (key.now, stamp.now) (S.text source.new) c
             × CameWithin (S.text source.old) (S.extent source.old) (S.gave source.old)
             (S.gave source.new) c
             × (key.now ≡ [] → stamp.now ≡ [] → c.start ≡ 0)
             × (key.now ≡ [] → stamp.now ≡ [] → CameOnce (S.gave source.old) (S.gave source.new) c))
-            self.old.feeds.items self.new.feeds.items self.old.waiting self.new.waiting) }
+            self.old self.new) }
         ensures spent { OpenedWithin (S.text source.old) (S.extent source.old) (S.gave source.old)
             (S.gave source.new) }
         ensures once { key.now ≡ [] → stamp.now ≡ []
@@ -121,9 +111,8 @@ impl Streams {
         key: &[u8],
         stamp: &[u8],
         range: &R,
-    ) -> Result<Opened, MergeFault>
-        ensures text { map S.text sources.new ≡ map S.text sources.old }
-        ensures extent { map S.extent sources.new ≡ map S.extent sources.old }
+    ) -> Result<OpenedMerge, MergeFault>
+        ensures kept { KeepsSources S.text S.extent sources.old sources.new }
         ensures failures { CountsReads result (map S.failures sources.old)
             (map S.failures sources.new) }
         ensures spent { AllZip (λ x y.
@@ -132,39 +121,37 @@ impl Streams {
             → AllGaveOnce S.extent S.gave sources.old sources.new }
         ensures came_once { key.now ≡ [] → stamp.now ≡ [] → IfOk result (λ o.
             AllZip (λ x y. CameOnce (S.gave x) (S.gave y.0) y.1.cursor)
-            sources.old (zip sources.new o.streams.feeds.items)) }
+            sources.old (zip sources.new (feeds o.merge))) }
         ensures came { IfOk result (λ o.
             AllZip (λ x y. CameWithin (S.text x) (S.extent x) (S.gave x) (S.gave y.0) y.1.cursor)
-            sources.old (zip sources.new o.streams.feeds.items)) }
+            sources.old (zip sources.new (feeds o.merge))) }
         ensures fault { IfErr result (IsMergeFaultOf LINE_LIMIT (map S.text sources.old)) }
         ensures ready { IfOk result (λ o.
-            Ready LINE_LIMIT (R.past range.now) S.text S.extent sources.new o.streams.feeds.items
-            o.streams.waiting) }
+            Ready LINE_LIMIT (R.past range.now) S.text S.extent sources.new o.merge) }
         ensures cut { IfOk result (λ o.
             AllByRecursion (λ x. IsCutAt LINE_LIMIT (key.now, stamp.now) (S.text x.0) x.1.cursor)
-            (zip sources.new o.streams.feeds.items)) }
+            (zip sources.new (feeds o.merge))) }
         ensures start { key.now ≡ [] → stamp.now ≡ []
-            → IfOk result (λ o. AllByRecursion (λ f. f.cursor.start ≡ 0) o.streams.feeds.items) }
+            → IfOk result (λ o. AllByRecursion (λ c. c.start ≡ 0) o.merge.cursors.items) }
         ensures fresh { IfOk result (λ o.
-            all_done LINE_LIMIT S.text sources.new o.streams.feeds.items ≡ []) }
-        ensures settled { IfOk result (λ o. AreSettled o.streams.feeds.items) }
-        ensures held { IfOk result (λ o. o.streams.held ≡ 0) }
+            all_done LINE_LIMIT (R.past range.now) S.text sources.new (feeds o.merge) ≡ []) }
+        ensures most_lines { IfOk result (λ o. o.merge.most_lines ≡ 0) }
         ensures probes { IfOk result (λ o.
             o.probes ≤ sum (map (λ s. digits (S.extent s)) sources.old)) }
     {
-        let mut streams = Streams {
-            feeds: Vec::new(alloc),
-            waiting: Queue::new(alloc),
-            store: Store::new(alloc),
-            held: 0,
+        let mut merge = Merge {
+            cursors: Vec::new(alloc),
+            queue: LineQueue::new(alloc),
+            buffers: LineBuffers::new(alloc),
+            most_lines: 0,
         };
         let mut probes = 0u64;
         for i in 0..sources.len() {
-            match streams.add_from(alloc, &mut sources[i], key, stamp, range) {
+            match merge.add_from(alloc, &mut sources[i], key, stamp, range) {
                 Ok(turns) => probes = probes.saturating_add(turns),
                 Err(fault) => return Err(MergeFault::Feed(i, fault)),
             }
         }
-        Ok(Opened { streams, probes })
+        Ok(OpenedMerge { merge, probes })
     }
 }

@@ -133,7 +133,7 @@ fn take_two<K: Sink, O: Output>(
 /// are wanted.
 /// Errors are `Memory`, and `Write` if the sink returns it.
 #[tactic(auto, using(devices::proofs::DeviceLemmas::grows_not))]
-pub fn hand_on<K: Sink, O: Output>(
+pub fn pass_group<K: Sink, O: Output>(
     alloc: Global,
     first: &Line,
     rest: &[Box<Line>],

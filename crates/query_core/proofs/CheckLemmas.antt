@@ -18,7 +18,7 @@ use Rattle.cdxj_places.proofs.RisingLaws.{each_join, each_weaker}
 use Rattle.merge_core.specs.PairOrders.{Upto}
 use Rattle.merge_core.proofs.FeedLemmas.{falls_push, take_next}
 use Rattle.merge_core.proofs.PairOrder.{upto_upto}
-use Rattle.merge_core.proofs.StreamLemmas.{falls_last}
+use Rattle.merge_core.proofs.FeedLemmas.{falls_last}
 
 all_upto : (members : List Member) (previous : Option Member) (m : Member) → IsLastOf members previous
     → (FallsAfter previous m → ⊥) → NeverFalls member_pair pair_cmp members

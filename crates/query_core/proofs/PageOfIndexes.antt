@@ -15,8 +15,9 @@ use Rattle.query_text.specs.Queries.{QueryValue}
 use Rattle.query_text.specs.Matching.{is_past}
 use Rattle.query_text.proofs.RangeLaw.{past_upward, match_not_below}
 use Rattle.page_core.proofs.PageLaws.{each_kept}
-use Rattle.merge_core.specs.declared.feed.Feed.{Feed}
-use Rattle.merge_core.specs.WaitingLines.{WaitingLine, waiting_pair}
+use Rattle.merge_core.specs.declared.state.Merge.{Merge}
+use Rattle.merge_core.specs.Feeds.{feeds}
+use Rattle.merge_core.specs.WaitingLines.{waiting_pair}
 use Rattle.merge_core.specs.Collections.{Known, all_lines, collection}
 use Rattle.merge_core.specs.PairOrders.{IsAbove, Upto, is_low}
 use Rattle.merge_core.specs.Openings.{IsCutAt}
@@ -117,35 +118,34 @@ known_stamp told texts m k h = grind arith
 -- Of these sources lines are taken, from where the search for the page's start ended
 module _ {S : Type 0} (text : S → Option (List ℕ)) (extent gave : S → ℕ) (q : QueryValue) (olds : List S) where
   -- they were opened
-  pub record Opened (opened : List S) (begun : List Feed) : Type 0 where
+  pub record Opened (opened : List S) (begun : Merge) : Type 0 where
     pub kept : map text opened ≡ map text olds
-    pub same : length opened ≡ length begun
-    pub came : AllZip (λ x y. CameWithin (text x) (extent x) (gave x) (gave y.0) y.1.cursor) olds (zip opened begun)
-    pub cut : AllByRecursion (λ x. IsCutAt LINE_LIMIT (start_pair q q.resume) (text x.0) x.1.cursor) (zip opened begun)
+    pub same : length opened ≡ length begun.cursors.items
+    pub came : AllZip (λ x y. CameWithin (text x) (extent x) (gave x) (gave y.0) y.1.cursor) olds
+        (zip opened (feeds begun))
+    pub cut : AllByRecursion (λ x. IsCutAt LINE_LIMIT (start_pair q q.resume) (text x.0) x.1.cursor)
+        (zip opened (feeds begun))
 
   -- these lines were taken
   pub record Reading : Type 0 where
     pub opened : List S
-    pub begun : List Feed
+    pub begun : Merge
     pub sources : List S
-    pub feeds : List Feed
-    pub waiting : List WaitingLine
+    pub merge : Merge
     pub bound : Option Pair
     pub taken : List Member
     pub start : Opened opened begun
-    pub reached : Reached LINE_LIMIT text (is_past q.target) extent gave opened begun sources feeds waiting bound taken
+    pub reached : Reached LINE_LIMIT text (is_past q.target) extent gave opened begun sources merge bound taken
 
 abbrev pub reading : {S : Type 0} {text : S → Option (List ℕ)} {extent gave : S → ℕ} {q : QueryValue} {olds : List S}
-    {opened : List S} {begun : List Feed} {sources : List S} {feeds : List Feed} {waiting : List WaitingLine}
-    {bound : Option Pair} {taken : List Member} → Opened text extent gave q olds opened begun
-    → Reached LINE_LIMIT text (is_past q.target) extent gave opened begun sources feeds waiting bound taken
+    {opened : List S} {begun : Merge} {sources : List S} {merge : Merge} {bound : Option Pair} {taken : List Member} → Opened text extent gave q olds opened begun
+    → Reached LINE_LIMIT text (is_past q.target) extent gave opened begun sources merge bound taken
     → Reading text extent gave q olds
 reading start reached = record {
   opened = _;
   begun = _;
   sources = _;
-  feeds = _;
-  waiting = _;
+  merge = _;
   bound = _;
   taken = _;
   start = start;
@@ -165,7 +165,8 @@ module _ (q : QueryValue) where
 module _ {S : Type 0} {text : S → Option (List ℕ)} {extent gave : S → ℕ} {q : QueryValue} {olds : List S}
     (r : Reading text extent gave q olds) where
   pub lines_taken : AreLinesOf LINE_LIMIT (map text olds) r.taken
-  lines_taken = rw (← r.start.kept) (grind (arith, taken_lines))
+  lines_taken = rw (← r.start.kept) (taken_lines LINE_LIMIT text extent (is_past q.target) gave r.opened r.begun r.sources
+      r.merge r.bound r.taken r.start.same r.reached)
 
   module _ (texts : List (List ℕ)) (known : Known (map text olds) texts) where
     pub known_opened : Known (map text r.opened) texts
@@ -189,7 +190,7 @@ module _ {S : Type 0} {text : S → Option (List ℕ)} {extent gave : S → ℕ}
       later_each : (A : Member → Type 0) (rest : List Member) → AllByRecursion A rest → AllByRecursion A (later rest)
       later_each A rest = grind (arith, each_kept, place_cmp_total)
 
-      took_sought : Took (is_past q.target) (sought q) r.bound r.waiting (collection indexes) r.taken
+      took_sought : Took (is_past q.target) (sought q) r.bound r.merge.queue (collection indexes) r.taken
       took_sought = took_of_indexes r.reached r.start.same _ r.start.cut texts indexes known_opened are
           (past_upward q.target) (sought q) (within q) (beyond q)
 
@@ -202,7 +203,7 @@ module _ {S : Type 0} {text : S → Option (List ℕ)} {extent gave : S → ℕ}
 
       -- where the lines that wait don't stand below a pair, the rest doesn't either
       pub wanted_before : (next : Pair) → IsAbove r.bound next
-          → AllByRecursion (λ w. Upto next (waiting_pair w)) r.waiting
+          → AllByRecursion (λ w. Upto next (waiting_pair w)) r.merge.queue
           → (rest : List Member) × (captures q (collection indexes) ≡ captures q r.taken ++ rest)
           × AllByRecursion (λ m. Upto next (member_pair m)) rest
       wanted_before next above least =
@@ -210,5 +211,5 @@ module _ {S : Type 0} {text : S → Option (List ℕ)} {extent gave : S → ℕ}
           (_, grind (arith, captures_split, of_all, of_taken), later_each _ f.0 (grind (arith, each_weaker)))
 
       -- where no line waits, it is all
-      pub wanted_whole : r.waiting ≡ [] → captures q (collection indexes) ≡ captures q r.taken
+      pub wanted_whole : r.merge.queue ≡ [] → captures q (collection indexes) ≡ captures q r.taken
       wanted_whole none = rw (← of_all, taken_whole took_sought none, of_taken) refl

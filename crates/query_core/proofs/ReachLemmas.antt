@@ -1,7 +1,7 @@
 -- What was read of indexes, beside the reach of a page.
 use Rattle.std.proofs.Common.{◌≡◌, ℕ, zero, suc, ◌≤◌, List, [], ◌∷◌, ◌++◌, length, map, filter, zip, Bool, true, false}
-use Rattle.std.proofs.Common.{not, Option, Some, refl, ap, arith, min, ◌-◌, ◌^◌, append_assoc}
-use Rattle.std.proofs.Common.{append-nil, nat_cmp, is_gt, is_lt}
+use Rattle.std.proofs.Common.{not, Option, Some, refl, sym, ap, arith, min, ◌-◌, ◌^◌, append_assoc}
+use Rattle.std.proofs.Common.{append-nil, nat_cmp, is_gt, is_lt, ◌∙◌}
 use Rattle.std.specs.List.{AllByRecursion, sum, AllZip}
 use Rattle.std.specs.Cmp.Lexicographic.{slice_cmp}
 use Rattle.std.specs.FinMap.{slice_cmp-IsAntisymmetric}
@@ -22,7 +22,10 @@ use Rattle.query_text.specs.Queries.{QueryValue}
 use Rattle.query_text.specs.Targets.{TargetValue}
 use Rattle.query_text.specs.Matching.{begins, covers, is_past}
 use Rattle.page_core.proofs.PageLaws.{each_kept}
-use Rattle.merge_core.specs.declared.feed.Feed.{Feed}
+use Rattle.source_core.specs.Cursors.{CursorState}
+use Rattle.merge_core.specs.Feeds.{Feed, feeds}
+use Rattle.merge_core.proofs.RunLemmas.{none_wait}
+use Rattle.merge_core.proofs.StateLemmas.{counts_of, feeds_long, long_of}
 use Rattle.merge_core.specs.PairOrders.{Alike, IsAbove, IsUpto, Upto, is_low}
 use Rattle.merge_core.specs.WaitingLines.{waiting_pair}
 use Rattle.merge_core.specs.Collections.{Known, OverIndexes, OverTexts, collection}
@@ -38,7 +41,7 @@ use Rattle.merge_core.proofs.MergeLemmas.{is_less}
 use Rattle.merge_core.proofs.RunLemmas.{parts_are, parts_count, took_of_parts}
 use Rattle.merge_core.proofs.TakenLemmas.{taken_first, taken_whole}
 use Rattle.merge_core.proofs.SpendLemmas.{are_read_to}
-use Rattle.merge_core.proofs.WholeLemmas.{texts_kept}
+use Rattle.merge_core.proofs.WholeLemmas.{all_kept}
 use Rattle.query_text.proofs.RangeLaw.{past_upward}
 use Rattle.query_core.proofs.AskedLemmas.{captures}
 use Rattle.query_core.specs.PageWriting.{is_wanted, place_before}
@@ -113,7 +116,7 @@ module _ {S : Type 0} {text : S → Option (List ℕ)} {extent gave : S → ℕ}
   Cuts bound earlier = OverIndexes LINE_LIMIT (map text olds) (λ texts indexes. Cut q indexes bound earlier)
 
   -- all was read
-  pub cut_all : r.waiting ≡ [] → Cuts r.bound r.taken
+  pub cut_all : r.merge.queue ≡ [] → Cuts r.bound r.taken
   cut_all none = λ texts indexes known are.
       let whole = wanted_whole r texts known indexes are none in
       record { back = []; whole = grind (arith, append-nil); later = grind arith }
@@ -139,7 +142,7 @@ module _ {S : Type 0} {text : S → Option (List ℕ)} {extent gave : S → ℕ}
       }
 
   -- before a pair whose lines couldn't be had or handed on
-  pub cut_before : (next : Pair) → IsAbove r.bound next → AllByRecursion (λ w. Upto next (waiting_pair w)) r.waiting
+  pub cut_before : (next : Pair) → IsAbove r.bound next → AllByRecursion (λ w. Upto next (waiting_pair w)) r.merge.queue
       → Cuts (Some next) r.taken
   cut_before next above least = λ texts indexes known are.
       let before = wanted_before r texts known indexes are next above least in
@@ -149,56 +152,76 @@ module _ {S : Type 0} {text : S → Option (List ℕ)} {extent gave : S → ℕ}
         later = λ m upto. each_weaker (λ v. upto_upto (member_pair m) next (member_pair v) upto) before.0 before.2;
       }
 
+  long_before : length r.opened ≡ length (feeds r.begun)
+  long_before = let same = r.start.same in grind (arith, feeds_long)
+
+  long_now : length r.sources ≡ length (feeds r.merge)
+  long_now = long_of r.reached.ready.aligned
+
   as_long : length r.sources ≡ length r.opened
-  as_long = grind (arith, AllZip-long, length_zip)
+  as_long =
+      let all = AllZip-long (Move text extent gave) _ _ r.reached.moved in
+      let before = long_before in
+      let now = long_now in
+      grind (arith, length_zip)
 
   kept_now : map text r.sources ≡ map text olds
-  kept_now = grind (arith, AllZip-long, length_zip, texts_kept)
+  kept_now =
+      (all_kept text extent gave r.opened r.begun r.sources r.merge r.start.same as_long r.reached.moved).0 ∙ r.start.kept
 
   -- what sources gave that were read up to the bound
-  pub gave_upto : (bound : Option Pair) (earlier : List Member) (news : List S) (feeds : List Feed) → Cuts bound earlier
-      → AllZip (Move text extent gave) (zip r.opened r.begun) (zip news feeds) → length news ≡ length r.opened
-      → OverTexts (map text olds) (λ texts. AreReadTo LINE_LIMIT (is_past q.target) text bound news feeds)
+  pub gave_upto : (bound : Option Pair) (earlier : List Member) (news : List S) (fs : List Feed) → Cuts bound earlier
+      → AllZip (Move text extent gave) (zip r.opened (feeds r.begun)) (zip news fs) → length news ≡ length r.opened
+      → OverTexts (map text olds) (λ texts. AreReadTo LINE_LIMIT (is_past q.target) text bound news fs)
       → GaveFor q (map text olds) extent gave earlier olds news
-  gave_upto bound earlier news feeds cuts moved long reads = λ texts indexes known are limit most.
-      let all = AllZip-long (Move text extent gave) (zip r.opened r.begun) (zip news feeds) moved in
+  gave_upto bound earlier news fs cuts moved long reads = λ texts indexes known are limit most.
+      let all = AllZip-long (Move text extent gave) (zip r.opened (feeds r.begun)) (zip news fs) moved in
       let pass = passes q indexes bound earlier (cuts texts indexes known are) limit most in
-      let tells = tell_both text _ _ _ r.start.same (known_opened r texts known) in
-      rw (firsts news feeds (omega (arith, all, long, length_zip r.opened r.begun r.start.same))) at
-      (gave_most LINE_LIMIT pass text extent gave olds _ (zip news feeds) _ _ known tells are r.start.came moved
+      let tells = tell_both text r.opened (feeds r.begun) texts long_before (known_opened r texts known) in
+      rw (firsts news fs (omega (arith, all, long, length_zip r.opened (feeds r.begun) long_before))) at
+      (gave_most LINE_LIMIT pass text extent gave olds _ (zip news fs) _ _ known tells are r.start.came moved
       r.start.cut (reads texts known))
 
   -- what they gave of which these lines were taken
   pub gave_within : (earlier : List Member) → Cuts r.bound earlier
       → GaveFor q (map text olds) extent gave earlier olds r.sources
-  gave_within earlier cuts = gave_upto r.bound earlier r.sources r.feeds cuts r.reached.moved as_long
-      (λ texts known. are_read_to _ _ _ _ _ _ _ _ _ r.reached.ready.fed (r.reached.handed.told (told r texts known)).1)
+  gave_within earlier cuts = gave_upto r.bound earlier r.sources (feeds r.merge) cuts r.reached.moved as_long
+      (λ texts known. are_read_to _ _ _ _ _ _ _ r.reached.ready.aligned.fed
+      (r.reached.handed.told (told r texts known)).1)
 
-  module _ (lines : ℕ) (counted : lines ≡ min (sum (map (λ (f : Feed). f.cursor.count) r.feeds)) (2 ^ 64 - 1)) where
+  module _ (lines : ℕ) (counted : lines ≡ min (sum (map (λ (c : CursorState). c.count) r.merge.cursors.items)) (2 ^ 64 - 1)) where
+    -- the same count, by feeds
+    many : sum (map (λ (c : CursorState). c.count) r.merge.cursors.items)
+        ≡ sum (map (λ (f : Feed). f.cursor.count) (feeds r.merge))
+    many = ap sum (sym (counts_of 0 r.merge.cursors.items r.merge.queue))
+
     -- no more lines were read than are in reach, and one of each index
     pub lines_within : (earlier : List Member) → Cuts r.bound earlier → ReadFor q (map text olds) earlier lines
     lines_within earlier cuts = λ texts indexes known are limit most.
-        let h = lines_most (passes q indexes r.bound earlier (cuts texts indexes known are) limit most) _ text _ _ _
-        r.sources r.feeds texts indexes r.reached.ready.same (rw kept_now known) are
-        (cuts_kept LINE_LIMIT text _ extent gave _ _ r.reached.moved r.start.cut) r.reached.ready.fed
+        let h = lines_most (passes q indexes r.bound earlier (cuts texts indexes known are) limit most) _ text _
+        r.sources (feeds r.merge) texts indexes (rw kept_now known) are
+        (cuts_kept LINE_LIMIT text _ extent gave _ _ r.reached.moved r.start.cut) r.reached.ready.aligned.fed
         (r.reached.handed.told (told r texts known)).1 in
+        let same = many in
         grind (arith, AllZip-long)
 
     -- of each source consecutive lines were read
-    pub of_parts : (all : Bool) → (all ≡ true → r.waiting ≡ [])
+    pub of_parts : (all : Bool) → (all ≡ true → r.merge.queue ≡ [])
         → OverTexts (map text olds) (λ texts. IsOfParts q texts r.taken all lines)
     of_parts all ended = λ texts known.
-        let read = parts LINE_LIMIT text r.sources r.feeds in
+        let read = parts LINE_LIMIT text r.sources (feeds r.merge) in
         let told_all = told r texts known in
         let all_took = took_of_parts r.reached told_all (past_upward q.target) (is_wanted q q.resume)
         (λ m h. grind arith) in
         let found = taken_first all_took in
-        let count = parts_count _ _ _ extent _ _ _ _ r.reached.ready.same
-        (told_moved _ _ _ _ _ _ _ r.reached.ready.same r.reached.moved told_all) r.reached.ready.fed in
+        let same = many in
+        let count = parts_count _ _ _ extent r.sources (feeds r.merge)
+        (told_moved text extent gave r.opened r.sources (feeds r.begun) (feeds r.merge) long_now r.reached.moved told_all)
+        r.reached.ready.aligned.fed in
         record {
           parts = read;
-          each = λ whole is. parts_are _ _ _ extent _ _ _ _ _ _ r.reached.ready.same (rw kept_now known)
-              r.reached.ready.fed r.reached.settled (λ e. ended (is e));
+          each = λ whole is. parts_are _ _ _ extent _ _ _ _ (rw kept_now known) r.reached.ready.aligned.fed
+              r.reached.ready.settled (λ e. rw (ended (is e)) (none_wait 0 r.merge.cursors.items));
           count = cc;
           first = (_, captures_split q q.resume (collection read) r.taken found.0 found.1);
           ended = λ e. ap (kept_after q q.resume q.resume) (taken_whole all_took (ended e));

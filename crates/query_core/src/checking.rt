@@ -8,7 +8,7 @@ ghost use Rattle.query_core.specs.Checking.{FallsAfter, IsChecked, IsCheckFault}
 use crate::fault::AnswerFault;
 use crate::line_reading::{falls, next_line};
 use cdxj_core::Line;
-use merge_core::Store;
+use merge_core::LineBuffers;
 use source_core::{Cursor, Source};
 use std::alloc::Global;
 
@@ -41,15 +41,15 @@ pub fn check<S: Source>(alloc: Global, source: &mut S) -> Result<u64, AnswerFaul
     // For the proof alone: the source's known bytes are so many.
     let _size = source.size();
     let mut cursor = Cursor::new(alloc, 0)?;
-    let mut store = Store::new(alloc);
+    let mut buffers = LineBuffers::new(alloc);
     let mut previous: Option<Box<Line>> = None;
     let mut offset = 0;
-    while let Some(line) = next_line(&mut store, source, &mut cursor)? {
+    while let Some(line) = next_line(&mut buffers, source, &mut cursor)? {
         if falls_after(&previous, &line) {
             return Err(AnswerFault::OutOfOrder(0, offset));
         }
         if let Some(compared) = previous.replace(line) {
-            store.put_back(compared);
+            buffers.recycle(compared);
         }
         offset = cursor.at();
     }

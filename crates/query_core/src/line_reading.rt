@@ -12,12 +12,12 @@ ghost use Rattle.query_core.specs.Checking.{IsCheckFault, IsLineFaultAt};
 
 use crate::fault::AnswerFault;
 use cdxj_core::Line;
-use merge_core::{FeedFault, Store};
+use merge_core::{FeedFault, LineBuffers};
 use source_core::{Cursor, Source};
 
 /// Reads the next line of a source, if there is one.
 pub(crate) fn next_line<S: Source>(
-    store: &mut Store,
+    buffers: &mut LineBuffers,
     source: &mut S,
     cursor: &mut Cursor,
 ) -> Result<Option<Box<Line>>, AnswerFault>
@@ -39,7 +39,7 @@ pub(crate) fn next_line<S: Source>(
     ensures inside { reach cursor.new ≤ S.extent source.old }
     ensures failures { CountsSource result (S.failures source.old) (S.failures source.new) }
 {
-    match store.next_line(source, cursor) {
+    match buffers.next_line(source, cursor) {
         Ok(found) => Ok(found),
         Err(FeedFault::Memory) => Err(AnswerFault::Memory),
         Err(FeedFault::Read) => Err(AnswerFault::Read(0)),

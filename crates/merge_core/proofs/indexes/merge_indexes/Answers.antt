@@ -13,19 +13,22 @@ use Rattle.cdxj_places.specs.Rising.{rising}
 use Rattle.devices.specs.Device.{AppendsPrefix}
 use Rattle.devices.proofs.DeviceLemmas.{Appends-none}
 use Rattle.devices.proofs.WritingLemmas.{prefix_whole, prefix_longer, wrote_nothing}
-use Rattle.merge_core.specs.declared.feed.Feed.{Feed}
-use Rattle.merge_core.specs.WaitingLines.{WaitingLine}
-use Rattle.merge_core.specs.Collections.{OverIndexes, collection}
+use Rattle.std.specs.List.{AllByRecursion}
+use Rattle.merge_core.specs.declared.state.Merge.{Merge}
+use Rattle.merge_core.specs.Feeds.{Feed, feeds}
+use Rattle.merge_core.specs.Collections.{KeepsSources, OverIndexes, collection}
 use Rattle.merge_core.specs.Reached.{Reached}
 use Rattle.merge_core.specs.Spending.{AllGaveOnce}
 use Rattle.merge_core.specs.Written.{lines_text}
 use Rattle.merge_core.specs.SourceLines.{AreLinesOf}
 use Rattle.merge_core.proofs.ReadLemmas.{took_of_indexes}
 use Rattle.merge_core.proofs.OnceLemmas.{gave_once}
+use Rattle.merge_core.proofs.RunLemmas.{none_wait}
+use Rattle.merge_core.proofs.StateLemmas.{long_of, starts_of}
 use Rattle.merge_core.proofs.TakenLemmas.{taken_first}
 use Rattle.source_core.proofs.SortedCuts.{none_below_least}
 use Rattle.merge_core.proofs.SourceLemmas.{taken_lines}
-use Rattle.merge_core.proofs.WholeLemmas.{are_read, all_lines_are, its_lines, told_known, texts_kept, extents_kept}
+use Rattle.merge_core.proofs.WholeLemmas.{all_kept, all_lines_are, are_read, its_lines, told_known}
 use Rattle.merge_core.proofs.WholeLemmas.{starts_kept}
 use Rattle.merge_core.proofs.indexes.merge_indexes.Given.{Over}
 use Rattle.merge_core.proofs.indexes.merge_indexes.Goals.{After-merge, In_err-merge, In_ok-merge}
@@ -38,24 +41,24 @@ filter_every : (xs : List Member) → filter (λ m. true) xs ≡ xs
 filter_every [] = refl
 filter_every (x ∷ xs) = ap (λ l. x ∷ l) (filter_every xs)
 
-module _ (g : Over) (c : After-merge g) {ss : List g.row.S.Denot} {fs : List Feed} {ws : List WaitingLine}
-    {b : Option Pair} {taken : List Member} (reached : Reached LINE_LIMIT g.S.Source.text never g.S.Source.extent
-    g.S.Source.gave c.open_at.new.sources c.in_ok-opened.opened.streams.feeds.items ss fs ws b taken) where
+module _ (g : Over) (c : After-merge g) {ss : List g.row.S.Denot} {m : Merge} {b : Option Pair}
+    {taken : List Member} (reached : Reached LINE_LIMIT g.S.Source.text never g.S.Source.extent g.S.Source.gave
+    c.open_at.new.sources c.in_ok-opened.opened.merge ss m b taken) where
   -- of sources that are indexes, what was taken is a front of their collection
   front : (old new : Option (List ℕ)) → AppendsPrefix old new (lines_text taken)
       → OverIndexes LINE_LIMIT (map g.S.Source.text c.args.sources.now)
       (λ texts indexes. AppendsPrefix old new (lines_text (collection indexes)))
   front old new p texts indexes known are =
       let opened = c.in_ok-opened.ensures in
-      let first = taken_first (took_of_indexes reached opened.ready.same ([], []) opened.cut texts indexes
-      (rw (← opened.text) at known) are (λ key later e h. absurd (true≢false (sym e))) (λ m. true) (λ m e. refl)
+      let first = taken_first (took_of_indexes reached opened.ready.aligned.same ([], []) opened.cut texts indexes
+      (rw (← opened.kept.0) at known) are (λ key later e h. absurd (true≢false (sym e))) (λ m. true) (λ m e. refl)
       (λ m e. none_below_least (member_pair m).0 (member_pair m).1)) in
       let whole : collection indexes ≡ taken ++ first.0 = grind (arith, filter_every) in
       rw (whole, flat_map-append) (prefix_longer old new _ _ p)
 
   -- and of any sources, it is lines of theirs
   lines : AreLinesOf LINE_LIMIT (map g.S.Source.text c.args.sources.now) taken
-  lines = rw (← c.in_ok-opened.ensures.text) (grind (arith, taken_lines))
+  lines = rw (← c.in_ok-opened.ensures.kept.0) (grind (arith, taken_lines))
 
 -- all lines that were taken were written and counted
 wrote : (g : Over) (c : In_ok-merge g)
@@ -95,16 +98,30 @@ returns-in_err-merge-clause-lines g c =
     let b = c.in_err-merge.ensures.broke in
     grind (arith, err_from_is_err_and, lines, broke)
 
+-- as many sources
+long_before : (g : Over) (c : After-merge g) → length c.open_at.new.sources ≡ length (feeds c.in_ok-opened.opened.merge)
+long_before g c = long_of c.in_ok-opened.ensures.ready.aligned
+
+kept_long : (g : Over) (c : After-merge g) → length c.merge.new.sources ≡ length c.open_at.new.sources
+kept_long g c = grind arith
+
+kept : (g : Over) (c : After-merge g) → KeepsSources g.S.Source.text g.S.Source.extent c.args.sources.now c.merge.new.sources
+kept g c =
+    let opened = c.in_ok-opened.ensures in
+    let all = all_kept g.S.Source.text g.S.Source.extent g.S.Source.gave c.open_at.new.sources
+    c.in_ok-opened.opened.merge c.merge.new.sources c.merge.new.merge opened.ready.aligned.same (kept_long g c)
+    c.merge.ensures.moved in
+    (all.0 ∙ opened.kept.0, all.1 ∙ opened.kept.1)
+
 -- each byte of each source was given at most once
 once : (g : Over) (c : After-merge g) → AllGaveOnce g.S.Source.extent g.S.Source.gave c.args.sources.now
     c.merge.new.sources
 once g c =
     let opened = c.in_ok-opened.ensures in
-    let long : length c.merge.new.sources ≡ length c.open_at.new.sources = grind arith in
+    let long : length c.merge.new.sources ≡ length c.open_at.new.sources = kept_long g c in
     gave_once g.S.Source.text g.S.Source.extent g.S.Source.gave c.args.sources.now c.open_at.new.sources
-    c.in_ok-opened.opened.streams.feeds.items c.merge.new.sources c.merge.new.streams.feeds.items
-    LINE_LIMIT never 0 c.in_ok-opened.opened.streams.waiting opened.extent opened.ready.fed opened.ready.same
-    (opened.came_once refl refl) c.merge.ensures.moved long
+    (feeds c.in_ok-opened.opened.merge) c.merge.new.sources (feeds c.merge.new.merge) LINE_LIMIT never opened.kept.1
+    opened.ready.aligned.fed (opened.came_once refl refl) c.merge.ensures.moved long
 
 pub returns-in_err-opened-clause-bytes : goal.returns-in_err-opened-clause-bytes
 returns-in_err-opened-clause-bytes g c = c.open_at.ensures.once refl refl
@@ -113,44 +130,46 @@ pub returns-in_err-merge-clause-bytes : goal.returns-in_err-merge-clause-bytes
 returns-in_err-merge-clause-bytes g c = once g (goal.at.returns-in_err-merge-clause-bytes g c).After-merge
 
 pub returns-in_err-merge-clause-kept : goal.returns-in_err-merge-clause-kept
-returns-in_err-merge-clause-kept g c = grind (arith, texts_kept, extents_kept)
+returns-in_err-merge-clause-kept g c = kept g (goal.at.returns-in_err-merge-clause-kept g c).After-merge
 
 pub returns : goal.returns
 returns g c =
     let at = goal.at.returns g c in
     let text = g.S.Source.text in let extent = g.S.Source.extent in
-    let sources = c.merge.new.sources in let feeds = c.merge.new.streams.feeds.items in
+    let sources = c.merge.new.sources in let m = c.merge.new.merge in
     let opened = c.in_ok-opened.ensures in
     let passed = c.in_ok-merge.ensures.passed in
     let taken = passed.so_far.taken in
     let reached = passed.so_far.reached in
     let wrote = wrote g at.In_ok-merge in
-    let same = ap length opened.extent in
+    let kept = kept g at.After-merge in
     record {
-      kept = grind (arith, texts_kept, extents_kept);
+      kept = kept;
       failures = grind arith;
       fault = grind arith;
       merged = λ texts known.
-          let kept : map text sources ≡ map text c.args.sources.now = grind (arith, texts_kept) in
-          let empty : c.merge.new.streams.waiting ≡ [] = grind (arith, cases_Bool) in
-          let starts = starts_kept _ _ _ _ _ _ _ opened.ready.same reached.ready.same c.merge.ensures.moved
-          (opened.start refl refl) in
-          let all : taken ≡ collection (its_lines LINE_LIMIT never (λ key. refl) text extent sources feeds) =
-          (reached.handed.told (told_known _ _ texts (rw (← opened.text) at known))).0
-          ∙ ap (rising member_place place_cmp)
-          (all_lines_are LINE_LIMIT never (λ key. refl) text extent sources feeds) in
+          let lines = its_lines LINE_LIMIT never (λ key. refl) text extent sources (feeds m) in
+          let empty : m.queue ≡ [] = grind (arith, cases_Bool) in
+          let long_now = long_of reached.ready.aligned in
+          let starts = starts_kept text extent g.S.Source.gave _ _ _ _ (long_before g at.After-merge) long_now
+          c.merge.ensures.moved (starts_of 0 c.in_ok-opened.opened.merge.cursors.items _ (opened.start refl refl)) in
+          let none : AllByRecursion (λ (f : Feed). f.waits ≡ []) (feeds m) = rw empty (none_wait 0 m.cursors.items) in
+          let all : taken ≡ collection lines =
+          (reached.handed.told (told_known _ _ texts (rw (← opened.kept.0) at known))).0
+          ∙ ap (rising member_place place_cmp) (all_lines_are LINE_LIMIT never (λ key. refl) text extent sources (feeds m)) in
           record {
-            indexes = its_lines LINE_LIMIT never (λ key. refl) text extent sources feeds;
-            are = are_read LINE_LIMIT never (λ key. refl) text extent 0 sources feeds texts reached.ready.same
-                (rw (← kept) at known) starts reached.settled (rw empty at reached.ready.fed);
+            indexes = lines;
+            are = are_read LINE_LIMIT never (λ key. refl) text extent sources (feeds m) texts (rw (← kept.0) at known)
+                starts none reached.ready.settled reached.ready.aligned.fed;
             text = rw (← all) wrote.0;
             count = rw (← all) wrote.1;
           };
       bytes = once g at.After-merge;
       part = front g at.After-merge reached _ _ (rw append-nil at (prefix_whole _ _ _ [] wrote.0));
       lines = (taken, grind (arith, lines), wrote);
-      held = λ texts indexes known are most share.
-          let few = c.merge.ensures.held texts indexes (rw (← opened.text) at known) are most share
-          (omega (arith, opened.held)) in
+      most_lines = λ texts indexes known are most share.
+          let same = ap length opened.kept.1 in
+          let few = c.merge.ensures.most_lines texts indexes (rw (← opened.kept.0) at known) are most share
+          (omega (arith, opened.most_lines)) in
           grind (arith, length-map);
     }

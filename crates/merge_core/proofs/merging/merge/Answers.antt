@@ -13,53 +13,54 @@ use Rattle.merge_core.specs.Collections.{OverIndexes, all_lines}
 use Rattle.merge_core.specs.Counts.{ShareAtMost}
 use Rattle.merge_core.specs.Gathering.{Grouped}
 use Rattle.merge_core.specs.Reached.{Reached}
-use Rattle.merge_core.proofs.WholeLemmas.{texts_kept}
-use Rattle.merge_core.proofs.Many.{moved_trans, moved_still}
+use Rattle.merge_core.proofs.WholeLemmas.{all_kept}
+use Rattle.std.proofs.lemmas.Slice.Zip.{AllZip-long}
+use Rattle.merge_core.proofs.Many.{Move, length_zip, moved_trans, moved_still}
+use Rattle.merge_core.proofs.StateLemmas.{feeds_long}
 use Rattle.merge_core.proofs.CountLemmas.{held_most}
-use Rattle.merge_core.proofs.MergeLemmas.{above_none, below_next, broken_there, halted_there, reached_next, on_err}
+use Rattle.merge_core.proofs.MergeLemmas.{above_none, below_next, broken_there, halted_there, reached_next, reached_same}
+use Rattle.merge_core.proofs.MergeLemmas.{on_err}
 use Rattle.devices.proofs.DeviceLemmas.{grows_not}
 use Rattle.merge_core.proofs.merging.merge.Given.{Over}
-use Rattle.merge_core.proofs.merging.merge.Goals.{After-gather, After-hand_on}
+use Rattle.merge_core.proofs.merging.merge.Goals.{After-gather, After-pass_group}
 use Rattle.merge_core.proofs.merging.merge.Goals as goal
 
 abbrev values : List (Box Line Global) → List Member
 values = map (λ b. b.value)
 
-abbrev group : (g : Over) → After-hand_on g → List Member
+abbrev group : (g : Over) → After-pass_group g → List Member
 group g c = c.in-Some.first.value ∷ values c.gather.new.rest.items
 
 -- the lines before this group, and those with it
-abbrev taken : (g : Over) → After-hand_on g → List Member
+abbrev taken : (g : Over) → After-pass_group g → List Member
 taken g c = c.loop-rest.invariant.came.taken ++ rising member_place place_cmp (group g c)
 
-grouped : (g : Over) (c : After-hand_on g) → Grouped LINE_LIMIT g.S.Source.text g.S.Source.extent c.loop-rest.sources
-    c.loop-rest.streams.feeds.items c.loop-rest.streams.waiting c.gather.new.sources c.gather.new.self.feeds.items
-    c.gather.new.self.waiting (member_pair c.in-Some.first.value) (group g c)
+grouped : (g : Over) (c : After-pass_group g) → Grouped LINE_LIMIT (g.R.Range.past c.args.range.now) g.S.Source.text g.S.Source.extent c.loop-rest.sources
+    c.loop-rest.merge c.gather.new.sources c.gather.new.self (member_pair c.in-Some.first.value) (group g c)
 grouped g c = grind arith
 
-reached : (g : Over) (c : After-hand_on g)
+reached : (g : Over) (c : After-pass_group g)
     → Reached LINE_LIMIT g.S.Source.text (g.R.Range.past c.args.range.now) g.S.Source.extent g.S.Source.gave
-    c.args.sources.now c.args.streams.now.feeds.items c.gather.new.sources c.gather.new.self.feeds.items
-    c.gather.new.self.waiting (Some (member_pair c.in-Some.first.value)) (taken g c)
+    c.args.sources.now c.args.merge.now c.gather.new.sources c.gather.new.self (Some (member_pair c.in-Some.first.value)) (taken g c)
 reached g c =
     let ok = c.in_ok-first.ensures in
-    reached_next c.loop-rest.invariant.came.reached (grouped g c) ok.ready ok.settled c.gather.ensures.moved
+    reached_next c.loop-rest.invariant.came.reached (grouped g c) ok.ready c.gather.ensures.moved
     (grind arith)
 
 -- the waiting lines and the group are one line of each source, and as many as share a pair
-held : (g : Over) (c : After-hand_on g) (now : ℕ)
-    → now ≡ max c.gather.new.self.held (min (length c.gather.new.self.waiting + 1 + length c.gather.new.rest.items)
+most_lines : (g : Over) (c : After-pass_group g) (now : ℕ)
+    → now ≡ max c.gather.new.self.most_lines (min (length c.gather.new.self.queue + 1 + length c.gather.new.rest.items)
     (2 ^ 64 - 1))
     → OverIndexes LINE_LIMIT (map g.S.Source.text c.args.sources.now) (λ texts indexes. (most : ℕ)
-    → ShareAtMost most (all_lines indexes) → c.args.streams.now.held ≤ length c.args.sources.now + most
+    → ShareAtMost most (all_lines indexes) → c.args.merge.now.most_lines ≤ length c.args.sources.now + most
     → now ≤ length c.args.sources.now + most)
-held g c now is texts indexes known are most share h =
-    let before = c.loop-rest.invariant.held texts indexes known are most share h in
+most_lines g c now is texts indexes known are most share h =
+    let before = c.loop-rest.invariant.most_lines texts indexes known are most share h in
     let few = held_most c.loop-rest.invariant.came.reached (grouped g c) (reached g c) (omega arith)
-    c.requires.ready.same texts indexes known are most share in
+    c.requires.ready.aligned.same texts indexes known are most share in
     grind (arith, length-map)
 
-order : (g : Over) (c : After-hand_on g)
+order : (g : Over) (c : After-pass_group g)
     → rising member_place place_cmp (c.deref.result.now ∷ values c.deref-in-Some.result.now)
     ≡ rising member_place place_cmp (group g c)
 order g c = cc
@@ -67,37 +68,52 @@ order g c = cc
 pub loop-rest-init : goal.loop-rest-init
 loop-rest-init g c = record {
   empty = grind arith;
-  settled = grind arith;
   reads = refl;
   writes = refl;
   further = grind arith;
-  held = grind arith;
+  most_lines = grind arith;
   came = record {
     bound = None;
     taken = [];
-    reached = grind (arith, moved_still, above_none);
+    reached = record {
+      ready = c.requires.ready;
+      moved = moved_still g.S.Source.text g.S.Source.extent g.S.Source.gave _;
+      above = above_none _;
+      handed = record {
+        entries = tt;
+        upto = tt;
+        rises = tt;
+        told = λ told. rw c.requires.fresh (refl, tt);
+      };
+    };
     came = grind arith;
   };
 }
 
 pub loop-rest-preserved : goal.loop-rest-preserved
 loop-rest-preserved g c =
-    let here = (goal.at.loop-rest-preserved g c).After-hand_on in
-    let now = reached g here in
-    let few = held g here c.put_back.new.self.held c.put_back.ensures.held in
+    let here = (goal.at.loop-rest-preserved g c).After-pass_group in
+    let now = reached_same c.recycle.new.self c.recycle.ensures.cursors c.recycle.ensures.queue (reached g here) in
+    let few = most_lines g here c.recycle.new.self.most_lines c.recycle.ensures.most_lines in
     grind arith
 
-pub returns-clause-held : goal.returns-clause-held
-returns-clause-held g c = simp c.gather.ensures.held c.loop-rest.invariant.held
+pub returns-clause-most_lines : goal.returns-clause-most_lines
+returns-clause-most_lines g c = simp c.gather.ensures.most_lines c.loop-rest.invariant.most_lines
 
 pub returns-in_err-first : goal.returns-in_err-first
 returns-in_err-first g c =
     let came = c.loop-rest.invariant.came in
+    let text = g.S.Source.text in let extent = g.S.Source.extent in
+    let long : length c.loop-rest.sources ≡ length c.args.sources.now =
+    let all = AllZip-long (Move text extent g.S.Source.gave) _ _ came.reached.moved in
+    let same = came.reached.ready.aligned.same in grind (arith, length_zip, feeds_long) in
+    let kept = all_kept text extent g.S.Source.gave c.args.sources.now c.args.merge.now c.loop-rest.sources
+    c.loop-rest.merge c.requires.ready.aligned.same long came.reached.moved in
     record {
-      moved = grind (arith, moved_trans);
+      moved = moved_trans text extent g.S.Source.gave _ _ _ came.reached.moved c.gather.ensures.moved;
       failures = grind arith;
-      fault = grind (arith, texts_kept);
-      held = rw c.gather.ensures.held c.loop-rest.invariant.held;
+      fault = let fault = rw kept.0 at c.gather.ensures.fault in grind arith;
+      most_lines = rw c.gather.ensures.most_lines c.loop-rest.invariant.most_lines;
       passed = grind arith;
       broke = on_err _ _ _ c.from_residual.ensures.1 (broken_there came refl);
       halted = on_err _ _ _ c.from_residual.ensures.1
@@ -106,20 +122,20 @@ returns-in_err-first g c =
 
 pub returns-in_err-more : goal.returns-in_err-more
 returns-in_err-more g c =
-    let here = (goal.at.returns-in_err-more g c).After-hand_on in
+    let here = (goal.at.returns-in_err-more g c).After-pass_group in
     let came = c.loop-rest.invariant.came in
     let gathered = grouped g here in
     record {
       moved = grind (arith, moved_trans);
       failures = grind arith;
       fault = grind arith;
-      held = rw c.gather.ensures.held c.loop-rest.invariant.held;
+      most_lines = rw c.gather.ensures.most_lines c.loop-rest.invariant.most_lines;
       passed = grind arith;
       broke = on_err _ _ _ c.from_residual-in_err-more.ensures.1 (elim c.in_err-more.ensures.broke [
         | inl k ↦ broken_there came (grind arith)
         | inr k ↦ record {
           sources = c.gather.new.sources;
-          streams = c.gather.new.self;
+          merge = c.gather.new.self;
           bound = Some (member_pair c.in-Some.first.value);
           taken = taken g here;
           reached = reached g here;
@@ -131,23 +147,23 @@ returns-in_err-more g c =
             pair = member_pair c.in-Some.first.value;
             above = gathered.above;
             least = gathered.least;
-            read = λ told low. are_read_to _ _ _ g.S.Source.extent _ 0 _ _ _ (reached g here).ready.fed
+            read = λ told low. are_read_to _ _ _ g.S.Source.extent _ _ _ (reached g here).ready.aligned.fed
                 (gathered.gathered told low).upto;
-          }) c.hand_on.ensures.grows);
+          }) c.pass_group.ensures.grows);
     }
 
 pub returns-then-not-more : goal.returns-then-not-more
 returns-then-not-more g c =
-    let here = (goal.at.returns-then-not-more g c).After-hand_on in
+    let here = (goal.at.returns-then-not-more g c).After-pass_group in
     let came = c.loop-rest.invariant.came in
     let gathered = grouped g here in
-    let now = reached g here in
+    let now = reached_same c.recycle.new.self c.recycle.ensures.cursors c.recycle.ensures.queue (reached g here) in
     let above = gathered.above came.bound came.reached.above in
     record {
       moved = grind (arith, moved_trans);
       failures = grind arith;
       fault = grind arith;
-      held = held g here c.put_back.new.self.held c.put_back.ensures.held;
+      most_lines = most_lines g here c.recycle.new.self.most_lines c.recycle.ensures.most_lines;
       passed = record {
         so_far = grind (arith, order);
         last = λ e. record {

@@ -1,6 +1,6 @@
 use Rattle.std.proofs.Common.{◌≡◌, ◌≤◌, ◌+◌, ℕ, [], length, map}
 use Rattle.cdxj_core.specs.declared.limit.TheConstants.{LINE_LIMIT}
-use Rattle.merge_core.specs.Feeds.{AreSettled}
+use Rattle.merge_core.specs.Feeds.{feeds}
 use Rattle.merge_core.specs.Collections.{OverIndexes, all_lines}
 use Rattle.merge_core.specs.Counts.{ShareAtMost}
 use Rattle.merge_core.specs.Gathering.{unread}
@@ -10,17 +10,16 @@ use Rattle.merge_core.proofs.merging.merge.Given as goal
 abbrev pub invariant-loop-rest : goal.invariant-loop-rest
 invariant-loop-rest g l = record {
   empty : l.rest.items ≡ [];
-  settled : AreSettled l.streams.feeds.items;
   reads : map g.S.Source.failures l.sources ≡ map g.S.Source.failures l.fn.sources;
   writes : g.O.Output.failures l.out ≡ g.O.Output.failures l.fn.out;
   further : (g.K.Sink.Enough l.fn.sink → ⊥) → g.K.Sink.Enough l.sink → ⊥;
-  held : OverIndexes LINE_LIMIT (map g.S.Source.text l.fn.sources) (λ texts indexes. (most : ℕ)
+  most_lines : OverIndexes LINE_LIMIT (map g.S.Source.text l.fn.sources) (λ texts indexes. (most : ℕ)
       → ShareAtMost most (all_lines indexes)
-      → l.fn.streams.held ≤ length l.fn.sources + most → l.streams.held ≤ length l.fn.sources + most);
+      → l.fn.merge.most_lines ≤ length l.fn.sources + most → l.merge.most_lines ≤ length l.fn.sources + most);
   came : SoFar g.K.Sink.Wrote g.K.Sink.Enough (g.R.Range.past l.range) g.S.Source.text g.S.Source.extent
-      g.S.Source.gave l.fn.sources l.fn.streams l.fn.sink (g.O.Output.written l.fn.out) l.sources l.streams l.sink
+      g.S.Source.gave l.fn.sources l.fn.merge l.fn.sink (g.O.Output.written l.fn.out) l.sources l.merge l.sink
       (g.O.Output.written l.out);
 }
 
 abbrev pub decreases-loop-rest : goal.decreases-loop-rest
-decreases-loop-rest g l = unread g.S.Source.extent l.sources l.streams.feeds.items + length l.streams.waiting
+decreases-loop-rest g l = unread g.S.Source.extent l.sources (feeds l.merge) + length l.merge.queue

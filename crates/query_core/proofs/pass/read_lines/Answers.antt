@@ -3,25 +3,35 @@ use Rattle.std.proofs.Common.{◌≡◌, Bool, true, false, refl, sym, ◌∙◌
 use Rattle.std.proofs.lemmas.List.{length-map}
 use Rattle.std.proofs.lemmas.Result.{err_from_is_err_and}
 use Rattle.query_core.proofs.ConversionLemmas.{merge_line}
-use Rattle.merge_core.proofs.WholeLemmas.{extents_kept, texts_kept}
+use Rattle.merge_core.proofs.WholeLemmas.{all_kept}
+use Rattle.merge_core.specs.Collections.{KeepsSources}
 use Rattle.devices.proofs.DeviceLemmas.{grows_not}
 use Rattle.query_core.proofs.CaptureLemmas.{captures_append}
 use Rattle.query_core.proofs.PageOfIndexes.{Opened, reading, told, wanted_whole}
 use Rattle.query_core.proofs.ReachLemmas.{cut_all, cut_before, cut_last, gave_upto, gave_within, lines_within, of_parts}
 use Rattle.query_core.proofs.ReachLemmas.{took, within_opening}
+use Rattle.merge_core.specs.Feeds.{feeds}
 use Rattle.query_core.specs.Passes.{ReadFor, WantedMore}
 use Rattle.cdxj_core.specs.Members.{Member}
 use Rattle.query_core.proofs.pass.read_lines.Given.{Over}
-use Rattle.query_core.proofs.pass.read_lines.Goals.{In_ok-opened}
+use Rattle.query_core.proofs.pass.read_lines.Goals.{After-merge, In_ok-opened}
 use Rattle.query_core.proofs.pass.read_lines.Goals as goal
 
 -- ---- what is kept, and failures
 
+kept : (g : Over) (c : After-merge g)
+    → KeepsSources g.S.Source.text g.S.Source.extent c.args.sources.now c.merge.new.sources
+kept g c =
+    let all = all_kept g.S.Source.text g.S.Source.extent g.S.Source.gave c.open_at.new.sources
+    c.in_ok-opened.opened.merge c.merge.new.sources c.merge.new.merge c.in_ok-opened.ensures.ready.aligned.same
+    (omega arith) c.merge.ensures.moved in
+    (all.0 ∙ c.open_at.ensures.kept.0, all.1 ∙ c.open_at.ensures.kept.1)
+
 pub returns-in_err-all-clause-kept : goal.returns-in_err-all-clause-kept
-returns-in_err-all-clause-kept g c = grind (arith, texts_kept, extents_kept)
+returns-in_err-all-clause-kept g c = kept g (goal.at.returns-in_err-all-clause-kept g c).After-merge
 
 pub returns-clause-kept : goal.returns-clause-kept
-returns-clause-kept g c = grind (arith, texts_kept, extents_kept)
+returns-clause-kept g c = kept g (goal.at.returns-clause-kept g c).After-merge
 
 pub returns-in_err-opened-clause-fault : goal.returns-in_err-opened-clause-fault
 returns-in_err-opened-clause-fault g c = grind (arith, err_from_is_err_and, merge_line)
@@ -31,7 +41,7 @@ returns-in_err-all-clause-fault g c = grind (arith, err_from_is_err_and, merge_l
 
 pub returns-clause-held : goal.returns-clause-held
 returns-clause-held g c = λ texts indexes known are most share.
-    let h = c.merge.ensures.held texts indexes (rw c.open_at.ensures.text known) are most share in
+    let h = c.merge.ensures.most_lines texts indexes (rw c.open_at.ensures.kept.0 known) are most share in
     grind (arith, length-map)
 
 -- ---- sources that couldn't be opened
@@ -60,10 +70,10 @@ returns-in_err-opened-clause-halted g c =
 
 -- sources that were opened
 start : (g : Over) (c : In_ok-opened g) → Opened g.S.Source.text g.S.Source.extent g.S.Source.gave
-    c.args.query.now c.args.sources.now c.open_at.new.sources c.in_ok-opened.opened.streams.feeds.items
+    c.args.query.now c.args.sources.now c.open_at.new.sources c.in_ok-opened.opened.merge
 start g c = record {
-  kept = c.open_at.ensures.text;
-  same = c.in_ok-opened.ensures.ready.same;
+  kept = c.open_at.ensures.kept.0;
+  same = c.in_ok-opened.ensures.ready.aligned.same;
   came = c.in_ok-opened.ensures.came;
   cut = rw (c.as_bytes-key.ensures.value, c.start_pair-start.ensures) at c.in_ok-opened.ensures.cut;
 }
@@ -89,7 +99,7 @@ returns-in_err-all-clause-halted g c =
         middle = h.middle;
         more = h.more;
         came = h.so_far.came;
-        within = gave_upto r (Some h.next) r.taken c.merge.new.sources c.merge.new.streams.feeds.items
+        within = gave_upto r (Some h.next) r.taken c.merge.new.sources (feeds c.merge.new.merge)
             (cut_before r h.next h.above h.least) c.merge.ensures.moved (omega arith)
             (λ texts known. rw c.target.ensures at (h.read (told r texts known)));
       };

@@ -1,0 +1,340 @@
+-- Sources and the feeds of a merge, while lines wait.
+use Rattle.std.specs.List.{AllZip, AllByRecursion}
+use Rattle.std.proofs.Common.{◌≡◌, ◌≢◌, ℕ, zero, suc, ◌+◌, ◌-◌, ◌<◌, ◌≤◌, List, [], ◌∷◌, ◌++◌, length, map, get_or, set}
+use Rattle.std.proofs.Common.{take, Bool, true, Option, None, Some, MatchOption, option_map, refl, sym, ap}
+use Rattle.std.proofs.Common.{◌∙◌, arith, length-set, length-append, append-nil, take_all}
+use Rattle.std.specs.List.Sorted.{IsPermutation}
+use Rattle.std.proofs.lemmas.Bool.{not-true}
+use Rattle.std.proofs.lemmas.List.{get_or_default, nil_from_length, set-get_or, length-map}
+use Rattle.std.proofs.lemmas.List.Sorted.{length_permutation}
+use Rattle.cdxj_places.specs.Pairs.{Pair}
+use Rattle.cdxj_core.specs.Members.{Member}
+use Rattle.source_core.specs.Cursors.{CursorState}
+use Rattle.merge_core.specs.declared.state.Merge.{Merge}
+use Rattle.merge_core.specs.WaitingLines.{WaitingLine, queued, waiting_pair, waits_of}
+use Rattle.merge_core.specs.Feeds.{Aligned, AreFed, Fed, Feed, done, feed_of, feeds, feeds_from, given, option_list, stays}
+use Rattle.merge_core.specs.Gathering.{IsDue, TookOf}
+use Rattle.merge_core.specs.PairOrders.{Alike}
+use Rattle.merge_core.proofs.FeedLemmas.{done_all}
+use Rattle.merge_core.proofs.GroupLemmas.{filter_all}
+use Rattle.cdxj_places.proofs.RisingLaws.{each_join}
+use Rattle.merge_core.proofs.HeapLemmas.{each_permuted, waits_beside, waits_here, waits_other, waits_permuted, waits_queued}
+use Rattle.merge_core.proofs.Many.{each_replaced}
+
+pub any_of : {X : Type 0} (xs : List X) (i : ℕ) → i < length xs → X
+any_of [] i l = absurd (omega arith)
+any_of (x ∷ xs) i l = x
+
+-- ---- lists beside each other
+
+pub zip_get : {A B : Type 0} (R : A → B → Type 0) (xs : List A) (ys : List B) (i : ℕ) (a : A) (b : B) → AllZip R xs ys
+    → i < length xs → R (get_or xs i a) (get_or ys i b)
+zip_get R (x ∷ xs) (y ∷ ys) zero a b h l = h.0
+zip_get R (x ∷ xs) (y ∷ ys) (suc i) a b h l = zip_get R xs ys i a b h.1 (omega arith)
+zip_get R xs ys i a b h l = grind arith
+
+pub zip_put : {A B : Type 0} (R : A → B → Type 0) (xs : List A) (ys : List B) (i : ℕ) (x : A) (y : B) → AllZip R xs ys
+    → R x y → AllZip R (set xs i x) (set ys i y)
+zip_put R (a ∷ xs) (b ∷ ys) (suc i) x y h r = (h.0, zip_put R xs ys i x y h.1 r)
+zip_put R xs ys i x y h r = grind arith
+
+set_last : {X : Type 0} (xs : List X) (x y : X) (i : ℕ) → i ≡ length xs → set (xs ++ x ∷ []) i y ≡ xs ++ y ∷ []
+set_last [] x y zero e = refl
+set_last [] x y (suc i) e = absurd (omega arith)
+set_last (z ∷ xs) x y zero e = absurd (omega arith)
+set_last (z ∷ xs) x y (suc i) e = ap (λ l. z ∷ l) (set_last xs x y i (omega arith))
+
+-- ---- the feeds
+
+pub feeds_long : (n : ℕ) (cs : List CursorState) (ws : List WaitingLine) → length (feeds_from n cs ws) ≡ length cs
+feeds_long n [] ws = refl
+feeds_long n (c ∷ cs) ws = let h = feeds_long (n + 1) cs ws in omega arith
+
+pub counts_of : (n : ℕ) (cs : List CursorState) (ws : List WaitingLine)
+    → map (λ (f : Feed). f.cursor.count) (feeds_from n cs ws) ≡ map (λ (c : CursorState). c.count) cs
+counts_of n [] ws = refl
+counts_of n (c ∷ cs) ws = ap (λ l. c.count ∷ l) (counts_of (n + 1) cs ws)
+
+pub starts_of : (n : ℕ) (cs : List CursorState) (ws : List WaitingLine) → AllByRecursion (λ (c : CursorState). c.start ≡ 0) cs
+    → AllByRecursion (λ (f : Feed). f.cursor.start ≡ 0) (feeds_from n cs ws)
+starts_of n [] ws h = tt
+starts_of n (c ∷ cs) ws h = (h.0, starts_of (n + 1) cs ws h.1)
+
+feed_at : (n i m : ℕ) (cs : List CursorState) (ws : List WaitingLine) (c : CursorState) (b : Feed) → m ≡ n + i
+    → i < length cs → get_or (feeds_from n cs ws) i b ≡ feed_of (get_or cs i c) (waits_of m ws)
+feed_at n zero m (x ∷ cs) ws c b e l = grind arith
+feed_at n (suc i) m (x ∷ cs) ws c b e l = feed_at (n + 1) i m cs ws c b (omega arith) (omega arith)
+feed_at n i m [] ws c b e l = absurd (omega arith)
+
+-- where the waiting lines of all sources but one stay the same
+feeds_other : (n i : ℕ) (cs : List CursorState) (ws ws' : List WaitingLine) → i < n
+    → ((j : ℕ) → j ≢ i → waits_of j ws' ≡ waits_of j ws) → feeds_from n cs ws' ≡ feeds_from n cs ws
+feeds_other n i [] ws ws' l same = refl
+feeds_other n i (c ∷ cs) ws ws' l same = grind (arith, feeds_other (n + 1) i cs ws ws' (omega arith) same)
+
+feeds_set : (n i m : ℕ) (cs : List CursorState) (ws ws' : List WaitingLine) (c : CursorState) → m ≡ n + i
+    → ((j : ℕ) → j ≢ m → waits_of j ws' ≡ waits_of j ws)
+    → feeds_from n (set cs i c) ws' ≡ set (feeds_from n cs ws) i (feed_of c (waits_of m ws'))
+feeds_set n zero m (x ∷ cs) ws ws' c e same = grind (arith, feeds_other)
+feeds_set n (suc i) m (x ∷ cs) ws ws' c e same =
+    let here = same n (λ q. absurd (omega arith)) in
+    let rest = feeds_set (n + 1) i m cs ws ws' c (omega arith) same in
+    grind arith
+feeds_set n i m [] ws ws' c e same = refl
+
+feeds_push : (n : ℕ) (cs : List CursorState) (ws : List WaitingLine) (c : CursorState)
+    → feeds_from n (cs ++ c ∷ []) ws ≡ feeds_from n cs ws ++ feed_of c (waits_of (n + length cs) ws) ∷ []
+feeds_push n [] ws c = let e : n ≡ n + 0 = omega arith in rw (← e) refl
+feeds_push n (x ∷ cs) ws c =
+    let e : n + 1 + length cs ≡ n + length (x ∷ cs) = omega arith in
+    rw (← e) (ap (λ l. feed_of x (waits_of n ws) ∷ l) (feeds_push (n + 1) cs ws c))
+
+-- at most one line of each waits
+abbrev pub AreFew : List Feed → Type 0
+AreFew = AllByRecursion (λ f. length f.waits ≤ 1)
+
+pub feeds_permuted : (n : ℕ) (cs : List CursorState) (ws ws' : List WaitingLine) → IsPermutation ws ws'
+    → AreFew (feeds_from n cs ws) → feeds_from n cs ws' ≡ feeds_from n cs ws
+feeds_permuted n [] ws ws' p few = refl
+feeds_permuted n (c ∷ cs) ws ws' p few =
+    let here = waits_permuted n ws ws' p few.0 in
+    let rest = feeds_permuted (n + 1) cs ws ws' p few.1 in
+    grind arith
+
+pub few_of_fed : (limit : ℕ) (past : List ℕ → Bool) {S : Type 0} (text : S → Option (List ℕ)) (extent : S → ℕ) (ss : List S)
+    (fs : List Feed) → AreFed limit past text extent ss fs → AreFew fs
+few_of_fed limit past text extent (s ∷ ss) (f ∷ fs) h = (h.0.few, few_of_fed limit past text extent ss fs h.1)
+few_of_fed limit past text extent ss fs h = grind arith
+
+-- a source's cursor moves, and these lines of it wait, where none did
+module _ (i : ℕ) (cs : List CursorState) (ws ws' : List WaitingLine) (c : CursorState) (new : List Member)
+    (none : waits_of i ws ≡ []) (most : length new ≤ 1) (p : IsPermutation (queued i new ++ ws) ws')
+    (few : AreFew (feeds_from 0 cs ws)) where
+  pub feeds_queued : feeds_from 0 (set cs i c) ws' ≡ set (feeds_from 0 cs ws) i (feed_of c new)
+  feeds_queued =
+      let here : waits_of i (queued i new ++ ws) ≡ new = rw (waits_queued i new ws, none) (append-nil new) in
+      let now = rw here at (feeds_set 0 i i cs ws (queued i new ++ ws) c (omega arith) (λ j. waits_beside i j new ws)) in
+      feeds_permuted 0 (set cs i c) (queued i new ++ ws) ws' p
+      (rw now (each_replaced (λ (f : Feed). length f.waits ≤ 1) (feeds_from 0 cs ws) i (feed_of c new) few most)) ∙ now
+
+-- a source is added behind the others, and these lines of it wait
+pub feeds_added : (cs : List CursorState) (ws ws' : List WaitingLine) (c : CursorState) (new : List Member)
+    → waits_of (length cs) ws ≡ [] → length new ≤ 1 → IsPermutation (queued (length cs) new ++ ws) ws'
+    → AreFew (feeds_from 0 cs ws) → feeds_from 0 (cs ++ c ∷ []) ws' ≡ feeds_from 0 cs ws ++ feed_of c new ∷ []
+feeds_added cs ws ws' c new none most p few =
+    let i = length cs in
+    let fs = feeds_from 0 cs ws in
+    let start : 0 + length cs ≡ length cs = omega arith in
+    let idle : feeds_from 0 (cs ++ c ∷ []) ws ≡ fs ++ feed_of c [] ∷ [] = rw (start, none) at (feeds_push 0 cs ws c) in
+    let few_now : AreFew (feeds_from 0 (cs ++ c ∷ []) ws) =
+    rw idle (each_join (λ (f : Feed). length f.waits ≤ 1) fs (feed_of c [] ∷ []) few (omega arith, tt)) in
+    let now = feeds_queued i (cs ++ c ∷ []) ws ws' c new none most p few_now in
+    let left = set_last cs c c i refl in
+    let right = set_last fs (feed_of c []) (feed_of c new) i (sym (feeds_long 0 cs ws)) in
+    rw (left, idle, right) at now
+
+pub placed_queued : (n i : ℕ) (ws ws' : List WaitingLine) (new : List Member) → i < n
+    → AllByRecursion (λ (w : WaitingLine). w.source < n) ws → IsPermutation (queued i new ++ ws) ws'
+    → AllByRecursion (λ (w : WaitingLine). w.source < n) ws'
+placed_queued n i ws ws' new l placed p =
+    each_permuted (λ (w : WaitingLine). w.source < n) (queued i new ++ ws) ws' p
+    (each_join (λ (w : WaitingLine). w.source < n) (queued i new) ws (each new) placed)
+  where
+    each : (ms : List Member) → AllByRecursion (λ (w : WaitingLine). w.source < n) (queued i ms)
+    each [] = tt
+    each (m ∷ ms) = (l, each ms)
+
+-- ---- one source, of which a line waits
+
+-- none of its lines waits
+abbrev pub idle : Feed → Feed
+idle f = feed_of f.cursor []
+
+module _ {limit : ℕ} {past : List ℕ → Bool} {text : Option (List ℕ)} {extent : ℕ} {f : Feed} {m : Member}
+    (fed : Fed limit past text extent f) (one : f.waits ≡ m ∷ []) where
+  module _ (t : List ℕ) (e : text ≡ Some t) where
+    its_front : AllByRecursion (λ m. stays past m ≡ true) (take (f.cursor.count - 1) (given limit t f.cursor))
+    its_front = (fed.told t e).within
+
+    its_last : given limit t f.cursor ≡ take (f.cursor.count - 1) (given limit t f.cursor) ++ m ∷ []
+    its_last = rw one at (fed.told t e).last
+
+    its_stays : stays past m ≡ true
+    its_stays = (rw one at (fed.told t e).waiting).0
+
+    all_stay : AllByRecursion (λ m. stays past m ≡ true) (given limit t f.cursor)
+    all_stay = rw its_last (each_join (λ m. stays past m ≡ true) _ (m ∷ []) its_front (its_stays, tt))
+
+    done_front : done limit past t f ≡ take (f.cursor.count - 1) (given limit t f.cursor)
+    done_front = rw one (filter_all (stays past) _ its_front)
+
+    -- then it counts as taken
+    done_idle : done limit past t (idle f) ≡ done limit past t f ++ m ∷ []
+    done_idle = done_all limit past t f.cursor (fed.told t e).as_many all_stay ∙ its_last ∙ ap (λ l. l ++ m ∷ []) (sym done_front)
+
+  fed_idle : Fed limit past text extent (idle f)
+  fed_idle = record {
+    stands = fed.stands;
+    few = omega arith;
+    counted = omega arith;
+    told = λ t e.
+        let was = fed.told t e in
+        let whole = take_all f.cursor.count (given limit t f.cursor) (grind (arith, length-map)) in
+        record {
+          begins = was.begins;
+          stood = was.stood;
+          as_many = was.as_many;
+          run = was.run;
+          last = grind (arith, append-nil);
+          within = was.within;
+          waiting = tt;
+        };
+  }
+
+-- ---- all sources
+
+module _ {limit : ℕ} {past : List ℕ → Bool} {S : Type 0} {text : S → Option (List ℕ)} {extent : S → ℕ} {ss : List S}
+    {m : Merge} (was : Aligned limit past text extent ss m) where
+  pub long_of : length ss ≡ length (feeds m)
+  long_of = let same = was.same in grind (arith, feeds_long)
+
+  few : AreFew (feeds m)
+  few = few_of_fed limit past text extent ss (feeds m) was.fed
+
+  pub fed_at : (i : ℕ) (a : S) (b : Feed) → i < length ss
+      → Fed limit past (text (get_or ss i a)) (extent (get_or ss i a)) (get_or (feeds m) i b)
+  fed_at i a b l = zip_get (λ s f. Fed limit past (text s) (extent s) f) ss (feeds m) i a b was.fed l
+
+  pub waits_at : (i : ℕ) (b : Feed) → i < length ss → (get_or (feeds m) i b).waits ≡ waits_of i m.queue
+  waits_at i b l =
+      let same = was.same in
+      let c = any_of m.cursors.items i (omega arith) in
+      ap (λ (f : Feed). f.waits) (feed_at 0 i i m.cursors.items m.queue c b (omega arith) (omega arith))
+
+  pub few_wait : (i : ℕ) → i < length ss → length (waits_of i m.queue) ≤ 1
+  few_wait i l =
+      let b : Feed = feed_of (any_of m.cursors.items i (let same = was.same in omega arith)) [] in
+      rw (waits_at i b l) at (fed_at i (any_of ss i l) b l).few
+
+  pub aligned_set : (i : ℕ) (s : S) (f : Feed) (m' : Merge) → feeds m' ≡ set (feeds m) i f
+      → length m'.cursors.items ≡ length m.cursors.items
+      → AllByRecursion (λ (v : WaitingLine). v.source < length m.cursors.items) m'.queue
+      → Fed limit past (text s) (extent s) f → Aligned limit past text extent (set ss i s) m'
+  aligned_set i s f m' is long placed fed = record {
+    same = grind (arith, length-set, was.same);
+    placed = rw long placed;
+    fed = rw is (zip_put (λ s f. Fed limit past (text s) (extent s) f) ss (feeds m) i s f was.fed fed);
+  }
+
+-- the first in turn is taken out
+module _ {limit : ℕ} {past : List ℕ → Bool} {S : Type 0} {text : S → Option (List ℕ)} {extent : S → ℕ} {ss : List S}
+    {m : Merge} (m' : Merge) {w : WaitingLine} (was : Aligned limit past text extent ss m)
+    (same : m'.cursors.items ≡ m.cursors.items) (p : IsPermutation m.queue (w ∷ m'.queue)) where
+  placed : AllByRecursion (λ (v : WaitingLine). v.source < length m.cursors.items) (w ∷ m'.queue)
+  placed = each_permuted (λ (v : WaitingLine). v.source < length m.cursors.items) m.queue (w ∷ m'.queue) p was.placed
+
+  pub inside_sources : w.source < length ss
+  inside_sources = let l = placed.0 in let same = was.same in omega arith
+
+  waits_now : waits_of w.source m.queue ≡ w.member ∷ waits_of w.source m'.queue
+  waits_now = sym (waits_permuted w.source m.queue (w ∷ m'.queue) p (few_wait was w.source inside_sources))
+      ∙ waits_here w.source w m'.queue refl
+
+  pub none_left : waits_of w.source m'.queue ≡ []
+  none_left =
+      let few = few_wait was w.source inside_sources in
+      let now = waits_now in
+      grind (arith, nil_from_length)
+
+  its_one : (b : Feed) → (get_or (feeds m) w.source b).waits ≡ w.member ∷ []
+  its_one b = waits_at was w.source b inside_sources ∙ waits_now ∙ ap (λ l. w.member ∷ l) none_left
+
+  pub popped_feeds : (b : Feed) → feeds m' ≡ set (feeds m) w.source (idle (get_or (feeds m) w.source b))
+  popped_feeds b =
+      let i = w.source in
+      let cs = m.cursors.items in
+      let c = any_of cs i placed.0 in
+      let all = feeds_permuted 0 cs m.queue (w ∷ m'.queue) p (few was) in
+      let here = feed_at 0 i i cs m.queue c b (omega arith) placed.0 in
+      let now = feeds_set 0 i i cs (w ∷ m'.queue) m'.queue (get_or cs i c) (omega arith)
+      (λ j q. sym (waits_other j w m'.queue (λ e. absurd (omega arith)))) in
+      let still = set-get_or cs i c in
+      let none = none_left in
+      grind arith
+
+  pub popped_aligned : Aligned limit past text extent ss m'
+  popped_aligned =
+      let i = w.source in
+      let a : S = any_of ss i inside_sources in
+      let b : Feed = feed_of (any_of m.cursors.items i placed.0) [] in
+      rw (set-get_or ss i a) at (aligned_set was i (get_or ss i a) (idle (get_or (feeds m) i b)) m' (popped_feeds b)
+      (ap length same) placed.1 (fed_idle (fed_at was i a b inside_sources) (its_one b)))
+
+  pub popped : {pair : Pair} {group : List Member} (b : Feed) → Alike (waiting_pair w) pair
+      → TookOf limit past text pair w.source ss ss (feeds m) (feeds m') group (group ++ w.member ∷ [])
+  popped b at =
+      let i = w.source in
+      let a : S = any_of ss i inside_sources in
+      let fed = fed_at was i a b inside_sources in
+      record {
+        source = get_or ss i a;
+        feed = idle (get_or (feeds m) i b);
+        source_is = sym (set-get_or ss i a);
+        feeds_are = popped_feeds b;
+        text_is = λ x. ap text (get_or_default ss i a x inside_sources);
+        taken = w.member ∷ [];
+        rest_is = refl;
+        alike = (at, tt);
+        done_is = λ d t e.
+            let here = get_or_default (feeds m) i d b (let l = placed.0 in let n = feeds_long 0 m.cursors.items m.queue in omega arith) in
+            rw here (done_idle fed (its_one b) t e);
+      }
+
+  pub popped_due : {pair : Pair} (a : S) (b : Feed) → Alike (waiting_pair w) pair
+      → IsDue limit past pair (text (get_or ss w.source a)) (idle (get_or (feeds m) w.source b))
+  popped_due a b at = record {
+    none = refl;
+    last = λ t e.
+        let fed = fed_at was w.source a b inside_sources in
+        (_, w.member, its_last fed (its_one b) t e, at, not-true _ (its_stays fed (its_one b) t e));
+  }
+
+-- the lines of a source with the pair of a group were taken, and the next one waits
+module _ {limit : ℕ} {past : List ℕ → Bool} {S : Type 0} {text : S → Option (List ℕ)} {extent : S → ℕ} {ss : List S}
+    {m : Merge} {i : ℕ} (was : Aligned limit past text extent ss m) (inside : i < length ss) (b : Feed)
+    (none : (get_or (feeds m) i b).waits ≡ []) where
+  none_waits_here : waits_of i m.queue ≡ []
+  none_waits_here = sym (waits_at was i b inside) ∙ none
+
+  pub idle_here : (c : CursorState) → c ≡ get_or m.cursors.items i c → get_or (feeds m) i b ≡ feed_of c []
+  idle_here c is =
+      let same = was.same in
+      let here = feed_at 0 i i m.cursors.items m.queue c b (omega arith) (omega arith) in
+      let none = none_waits_here in
+      grind arith
+
+  -- only its cursor has moved
+  pub moved_feeds : (m' : Merge) (c : CursorState) → m'.cursors.items ≡ set m.cursors.items i c → m'.queue ≡ m.queue
+      → feeds m' ≡ set (feeds m) i (feed_of c [])
+  moved_feeds m' c cursors e =
+      let none = none_waits_here in
+      let now = feeds_set 0 i i m.cursors.items m.queue m.queue c (omega arith) (λ j q. refl) in
+      grind arith
+
+  -- and these lines wait
+  module _ (m' : Merge) (c : CursorState) (cursors : m'.cursors.items ≡ set m.cursors.items i c) (new : List Member)
+      (p : IsPermutation (queued i new ++ m.queue) m'.queue) where
+    pub waited_feeds : length new ≤ 1 → feeds m' ≡ set (feeds m) i (feed_of c new)
+    waited_feeds most = rw cursors (feeds_queued i m.cursors.items m.queue m'.queue c new none_waits_here most p (few was))
+
+    pub waited_aligned : (s : S) → Fed limit past (text s) (extent s) (feed_of c new)
+        → Aligned limit past text extent (set ss i s) m'
+    waited_aligned s fed =
+        let same = was.same in
+        aligned_set was i s _ m' (waited_feeds fed.few) (rw cursors (length-set m.cursors.items i c))
+        (placed_queued (length m.cursors.items) i m.queue m'.queue new (omega arith) was.placed p) fed
+
+    pub waited_length : length m'.queue ≡ length m.queue + length new
+    waited_length =
+        let all = length_permutation (queued i new ++ m.queue) m'.queue p in
+        grind (arith, length-append, length-map)

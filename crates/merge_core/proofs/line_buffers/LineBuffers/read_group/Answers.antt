@@ -1,0 +1,164 @@
+use Rattle.std.proofs.lemmas.List.{map-append}
+use Rattle.std.proofs.Common.{is_lt, false, true, ◌≡◌, inl, inr, [], ◌∷◌, ◌++◌, Box, Global, map, refl, ◌∙◌, arith}
+use Rattle.std.proofs.Common.{append_assoc, ℕ, ◌≤◌, List, Some, length, filter, drop, Bool}
+use Rattle.cdxj_places.specs.Pairs.{Pair}
+use Rattle.cdxj_places.specs.TextLines.{lines}
+use Rattle.std.specs.List.{AllByRecursion}
+use Rattle.cdxj_core.specs.declared.limit.TheConstants.{LINE_LIMIT}
+use Rattle.cdxj_core.specs.declared.line.Line.{Line}
+use Rattle.cdxj_core.specs.Members.{Member, member_pair}
+use Rattle.cdxj_places.proofs.PairLemmas.{pair_cmp_total}
+use Rattle.merge_core.specs.PairOrders.{Alike, Below, Upto}
+use Rattle.merge_core.specs.Feeds.{Fed, done, feed_of, given, stays}
+use Rattle.merge_core.specs.Gathering.{EndsAt}
+use Rattle.merge_core.proofs.SpendLemmas.{group_most}
+use Rattle.merge_core.proofs.FeedLemmas.{LineRead, all_inside, all_taken, all_upto, bad_named, done_next, fed_end, fed_more, given_next}
+use Rattle.merge_core.proofs.FeedLemmas.{order_named, same_stays, settled_more}
+use Rattle.merge_core.proofs.FailLemmas.{if_err}
+use Rattle.merge_core.proofs.PairOrder.{from_not_below, upto_upto}
+use Rattle.cdxj_places.proofs.RisingLaws.{each_join, each_weaker}
+use Rattle.merge_core.proofs.line_buffers.LineBuffers.read_group.Given.{Over}
+use Rattle.merge_core.proofs.line_buffers.LineBuffers.read_group.Goals.{After-compare_pairs, After-next_line}
+use Rattle.merge_core.proofs.line_buffers.LineBuffers.read_group.Goals as goal
+
+-- a line above the pair
+above_waits : (past : List ℕ → Bool) (pair : Pair) (m : Member) → Below pair (member_pair m)
+    → AllByRecursion (λ k. Below pair (member_pair k)) (filter (stays past) (m ∷ []))
+above_waits past pair m above = grind arith
+
+length_waits : (past : List ℕ → Bool) (m : Member) → length (filter (stays past) (m ∷ [])) ≤ 1
+length_waits past m = grind arith
+
+-- a line was read that isn't below the first one
+was_read : (g : Over) (c : After-compare_pairs g) → is_lt c.compare_pairs.result ≡ false
+    → LineRead LINE_LIMIT (g.R.Range.past c.args.range.now) (g.S.Source.text c.next_line.new.source)
+    (g.S.Source.extent c.next_line.new.source) c.loop-line.cursor c.next_line.new.cursor c.in-Some.line.value
+was_read g c not_less =
+    let inv = c.loop-line.invariant in
+    let past = g.R.Range.past c.args.range.now in
+    let first = member_pair c.args.first.now in
+    let next = member_pair c.in-Some.line.value in
+    let up = from_not_below next first (grind arith) in
+    let was : Fed LINE_LIMIT past (g.S.Source.text c.next_line.new.source) (g.S.Source.extent c.next_line.new.source)
+    (feed_of c.loop-line.cursor []) = grind arith in
+    let last : (t : List ℕ) → g.S.Source.text c.next_line.new.source ≡ Some t
+    → EndsAt past first (given LINE_LIMIT t c.loop-line.cursor) = λ t e. inv.last t (cc) in
+    let inside : (t : List ℕ) → g.S.Source.text c.next_line.new.source ≡ Some t
+    → AllByRecursion (λ m. stays past m ≡ true) (given LINE_LIMIT t c.loop-line.cursor) = λ t e.
+    all_inside was t e (last t e) in
+    let low : (t : List ℕ) → g.S.Source.text c.next_line.new.source ≡ Some t
+    → AllByRecursion (λ k. Upto (member_pair k) next) (given LINE_LIMIT t c.loop-line.cursor) = λ t e.
+    each_weaker (λ (k : Member) (q : Upto (member_pair k) first). upto_upto (member_pair k) first next q up) _
+    (all_upto was t e (last t e)) in
+    grind arith
+
+-- before the call, all lines that were read had been taken
+taken_before : (g : Over) (c : After-next_line g) (t : List ℕ) → g.S.Source.text c.args.source.now ≡ Some t
+    → done LINE_LIMIT (g.R.Range.past c.args.range.now) t (feed_of c.args.cursor.now [])
+    ≡ given LINE_LIMIT t c.args.cursor.now
+taken_before g c t e = all_taken c.requires.fed t e (c.requires.last t e)
+
+pub returns-in-Greater-clause-read : goal.returns-in-Greater-clause-read
+returns-in-Greater-clause-read g c =
+    let inv = c.loop-line.invariant in
+    let turned = pair_cmp_total.antisymm (member_pair c.args.first.now) (member_pair c.in-Some.line.value) in
+    let here = goal.at.returns-in-Greater-clause-read g c in
+    let read = was_read g here.After-compare_pairs (grind arith) in
+    let past = g.R.Range.past c.args.range.now in
+    let is = c.within.ensures in
+    let above : Below (member_pair c.args.first.now) (member_pair c.in-Some.line.value) = grind arith in
+    record {
+      fed = fed_more read _ (inl is);
+      settled = settled_more read _ is;
+      later = rw is (above_waits past (member_pair c.args.first.now) c.in-Some.line.value above);
+      fewer = rw is (let few : length (filter (stays past) (c.in-Some.line.value ∷ [])) ≤ 1 = length_waits past c.in-Some.line.value in grind arith);
+      taken = inv.taken.0;
+      rest_is = inv.taken.1;
+      alike = inv.taken.2;
+      done_is = λ t e.
+          let before = taken_before g here.After-next_line t (cc) in
+          let now = done_next read _ is t e in
+          let more = inv.taken.3 t (cc) in
+          grind arith;
+    }
+
+pub returns-in-Greater-clause-most : goal.returns-in-Greater-clause-most
+returns-in-Greater-clause-most g c = grind (arith, group_most {pair = member_pair c.args.first.now} c.loop-line.invariant.fed)
+
+pub returns-clause-read : goal.returns-clause-read
+returns-clause-read g c =
+    let inv = c.loop-line.invariant in
+    let past = g.R.Range.past c.args.range.now in
+    let here = goal.at.returns-clause-read g c in
+    let was : Fed LINE_LIMIT past (g.S.Source.text c.next_line.new.source) (g.S.Source.extent c.next_line.new.source)
+    (feed_of c.loop-line.cursor []) = grind arith in
+    let ended : (t : List ℕ) → g.S.Source.text c.next_line.new.source ≡ Some t
+    → lines (drop c.loop-line.cursor.at t) ≡ [] = λ t e. grind arith in
+    record {
+      fed = fed_end was c.next_line.new.cursor (grind arith) (grind arith) (grind arith) (λ t e. grind arith) ended;
+      settled = λ t e none. inl (grind arith);
+      later = tt;
+      fewer = grind arith;
+      taken = inv.taken.0;
+      rest_is = inv.taken.1;
+      alike = inv.taken.2;
+      done_is = λ t e.
+          let before = taken_before g here.After-next_line t (cc) in
+          let now = all_taken was t e (inv.last t (cc)) in
+          let more = inv.taken.3 t (cc) in
+          grind arith;
+    }
+
+pub returns-in_err-line-clause-most : goal.returns-in_err-line-clause-most
+returns-in_err-line-clause-most g c = grind (arith, group_most {pair = member_pair c.args.first.now} c.loop-line.invariant.fed)
+
+pub returns-in-Less-clause-most : goal.returns-in-Less-clause-most
+returns-in-Less-clause-most g c = grind (arith, group_most {pair = member_pair c.args.first.now} c.loop-line.invariant.fed)
+
+pub returns-in_err-push-in-Equal-clause-most : goal.returns-in_err-push-in-Equal-clause-most
+returns-in_err-push-in-Equal-clause-most g c = grind (arith, group_most {pair = member_pair c.args.first.now} c.loop-line.invariant.fed)
+
+pub returns-clause-most : goal.returns-clause-most
+returns-clause-most g c = grind (arith, group_most {pair = member_pair c.args.first.now} c.loop-line.invariant.fed)
+
+pub loop-line-preserved : goal.loop-line-preserved
+loop-line-preserved g c =
+    let ok = c.in_ok-line.ensures in
+    let inv = c.loop-line.invariant in
+    let past = g.R.Range.past c.args.range.now in
+    let first = member_pair c.args.first.now in
+    let m = c.in-Some.line.value in
+    let alike : Alike (member_pair m) first = grind arith in
+    let pushed : map (λ (b : Box Line Global). b.value) c.push.new.self.items
+    ≡ map (λ (b : Box Line Global). b.value) c.loop-line.rest.items ++ m ∷ [] = grind (arith, map-append) in
+    let read = was_read g (goal.at.loop-line-preserved g c).After-compare_pairs (grind arith) in
+    let last = λ (t : List ℕ) (e : g.S.Source.text c.args.source.now ≡ Some t). same_stays past first m (given LINE_LIMIT t c.loop-line.cursor) (inv.last t e) alike in
+    record {
+      text = cc;
+      extent = cc;
+      failures = cc;
+      gave = omega arith;
+      start = cc;
+      there = grind arith;
+      fed = fed_more read [] (inr (refl, λ t e. let stays = last t (cc) in grind arith));
+      begin = c.at-begin-in-Some.ensures;
+      last = λ t e. (given LINE_LIMIT t c.loop-line.cursor, m, given_next read t (cc), alike, last t e);
+      taken = (
+        inv.taken.0 ++ m ∷ [],
+        grind (arith, append_assoc),
+        each_join (λ m. Alike (member_pair m) first) inv.taken.0 (m ∷ []) inv.taken.2 (alike, tt),
+        λ t e. let next = given_next read t (cc) in let was = inv.taken.3 t e in grind (arith, append_assoc),
+      );
+    }
+
+pub returns-in_err-line-clause-fault : goal.returns-in_err-line-clause-fault
+returns-in_err-line-clause-fault g c = λ t e.
+    let fed = rw (c.loop-line.invariant.text ∙ e) at c.loop-line.invariant.fed in
+    grind (arith, if_err, bad_named fed)
+
+pub returns-in-Less-clause-fault : goal.returns-in-Less-clause-fault
+returns-in-Less-clause-fault g c = λ t e.
+    let inv = c.loop-line.invariant in
+    rw (← inv.begin) at (order_named (rw (inv.text ∙ e) at inv.fed) (member_pair c.args.first.now)
+    c.next_line.new.cursor
+    c.in-Some.line.value (inv.last t e) (rw c.in-Some.is at (c.in_ok-line.ensures.next t (cc))) (grind arith))

@@ -1,0 +1,31 @@
+use Rattle.std.proofs.Common.{◌≡◌, ◌+◌, ◌-◌, ◌≤◌, ◌++◌, ℕ, List, [], map, Some}
+use Rattle.std.specs.List.{AllByRecursion}
+use Rattle.cdxj_core.specs.declared.limit.TheConstants.{LINE_LIMIT}
+use Rattle.cdxj_core.specs.Members.{Member, member_pair}
+use Rattle.source_core.specs.Cursors.{reach}
+use Rattle.merge_core.specs.PairOrders.{Alike}
+use Rattle.merge_core.specs.Feeds.{Fed, feed_of, given}
+use Rattle.merge_core.specs.Gathering.{EndsAt}
+use Rattle.merge_core.proofs.line_buffers.LineBuffers.read_group.Given as goal
+
+abbrev pub invariant-loop-line : goal.invariant-loop-line
+invariant-loop-line g l = record {
+  text : g.S.Source.text l.source ≡ g.S.Source.text l.fn.source;
+  extent : g.S.Source.extent l.source ≡ g.S.Source.extent l.fn.source;
+  failures : g.S.Source.failures l.source ≡ g.S.Source.failures l.fn.source;
+  gave : g.S.Source.gave l.source + reach l.fn.cursor ≤ g.S.Source.gave l.fn.source + reach l.cursor;
+  start : l.cursor.start ≡ l.fn.cursor.start;
+  there : l.fn.cursor.at ≤ l.cursor.at;
+  fed : Fed LINE_LIMIT (g.R.Range.past l.range) (g.S.Source.text l.source) (g.S.Source.extent l.source)
+      (feed_of l.cursor []);
+  begin : l.begin ≡ l.cursor.at;
+  last : (t : List ℕ) → g.S.Source.text l.fn.source ≡ Some t
+      → EndsAt (g.R.Range.past l.range) (member_pair l.first) (given LINE_LIMIT t l.cursor);
+  taken : (taken : List Member) × (map (λ b. b.value) l.rest.items ≡ map (λ b. b.value) l.fn.rest.items ++ taken)
+      × AllByRecursion (λ m. Alike (member_pair m) (member_pair l.first)) taken
+      × ((t : List ℕ) → g.S.Source.text l.fn.source ≡ Some t
+      → given LINE_LIMIT t l.cursor ≡ given LINE_LIMIT t l.fn.cursor ++ taken);
+}
+
+abbrev pub decreases-loop-line : goal.decreases-loop-line
+decreases-loop-line g l = g.S.Source.extent l.source - l.cursor.at

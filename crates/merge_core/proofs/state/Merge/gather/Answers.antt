@@ -1,0 +1,228 @@
+use Rattle.std.proofs.lemmas.List.{map-append}
+use Rattle.std.proofs.Common.{[], ◌≡◌, Some, ◌+◌, ◌∷◌, Box, Global, List, map}
+use Rattle.std.proofs.Common.{refl, sym, ap, ◌∙◌, arith}
+use Rattle.std.proofs.lemmas.Cmp.{tied_itself}
+use Rattle.std.proofs.lemmas.List.Sorted.{IsPermutation-sym}
+use Rattle.cdxj_places.proofs.PairLemmas.{pair_cmp_total}
+use Rattle.cdxj_places.proofs.RisingLaws.{each_weaker}
+use Rattle.cdxj_core.specs.declared.limit.TheConstants.{LINE_LIMIT}
+use Rattle.cdxj_core.specs.declared.line.Line.{Line}
+use Rattle.cdxj_core.specs.Members.{Member, member_pair}
+use Rattle.merge_core.specs.declared.state.Merge.{Merge}
+use Rattle.merge_core.specs.PairOrders.{Upto}
+use Rattle.merge_core.specs.WaitingLines.{WaitingLine, waiting_pair}
+use Rattle.merge_core.specs.Feeds.{AreSettled, feeds}
+use Rattle.merge_core.specs.Gathering.{AreTold, all_done}
+use Rattle.merge_core.specs.Spending.{AreReadTo}
+use Rattle.merge_core.proofs.PairOrder.{upto_itself}
+use Rattle.merge_core.proofs.MergeLemmas.{on_err}
+use Rattle.merge_core.proofs.SpendLemmas.{idle_read}
+use Rattle.merge_core.proofs.WholeLemmas.{all_kept}
+use Rattle.merge_core.proofs.GroupLemmas.{AreBelow, from_waited}
+use Rattle.merge_core.proofs.GatherSteps.{Gathers, TakenNext, gathers_start, taken_next, gathers_on}
+use Rattle.merge_core.proofs.HeapLemmas.{each_permuted}
+use Rattle.merge_core.proofs.Many.{moved_trans, moved_still}
+use Rattle.merge_core.proofs.StateLemmas.{popped_feeds}
+use Rattle.merge_core.proofs.TurnLemmas.{above_popped, not_before}
+use Rattle.merge_core.proofs.state.Merge.gather.Given.{Over}
+use Rattle.merge_core.proofs.state.Merge.gather.Goals.{After-read_on, After-push, In_ok-read_on}
+use Rattle.merge_core.proofs.state.Merge.gather.Goals as goal
+
+abbrev values : List (Box Line Global) → List Member
+values = map (λ (b : Box Line Global). b.value)
+
+-- the source is read on at the pair of the group
+same : (g : Over) (c : In_ok-read_on g) → member_pair c.deref-in-sources.result.now ≡ member_pair c.new-keyed.result
+same g c = cc
+
+-- what a source's further lines make of the group
+drained : (g : Over) (c : In_ok-read_on g)
+    → Gathers LINE_LIMIT (g.R.Range.past c.args.range.now) g.S.Source.text g.S.Source.extent g.S.Source.gave
+    c.args.sources.now c.args.self.now (member_pair c.new-keyed.result) (c.sources.i + 1)
+    c.read_on.new.sources c.read_on.new.self (c.new-keyed.result ∷ values c.read_on.new.rest.items)
+drained g c =
+    let inv = c.sources.invariant in
+    let read = rw (same g c) at c.in_ok-read_on.ensures.read in
+    let pair = member_pair c.new-keyed.result in
+    gathers_on inv.gathers {m' = c.read_on.new.self} (c.new-keyed.result ∷ []) refl read.took (omega arith) inv.inside
+    read.aligned c.read_on.ensures.moved
+    (from_waited pair (c.sources.i + 1) c.sources.i read.took.feed.waits _ _ read.later read.queue_is inv.gathers.from)
+
+-- and of the feeds
+drained_settled : (g : Over) (c : In_ok-read_on g)
+    → AreSettled LINE_LIMIT (g.R.Range.past c.args.range.now) g.S.Source.text g.S.Source.extent c.read_on.new.sources
+    (feeds c.read_on.new.self)
+drained_settled g c =
+    let read = c.in_ok-read_on.ensures.read in
+    rw (read.took.source_is, read.took.feeds_are)
+    (c.sources.invariant.settled read.took.source read.took.feed read.settled)
+
+-- the line that is taken next
+abbrev taken_line : (g : Over) → After-push g → WaitingLine
+taken_line g c = record { member = c.next-in-sources.inside.line.value; source = c.next-in-sources.inside.source }
+
+abbrev popped_merge : (g : Over) → After-push g → Merge
+popped_merge g c = record c.read_on.new.self { queue = c.pop_at.new.self }
+
+-- what it makes of the group
+taken : (g : Over) (c : After-push g)
+    (h : Gathers LINE_LIMIT (g.R.Range.past c.args.range.now) g.S.Source.text g.S.Source.extent g.S.Source.gave
+    c.args.sources.now c.args.self.now (member_pair c.new-keyed.result) (c.sources.i + 1)
+    c.read_on.new.sources c.read_on.new.self (c.new-keyed.result ∷ values c.read_on.new.rest.items))
+    → TakenNext h (taken_line g c) (popped_merge g c)
+taken g c h =
+    let took = c.in-Some-pop_at.ensures in
+    let is = sym c.next-in-sources.view_is in
+    taken_next h (taken_line g c) (popped_merge g c) refl (rw is at took.out) (rw is at took.first) (grind arith)
+
+pub returns-in_default-clause-moved : goal.returns-in_default-clause-moved
+returns-in_default-clause-moved g c =
+    let e : c.pop.new.self ≡ c.args.self.now.queue = c.in_default.ensures.out.1 ∙ sym c.in_default.ensures.out.0 in
+    rw e (moved_still g.S.Source.text g.S.Source.extent g.S.Source.gave _)
+
+pub returns-in_default-clause-ready : goal.returns-in_default-clause-ready
+returns-in_default-clause-ready g c =
+    let e : c.pop.new.self ≡ c.args.self.now.queue = c.in_default.ensures.out.1 ∙ sym c.in_default.ensures.out.0 in
+    rw e c.requires.ready
+
+pub sources-init : goal.sources-init
+sources-init g c =
+    let old = c.args.self.now in
+    let now : Merge = record c.args.self.now { queue = c.pop.new.self } in
+    let left = c.pop.new.self in
+    let from : Member → WaitingLine = λ m. record { member = m; source = c.next.inside.source } in
+    let w = from c.new-keyed.result in
+    let is = sym c.next.view_is ∙ ap from (sym (c.new-keyed.ensures ∙ c.deref.ensures)) in
+    let pair = waiting_pair w in
+    let out = rw is at c.in-Some.ensures.out in
+    let later = rw is at c.in-Some.ensures.first in
+    let least = each_permuted (λ (v : WaitingLine). Upto pair (waiting_pair v)) (w ∷ left) old.queue
+    (IsPermutation-sym old.queue (w ∷ left) out) (upto_itself pair, each_weaker (λ v. not_before v w) left later) in
+    let t = taken_next (gathers_start LINE_LIMIT (g.R.Range.past c.args.range.now) g.S.Source.text g.S.Source.extent
+    g.S.Source.gave c.args.sources.now old pair c.requires.ready.aligned least) w now refl out later
+    (tied_itself pair_cmp_total pair) in
+    record {
+      gathers = grind arith;
+      most_lines = grind arith;
+      inside = t.inside;
+      due = t.due;
+      settled = t.settled c.requires.ready.settled;
+      failures = refl;
+      above = λ b h. above_popped b old.queue left w out h;
+      least = least;
+      fewer = t.fewer;
+    }
+
+pub read_on-requires-clause-due : goal.read_on-requires-clause-due
+read_on-requires-clause-due g c a d = let due = c.sources.invariant.due a d in grind arith
+
+pub pop_at-requires : goal.pop_at-requires
+pop_at-requires g c =
+    let now = drained g (goal.at.pop_at-requires g c).In_ok-read_on in
+    grind (arith, each_weaker)
+
+pub sources-smaller : goal.sources-smaller
+sources-smaller g c =
+    let here = goal.at.sources-smaller g c in
+    let t = taken g here.After-push (drained g here.In_ok-read_on) in
+    let read = c.in_ok-read_on.ensures.read in
+    omega (arith, t.fewer, read.fewer)
+
+pub sources-preserved : goal.sources-preserved
+sources-preserved g c =
+    let here = goal.at.sources-preserved g c in
+    let t = taken g here.After-push (drained g here.In_ok-read_on) in
+    let settled = t.settled (drained_settled g here.In_ok-read_on) in
+    let read = c.in_ok-read_on.ensures.read in
+    record {
+      gathers = grind (arith, map-append, t.gathers);
+      most_lines = grind arith;
+      inside = t.inside;
+      due = t.due;
+      settled = settled;
+      failures = grind arith;
+      above = c.sources.invariant.above;
+      least = c.sources.invariant.least;
+      fewer = omega (arith, t.fewer, read.fewer, c.sources.invariant.fewer);
+    }
+
+-- the sources were read up to the pair
+read_to : (g : Over) (c : After-read_on g) → AreTold g.S.Source.text c.args.sources.now
+    → AreBelow (member_pair c.new-keyed.result) (all_done LINE_LIMIT (g.R.Range.past c.args.range.now) g.S.Source.text
+    c.args.sources.now (feeds c.args.self.now))
+    → AreReadTo LINE_LIMIT (g.R.Range.past c.args.range.now) g.S.Source.text (Some (member_pair c.new-keyed.result))
+    c.read_on.new.sources (feeds c.read_on.new.self)
+read_to g c told low =
+    (rw (c.deref-in-sources.ensures ∙ sym (c.new-keyed.ensures ∙ c.deref.ensures)) at c.read_on.ensures.most)
+    (c.sources.invariant.gathers.gathered told low).0.upto
+
+pub returns-in_default-pop_at : goal.returns-in_default-pop_at
+returns-in_default-pop_at g c =
+    let here = (goal.at.returns-in_default-pop_at g c).In_ok-read_on in
+    let now = drained g here in
+    let inv = c.sources.invariant in
+    let read = c.in_ok-read_on.ensures.read in
+    let took = c.in_default-pop_at.ensures in
+    record {
+      moved = rw took.out.0 now.moved;
+      failures = grind arith;
+      fault = grind arith;
+      ready = rw took.out.0 (record { aligned = now.aligned; settled = drained_settled g here });
+      group = rw (← (c.new-keyed.ensures ∙ c.deref.ensures), took.out.0) (record {
+        above = inv.above;
+        least = inv.least;
+        later = rw took.out.0 at took.out.1;
+        each = now.each;
+        fewer = omega (arith, read.fewer, inv.fewer);
+        gathered = λ told low. (now.gathered told low).0;
+      });
+      reads = grind arith;
+      most_lines = grind arith;
+    }
+
+pub returns-in_err-read_on-clause-moved : goal.returns-in_err-read_on-clause-moved
+returns-in_err-read_on-clause-moved g c =
+    moved_trans g.S.Source.text g.S.Source.extent g.S.Source.gave _ _ _ c.sources.invariant.gathers.moved
+    c.read_on.ensures.moved
+
+pub returns-in_err-read_on-clause-fault : goal.returns-in_err-read_on-clause-fault
+returns-in_err-read_on-clause-fault g c =
+    let gathers = c.sources.invariant.gathers in
+    let kept = all_kept g.S.Source.text g.S.Source.extent g.S.Source.gave c.args.sources.now c.args.self.now
+    c.sources.sources c.sources.self c.requires.ready.aligned.same gathers.as_many gathers.moved in
+    grind arith
+
+pub returns-in_err-read_on-clause-reads : goal.returns-in_err-read_on-clause-reads
+returns-in_err-read_on-clause-reads g c =
+    on_err _ _ _ c.from_residual.ensures.1 (record {
+      pair = member_pair c.new-keyed.result;
+      above = c.sources.invariant.above;
+      least = c.sources.invariant.least;
+      read = read_to g (goal.at.returns-in_err-read_on-clause-reads g c).After-read_on;
+    })
+
+pub returns-in_err-push : goal.returns-in_err-push
+returns-in_err-push g c =
+    let here = goal.at.returns-in_err-push g c in
+    let now = drained g here.In_ok-read_on in
+    let t = taken g here.After-push now in
+    let took = c.in-Some-pop_at.ensures in
+    let w = taken_line g here.After-push in
+    let f = c.in_ok-read_on.ensures.read.took.feed in
+    let feeds_now = popped_feeds (popped_merge g here.After-push) {w = w} now.aligned refl
+    (rw (sym c.next-in-sources.view_is) at took.out) f in
+    record {
+      moved = t.gathers.moved;
+      failures = grind arith;
+      fault = grind arith;
+      ready = grind arith;
+      group = grind arith;
+      reads = on_err _ _ _ c.from_residual-in_err-push.ensures.1 (record {
+        pair = member_pair c.new-keyed.result;
+        above = c.sources.invariant.above;
+        least = c.sources.invariant.least;
+        read = λ told low. rw feeds_now (idle_read LINE_LIMIT _ g.S.Source.text g.S.Source.extent _ _ _ _ f
+            (read_to g here.After-read_on told low));
+      });
+      most_lines = grind arith;
+    }

@@ -1,0 +1,34 @@
+use Rattle.std.proofs.Common.{◌≡◌, ◌+◌, ◌<◌, ◌∷◌, Option, length, map, get_or, set}
+use Rattle.std.specs.List.{AllByRecursion}
+use Rattle.cdxj_core.specs.declared.limit.TheConstants.{LINE_LIMIT}
+use Rattle.cdxj_core.specs.Members.{member_pair}
+use Rattle.cdxj_places.specs.Pairs.{Pair}
+use Rattle.merge_core.specs.PairOrders.{IsAbove, Upto}
+use Rattle.merge_core.specs.WaitingLines.{waiting_pair}
+use Rattle.merge_core.specs.Feeds.{AreSettled, Feed, IsSettled, feeds}
+use Rattle.merge_core.specs.Gathering.{IsDue, unread}
+use Rattle.merge_core.proofs.GatherSteps.{Gathers}
+use Rattle.merge_core.proofs.state.Merge.gather.Given as goal
+
+abbrev pub invariant-sources : goal.invariant-sources
+invariant-sources g l = record {
+  gathers : Gathers LINE_LIMIT (g.R.Range.past l.range) g.S.Source.text g.S.Source.extent g.S.Source.gave l.fn.sources
+      l.fn.self (member_pair l.keyed) (l.i + 1) l.sources l.self (l.keyed ∷ map (λ b. b.value) l.rest.items);
+  most_lines : l.self.most_lines ≡ l.fn.self.most_lines;
+  inside : l.i < length l.sources;
+  due : (a : g.row.S.Denot) → (d : Feed)
+      → IsDue LINE_LIMIT (g.R.Range.past l.range) (member_pair l.keyed) (g.S.Source.text (get_or l.sources l.i a))
+      (get_or (feeds l.self) l.i d);
+  settled : (s : g.row.S.Denot) → (f : Feed) → IsSettled LINE_LIMIT (g.R.Range.past l.range) (g.S.Source.text s) f
+      → AreSettled LINE_LIMIT (g.R.Range.past l.range) g.S.Source.text g.S.Source.extent (set l.sources l.i s)
+      (set (feeds l.self) l.i f);
+  failures : map g.S.Source.failures l.sources ≡ map g.S.Source.failures l.fn.sources;
+  above : (b : Option Pair) → AllByRecursion (λ w. IsAbove b (waiting_pair w)) l.fn.self.queue
+      → IsAbove b (member_pair l.keyed);
+  least : AllByRecursion (λ w. Upto (member_pair l.keyed) (waiting_pair w)) l.fn.self.queue;
+  fewer : unread g.S.Source.extent l.sources (feeds l.self) + length l.self.queue < unread g.S.Source.extent
+      l.fn.sources (feeds l.fn.self) + length l.fn.self.queue;
+}
+
+abbrev pub decreases-sources : goal.decreases-sources
+decreases-sources g l = unread g.S.Source.extent l.sources (feeds l.self) + length l.self.queue

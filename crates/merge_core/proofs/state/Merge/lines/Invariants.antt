@@ -1,0 +1,8 @@
+use Rattle.std.proofs.Common.{◌≡◌, ◌-◌, ◌^◌, map, min, take}
+use Rattle.std.specs.List.{sum}
+use Rattle.source_core.specs.Cursors.{CursorState}
+use Rattle.merge_core.proofs.state.Merge.lines.Given as goal
+
+abbrev pub invariant-loop-cursor : goal.invariant-loop-cursor
+invariant-loop-cursor l =
+    l.lines ≡ min (sum (map (λ (c : CursorState). c.count) (take l.cursor-index l.self.cursors.items))) (2 ^ 64 - 1)

@@ -1,0 +1,92 @@
+use Rattle.std.specs.List.{sum}
+use Rattle.std.proofs.lemmas.List.Concat.{flat_map-append}
+use Rattle.std.proofs.Common.{append-nil, ◌≡◌, [], ◌∷◌, get_or, take, ◌<◌, length, map, ap, zip, length-append, arith}
+use Rattle.std.proofs.lemmas.Slice.Zip.{all_zipped_more}
+use Rattle.std.proofs.lemmas.List.{take_all, take_more, take_more_set}
+use Rattle.cdxj_core.specs.declared.limit.TheConstants.{LINE_LIMIT}
+use Rattle.source_core.specs.Halving.{digits}
+use Rattle.merge_core.proofs.OnceLemmas.{once_none}
+use Rattle.merge_core.proofs.SpendLemmas.{opened_none, left_here, left_after}
+use Rattle.merge_core.proofs.FailLemmas.{raised_by_feed}
+use Rattle.cdxj_places.proofs.RisingLaws.{each_join}
+use Rattle.merge_core.proofs.Many.{map_set_same, two_put}
+use Rattle.std.proofs.lemmas.Simd.{map-map}
+use Rattle.merge_core.specs.Feeds.{feed_of, feeds, option_list}
+use Rattle.merge_core.proofs.OpenLemmas.{added_feeds, fresh_of, ready_added, sum_turn, zip_none, zip_push}
+use Rattle.merge_core.proofs.StateLemmas.{feeds_long}
+use Rattle.merge_core.proofs.state.Merge.open_at.Goals as goal
+
+pub loop-i-init : goal.loop-i-init
+loop-i-init g c =
+    let once = once_none g.S.Source.text g.S.Source.extent g.S.Source.gave c.args.sources.now in
+    grind (arith, zip_none, opened_none)
+
+pub loop-i-preserved : goal.loop-i-preserved
+loop-i-preserved g c =
+    let inv = c.loop-i.invariant in
+    let ok = c.in-Ok.ensures in
+    let added = ok.added in
+    let past = g.R.Range.past c.args.range.now in
+    let olds = c.args.sources.now in let ss = c.loop-i.sources in let m = c.loop-i.merge in
+    let fs = feeds m in
+    let i = c.loop-i.i in let a = c.index-sources-i.result in let s = c.add_from.new.source in
+    let f = feed_of added.cursor added.first in
+    let inside : i < length ss = omega arith in
+    let text = g.S.Source.text in let extent = g.S.Source.extent in
+    let now = added_feeds inv.ready added in
+    let count : length fs ≡ i = let n = inv.count in grind (arith, feeds_long) in
+    let ready = ready_added inv.ready added in
+    let front = take_more_set ss i s inside in
+    let zipped = zip_push ss fs i s f count inside in
+    let same_here : get_or ss i a ≡ get_or olds i a = left_here olds ss i a inv.left in
+    record {
+      text = grind (arith, map_set_same);
+      extent = grind (arith, map_set_same);
+      failures = grind (arith, map_set_same);
+      most_lines = grind arith;
+      count = grind (arith, length-append);
+      ready = rw front ready;
+      cut = rw (now, zipped) (each_join _ (zip ss fs) ((s, f) ∷ []) inv.cut (added.cursor_is.0, tt));
+      start = grind (arith, each_join);
+      fresh = rw (now, zipped) (let is = fresh_of LINE_LIMIT past (text s) f added.fresh in grind (arith, flat_map-append, append-nil));
+      probes = grind (arith, sum_turn (λ s. digits (extent s)) ss i s inside);
+      left = grind (arith, left_after);
+      spent = grind (arith, two_put);
+      once = λ k z. grind (arith, two_put, inv.once k z, ok.once);
+      came_once = λ k z. rw (now, zipped, take_more olds i a (omega arith))
+          (all_zipped_more _ (take i olds) (zip ss fs) (get_or olds i a) (s, f) (inv.came_once k z)
+          (rw same_here at (added.cursor_is.3 k z)));
+      came = rw (now, zipped, take_more olds i a (omega arith))
+          (all_zipped_more _ (take i olds) (zip ss fs) (get_or olds i a) (s, f) inv.came
+          (rw same_here at added.cursor_is.1));
+    }
+
+pub returns-in-Err-clause-kept : goal.returns-in-Err-clause-kept
+returns-in-Err-clause-kept g c = grind (arith, map_set_same)
+
+pub returns-in-Err-clause-failures : goal.returns-in-Err-clause-failures
+returns-in-Err-clause-failures g c = grind (arith, raised_by_feed)
+
+pub returns-in-Err-clause-spent : goal.returns-in-Err-clause-spent
+returns-in-Err-clause-spent g c =
+    let here = left_here c.args.sources.now c.loop-i.sources c.loop-i.i c.index-sources-i.result
+    c.loop-i.invariant.left in
+    grind (arith, two_put)
+
+pub returns-in-Err-clause-once : goal.returns-in-Err-clause-once
+returns-in-Err-clause-once g c = λ k z.
+    let here = left_here c.args.sources.now c.loop-i.sources c.loop-i.i c.index-sources-i.result
+    c.loop-i.invariant.left in
+    grind (arith, two_put, c.loop-i.invariant.once k z)
+
+pub returns : goal.returns
+returns g c =
+    let inv = c.loop-i.invariant in
+    let e = g.S.Source.extent in
+    let whole = take_all c.loop-i.i c.loop-i.sources (omega (arith, ap length inv.extent, inv.count)) in
+    let same = ap sum (simp map-map at (ap (map digits) inv.extent)) in
+    let olds : take c.loop-i.i c.args.sources.now ≡ c.args.sources.now = take_all c.loop-i.i c.args.sources.now
+    (omega (arith, ap length inv.extent, inv.count)) in
+    let came = rw olds at inv.came in
+    let came_once = λ (k : c.args.key.now ≡ []) (z : c.args.stamp.now ≡ []). rw olds at (inv.came_once k z) in
+    grind arith

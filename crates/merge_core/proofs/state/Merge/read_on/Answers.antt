@@ -1,0 +1,155 @@
+use Rattle.std.specs.List.{AllByRecursion}
+use Rattle.std.proofs.Common.{List, ◌≡◌, [], Some, Box, Global, length, option_map, set, get_or, refl, arith}
+use Rattle.std.specs.Vec.{with_item}
+use Rattle.std.proofs.lemmas.List.{get_or_default}
+use Rattle.cdxj_core.specs.declared.limit.TheConstants.{LINE_LIMIT}
+use Rattle.cdxj_core.specs.declared.line.Line.{Line}
+use Rattle.cdxj_core.specs.Members.{Member, member_pair}
+use Rattle.merge_core.specs.declared.state.Merge.{Merge}
+use Rattle.merge_core.specs.PairOrders.{Upto}
+use Rattle.merge_core.specs.Feeds.{AllMoved, Feed, feed_of, feeds, option_list}
+use Rattle.merge_core.specs.Gathering.{all_done}
+use Rattle.merge_core.specs.Spending.{AreReadTo}
+use Rattle.merge_core.proofs.SpendLemmas.{are_read_to, read_on}
+use Rattle.merge_core.proofs.FailLemmas.{raised_by_feed}
+use Rattle.merge_core.proofs.Many.{moved_set, map_set_same, unread_set}
+use Rattle.merge_core.proofs.StateLemmas.{fed_at, long_of, idle_here, moved_feeds, waited_aligned, waited_feeds}
+use Rattle.merge_core.proofs.StateLemmas.{waited_length}
+use Rattle.merge_core.proofs.state.Merge.read_on.Given.{Over}
+use Rattle.merge_core.proofs.state.Merge.read_on.Goals.{After-read_group}
+use Rattle.merge_core.proofs.state.Merge.read_on.Goals as goal
+
+pub read_group-requires : goal.read_group-requires
+read_group-requires g c =
+    let was : Feed = feed_of c.index_mut-cursor.result.now [] in
+    let due = c.requires.due c.index-sources-i.result was in
+    let here = idle_here c.requires.aligned c.requires.inside was due.none c.index_mut-cursor.result.now
+    c.index_mut-cursor.ensures.value in
+    let fed = fed_at c.requires.aligned c.args.i c.index-sources-i.result was c.requires.inside in
+    record { fed = rw here at fed; last = rw here at due.last }
+
+-- the source was read on
+module _ (g : Over) (c : After-read_group g) where
+  abbrev was : Feed
+  was = feed_of c.index_mut-cursor.result.now []
+
+  none : (get_or (feeds c.args.self.now) c.args.i was).waits ≡ []
+  none = (c.requires.due c.index-sources-i.result was).none
+
+  here : get_or (feeds c.args.self.now) c.args.i was ≡ was
+  here = idle_here c.requires.aligned c.requires.inside was none c.index_mut-cursor.result.now
+      c.index_mut-cursor.ensures.value
+
+  long : length c.args.sources.now ≡ length (feeds c.args.self.now)
+  long = long_of c.requires.aligned
+
+  module _ (m : Merge) (f : Feed) (is : f.cursor ≡ c.read_group.new.cursor)
+      (feeds_are : feeds m ≡ set (feeds c.args.self.now) c.args.i f) where
+    moved : AllMoved g.S.Source.text g.S.Source.extent g.S.Source.gave c.args.sources.now c.args.self.now
+        (set c.args.sources.now c.args.i c.read_group.new.source) m
+    moved =
+        let here = here in
+        rw feeds_are (moved_set g.S.Source.text g.S.Source.extent g.S.Source.gave c.args.sources.now
+        (feeds c.args.self.now) c.args.i c.index-sources-i.result c.read_group.new.source was f long c.requires.inside
+        (grind arith))
+
+    -- no source was read further than the pair
+    most : AllByRecursion (λ m. Upto (member_pair m) (member_pair c.args.first.now))
+        (all_done LINE_LIMIT (g.R.Range.past c.args.range.now) g.S.Source.text c.args.sources.now
+        (feeds c.args.self.now))
+        → AreReadTo LINE_LIMIT (g.R.Range.past c.args.range.now) g.S.Source.text (Some (member_pair c.args.first.now))
+        (set c.args.sources.now c.args.i c.read_group.new.source) (feeds m)
+    most low =
+        rw feeds_are (read_on LINE_LIMIT _ g.S.Source.text g.S.Source.extent _ c.args.sources.now
+        (feeds c.args.self.now) c.args.i c.read_group.new.source f
+        (are_read_to LINE_LIMIT _ g.S.Source.text g.S.Source.extent _ _ _ c.requires.aligned.fed low) (grind arith))
+
+-- its cursor has moved, and none of its lines waits
+module _ (g : Over) (c : After-read_group g) (m : Merge)
+    (cursors : m.cursors.items ≡ set c.args.self.now.cursors.items c.args.i c.read_group.new.cursor)
+    (queue : m.queue ≡ c.args.self.now.queue) where
+  feeds_now : feeds m ≡ set (feeds c.args.self.now) c.args.i (feed_of c.read_group.new.cursor [])
+  feeds_now = moved_feeds c.requires.aligned c.requires.inside (was g c) (none g c) m c.read_group.new.cursor cursors queue
+
+  moved_alone : AllMoved g.S.Source.text g.S.Source.extent g.S.Source.gave c.args.sources.now c.args.self.now
+      (set c.args.sources.now c.args.i c.read_group.new.source) m
+  moved_alone = moved g c m (feed_of c.read_group.new.cursor []) refl feeds_now
+
+  most_alone : AllByRecursion (λ m. Upto (member_pair m) (member_pair c.args.first.now))
+      (all_done LINE_LIMIT (g.R.Range.past c.args.range.now) g.S.Source.text c.args.sources.now (feeds c.args.self.now))
+      → AreReadTo LINE_LIMIT (g.R.Range.past c.args.range.now) g.S.Source.text (Some (member_pair c.args.first.now))
+      (set c.args.sources.now c.args.i c.read_group.new.source) (feeds m)
+  most_alone = most g c m (feed_of c.read_group.new.cursor []) refl feeds_now
+
+pub returns-in-Err-clause-moved : goal.returns-in-Err-clause-moved
+returns-in-Err-clause-moved g c =
+    moved_alone g (goal.at.returns-in-Err-clause-moved g c).After-read_group
+    (record c.args.self.now { cursors = with_item c.args.self.now.cursors c.args.i c.read_group.new.cursor }) refl refl
+
+pub returns-in-Err-clause-failures : goal.returns-in-Err-clause-failures
+returns-in-Err-clause-failures g c = grind (arith, raised_by_feed)
+
+pub returns-in-Err-clause-most : goal.returns-in-Err-clause-most
+returns-in-Err-clause-most g c =
+    most_alone g (goal.at.returns-in-Err-clause-most g c).After-read_group
+    (record c.args.self.now { cursors = with_item c.args.self.now.cursors c.args.i c.read_group.new.cursor }) refl refl
+
+pub returns-in_err-enqueue-clause-moved : goal.returns-in_err-enqueue-clause-moved
+returns-in_err-enqueue-clause-moved g c =
+    moved_alone g (goal.at.returns-in_err-enqueue-clause-moved g c).After-read_group c.enqueue.new.self
+    c.enqueue.ensures.cursors c.in_err-enqueue.ensures.refused
+
+pub returns-in_err-enqueue-clause-failures : goal.returns-in_err-enqueue-clause-failures
+returns-in_err-enqueue-clause-failures g c = grind (arith, map_set_same)
+
+pub returns-in_err-enqueue-clause-most : goal.returns-in_err-enqueue-clause-most
+returns-in_err-enqueue-clause-most g c =
+    most_alone g (goal.at.returns-in_err-enqueue-clause-most g c).After-read_group c.enqueue.new.self
+    c.enqueue.ensures.cursors c.in_err-enqueue.ensures.refused
+
+pub returns : goal.returns
+returns g c =
+    let at = (goal.at.returns g c).After-read_group in
+    let old = c.args.self.now in
+    let i = c.args.i in
+    let now = c.read_group.new.cursor in
+    let read = c.in-Ok.ensures.read in
+    let waits : List Member = option_list (option_map (λ (l : Box Line Global). l.value) c.in-Ok.next) in
+    let f = feed_of now waits in
+    let is = here g at in
+    let cursors = c.enqueue.ensures.cursors in
+    let queue = c.in_ok-enqueue.ensures.queue in
+    let feeds_now = waited_feeds c.requires.aligned c.requires.inside (was g at) (none g at) c.enqueue.new.self now
+    cursors waits queue read.fed.few in
+    record {
+      moved = moved g at c.enqueue.new.self f refl feeds_now;
+      failures = grind (arith, map_set_same);
+      fault = grind arith;
+      read = record {
+        aligned = waited_aligned c.requires.aligned c.requires.inside (was g at) (none g at) c.enqueue.new.self now
+            cursors waits queue c.read_group.new.source read.fed;
+        fewer =
+            let longer = waited_length c.requires.aligned c.requires.inside (was g at) (none g at) c.enqueue.new.self now
+            cursors waits queue in
+            let left = unread_set g.S.Source.text g.S.Source.extent g.S.Source.gave c.args.sources.now (feeds old) i
+            c.index-sources-i.result c.read_group.new.source (was g at) f (long g at) c.requires.inside in
+            rw feeds_now (grind arith);
+        took = record {
+          source = c.read_group.new.source;
+          feed = f;
+          source_is = refl;
+          feeds_are = feeds_now;
+          text_is = grind (arith, get_or_default);
+          taken = read.taken;
+          rest_is = read.rest_is;
+          alike = read.alike;
+          done_is = λ d t e. rw (get_or_default (feeds old) i d (was g at) (let l = long g at in omega arith), is)
+              (read.done_is t e);
+        };
+        settled = read.settled;
+        later = read.later;
+        queue_is = queue;
+      };
+      most = most g at c.enqueue.new.self f refl feeds_now;
+      most_lines = grind arith;
+    }

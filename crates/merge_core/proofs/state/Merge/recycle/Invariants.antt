@@ -1,0 +1,12 @@
+use Rattle.std.proofs.Common.{◌≡◌, vec_len}
+use Rattle.merge_core.proofs.state.Merge.recycle.Given as goal
+
+abbrev pub invariant-loop-line : goal.invariant-loop-line
+invariant-loop-line l = record {
+  cursors : l.self.cursors.items ≡ l.fn.self.cursors.items;
+  most_lines : l.self.most_lines ≡ l.initial.self.most_lines;
+  queue : l.self.queue ≡ l.fn.self.queue;
+}
+
+abbrev pub decreases-loop-line : goal.decreases-loop-line
+decreases-loop-line l = vec_len l.rest

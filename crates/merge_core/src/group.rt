@@ -1,0 +1,63 @@
+//! The lines of a source that have one pair.
+ghost use Rattle.std.specs.Prelude.{◌≡◌, ◌+◌, ◌≤◌, ℕ, List, [], map, option_map, Some, IfOk, IfErr};
+ghost use Rattle.source_core.specs.Device.{KeepsSource};
+ghost use Rattle.cdxj_core.specs.declared.limit.TheConstants.{LINE_LIMIT};
+ghost use Rattle.cdxj_core.specs.Members.{member_pair};
+ghost use Rattle.merge_core.specs.Failures.{CountsFeed};
+ghost use Rattle.source_core.specs.Cursors.{reach};
+ghost use Rattle.merge_core.specs.Feeds.{Fed, feed_of, given, option_list};
+ghost use Rattle.merge_core.specs.Gathering.{EndsAt, ReadGroup};
+ghost use Rattle.merge_core.specs.LineFaults.{NamesLine};
+ghost use Rattle.merge_core.specs.Spending.{ReadTo};
+
+use crate::fault::FeedFault;
+use crate::line_buffers::LineBuffers;
+use crate::pair::compare_pairs;
+use crate::range::Range;
+use cdxj_core::Line;
+use source_core::{Cursor, Source};
+use std::cmp::Ordering;
+
+impl LineBuffers {
+    /// Reads the further lines of a source that have the pair of this one into `rest`. Returns the line after them,
+    /// unless its key is past the range.
+    /// Errors are `Memory`, `Read`, `BadLine` and `OutOfOrder`.
+    pub fn read_group<S: Source, R: Range>(
+        &mut self,
+        source: &mut S,
+        cursor: &mut Cursor,
+        first: &Line,
+        range: &R,
+        rest: &mut Vec<Box<Line>>,
+    ) -> Result<Option<Box<Line>>, FeedFault>
+        requires fed { Fed LINE_LIMIT (R.past range.now) (S.text source.old) (S.extent source.old)
+            (feed_of cursor.old []) }
+        requires last { (t : List ℕ) → S.text source.old ≡ Some t
+            → EndsAt (R.past range.now) (member_pair first.now) (given LINE_LIMIT t cursor.old) }
+        ensures kept { KeepsSource S.text S.extent source.old source.new }
+        ensures gave { S.gave source.new + reach cursor.old ≤ S.gave source.old + reach cursor.new }
+        ensures inside { reach cursor.new ≤ S.extent source.old }
+        ensures failures { CountsFeed result (S.failures source.old) (S.failures source.new) }
+        ensures start { cursor.new.start ≡ cursor.old.start }
+        ensures read { IfOk result (λ o.
+            ReadGroup LINE_LIMIT (R.past range.now) (member_pair first.now)
+            (S.text source.new) (S.extent source.new) cursor.old
+            (feed_of cursor.new (option_list (option_map (λ b. b.value) o)))
+            (map (λ b. b.value) rest.old.items) (map (λ b. b.value) rest.new.items)) }
+        ensures most { (t : List ℕ) → S.text source.old ≡ Some t
+            → ReadTo LINE_LIMIT (R.past range.now) (Some (member_pair first.now)) t cursor.new }
+        ensures fault { (t : List ℕ) → S.text source.old ≡ Some t
+            → IfErr result (NamesLine LINE_LIMIT t) }
+    {
+        let mut begin = cursor.at();
+        while let Some(line) = self.next_line(source, cursor)? {
+            match compare_pairs(&line, first) {
+                Ordering::Less => return Err(FeedFault::OutOfOrder(begin)),
+                Ordering::Greater => return Ok(self.within(Some(line), range)),
+                Ordering::Equal => rest.push(line)?,
+            }
+            begin = cursor.at();
+        }
+        Ok(None)
+    }
+}

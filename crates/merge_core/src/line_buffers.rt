@@ -1,0 +1,167 @@
+//! The reading of lines into reused buffers.
+ghost use Rattle.std.specs.Prelude.{◌≡◌, ◌≢◌, ◌+◌, ◌<◌, ◌≤◌, ◌++◌, ◌∷◌, ℕ, List, [], true, length, drop, option_map, Some, None, MatchOption, MatchResult, IfOk, IfErr, OnOk};
+ghost use Rattle.source_core.specs.Device.{KeepsSource};
+ghost use Rattle.cdxj_core.specs.declared.limit.TheConstants.{LINE_LIMIT};
+ghost use Rattle.std.specs.List.{list_all};
+ghost use Rattle.cdxj_core.specs.Plain.{is_unescaped_ascii};
+ghost use Rattle.cdxj_core.specs.Lines.{body_of};
+ghost use Rattle.cdxj_core.specs.Members.{line_entry};
+ghost use Rattle.cdxj_places.specs.TextLines.{lines};
+ghost use Rattle.merge_core.specs.Failures.{CountsFeed};
+ghost use Rattle.source_core.specs.Cursors.{Stands, reach};
+ghost use Rattle.source_core.specs.IndexLines.{first_length};
+ghost use Rattle.merge_core.specs.Feeds.{option_list, read_lines, stays};
+ghost use Rattle.std.specs.List.{filter};
+ghost use Rattle.merge_core.specs.LineFaults.{IsFeedFaultAt, line_fault};
+ghost use Rattle.merge_core.specs.NextLine.{IsNextLine};
+
+use crate::fault::FeedFault;
+use crate::range::Range;
+use cdxj_core::{Line, LineFault};
+use source_core::{Cursor, LineReadFault, Source};
+use std::alloc::Global;
+
+fn boxed(alloc: Global, line: Line) -> Result<Box<Line>, LineFault>
+    ensures { MatchResult result (λ b. b.value ≡ line) (λ fault. fault ≡ LineFault.Memory) }
+{
+    match Box::new(alloc, line) {
+        Ok(line) => Ok(line),
+        Err(_) => Err(LineFault::Memory),
+    }
+}
+
+/// Returns the line of these bytes, in the buffer of a line that isn't needed any more if there is one. If `is_unescaped`,
+/// they are characters of ASCII other than controls and backslashes, but for the line feed.
+#[tactic(auto, using(crate::proofs::FeedLemmas::no_entry))]
+fn line_of(
+    alloc: Global,
+    spare: &mut Vec<Box<Line>>,
+    bytes: &[u8],
+    is_unescaped: bool,
+) -> Result<Box<Line>, LineFault>
+    requires { is_unescaped ≡ true → list_all is_unescaped_ascii (body_of bytes.now) ≡ true }
+    ensures { MatchResult result (λ line. line_entry LINE_LIMIT bytes.now ≡ Some line.value)
+        (λ fault. fault ≢ LineFault.Memory → line_entry LINE_LIMIT bytes.now ≡ None) }
+{
+    match spare.pop() {
+        Some(mut line) => {
+            if is_unescaped {
+                line.refill_unescaped(bytes)?;
+            } else {
+                line.refill(bytes)?;
+            }
+            Ok(line)
+        }
+        None => boxed(alloc, Line::read(alloc, bytes)?),
+    }
+}
+
+/// Returns the fault of a source whose line at this offset has this fault.
+fn fault_at(begin: u64, fault: LineFault) -> FeedFault
+    ensures { result ≡ line_fault begin fault }
+{
+    match fault {
+        LineFault::Memory => FeedFault::Memory,
+        LineFault::LineTooLong => FeedFault::BadLine(begin),
+        LineFault::BadLine => FeedFault::BadLine(begin),
+    }
+}
+
+/// Reads lines into the buffers of lines that aren't needed any more.
+#[derive(Debug, Drop)]
+pub struct LineBuffers {
+    alloc: Global,
+    bytes: Vec<u8>,
+    spare: Vec<Box<Line>>,
+}
+
+impl LineBuffers {
+    /// Creates no buffers.
+    pub fn new(alloc: Global) -> LineBuffers {
+        LineBuffers {
+            alloc,
+            bytes: Vec::new(alloc),
+            spare: Vec::new(alloc),
+        }
+    }
+
+    /// Keeps the line's buffer, if memory can be allocated for that.
+    pub fn recycle(&mut self, line: Box<Line>) {
+        let _ = self.spare.push(line);
+    }
+
+    /// Returns the line, unless its key is past the range.
+    #[inline(always)]
+    pub(crate) fn within<R: Range>(
+        &mut self,
+        line: Option<Box<Line>>,
+        range: &R,
+    ) -> Option<Box<Line>>
+        ensures { option_list (option_map (λ b. b.value) result)
+            ≡ filter (stays (R.past range.now)) (option_list (option_map (λ b. b.value) line)) }
+    {
+        let line = line?;
+        if range.is_past(line.pair().0) {
+            self.recycle(line);
+            None
+        } else {
+            Some(line)
+        }
+    }
+
+    /// Reads the next line of a source, if there is one.
+    /// Errors are `Memory`, `Read` and `BadLine`.
+    pub fn next_line<S: Source>(
+        &mut self,
+        source: &mut S,
+        cursor: &mut Cursor,
+    ) -> Result<Option<Box<Line>>, FeedFault>
+        requires stands { Stands (S.text source.old) (S.extent source.old) cursor.old }
+        ensures kept { KeepsSource S.text S.extent source.old source.new }
+        ensures gave { S.gave source.new + reach cursor.old ≤ S.gave source.old + reach cursor.new }
+        ensures failures { CountsFeed result (S.failures source.old) (S.failures source.new) }
+        ensures stands { OnOk result (Stands (S.text source.new) (S.extent source.new) cursor.new) }
+        ensures start { cursor.new.start ≡ cursor.old.start }
+        ensures count { IfOk result (λ o.
+            MatchOption o (cursor.new.count ≡ cursor.old.count) (λ _.
+            cursor.new.count ≡ cursor.old.count + 1)) }
+        ensures there { IfOk result (λ o.
+            MatchOption o (cursor.new.at ≡ S.extent source.old) (λ _.
+            cursor.old.at < cursor.new.at)) }
+        ensures given { (t : List ℕ) → S.text source.old ≡ Some t → IfOk result (λ o. MatchOption o
+            ((read_lines t cursor.new ≡ read_lines t cursor.old)
+            × (lines (drop cursor.new.at t) ≡ []))
+            (λ line. (l : List ℕ) × (read_lines t cursor.new ≡ read_lines t cursor.old ++ l ∷ [])
+            × (line_entry LINE_LIMIT l ≡ Some line.value))) }
+        ensures next { (t : List ℕ) → S.text source.old ≡ Some t
+            → IfOk result (λ o. IsNextLine LINE_LIMIT t cursor.old.at cursor.new.at
+            (option_map (λ b. b.value) o)) }
+        ensures most { (t : List ℕ) → S.text source.old ≡ Some t → cursor.new.at
+            ≤ cursor.old.at + first_length (lines (drop cursor.old.at t)) }
+        ensures ahead { length cursor.new.ahead ≤ 8192 }
+        ensures inside { reach cursor.new ≤ S.extent source.old }
+        ensures fault { (t : List ℕ) → S.text source.old ≡ Some t
+            → IfErr result (IsFeedFaultAt LINE_LIMIT (lines (drop cursor.old.at t)) cursor.old.at) }
+    {
+        let begin = cursor.at();
+        if let Some((bytes, is_unescaped)) = cursor.held_line() {
+            let size = bytes.len();
+            let read = line_of(self.alloc, &mut self.spare, bytes, is_unescaped);
+            cursor.pass_line(source, size);
+            return match read {
+                Ok(line) => Ok(Some(line)),
+                Err(fault) => Err(fault_at(begin, fault)),
+            };
+        }
+        match cursor.next(source, &mut self.bytes) {
+            Ok(false) => Ok(None),
+            Ok(true) => match line_of(self.alloc, &mut self.spare, &self.bytes, false) {
+                Ok(line) => Ok(Some(line)),
+                Err(fault) => Err(fault_at(begin, fault)),
+            },
+            Err(LineReadFault::Memory) => Err(FeedFault::Memory),
+            Err(LineReadFault::Read) => Err(FeedFault::Read),
+            Err(LineReadFault::Long) => Err(FeedFault::BadLine(begin)),
+        }
+    }
+}

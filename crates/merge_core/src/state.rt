@@ -1,0 +1,169 @@
+//! The state of a merge.
+ghost use Rattle.std.specs.Prelude.{◌≡◌, ◌≢◌, ◌+◌, ◌-◌, ◌^◌, ◌<◌, ◌≤◌, ◌∷◌, ◌++◌, ℕ, [], length, map, option_map, max, min, slice_index_or, Option, Some, IfOk, IfErr, OnOk, OnErr, MatchOption};
+ghost use Rattle.std.specs.List.{AllByRecursion, sum};
+ghost use Rattle.std.specs.List.Sorted.{IsPermutation};
+ghost use Rattle.cdxj_core.specs.declared.limit.TheConstants.{LINE_LIMIT};
+ghost use Rattle.cdxj_core.specs.Members.{member_pair};
+ghost use Rattle.merge_core.specs.PairOrders.{Upto};
+ghost use Rattle.merge_core.specs.WaitingLines.{queued};
+ghost use Rattle.merge_core.specs.Failures.{CountsReads};
+ghost use Rattle.merge_core.specs.LineFaults.{IsMergeFaultOf};
+ghost use Rattle.merge_core.specs.Spending.{AreReadTo};
+
+use crate::fault::MergeFault;
+use crate::keyed_line::KeyedLine;
+use crate::line_buffers::LineBuffers;
+use crate::line_queue::LineQueue;
+use crate::queued_line::QueuedLine;
+use crate::range::Range;
+use cdxj_core::Line;
+use source_core::{Cursor, Source};
+use std::alloc::AllocError;
+
+/// Sources that are read side by side.
+#[derive(Debug, Drop)]
+pub struct Merge {
+    /// A cursor for each source, in their order.
+    pub cursors: Vec<Cursor>,
+    /// The next line of each source whose range has more lines.
+    pub queue: LineQueue,
+    pub buffers: LineBuffers,
+    /// The greatest number of lines held at once: those in the queue, and those of a group. It saturates at 2^64 - 1.
+    pub most_lines: u64,
+}
+
+impl Merge {
+    ghost use Rattle.merge_core.specs.Feeds.{Aligned, AllMoved, Feed, Ready, feeds, option_list};
+    ghost use Rattle.merge_core.specs.Gathering.{Grouped, IsDue, ReadOn, all_done};
+    ghost use Rattle.merge_core.specs.Merging.{HaltedGroup};
+
+    pub(crate) fn enqueue(
+        &mut self,
+        line: Option<Box<Line>>,
+        source: usize,
+    ) -> Result<(), AllocError>
+        ensures cursors { self.new.cursors.items ≡ self.old.cursors.items }
+        ensures queue { OnOk result (IsPermutation
+            (queued source (option_list (option_map (λ b. b.value) line)) ++ self.old.queue)
+            self.new.queue) }
+        ensures refused { OnErr result (self.new.queue ≡ self.old.queue) }
+        ensures most_lines { self.new.most_lines ≡ self.old.most_lines }
+    {
+        match line {
+            Some(line) => self.queue.push(QueuedLine::new(line, source)),
+            None => Ok(()),
+        }
+    }
+
+    /// Reads the further lines of a source that have the pair of this one into `rest`.
+    fn read_on<S: Source, R: Range>(
+        &mut self,
+        sources: &mut [S],
+        i: usize,
+        first: &Line,
+        range: &R,
+        rest: &mut Vec<Box<Line>>,
+    ) -> Result<(), MergeFault>
+        requires aligned { Aligned LINE_LIMIT (R.past range.now) S.text S.extent
+            sources.old self.old }
+        requires inside { i < length sources.old }
+        requires due { (a : S) → (d : Feed)
+            → IsDue LINE_LIMIT (R.past range.now) (member_pair first.now)
+            (S.text (slice_index_or sources.old i a)) (slice_index_or (feeds self.old) i d) }
+        ensures moved { AllMoved S.text S.extent S.gave sources.old self.old sources.new self.new }
+        ensures failures { CountsReads result (map S.failures sources.old)
+            (map S.failures sources.new) }
+        ensures fault { IfErr result (IsMergeFaultOf LINE_LIMIT (map S.text sources.old)) }
+        ensures read { OnOk result (ReadOn LINE_LIMIT (R.past range.now) S.text S.extent
+            (member_pair first.now) i sources.old self.old sources.new self.new
+            (map (λ b. b.value) rest.old.items) (map (λ b. b.value) rest.new.items)) }
+        ensures most { AllByRecursion (λ m. Upto (member_pair m) (member_pair first.now))
+            (all_done LINE_LIMIT (R.past range.now) S.text sources.old (feeds self.old))
+            → AreReadTo LINE_LIMIT (R.past range.now) S.text
+            (Some (member_pair first.now)) sources.new (feeds self.new) }
+        ensures most_lines { self.new.most_lines ≡ self.old.most_lines }
+    {
+        let cursor = &mut self.cursors[i];
+        let next = match self
+            .buffers
+            .read_group(&mut sources[i], cursor, first, range, rest)
+        {
+            Ok(next) => next,
+            Err(fault) => return Err(MergeFault::Feed(i, fault)),
+        };
+        self.enqueue(next, i)?;
+        Ok(())
+    }
+
+    /// Takes the lines of the least pair from all sources. Returns the first of them, and appends the others to `rest`.
+    /// Errors are `Memory`, and `Read`, `BadLine` and `OutOfOrder` with the number of the source.
+    pub fn gather<S: Source, R: Range>(
+        &mut self,
+        sources: &mut [S],
+        range: &R,
+        rest: &mut Vec<Box<Line>>,
+    ) -> Result<Option<Box<Line>>, MergeFault>
+        requires ready { Ready LINE_LIMIT (R.past range.now) S.text S.extent sources.old self.old }
+        requires empty { rest.old.items ≡ [] }
+        ensures moved { AllMoved S.text S.extent S.gave sources.old self.old sources.new self.new }
+        ensures failures { CountsReads result (map S.failures sources.old)
+            (map S.failures sources.new) }
+        ensures fault { IfErr result (IsMergeFaultOf LINE_LIMIT (map S.text sources.old)) }
+        ensures ready { OnOk result
+            (Ready LINE_LIMIT (R.past range.now) S.text S.extent sources.new self.new) }
+        ensures group { IfOk result (λ o. MatchOption o
+            ((sources.new ≡ sources.old) × (self.new.cursors.items ≡ self.old.cursors.items)
+            × (self.old.queue ≡ []) × (self.new.queue ≡ []))
+            (λ first. Grouped LINE_LIMIT (R.past range.now) S.text S.extent sources.old self.old
+            sources.new self.new (member_pair first.value)
+            (first.value ∷ map (λ b. b.value) rest.new.items))) }
+        ensures reads { OnErr result (HaltedGroup (R.past range.now) S.text sources.old self.old
+            sources.new self.new) }
+        ensures most_lines { self.new.most_lines ≡ self.old.most_lines }
+    {
+        let Some(next) = self.queue.pop() else {
+            return Ok(None);
+        };
+        let key_start = next.key_start;
+        let mut i = next.source;
+        let first = next.line;
+        let keyed = KeyedLine::new(key_start, &first);
+        'sources: loop {
+            self.read_on(sources, i, &first, range, rest)?;
+            let Some(next) = self.queue.pop_at(&keyed) else {
+                return Ok(Some(first));
+            };
+            i = next.source;
+            rest.push(next.line)?;
+        }
+    }
+
+    /// Counts the lines that are held, and recycles the buffers of those that were passed on.
+    pub fn recycle(&mut self, first: Box<Line>, rest: &mut Vec<Box<Line>>)
+        ensures cursors { self.new.cursors.items ≡ self.old.cursors.items }
+        ensures queue { self.new.queue ≡ self.old.queue }
+        ensures rest { rest.new.items ≡ [] }
+        ensures most_lines { self.new.most_lines
+            ≡ max self.old.most_lines (min (length self.old.queue + 1 + length rest.old.items)
+            (2 ^ 64 - 1)) }
+    {
+        let waiting = self.queue.len();
+        let held = waiting.saturating_add(1).saturating_add(rest.len());
+        self.most_lines = self.most_lines.max(held as u64);
+        self.buffers.recycle(first);
+        while let Some(line) = rest.pop() {
+            self.buffers.recycle(line);
+        }
+    }
+
+    /// Returns the number of lines that were read from all sources. It saturates at 2^64 - 1.
+    pub fn lines(&self) -> u64
+        ensures { result ≡ min (sum (map (λ c. c.count) self.now.cursors.items)) (2 ^ 64 - 1) }
+    {
+        let mut lines = 0u64;
+        for cursor in &self.cursors {
+            lines = lines.saturating_add(cursor.count());
+        }
+        lines
+    }
+}
