@@ -107,6 +107,19 @@ def archive_times(program: pathlib.Path, folder: pathlib.Path) -> list[Size]:
     return found
 
 
+def cdx_times(program: pathlib.Path, folder: pathlib.Path) -> list[Size]:
+    """Processor time of converting an index to CDX and back, over that of sorting its lines."""
+    index, cdx = folder / "short.cdxj", folder / "short.cdx"
+    command = COMMANDS / "warcdx-cdx", "--warcdx", program
+    with open(cdx, "wb") as output:
+        subprocess.run((*command, "to", index), stdout=output, check=True)
+    sorting = "env", "LC_ALL=C", "sort", "--parallel=1", index
+    return [
+        Size("warcdx-cdx to over sort of the index", ratio((*command, "to", index), sorting), "times"),
+        Size("warcdx-cdx from over sort of the index", ratio((*command, "from", cdx), sorting), "times"),
+    ]
+
+
 def folder_sizes(program: pathlib.Path, folder: pathlib.Path) -> list[Size]:
     """What warcdx-update writes beside an index, over the index, and the memory of warcdx-gz."""
     archives, index = folder / "archives", folder / "all.cdxj"
@@ -130,7 +143,7 @@ def main() -> int:
     inputs = f"{CAPTURES:,} pages of 100 bytes, {LONG_CAPTURES:,} of {LONG_PAGE:,}"
     print(f"{machine()}; {inputs}; the least of {ROUNDS} rounds\n")
     with tempfile.TemporaryDirectory() as name:
-        parts: tuple[Callable[[pathlib.Path, pathlib.Path], list[Size]], ...] = (index_sizes, folder_sizes, archive_times)
+        parts: tuple[Callable[[pathlib.Path, pathlib.Path], list[Size]], ...] = (index_sizes, cdx_times, folder_sizes, archive_times)
         for part in parts:
             for size in part(program, pathlib.Path(name)):
                 print(size, flush=True)

@@ -145,7 +145,7 @@ class From(Cdx):
             (row(a="-"), "it has no URL"), (row(g="-"), "it has no file name"), (row(m=""), "a column is empty"),
             (row(a="http://a/\rb"), "the URL can't be indexed"),
             (row(a="http://a/" + "%" * (1 << 20)), "the URL has more than 1,048,576 bytes"),
-            (row(g="a b"), "it has 12 columns, and not 11"), (b"\n", "it has 1 columns, and not 11"),
+            (row(g="a b"), "it has 12 columns, and not 11"), (b"\n", "it has 1 column, and not 11"),
             (b" CDX" + b" x" * 65 + b"\n", "the header has more than 64 columns"),
             (b" " * (MOST - 1) + b"\n", "it has 16,777,216 columns, and not 11"),
             (b" CDX N b a\n", "the header hasn't the columns a, b, g, and V or v"),

@@ -176,11 +176,15 @@ def _rows(file: IO[bytes]) -> Iterator[_Row]:
         count = line.count(b" ") + 1
         if columns is None:
             if count not in _USUAL_LETTERS:
-                raise BadRow(number, f"it has {count:,} columns, and not 11 or 9; a header names other columns")
+                raise BadRow(number, f"it has {_columns(count)}, and not 11 or 9; a header names other columns")
             columns = _columns_of([bytes([letter]) for letter in _USUAL_LETTERS[count]], number)
         if count != columns.number_of_columns:
-            raise BadRow(number, f"it has {count:,} columns, and not {columns.number_of_columns}")
+            raise BadRow(number, f"it has {_columns(count)}, and not {columns.number_of_columns}")
         yield _row_of(line.split(b" "), columns, number)
+
+
+def _columns(count: int) -> str:
+    return "1 column" if count == 1 else f"{count:,} columns"
 
 
 def _line_of(file: IO[bytes]) -> bytes:

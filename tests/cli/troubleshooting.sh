@@ -256,7 +256,7 @@ prints "an index of it" "$(< response.cdxj)" from_cdx response.cdx
 
 row "\`line N\` of \`warcdx-cdx\`"
 sed '1a x' response.cdx > bad.cdx
-prints "a bad line" "warcdx-cdx: bad.cdx: line 2: it has 1 columns, and not 11" cdx from bad.cdx
+prints "a bad line" "warcdx-cdx: bad.cdx: line 2: it has 1 column, and not 11" cdx from bad.cdx
 sed 2d bad.cdx > good.cdx
 prints "without it" "$(< response.cdxj)" cdx from good.cdx
 
