@@ -20,7 +20,7 @@ unknown() { # WORD
 }
 
 no_offset() { # WORD
-    lines "error: invalid value '$1' for '<OFFSET>': an offset is 1 to 19 digits, below 2^63" "" \
+    lines "error: invalid value '$1' for '<OFFSET>': an offset is 1 to 19 digits, below 2^63, and precedes the archive" "" \
         "For more information, try '--help'."
 }
 
@@ -50,6 +50,21 @@ not_utf8() { # ARGUMENT
 
 misplaced() { # OPTION
     lines "error: unexpected option '$1'" "" "  tip: '--types TYPES' stands once, directly after 'index' or 'scan'" "" \
+        "For more information, try '--help'."
+}
+
+joined() { # OPTION
+    lines "error: unexpected option '$1'" "" "  tip: an option and its value are two arguments, as '--types response'" "" \
+        "For more information, try '--help'."
+}
+
+to_file() { # OPTION
+    lines "error: unexpected option '$1'" "" "  tip: the output is standard output: write '> FILE' behind the command" "" \
+        "For more information, try '--help'."
+}
+
+of_update() { # OPTION
+    lines "error: unexpected option '$1'" "" "  tip: 'warcdx-update' indexes folders, several archives at a time" "" \
         "For more information, try '--help'."
 }
 
@@ -127,9 +142,13 @@ check "--types behind a name"           "" "$(misplaced --types)"         2 inde
 check "--types twice"                   "" "$(misplaced --types)"         2 index --types metadata --types metadata m.warc
 check "--types before a command"        "" "$(misplaced --types)"         2 --types metadata index m.warc
 check "--types behind sizes"            "" "$(misplaced --types)"         2 scan 1 --types metadata url=a m.warc
-check "--types=metadata"                "" "$(misplaced --types=metadata)" 2 index --types=metadata m.warc
+check "--types=metadata"                "" "$(joined --types=metadata)"    2 index --types=metadata m.warc
 check "--types of another command"      "" "$(misplaced --types)"         2 list --types metadata m.warc
 check "--types of an option"            "" "$(unexpected -x)"              2 index --types -x m.warc
+check "-o"                              "" "$(to_file -o)"                 2 index -o m.cdxj m.warc
+check "--output"                        "" "$(to_file --output)"           2 index m.warc --output m.cdxj
+check "--jobs"                          "" "$(of_update --jobs)"           2 index --jobs 4 m.warc
+check "-r"                              "" "$(of_update -r)"               2 index -r folder
 check "--types behind -h"               "" "$(misplaced --types)"         2 index -h --types metadata m.warc
 for length in "" x +1 -1 1.5 0x10 9223372036854775808 00000000000000000001; do
     if [ "$length" = -1 ]; then continue; fi # an option
@@ -143,7 +162,7 @@ check "--length behind an offset"       "" "$(misplaced_length --length)"  2 get
 check "--length twice"                  "" "$(misplaced_length --length)"  2 get --length 5 --length 5 0 r.warc
 check "--length before a command"       "" "$(misplaced_length --length)"  2 --length 5 get 0 r.warc
 check "--length of another command"     "" "$(misplaced_length --length)"  2 list --length 5 r.warc
-check "--length=5"                      "" "$(misplaced_length --length=5)" 2 get --length=5 0 r.warc
+check "--length=5"                      "" "$(joined --length=5)"          2 get --length=5 0 r.warc
 check "--types of get"                  "" "$(misplaced --types)"          2 get --types metadata 0 r.warc
 check "--types alone"                   "" "$no_value"                     2 index --types
 check "--types without an archive"      "" "$no_typed"                     2 index --types metadata
@@ -158,7 +177,7 @@ check "--name behind sizes"             "" "$(misplaced_name --name)"      2 sca
 check "--name before a command"         "" "$(misplaced_name --name)"      2 --name a.warc index -
 check "--name of another command"       "" "$(misplaced_name --name)"      2 list --name a.warc -
 check "--name in the place of types"    "" "$(misplaced_name --name)"      2 index --types --name a.warc -
-check "--name=a.warc"                   "" "$(misplaced_name --name=a.warc)" 2 index --name=a.warc -
+check "--name=a.warc"                   "" "$(joined --name=a.warc)"       2 index --name=a.warc -
 check "--name of an option"             "" "$(misplaced_name --name)"      2 index --name -x -
 check "--name, then an option"          "" "$(unexpected -x)"              2 index --name a.warc -x -
 check "--name, then bad types"          "" "$(no_types all)"               2 index --name a.warc --types all -

@@ -323,20 +323,32 @@ check "scan: --types, a refused query"  "" "warcdx: query: BadUrl"         1 sca
 gzip --no-name --stdout r.warc > r.warc.gz
 gzip --no-name --stdout sorted.cdxj > sorted.cdxj.gz
 mkfifo pipe
+printf 'PK\003\004' > crawl.wacz
+printf ' CDX N b a m s k r M S V g\n' > crawl.cdx
+printf '\357\273\277%s' "$(< r.warc)" > marked.warc
+printf '\357\273\277' | cat - sorted.cdxj > marked.cdxj
+echo text > forged
 advises "why: no such file"         "No such file or directory (os error 2)"                            3 index missing
 advises "why: an archive of gzip"   "It is compressed by gzip: warcdx-gz indexes .warc.gz files."       1 index r.warc.gz
-advises "why: not a WARC file"      "No record begins there: its first line isn't WARC/1.0 or WARC/1.1." 1 index sorted.cdxj
+advises "why: not a WARC file"      "No record begins there: its first line isn't WARC/1.0 or WARC/1.1." 1 index forged
+advises "why: an index as an archive" "It seems to be an index: warcdx query reads indexes."              1 index sorted.cdxj
+advises "why: a ZIP file"           "It is a ZIP file, as a WACZ file is: unpack it, and index the WARC files in it." 1 index crawl.wacz
+advises "why: a CDX file"           "It is a CDX file: warcdx-cdx converts it to an index."             1 index crawl.cdx
+advises "why: a byte order mark"    "It begins with a byte order mark: remove its first 3 bytes."       1 index marked.warc
 advises "why: a folder"             "It is a folder: warcdx-update indexes the archives of a folder."   3 index folder
 advises "why: a cut archive"        "The archive ends within a record's header."                        1 index torn.warc
 advises "why: a file name twice"    "Another archive has this file name: rename one of them."           1 index r.warc folder/r.warc
 advises "why: no record"            "No record begins at this offset, or it has another length."        1 get 1 r.warc
 advises "why: a folder as an index" "It is a folder."                                                   3 check folder
 advises "why: an index of gzip"     "It is compressed by gzip: decompress it first."                    1 check sorted.cdxj.gz
-advises "why: a bad line"           "The line that begins there isn't one of a CDXJ index."             1 check r.warc
+advises "why: a bad line"           "The line that begins there isn't one of a CDXJ index."             1 check forged
+advises "why: a WARC file as an index" "It is a WARC file: warcdx index makes an index of it."          1 check r.warc
+advises "why: a CDX file as an index" "It is a CDX file: warcdx-cdx converts it to an index."           1 query url=a crawl.cdx
+advises "why: a byte order mark before an index" "The index begins with a byte order mark: remove its first 3 bytes." 1 check marked.cdxj
 advises "why: a falling index"      "The index isn't in order: LC_ALL=C sort puts its lines in order."  1 check falling.cdxj
 advises "why: 1,025 indexes"        "At most 1024 files are taken: merge the indexes of some of them first." 1 merge "${too_many[@]}"
-advises "why: an unknown parameter" "A parameter is unknown. They are url, key, matchType, from, to, filter, is, isnot, has, hasnot, limit, \
-resumeKey, showResumeKey, fl, output and collapse." 1 query "url=a&page=0" sorted.cdxj
+advises "why: an unknown parameter" "'page' isn't a parameter. The parameters are url, key, matchType, from, to, filter, is, isnot, has, hasnot, \
+limit, resumeKey, showResumeKey, fl, output and collapse. warcdx-gateway has others too." 1 query "url=a&page=0" sorted.cdxj
 advises "why: a pattern" "filter takes a literal text, without \\ ^ \$ . | ? * + ( ) [ ] { }. For a part of a value, write has=FIELD:TEXT." \
     1 query "url=a&filter=statuscode:2.." sorted.cdxj
 advises "why: no url"               "A query has a url or a key, such as url=example.com."              1 query "" sorted.cdxj

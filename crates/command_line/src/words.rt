@@ -233,7 +233,9 @@ fn unexpected(alloc: Global, option: &str) -> WordsFault
 }
 
 fn tip_for(option: &str) -> &'static str {
-    if option.starts_with("--types") {
+    if has_value(option) {
+        "an option and its value are two arguments, as '--types response'"
+    } else if option.starts_with("--types") {
         "'--types TYPES' stands once, directly after 'index' or 'scan'"
     } else if option.starts_with("--length") {
         "'--length LENGTH' stands once, directly after 'get'"
@@ -241,9 +243,18 @@ fn tip_for(option: &str) -> &'static str {
         "'--name NAME' stands once, directly after 'index', 'scan' or their '--types TYPES'"
     } else if option == "--version" || option == "-V" {
         "'--version' is the only argument"
+    } else if option == "-o" || option == "--output" {
+        "the output is standard output: write '> FILE' behind the command"
+    } else if matches!(option, "-j" | "--jobs" | "-r" | "--recursive") {
+        "'warcdx-update' indexes folders, several archives at a time"
     } else {
         "a file whose name begins with '-' is written './-name'"
     }
+}
+
+/// Returns `true` for an option that takes a value and has it behind `=`.
+fn has_value(option: &str) -> bool {
+    option.starts_with("--types=") || option.starts_with("--name=") || option.starts_with("--length=")
 }
 
 /// Returns the usage error for types, sizes, a length or an offset. clap accepts any argument for them; the texts are in its
@@ -316,7 +327,7 @@ fn no_offset(alloc: Global, word: &str) -> WordsFault
     ensures { IsUsage result }
 {
     usage(format!(in alloc;
-        "error: invalid value '{word}' for '<OFFSET>': an offset is 1 to 19 digits, below 2^63\n\n\
+        "error: invalid value '{word}' for '<OFFSET>': an offset is 1 to 19 digits, below 2^63, and precedes the archive\n\n\
          For more information, try '--help'.\n"
     ))
 }

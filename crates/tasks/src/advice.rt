@@ -1,23 +1,45 @@
 //! The second line of a message on standard error: why, and what to do.
+use crate::file_kind::{FileKind, file_kind, is_file, is_folder};
 use crate::outcome::Outcome;
 use capture_core::CaptureFault;
 use index_core::IndexFault;
 use query_core::{AnswerFault, QueryFault};
-use std::fs::{self, File};
-use std::io::Read;
 use std::rt::Runtime;
 use warc_core::Cause;
 
-/// The bytes with which a file begins that gzip has compressed (RFC 1952, section 2.3.1).
-const GZIP: [u8; 2] = [0x1f, 0x8b];
+const BAD_LINE: &str = "The line that begins there isn't one of a CDXJ index.";
+
+/// Returns the first name in a query text that isn't that of a parameter, if it has one.
+pub fn unknown_parameter(text: &str) -> Option<&str> {
+    text.split('&')
+        .map(parameter_name)
+        .find(|name| !is_parameter(name))
+}
+
+fn parameter_name(piece: &str) -> &str {
+    match piece.split_once('=') {
+        Some((name, _value)) => name,
+        None => piece,
+    }
+}
+
+/// Returns `true` for the name of a parameter, and for the empty text between two `&`.
+fn is_parameter(name: &str) -> bool {
+    match name {
+        "" | "url" | "key" | "matchType" | "from" | "to" | "filter" | "is" | "isnot" | "has" =>
+            true,
+        "hasnot" | "limit" | "resumeKey" | "showResumeKey" | "fl" | "output" | "collapse" => true,
+        _ => false,
+    }
+}
 
 /// Returns which parameter of a query is refused, and what it takes.
 pub fn query_advice(fault: QueryFault) -> &'static str {
     match fault {
         QueryFault::Memory => "There is no memory for the query.",
         QueryFault::Unknown => {
-            "A parameter is unknown. They are url, key, matchType, from, to, filter, is, isnot, has, hasnot, limit, \
-             resumeKey, showResumeKey, fl, output and collapse."
+            "The parameters are url, key, matchType, from, to, filter, is, isnot, has, hasnot, limit, resumeKey, \
+             showResumeKey, fl, output and collapse. warcdx-gateway has others too."
         }
         QueryFault::RepeatedParameter => {
             "A parameter is given twice. Only filter, is, isnot, has and hasnot may be repeated."
@@ -53,9 +75,7 @@ pub fn query_advice(fault: QueryFault) -> &'static str {
 pub fn archive_advice<R: Runtime>(rt: &R, name: &str, fault: CaptureFault) -> &'static str {
     match fault {
         CaptureFault::Archive(fault) => match fault.cause {
-            Cause::Version if fault.offset == 0 && is_gzip(rt, name) => {
-                "It is compressed by gzip: warcdx-gz indexes .warc.gz files."
-            }
+            Cause::Version if fault.offset == 0 => no_archive_advice(file_kind(rt, name)),
             Cause::Read if is_folder(rt, name) => {
                 "It is a folder: warcdx-update indexes the archives of a folder."
             }
@@ -65,6 +85,20 @@ pub fn archive_advice<R: Runtime>(rt: &R, name: &str, fault: CaptureFault) -> &'
         CaptureFault::LineTooLong(_offset) => {
             "The line of the record's capture would have more than 16777216 bytes."
         }
+    }
+}
+
+/// Returns what a file is that doesn't begin with a record, and what reads it.
+fn no_archive_advice(kind: FileKind) -> &'static str {
+    match kind {
+        FileKind::Gzip => "It is compressed by gzip: warcdx-gz indexes .warc.gz files.",
+        FileKind::Zip => {
+            "It is a ZIP file, as a WACZ file is: unpack it, and index the WARC files in it."
+        }
+        FileKind::Cdx => "It is a CDX file: warcdx-cdx converts it to an index.",
+        FileKind::ByteOrderMark => "It begins with a byte order mark: remove its first 3 bytes.",
+        FileKind::Index => "It seems to be an index: warcdx query reads indexes.",
+        FileKind::Warc | FileKind::Other => cause_advice(Cause::Version),
     }
 }
 
@@ -109,16 +143,30 @@ pub fn index_advice<R: Runtime>(rt: &R, name: &str, fault: IndexFault) -> Option
 pub fn answer_advice<R: Runtime>(rt: &R, name: &str, fault: AnswerFault) -> Option<&'static str> {
     match fault {
         AnswerFault::Read(_source) => Some(unread_advice(rt, name)),
-        AnswerFault::BadLine(_source, 0) if is_gzip(rt, name) => {
-            Some("It is compressed by gzip: decompress it first.")
-        }
-        AnswerFault::BadLine(_source, _offset) => {
-            Some("The line that begins there isn't one of a CDXJ index.")
-        }
-        AnswerFault::OutOfOrder(_source, _offset) => {
-            Some("The index isn't in order: LC_ALL=C sort puts its lines in order.")
-        }
+        AnswerFault::BadLine(_source, 0) => Some(no_index_advice(file_kind(rt, name))),
+        AnswerFault::BadLine(_source, _offset) => Some(BAD_LINE),
+        AnswerFault::OutOfOrder(_source, _offset) => Some(order_advice(file_kind(rt, name))),
         _ => None,
+    }
+}
+
+/// Returns what a file is that doesn't begin with a line of an index, and what to do.
+fn no_index_advice(kind: FileKind) -> &'static str {
+    match kind {
+        FileKind::Gzip => "It is compressed by gzip: decompress it first.",
+        FileKind::Warc => "It is a WARC file: warcdx index makes an index of it.",
+        FileKind::Cdx => "It is a CDX file: warcdx-cdx converts it to an index.",
+        FileKind::Zip | FileKind::ByteOrderMark | FileKind::Index | FileKind::Other => BAD_LINE,
+    }
+}
+
+/// Returns why an index isn't in order, and what to do.
+fn order_advice(kind: FileKind) -> &'static str {
+    match kind {
+        FileKind::ByteOrderMark => {
+            "The index begins with a byte order mark: remove its first 3 bytes."
+        }
+        _ => "The index isn't in order: LC_ALL=C sort puts its lines in order.",
     }
 }
 
@@ -141,32 +189,5 @@ pub fn unread_advice<R: Runtime>(rt: &R, name: &str) -> &'static str {
         "The file is shorter than it was, or can't be read."
     } else {
         "An index is a file, because it is searched: write what a pipe has to a file first."
-    }
-}
-
-/// Returns `true` if the file of this name begins as gzip writes it. Only a file is opened, because a pipe would be
-/// waited for.
-fn is_gzip<R: Runtime>(rt: &R, name: &str) -> bool {
-    if !is_file(rt, name) {
-        return false;
-    }
-    let mut front = [0; 2];
-    match File::open(rt, name) {
-        Ok(mut file) => matches!(file.read(&mut front), Ok(2)) && front == GZIP,
-        Err(_error) => false,
-    }
-}
-
-fn is_file<R: Runtime>(rt: &R, name: &str) -> bool {
-    match fs::metadata(rt, name) {
-        Ok(metadata) => metadata.is_file(),
-        Err(_error) => false,
-    }
-}
-
-fn is_folder<R: Runtime>(rt: &R, name: &str) -> bool {
-    match fs::metadata(rt, name) {
-        Ok(metadata) => metadata.is_dir(),
-        Err(_error) => false,
     }
 }

@@ -2,7 +2,7 @@
 ghost use Rattle.std.specs.Prelude.{◌≡◌};
 ghost use Rattle.tasks.specs.Outcome.{outcome_of};
 
-use crate::advice::{answer_advice, index_advice, query_advice};
+use crate::advice::{answer_advice, index_advice, query_advice, unknown_parameter};
 use crate::outcome::{Outcome, outcome_of};
 use index_core::IndexFault;
 use query_core::{AnswerFault, QueryFault};
@@ -43,11 +43,23 @@ pub fn say_advice<R: Runtime>(rt: &R, advice: Option<&str>) {
 }
 
 /// Reports why a query is refused. Memory is reported at the command's end.
-pub fn say_query_fault<R: Runtime>(rt: &R, fault: QueryFault) {
+fn say_query_fault<R: Runtime>(rt: &R, fault: QueryFault) {
     if fault != QueryFault::Memory {
         let cause = fault.name();
         let _ = eprintln!(rt; "warcdx: query: {cause}");
         say_advice(rt, Some(query_advice(fault)));
+    }
+}
+
+/// Reports why a query of this text is refused, with the name that isn't that of a parameter.
+pub fn say_refusal<R: Runtime>(rt: &R, text: &str, fault: QueryFault) {
+    match unknown_parameter(text) {
+        Some(name) if fault == QueryFault::Unknown => {
+            let (cause, advice) = (fault.name(), query_advice(fault));
+            let _ = eprintln!(rt; "warcdx: query: {cause}");
+            let _ = eprintln!(rt; "  '{name}' isn't a parameter. {advice}");
+        }
+        _ => say_query_fault(rt, fault),
     }
 }
 

@@ -11,6 +11,7 @@ mod each;
 mod exit_status;
 mod faults;
 mod fetching;
+mod file_kind;
 mod indexing;
 mod merging;
 mod opening;

@@ -5,7 +5,7 @@ ghost use Rattle.tasks.specs.Opening.{OpensFirst, AreUnopenedIndexes};
 ghost use Rattle.tasks.specs.Queries.{AnswersPages, AnswersQuery, ReadsFirst, ReadsQuery};
 ghost use Rattle.tasks.specs.Writes.{CountsWrites};
 
-use crate::faults::{say_query_fault, say_source_fault};
+use crate::faults::{say_refusal, say_source_fault};
 use crate::opening::{Opener, open_indexes};
 use crate::outcome::Outcome;
 use query_core::{Query, Source, answer, pages};
@@ -106,7 +106,7 @@ pub fn read_query<R: Runtime + AllocGlobal>(rt: &R, text: &str) -> Result<Query,
     match Query::read(rt.alloc(), text) {
         Ok(query) => Ok(query),
         Err(fault) => {
-            say_query_fault(rt, fault);
+            say_refusal(rt, text, fault);
             Err(Outcome::Query(fault))
         }
     }

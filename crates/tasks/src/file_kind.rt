@@ -1,0 +1,81 @@
+//! What a file seems to be, for messages.
+use std::fs::{self, File};
+use std::io::Read;
+use std::rt::Runtime;
+
+/// How many bytes of a file decide.
+const FRONT: usize = 512;
+
+/// What a file seems to be, by the bytes with which it begins.
+#[derive(Clone, Copy, Debug, Drop, PartialEq, Eq)]
+pub enum FileKind {
+    /// A file that gzip has compressed (RFC 1952, section 2.3.1).
+    Gzip,
+    /// A ZIP file, as WACZ files are.
+    Zip,
+    /// A WARC file.
+    Warc,
+    /// A CDX file with a header.
+    Cdx,
+    /// A text after a byte order mark in UTF-8.
+    ByteOrderMark,
+    /// A CDXJ index.
+    Index,
+    /// A file of none of these kinds, or what isn't a file, or can't be read.
+    Other,
+}
+
+/// Returns the kind of the file of this name. Only a file is opened, because a pipe would be waited for.
+pub fn file_kind<R: Runtime>(rt: &R, name: &str) -> FileKind {
+    if !is_file(rt, name) {
+        return FileKind::Other;
+    }
+    match File::open(rt, name) {
+        Ok(mut file) => opened_kind(&mut file),
+        Err(_error) => FileKind::Other,
+    }
+}
+
+fn opened_kind<F: Read>(file: &mut F) -> FileKind {
+    let mut front = [0; FRONT];
+    match file.read(&mut front) {
+        Ok(count) => kind_of(front.get(..count).unwrap_or(&front)),
+        Err(_error) => FileKind::Other,
+    }
+}
+
+fn kind_of(front: &[u8]) -> FileKind {
+    match front {
+        [0x1f, 0x8b, ..] => FileKind::Gzip,
+        [b'P', b'K', 3, 4, ..] => FileKind::Zip,
+        [b'W', b'A', b'R', b'C', b'/', ..] => FileKind::Warc,
+        [b' ', b'C', b'D', b'X', b' ', ..] => FileKind::Cdx,
+        [0xef, 0xbb, 0xbf, ..] => FileKind::ByteOrderMark,
+        _ if has_object(front) => FileKind::Index,
+        _ => FileKind::Other,
+    }
+}
+
+/// Returns `true` if a JSON object begins after a space, as in a line of CDXJ.
+fn has_object(front: &[u8]) -> bool {
+    match str::from_utf8(front) {
+        Ok(text) => text.contains(" {\""),
+        Err(_error) => false,
+    }
+}
+
+/// Returns `true` if the name is that of a regular file.
+pub fn is_file<R: Runtime>(rt: &R, name: &str) -> bool {
+    match fs::metadata(rt, name) {
+        Ok(metadata) => metadata.is_file(),
+        Err(_error) => false,
+    }
+}
+
+/// Returns `true` if the name is that of a folder.
+pub fn is_folder<R: Runtime>(rt: &R, name: &str) -> bool {
+    match fs::metadata(rt, name) {
+        Ok(metadata) => metadata.is_dir(),
+        Err(_error) => false,
+    }
+}
