@@ -2,10 +2,11 @@
 use Rattle.std.specs.List.{AllZip, AllByRecursion}
 use Rattle.std.proofs.Common.{◌≡◌, ◌≢◌, ℕ, zero, suc, ◌+◌, ◌-◌, ◌<◌, ◌≤◌, List, [], ◌∷◌, ◌++◌, length, map, get_or, set}
 use Rattle.std.proofs.Common.{take, Bool, true, Option, None, Some, MatchOption, option_map, refl, sym, ap}
-use Rattle.std.proofs.Common.{◌∙◌, arith, length-set, length-append, append-nil, take_all}
+use Rattle.std.proofs.Common.{inl, inr, ◌∙◌, arith, length-set, length-append, append-nil, take_all}
 use Rattle.std.specs.List.Sorted.{IsPermutation}
 use Rattle.std.proofs.lemmas.Bool.{not-true}
 use Rattle.std.proofs.lemmas.List.{get_or_default, nil_from_length, set-get_or, length-map}
+use Rattle.std.proofs.lemmas.List.Elements.{filter-append}
 use Rattle.std.proofs.lemmas.List.Sorted.{length_permutation}
 use Rattle.cdxj_places.specs.Pairs.{Pair}
 use Rattle.cdxj_core.specs.Members.{Member}
@@ -15,7 +16,7 @@ use Rattle.merge_core.specs.WaitingLines.{WaitingLine, queued, waiting_pair, wai
 use Rattle.merge_core.specs.Feeds.{Aligned, AreFed, Fed, Feed, done, feed_of, feeds, feeds_from, given, option_list, stays}
 use Rattle.merge_core.specs.Gathering.{IsDue, TookOf}
 use Rattle.merge_core.specs.PairOrders.{Alike}
-use Rattle.merge_core.proofs.FeedLemmas.{done_all}
+use Rattle.merge_core.proofs.FeedLemmas.{filter_passes}
 use Rattle.merge_core.proofs.GroupLemmas.{filter_all}
 use Rattle.cdxj_places.proofs.RisingLaws.{each_join}
 use Rattle.merge_core.proofs.HeapLemmas.{each_permuted, waits_beside, waits_here, waits_other, waits_permuted, waits_queued}
@@ -153,24 +154,20 @@ idle f = feed_of f.cursor []
 module _ {limit : ℕ} {past : List ℕ → Bool} {text : Option (List ℕ)} {extent : ℕ} {f : Feed} {m : Member}
     (fed : Fed limit past text extent f) (one : f.waits ≡ m ∷ []) where
   module _ (t : List ℕ) (e : text ≡ Some t) where
-    its_front : AllByRecursion (λ m. stays past m ≡ true) (take (f.cursor.count - 1) (given limit t f.cursor))
-    its_front = (fed.told t e).within
-
-    its_last : given limit t f.cursor ≡ take (f.cursor.count - 1) (given limit t f.cursor) ++ m ∷ []
-    its_last = rw one at (fed.told t e).last
-
-    its_stays : stays past m ≡ true
-    its_stays = (rw one at (fed.told t e).waiting).0
-
-    all_stay : AllByRecursion (λ m. stays past m ≡ true) (given limit t f.cursor)
-    all_stay = rw its_last (each_join (λ m. stays past m ≡ true) _ (m ∷ []) its_front (its_stays, tt))
-
-    done_front : done limit past t f ≡ take (f.cursor.count - 1) (given limit t f.cursor)
-    done_front = rw one (filter_all (stays past) _ its_front)
+    its_last : (given limit t f.cursor ≡ done limit past t f ++ m ∷ []) × (stays past m ≡ true)
+    its_last = elim (fed.told t e).last [
+      | inl k ↦ (k.0 ∙ ap (λ l. done limit past t f ++ l) one, (rw one at k.1).0)
+      | inr k ↦ let none = k.0 in absurd (cc)
+    ]
 
     -- then it counts as taken
     done_idle : done limit past t (idle f) ≡ done limit past t f ++ m ∷ []
-    done_idle = done_all limit past t f.cursor (fed.told t e).as_many all_stay ∙ its_last ∙ ap (λ l. l ++ m ∷ []) (sym done_front)
+    done_idle =
+        let its = its_last in
+        let front = filter_all (stays past) (done limit past t f) (filter_passes (stays past) _) in
+        let whole = take_all f.cursor.count (given limit t f.cursor)
+        (let long = (fed.told t e).as_many in grind (arith, length-map)) in
+        grind (arith, filter-append)
 
   fed_idle : Fed limit past text extent (idle f)
   fed_idle = record {
@@ -179,15 +176,12 @@ module _ {limit : ℕ} {past : List ℕ → Bool} {text : Option (List ℕ)} {ex
     counted = omega arith;
     told = λ t e.
         let was = fed.told t e in
-        let whole = take_all f.cursor.count (given limit t f.cursor) (grind (arith, length-map)) in
         record {
           begins = was.begins;
           stood = was.stood;
           as_many = was.as_many;
           run = was.run;
-          last = grind (arith, append-nil);
-          within = was.within;
-          waiting = tt;
+          last = inl (rw (done_idle t e) ((its_last t e).0 ∙ sym (append-nil _)), tt);
         };
   }
 
@@ -296,7 +290,8 @@ module _ {limit : ℕ} {past : List ℕ → Bool} {S : Type 0} {text : S → Opt
     none = refl;
     last = λ t e.
         let fed = fed_at was w.source a b inside_sources in
-        (_, w.member, its_last fed (its_one b) t e, at, not-true _ (its_stays fed (its_one b) t e));
+        let its = its_last fed (its_one b) t e in
+        (_, w.member, its.0, at, not-true _ its.1);
   }
 
 -- the lines of a source with the pair of a group were taken, and the next one waits

@@ -65,16 +65,16 @@ module _ (limit : ℕ) where
     abbrev pub done : List ℕ → Feed → List Member
     done text f = filter (stays past) (take (f.cursor.count - length f.waits) (given text f.cursor))
 
-    -- What is known of a source with this text. The lines that wait are the last that were read. No line lies past the
-    -- range but the last, where it doesn't wait.
+    -- What is known of a source with this text: its lines that were read are those that were taken and those that wait,
+    -- or the last of them lies past the range.
     pub record FedOf (text : List ℕ) (f : Feed) : Type 0 where
       pub begins : (before : List (List ℕ)) × BeginsAfter text f.cursor.start before
       pub stood : f.cursor.at ≤ f.cursor.start + bytes_of (read_lines text f.cursor)
       pub as_many : length (read_lines text f.cursor) ≡ f.cursor.count
       pub run : IsRun limit (read_lines text f.cursor) (given text f.cursor)
-      pub last : given text f.cursor ≡ take (f.cursor.count - length f.waits) (given text f.cursor) ++ f.waits
-      pub within : AllByRecursion (λ m. stays past m ≡ true) (take (f.cursor.count - 1) (given text f.cursor))
-      pub waiting : AllByRecursion (λ m. stays past m ≡ true) f.waits
+      pub last : ((given text f.cursor ≡ done text f ++ f.waits) × AllByRecursion (λ m. stays past m ≡ true) f.waits)
+          ⊎ ((f.waits ≡ []) × (m : Member) × (given text f.cursor ≡ done text f ++ m ∷ [])
+          × (past m.values.key ≡ true))
 
     -- what holds of a feed beside its source
     pub record Fed (text : Option (List ℕ)) (extent : ℕ) (f : Feed) : Type 0 where
