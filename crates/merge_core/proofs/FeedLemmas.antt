@@ -1,7 +1,7 @@
 -- What one line more makes of a feed.
 use Rattle.std.proofs.lemmas.List.{map-append, drop_all, length-map}
-use Rattle.std.proofs.Common.{true, ◌⊎◌, inl, inr, ◌≡◌, ℕ, zero, suc, ◌+◌, ◌-◌, ◌≤◌, List, [], ◌∷◌, ◌++◌, length, refl}
-use Rattle.std.proofs.Common.{sym, ◌∙◌, arith, Bool, false, filter, ap, take_all, take_at, length-drop}
+use Rattle.std.proofs.Common.{true, ◌⊎◌, inl, inr, ◌≡◌, ℕ, suc, ◌+◌, ◌-◌, ◌≤◌, List, [], ◌∷◌, ◌++◌, length, refl}
+use Rattle.std.proofs.Common.{sym, ◌∙◌, arith, Bool, false, filter, ap, take_all, take_at}
 use Rattle.std.proofs.Common.{Option, Some, None, take, drop, map, append-nil, length-append, ◌<◌, length-take}
 use Rattle.std.proofs.Common.{append_assoc, take-append-drop}
 use Rattle.std.proofs.lemmas.List.Elements.{filter-append}

@@ -1,7 +1,7 @@
 -- The steps of a group's gathering.
 use Rattle.std.specs.List.{AllZip, AllByRecursion}
 use Rattle.std.proofs.Common.{◌≡◌, ℕ, ◌+◌, ◌<◌, ◌≤◌, List, [], ◌∷◌, ◌++◌, length, get_or, set, drop, zip, flat_map}
-use Rattle.std.proofs.Common.{Bool, true, false, is_lt, Option, refl, sym, append_assoc, append-nil, arith, length-set}
+use Rattle.std.proofs.Common.{Bool, true, false, is_lt, Option, sym, append_assoc, append-nil, arith, length-set}
 use Rattle.std.specs.List.Sorted.{IsPermutation}
 use Rattle.std.specs.Option.{is_some}
 use Rattle.std.proofs.lemmas.List.{set-set, set-get_or, get_or-set_same}

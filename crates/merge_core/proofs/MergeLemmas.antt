@@ -1,5 +1,5 @@
 -- One group more of a merge.
-use Rattle.std.proofs.Common.{arith, ◌≡◌, ℕ, Result, inl, IsErrAnd, OnErr, List, [], ◌∷◌, ◌++◌, length}
+use Rattle.std.proofs.Common.{arith, ◌≡◌, ℕ, Result, inl, IsErrAnd, OnErr, List, [], ◌∷◌, ◌++◌}
 use Rattle.std.proofs.Common.{Bool, Option, Some, None, true, Less, Ordering, is_lt, is_gt}
 use Rattle.std.specs.List.{AllByRecursion}
 use Rattle.cdxj_places.specs.Pairs.{Pair}

@@ -1,9 +1,9 @@
 -- The lines of one source that were come to, among all that it has from its start on.
 use Rattle.std.proofs.Common.{arith, ◌≡◌, ℕ, List, [], ◌∷◌, ◌++◌, refl, sym, ap, ◌∙◌, Bool, true, false, not, ◌&&◌}
-use Rattle.std.proofs.Common.{inl, inr, ◌-◌, length, Some, take, drop, map, filter, append-nil, append_assoc, take-append-drop, is_gt}
+use Rattle.std.proofs.Common.{inl, inr, Some, take, drop, map, filter, append-nil, append_assoc, take-append-drop, is_gt}
 use Rattle.std.proofs.lemmas.List.{take-map, drop-map}
 use Rattle.std.specs.List.{AllByRecursion}
-use Rattle.merge_core.proofs.Filters.{each_both, filter_out}
+use Rattle.merge_core.proofs.Filters.{each_both}
 use Rattle.merge_core.proofs.FeedLemmas.{filter_passes}
 use Rattle.std.specs.Ordering.{nat_cmp}
 use Rattle.std.specs.Cmp.Lexicographic.{slice_cmp}

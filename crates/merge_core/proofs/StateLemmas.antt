@@ -1,7 +1,7 @@
 -- Sources and the feeds of a merge, while lines wait.
 use Rattle.std.specs.List.{AllZip, AllByRecursion}
-use Rattle.std.proofs.Common.{◌≡◌, ◌≢◌, ℕ, zero, suc, ◌+◌, ◌-◌, ◌<◌, ◌≤◌, List, [], ◌∷◌, ◌++◌, length, map, get_or, set}
-use Rattle.std.proofs.Common.{take, Bool, true, Option, None, Some, MatchOption, option_map, refl, sym, ap}
+use Rattle.std.proofs.Common.{◌≡◌, ◌≢◌, ℕ, zero, suc, ◌+◌, ◌<◌, ◌≤◌, List, [], ◌∷◌, ◌++◌, length, map, get_or, set}
+use Rattle.std.proofs.Common.{Bool, true, Option, Some, refl, sym, ap}
 use Rattle.std.proofs.Common.{inl, inr, ◌∙◌, arith, length-set, length-append, append-nil, take_all}
 use Rattle.std.specs.List.Sorted.{IsPermutation}
 use Rattle.std.proofs.lemmas.Bool.{not-true}
@@ -13,7 +13,7 @@ use Rattle.cdxj_core.specs.Members.{Member}
 use Rattle.source_core.specs.Cursors.{CursorState}
 use Rattle.merge_core.specs.declared.state.Merge.{Merge}
 use Rattle.merge_core.specs.WaitingLines.{WaitingLine, queued, waiting_pair, waits_of}
-use Rattle.merge_core.specs.Feeds.{Aligned, AreFed, Fed, Feed, done, feed_of, feeds, feeds_from, given, option_list, stays}
+use Rattle.merge_core.specs.Feeds.{Aligned, AreFed, Fed, Feed, done, feed_of, feeds, feeds_from, given, stays}
 use Rattle.merge_core.specs.Gathering.{IsDue, TookOf}
 use Rattle.merge_core.specs.PairOrders.{Alike}
 use Rattle.merge_core.proofs.FeedLemmas.{filter_passes}

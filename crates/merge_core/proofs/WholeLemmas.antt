@@ -1,12 +1,12 @@
 -- Sources of which all lines were read: each that tells its bytes is an index, and all its lines are done.
 use Rattle.std.specs.List.{AllZip, AllByRecursion}
 use Rattle.std.proofs.Common.{◌≡◌, ℕ, List, [], ◌∷◌, length, map, Bool, false, true, Option, Some}
-use Rattle.std.proofs.Common.{◌++◌, append-nil, refl, not, sym, drop, inl, inr, flat_map, zip, ap, ◌∙◌, arith, length-drop}
+use Rattle.std.proofs.Common.{◌++◌, append-nil, refl, sym, drop, inl, inr, flat_map, zip, ap, ◌∙◌, arith, length-drop}
 use Rattle.std.specs.Option.{is_some}
 use Rattle.std.proofs.lemmas.List.{nil_from_length, take_all}
 use Rattle.cdxj_core.specs.Members.{Member}
 use Rattle.cdxj_core.specs.Indexes.{IsIndex}
-use Rattle.merge_core.specs.Feeds.{AllMoved, AreFed, AreSettled, Fed, Feed, IsSettled, done, feeds, given, stays}
+use Rattle.merge_core.specs.Feeds.{AllMoved, AreFed, AreSettled, Fed, Feed, IsSettled, done, feeds, given}
 use Rattle.merge_core.specs.Gathering.{text_or, all_done}
 use Rattle.merge_core.specs.declared.state.Merge.{Merge}
 use Rattle.merge_core.specs.Collections.{KeepsSources}
