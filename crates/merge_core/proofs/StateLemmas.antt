@@ -11,7 +11,7 @@ use Rattle.std.proofs.lemmas.List.Sorted.{length_permutation}
 use Rattle.cdxj_places.specs.Pairs.{Pair}
 use Rattle.cdxj_core.specs.Members.{Member}
 use Rattle.source_core.specs.Cursors.{CursorState}
-use Rattle.merge_core.specs.declared.state.Merge.{Merge}
+use Rattle.merge_core.specs.declared.state.MergeState.{MergeState}
 use Rattle.merge_core.specs.WaitingLines.{WaitingLine, queued, waiting_pair, waits_of}
 use Rattle.merge_core.specs.Feeds.{Aligned, AreFed, Fed, Feed, done, feed_of, feeds, feeds_from, given, stays}
 use Rattle.merge_core.specs.Gathering.{IsDue, TookOf}
@@ -188,7 +188,7 @@ module _ {limit : ℕ} {past : List ℕ → Bool} {text : Option (List ℕ)} {ex
 -- ---- all sources
 
 module _ {limit : ℕ} {past : List ℕ → Bool} {S : Type 0} {text : S → Option (List ℕ)} {extent : S → ℕ} {ss : List S}
-    {m : Merge} (was : Aligned limit past text extent ss m) where
+    {m : MergeState} (was : Aligned limit past text extent ss m) where
   pub long_of : length ss ≡ length (feeds m)
   long_of = let same = was.same in grind (arith, feeds_long)
 
@@ -210,7 +210,7 @@ module _ {limit : ℕ} {past : List ℕ → Bool} {S : Type 0} {text : S → Opt
       let b : Feed = feed_of (any_of m.cursors.items i (let same = was.same in omega arith)) [] in
       rw (waits_at i b l) at (fed_at i (any_of ss i l) b l).few
 
-  pub aligned_set : (i : ℕ) (s : S) (f : Feed) (m' : Merge) → feeds m' ≡ set (feeds m) i f
+  pub aligned_set : (i : ℕ) (s : S) (f : Feed) (m' : MergeState) → feeds m' ≡ set (feeds m) i f
       → length m'.cursors.items ≡ length m.cursors.items
       → AllByRecursion (λ (v : WaitingLine). v.source < length m.cursors.items) m'.queue
       → Fed limit past (text s) (extent s) f → Aligned limit past text extent (set ss i s) m'
@@ -222,7 +222,7 @@ module _ {limit : ℕ} {past : List ℕ → Bool} {S : Type 0} {text : S → Opt
 
 -- the first in turn is taken out
 module _ {limit : ℕ} {past : List ℕ → Bool} {S : Type 0} {text : S → Option (List ℕ)} {extent : S → ℕ} {ss : List S}
-    {m : Merge} (m' : Merge) {w : WaitingLine} (was : Aligned limit past text extent ss m)
+    {m : MergeState} (m' : MergeState) {w : WaitingLine} (was : Aligned limit past text extent ss m)
     (same : m'.cursors.items ≡ m.cursors.items) (p : IsPermutation m.queue (w ∷ m'.queue)) where
   placed : AllByRecursion (λ (v : WaitingLine). v.source < length m.cursors.items) (w ∷ m'.queue)
   placed = each_permuted (λ (v : WaitingLine). v.source < length m.cursors.items) m.queue (w ∷ m'.queue) p was.placed
@@ -296,7 +296,7 @@ module _ {limit : ℕ} {past : List ℕ → Bool} {S : Type 0} {text : S → Opt
 
 -- the lines of a source with the pair of a group were taken, and the next one waits
 module _ {limit : ℕ} {past : List ℕ → Bool} {S : Type 0} {text : S → Option (List ℕ)} {extent : S → ℕ} {ss : List S}
-    {m : Merge} {i : ℕ} (was : Aligned limit past text extent ss m) (inside : i < length ss) (b : Feed)
+    {m : MergeState} {i : ℕ} (was : Aligned limit past text extent ss m) (inside : i < length ss) (b : Feed)
     (none : (get_or (feeds m) i b).waits ≡ []) where
   none_waits_here : waits_of i m.queue ≡ []
   none_waits_here = sym (waits_at was i b inside) ∙ none
@@ -309,7 +309,7 @@ module _ {limit : ℕ} {past : List ℕ → Bool} {S : Type 0} {text : S → Opt
       grind arith
 
   -- only its cursor has moved
-  pub moved_feeds : (m' : Merge) (c : CursorState) → m'.cursors.items ≡ set m.cursors.items i c → m'.queue ≡ m.queue
+  pub moved_feeds : (m' : MergeState) (c : CursorState) → m'.cursors.items ≡ set m.cursors.items i c → m'.queue ≡ m.queue
       → feeds m' ≡ set (feeds m) i (feed_of c [])
   moved_feeds m' c cursors e =
       let none = none_waits_here in
@@ -317,7 +317,7 @@ module _ {limit : ℕ} {past : List ℕ → Bool} {S : Type 0} {text : S → Opt
       grind arith
 
   -- and these lines wait
-  module _ (m' : Merge) (c : CursorState) (cursors : m'.cursors.items ≡ set m.cursors.items i c) (new : List Member)
+  module _ (m' : MergeState) (c : CursorState) (cursors : m'.cursors.items ≡ set m.cursors.items i c) (new : List Member)
       (p : IsPermutation (queued i new ++ m.queue) m'.queue) where
     pub waited_feeds : length new ≤ 1 → feeds m' ≡ set (feeds m) i (feed_of c new)
     waited_feeds most = rw cursors (feeds_queued i m.cursors.items m.queue m'.queue c new none_waits_here most p (few was))

@@ -8,7 +8,7 @@ use Rattle.cdxj_core.specs.Members.{Member}
 use Rattle.cdxj_core.specs.Indexes.{IsIndex}
 use Rattle.merge_core.specs.Feeds.{AllMoved, AreFed, AreSettled, Fed, Feed, IsSettled, done, feeds, given}
 use Rattle.merge_core.specs.Gathering.{text_or, all_done}
-use Rattle.merge_core.specs.declared.state.Merge.{Merge}
+use Rattle.merge_core.specs.declared.state.MergeState.{MergeState}
 use Rattle.merge_core.specs.Collections.{KeepsSources}
 use Rattle.merge_core.proofs.StateLemmas.{feeds_long}
 use Rattle.merge_core.proofs.Many.{Move}
@@ -92,7 +92,7 @@ module _ {S : Type 0} (text : S → Option (List ℕ)) (extent gave : S → ℕ)
   starts_kept ss (s' ∷ ss') fs fs' e e' h z = grind arith
 
   -- what is kept of the sources of a merge
-  pub all_kept : (olds : List S) (old : Merge) (news : List S) (new : Merge) → length olds ≡ length old.cursors.items
+  pub all_kept : (olds : List S) (old : MergeState) (news : List S) (new : MergeState) → length olds ≡ length old.cursors.items
       → length news ≡ length olds → AllMoved text extent gave olds old news new → KeepsSources text extent olds news
   all_kept olds old news new same long moved =
       let before : length olds ≡ length (feeds old) = grind (arith, feeds_long) in (

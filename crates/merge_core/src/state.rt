@@ -22,7 +22,7 @@ use std::alloc::AllocError;
 
 /// Sources that are read side by side.
 #[derive(Debug, Drop)]
-pub struct Merge {
+pub struct MergeState {
     /// A cursor for each source, in their order.
     pub cursors: Vec<Cursor>,
     /// The next line of each source whose range has more lines.
@@ -32,7 +32,7 @@ pub struct Merge {
     pub most_lines: u64,
 }
 
-impl Merge {
+impl MergeState {
     ghost use Rattle.merge_core.specs.Feeds.{Aligned, AllMoved, Feed, Ready, feeds, option_list};
     ghost use Rattle.merge_core.specs.Gathering.{Grouped, IsDue, ReadOn, all_done};
     ghost use Rattle.merge_core.specs.Merging.{HaltedGroup};

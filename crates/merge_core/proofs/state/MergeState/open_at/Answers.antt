@@ -14,7 +14,7 @@ use Rattle.std.proofs.lemmas.Simd.{map-map}
 use Rattle.merge_core.specs.Feeds.{feed_of, feeds}
 use Rattle.merge_core.proofs.OpenLemmas.{added_feeds, fresh_of, ready_added, sum_turn, zip_none, zip_push}
 use Rattle.merge_core.proofs.StateLemmas.{feeds_long}
-use Rattle.merge_core.proofs.state.Merge.open_at.Goals as goal
+use Rattle.merge_core.proofs.state.MergeState.open_at.Goals as goal
 
 pub loop-i-init : goal.loop-i-init
 loop-i-init g c =
