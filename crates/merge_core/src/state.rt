@@ -83,10 +83,9 @@ impl MergeState {
             (Some (member_pair first.now)) sources.new (feeds self.new) }
         ensures most_lines { self.new.most_lines ≡ self.old.most_lines }
     {
-        let cursor = &mut self.cursors[i];
         let next = match self
             .buffers
-            .read_group(&mut sources[i], cursor, first, range, rest)
+            .read_group(&mut sources[i], &mut self.cursors[i], first, range, rest)
         {
             Ok(next) => next,
             Err(fault) => return Err(MergeFault::Feed(i, fault)),

@@ -21,24 +21,24 @@ use Rattle.merge_core.proofs.state.MergeState.read_on.Goals as goal
 
 pub read_group-requires : goal.read_group-requires
 read_group-requires g c =
-    let was : Feed = feed_of c.index_mut-cursor.result.now [] in
+    let was : Feed = feed_of c.index_mut.result.now [] in
     let due = c.requires.due c.index-sources-i.result was in
-    let here = idle_here c.requires.aligned c.requires.inside was due.none c.index_mut-cursor.result.now
-    c.index_mut-cursor.ensures.value in
+    let here = idle_here c.requires.aligned c.requires.inside was due.none c.index_mut.result.now
+    c.index_mut.ensures.value in
     let fed = fed_at c.requires.aligned c.args.i c.index-sources-i.result was c.requires.inside in
     record { fed = rw here at fed; last = rw here at due.last }
 
 -- the source was read on
 module _ (g : Over) (c : After-read_group g) where
   abbrev was : Feed
-  was = feed_of c.index_mut-cursor.result.now []
+  was = feed_of c.index_mut.result.now []
 
   none : (get_or (feeds c.args.self.now) c.args.i was).waits ≡ []
   none = (c.requires.due c.index-sources-i.result was).none
 
   here : get_or (feeds c.args.self.now) c.args.i was ≡ was
-  here = idle_here c.requires.aligned c.requires.inside was none c.index_mut-cursor.result.now
-      c.index_mut-cursor.ensures.value
+  here = idle_here c.requires.aligned c.requires.inside was none c.index_mut.result.now
+      c.index_mut.ensures.value
 
   long : length c.args.sources.now ≡ length (feeds c.args.self.now)
   long = long_of c.requires.aligned
