@@ -10,7 +10,7 @@ use Rattle.cdxj_places.specs.TextLines.{lines}
 use Rattle.cdxj_places.proofs.RisingLaws.{each_weaker}
 use Rattle.cdxj_core.specs.Indexes.{IsIndex}
 use Rattle.cdxj_core.specs.Members.{Member, member_pair}
-use Rattle.merge_core.specs.declared.state.Merge.{Merge}
+use Rattle.merge_core.specs.declared.state.MergeState.{MergeState}
 use Rattle.merge_core.specs.PairOrders.{Upto, is_low, IsUpto}
 use Rattle.merge_core.specs.WaitingLines.{WaitingLine, is_of, waits_of}
 use Rattle.merge_core.specs.Collections.{Known, OverIndexes, all_lines}
@@ -80,7 +80,7 @@ at_pair : (pair : Pair) (m : Member) → Upto (member_pair m) pair → not (is_l
 at_pair pair m u = grind arith
 
 module _ {S : Type 0} {limit : ℕ} {text : S → Option (List ℕ)} {past : List ℕ → Bool} {extent gave : S → ℕ}
-    {old ss0 ss : List S} {begun m0 m : Merge} {b c : Option Pair} {pair : Pair} {taken more group : List Member}
+    {old ss0 ss : List S} {begun m0 m : MergeState} {b c : Option Pair} {pair : Pair} {taken more group : List Member}
     (was : Reached limit text past extent gave old begun ss0 m0 b taken)
     (grouped : Grouped limit past text extent ss0 m0 ss m pair group)
     (now : Reached limit text past extent gave old begun ss m c more) (long : length ss ≡ length old)

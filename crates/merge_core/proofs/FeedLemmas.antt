@@ -1,7 +1,7 @@
 -- What one line more makes of a feed.
 use Rattle.std.proofs.lemmas.List.{map-append, drop_all, length-map}
-use Rattle.std.proofs.Common.{true, ◌⊎◌, inl, inr, ◌≡◌, ℕ, zero, suc, ◌+◌, ◌-◌, ◌≤◌, List, [], ◌∷◌, ◌++◌, length, refl}
-use Rattle.std.proofs.Common.{arith, Bool, false, filter, ap, take_all, take_at, length-drop}
+use Rattle.std.proofs.Common.{true, ◌⊎◌, inl, inr, ◌≡◌, ℕ, suc, ◌+◌, ◌-◌, ◌≤◌, List, [], ◌∷◌, ◌++◌, length, refl}
+use Rattle.std.proofs.Common.{sym, ◌∙◌, arith, Bool, false, filter, ap, take_all, take_at}
 use Rattle.std.proofs.Common.{Option, Some, None, take, drop, map, append-nil, length-append, ◌<◌, length-take}
 use Rattle.std.proofs.Common.{append_assoc, take-append-drop}
 use Rattle.std.proofs.lemmas.List.Elements.{filter-append}
@@ -23,7 +23,7 @@ use Rattle.merge_core.specs.PairOrders.{Alike, Upto, Below}
 use Rattle.merge_core.specs.Gathering.{EndsAt}
 use Rattle.merge_core.specs.Feeds.{Feed, Fed, IsSettled, feed_of, read_lines, given, done, stays}
 use Rattle.merge_core.proofs.PairOrder.{below_then, same_upto, same_from, upto_upto}
-use Rattle.std.proofs.lemmas.Bool.{cases_lt, not-true}
+use Rattle.std.proofs.lemmas.Bool.{cases_lt, not-false, not-true, true≢false}
 use Rattle.source_core.specs.LinesAtFault.{IsOutOfOrder, LineBeginsAt}
 use Rattle.source_core.proofs.SortedCuts.{begins_at}
 use Rattle.merge_core.specs.declared.fault.FeedFault.{FeedFault}
@@ -64,32 +64,24 @@ falls_push xs y h k = grind arith
 
 -- ---- what was taken of a source
 
--- of lines that pass a test, save the last perhaps
-last_passes : {X : Type 0} (test : X → Bool) (us vs : List X) → length vs ≤ 1 → AllByRecursion (λ x. test x ≡ true) us
-    → (filter test (us ++ vs) ≡ us) ⊎ (filter test (us ++ vs) ≡ us ++ vs)
-last_passes test us [] h each = inl (grind (arith, filter-append, filter_all, append-nil))
-last_passes test us (v ∷ []) h each = (elim (test v) as (λ b. test v ≡ b → (filter test (us ++ v ∷ []) ≡ us)
-    ⊎ (filter test (us ++ v ∷ []) ≡ us ++ v ∷ [])) [
-      | true ↦ (λ e. inr (grind (arith, filter-append, filter_all)))
-      | false ↦ (λ e. inl (grind (arith, filter-append, filter_all, append-nil)))
-    ]) refl
-last_passes test us (v ∷ w ∷ vs) h each = absurd (omega arith)
+-- of lines that were read, those that were taken are the first, and one more is left at most
+abbrev pub Cut : ℕ → List Member → List Member → Type 0
+Cut n before all = (k : ℕ) × (k ≤ n) × (n ≤ k + 1) × (before ≡ take k all)
 
--- how many of n lines were taken, of which w wait
-abbrev Cut : {X : Type 0} → (X → Bool) → ℕ → ℕ → List X → Type 0
-Cut test n w xs = (k : ℕ) × (k ≤ n) × (n ≤ k + 1) × (filter test (take (n - w) xs) ≡ take k xs)
+cut_of : (n : ℕ) (before late all : List Member) → length all ≡ n → length late ≤ 1 → all ≡ before ++ late
+    → Cut n before all
+cut_of n before late all long few is =
+    let sum = length-append before late in
+    let same = ap length is in
+    (length before, omega arith, omega arith, rw is (sym (take_at before late (length before) refl)))
 
-cut_last : {X : Type 0} (test : X → Bool) (n w : ℕ) (xs : List X) → length xs ≡ n → w ≤ 1 → w ≤ n
-    → AllByRecursion (λ x. test x ≡ true) (take (n - 1) xs) → Cut test n w xs
-cut_last test n zero xs long few some each =
-    let whole = take-append-drop (n - 1) xs in
-    let all = take_all n xs in
-    elim (last_passes test (take (n - 1) xs) (drop (n - 1) xs) (grind (arith, length-drop)) each) [
-      | inl e ↦ (n - 1, omega arith, omega arith, grind arith)
-      | inr e ↦ (n, omega arith, omega arith, grind arith)
-    ]
-cut_last test n (suc w) xs long few some each =
-    (n - 1, omega arith, omega arith, grind (arith, filter_all))
+last_same : (us vs : List Member) (x y : Member) → us ++ x ∷ [] ≡ vs ++ y ∷ [] → x ≡ y
+last_same [] [] x y e = grind arith
+last_same (u ∷ us) (v ∷ vs) x y e = last_same us vs x y (grind arith)
+last_same (u ∷ []) [] x y e = absurd (cc)
+last_same (u ∷ w ∷ us) [] x y e = absurd (cc)
+last_same [] (v ∷ []) x y e = absurd (cc)
+last_same [] (v ∷ w ∷ vs) x y e = absurd (cc)
 
 pub filter_passes : {X : Type 0} (test : X → Bool) (xs : List X) → AllByRecursion (λ x. test x ≡ true) (filter test xs)
 filter_passes test [] = tt
@@ -120,15 +112,16 @@ module _ (limit : ℕ) (past : List ℕ → Bool) where
     pub low : (t : List ℕ) → text ≡ Some t
         → AllByRecursion (λ k. Upto (member_pair k) (member_pair m)) (given limit t old)
 
--- what was taken are the first of the lines that were read, all but one at most
 pub done_cut : {limit : ℕ} {past : List ℕ → Bool} {text : Option (List ℕ)} {extent : ℕ} {f : Feed}
     → Fed limit past text extent f → (t : List ℕ) → text ≡ Some t
-    → (k : ℕ) × (k ≤ f.cursor.count) × (f.cursor.count ≤ k + 1)
-    × (done limit past t f ≡ take k (given limit t f.cursor))
-done_cut {limit = limit} {past = past} {f = f} fed t e =
+    → Cut f.cursor.count (done limit past t f) (given limit t f.cursor)
+done_cut {limit = limit} {f = f} fed t e =
     let told = fed.told t e in
-    cut_last (stays past) f.cursor.count (length f.waits) (given limit t f.cursor) (grind (arith, length-map)) fed.few
-    fed.counted told.within
+    let long : length (given limit t f.cursor) ≡ f.cursor.count = grind (arith, length-map) in
+    elim told.last [
+      | inl k ↦ cut_of f.cursor.count _ f.waits _ long fed.few k.0
+      | inr k ↦ cut_of f.cursor.count _ (k.1 ∷ []) _ long (omega arith) k.2
+    ]
 
 module _ {limit : ℕ} {past : List ℕ → Bool} {text : Option (List ℕ)} {extent : ℕ} {old c : CursorState} {m : Member}
     (r : LineRead limit past text extent old c m) where
@@ -159,6 +152,32 @@ module _ {limit : ℕ} {past : List ℕ → Bool} {text : Option (List ℕ)} {ex
   Goes ws = (ws ≡ filter (stays past) (m ∷ []))
       ⊎ ((ws ≡ []) × ((t : List ℕ) → text ≡ Some t → stays past m ≡ true))
 
+  pub settled_more : (ws : List Member) → ws ≡ filter (stays past) (m ∷ [])
+      → IsSettled limit past text (feed_of c ws)
+  settled_more ws is t e none = inr (given limit t old, m, given_next t e, grind arith)
+
+  pub done_next : (ws : List Member) → ws ≡ filter (stays past) (m ∷ []) → (t : List ℕ) → text ≡ Some t
+      → done limit past t (feed_of c ws) ≡ given limit t old
+  done_next ws is t e =
+      let next = given_next t e in
+      let front = front t e in
+      let whole = whole t e in
+      let inside = r.inside t e in
+      grind (arith, filter_all, filter-append, append-nil)
+
+  last_of : (ws : List Member) → ws ≡ filter (stays past) (m ∷ []) → (t : List ℕ) → text ≡ Some t
+      → ((given limit t c ≡ done limit past t (feed_of c ws) ++ ws) × AllByRecursion (λ m. stays past m ≡ true) ws)
+      ⊎ ((ws ≡ []) × (k : Member) × (given limit t c ≡ done limit past t (feed_of c ws) ++ k ∷ [])
+      × (past k.values.key ≡ true))
+  last_of ws is t e =
+      rw (done_next ws is t e) (go ws is (stays past m) refl)
+    where
+      go : (ws : List Member) → ws ≡ filter (stays past) (m ∷ []) → (b : Bool) → stays past m ≡ b
+          → ((given limit t c ≡ given limit t old ++ ws) × AllByRecursion (λ m. stays past m ≡ true) ws)
+          ⊎ ((ws ≡ []) × (k : Member) × (given limit t c ≡ given limit t old ++ k ∷ []) × (past k.values.key ≡ true))
+      go ws is true s = let one : ws ≡ m ∷ [] = grind arith in rw one (inl (given_next t e, (s, tt)))
+      go ws is false s = inr (grind arith, m, given_next t e, not-false _ s)
+
   pub fed_more : (ws : List Member) → Goes ws → Fed limit past text extent (feed_of c ws)
   fed_more ws cases = record {
     stands = r.stands;
@@ -178,24 +197,14 @@ module _ {limit : ℕ} {past : List ℕ → Bool} {text : Option (List ℕ)} {ex
             entries = grind (arith, map-append);
             ordered = falls_push _ m was.run.ordered (r.low t e);
           });
-          last = grind (arith, append-nil);
-          within = rw front (r.inside t e);
-          waiting = grind arith;
+          last = elim cases [
+            | inl is ↦ last_of ws is t e
+            | inr k ↦
+                let all = done_all limit past t c (grind (arith, length-append)) (grind (arith, each_join)) in
+                rw k.0 (inl (rw all (sym (append-nil _)), tt))
+          ];
         };
   }
-
-  pub settled_more : (ws : List Member) → ws ≡ filter (stays past) (m ∷ [])
-      → IsSettled limit past text (feed_of c ws)
-  settled_more ws is t e none = inr (given limit t old, m, given_next t e, grind arith)
-
-  pub done_next : (ws : List Member) → ws ≡ filter (stays past) (m ∷ []) → (t : List ℕ) → text ≡ Some t
-      → done limit past t (feed_of c ws) ≡ given limit t old
-  done_next ws is t e =
-      let next = given_next t e in
-      let front = front t e in
-      let whole = whole t e in
-      let inside = r.inside t e in
-      grind (arith, filter_all, filter-append, append-nil)
 
 -- a line that has the pair of the last one, which lies within the range, lies within it
 pub same_stays : (past : List ℕ → Bool) (pair : Pair) (m : Member) (ms : List Member) → EndsAt past pair ms
@@ -216,31 +225,22 @@ low_of past pair ms falls end =
     (each_weaker (λ (k : Member) (h : Upto (member_pair k) (member_pair last)). upto_upto (member_pair k) (member_pair last)
     pair h up) end.0 (falls_last end.0 last (rw end.2 at falls))) (up, tt))
 
--- nor lies past the range
-pub inside_of : (past : List ℕ → Bool) (pair : Pair) (n : ℕ) (ms : List Member) → length ms ≡ n
-    → AllByRecursion (λ m. stays past m ≡ true) (take (n - 1) ms) → EndsAt past pair ms
-    → AllByRecursion (λ m. stays past m ≡ true) ms
-inside_of past pair n ms long each end =
-    let last = end.1 in
-    let l = ap length end.2 in
-    let before : length end.0 ≡ n - 1 = grind (arith, length-append) in
-    let front : take (n - 1) ms ≡ end.0 = rw end.2 (take_at end.0 (last ∷ []) (n - 1) before) in
-    rw end.2 (each_join (λ m. stays past m ≡ true) end.0 (last ∷ []) (rw front at each) (grind arith, tt))
-
 -- where the last line has the pair and lies within the range, all lines were taken
 module _ {limit : ℕ} {past : List ℕ → Bool} {text : Option (List ℕ)} {extent : ℕ} {c : CursorState} {pair : Pair}
     (fed : Fed limit past text extent (feed_of c [])) (t : List ℕ) (e : text ≡ Some t)
     (end : EndsAt past pair (given limit t c)) where
-  pub all_inside : AllByRecursion (λ m. stays past m ≡ true) (given limit t c)
-  all_inside =
-      let told = fed.told t e in
-      inside_of past pair c.count (given limit t c) (grind (arith, length-map)) told.within end
-
   pub all_upto : AllByRecursion (λ k. Upto (member_pair k) pair) (given limit t c)
   all_upto = low_of past pair (given limit t c) (fed.told t e).run.ordered end
 
   pub all_taken : done limit past t (feed_of c []) ≡ given limit t c
-  all_taken = done_all limit past t c (fed.told t e).as_many all_inside
+  all_taken = elim (fed.told t e).last [
+    | inl k ↦ sym (k.0 ∙ append-nil _)
+    | inr k ↦ absurd (true≢false (sym k.3 ∙ ap (λ (m : Member). past m.values.key) (last_same _ _ k.1 end.1 (sym k.2 ∙ end.2))
+        ∙ end.4))
+  ]
+
+  pub all_inside : AllByRecursion (λ m. stays past m ≡ true) (given limit t c)
+  all_inside = rw (← all_taken) (filter_passes (stays past) _)
 
 -- a source ended
 pub fed_end : {limit : ℕ} {past : List ℕ → Bool} {text : Option (List ℕ)} {extent : ℕ} {old : CursorState}
@@ -260,8 +260,6 @@ fed_end fed c stands start count near none = record {
         as_many = was.as_many;
         run = was.run;
         last = was.last;
-        within = was.within;
-        waiting = was.waiting;
       });
 }
 

@@ -1,6 +1,6 @@
 -- Lists that are filtered, and what holds of each of a list.
 use Rattle.std.proofs.Common.{◌≡◌, ℕ, suc, ◌≤◌, List, [], ◌∷◌, ◌++◌, length, take, filter, Bool, true, false}
-use Rattle.std.proofs.Common.{not, refl, arith, length-append, take-append-drop}
+use Rattle.std.proofs.Common.{not, arith, length-append, take-append-drop}
 use Rattle.std.specs.List.{AllByRecursion}
 use Rattle.std.proofs.lemmas.Bool.{cond-true}
 use Rattle.std.proofs.lemmas.List.Elements.{filter-append}

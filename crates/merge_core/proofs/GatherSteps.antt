@@ -1,7 +1,7 @@
 -- The steps of a group's gathering.
 use Rattle.std.specs.List.{AllZip, AllByRecursion}
 use Rattle.std.proofs.Common.{◌≡◌, ℕ, ◌+◌, ◌<◌, ◌≤◌, List, [], ◌∷◌, ◌++◌, length, get_or, set, drop, zip, flat_map}
-use Rattle.std.proofs.Common.{Bool, true, false, is_lt, Option, refl, sym, append_assoc, append-nil, arith, length-set}
+use Rattle.std.proofs.Common.{Bool, true, false, is_lt, Option, sym, append_assoc, append-nil, arith, length-set}
 use Rattle.std.specs.List.Sorted.{IsPermutation}
 use Rattle.std.specs.Option.{is_some}
 use Rattle.std.proofs.lemmas.List.{set-set, set-get_or, get_or-set_same}
@@ -9,7 +9,7 @@ use Rattle.std.proofs.lemmas.List.Sorted.{length_permutation}
 use Rattle.cdxj_places.specs.Pairs.{Pair}
 use Rattle.cdxj_places.proofs.RisingLaws.{each_weaker, each_join}
 use Rattle.cdxj_core.specs.Members.{Member, member_pair}
-use Rattle.merge_core.specs.declared.state.Merge.{Merge}
+use Rattle.merge_core.specs.declared.state.MergeState.{MergeState}
 use Rattle.merge_core.specs.PairOrders.{Alike, Upto}
 use Rattle.merge_core.specs.WaitingLines.{WaitingLine, waiting_pair, turn_cmp}
 use Rattle.merge_core.specs.Feeds.{Aligned, AreSettled, Feed, IsSettled, done, feeds}
@@ -26,9 +26,9 @@ abbrev of : {S : Type 0} → ℕ → (List ℕ → Bool) → (S → Option (List
 of limit past text x = done limit past (text_or (text x.0)) x.1
 
 module _ (limit : ℕ) (past : List ℕ → Bool) {S : Type 0} (text : S → Option (List ℕ)) (extent gave : S → ℕ)
-    (ss0 : List S) (m0 : Merge) (pair : Pair) where
+    (ss0 : List S) (m0 : MergeState) (pair : Pair) where
   -- of the first n sources the lines with the pair were taken, and the others were left alone
-  pub record Gathers (n : ℕ) (ss : List S) (m : Merge) (group : List Member) : Type 0 where
+  pub record Gathers (n : ℕ) (ss : List S) (m : MergeState) (group : List Member) : Type 0 where
     pub aligned : Aligned limit past text extent ss m
     pub as_many : length ss ≡ length ss0
     pub moved : AllZip (Move text extent gave) (zip ss0 (feeds m0)) (zip ss (feeds m))
@@ -43,13 +43,13 @@ module _ (limit : ℕ) (past : List ℕ → Bool) {S : Type 0} (text : S → Opt
   gathers_start aligned least = grind (arith, moved_still, each_weaker, gathered_none)
 
 module _ {limit n : ℕ} {past : List ℕ → Bool} {S : Type 0} {text : S → Option (List ℕ)} {extent gave : S → ℕ}
-    {ss0 ss : List S} {m0 m : Merge} {pair : Pair} {group : List Member}
+    {ss0 ss : List S} {m0 m : MergeState} {pair : Pair} {group : List Member}
     (h : Gathers limit past text extent gave ss0 m0 pair n ss m group) where
   long : length ss ≡ length (feeds m)
   long = long_of h.aligned
 
   -- more lines of a source are taken: of the group, all but those that lead are lines that the source is asked for
-  pub gathers_on : {i : ℕ} {ss' : List S} {m' : Merge} (lead : List Member) {lines lines' : List Member}
+  pub gathers_on : {i : ℕ} {ss' : List S} {m' : MergeState} (lead : List Member) {lines lines' : List Member}
       → group ≡ lead ++ lines → TookOf limit past text pair i ss ss' (feeds m) (feeds m') lines lines' → n ≤ i + 1
       → i < length ss → Aligned limit past text extent ss' m'
       → AllZip (Move text extent gave) (zip ss (feeds m)) (zip ss' (feeds m'))
@@ -82,7 +82,7 @@ module _ {limit n : ℕ} {past : List ℕ → Bool} {S : Type 0} {text : S → O
 
   -- the next line is taken out, and its source's next line is to be read
   module _ (w : WaitingLine) where
-    pub record TakenNext (m' : Merge) : Type 0 where
+    pub record TakenNext (m' : MergeState) : Type 0 where
       pub gathers : Gathers limit past text extent gave ss0 m0 pair (w.source + 1) ss m' (group ++ w.member ∷ [])
       pub inside : w.source < length ss
       pub due : (x : S) → (d : Feed)
@@ -91,7 +91,7 @@ module _ {limit n : ℕ} {past : List ℕ → Bool} {S : Type 0} {text : S → O
           → AreSettled limit past text extent (set ss w.source s) (set (feeds m') w.source f)
       pub fewer : unread extent ss (feeds m') + length m'.queue < unread extent ss (feeds m) + length m.queue
 
-    pub taken_next : (m' : Merge) → m'.cursors.items ≡ m.cursors.items → IsPermutation m.queue (w ∷ m'.queue)
+    pub taken_next : (m' : MergeState) → m'.cursors.items ≡ m.cursors.items → IsPermutation m.queue (w ∷ m'.queue)
         → AllByRecursion (λ v. is_lt (turn_cmp v w) ≡ false) m'.queue → Alike (waiting_pair w) pair → TakenNext m'
     taken_next m' cursors p first at =
         let i = w.source in

@@ -1,6 +1,6 @@
 -- The lines of one pair, taken of one source after another.
 use Rattle.std.proofs.Common.{◌≡◌, ◌≢◌, ℕ, ◌+◌, ◌-◌, ◌<◌, ◌≤◌, List, [], ◌∷◌, ◌++◌, length, get_or, set, take, drop}
-use Rattle.std.proofs.Common.{flat_map, filter, Bool, true, false, is_lt, inl, inr, refl, sym, ap, ◌∙◌}
+use Rattle.std.proofs.Common.{flat_map, filter, Bool, true, false, is_lt, refl, sym, ap, ◌∙◌}
 use Rattle.std.proofs.Common.{arith, append-nil, append_assoc, drop-drop, drop-set-lt, take-append-drop}
 use Rattle.std.specs.List.{AllByRecursion}
 use Rattle.std.proofs.lemmas.Bool.{cond-false, cond-true}
@@ -111,7 +111,9 @@ from_waited pair n i waits old new later p h =
         → AllByRecursion (IsFrom pair n) (queued i ms)
     above [] h = tt
     above (m ∷ ms) h = (
-      (below_upto pair (member_pair m) h.0,
-      λ a. absurd (not_below_itself pair (member_pair m) h.0 (same_upto (member_pair m) pair a))),
+      (
+        below_upto pair (member_pair m) h.0,
+        λ a. absurd (not_below_itself pair (member_pair m) h.0 (same_upto (member_pair m) pair a)),
+      ),
       above ms h.1,
     )

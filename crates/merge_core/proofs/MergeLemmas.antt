@@ -1,5 +1,5 @@
 -- One group more of a merge.
-use Rattle.std.proofs.Common.{arith, ◌≡◌, ℕ, Result, inl, IsErrAnd, OnErr, List, [], ◌∷◌, ◌++◌, length}
+use Rattle.std.proofs.Common.{arith, ◌≡◌, ℕ, Result, inl, IsErrAnd, OnErr, List, [], ◌∷◌, ◌++◌}
 use Rattle.std.proofs.Common.{Bool, Option, Some, None, true, Less, Ordering, is_lt, is_gt}
 use Rattle.std.specs.List.{AllByRecursion}
 use Rattle.cdxj_places.specs.Pairs.{Pair}
@@ -14,7 +14,7 @@ use Rattle.merge_core.specs.Gathering.{Gathered, Grouped, AreTold, all_done}
 use Rattle.devices.specs.Device.{Grows}
 use Rattle.merge_core.specs.Merging.{BrokenMerge, HaltedGroup, HaltedMerge, SoFar}
 use Rattle.merge_core.specs.Reached.{Reached}
-use Rattle.merge_core.specs.declared.state.Merge.{Merge}
+use Rattle.merge_core.specs.declared.state.MergeState.{MergeState}
 use Rattle.merge_core.specs.Feeds.{AllMoved, Ready, feeds}
 use Rattle.merge_core.proofs.StateLemmas.{long_of}
 use Rattle.merge_core.proofs.Many.{told_moved, moved_trans}
@@ -64,7 +64,7 @@ place_above pair u v h k =
     cc
 
 module _ {S : Type 0} {limit : ℕ} {text : S → Option (List ℕ)} {past : List ℕ → Bool} {extent gave : S → ℕ}
-    {old ss0 ss : List S} {begun m0 m : Merge} {b : Option Pair} {pair : Pair} {taken group : List Member}
+    {old ss0 ss : List S} {begun m0 m : MergeState} {b : Option Pair} {pair : Pair} {taken group : List Member}
     (was : Reached limit text past extent gave old begun ss0 m0 b taken)
     (grouped : Grouped limit past text extent ss0 m0 ss m pair group) where
   low : AreBelow pair taken
@@ -99,7 +99,7 @@ module _ {S : Type 0} {limit : ℕ} {text : S → Option (List ℕ)} {past : Lis
 
 -- a merge that differs in its buffers alone
 pub reached_same : {S : Type 0} {limit : ℕ} {text : S → Option (List ℕ)} {past : List ℕ → Bool} {extent gave : S → ℕ}
-    {old ss : List S} {begun m : Merge} {b : Option Pair} {taken : List Member} (m' : Merge)
+    {old ss : List S} {begun m : MergeState} {b : Option Pair} {taken : List Member} (m' : MergeState)
     → m'.cursors.items ≡ m.cursors.items → m'.queue ≡ m.queue
     → Reached limit text past extent gave old begun ss m b taken
     → Reached limit text past extent gave old begun ss m' b taken
@@ -123,7 +123,7 @@ reached_same m' cursors queue was =
 -- these lines were passed on, when a fault came
 module _ {K S : Type 0} {Wrote : K → K → List Member → Option (List ℕ) → Option (List ℕ) → Type 0}
     {Enough : K → Type 0} {past : List ℕ → Bool} {text : S → Option (List ℕ)} {extent gave : S → ℕ}
-    {olds sources : List S} {begun stood : Merge} {sink state : K} {old middle now : Option (List ℕ)}
+    {olds sources : List S} {begun stood : MergeState} {sink state : K} {old middle now : Option (List ℕ)}
     (so_far : SoFar Wrote Enough past text extent gave olds begun sink old sources stood state middle) where
   pub broken_there : {Broke : K → List Member → Option (List ℕ) → Option (List ℕ) → Type 0} → now ≡ middle
       → BrokenMerge Wrote Enough past text extent gave olds begun sink old Broke now
@@ -136,7 +136,7 @@ module _ {K S : Type 0} {Wrote : K → K → List Member → Option (List ℕ) �
     wrote = λ begin start w. inl (state, rw same (so_far.came begin start w));
   }
 
-  pub halted_there : {news : List S} {merge : Merge} → ((Enough sink → ⊥) → Enough state → ⊥)
+  pub halted_there : {news : List S} {merge : MergeState} → ((Enough sink → ⊥) → Enough state → ⊥)
       → HaltedGroup past text sources stood news merge
       → Grows middle now → HaltedMerge Wrote Enough past text extent gave olds begun sink old news merge now
   halted_there more halted grows =

@@ -3,14 +3,13 @@ use Rattle.std.proofs.Common.{◌≡◌, ℕ, suc, ◌+◌, ◌<◌, List, [], �
 use Rattle.std.proofs.Common.{inl, ◌≤◌, drop, filter, ◌∙◌, Option, None, Some, MatchOption, refl, arith, length-append}
 use Rattle.std.specs.List.{AllByRecursion, AllZip, sum}
 use Rattle.std.proofs.lemmas.List.Sums.{sum-map, sum_by_push}
-use Rattle.std.specs.List.Sorted.{IsPermutation}
 use Rattle.std.proofs.lemmas.List.{drop_all, take_more_set}
-use Rattle.cdxj_places.proofs.RisingLaws.{each_join, each_weaker}
+use Rattle.cdxj_places.proofs.RisingLaws.{each_weaker}
 use Rattle.cdxj_core.specs.Members.{Member}
 use Rattle.source_core.specs.Cursors.{CursorState}
-use Rattle.merge_core.specs.declared.state.Merge.{Merge}
+use Rattle.merge_core.specs.declared.state.MergeState.{MergeState}
 use Rattle.merge_core.specs.WaitingLines.{WaitingLine, waits_of}
-use Rattle.merge_core.specs.Feeds.{Fed, Feed, IsSettled, Ready, done, feed_of, feeds, feeds_from, given, option_list, stays}
+use Rattle.merge_core.specs.Feeds.{Fed, Feed, IsSettled, Ready, done, feed_of, feeds, given, option_list, stays}
 use Rattle.merge_core.specs.NextLine.{IsNextLine}
 use Rattle.merge_core.specs.Openings.{AddedSource}
 use Rattle.merge_core.proofs.FeedLemmas.{LineRead, done_next, fed_end, fed_more, settled_more}
@@ -18,7 +17,7 @@ use Rattle.source_core.specs.Cursors.{Stands}
 use Rattle.source_core.specs.IndexLines.{BeginsAfter, first_length}
 use Rattle.cdxj_places.specs.TextLines.{lines}
 use Rattle.merge_core.specs.Gathering.{text_or}
-use Rattle.merge_core.proofs.HeapLemmas.{each_permuted, waits_here, waits_other}
+use Rattle.merge_core.proofs.HeapLemmas.{waits_other}
 use Rattle.merge_core.proofs.StateLemmas.{feeds_added, few_of_fed, placed_queued}
 
 -- none of a later source waits
@@ -34,7 +33,7 @@ zip_push_each R xs ys x y h r = grind arith
 
 -- a source was added to those that are read
 module _ {limit : ℕ} {past : List ℕ → Bool} {S : Type 0} {text : S → Option (List ℕ)} {extent : S → ℕ} {ss : List S}
-    {m m' : Merge} (was : Ready limit past text extent ss m) {s : S} {IsCursor : CursorState → Type 0}
+    {m m' : MergeState} (was : Ready limit past text extent ss m) {s : S} {IsCursor : CursorState → Type 0}
     (added : AddedSource limit past (text s) (extent s) IsCursor m m') where
   abbrev pub its_feed : Feed
   its_feed = feed_of added.cursor added.first
@@ -62,7 +61,7 @@ module _ {limit : ℕ} {past : List ℕ → Bool} {S : Type 0} {text : S → Opt
             was.settled added.settled);
       }
 
-pub added_by : {limit : ℕ} {past : List ℕ → Bool} {text : Option (List ℕ)} {extent : ℕ} {m m' : Merge}
+pub added_by : {limit : ℕ} {past : List ℕ → Bool} {text : Option (List ℕ)} {extent : ℕ} {m m' : MergeState}
     {A B : CursorState → Type 0} → (added : AddedSource limit past text extent A m m') → B added.cursor
     → AddedSource limit past text extent B m m'
 added_by added is = record {

@@ -7,7 +7,7 @@ use Rattle.cdxj_places.proofs.RisingLaws.{each_weaker}
 use Rattle.cdxj_core.specs.Indexes.{IsIndex}
 use Rattle.cdxj_core.specs.Members.{Member}
 use Rattle.source_core.specs.Cursors.{CursorState}
-use Rattle.merge_core.specs.declared.state.Merge.{Merge}
+use Rattle.merge_core.specs.declared.state.MergeState.{MergeState}
 use Rattle.merge_core.specs.PairOrders.{is_low}
 use Rattle.merge_core.specs.WaitingLines.{WaitingLine}
 use Rattle.merge_core.specs.Collections.{Known, all_lines, collection}
@@ -53,7 +53,7 @@ module _ (upto : Member → Bool) (limit : ℕ) (past : List ℕ → Bool) (upwa
 -- Where a merge of indexes came to, which were read from where the search for a pair ended: what was taken of the lines
 -- that are wanted, of which none is below that pair
 pub took_of_indexes : {S : Type 0} {text : S → Option (List ℕ)} {extent gave : S → ℕ} {limit : ℕ}
-    {past : List ℕ → Bool} {ss0 ss : List S} {m0 m : Merge} {b : Option Pair} {taken : List Member}
+    {past : List ℕ → Bool} {ss0 ss : List S} {m0 m : MergeState} {b : Option Pair} {taken : List Member}
     → Reached limit text past extent gave ss0 m0 ss m b taken → length ss0 ≡ length m0.cursors.items
     → (start : Pair) → AllByRecursion (λ x. IsCutAt limit start (text x.0) x.1.cursor) (zip ss0 (feeds m0))
     → (texts : List (List ℕ)) (indexes : List (List Member)) → Known (map text ss0) texts

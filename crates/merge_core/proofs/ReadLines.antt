@@ -1,9 +1,10 @@
 -- The lines of one source that were come to, among all that it has from its start on.
 use Rattle.std.proofs.Common.{arith, ◌≡◌, ℕ, List, [], ◌∷◌, ◌++◌, refl, sym, ap, ◌∙◌, Bool, true, false, not, ◌&&◌}
-use Rattle.std.proofs.Common.{inl, inr, ◌-◌, length, Some, take, drop, map, filter, append-nil, append_assoc, take-append-drop, is_gt}
+use Rattle.std.proofs.Common.{inl, inr, Some, take, drop, map, filter, append-nil, append_assoc, take-append-drop, is_gt}
 use Rattle.std.proofs.lemmas.List.{take-map, drop-map}
 use Rattle.std.specs.List.{AllByRecursion}
-use Rattle.merge_core.proofs.Filters.{filter_out}
+use Rattle.merge_core.proofs.Filters.{each_both}
+use Rattle.merge_core.proofs.FeedLemmas.{filter_passes}
 use Rattle.std.specs.Ordering.{nat_cmp}
 use Rattle.std.specs.Cmp.Lexicographic.{slice_cmp}
 use Rattle.std.proofs.lemmas.Cmp.{nat_list_cmp_total}
@@ -19,7 +20,7 @@ use Rattle.cdxj_core.specs.Members.{Member, member_pair, member_place, line_entr
 use Rattle.merge_core.specs.PairOrders.{Upto}
 use Rattle.merge_core.specs.Feeds.{Feed, Fed, IsSettled, done, given, member_of, stays}
 use Rattle.merge_core.proofs.PairOrder.{upto_itself}
-use Rattle.merge_core.proofs.GroupLemmas.{filter_none}
+use Rattle.merge_core.proofs.GroupLemmas.{filter_all, filter_none}
 use Rattle.merge_core.proofs.MergeLemmas.{place_below}
 
 -- ---- lists
@@ -79,16 +80,9 @@ module _ (past : List ℕ → Bool) (upto : Member → Bool) where
   abbrev pub is_read : Member → Bool
   is_read m = upto m && stays past m
 
-  read_all : (xs : List Member) → AllByRecursion (λ m. upto m ≡ true) (filter (stays past) xs)
-      → filter is_read xs ≡ filter (stays past) xs
-  read_all [] h = refl
-  read_all (x ∷ xs) h = (elim (stays past x) as (λ b. stays past x ≡ b → filter is_read (x ∷ xs) ≡ filter (stays past) (x ∷ xs))
-      [ true ↦ (λ e. grind (arith, read_all xs)) | false ↦ (λ e. grind (arith, read_all xs)) ]) refl
-
-  read_is : (before tail ms : List Member) → ms ≡ before ++ tail
-      → AllByRecursion (λ m. upto m ≡ true) (filter (stays past) before)
-      → AllByRecursion (λ m. is_read m ≡ false) tail → filter is_read ms ≡ filter (stays past) before
-  read_is before tail ms e h k = grind (arith, filter-append, read_all, filter_none, append-nil)
+  read_is : (before tail ms : List Member) → ms ≡ before ++ tail → AllByRecursion (λ m. is_read m ≡ true) before
+      → AllByRecursion (λ m. is_read m ≡ false) tail → filter is_read ms ≡ before
+  read_is before tail ms e h k = grind (arith, filter-append, filter_all, filter_none, append-nil)
 
   -- the first line of the rest isn't read, and so none
   rest_unread : (before : List Member) (m : Member) (rest ms : List Member) → ms ≡ before ++ m ∷ rest
@@ -106,28 +100,39 @@ module _ {limit : ℕ} {past : List ℕ → Bool} (upward : IsUpward past) (upto
       → is_read past upto k ≡ false
   unread_past last k e u = let up = upward last.values.key k.values.key e in grind arith
 
-  -- the lines that wait, and those after them
-  tail_unread : (ws ms rest : List Member) → ws ≡ f.waits → ms ≡ given limit t f.cursor ++ rest
-      → NeverFalls member_pair pair_cmp ms → (lines (drop f.cursor.at t) ≡ [] → rest ≡ [])
-      → AllByRecursion (λ m. is_read past upto m ≡ false) (ws ++ rest)
-  tail_unread [] ms rest e is falls end = elim (settled t refl (sym e)) [
-    | inl none ↦ rw (end none) tt
-    | inr past_one ↦ (rest_unread past upto past_one.0 past_one.1 rest ms (grind (arith, append_assoc)) falls
-        (λ k u. unread_past past_one.1 k past_one.3 u)).1
-  ]
-  tail_unread (w ∷ []) ms rest e is falls end =
-      let last = (fed.told t refl).last in
-      let here = rw (← e) at late in
-      rest_unread past upto (take (f.cursor.count - length f.waits) (given limit t f.cursor)) w rest ms
-      (grind (arith, append_assoc)) falls (λ k u. let no = here.0 k u in grind arith)
-  tail_unread (w ∷ v ∷ ws) ms rest e is falls end = let few = rw (← e) at fed.few in absurd (omega arith)
+  done_read : AllByRecursion (λ m. is_read past upto m ≡ true) (done limit past t f)
+  done_read =
+      each_weaker (λ m (h : (upto m ≡ true) × (stays past m ≡ true)). grind arith) _ (each_both _ _ _ each
+      (filter_passes (stays past) _))
 
-  read_of : (ms rest : List Member) → ms ≡ given limit t f.cursor ++ rest → NeverFalls member_pair pair_cmp ms
-      → (lines (drop f.cursor.at t) ≡ [] → rest ≡ []) → filter (is_read past upto) ms ≡ done limit past t f
-  read_of ms rest is falls end =
-      let last = (fed.told t refl).last in
-      read_is past upto (take (f.cursor.count - length f.waits) (given limit t f.cursor)) (f.waits ++ rest) ms
-      (grind (arith, append_assoc)) each (tail_unread f.waits ms rest refl is falls end)
+  module _ (ms rest : List Member) (is : ms ≡ given limit t f.cursor ++ rest) (falls : NeverFalls member_pair pair_cmp ms)
+      (end : lines (drop f.cursor.at t) ≡ [] → rest ≡ []) where
+    -- where the last line that was read lies past the range, none after it was come to
+    past_unread : (before : List Member) (last : Member) → given limit t f.cursor ≡ before ++ last ∷ []
+        → past last.values.key ≡ true → AllByRecursion (λ m. is_read past upto m ≡ false) (last ∷ rest)
+    past_unread before last cut e =
+        rest_unread past upto before last rest ms (grind (arith, append_assoc)) falls (λ k u. unread_past last k e u)
+
+    -- the lines that wait, and those after them
+    tail_unread : (ws : List Member) → ws ≡ f.waits → given limit t f.cursor ≡ done limit past t f ++ ws
+        → AllByRecursion (λ m. is_read past upto m ≡ false) (ws ++ rest)
+    tail_unread [] e cut = elim (settled t refl (sym e)) [
+      | inl none ↦ rw (end none) tt
+      | inr k ↦ (past_unread k.0 k.1 k.2 k.3).1
+    ]
+    tail_unread (w ∷ []) e cut =
+        let here = rw (← e) at late in
+        rest_unread past upto (done limit past t f) w rest ms (grind (arith, append_assoc)) falls
+        (λ k u. let no = here.0 k u in grind arith)
+    tail_unread (w ∷ v ∷ ws) e cut = let few = rw (← e) at fed.few in absurd (omega arith)
+
+    read_of : filter (is_read past upto) ms ≡ done limit past t f
+    read_of = elim (fed.told t refl).last [
+      | inl k ↦ read_is past upto (done limit past t f) (f.waits ++ rest) ms (grind (arith, append_assoc)) done_read
+          (tail_unread f.waits refl k.0)
+      | inr k ↦ read_is past upto (done limit past t f) (k.1 ∷ rest) ms (grind (arith, append_assoc)) done_read
+          (past_unread (done limit past t f) k.1 k.2 k.3)
+    ]
 
   -- Of the lines from the start on, those that were come to are those that were taken
   pub fed_read : (ms : List Member) → IsRun limit (lines (drop f.cursor.start t)) ms

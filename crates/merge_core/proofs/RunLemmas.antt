@@ -8,7 +8,7 @@ use Rattle.cdxj_places.specs.Pairs.{Pair}
 use Rattle.cdxj_places.specs.TextLines.{lines}
 use Rattle.cdxj_core.specs.Members.{Member}
 use Rattle.source_core.specs.Cursors.{CursorState}
-use Rattle.merge_core.specs.declared.state.Merge.{Merge}
+use Rattle.merge_core.specs.declared.state.MergeState.{MergeState}
 use Rattle.merge_core.specs.Collections.{Known, all_lines, collection}
 use Rattle.merge_core.specs.Feeds.{AreFed, AreSettled, Fed, Feed, IsSettled, done, feeds, feeds_from, given, read_lines, stays}
 use Rattle.merge_core.specs.Gathering.{AreTold, text_or, all_done}
@@ -84,7 +84,7 @@ module _ (limit : ℕ) (past : List ℕ → Bool) {S : Type 0} (text : S → Opt
 
 -- where a merge came to: what was taken of the wanted lines among those that were read
 pub took_of_parts : {S : Type 0} {text : S → Option (List ℕ)} {extent gave : S → ℕ} {limit : ℕ}
-    {past : List ℕ → Bool} {ss0 ss : List S} {m0 m : Merge} {b : Option Pair} {taken : List Member}
+    {past : List ℕ → Bool} {ss0 ss : List S} {m0 m : MergeState} {b : Option Pair} {taken : List Member}
     → Reached limit text past extent gave ss0 m0 ss m b taken → AreTold text ss0
     → IsUpward past → (wanted : Member → Bool) → ((m : Member) → wanted m ≡ true → stays past m ≡ true)
     → Took past wanted b m.queue (collection (parts limit text ss (feeds m))) taken

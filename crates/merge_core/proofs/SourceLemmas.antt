@@ -10,7 +10,7 @@ use Rattle.cdxj_places.proofs.PlaceOrder.{place_cmp_total}
 use Rattle.cdxj_places.proofs.RisingLaws.{each_weaker, each_rising, each_join}
 use Rattle.cdxj_core.specs.Members.{Member, line_entry, member_place}
 use Rattle.cdxj_places.specs.Places.{place_cmp}
-use Rattle.merge_core.specs.declared.state.Merge.{Merge}
+use Rattle.merge_core.specs.declared.state.MergeState.{MergeState}
 use Rattle.merge_core.specs.Feeds.{AreFed, Fed, Feed, done, feeds, given, read_lines}
 use Rattle.merge_core.specs.Gathering.{AreTold, text_or, all_done}
 use Rattle.merge_core.specs.Reached.{Reached}
@@ -73,7 +73,7 @@ module _ (limit : ℕ) where
     told_or (s ∷ ss) = elim (told_or ss) [ inl h ↦ grind arith | inr f ↦ grind (arith, later_source, f) ]
 
     -- what was taken are lines of the sources
-    pub taken_lines : (past : List ℕ → Bool) (gave : S → ℕ) (ss0 : List S) (m0 : Merge) (ss : List S) (m : Merge)
+    pub taken_lines : (past : List ℕ → Bool) (gave : S → ℕ) (ss0 : List S) (m0 : MergeState) (ss : List S) (m : MergeState)
         (b : Option Pair) (taken : List Member) → length ss0 ≡ length m0.cursors.items
         → Reached limit text past extent gave ss0 m0 ss m b taken → AreLinesOf limit (map text ss0) taken
     taken_lines past gave ss0 m0 ss m b taken same reached = record {

@@ -1,21 +1,22 @@
 -- Sources and the feeds of a merge, while lines wait.
 use Rattle.std.specs.List.{AllZip, AllByRecursion}
-use Rattle.std.proofs.Common.{◌≡◌, ◌≢◌, ℕ, zero, suc, ◌+◌, ◌-◌, ◌<◌, ◌≤◌, List, [], ◌∷◌, ◌++◌, length, map, get_or, set}
-use Rattle.std.proofs.Common.{take, Bool, true, Option, None, Some, MatchOption, option_map, refl, sym, ap}
-use Rattle.std.proofs.Common.{◌∙◌, arith, length-set, length-append, append-nil, take_all}
+use Rattle.std.proofs.Common.{◌≡◌, ◌≢◌, ℕ, zero, suc, ◌+◌, ◌<◌, ◌≤◌, List, [], ◌∷◌, ◌++◌, length, map, get_or, set}
+use Rattle.std.proofs.Common.{Bool, true, Option, Some, refl, sym, ap}
+use Rattle.std.proofs.Common.{inl, inr, ◌∙◌, arith, length-set, length-append, append-nil, take_all}
 use Rattle.std.specs.List.Sorted.{IsPermutation}
 use Rattle.std.proofs.lemmas.Bool.{not-true}
 use Rattle.std.proofs.lemmas.List.{get_or_default, nil_from_length, set-get_or, length-map}
+use Rattle.std.proofs.lemmas.List.Elements.{filter-append}
 use Rattle.std.proofs.lemmas.List.Sorted.{length_permutation}
 use Rattle.cdxj_places.specs.Pairs.{Pair}
 use Rattle.cdxj_core.specs.Members.{Member}
 use Rattle.source_core.specs.Cursors.{CursorState}
-use Rattle.merge_core.specs.declared.state.Merge.{Merge}
+use Rattle.merge_core.specs.declared.state.MergeState.{MergeState}
 use Rattle.merge_core.specs.WaitingLines.{WaitingLine, queued, waiting_pair, waits_of}
-use Rattle.merge_core.specs.Feeds.{Aligned, AreFed, Fed, Feed, done, feed_of, feeds, feeds_from, given, option_list, stays}
+use Rattle.merge_core.specs.Feeds.{Aligned, AreFed, Fed, Feed, done, feed_of, feeds, feeds_from, given, stays}
 use Rattle.merge_core.specs.Gathering.{IsDue, TookOf}
 use Rattle.merge_core.specs.PairOrders.{Alike}
-use Rattle.merge_core.proofs.FeedLemmas.{done_all}
+use Rattle.merge_core.proofs.FeedLemmas.{filter_passes}
 use Rattle.merge_core.proofs.GroupLemmas.{filter_all}
 use Rattle.cdxj_places.proofs.RisingLaws.{each_join}
 use Rattle.merge_core.proofs.HeapLemmas.{each_permuted, waits_beside, waits_here, waits_other, waits_permuted, waits_queued}
@@ -153,24 +154,20 @@ idle f = feed_of f.cursor []
 module _ {limit : ℕ} {past : List ℕ → Bool} {text : Option (List ℕ)} {extent : ℕ} {f : Feed} {m : Member}
     (fed : Fed limit past text extent f) (one : f.waits ≡ m ∷ []) where
   module _ (t : List ℕ) (e : text ≡ Some t) where
-    its_front : AllByRecursion (λ m. stays past m ≡ true) (take (f.cursor.count - 1) (given limit t f.cursor))
-    its_front = (fed.told t e).within
-
-    its_last : given limit t f.cursor ≡ take (f.cursor.count - 1) (given limit t f.cursor) ++ m ∷ []
-    its_last = rw one at (fed.told t e).last
-
-    its_stays : stays past m ≡ true
-    its_stays = (rw one at (fed.told t e).waiting).0
-
-    all_stay : AllByRecursion (λ m. stays past m ≡ true) (given limit t f.cursor)
-    all_stay = rw its_last (each_join (λ m. stays past m ≡ true) _ (m ∷ []) its_front (its_stays, tt))
-
-    done_front : done limit past t f ≡ take (f.cursor.count - 1) (given limit t f.cursor)
-    done_front = rw one (filter_all (stays past) _ its_front)
+    its_last : (given limit t f.cursor ≡ done limit past t f ++ m ∷ []) × (stays past m ≡ true)
+    its_last = elim (fed.told t e).last [
+      | inl k ↦ (k.0 ∙ ap (λ l. done limit past t f ++ l) one, (rw one at k.1).0)
+      | inr k ↦ let none = k.0 in absurd (cc)
+    ]
 
     -- then it counts as taken
     done_idle : done limit past t (idle f) ≡ done limit past t f ++ m ∷ []
-    done_idle = done_all limit past t f.cursor (fed.told t e).as_many all_stay ∙ its_last ∙ ap (λ l. l ++ m ∷ []) (sym done_front)
+    done_idle =
+        let its = its_last in
+        let front = filter_all (stays past) (done limit past t f) (filter_passes (stays past) _) in
+        let whole = take_all f.cursor.count (given limit t f.cursor)
+        (let long = (fed.told t e).as_many in grind (arith, length-map)) in
+        grind (arith, filter-append)
 
   fed_idle : Fed limit past text extent (idle f)
   fed_idle = record {
@@ -179,22 +176,19 @@ module _ {limit : ℕ} {past : List ℕ → Bool} {text : Option (List ℕ)} {ex
     counted = omega arith;
     told = λ t e.
         let was = fed.told t e in
-        let whole = take_all f.cursor.count (given limit t f.cursor) (grind (arith, length-map)) in
         record {
           begins = was.begins;
           stood = was.stood;
           as_many = was.as_many;
           run = was.run;
-          last = grind (arith, append-nil);
-          within = was.within;
-          waiting = tt;
+          last = inl (rw (done_idle t e) ((its_last t e).0 ∙ sym (append-nil _)), tt);
         };
   }
 
 -- ---- all sources
 
 module _ {limit : ℕ} {past : List ℕ → Bool} {S : Type 0} {text : S → Option (List ℕ)} {extent : S → ℕ} {ss : List S}
-    {m : Merge} (was : Aligned limit past text extent ss m) where
+    {m : MergeState} (was : Aligned limit past text extent ss m) where
   pub long_of : length ss ≡ length (feeds m)
   long_of = let same = was.same in grind (arith, feeds_long)
 
@@ -216,7 +210,7 @@ module _ {limit : ℕ} {past : List ℕ → Bool} {S : Type 0} {text : S → Opt
       let b : Feed = feed_of (any_of m.cursors.items i (let same = was.same in omega arith)) [] in
       rw (waits_at i b l) at (fed_at i (any_of ss i l) b l).few
 
-  pub aligned_set : (i : ℕ) (s : S) (f : Feed) (m' : Merge) → feeds m' ≡ set (feeds m) i f
+  pub aligned_set : (i : ℕ) (s : S) (f : Feed) (m' : MergeState) → feeds m' ≡ set (feeds m) i f
       → length m'.cursors.items ≡ length m.cursors.items
       → AllByRecursion (λ (v : WaitingLine). v.source < length m.cursors.items) m'.queue
       → Fed limit past (text s) (extent s) f → Aligned limit past text extent (set ss i s) m'
@@ -228,7 +222,7 @@ module _ {limit : ℕ} {past : List ℕ → Bool} {S : Type 0} {text : S → Opt
 
 -- the first in turn is taken out
 module _ {limit : ℕ} {past : List ℕ → Bool} {S : Type 0} {text : S → Option (List ℕ)} {extent : S → ℕ} {ss : List S}
-    {m : Merge} (m' : Merge) {w : WaitingLine} (was : Aligned limit past text extent ss m)
+    {m : MergeState} (m' : MergeState) {w : WaitingLine} (was : Aligned limit past text extent ss m)
     (same : m'.cursors.items ≡ m.cursors.items) (p : IsPermutation m.queue (w ∷ m'.queue)) where
   placed : AllByRecursion (λ (v : WaitingLine). v.source < length m.cursors.items) (w ∷ m'.queue)
   placed = each_permuted (λ (v : WaitingLine). v.source < length m.cursors.items) m.queue (w ∷ m'.queue) p was.placed
@@ -296,12 +290,13 @@ module _ {limit : ℕ} {past : List ℕ → Bool} {S : Type 0} {text : S → Opt
     none = refl;
     last = λ t e.
         let fed = fed_at was w.source a b inside_sources in
-        (_, w.member, its_last fed (its_one b) t e, at, not-true _ (its_stays fed (its_one b) t e));
+        let its = its_last fed (its_one b) t e in
+        (_, w.member, its.0, at, not-true _ its.1);
   }
 
 -- the lines of a source with the pair of a group were taken, and the next one waits
 module _ {limit : ℕ} {past : List ℕ → Bool} {S : Type 0} {text : S → Option (List ℕ)} {extent : S → ℕ} {ss : List S}
-    {m : Merge} {i : ℕ} (was : Aligned limit past text extent ss m) (inside : i < length ss) (b : Feed)
+    {m : MergeState} {i : ℕ} (was : Aligned limit past text extent ss m) (inside : i < length ss) (b : Feed)
     (none : (get_or (feeds m) i b).waits ≡ []) where
   none_waits_here : waits_of i m.queue ≡ []
   none_waits_here = sym (waits_at was i b inside) ∙ none
@@ -314,7 +309,7 @@ module _ {limit : ℕ} {past : List ℕ → Bool} {S : Type 0} {text : S → Opt
       grind arith
 
   -- only its cursor has moved
-  pub moved_feeds : (m' : Merge) (c : CursorState) → m'.cursors.items ≡ set m.cursors.items i c → m'.queue ≡ m.queue
+  pub moved_feeds : (m' : MergeState) (c : CursorState) → m'.cursors.items ≡ set m.cursors.items i c → m'.queue ≡ m.queue
       → feeds m' ≡ set (feeds m) i (feed_of c [])
   moved_feeds m' c cursors e =
       let none = none_waits_here in
@@ -322,7 +317,7 @@ module _ {limit : ℕ} {past : List ℕ → Bool} {S : Type 0} {text : S → Opt
       grind arith
 
   -- and these lines wait
-  module _ (m' : Merge) (c : CursorState) (cursors : m'.cursors.items ≡ set m.cursors.items i c) (new : List Member)
+  module _ (m' : MergeState) (c : CursorState) (cursors : m'.cursors.items ≡ set m.cursors.items i c) (new : List Member)
       (p : IsPermutation (queued i new ++ m.queue) m'.queue) where
     pub waited_feeds : length new ≤ 1 → feeds m' ≡ set (feeds m) i (feed_of c new)
     waited_feeds most = rw cursors (feeds_queued i m.cursors.items m.queue m'.queue c new none_waits_here most p (few was))

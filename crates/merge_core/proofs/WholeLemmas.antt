@@ -1,26 +1,21 @@
 -- Sources of which all lines were read: each that tells its bytes is an index, and all its lines are done.
 use Rattle.std.specs.List.{AllZip, AllByRecursion}
 use Rattle.std.proofs.Common.{◌≡◌, ℕ, List, [], ◌∷◌, length, map, Bool, false, true, Option, Some}
-use Rattle.std.proofs.Common.{refl, not, sym, drop, inl, inr, flat_map, zip, ap, ◌∙◌, arith, length-drop}
+use Rattle.std.proofs.Common.{◌++◌, append-nil, refl, sym, drop, inl, inr, flat_map, zip, ap, ◌∙◌, arith, length-drop}
 use Rattle.std.specs.Option.{is_some}
 use Rattle.std.proofs.lemmas.List.{nil_from_length, take_all}
 use Rattle.cdxj_core.specs.Members.{Member}
 use Rattle.cdxj_core.specs.Indexes.{IsIndex}
-use Rattle.merge_core.specs.Feeds.{AllMoved, AreFed, AreSettled, Fed, Feed, IsSettled, done, feeds, given, stays}
+use Rattle.merge_core.specs.Feeds.{AllMoved, AreFed, AreSettled, Fed, Feed, IsSettled, done, feeds, given}
 use Rattle.merge_core.specs.Gathering.{text_or, all_done}
-use Rattle.merge_core.specs.declared.state.Merge.{Merge}
+use Rattle.merge_core.specs.declared.state.MergeState.{MergeState}
 use Rattle.merge_core.specs.Collections.{KeepsSources}
 use Rattle.merge_core.proofs.StateLemmas.{feeds_long}
-use Rattle.merge_core.proofs.FeedLemmas.{done_all}
 use Rattle.merge_core.proofs.Many.{Move}
 use Rattle.std.proofs.lemmas.Bool.{true≢false}
 use Rattle.cdxj_places.specs.TextLines.{lines}
 
 module _ (limit : ℕ) (past : List ℕ → Bool) (never : (key : List ℕ) → past key ≡ false) where
-  stays_all : (ms : List Member) → AllByRecursion (λ m. stays past m ≡ true) ms
-  stays_all [] = tt
-  stays_all (m ∷ ms) = (ap not (never m.values.key), stays_all ms)
-
   -- a source of which no line waits was read to its end
   ended : (t : List ℕ) (f : Feed) → IsSettled limit past (Some t) f → f.waits ≡ [] → lines (drop f.cursor.at t) ≡ []
   ended t f settled none = elim (settled t refl none) [
@@ -35,7 +30,10 @@ module _ (limit : ℕ) (past : List ℕ → Bool) (never : (key : List ℕ) → 
       let told = fed.told t refl in
       let end = ended t f settled none in
       let stood = fed.stands.rest t refl in
-      let all : done limit past t f ≡ given limit t f.cursor = rw none (done_all limit past t f.cursor told.as_many (stays_all _)) in
+      let all : done limit past t f ≡ given limit t f.cursor = elim told.last [
+        | inl k ↦ sym (k.0 ∙ ap (λ l. done limit past t f ++ l) none ∙ append-nil _)
+        | inr k ↦ absurd (true≢false (sym k.3 ∙ never k.1.values.key))
+      ] in
       grind (arith, take_all, length-drop {A = List ℕ})
 
   module _ {S : Type 0} (text : S → Option (List ℕ)) (extent : S → ℕ) where
@@ -94,7 +92,7 @@ module _ {S : Type 0} (text : S → Option (List ℕ)) (extent gave : S → ℕ)
   starts_kept ss (s' ∷ ss') fs fs' e e' h z = grind arith
 
   -- what is kept of the sources of a merge
-  pub all_kept : (olds : List S) (old : Merge) (news : List S) (new : Merge) → length olds ≡ length old.cursors.items
+  pub all_kept : (olds : List S) (old : MergeState) (news : List S) (new : MergeState) → length olds ≡ length old.cursors.items
       → length news ≡ length olds → AllMoved text extent gave olds old news new → KeepsSources text extent olds news
   all_kept olds old news new same long moved =
       let before : length olds ≡ length (feeds old) = grind (arith, feeds_long) in (

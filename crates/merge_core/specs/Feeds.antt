@@ -9,7 +9,7 @@ pub use Rattle.cdxj_core.specs.KeptLine.{no_member}
 use Rattle.cdxj_core.specs.KeptLine.{member_in}
 use Rattle.source_core.specs.Cursors.{CursorState, Stands, reach}
 use Rattle.source_core.specs.IndexLines.{BeginsAfter}
-use Rattle.merge_core.specs.declared.state.Merge.{Merge}
+use Rattle.merge_core.specs.declared.state.MergeState.{MergeState}
 use Rattle.merge_core.specs.WaitingLines.{WaitingLine, waits_of}
 
 -- a source that is read: its cursor, and those of its lines that wait
@@ -25,7 +25,7 @@ abbrev pub feeds_from : ℕ → List CursorState → List WaitingLine → List F
 feeds_from n [] ws = []
 feeds_from n (c ∷ cs) ws = feed_of c (waits_of n ws) ∷ feeds_from (n + 1) cs ws
 
-abbrev pub feeds : Merge → List Feed
+abbrev pub feeds : MergeState → List Feed
 feeds m = feeds_from 0 m.cursors.items m.queue
 
 abbrev pub option_list : {X : Type 0} → Option X → List X
@@ -65,16 +65,16 @@ module _ (limit : ℕ) where
     abbrev pub done : List ℕ → Feed → List Member
     done text f = filter (stays past) (take (f.cursor.count - length f.waits) (given text f.cursor))
 
-    -- What is known of a source with this text. The lines that wait are the last that were read. No line lies past the
-    -- range but the last, where it doesn't wait.
+    -- What is known of a source with this text: its lines that were read are those that were taken and those that wait,
+    -- or the last of them lies past the range.
     pub record FedOf (text : List ℕ) (f : Feed) : Type 0 where
       pub begins : (before : List (List ℕ)) × BeginsAfter text f.cursor.start before
       pub stood : f.cursor.at ≤ f.cursor.start + bytes_of (read_lines text f.cursor)
       pub as_many : length (read_lines text f.cursor) ≡ f.cursor.count
       pub run : IsRun limit (read_lines text f.cursor) (given text f.cursor)
-      pub last : given text f.cursor ≡ take (f.cursor.count - length f.waits) (given text f.cursor) ++ f.waits
-      pub within : AllByRecursion (λ m. stays past m ≡ true) (take (f.cursor.count - 1) (given text f.cursor))
-      pub waiting : AllByRecursion (λ m. stays past m ≡ true) f.waits
+      pub last : ((given text f.cursor ≡ done text f ++ f.waits) × AllByRecursion (λ m. stays past m ≡ true) f.waits)
+          ⊎ ((f.waits ≡ []) × (m : Member) × (given text f.cursor ≡ done text f ++ m ∷ [])
+          × (past m.values.key ≡ true))
 
     -- what holds of a feed beside its source
     pub record Fed (text : Option (List ℕ)) (extent : ℕ) (f : Feed) : Type 0 where
@@ -96,13 +96,13 @@ module _ (limit : ℕ) where
       AreSettled = AllZip (λ s f. IsSettled (text s) f)
 
       -- a cursor for each source, and each line that waits is of one of them
-      pub record Aligned (ss : List S) (m : Merge) : Type 0 where
+      pub record Aligned (ss : List S) (m : MergeState) : Type 0 where
         pub same : length ss ≡ length m.cursors.items
         pub placed : AllByRecursion (λ (w : WaitingLine). w.source < length m.cursors.items) m.queue
         pub fed : AreFed ss (feeds m)
 
       -- and a line of each source waits whose range has more lines
-      pub record Ready (ss : List S) (m : Merge) : Type 0 where
+      pub record Ready (ss : List S) (m : MergeState) : Type 0 where
         pub aligned : Aligned ss m
         pub settled : AreSettled ss (feeds m)
 
@@ -116,7 +116,7 @@ pub record Moved (old_text text : Option (List ℕ)) (old_extent extent old_gave
   pub inside : reach old ≤ old_extent → reach now ≤ extent
 
 -- the same of each source and its cursor
-abbrev pub AllMoved : {S : Type 0} → (S → Option (List ℕ)) → (S → ℕ) → (S → ℕ) → List S → Merge → List S → Merge
+abbrev pub AllMoved : {S : Type 0} → (S → Option (List ℕ)) → (S → ℕ) → (S → ℕ) → List S → MergeState → List S → MergeState
     → Type 0
 AllMoved text extent gave olds old news new = AllZip (λ x y. Moved (text x.0) (text y.0) (extent x.0) (extent y.0)
     (gave x.0) (gave y.0) x.1.cursor y.1.cursor) (zip olds (feeds old)) (zip news (feeds new))

@@ -1,5 +1,5 @@
 -- What was taken of several sources.
-use Rattle.std.specs.Prelude.{◌≡◌, ◌⊎◌, ℕ, ◌+◌, ◌-◌, ◌<◌, ◌≤◌, List, [], ◌∷◌, ◌++◌, flat_map, length, map, not, true, false, Bool}
+use Rattle.std.specs.Prelude.{◌≡◌, ℕ, ◌+◌, ◌-◌, ◌<◌, ◌≤◌, List, [], ◌∷◌, ◌++◌, flat_map, length, map, not, true, false, Bool}
 use Rattle.std.specs.Prelude.{Option, None, Some, slice_index_or, slice_set}
 use Rattle.std.specs.List.{AllByRecursion, filter, sum, zip}
 use Rattle.std.specs.List.Sorted.{IsPermutation}
@@ -7,7 +7,7 @@ use Rattle.std.specs.Option.{is_some}
 use Rattle.cdxj_places.specs.Pairs.{Pair}
 use Rattle.cdxj_core.specs.Members.{Member, member_pair}
 use Rattle.source_core.specs.Cursors.{CursorState}
-use Rattle.merge_core.specs.declared.state.Merge.{Merge}
+use Rattle.merge_core.specs.declared.state.MergeState.{MergeState}
 use Rattle.merge_core.specs.PairOrders.{Alike, Below, Upto, IsAbove, is_low}
 use Rattle.merge_core.specs.WaitingLines.{WaitingLine, queued, waiting_pair}
 use Rattle.merge_core.specs.Feeds.{Aligned, Fed, Feed, IsSettled, done, feed_of, feeds, given}
@@ -77,7 +77,7 @@ pub record TookOf {S : Type 0} (limit : ℕ) (past : List ℕ → Bool) (text : 
 
 -- A source was read on, which was due: its further lines with the pair were taken
 pub record ReadOn {S : Type 0} (limit : ℕ) (past : List ℕ → Bool) (text : S → Option (List ℕ)) (extent : S → ℕ)
-    (pair : Pair) (i : ℕ) (olds : List S) (old : Merge) (news : List S) (new : Merge) (old_rest rest : List Member)
+    (pair : Pair) (i : ℕ) (olds : List S) (old : MergeState) (news : List S) (new : MergeState) (old_rest rest : List Member)
     : Type 0 where
   pub aligned : Aligned limit past text extent news new
   pub fewer : unread extent news (feeds new) + length new.queue ≤ unread extent olds (feeds old) + length old.queue
@@ -88,7 +88,7 @@ pub record ReadOn {S : Type 0} (limit : ℕ) (past : List ℕ → Bool) (text : 
 
 -- The lines of the least pair were taken from all sources: of those that are done now, the ones that weren't
 pub record Grouped {S : Type 0} (limit : ℕ) (past : List ℕ → Bool) (text : S → Option (List ℕ)) (extent : S → ℕ)
-    (olds : List S) (old : Merge) (news : List S) (new : Merge) (pair : Pair) (group : List Member) : Type 0 where
+    (olds : List S) (old : MergeState) (news : List S) (new : MergeState) (pair : Pair) (group : List Member) : Type 0 where
   pub above : (b : Option Pair) → AllByRecursion (λ w. IsAbove b (waiting_pair w)) old.queue → IsAbove b pair
   pub least : AllByRecursion (λ w. Upto pair (waiting_pair w)) old.queue
   pub later : AllByRecursion (λ w. Below pair (waiting_pair w)) new.queue

@@ -6,7 +6,7 @@ use Rattle.cdxj_core.specs.declared.limit.TheConstants.{LINE_LIMIT}
 use Rattle.cdxj_core.specs.Members.{Member, member_pair}
 use Rattle.merge_core.specs.PairOrders.{Alike, Below, IsAbove, Upto}
 use Rattle.merge_core.specs.WaitingLines.{waiting_pair}
-use Rattle.merge_core.specs.declared.state.Merge.{Merge}
+use Rattle.merge_core.specs.declared.state.MergeState.{MergeState}
 use Rattle.merge_core.specs.Feeds.{feeds}
 use Rattle.merge_core.specs.Gathering.{AreTold, all_done}
 use Rattle.devices.specs.Device.{Grows}
@@ -16,7 +16,7 @@ use Rattle.merge_core.specs.Spending.{AreReadTo}
 -- The lines of this pair, which no waiting line is below, were being taken. No source that tells its bytes was read
 -- beyond them.
 pub record HaltedGroup {S : Type 0} (past : List ℕ → Bool) (text : S → Option (List ℕ)) (olds : List S)
-    (begun : Merge) (news : List S) (merge : Merge) : Type 0 where
+    (begun : MergeState) (news : List S) (merge : MergeState) : Type 0 where
   pub pair : Pair
   pub above : (b : Option Pair) → AllByRecursion (λ w. IsAbove b (waiting_pair w)) begun.queue → IsAbove b pair
   pub least : AllByRecursion (λ w. Upto pair (waiting_pair w)) begun.queue
@@ -34,10 +34,10 @@ module _ {K : Type 0} (Wrote : K → K → List Member → Option (List ℕ) →
 -- A sink: what it wrote of lines, and that it wants no more. The sources, and the merge that reads them; the sink and
 -- what was written, before the merge.
 module _ {K S : Type 0} (Wrote : K → K → List Member → Option (List ℕ) → Option (List ℕ) → Type 0) (Enough : K → Type 0)
-    (past : List ℕ → Bool) (text : S → Option (List ℕ)) (extent gave : S → ℕ) (olds : List S) (begun : Merge)
+    (past : List ℕ → Bool) (text : S → Option (List ℕ)) (extent gave : S → ℕ) (olds : List S) (begun : MergeState)
     (sink : K) (old : Option (List ℕ)) where
   -- these lines were passed on when the merge stood here
-  pub record SoFar (news : List S) (merge : Merge) (state : K) (now : Option (List ℕ)) : Type 0 where
+  pub record SoFar (news : List S) (merge : MergeState) (state : K) (now : Option (List ℕ)) : Type 0 where
     pub bound : Option Pair
     pub taken : List Member
     pub reached : Reached LINE_LIMIT text past extent gave olds begun news merge bound taken
@@ -58,7 +58,7 @@ module _ {K S : Type 0} (Wrote : K → K → List Member → Option (List ℕ) �
     pub came : CameTo Wrote sink old state middle earlier
 
   -- all lines were passed on and none waits, or the sink has enough, which it got with the last lines
-  pub record Passed (news : List S) (merge : Merge) (state : K) (now : Option (List ℕ)) (all : Bool) : Type 0 where
+  pub record Passed (news : List S) (merge : MergeState) (state : K) (now : Option (List ℕ)) (all : Bool) : Type 0 where
     pub so_far : SoFar news merge state now
     pub last : all ≡ false → LastGroup so_far.bound so_far.taken
     pub ended : all ≡ true → merge.queue ≡ []
@@ -69,7 +69,7 @@ module _ {K S : Type 0} (Wrote : K → K → List Member → Option (List ℕ) �
   pub record BrokenMerge (Broke : K → List Member → Option (List ℕ) → Option (List ℕ) → Type 0)
       (now : Option (List ℕ)) : Type 0 where
     pub sources : List S
-    pub merge : Merge
+    pub merge : MergeState
     pub bound : Option Pair
     pub taken : List Member
     pub reached : Reached LINE_LIMIT text past extent gave olds begun sources merge bound taken
@@ -77,9 +77,9 @@ module _ {K S : Type 0} (Wrote : K → K → List Member → Option (List ℕ) �
         → ((state : K) × Wrote begin state taken start now) ⊎ Broke begin taken start now
 
   -- lines were passed on before a fault, and those of the next pair were being read
-  pub record HaltedMerge (news : List S) (merge : Merge) (now : Option (List ℕ)) : Type 0 where
+  pub record HaltedMerge (news : List S) (merge : MergeState) (now : Option (List ℕ)) : Type 0 where
     pub sources : List S
-    pub stood : Merge
+    pub stood : MergeState
     pub state : K
     pub middle : Option (List ℕ)
     pub so_far : SoFar sources stood state middle

@@ -1,12 +1,12 @@
 -- Feeds that stand where a search ended.
-use Rattle.std.specs.Prelude.{◌≡◌, ℕ, ◌++◌, ◌∷◌, List, [], Bool, length, MatchOption, Option, Some}
+use Rattle.std.specs.Prelude.{◌≡◌, ℕ, ◌++◌, ◌∷◌, List, [], Bool, length, Option, Some}
 use Rattle.std.specs.List.Sorted.{IsPermutation}
 use Rattle.cdxj_core.specs.Indexes.{IsIndex}
 use Rattle.cdxj_core.specs.Members.{Member}
 use Rattle.cdxj_places.specs.Pairs.{Pair}
 use Rattle.source_core.specs.Cursors.{CursorState}
 use Rattle.source_core.specs.Search.{IsCut}
-use Rattle.merge_core.specs.declared.state.Merge.{Merge}
+use Rattle.merge_core.specs.declared.state.MergeState.{MergeState}
 use Rattle.merge_core.specs.Feeds.{Fed, IsSettled, done, feed_of}
 use Rattle.merge_core.specs.WaitingLines.{queued}
 
@@ -17,7 +17,7 @@ IsCutAt limit start text c = (t : List ℕ) → (members : List Member) → text
 
 -- A source was added, with this text and size, whose cursor is this; its first line waits, if it lies within the range
 pub record AddedSource (limit : ℕ) (past : List ℕ → Bool) (text : Option (List ℕ)) (extent : ℕ)
-    (IsCursor : CursorState → Type 0) (old new : Merge) : Type 0 where
+    (IsCursor : CursorState → Type 0) (old new : MergeState) : Type 0 where
   pub cursor : CursorState
   pub first : List Member
   pub cursors_are : new.cursors.items ≡ old.cursors.items ++ cursor ∷ []

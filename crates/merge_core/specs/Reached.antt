@@ -5,7 +5,7 @@ use Rattle.cdxj_places.specs.Pairs.{Pair}
 use Rattle.cdxj_places.specs.Places.{place_cmp}
 use Rattle.cdxj_places.specs.Rising.{rising, Rises}
 use Rattle.cdxj_core.specs.Members.{Member, member_pair, member_place}
-use Rattle.merge_core.specs.declared.state.Merge.{Merge}
+use Rattle.merge_core.specs.declared.state.MergeState.{MergeState}
 use Rattle.merge_core.specs.PairOrders.{IsAbove, IsUpto}
 use Rattle.merge_core.specs.SourceLines.{HasEntry}
 use Rattle.merge_core.specs.WaitingLines.{waiting_pair}
@@ -23,7 +23,7 @@ module _ {S : Type 0} (limit : ℕ) (text : S → Option (List ℕ)) (past : Lis
         × AllByRecursion (λ m. IsUpto bound (member_pair m)) (all_done limit past text ss fs)
 
   -- from these sources and this merge it came to those: the lines that wait stand above the bound
-  pub record Reached (extent gave : S → ℕ) (old : List S) (begun : Merge) (ss : List S) (m : Merge)
+  pub record Reached (extent gave : S → ℕ) (old : List S) (begun : MergeState) (ss : List S) (m : MergeState)
       (bound : Option Pair) (taken : List Member) : Type 0 where
     pub ready : Ready limit past text extent ss m
     pub moved : AllMoved text extent gave old begun ss m

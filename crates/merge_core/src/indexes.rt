@@ -14,7 +14,7 @@ use crate::fault::MergeFault;
 use crate::line_writer::LineWriter;
 use crate::merging::merge;
 use crate::range::All;
-use crate::state::Merge;
+use crate::state::MergeState;
 use devices::Output;
 use source_core::Source;
 use std::alloc::Global;
@@ -54,7 +54,7 @@ pub fn merge_indexes<S: Source, O: Output>(
         (most : ℕ) → ShareAtMost most (all_lines indexes)
         → IfOk result (λ merged. merged.most_lines ≤ length sources.old + most)) }
 {
-    let mut opened = Merge::open_at(alloc, sources, b"", b"", &All)?;
+    let mut opened = MergeState::open_at(alloc, sources, b"", b"", &All)?;
     let mut writer = LineWriter::new();
     merge(alloc, sources, &mut opened.merge, &All, &mut writer, out)?;
     Ok(MergedLines {

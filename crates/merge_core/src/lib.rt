@@ -27,4 +27,4 @@ pub use crate::merging::merge;
 pub use crate::opening::OpenedMerge;
 pub use crate::range::{All, Range};
 pub use crate::sink::Sink;
-pub use crate::state::Merge;
+pub use crate::state::MergeState;

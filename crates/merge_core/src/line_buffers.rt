@@ -91,7 +91,6 @@ impl LineBuffers {
     }
 
     /// Returns the line, unless its key is past the range.
-    #[inline(always)]
     pub(crate) fn within<R: Range>(
         &mut self,
         line: Option<Box<Line>>,

@@ -12,7 +12,7 @@ ghost use Rattle.merge_core.specs.Merging.{BrokenMerge, HaltedMerge, Passed};
 use crate::fault::MergeFault;
 use crate::range::Range;
 use crate::sink::{Sink, pass_group};
-use crate::state::Merge;
+use crate::state::MergeState;
 use devices::Output;
 use source_core::Source;
 use std::alloc::Global;
@@ -23,7 +23,7 @@ use std::alloc::Global;
 pub fn merge<S: Source, R: Range, K: Sink, O: Output>(
     alloc: Global,
     sources: &mut [S],
-    merge: &mut Merge,
+    merge: &mut MergeState,
     range: &R,
     sink: &mut K,
     out: &mut O,

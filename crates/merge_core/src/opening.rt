@@ -16,19 +16,19 @@ use crate::fault::{FeedFault, MergeFault};
 use crate::line_buffers::LineBuffers;
 use crate::line_queue::LineQueue;
 use crate::range::Range;
-use crate::state::Merge;
+use crate::state::MergeState;
 use source_core::{Cursor, Found, Source, search};
 use std::alloc::Global;
 
 /// The merge of sources that were opened by a search.
 #[derive(Debug, Drop)]
 pub struct OpenedMerge {
-    pub merge: Merge,
+    pub merge: MergeState,
     /// The number of steps of the searches. It saturates at 2^64 - 1.
     pub probes: u64,
 }
 
-impl Merge {
+impl MergeState {
     ghost use Rattle.merge_core.specs.Feeds.{Ready, feeds};
     ghost use Rattle.merge_core.specs.Openings.{AddedSource, IsCutAt};
     ghost use Rattle.merge_core.specs.Gathering.{all_done};
@@ -139,7 +139,7 @@ impl Merge {
         ensures probes { IfOk result (λ o.
             o.probes ≤ sum (map (λ s. digits (S.extent s)) sources.old)) }
     {
-        let mut merge = Merge {
+        let mut merge = MergeState {
             cursors: Vec::new(alloc),
             queue: LineQueue::new(alloc),
             buffers: LineBuffers::new(alloc),

@@ -22,7 +22,7 @@ use std::alloc::AllocError;
 
 /// Sources that are read side by side.
 #[derive(Debug, Drop)]
-pub struct Merge {
+pub struct MergeState {
     /// A cursor for each source, in their order.
     pub cursors: Vec<Cursor>,
     /// The next line of each source whose range has more lines.
@@ -32,7 +32,7 @@ pub struct Merge {
     pub most_lines: u64,
 }
 
-impl Merge {
+impl MergeState {
     ghost use Rattle.merge_core.specs.Feeds.{Aligned, AllMoved, Feed, Ready, feeds, option_list};
     ghost use Rattle.merge_core.specs.Gathering.{Grouped, IsDue, ReadOn, all_done};
     ghost use Rattle.merge_core.specs.Merging.{HaltedGroup};
@@ -83,10 +83,9 @@ impl Merge {
             (Some (member_pair first.now)) sources.new (feeds self.new) }
         ensures most_lines { self.new.most_lines ≡ self.old.most_lines }
     {
-        let cursor = &mut self.cursors[i];
         let next = match self
             .buffers
-            .read_group(&mut sources[i], cursor, first, range, rest)
+            .read_group(&mut sources[i], &mut self.cursors[i], first, range, rest)
         {
             Ok(next) => next,
             Err(fault) => return Err(MergeFault::Feed(i, fault)),

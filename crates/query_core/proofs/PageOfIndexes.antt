@@ -15,7 +15,7 @@ use Rattle.query_text.specs.Queries.{QueryValue}
 use Rattle.query_text.specs.Matching.{is_past}
 use Rattle.query_text.proofs.RangeLaw.{past_upward, match_not_below}
 use Rattle.page_core.proofs.PageLaws.{each_kept}
-use Rattle.merge_core.specs.declared.state.Merge.{Merge}
+use Rattle.merge_core.specs.declared.state.MergeState.{MergeState}
 use Rattle.merge_core.specs.Feeds.{feeds}
 use Rattle.merge_core.specs.WaitingLines.{waiting_pair}
 use Rattle.merge_core.specs.Collections.{Known, all_lines, collection}
@@ -118,7 +118,7 @@ known_stamp told texts m k h = grind arith
 -- Of these sources lines are taken, from where the search for the page's start ended
 module _ {S : Type 0} (text : S → Option (List ℕ)) (extent gave : S → ℕ) (q : QueryValue) (olds : List S) where
   -- they were opened
-  pub record Opened (opened : List S) (begun : Merge) : Type 0 where
+  pub record Opened (opened : List S) (begun : MergeState) : Type 0 where
     pub kept : map text opened ≡ map text olds
     pub same : length opened ≡ length begun.cursors.items
     pub came : AllZip (λ x y. CameWithin (text x) (extent x) (gave x) (gave y.0) y.1.cursor) olds
@@ -129,16 +129,16 @@ module _ {S : Type 0} (text : S → Option (List ℕ)) (extent gave : S → ℕ)
   -- these lines were taken
   pub record Reading : Type 0 where
     pub opened : List S
-    pub begun : Merge
+    pub begun : MergeState
     pub sources : List S
-    pub merge : Merge
+    pub merge : MergeState
     pub bound : Option Pair
     pub taken : List Member
     pub start : Opened opened begun
     pub reached : Reached LINE_LIMIT text (is_past q.target) extent gave opened begun sources merge bound taken
 
 abbrev pub reading : {S : Type 0} {text : S → Option (List ℕ)} {extent gave : S → ℕ} {q : QueryValue} {olds : List S}
-    {opened : List S} {begun : Merge} {sources : List S} {merge : Merge} {bound : Option Pair} {taken : List Member} → Opened text extent gave q olds opened begun
+    {opened : List S} {begun : MergeState} {sources : List S} {merge : MergeState} {bound : Option Pair} {taken : List Member} → Opened text extent gave q olds opened begun
     → Reached LINE_LIMIT text (is_past q.target) extent gave opened begun sources merge bound taken
     → Reading text extent gave q olds
 reading start reached = record {

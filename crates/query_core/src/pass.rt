@@ -14,7 +14,7 @@ use crate::fault::AnswerFault;
 use crate::start::start_pair;
 use crate::target_range::TargetRange;
 use devices::Output;
-use merge_core::{Merge, Sink, merge};
+use merge_core::{MergeState, Sink, merge};
 use query_text::Query;
 use source_core::Source;
 use std::alloc::Global;
@@ -64,7 +64,7 @@ pub(crate) fn read_lines<S: Source, K: Sink, O: Output>(
     };
     let start = start_pair(query);
     let key = start.key.as_bytes();
-    let mut opened = Merge::open_at(alloc, sources, key, &start.stamp, &range)?;
+    let mut opened = MergeState::open_at(alloc, sources, key, &start.stamp, &range)?;
     let all = merge(alloc, sources, &mut opened.merge, &range, sink, out)?;
     Ok(Pass {
         all,

@@ -2,7 +2,7 @@
 use cdxj_core::{Field, Line};
 use devices::Gather;
 use fixtures::LETTERS;
-use merge_core::{All, LineWriter, Merge, merge};
+use merge_core::{All, LineWriter, MergeState, merge};
 use page_core::{PageForm, PageOutput, field_name};
 use query_core::SliceSource;
 use std::alloc::{AllocError, Global};
@@ -95,7 +95,13 @@ const STARTS: &[(&str, &str, usize)] = &[
 /// Returns the merge of the text and an empty one from this pair on, and the number of steps of the search for it.
 fn merged_from(alloc: Global, text: &[u8], key: &str, stamp: &str) -> Result<(Gather, u64), Fail> {
     let mut sources = [SliceSource::new(text), SliceSource::new(b"")];
-    let mut opened = Merge::open_at(alloc, &mut sources, key.as_bytes(), stamp.as_bytes(), &All)?;
+    let mut opened = MergeState::open_at(
+        alloc,
+        &mut sources,
+        key.as_bytes(),
+        stamp.as_bytes(),
+        &All,
+    )?;
     let mut writer = LineWriter::new();
     let mut out = Gather::new(alloc);
     let _all = merge(

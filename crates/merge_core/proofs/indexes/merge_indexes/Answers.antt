@@ -14,7 +14,7 @@ use Rattle.devices.specs.Device.{AppendsPrefix}
 use Rattle.devices.proofs.DeviceLemmas.{Appends-none}
 use Rattle.devices.proofs.WritingLemmas.{prefix_whole, prefix_longer, wrote_nothing}
 use Rattle.std.specs.List.{AllByRecursion}
-use Rattle.merge_core.specs.declared.state.Merge.{Merge}
+use Rattle.merge_core.specs.declared.state.MergeState.{MergeState}
 use Rattle.merge_core.specs.Feeds.{Feed, feeds}
 use Rattle.merge_core.specs.Collections.{KeepsSources, OverIndexes, collection}
 use Rattle.merge_core.specs.Reached.{Reached}
@@ -41,7 +41,7 @@ filter_every : (xs : List Member) → filter (λ m. true) xs ≡ xs
 filter_every [] = refl
 filter_every (x ∷ xs) = ap (λ l. x ∷ l) (filter_every xs)
 
-module _ (g : Over) (c : After-merge g) {ss : List g.row.S.Denot} {m : Merge} {b : Option Pair}
+module _ (g : Over) (c : After-merge g) {ss : List g.row.S.Denot} {m : MergeState} {b : Option Pair}
     {taken : List Member} (reached : Reached LINE_LIMIT g.S.Source.text never g.S.Source.extent g.S.Source.gave
     c.open_at.new.sources c.in_ok-opened.opened.merge ss m b taken) where
   -- of sources that are indexes, what was taken is a front of their collection

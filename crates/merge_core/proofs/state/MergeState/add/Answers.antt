@@ -9,9 +9,9 @@ use Rattle.merge_core.proofs.FeedLemmas.{bad_named}
 use Rattle.merge_core.proofs.FailLemmas.{if_err}
 use Rattle.merge_core.proofs.OpenLemmas.{fed_fresh, first_read}
 use Rattle.merge_core.proofs.SpendLemmas.{opening_most}
-use Rattle.merge_core.proofs.state.Merge.add.Given.{Over}
-use Rattle.merge_core.proofs.state.Merge.add.Goals.{After-next_line}
-use Rattle.merge_core.proofs.state.Merge.add.Goals as goal
+use Rattle.merge_core.proofs.state.MergeState.add.Given.{Over}
+use Rattle.merge_core.proofs.state.MergeState.add.Goals.{After-next_line}
+use Rattle.merge_core.proofs.state.MergeState.add.Goals as goal
 
 -- before the first line is read
 fresh : (g : Over) (c : After-next_line g) → Fed LINE_LIMIT (g.R.Range.past c.args.range.now)

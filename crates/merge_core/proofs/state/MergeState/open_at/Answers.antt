@@ -11,10 +11,10 @@ use Rattle.merge_core.proofs.FailLemmas.{raised_by_feed}
 use Rattle.cdxj_places.proofs.RisingLaws.{each_join}
 use Rattle.merge_core.proofs.Many.{map_set_same, two_put}
 use Rattle.std.proofs.lemmas.Simd.{map-map}
-use Rattle.merge_core.specs.Feeds.{feed_of, feeds, option_list}
+use Rattle.merge_core.specs.Feeds.{feed_of, feeds}
 use Rattle.merge_core.proofs.OpenLemmas.{added_feeds, fresh_of, ready_added, sum_turn, zip_none, zip_push}
 use Rattle.merge_core.proofs.StateLemmas.{feeds_long}
-use Rattle.merge_core.proofs.state.Merge.open_at.Goals as goal
+use Rattle.merge_core.proofs.state.MergeState.open_at.Goals as goal
 
 pub loop-i-init : goal.loop-i-init
 loop-i-init g c =

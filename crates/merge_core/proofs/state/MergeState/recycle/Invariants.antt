@@ -1,5 +1,5 @@
 use Rattle.std.proofs.Common.{◌≡◌, vec_len}
-use Rattle.merge_core.proofs.state.Merge.recycle.Given as goal
+use Rattle.merge_core.proofs.state.MergeState.recycle.Given as goal
 
 abbrev pub invariant-loop-line : goal.invariant-loop-line
 invariant-loop-line l = record {

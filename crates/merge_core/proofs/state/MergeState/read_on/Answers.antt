@@ -5,7 +5,7 @@ use Rattle.std.proofs.lemmas.List.{get_or_default}
 use Rattle.cdxj_core.specs.declared.limit.TheConstants.{LINE_LIMIT}
 use Rattle.cdxj_core.specs.declared.line.Line.{Line}
 use Rattle.cdxj_core.specs.Members.{Member, member_pair}
-use Rattle.merge_core.specs.declared.state.Merge.{Merge}
+use Rattle.merge_core.specs.declared.state.MergeState.{MergeState}
 use Rattle.merge_core.specs.PairOrders.{Upto}
 use Rattle.merge_core.specs.Feeds.{AllMoved, Feed, feed_of, feeds, option_list}
 use Rattle.merge_core.specs.Gathering.{all_done}
@@ -15,35 +15,35 @@ use Rattle.merge_core.proofs.FailLemmas.{raised_by_feed}
 use Rattle.merge_core.proofs.Many.{moved_set, map_set_same, unread_set}
 use Rattle.merge_core.proofs.StateLemmas.{fed_at, long_of, idle_here, moved_feeds, waited_aligned, waited_feeds}
 use Rattle.merge_core.proofs.StateLemmas.{waited_length}
-use Rattle.merge_core.proofs.state.Merge.read_on.Given.{Over}
-use Rattle.merge_core.proofs.state.Merge.read_on.Goals.{After-read_group}
-use Rattle.merge_core.proofs.state.Merge.read_on.Goals as goal
+use Rattle.merge_core.proofs.state.MergeState.read_on.Given.{Over}
+use Rattle.merge_core.proofs.state.MergeState.read_on.Goals.{After-read_group}
+use Rattle.merge_core.proofs.state.MergeState.read_on.Goals as goal
 
 pub read_group-requires : goal.read_group-requires
 read_group-requires g c =
-    let was : Feed = feed_of c.index_mut-cursor.result.now [] in
+    let was : Feed = feed_of c.index_mut.result.now [] in
     let due = c.requires.due c.index-sources-i.result was in
-    let here = idle_here c.requires.aligned c.requires.inside was due.none c.index_mut-cursor.result.now
-    c.index_mut-cursor.ensures.value in
+    let here = idle_here c.requires.aligned c.requires.inside was due.none c.index_mut.result.now
+    c.index_mut.ensures.value in
     let fed = fed_at c.requires.aligned c.args.i c.index-sources-i.result was c.requires.inside in
     record { fed = rw here at fed; last = rw here at due.last }
 
 -- the source was read on
 module _ (g : Over) (c : After-read_group g) where
   abbrev was : Feed
-  was = feed_of c.index_mut-cursor.result.now []
+  was = feed_of c.index_mut.result.now []
 
   none : (get_or (feeds c.args.self.now) c.args.i was).waits ≡ []
   none = (c.requires.due c.index-sources-i.result was).none
 
   here : get_or (feeds c.args.self.now) c.args.i was ≡ was
-  here = idle_here c.requires.aligned c.requires.inside was none c.index_mut-cursor.result.now
-      c.index_mut-cursor.ensures.value
+  here = idle_here c.requires.aligned c.requires.inside was none c.index_mut.result.now
+      c.index_mut.ensures.value
 
   long : length c.args.sources.now ≡ length (feeds c.args.self.now)
   long = long_of c.requires.aligned
 
-  module _ (m : Merge) (f : Feed) (is : f.cursor ≡ c.read_group.new.cursor)
+  module _ (m : MergeState) (f : Feed) (is : f.cursor ≡ c.read_group.new.cursor)
       (feeds_are : feeds m ≡ set (feeds c.args.self.now) c.args.i f) where
     moved : AllMoved g.S.Source.text g.S.Source.extent g.S.Source.gave c.args.sources.now c.args.self.now
         (set c.args.sources.now c.args.i c.read_group.new.source) m
@@ -65,7 +65,7 @@ module _ (g : Over) (c : After-read_group g) where
         (are_read_to LINE_LIMIT _ g.S.Source.text g.S.Source.extent _ _ _ c.requires.aligned.fed low) (grind arith))
 
 -- its cursor has moved, and none of its lines waits
-module _ (g : Over) (c : After-read_group g) (m : Merge)
+module _ (g : Over) (c : After-read_group g) (m : MergeState)
     (cursors : m.cursors.items ≡ set c.args.self.now.cursors.items c.args.i c.read_group.new.cursor)
     (queue : m.queue ≡ c.args.self.now.queue) where
   feeds_now : feeds m ≡ set (feeds c.args.self.now) c.args.i (feed_of c.read_group.new.cursor [])

@@ -8,7 +8,7 @@ use Rattle.cdxj_places.proofs.RisingLaws.{each_weaker}
 use Rattle.cdxj_core.specs.declared.limit.TheConstants.{LINE_LIMIT}
 use Rattle.cdxj_core.specs.declared.line.Line.{Line}
 use Rattle.cdxj_core.specs.Members.{Member, member_pair}
-use Rattle.merge_core.specs.declared.state.Merge.{Merge}
+use Rattle.merge_core.specs.declared.state.MergeState.{MergeState}
 use Rattle.merge_core.specs.PairOrders.{Upto}
 use Rattle.merge_core.specs.WaitingLines.{WaitingLine, waiting_pair}
 use Rattle.merge_core.specs.Feeds.{AreSettled, feeds}
@@ -24,9 +24,9 @@ use Rattle.merge_core.proofs.HeapLemmas.{each_permuted}
 use Rattle.merge_core.proofs.Many.{moved_trans, moved_still}
 use Rattle.merge_core.proofs.StateLemmas.{popped_feeds}
 use Rattle.merge_core.proofs.TurnLemmas.{above_popped, not_before}
-use Rattle.merge_core.proofs.state.Merge.gather.Given.{Over}
-use Rattle.merge_core.proofs.state.Merge.gather.Goals.{After-read_on, After-push, In_ok-read_on}
-use Rattle.merge_core.proofs.state.Merge.gather.Goals as goal
+use Rattle.merge_core.proofs.state.MergeState.gather.Given.{Over}
+use Rattle.merge_core.proofs.state.MergeState.gather.Goals.{After-read_on, After-push, In_ok-read_on}
+use Rattle.merge_core.proofs.state.MergeState.gather.Goals as goal
 
 abbrev values : List (Box Line Global) → List Member
 values = map (λ (b : Box Line Global). b.value)
@@ -61,7 +61,7 @@ drained_settled g c =
 abbrev taken_line : (g : Over) → After-push g → WaitingLine
 taken_line g c = record { member = c.next-in-sources.inside.line.value; source = c.next-in-sources.inside.source }
 
-abbrev popped_merge : (g : Over) → After-push g → Merge
+abbrev popped_merge : (g : Over) → After-push g → MergeState
 popped_merge g c = record c.read_on.new.self { queue = c.pop_at.new.self }
 
 -- what it makes of the group
@@ -88,7 +88,7 @@ returns-in_default-clause-ready g c =
 pub sources-init : goal.sources-init
 sources-init g c =
     let old = c.args.self.now in
-    let now : Merge = record c.args.self.now { queue = c.pop.new.self } in
+    let now : MergeState = record c.args.self.now { queue = c.pop.new.self } in
     let left = c.pop.new.self in
     let from : Member → WaitingLine = λ m. record { member = m; source = c.next.inside.source } in
     let w = from c.new-keyed.result in

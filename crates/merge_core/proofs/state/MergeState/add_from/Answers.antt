@@ -1,6 +1,6 @@
 use Rattle.std.proofs.Common.{arith}
 use Rattle.merge_core.proofs.OpenLemmas.{added_by}
-use Rattle.merge_core.proofs.state.Merge.add_from.Goals as goal
+use Rattle.merge_core.proofs.state.MergeState.add_from.Goals as goal
 
 pub returns-clause-added : goal.returns-clause-added
 returns-clause-added g c = added_by c.in_ok-add.ensures.added (grind arith)

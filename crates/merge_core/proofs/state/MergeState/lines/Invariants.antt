@@ -1,7 +1,7 @@
 use Rattle.std.proofs.Common.{◌≡◌, ◌-◌, ◌^◌, map, min, take}
 use Rattle.std.specs.List.{sum}
 use Rattle.source_core.specs.Cursors.{CursorState}
-use Rattle.merge_core.proofs.state.Merge.lines.Given as goal
+use Rattle.merge_core.proofs.state.MergeState.lines.Given as goal
 
 abbrev pub invariant-loop-cursor : goal.invariant-loop-cursor
 invariant-loop-cursor l =

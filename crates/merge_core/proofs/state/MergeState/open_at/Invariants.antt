@@ -7,7 +7,7 @@ use Rattle.merge_core.specs.Feeds.{Feed, Ready, feeds}
 use Rattle.merge_core.specs.Gathering.{all_done}
 use Rattle.merge_core.specs.Spending.{AllGaveOnce, CameOnce, CameWithin, OpenedWithin}
 use Rattle.merge_core.specs.Openings.{IsCutAt}
-use Rattle.merge_core.proofs.state.Merge.open_at.Given as goal
+use Rattle.merge_core.proofs.state.MergeState.open_at.Given as goal
 
 abbrev pub invariant-loop-i : goal.invariant-loop-i
 invariant-loop-i g l = record {

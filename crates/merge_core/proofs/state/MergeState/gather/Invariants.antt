@@ -8,7 +8,7 @@ use Rattle.merge_core.specs.WaitingLines.{waiting_pair}
 use Rattle.merge_core.specs.Feeds.{AreSettled, Feed, IsSettled, feeds}
 use Rattle.merge_core.specs.Gathering.{IsDue, unread}
 use Rattle.merge_core.proofs.GatherSteps.{Gathers}
-use Rattle.merge_core.proofs.state.Merge.gather.Given as goal
+use Rattle.merge_core.proofs.state.MergeState.gather.Given as goal
 
 abbrev pub invariant-sources : goal.invariant-sources
 invariant-sources g l = record {
