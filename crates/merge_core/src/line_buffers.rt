@@ -67,7 +67,7 @@ fn fault_at(begin: u64, fault: LineFault) -> FeedFault
     }
 }
 
-/// Reads lines into the buffers of lines that aren't needed any more.
+/// Buffers of lines that aren't needed any more, into which further lines are read.
 #[derive(Debug, Drop)]
 pub struct LineBuffers {
     alloc: Global,
@@ -76,7 +76,7 @@ pub struct LineBuffers {
 }
 
 impl LineBuffers {
-    /// Creates no buffers.
+    /// Creates an empty set of buffers.
     pub fn new(alloc: Global) -> LineBuffers {
         LineBuffers {
             alloc,
