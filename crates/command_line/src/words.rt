@@ -254,7 +254,9 @@ fn tip_for(option: &str) -> &'static str {
 
 /// Returns `true` for an option that takes a value and has it behind `=`.
 fn has_value(option: &str) -> bool {
-    option.starts_with("--types=") || option.starts_with("--name=") || option.starts_with("--length=")
+    option.starts_with("--types=")
+        || option.starts_with("--name=")
+        || option.starts_with("--length=")
 }
 
 /// Returns the usage error for types, sizes, a length or an offset. clap accepts any argument for them; the texts are in its

@@ -16,8 +16,9 @@ use index_core::Indexer;
 use std::rt::Runtime;
 use warc_core::{Input, Output};
 
-/// Writes one index of the archives' records of these types. `input` is the name of standard input. An archive that can't be read to its end is indexed up to
-/// the fault. If memory failed before the index is written, nothing is written.
+/// Writes one index of the archives' records of these types. `input` is the name of standard input. An archive that
+/// can't be read to its end is indexed up to the fault. If memory failed before the index is written, nothing is
+/// written.
 pub fn index_all<R: Runtime + AllocGlobal, F: Opener, O: Output>(
     rt: &R,
     files: &F,
