@@ -146,5 +146,5 @@ indexes one before after unchanged (held, reached, (ended, next, step, rest), wr
     let d = one_done ended next held (subst (λ r. MatchBool (ends_command ended) ((r ≡ ended) × (held ≡ next))
     ((r ≡ Rattle.tasks.specs.Outcome.worse_of outcomes.Done ended) × (held ≡ next))) w.0 rest) in
     indexed before after held reached (added one held (subst (λ s. AddsOne shelf.archive_of shelf.ArchiveFailed
-    (nothing_of usual_types) archive_name outcomes.Done s) (sym d.1)
+    None (nothing_of usual_types) archive_name outcomes.Done s) (sym d.1)
     (subst (λ o. AddsOne shelf.archive_of shelf.ArchiveFailed None (nothing_of usual_types) archive_name o next) d.0 step))) w.1
