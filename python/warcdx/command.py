@@ -217,7 +217,7 @@ def run(name: str, work: Callable[[BinaryIO], int]) -> int:
             raise
         report(name, "Memory")
         status = FAILED
-    with contextlib.suppress(OSError, ValueError):  # what couldn't be written isn't written again
+    with contextlib.suppress(OSError, ValueError, MemoryError):  # what couldn't be written isn't written again
         output.raw.close()
         output.close()
     _signals.end()

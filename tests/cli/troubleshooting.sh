@@ -209,6 +209,14 @@ sees "two folders" "$(< response.cdxj)" "$fault" 1 index response.warc folder/re
 row "\`NoRecord\`"
 sees "inside a record" "" "warcdx: wget.warc: NoRecord" 1 get 1 wget.warc
 
+row "\`index\` is slow on a network disk"
+mkdir disk
+cp wget.warc disk
+as_a_stream() {
+    "$program" index --name wget.warc - < disk/wget.warc
+}
+prints "a stream has the same index" "$("$program" index wget.warc)" as_a_stream
+
 row "\`BadLine\`, \`OutOfOrder\` in an index of another tool"
 line "com,example)/" 0 | sed 's/"offset"/"at"/' > no-offset.cdxj
 sees "no offset" "" "warcdx: no-offset.cdxj: BadLine 0" 1 check no-offset.cdxj
