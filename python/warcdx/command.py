@@ -169,8 +169,8 @@ class _StandardError(io.RawIOBase):
         return True
 
     def write(self, data: "bytes | bytearray | memoryview") -> int:  # type: ignore[override]
-        left = memoryview(data)
-        with contextlib.suppress(OSError):
+        with contextlib.suppress(OSError, MemoryError):
+            left = memoryview(data)
             while left:
                 left = left[os.write(2, left) :]
         return len(data)
