@@ -5,7 +5,7 @@ usage: count_instructions.py [PROGRAM]
 
 Runs each command on two inputs by valgrind's callgrind, and divides the difference of the counts by that of the records, captures or lines. So the
 start of the program isn't counted. Makes the inputs in a temporary folder (TMPDIR, 100 MB) and prints a table. The exit status is 0, or 1 if a goal is
-missed. Needs valgrind.
+missed. Needs valgrind. Where there is rustc, the same is counted of the commands by hand.
 """
 import pathlib
 import re
@@ -18,7 +18,7 @@ from typing import NamedTuple, Optional
 from make_archives import Archive
 from make_crawls import Crawl
 from make_indexes import deal, lines
-from measuring import WIDTH, read_program
+from measuring import WIDTH, build_by_hand, read_program
 from program import need
 
 COLLECTED = re.compile(r"Collected : (\d+)")
@@ -26,6 +26,7 @@ QUERY = "key=&matchType=prefix"
 RECORDS = 500  # of an archive of 10 MB
 CAPTURES = (1000, 5000)
 LINES = (40_960, 81_920)
+BY_HAND = ("list", "index", "check", "merge")  # the commands
 
 
 class Input(NamedTuple):
@@ -110,15 +111,17 @@ def main() -> int:
     need("valgrind")
     is_met = True
     with tempfile.TemporaryDirectory() as name:
+        hand = build_by_hand(pathlib.Path(name))
         for row in rows(pathlib.Path(name)):
             count = each(program, row)
-            print(f"{row.name:<{WIDTH}}{count:8,.0f}", end="")
-            if row.goal is None:
-                print()
-                continue
-            met = count <= row.goal
-            is_met = is_met and met
-            print(f"  goal {row.goal:6,}  {'met' if met else 'MISSED'}", flush=True)
+            text = f"{row.name:<{WIDTH}}{count:8,.0f}"
+            if row.goal is not None:
+                met = count <= row.goal
+                is_met = is_met and met
+                text += f"  goal {row.goal:6,}  {'met' if met else 'MISSED':<6}"
+            if hand is not None and row.command[0] in BY_HAND:
+                text += f"  by hand {each(hand, row):6,.0f}"
+            print(text, flush=True)
     return 0 if is_met else 1
 
 

@@ -17,6 +17,8 @@ from functools import partial
 from make_crawls import Crawl
 from measuring import (
     Figure,
+    build_by_hand,
+    cold_time,
     least_times,
     peak_of_run,
     processor_time,
@@ -83,6 +85,10 @@ def main() -> int:
         write_crawl(Crawl(25_000, 19_300, "X-No-Payload-Digest"), indexing, made)
         write_crawl(Crawl(CAPTURES // 2, 100), indexing, half)
         lines = write_crawl(Crawl(CAPTURES, 100), indexing, many)
+        hand, by_hand = build_by_hand(pathlib.Path(folder)), {}
+        if hand is not None:
+            expect_named(pages, [hand, "index", given], given)
+            by_hand["index FILE by hand"] = partial(run_time, [hand, "index", given])
         times = least_times(
             {
                 "cat": partial(processor_time, "cat", given),
@@ -96,12 +102,15 @@ def main() -> int:
                 "index -, 1,000,000 captures": partial(processor_time, indexing, many),
                 "of it, sorting and writing": partial(time_after_input, indexing, many),
                 "sort, its lines": partial(processor_time, SORT, lines),
+                "elapsed, cold: cat": partial(cold_time, ["cat", given], given),
+                "elapsed, cold: index FILE": partial(cold_time, indexing_given, given),
             }
+            | by_hand
         )
         read = read_bytes(indexing_large) / large.stat().st_size
         peak = peak_of_run([program, "index", many], os.devnull)
 
-    cat, cat_large, index_given, file_given, file_large, sha1sum, index_made, index_half, index_many, writing, sort = times.values()
+    cat, cat_large, index_given, file_given, file_large, sha1sum, index_made, index_half, index_many, writing, sort, *cold = times.values()
     figures = [
         Figure("index over cat, digests given", index_given / cat, 3.5),
         Figure("index over cat, files of pages of 20 kB", file_given / cat, 1.2),
@@ -110,6 +119,8 @@ def main() -> int:
         Figure("index over sha1sum, digests made", index_made / sha1sum, 1.25),
         Figure("1,000,000 captures over 500,000", index_many / index_half, 2.3),
         Figure("sorting and writing over sort", writing / sort, 1.5),
+        Figure("index over cat, cold, pages of 20 kB", cold[1] / cold[0], None),
+        *(Figure("index FILE over index FILE by hand", file_given / time, None) for time in cold[2:]),
         Figure("memory of a capture", peak / CAPTURES / 1000, 0.36, "kB"),
     ]
     return report(times, figures)

@@ -13,6 +13,8 @@ from functools import partial
 from make_archives import Archive, one_long_record, write_hole
 from measuring import (
     Figure,
+    build_by_hand,
+    cold_time,
     expect,
     expect_named,
     least_times,
@@ -48,6 +50,10 @@ def main() -> int:
         hole_listing = write_hole(files[4], 5_000_000_000)
         expect_named([*listing, files[4]], hole_listing)
         get_long, get_large = expect_record(getting, long, files[0]), expect_record(getting, large, files[3])
+        hand, by_hand = build_by_hand(pathlib.Path(folder)), {}
+        if hand is not None:
+            expect_named([hand, "list", files[0]], long.listing())
+            by_hand["list FILE by hand"] = partial(run_time, [hand, "list", files[0]])
         times = least_times(
             {
                 "cat": partial(processor_time, "cat", files[0]),
@@ -60,10 +66,15 @@ def main() -> int:
                 "list FILE, one record of 5 GB": partial(run_time, [*listing, files[4]]),
                 "get OFFSET FILE": partial(run_time, get_long),
                 "get OFFSET FILE, records of 200 kB": partial(run_time, get_large),
+                "elapsed, cold: cat": partial(cold_time, ["cat", files[0]], files[0]),
+                "elapsed, cold: list FILE": partial(cold_time, [*listing, files[0]], files[0]),
+                "elapsed, cold: cat, records of 200 kB": partial(cold_time, ["cat", files[3]], files[3]),
+                "elapsed, cold: list FILE, records of 200 kB": partial(cold_time, [*listing, files[3]], files[3]),
             }
+            | by_hand
         )
 
-    cat, cat_large, input_long, input_short, input_twice, file_long, file_large, hole, get_long, get_large = times.values()
+    cat, cat_large, input_long, input_short, input_twice, file_long, file_large, hole, get_long, get_large, *cold = times.values()
     a_record = (input_short - input_long) / (len(short.lengths) - len(long.lengths))
     archives = {
         "500 MB, records of 20 kB": long.pieces,
@@ -80,6 +91,9 @@ def main() -> int:
         Figure("list of a file of one record of 5 GB", hole * 1000, 5, "ms"),
         Figure("get over cat, files of records of 20 kB", get_long / cat, 1),
         Figure("get over cat, files of records of 200 kB", get_large / cat_large, 0.12),
+        Figure("list over cat, cold, records of 20 kB", cold[1] / cold[0], None),
+        Figure("list over cat, cold, records of 200 kB", cold[3] / cold[2], None),
+        *(Figure("list FILE over list FILE by hand", file_long / time, None) for time in cold[4:]),
     ]
     return report(times, figures + memory_figures([*listing, "-"], archives, 8))
 

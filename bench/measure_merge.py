@@ -11,7 +11,7 @@ import subprocess
 import sys
 import tempfile
 
-from measuring import Figure, least_times, peak, read_program, report, run_time
+from measuring import Figure, build_by_hand, least_times, peak, read_program, report, run_time
 
 LINES = 1_000_000
 SORT = ("env", "LC_ALL=C", "sort", "-s", "-k1,2")
@@ -46,8 +46,18 @@ def main() -> int:
         for files in parts.values():
             expect_merge(merging, files, folder / "whole", folder)
         expect_check(checking, folder / "whole")
+        runs = {}
+        if (hand := build_by_hand(folder)) is not None:
+            for count in (4, 1024):
+                expect_merge([hand, "merge"], parts[count], folder / "whole", folder)
+            expect_check([hand, "check"], folder / "whole")
+            runs = {
+                "merge by hand, 4 files": lambda: run_time([hand, "merge", *parts[4]]),
+                "merge by hand, 1,024 files": lambda: run_time([hand, "merge", *parts[1024]]),
+                "check by hand": lambda: run_time([hand, "check", folder / "whole"]),
+            }
 
-        times = least_times({
+        times = least_times(runs | {
             "sort -m, 4 files": lambda: run_time([*SORT, "-m", *parts[4]]),
             "merge, 4 files": lambda: run_time([*merging, *parts[4]]),
             "sort -m, 1,024 files": lambda: run_time([*SORT, "-m", "--batch-size=1024", *parts[1024]]),
@@ -57,12 +67,14 @@ def main() -> int:
             "sort -c": lambda: run_time([*SORT, "-c", folder / "whole"]),
             "check": lambda: run_time([*checking, folder / "whole"]),
         })
+        by_hand = {name.replace(" by hand", ""): time for name, time in times.items() if "by hand" in name}
         figures = [
             Figure("merge of 4 over sort -m", times["merge, 4 files"] / times["sort -m, 4 files"], 1.7),
             Figure("merge of 1,024 over sort -m", times["merge, 1,024 files"] / times["sort -m, 1,024 files"], 0.3),
             Figure("merge of 1,024 over merge of 4", times["merge, 1,024 files"] / times["merge, 4 files"], 2),
             Figure("twice the lines", times["merge, 4 files"] / times["merge, 4 files, half the lines"], 2.2),
             Figure("check over sort -c", times["check"] / times["sort -c"], 1.6),
+            *(Figure(f"{name} over that by hand", times[name] / time, None) for name, time in by_hand.items()),
             Figure("memory: 4 files", peak([*merging, *parts[4]]) / 1e6, 8, "MB"),
             Figure("memory: 1,024 files", peak([*merging, *parts[1024]]) / 1e6, 32, "MB"),
             Figure("memory: check", peak([*checking, folder / "whole"]) / 1e6, 8, "MB"),

@@ -20,18 +20,21 @@ ROUNDS = 15
 PIECE = 1 << 20  # bytes handed to a pipe at once
 WIDTH = 44  # of a name in a table
 NOWHERE = {"stdin": subprocess.DEVNULL, "stdout": subprocess.DEVNULL}
+BY_HAND = pathlib.Path(__file__).with_name("by_hand") / "main.rs"
 
 
 class Figure(NamedTuple):
     name: str
     found: float
-    goal: float
+    goal: Optional[float]
     unit: str = ""
 
     def is_met(self):
-        return self.found < self.goal
+        return self.goal is None or self.found < self.goal
 
     def __str__(self):
+        if self.goal is None:
+            return f"{self.name:<{WIDTH}}{self.found:8.2f} {self.unit}"
         met = "met" if self.is_met() else "MISSED"
         return f"{self.name:<{WIDTH}}{self.found:8.2f} {self.unit:<2}  goal {self.goal:<4} {self.unit:<2}  {met}"
 
@@ -57,6 +60,15 @@ def read_program(header: Optional[str]) -> pathlib.Path:
     parser = parser_of(header)
     add_program(parser)
     return find_program(parser.parse_args().program)
+
+
+def build_by_hand(folder: pathlib.Path) -> Optional[pathlib.Path]:
+    """Builds the program by hand in a folder, or returns None if there is no rustc."""
+    if shutil.which("rustc") is None:
+        return None
+    program = folder / "by_hand"
+    subprocess.run(("rustc", "--edition=2021", "-O", "-Ctarget-cpu=x86-64-v2", BY_HAND, "-o", program), check=True)
+    return program
 
 
 def write_archive(archive, path):
@@ -136,6 +148,16 @@ def seconds(used):
 def run_time(command):
     """The user and system time, in seconds, of one run that reads no standard input."""
     return seconds(used_by(subprocess.Popen(command, **NOWHERE), command))
+
+
+def cold_time(command, path):
+    """The elapsed time, in seconds, of such a run whose file isn't in the page cache."""
+    with open(path, "rb") as file:
+        os.fdatasync(file.fileno())
+        os.posix_fadvise(file.fileno(), 0, 0, os.POSIX_FADV_DONTNEED)
+    start = time.monotonic()
+    run_time(command)
+    return time.monotonic() - start
 
 
 def read_bytes(command):
