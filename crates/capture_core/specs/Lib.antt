@@ -25,7 +25,6 @@ pub use Rattle.warc_core.specs.Reading
 pub use Rattle.warc_core.specs.ReaderView
 -- what contracts see of entries
 pub use Rattle.cdxj_core.specs.Entries
-pub use Rattle.cdxj_core.specs.EntryView
 -- what contracts see of inputs
 pub use Rattle.warc_core.specs.Device
 pub use Rattle.warc_core.specs.FromStd

@@ -1,6 +1,6 @@
 //! Captures, held as their lines.
 use cdxj_core::{
-    Entry, EntryRef, Field, HasPlace, LineFault, LineRef, write_entry, written_line_is_read,
+    Entry, EntryRef, Field, HasPlace, LineFault, LineRef, Pair, write_entry, written_line_is_read,
 };
 use memchr::{memchr, memrchr};
 use std::alloc::{AllocError, Global};
@@ -33,8 +33,7 @@ impl Model for HeldLine {
 impl HeldLine {
     ghost use Rattle.std.specs.Prelude.{◌≡◌, ◌<◌, length, Err, IfOk};
     ghost use Rattle.cdxj_core.specs.declared.limit.TheConstants.{LINE_LIMIT};
-    ghost use Rattle.cdxj_core.specs.Entries.{IsGood, HasLine, line_text};
-    ghost use Rattle.cdxj_core.specs.EntryView.{entry_view};
+    ghost use Rattle.cdxj_core.specs.Entries.{IsGood, HasLine, entry_view, line_text};
 
     /// Writes the line of a good entry.
     ///
@@ -71,7 +70,7 @@ impl HeldLine {
             Ok(line) => line,
             Err(_) => return Err(AllocError),
         };
-        let (key, stamp) = line.pair();
+        let Pair { key, stamp } = line.pair();
         Ok(Entry {
             key: String::from_str(alloc, key)?,
             stamp,

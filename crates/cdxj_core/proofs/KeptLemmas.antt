@@ -4,29 +4,28 @@ use Rattle.std.proofs.lemmas.Fmt.{digits_value-decimal}
 use Rattle.cdxj_places.proofs.Offsets.{own}
 use Rattle.cdxj_places.proofs.PlaceLaw.{offset_text}
 use Rattle.std.proofs.Common.{Some, refl, sym, arith, append_assoc, append-nil, length-append}
-use Rattle.std.proofs.Common.{ap, ◌∙◌, drop-drop, IsUtf8}
+use Rattle.std.proofs.Common.{ap, ◌∙◌, drop-drop, subst, IsUtf8}
 use Rattle.std.specs.List.{list_all, prefix_len, before_first, after_first}
 use Rattle.std.specs.Str.{IsCharBoundary}
 use Rattle.std.proofs.lemmas.Str.{IsCharBoundary-before_ascii, IsCharBoundary-end}
 use Rattle.std.proofs.Math.Seq.{take-append_seam, drop-append_seam, get_or-append_seam}
 use Rattle.cdxj_places.specs.Pair.{is_space, is_key, is_stamp}
 use Rattle.cdxj_places.specs.Places.{offset_of}
-use Rattle.cdxj_objects.specs.declared.member_ends.MemberEnds.{MemberEnds}
-use Rattle.cdxj_objects.specs.declared.member_ends.PlainMembers.{PlainMembers}
-use Rattle.cdxj_objects.specs.declared.member_ends.TheConstants.{OPEN}
+use Rattle.cdxj_objects.specs.declared.members.Members.{Members}
+use Rattle.cdxj_objects.specs.declared.plain.PlainMembers.{PlainMembers}
 use Rattle.cdxj_objects.specs.FoundMembers.{FoundValue, members_in}
 use Rattle.cdxj_objects.specs.MemberValues.{filename_value, offset_value}
 use Rattle.cdxj_objects.specs.Plain.{ArePlain, is_neither, is_unescaped, plain_text, values_of_texts}
-use Rattle.cdxj_objects.specs.PlainPlaces.{AreEndsOf, ArePlainMembers, texts_at}
+use Rattle.cdxj_objects.specs.PlainPlaces.{AreFrontsOf, ArePlainMembers, texts_at}
 use Rattle.cdxj_objects.specs.Spelling.{IsSpelled, raw_texts}
 use Rattle.cdxj_objects.specs.Texts.{TextsValue}
 use Rattle.cdxj_objects.proofs.PlainBytes.{plain_decimal, plain_where_unescaped}
 use Rattle.cdxj_objects.proofs.PlainCuts.{cut_behind, front_passes}
 use Rattle.cdxj_objects.proofs.PlainPlaces.{GoesOn, next, parts_there, texts_there}
 use Rattle.cdxj_core.specs.declared.spans.Spans.{Spans}
-use Rattle.cdxj_core.specs.declared.spans.TheConstants.{TO_STAMP, TO_STAMP_END, TO_URL}
-use Rattle.cdxj_core.specs.KeptLine.{IsKept, member_in, texts_in}
-use Rattle.cdxj_core.specs.Lines.{LineValue, body_of, has_no_feed, line_value}
+use Rattle.cdxj_core.specs.declared.spans.TheConstants.{TO_STAMP, TO_STAMP_END}
+use Rattle.cdxj_core.specs.KeptLine.{IsKept, member_in}
+use Rattle.cdxj_core.specs.Lines.{LineValue, body_of, has_no_feed, line_value, texts_in}
 use Rattle.cdxj_core.specs.Members.{Member, line_entry}
 use Rattle.cdxj_core.proofs.FoundLines.{line_found, line_made}
 use Rattle.cdxj_core.proofs.LineCuts.{first_key, first_stamp}
@@ -39,22 +38,21 @@ plain_values : (t : TextsValue) (v : LineValue) → v.offset < 2 ^ 63 → values
 plain_values t v small same h = grind (arith, plain_decimal)
 
 -- a line, and a plain object with its texts in it or behind it
-kept_line : (limit : ℕ) (text tail : List ℕ) (member : Member) (t : TextsValue) (at : ℕ) (s : Spans) → IsUtf8 text
+kept_line : (limit : ℕ) (text tail : List ℕ) (member : Member) (t : TextsValue) (s : Spans) → IsUtf8 text
     → line_entry limit member.line ≡ Some member → text ≡ member.line ++ tail
     → values_of_texts t ≡ texts_in member.values → s.size ≡ length member.line → IsCharBoundary text s.size
     → s.key ≡ length member.values.key → s.stamp ≡ member.values.stamp → s.offset ≡ member.values.offset
-    → GoesOn text at (plain_text t) → s.start ≡ at + OPEN → AreEndsOf s.start t s.ends
+    → GoesOn text s.fronts.url (plain_text t) → AreFrontsOf text t s.fronts
     → (s.size ≡ length text → ArePlain t)
     → IsKept limit text s (member_in limit (take s.size text))
-kept_line limit text tail member t at s utf8 entry seam values size line_ends key_size stamp_is offset_is here begins
-    ends plain =
+kept_line limit text tail member t s utf8 entry seam values size line_ends key_size stamp_is offset_is here places plain =
     let its = entry_valued limit member.line member entry in
     let key = member.values.key in
     let whole : text ≡ key ++ 32 ∷ (member.values.stamp ++ 32 ∷ (its.object ++ tail)) = grind (arith, append_assoc) in
     let there = next text utf8 32 (omega arith) 0 key member.values.stamp (its.object ++ tail) (s.key + TO_STAMP)
     (s.key + TO_STAMP_END) (omega arith, whole) (omega arith) (grind arith) in
-    let parts = parts_there text utf8 at t s.start s.ends here begins ends in
-    let texts = texts_there text utf8 at t s.start s.ends here begins ends in
+    let parts = parts_there text utf8 t s.fronts here places in
+    let texts = texts_there text utf8 t s.fronts here places in
     grind (arith, plain_values, IsCharBoundary-before_ascii, take-append_seam, get_or-append_seam, length-append)
 
 -- a plain line is its own text
@@ -67,15 +65,14 @@ pub plain_kept : (limit : ℕ) (text : List ℕ) (key : ℕ) (m : PlainMembers) 
       key = key;
       stamp = take 14 (drop (key + 1) text);
       offset = m.offset;
-      start = key + TO_URL;
-      ends = m.ends;
+      fronts = m.fronts;
     }) (member_in limit (take (length text) text))
 plain_kept limit text key m utf8 all short run some long space good_stamp second members =
     let front = take key text in
     let rest = drop (key + 1) text in
     let stamp = take 14 rest in
     let object = drop (key + 16) text in
-    let t = texts_at text (key + 16 + OPEN) m.ends in
+    let t = texts_at text m.fronts in
     let first_cut : text ≡ front ++ 32 ∷ rest = grind (arith, cut_behind text key) in
     let later : drop 15 rest ≡ object = grind (arith, drop-drop 15 (key + 1) text) in
     let there : get_or rest 14 0 ≡ 32 = grind (arith, get_or-drop) in
@@ -92,10 +89,9 @@ plain_kept limit text key m utf8 all short run some long space good_stamp second
     let member : Member = record { values = line_value front stamp (values_of_texts t) m.offset; line = text } in
     let entry = body_entry limit text front rest stamp object member.values utf8 short (unescaped_feed text all)
     (grind arith) (grind arith) (grind arith) (grind arith) (grind arith) in
-    let start : key + 16 + OPEN ≡ key + TO_URL = omega arith in
-    kept_line limit text [] member t (key + 16) _ utf8 entry (sym (append-nil text)) (grind arith) refl
-    (grind (arith, IsCharBoundary-end)) (sym size) refl refl (omega arith, members.is) (omega arith)
-    (rw (← start) members.ends) (λ e. plain)
+    kept_line limit text [] member t _ utf8 entry (sym (append-nil text)) (grind arith) refl
+    (grind (arith, IsCharBoundary-end)) (sym size) refl refl
+    (omega (arith, members.begins), subst (λ n. drop n text ≡ plain_text t) (sym members.begins) members.is) members.fronts (λ e. plain)
 
 -- a line whose body is read as a text
 pub line_of_text : (limit : ℕ) (line body text : List ℕ) (member : Member) → text ≡ body → body ≡ body_of line
@@ -105,22 +101,21 @@ line_of_text limit line body text member same its all h =
 
 -- any other line is followed by a plain object with its texts
 pub json_kept : (limit : ℕ) (text body key rest stamp object filename : List ℕ) (f : FoundValue) (offset : ℕ)
-    (ends : MemberEnds)
+    (at : Members ℕ)
     → IsUtf8 text → IsUtf8 body → length body < limit → has_no_feed body ≡ true
     → key ≡ before_first is_space body → rest ≡ after_first is_space body → stamp ≡ before_first is_space rest
     → object ≡ after_first is_space rest
     → is_key key ≡ true → is_stamp stamp ≡ true → members_in object ≡ Some f
     → filename_value f.filename ≡ Some filename → offset_value f.offset ≡ Some offset
-    → IsSpelled body f offset filename text ends
+    → IsSpelled body f offset filename text at
     → IsKept limit text (record {
       size = length body;
       key = length key;
       stamp = stamp;
       offset = offset;
-      start = length body + OPEN;
-      ends = ends;
+      fronts = at;
     }) (member_in limit (take (length body) text))
-json_kept limit text body key rest stamp object filename f offset ends utf8 body_utf8 short whole k r t o good_key
+json_kept limit text body key rest stamp object filename f offset at utf8 body_utf8 short whole k r t o good_key
     good_stamp found named placed spelled =
     let texts = raw_texts f offset filename in
     let line = line_found key stamp object f found in
@@ -128,9 +123,9 @@ json_kept limit text body key rest stamp object filename f offset ends utf8 body
     let entry = body_entry limit body key rest stamp object member.values body_utf8 short whole k r t o
     (grind (arith, line_made)) in
     let long : length text ≡ length body + length (plain_text texts) = grind (arith, length-append) in
-    kept_line limit text (plain_text texts) member texts (length body) _ utf8 entry spelled.text_is (grind arith) refl
-    (grind (arith, IsCharBoundary-before_ascii, get_or-append_seam)) refl refl refl (grind (arith, drop-append_seam))
-    refl spelled.ends (λ e. absurd (omega arith))
+    kept_line limit text (plain_text texts) member texts _ utf8 entry spelled.text_is (grind arith) refl
+    (grind (arith, IsCharBoundary-before_ascii, get_or-append_seam)) refl refl refl
+    (grind (arith, drop-append_seam, spelled)) spelled.fronts (λ e. absurd (omega arith))
 
 -- the key ends before its line
 pub key_short : (limit : ℕ) (line : List ℕ) (member : Member) → line_entry limit line ≡ Some member

@@ -7,6 +7,7 @@ pub mod EntryUtf8
 pub mod EntryRead
 pub mod FoundLines
 pub mod LineCuts
+pub mod LineJoined
 pub mod ObjectLines
 pub mod UnescapedAscii
 pub mod SortedLines

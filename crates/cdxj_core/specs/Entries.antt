@@ -7,6 +7,7 @@ use Rattle.cdxj_places.specs.Pairs.{Pair}
 use Rattle.cdxj_places.specs.Places.{PlaceValue}
 use Rattle.cdxj_objects.specs.Objects.{object_text}
 use Rattle.cdxj_objects.specs.Texts.{TextsValue, text_members}
+use Rattle.cdxj_core.specs.declared.entry_ref.EntryRef.{EntryRef}
 
 -- what an index says of a capture: texts as the lists of their bytes, length and offset in bytes
 pub record EntryValue : Type 0 where
@@ -19,6 +20,29 @@ pub record EntryValue : Type 0 where
   pub length : ℕ
   pub offset : ℕ
   pub filename : List ℕ
+
+-- what contracts see of an entry whose texts are borrowed
+abbrev pub entry_view : EntryRef → EntryValue
+entry_view e = record {
+  key = e.key.now;
+  stamp = e.stamp;
+  url = e.url.now;
+  mime = e.mime.now;
+  status = e.status.now;
+  digest = e.digest.now;
+  length = e.length;
+  offset = e.offset;
+  filename = e.filename.now;
+}
+
+-- texts that strings have
+pub record AreUtf8 (e : EntryValue) : Type 0 where
+  pub key : IsUtf8 e.key
+  pub url : IsUtf8 e.url
+  pub mime : IsUtf8 e.mime
+  pub status : IsUtf8 e.status
+  pub digest : IsUtf8 e.digest
+  pub filename : IsUtf8 e.filename
 
 -- an entry that can be written
 pub record IsGood (e : EntryValue) : Type 0 where

@@ -1,33 +1,20 @@
 -- A line that was read: its text, and where its parts stand in it.
-use Rattle.std.specs.Prelude.{◌≡◌, ℕ, ◌+◌, ◌<◌, ◌^◌, true, List, [], take, length, decimal, Some, unwrap_or}
+use Rattle.std.specs.Prelude.{◌≡◌, ℕ, ◌+◌, ◌<◌, ◌^◌, true, List, [], take, length, Some, unwrap_or}
 use Rattle.std.specs.Str.{IsCharBoundary}
 use Rattle.cdxj_places.specs.Pair.{is_key, is_stamp}
-use Rattle.cdxj_objects.specs.declared.member_ends.MemberEnds.{MemberEnds}
+use Rattle.cdxj_objects.specs.declared.members.Members.{Members}
+use Rattle.cdxj_objects.specs.ObjectMembers.{all_members}
 use Rattle.cdxj_objects.specs.Plain.{ArePlain, values_of_texts}
 use Rattle.cdxj_objects.specs.PlainPlaces.{AreParts, IsPartBetween, part, texts_at}
-use Rattle.cdxj_objects.specs.Texts.{TextsValue}
 use Rattle.cdxj_core.specs.declared.spans.Spans.{Spans}
 use Rattle.cdxj_core.specs.declared.spans.TheConstants.{TO_STAMP, TO_STAMP_END}
-use Rattle.cdxj_core.specs.Lines.{LineValue}
+use Rattle.cdxj_core.specs.Lines.{LineValue, line_value, texts_in}
 use Rattle.cdxj_core.specs.Members.{Member, line_entry}
 
--- the texts of the members that have these values
-abbrev pub texts_in : LineValue → TextsValue
-texts_in v = record {
-  url = v.original;
-  mime = v.mimetype;
-  status = v.statuscode;
-  digest = v.digest;
-  length = v.length;
-  offset = decimal v.offset;
-  filename = v.filename;
-}
-
 -- the texts that stand there have these values
-pub record AreMemberEnds (text : List ℕ) (start : ℕ) (e : MemberEnds) (values : LineValue) : Type 0
-  where
-    pub parts : AreParts text start e
-    pub texts_are : values_of_texts (texts_at text start e) ≡ texts_in values
+pub record AreFrontsWith (text : List ℕ) (at : Members ℕ) (values : LineValue) : Type 0 where
+  pub parts : AreParts text at
+  pub texts_are : values_of_texts (texts_at text at) ≡ texts_in values
 
 -- The text begins with the line of this member, and its parts stand there. Behind a line that isn't
 -- plain, the text has a plain object with the texts of the line's members.
@@ -41,7 +28,7 @@ pub record IsKept (limit : ℕ) (text : List ℕ) (s : Spans) (member : Member) 
   pub stamp_text : part text (s.key + TO_STAMP) (s.key + TO_STAMP_END) ≡ member.values.stamp
   pub stamp_is : s.stamp ≡ member.values.stamp
   pub offset_is : s.offset ≡ member.values.offset
-  pub placed : AreMemberEnds text s.start s.ends member.values
+  pub placed : AreFrontsWith text s.fronts member.values
   pub key_rule : is_key member.values.key ≡ true
   pub stamp_rule : is_stamp member.values.stamp ≡ true
   pub filename_rule : 0 < length member.values.filename
@@ -50,20 +37,7 @@ pub record IsKept (limit : ℕ) (text : List ℕ) (s : Spans) (member : Member) 
 
 -- the member of nothing
 abbrev pub no_member : Member
-no_member = record {
-  values = record {
-    key = [];
-    stamp = [];
-    original = [];
-    mimetype = [];
-    statuscode = [];
-    digest = [];
-    length = [];
-    offset = 0;
-    filename = [];
-  };
-  line = [];
-}
+no_member = record { values = line_value [] [] (all_members []) 0; line = [] }
 
 -- the member that a body is
 abbrev pub member_in : ℕ → List ℕ → Member

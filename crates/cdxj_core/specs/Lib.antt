@@ -1,18 +1,16 @@
 pub mod Entries
 pub mod Lines
-pub mod EntryView
 pub mod LineTexts
 pub mod Members
 pub mod KeptLine
 pub mod Indexes
 -- what contracts see of a line's object
-pub use Rattle.cdxj_objects.specs.Names
+pub use Rattle.cdxj_objects.specs.ObjectMembers
 pub use Rattle.cdxj_objects.specs.Texts
 pub use Rattle.cdxj_objects.specs.Objects
 pub use Rattle.cdxj_objects.specs.MemberValues
 pub use Rattle.cdxj_objects.specs.FoundMembers
 pub use Rattle.cdxj_objects.specs.FoundViews
-pub use Rattle.cdxj_objects.specs.MemberViews
 pub use Rattle.cdxj_objects.specs.Plain
 pub use Rattle.cdxj_objects.specs.PlainPlaces
 pub use Rattle.cdxj_objects.specs.Spelling

@@ -12,10 +12,9 @@ use Rattle.cdxj_places.specs.Bytes.{line_feed}
 use Rattle.cdxj_places.specs.Pair.{is_space, is_key, is_stamp}
 use Rattle.cdxj_places.specs.Places.{PlaceValue}
 use Rattle.cdxj_objects.specs.MemberValues.{value_text, filename_value, offset_value}
-use Rattle.cdxj_objects.specs.Names.{url_name, mime_name, status_name, digest_name, length_name, offset_name}
-use Rattle.cdxj_objects.specs.Names.{filename_name}
+use Rattle.cdxj_objects.specs.ObjectMembers.{map_members, names}
 use Rattle.cdxj_objects.specs.Texts.{TextsValue}
-use Rattle.cdxj_core.specs.Entries.{EntryValue}
+use Rattle.cdxj_core.specs.Entries.{EntryValue, entry_texts}
 
 -- the nine values of a line; the offset is a number, all others are texts
 pub record LineValue : Type 0 where
@@ -59,31 +58,29 @@ line_value key stamp texts offset = record {
   filename = texts.filename;
 }
 
+-- the texts of the members that have these values
+abbrev pub texts_in : LineValue → TextsValue
+texts_in v = record {
+  url = v.original;
+  mime = v.mimetype;
+  status = v.statuscode;
+  digest = v.digest;
+  length = v.length;
+  offset = decimal v.offset;
+  filename = v.filename;
+}
+
 -- the values that the line of a good entry has
 abbrev pub entry_values : EntryValue → LineValue
-entry_values e = record {
-  key = e.key;
-  stamp = e.stamp;
-  original = e.url;
-  mimetype = e.mime;
-  statuscode = e.status;
-  digest = e.digest;
-  length = decimal e.length;
-  offset = e.offset;
-  filename = e.filename;
-}
+entry_values e = line_value e.key e.stamp (entry_texts e) e.offset
 
 -- the texts of an object's members
 abbrev pub texts_of : Data → List ℕ → ℕ → TextsValue
-texts_of d filename offset = record {
-  url = value_text (get url_name d);
-  mime = value_text (get mime_name d);
-  status = value_text (get status_name d);
-  digest = value_text (get digest_name d);
-  length = value_text (get length_name d);
-  offset = decimal offset;
-  filename = filename;
-}
+texts_of d filename offset =
+    record (map_members (λ name. value_text (get name d)) names) {
+      offset = decimal offset;
+      filename = filename;
+    }
 
 -- the values of an object after a pair
 abbrev pub object_values : List ℕ → List ℕ → Data → List ℕ → ℕ → LineValue
@@ -93,7 +90,7 @@ object_values key stamp d filename offset = line_value key stamp (texts_of d fil
 abbrev pub line_from : List ℕ → List ℕ → Data → Option LineValue
 line_from key stamp d =
     option_and_then (λ filename. option_map (object_values key stamp d filename)
-    (offset_value (get offset_name d))) (filename_value (get filename_name d))
+    (offset_value (get names.offset d))) (filename_value (get names.filename d))
 
 -- the line without a line feed at its end
 abbrev pub body_of : List ℕ → List ℕ

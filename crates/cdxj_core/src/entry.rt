@@ -1,6 +1,6 @@
 //! The entry of a capture in an index.
 use crate::entry_ref::EntryRef;
-use cdxj_places::{HasPlace, is_key, is_stamp};
+use cdxj_places::{HasPlace, Pair, is_key, is_stamp};
 use std::cmp::Ordering;
 use std::marker::Model;
 
@@ -47,9 +47,8 @@ impl Model for Entry {
 }
 
 impl Entry {
-    ghost use Rattle.std.specs.Prelude.{◌≡◌, ◌↔◌, IsTrue, IsUtf8};
-    ghost use Rattle.cdxj_core.specs.Entries.{IsGood};
-    ghost use Rattle.cdxj_core.specs.EntryView.{entry_view};
+    ghost use Rattle.std.specs.Prelude.{◌≡◌, ◌↔◌, IsTrue};
+    ghost use Rattle.cdxj_core.specs.Entries.{AreUtf8, IsGood, entry_view};
 
     /// Returns `true` if the entry can be written: the key is a key, the stamp is 14 digits, no
     /// text is empty, and length and offset are below 2^63.
@@ -85,14 +84,19 @@ impl Entry {
         }
     }
 
+    fn pair(&self) -> Pair<'_>
+        ensures key { result.key.now ≡ self.now.key }
+        ensures stamp { result.stamp ≡ self.now.stamp }
+    {
+        Pair {
+            key: self.key.as_str(),
+            stamp: self.stamp,
+        }
+    }
+
     /// Shows that the texts are UTF-8, as strings are. Nothing else is done.
     fn see_texts(&self)
-        ensures key { IsUtf8 self.now.key }
-        ensures url { IsUtf8 self.now.url }
-        ensures mime { IsUtf8 self.now.mime }
-        ensures status { IsUtf8 self.now.status }
-        ensures digest { IsUtf8 self.now.digest }
-        ensures filename { IsUtf8 self.now.filename }
+        ensures { AreUtf8 self.now }
     {
         // For the proof alone: what the type says of the texts.
         let _opened = &self.key;
@@ -109,10 +113,8 @@ impl HasPlace for Entry {
     }
 
     fn compare_place(&self, other: &Entry) -> Ordering {
-        self.key
-            .as_str()
-            .cmp(other.key.as_str())
-            .then_with(|| self.stamp.cmp(&other.stamp))
+        self.pair()
+            .cmp(&other.pair())
             .then_with(|| self.filename.as_str().cmp(other.filename.as_str()))
             .then_with(|| self.offset.cmp(&other.offset))
     }

@@ -1,5 +1,5 @@
 //! The entry of a capture, as texts that are borrowed.
-use cdxj_objects::BorrowedMembers;
+use cdxj_objects::{Members, is_plain_text};
 
 /// The contents of an index line about one capture. Its texts are borrowed.
 #[derive(Clone, Copy, Debug)]
@@ -25,20 +25,20 @@ pub struct EntryRef<'a> {
 }
 
 impl<'a> EntryRef<'a> {
-    ghost use Rattle.std.specs.Prelude.{◌≡◌};
-    ghost use Rattle.cdxj_objects.specs.MemberViews.{borrowed_view};
-    ghost use Rattle.cdxj_core.specs.Entries.{entry_texts};
-    ghost use Rattle.cdxj_core.specs.EntryView.{entry_view};
+    ghost use Rattle.std.specs.Prelude.{◌≡◌, ◌↔◌, IsTrue};
+    ghost use Rattle.cdxj_objects.specs.Plain.{ArePlain};
+    ghost use Rattle.cdxj_objects.specs.Texts.{borrowed_view};
+    ghost use Rattle.cdxj_core.specs.Entries.{IsGood, entry_texts, entry_view};
 
     /// Returns the texts of the members. `length` and `offset` are the entry's numbers in decimal.
-    pub(crate) fn members(self, length: &'a str, offset: &'a str) -> BorrowedMembers<'a>
+    pub(crate) fn members(self, length: &'a str, offset: &'a str) -> Members<&'a str>
         ensures { borrowed_view result
             ≡ record (entry_texts (entry_view self.entry)) {
               length = length.now;
               offset = offset.now;
             } }
     {
-        BorrowedMembers {
+        Members {
             url: self.url,
             mime: self.mime,
             status: self.status,
@@ -47,5 +47,19 @@ impl<'a> EntryRef<'a> {
             offset,
             filename: self.filename,
         }
+    }
+
+    /// Returns `true` if no text of the entry's line needs an escape. Numbers are digits, which
+    /// never need one.
+    #[tactic(auto, using(cdxj_objects::proofs::PlainBytes::plain_decimal))]
+    pub(crate) fn has_plain_texts(self) -> bool
+        requires { IsGood (entry_view self) }
+        ensures { IsTrue result ↔ ArePlain (entry_texts (entry_view self.entry)) }
+    {
+        is_plain_text(self.url.as_bytes())
+            && is_plain_text(self.mime.as_bytes())
+            && is_plain_text(self.status.as_bytes())
+            && is_plain_text(self.digest.as_bytes())
+            && is_plain_text(self.filename.as_bytes())
     }
 }

@@ -34,7 +34,7 @@ pub use crate::writing::{write_entry, write_line};
 pub use cdxj_keys::{KeyFault, host_key, host_key_begins_key, parsed_url_key, url_key};
 pub use cdxj_objects::{push_quoted, unescaped_length};
 pub use cdxj_places::{
-    HasPlace, OwnedPlace, Place, PlaceFault, in_order, is_key, is_stamp, longer_text_has_the_pair,
-    pairs_are_ordered, place_is_good, places_are_ordered, read_offset, resume_key_is_read,
-    resume_text, rising_list_is_unique, rising_list_of_views, split_pair,
+    HasPlace, LEAST_PAIR, OwnedPlace, Pair, Place, PlaceFault, in_order, is_key, is_stamp,
+    longer_text_has_the_pair, pairs_are_ordered, place_is_good, places_are_ordered, read_offset,
+    resume_key_is_read, resume_text, rising_list_is_unique, rising_list_of_views, split_pair,
 };

@@ -9,8 +9,8 @@ use crate::limit::LINE_LIMIT;
 use crate::line_parts::LineParts;
 use crate::line_ref::{LineRef, LineText};
 use crate::spans::Spans;
-use cdxj_objects::{FoundMembers, OPEN, spelled};
-use cdxj_places::{HasPlace, Place, cut_first, is_key, is_stamp};
+use cdxj_objects::{FoundMembers, spelled};
+use cdxj_places::{HasPlace, Pair, Place, cut_first, is_key, is_stamp};
 use json::Scratch;
 use std::alloc::{AllocError, Global};
 use std::cmp::Ordering;
@@ -118,7 +118,7 @@ impl Line {
         let Some(offset) = found.offset() else {
             return Err(LineFault::BadLine);
         };
-        let (text, ends) = spelled(alloc, body, found, offset, filename)?;
+        let (text, fronts) = spelled(alloc, body, found, offset, filename)?;
         Ok(Line {
             alloc,
             text,
@@ -127,8 +127,7 @@ impl Line {
                 key: key.len(),
                 stamp,
                 offset,
-                start: body.len() + OPEN,
-                ends,
+                fronts,
             },
         })
     }
@@ -212,9 +211,9 @@ impl Line {
     }
 
     /// Returns the key and the stamp.
-    pub fn pair(&self) -> (&str, [u8; 14])
-        ensures key { result.0.now ≡ self.now.values.key }
-        ensures stamp { result.1 ≡ self.now.values.stamp }
+    pub fn pair(&self) -> Pair<'_>
+        ensures key { result.key.now ≡ self.now.values.key }
+        ensures stamp { result.stamp ≡ self.now.values.stamp }
     {
         self.parts().pair()
     }

@@ -5,12 +5,11 @@ ghost use Rattle.cdxj_core.specs.declared.limit.TheConstants.{LINE_LIMIT};
 use crate::body::{ascii_text, body_of, unescaped_text};
 use crate::field::Field;
 use crate::limit::LINE_LIMIT;
-use crate::spans::{Spans, TO_OBJECT, TO_STAMP, TO_STAMP_END, TO_URL};
+use crate::spans::{Spans, TO_OBJECT, TO_STAMP, TO_STAMP_END};
 use cdxj_objects::{
-    CLOSE, TO_DIGEST, TO_FILENAME, TO_LENGTH, TO_MIME, TO_OFFSET, TO_STATUS, has_stamp,
-    is_plain_text, or_missing, place_of_either, plain_members,
+    Members, has_stamp, is_plain_text, or_missing, place_of_either, plain_members, texts_at,
 };
-use cdxj_places::Place;
+use cdxj_places::{Pair, Place};
 use std::marker::Model;
 
 const DELETE: u8 = 0x7f;
@@ -43,7 +42,9 @@ impl<'a> LineParts<'a> {
     ghost use Rattle.json.specs.Run.{is_plain};
     ghost use Rattle.cdxj_places.specs.PlaceViews.{place_view};
     ghost use Rattle.cdxj_core.specs.declared.field.Field.{Field};
-    ghost use Rattle.cdxj_core.specs.Lines.{body_of, field_value};
+    ghost use Rattle.cdxj_objects.specs.Plain.{values_of_texts};
+    ghost use Rattle.cdxj_objects.specs.Texts.{borrowed_view};
+    ghost use Rattle.cdxj_core.specs.Lines.{body_of, field_value, texts_in};
     ghost use Rattle.cdxj_core.specs.Members.{member_place, line_entry};
 
     /// Reads a plain line, with or without its line feed. It may decline any line, and takes no
@@ -92,8 +93,7 @@ impl<'a> LineParts<'a> {
                 key,
                 stamp,
                 offset: members.offset,
-                start: key + TO_URL,
-                ends: members.ends,
+                fronts: members.fronts,
             },
         })
     }
@@ -122,20 +122,29 @@ impl<'a> LineParts<'a> {
     }
 
     #[inline(always)]
+    fn texts(&self) -> Members<&'a str>
+        ensures { values_of_texts (borrowed_view result) ≡ texts_in self.now.values }
+    {
+        texts_at(self.text, &self.spans.fronts)
+    }
+
+    #[inline(always)]
     fn filename(&self) -> &'a str
         ensures { result.now ≡ self.now.values.filename }
     {
-        let text = self.text;
-        &text[self.spans.ends.offset + TO_FILENAME..text.len() - CLOSE]
+        self.texts().filename
     }
 
     /// Returns the key and the stamp.
     #[inline(always)]
-    pub(crate) fn pair(&self) -> (&'a str, [u8; 14])
-        ensures key { result.0.now ≡ self.now.values.key }
-        ensures stamp { result.1 ≡ self.now.values.stamp }
+    pub(crate) fn pair(&self) -> Pair<'a>
+        ensures key { result.key.now ≡ self.now.values.key }
+        ensures stamp { result.stamp ≡ self.now.values.stamp }
     {
-        (self.key(), self.spans.stamp)
+        Pair {
+            key: self.key(),
+            stamp: self.spans.stamp,
+        }
     }
 
     /// Returns the place of the line's capture.
@@ -156,18 +165,17 @@ impl<'a> LineParts<'a> {
     pub(crate) fn value(&self, field: Field) -> &'a str
         ensures { result.now ≡ field_value field self.now.values }
     {
-        let text = self.text;
-        let ends = self.spans.ends;
+        let texts = self.texts();
         match field {
             Field::Urlkey => self.key(),
             Field::Timestamp => self.stamp(),
-            Field::Original => or_missing(&text[self.spans.start..ends.url]),
-            Field::Mimetype => or_missing(&text[ends.url + TO_MIME..ends.mime]),
-            Field::Statuscode => or_missing(&text[ends.mime + TO_STATUS..ends.status]),
-            Field::Digest => or_missing(&text[ends.status + TO_DIGEST..ends.digest]),
-            Field::Length => or_missing(&text[ends.digest + TO_LENGTH..ends.length]),
-            Field::Offset => &text[ends.length + TO_OFFSET..ends.offset],
-            Field::Filename => self.filename(),
+            Field::Original => or_missing(texts.url),
+            Field::Mimetype => or_missing(texts.mime),
+            Field::Statuscode => or_missing(texts.status),
+            Field::Digest => or_missing(texts.digest),
+            Field::Length => or_missing(texts.length),
+            Field::Offset => texts.offset,
+            Field::Filename => texts.filename,
         }
     }
 

@@ -7,7 +7,7 @@ use crate::field::Field;
 use crate::line::Line;
 use crate::line_parts::LineParts;
 use crate::spans::Spans;
-use cdxj_places::{HasPlace, Place};
+use cdxj_places::{HasPlace, Pair, Place};
 use std::alloc::Global;
 use std::cmp::Ordering;
 use std::marker::Model;
@@ -116,9 +116,9 @@ impl<'a> LineRef<'a> {
     }
 
     /// Returns the key and the stamp.
-    pub fn pair(&self) -> (&str, [u8; 14])
-        ensures key { result.0.now ≡ self.now.values.key }
-        ensures stamp { result.1 ≡ self.now.values.stamp }
+    pub fn pair(&self) -> Pair<'_>
+        ensures key { result.key.now ≡ self.now.values.key }
+        ensures stamp { result.stamp ≡ self.now.values.stamp }
     {
         self.parts().pair()
     }

@@ -1,5 +1,5 @@
 //! Where the parts of a line stand in its text.
-use cdxj_objects::{MemberEnds, OPEN};
+use cdxj_objects::Members;
 
 /// The space before the stamp.
 pub(crate) const TO_STAMP: usize = 1;
@@ -7,8 +7,6 @@ pub(crate) const TO_STAMP: usize = 1;
 pub(crate) const TO_STAMP_END: usize = 15;
 /// A space, the stamp and a space.
 pub(crate) const TO_OBJECT: usize = TO_STAMP_END + 1;
-/// A space, the stamp, a space, and what stands before the url.
-pub(crate) const TO_URL: usize = TO_OBJECT + OPEN;
 
 /// Where the parts of a line stand in its text, as offsets in bytes from the text's start.
 ///
@@ -22,7 +20,6 @@ pub(crate) struct Spans {
     pub key: usize,
     pub stamp: [u8; 14],
     pub offset: u64,
-    /// The start of the url, the first of the members.
-    pub start: usize,
-    pub ends: MemberEnds,
+    /// Where what stands before each member's text begins.
+    pub fronts: Members<usize>,
 }

@@ -1,54 +1,15 @@
 //! The writing of an entry's line.
 ghost use Rattle.std.specs.Prelude.{◌≡◌, ◌≢◌, ◌<◌, ◌≤◌, ◌↔◌, ◌++◌, [], ◌∷◌, length, IfOk, IsTrue, MatchResult};
-ghost use Rattle.cdxj_objects.specs.MemberViews.{borrowed_view};
-ghost use Rattle.cdxj_objects.specs.Objects.{object_text};
-ghost use Rattle.cdxj_objects.specs.Plain.{ArePlain};
-ghost use Rattle.cdxj_core.specs.Entries.{IsGood, entry_texts, members_of, line_text};
-ghost use Rattle.cdxj_core.specs.EntryView.{entry_view};
+ghost use Rattle.cdxj_core.specs.Entries.{IsGood, entry_view, line_text};
 
 use crate::entry::Entry;
 use crate::entry_ref::EntryRef;
 use crate::fault::LineFault;
 use crate::limit::LINE_LIMIT;
-use crate::spans::TO_URL;
-use cdxj_objects::{
-    BorrowedMembers, CLOSE, TO_DIGEST, TO_FILENAME, TO_LENGTH, TO_MIME, TO_OFFSET, TO_STATUS,
-    is_plain_text, push_escaped_object, push_plain_object,
-};
+use crate::spans::TO_OBJECT;
+use cdxj_objects::{FRAME, Members, push_object};
 use itoa::Buffer;
 use std::alloc::{AllocError, Global};
-
-/// Returns `true` if no text of the entry's line needs an escape. Numbers are digits, which never
-/// need one.
-#[tactic(auto, using(cdxj_objects::proofs::PlainBytes::plain_decimal))]
-fn has_plain_texts(entry: EntryRef<'_>) -> bool
-    requires { IsGood (entry_view entry) }
-    ensures { IsTrue result ↔ ArePlain (entry_texts (entry_view entry.entry)) }
-{
-    is_plain_text(entry.url.as_bytes())
-        && is_plain_text(entry.mime.as_bytes())
-        && is_plain_text(entry.status.as_bytes())
-        && is_plain_text(entry.digest.as_bytes())
-        && is_plain_text(entry.filename.as_bytes())
-}
-
-fn push_object(
-    line: &mut Vec<u8>,
-    alloc: Global,
-    entry: EntryRef<'_>,
-    texts: BorrowedMembers<'_>,
-) -> Result<(), AllocError>
-    requires good { IsGood (entry_view entry) }
-    requires texts { borrowed_view texts ≡ entry_texts (entry_view entry) }
-    ensures { IfOk result (λ _. line.new.items
-        ≡ line.old.items ++ object_text (members_of (entry_view entry.entry))) }
-{
-    if has_plain_texts(entry) {
-        push_plain_object(line, texts)
-    } else {
-        push_escaped_object(line, alloc, texts)
-    }
-}
 
 fn push_pair(line: &mut Vec<u8>, key: &str, stamp: &[u8; 14]) -> Result<(), AllocError>
     ensures { IfOk result (λ _. line.new.items
@@ -62,24 +23,16 @@ fn push_pair(line: &mut Vec<u8>, key: &str, stamp: &[u8; 14]) -> Result<(), Allo
 }
 
 /// The length of what a line has beside its key and its texts, in bytes.
-const FRAME: usize = TO_URL
-    + (TO_MIME + TO_STATUS + TO_DIGEST + TO_LENGTH + TO_OFFSET + TO_FILENAME + CLOSE)
-    + 1;
+const LINE_FRAME: usize = TO_OBJECT + FRAME + 1;
 
 // An empty line with room for one of this key and these texts, where none needs an escape.
-fn room(alloc: Global, key: &str, texts: &BorrowedMembers<'_>) -> Result<Vec<u8>, AllocError>
+fn room(alloc: Global, key: &str, texts: &Members<&str>) -> Result<Vec<u8>, AllocError>
     ensures { IfOk result (λ line. line.items ≡ []) }
 {
-    let length = key
-        .len()
-        .saturating_add(texts.url.len())
-        .saturating_add(texts.mime.len())
-        .saturating_add(texts.status.len())
-        .saturating_add(texts.digest.len())
-        .saturating_add(texts.length.len())
-        .saturating_add(texts.offset.len())
-        .saturating_add(texts.filename.len())
-        .saturating_add(FRAME);
+    let length = texts
+        .total_length()
+        .saturating_add(key.len())
+        .saturating_add(LINE_FRAME);
     Ok(Vec::with_capacity(alloc, length.min(LINE_LIMIT))?)
 }
 
@@ -92,7 +45,7 @@ fn line_bytes(alloc: Global, entry: EntryRef<'_>) -> Result<Vec<u8>, AllocError>
     let texts = entry.members(length.format(entry.length), offset.format(entry.offset));
     let mut line = room(alloc, entry.key, &texts)?;
     push_pair(&mut line, entry.key, &entry.stamp)?;
-    push_object(&mut line, alloc, entry, texts)?;
+    push_object(&mut line, alloc, texts, entry.has_plain_texts())?;
     line.push(b'\n')?;
     Ok(line)
 }

@@ -16,7 +16,7 @@ folded-graphic (b ∷ bytes) h =
     let p = and_both (is_graphic b) (list_all is_graphic bytes) h in
     grind (arith, folded-graphic bytes p.1)
 
-byte_is_ascii : (b : ℕ) → is_graphic b ≡ true → b < 128
+pub byte_is_ascii : (b : ℕ) → is_graphic b ≡ true → b < 128
 byte_is_ascii b h = grind arith
 
 pub graphic_utf8 : (text : List ℕ) → list_all is_graphic text ≡ true → IsUtf8 text

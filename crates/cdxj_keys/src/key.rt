@@ -50,20 +50,19 @@ fn is_graphic(bytes: &[u8]) -> bool
     good
 }
 
-/// Returns a text without escapes in lower case. Most texts have no escapes.
-fn lowered(alloc: Global, text: &str) -> Result<String, AllocError>
-    requires { list_all is_graphic text.now ≡ true }
-    ensures { IfOk result (λ lower. string_bytes lower ≡ folded text.now) }
+/// Writes a text without escapes in lower case, in its own memory.
+fn lowered(text: Vec<u8>) -> String
+    requires { list_all is_graphic text.items ≡ true }
+    ensures { string_bytes result ≡ folded text.items }
 {
-    text.to_ascii_lowercase(alloc)
+    let mut key = unsafe { String::from_utf8_unchecked(text) };
+    key.make_ascii_lowercase();
+    key
 }
 
-fn folded(alloc: Global, bytes: &[u8]) -> Result<String, AllocError>
+fn escaped(alloc: Global, bytes: &[u8]) -> Result<String, AllocError>
     ensures { IfOk result (λ text. string_bytes text ≡ folded bytes.now) }
 {
-    if is_graphic(bytes) {
-        return lowered(alloc, unsafe { str::from_utf8_unchecked(bytes) });
-    }
     let mut text = String::with_capacity(alloc, bytes.len())?;
     for byte in bytes {
         push_folded(&mut text, *byte)?;
@@ -71,12 +70,32 @@ fn folded(alloc: Global, bytes: &[u8]) -> Result<String, AllocError>
     Ok(text)
 }
 
-/// Returns the key of a key text.
-fn key_from(alloc: Global, text: &[u8]) -> Result<String, AllocError>
+/// Returns the key of a key text that has escapes.
+fn escaped_key(alloc: Global, text: &[u8]) -> Result<String, AllocError>
     ensures value { IfOk result (λ key. string_bytes key ≡ folded text.now) }
     ensures key { IfOk result (λ key. 0 < length text.now → is_key (string_bytes key) ≡ true) }
 {
-    folded(alloc, text)
+    escaped(alloc, text)
+}
+
+/// Returns the key of a key text. Most have no escapes.
+fn key_from(alloc: Global, text: Vec<u8>) -> Result<String, AllocError>
+    ensures value { IfOk result (λ key. string_bytes key ≡ folded text.items) }
+    ensures key { IfOk result (λ key. 0 < length text.items → is_key (string_bytes key) ≡ true) }
+{
+    if is_graphic(&text) {
+        Ok(lowered(text))
+    } else {
+        escaped_key(alloc, &text)
+    }
+}
+
+/// Returns the key of a target that is no web URL.
+fn target_key(alloc: Global, target: &str) -> Result<String, AllocError>
+    ensures value { IfOk result (λ key. string_bytes key ≡ folded target.now) }
+    ensures key { IfOk result (λ key. 0 < length target.now → is_key (string_bytes key) ≡ true) }
+{
+    key_from(alloc, Vec::from_slice(alloc, target.as_bytes())?)
 }
 
 /// Returns the key of a URL that the parser leaves as it is.
@@ -88,7 +107,7 @@ fn plain_key(alloc: Global, url: PlainUrl<'_>) -> Result<String, AllocError>
     let mut text = domain_text(alloc, url.host.as_bytes())?;
     text.push(b')')?;
     text.extend_from_slice(url.tail.as_bytes())?;
-    key_from(alloc, &text)
+    key_from(alloc, text)
 }
 
 fn is_web(url: &Url) -> bool
@@ -142,9 +161,9 @@ pub fn parsed_url_key(alloc: Global, url: &Url, target: &str) -> Result<String, 
     ensures key { IfOk result (λ key. 0 < length target.now → is_key (string_bytes key) ≡ true) }
 {
     if is_web(url) {
-        key_from(alloc, &web_text(alloc, url)?)
+        key_from(alloc, web_text(alloc, url)?)
     } else {
-        key_from(alloc, target.as_bytes())
+        target_key(alloc, target)
     }
 }
 
@@ -175,7 +194,7 @@ fn any_url_key(alloc: Global, target: &str) -> Result<String, KeyFault>
         Ok(url) => Ok(parsed_url_key(alloc, &url, target)?),
         Err(ParseError::OutOfMemory) => Err(KeyFault::Memory),
         Err(ParseError::Overflow) => Err(KeyFault::TooLong),
-        Err(_) => Ok(key_from(alloc, target.as_bytes())?),
+        Err(_) => Ok(target_key(alloc, target)?),
     }
 }
 
@@ -189,7 +208,7 @@ pub fn host_key(alloc: Global, target: &str) -> Result<Option<String>, KeyFault>
         Ok(url) => {
             if is_web(&url) {
                 let text = host_text(alloc, &url)?;
-                Ok(Some(folded(alloc, &text)?))
+                Ok(Some(key_from(alloc, text)?))
             } else {
                 Ok(None)
             }

@@ -1,5 +1,4 @@
 pub mod ObjectLaw
-pub mod ObjectWrite
 pub mod TextsLaw
 mod LaneLemmas
 pub mod PlainBytes

@@ -1,16 +1,12 @@
 -- Where the texts of a plain object's members stand.
 use Rattle.std.proofs.Common.{◌≡◌, ℕ, zero, suc, ◌+◌, ◌-◌, ◌<◌, ◌≤◌, List, [], ◌∷◌, ◌++◌, drop, length, get_or}
-use Rattle.std.proofs.Common.{codes, ap, arith, length-append, length-drop, length-take, drop-drop, IsUtf8}
+use Rattle.std.proofs.Common.{codes, refl, ap, arith, length-drop, length-take, drop-drop, IsUtf8}
 use Rattle.std.proofs.lemmas.Str.{IsCharBoundary-before_ascii, IsCharBoundary-after_ascii}
 use Rattle.std.proofs.Math.Seq.{take-append_seam, drop-append_seam}
-use Rattle.cdxj_objects.specs.declared.member_ends.MemberEnds.{MemberEnds}
-use Rattle.cdxj_objects.specs.declared.member_ends.PlainMembers.{PlainMembers}
-use Rattle.cdxj_objects.specs.declared.member_ends.TheConstants.{OPEN, TO_MIME, TO_STATUS, TO_DIGEST, TO_LENGTH}
-use Rattle.cdxj_objects.specs.declared.member_ends.TheConstants.{TO_OFFSET, TO_FILENAME, CLOSE}
-use Rattle.cdxj_objects.specs.Names.{url_name, mime_name, status_name, digest_name, length_name, offset_name}
-use Rattle.cdxj_objects.specs.Names.{filename_name}
-use Rattle.cdxj_objects.specs.Plain.{first_front, later_front, plain_text}
-use Rattle.cdxj_objects.specs.PlainPlaces.{AreEndsOf, AreParts, ArePlainMembers, IsNumberAfter, IsPartBetween}
+use Rattle.cdxj_objects.specs.declared.members.Members.{Members}
+use Rattle.cdxj_objects.specs.ObjectMembers.{names}
+use Rattle.cdxj_objects.specs.Plain.{fronts, plain_text}
+use Rattle.cdxj_objects.specs.PlainPlaces.{AreFrontsOf, AreParts, ArePlainMembers, IsNumberAfter, IsPartBetween}
 use Rattle.cdxj_objects.specs.PlainPlaces.{IsTextAfter, part, texts_at}
 use Rattle.cdxj_objects.specs.Texts.{TextsValue}
 
@@ -32,7 +28,7 @@ pub record Next (text : List ℕ) (start end : ℕ) (name rest : List ℕ) : Typ
 
 -- what stands between two texts but for the last quote
 abbrev to_quote : List ℕ → List ℕ
-to_quote name = 34 ∷ (codes ", \"" ++ (name ++ codes "\": "))
+to_quote name = codes "\", \"" ++ (name ++ codes "\": ")
 
 module _ (text : List ℕ) (utf8 : IsUtf8 text) where
   -- a name between two bytes that are the same character of ASCII
@@ -52,89 +48,61 @@ module _ (text : List ℕ) (utf8 : IsUtf8 text) where
       let is : part text start end ≡ name = rw (size, to_name) (take-append_seam name (mark ∷ rest)) in
       grind (arith, IsCharBoundary-after_ascii text (at + length front) utf8, IsCharBoundary-before_ascii)
 
-  module _ (at : ℕ) (t : TextsValue) (start : ℕ) (e : MemberEnds) (here : GoesOn text at (plain_text t))
-      (begins : start ≡ at + OPEN) (ends : AreEndsOf start t e) where
-    there : AreParts text start e × (texts_at text start e ≡ t)
-    there =
-        let url = next 34 (omega arith) at (codes "{\"" ++ (url_name ++ codes "\": ")) t.url _ start e.url here
-        (omega (arith, begins)) ends.url in
-        let mime = next 34 (omega arith) e.url (to_quote mime_name) t.mime _ (e.url + TO_MIME) e.mime url.goes_on
-        (omega arith) ends.mime in
-        let status = next 34 (omega arith) e.mime (to_quote status_name) t.status _ (e.mime + TO_STATUS) e.status
-        mime.goes_on (omega arith) ends.status in
-        let digest = next 34 (omega arith) e.status (to_quote digest_name) t.digest _ (e.status + TO_DIGEST) e.digest
-        status.goes_on (omega arith) ends.digest in
-        let size = next 34 (omega arith) e.digest (to_quote length_name) t.length _ (e.digest + TO_LENGTH) e.length
-        digest.goes_on (omega arith) ends.size in
-        let offset = next 34 (omega arith) e.length (to_quote offset_name) t.offset _ (e.length + TO_OFFSET) e.offset
-        size.goes_on (omega arith) ends.offset in
-        -- the text ends after the file name, a quote and a brace
-        let long : length text ≡ e.offset + TO_FILENAME + length t.filename + CLOSE = omega (
-          arith,
-          offset.goes_on.0,
-          length-drop e.offset text,
-          ap length offset.goes_on.1,
-          length-append t.filename (34 ∷ codes "}"),
-        ) in
-        let filename = next 34 (omega arith) e.offset (to_quote filename_name) t.filename (codes "}")
-        (e.offset + TO_FILENAME) (length text - CLOSE) offset.goes_on (omega arith) (omega (arith, long)) in
-        grind (arith, url, mime, status, digest, size, offset, filename)
+  module _ (t : TextsValue) (at : Members ℕ) (here : GoesOn text at.url (plain_text t)) (places : AreFrontsOf text t at)
+    where
+      there : AreParts text at × (texts_at text at ≡ t)
+      there =
+          let url = next 34 (omega arith) at.url (codes "{\"" ++ (names.url ++ codes "\": ")) t.url _
+          (at.url + length fronts.url) at.mime here (omega arith) places.url in
+          let mime = next 34 (omega arith) at.mime (to_quote names.mime) t.mime _ (at.mime + length fronts.mime) at.status
+          url.goes_on (omega arith) places.mime in
+          let status = next 34 (omega arith) at.status (to_quote names.status) t.status _
+          (at.status + length fronts.status) at.digest mime.goes_on (omega arith) places.status in
+          let digest = next 34 (omega arith) at.digest (to_quote names.digest) t.digest _
+          (at.digest + length fronts.digest) at.length status.goes_on (omega arith) places.digest in
+          let size = next 34 (omega arith) at.length (to_quote names.length) t.length _ (at.length + length fronts.length)
+          at.offset digest.goes_on (omega arith) places.length in
+          let offset = next 34 (omega arith) at.offset (to_quote names.offset) t.offset _
+          (at.offset + length fronts.offset) at.filename size.goes_on (omega arith) places.offset in
+          let filename = next 34 (omega arith) at.filename (to_quote names.filename) t.filename (codes "}")
+          (at.filename + length fronts.filename) (length text - 2) offset.goes_on (omega arith) places.filename in
+          grind (arith, url, mime, status, digest, size, offset, filename)
 
-    pub parts_there : AreParts text start e
-    parts_there = there.0
+      pub parts_there : AreParts text at
+      parts_there = there.0
 
-    pub texts_there : texts_at text start e ≡ t
-    texts_there = there.1
+      pub texts_there : texts_at text at ≡ t
+      texts_there = there.1
 
 -- ---- the members of a plain object, one after another
 
-part_length : (text : List ℕ) (start end : ℕ) → end ≤ length text → length (part text start end) ≡ end - start
-part_length text start end high = grind (arith, length-take, length-drop)
+has_length : (text : List ℕ) (start end : ℕ) → end ≤ length text → start ≤ end → end ≡ start
+    + length (part text start end)
+has_length text start end high low = grind (arith, length-take, length-drop)
 
-module _ (text : List ℕ) (object filename number : ℕ) (e : MemberEnds)
-    (url : IsTextAfter text object (first_front url_name) (object + OPEN) e.url)
-    (mime : IsTextAfter text e.url (34 ∷ later_front mime_name) (e.url + TO_MIME) e.mime)
-    (status : IsTextAfter text e.mime (34 ∷ later_front status_name) (e.mime + TO_STATUS) e.status)
-    (digest : IsTextAfter text e.status (34 ∷ later_front digest_name) (e.status + TO_DIGEST) e.digest)
-    (size : IsTextAfter text e.digest (34 ∷ later_front length_name) (e.digest + TO_LENGTH) e.length)
-    (offset : IsNumberAfter text e.length (34 ∷ later_front offset_name) (e.length + TO_OFFSET) e.offset number)
-    (name : IsTextAfter text e.offset (34 ∷ later_front filename_name) (e.offset + TO_FILENAME) filename)
-    (closed : drop filename text ≡ codes "\"}") (named : e.offset + TO_FILENAME < filename) where
-  last : length text - CLOSE ≡ filename
-  last = omega (arith, length-drop filename text, ap length closed, name.inside)
+module _ (text : List ℕ) (end number : ℕ) (at : Members ℕ)
+    (url : IsTextAfter text at.url fronts.url (at.url + length fronts.url) at.mime)
+    (mime : IsTextAfter text at.mime fronts.mime (at.mime + length fronts.mime) at.status)
+    (status : IsTextAfter text at.status fronts.status (at.status + length fronts.status) at.digest)
+    (digest : IsTextAfter text at.digest fronts.digest (at.digest + length fronts.digest) at.length)
+    (size : IsTextAfter text at.length fronts.length (at.length + length fronts.length) at.offset)
+    (offset : IsNumberAfter text at.offset fronts.offset (at.offset + length fronts.offset) at.filename number)
+    (name : IsTextAfter text at.filename fronts.filename (at.filename + length fronts.filename) end)
+    (closed : drop end text ≡ codes "\"}") (named : at.filename + length fronts.filename < end) where
+  last : length text - 2 ≡ end
+  last = omega (arith, length-drop end text, ap length closed, name.inside)
 
-  abbrev found : PlainMembers
-  found = record { ends = e; offset = number }
-
-  is_whole : drop object text ≡ plain_text (texts_at text (object + OPEN) e)
+  is_whole : drop at.url text ≡ plain_text (texts_at text at)
   is_whole =
       rw (last, url.is, mime.is, status.is, digest.is, size.is, offset.after.is, name.is, closed)
 
-  pub members_there : ArePlainMembers text object found
+  pub members_there : ArePlainMembers text at.url (record { fronts = at; offset = number })
   members_there = record {
+    begins = refl;
     is = is_whole;
-    no_quotes = record {
-      url = url.no_quote;
-      mime = mime.no_quote;
-      status = status.no_quote;
-      digest = digest.no_quote;
-      length = size.no_quote;
-      offset = offset.after.no_quote;
-      filename = rw last name.no_quote;
-    };
-    ends = record {
-      url = omega (arith, part_length text (object + OPEN) e.url url.inside, url.order);
-      mime = omega (arith, part_length text (e.url + TO_MIME) e.mime mime.inside, mime.order);
-      status = omega (arith, part_length text (e.mime + TO_STATUS) e.status status.inside, status.order);
-      digest = omega (arith, part_length text (e.status + TO_DIGEST) e.digest digest.inside, digest.order);
-      size = omega (arith, part_length text (e.digest + TO_LENGTH) e.length size.inside, size.order);
-      offset = omega (
-        arith,
-        part_length text (e.length + TO_OFFSET) e.offset offset.after.inside,
-        offset.after.order,
-      );
-    };
+    no_quotes = grind (arith, last);
+    fronts = grind (arith, last, has_length);
     value = offset.value;
     small = offset.small;
-    named = rw last (omega (arith, part_length text (e.offset + TO_FILENAME) filename name.inside));
+    named = rw last (omega (arith, has_length text (at.filename + length fronts.filename) end name.inside name.order));
   }

@@ -1,14 +1,14 @@
 -- What a line takes from a JSON object: the value of each of its members, the last one of its name.
-use Rattle.std.specs.Prelude.{ℕ, List, [], length, decimal, bytes_eq, Option, None, Some, option_map}
-use Rattle.std.specs.Prelude.{option_and_then, if◌then◌else◌}
+use Rattle.std.specs.Prelude.{ℕ, List, [], length, decimal, Option, None, Some, option_map}
+use Rattle.std.specs.Prelude.{option_and_then}
 use Rattle.json.specs.Token.{Token}
 use Rattle.json.specs.Json.{parse_map, items, members, value, if_last}
 use Rattle.serde_json.specs.Data.{Num, unsigned, negative, float, Data, null, boolean, number, string, array, object}
-use Rattle.serde_json.specs.Data.{Members, no_members}
+use Rattle.serde_json.specs.Data.{Members as JsonMembers, no_members}
 use Rattle.serde_json.specs.Find.{get_member}
 use Rattle.serde_json.specs.Read.{of_json, of_items, of_members, converted, max_depth, read}
-use Rattle.cdxj_objects.specs.Names.{url_name, mime_name, status_name, digest_name, length_name, offset_name}
-use Rattle.cdxj_objects.specs.Names.{filename_name}
+use Rattle.cdxj_objects.specs.declared.members.Members.{Members}
+use Rattle.cdxj_objects.specs.ObjectMembers.{map_members, names}
 
 abbrev pub number_data : Num → Data
 number_data (unsigned n) = number (unsigned n)
@@ -36,43 +36,14 @@ raw_text (Some (string s)) = s
 raw_text (Some (array ds)) = []
 raw_text (Some (object ms)) = []
 
-pub record FoundValue : Type 0 where
-  pub url : Option Data
-  pub mime : Option Data
-  pub status : Option Data
-  pub digest : Option Data
-  pub length : Option Data
-  pub offset : Option Data
-  pub filename : Option Data
+abbrev pub FoundValue : Type 0
+FoundValue = Members (Option Data)
 
-abbrev pub found_at : List ℕ → Members → Option Data
-found_at name ms = option_map member_data (get_member name ms)
+abbrev pub found_at : JsonMembers → List ℕ → Option Data
+found_at ms name = option_map member_data (get_member name ms)
 
-abbrev pub found_of : Members → FoundValue
-found_of ms = record {
-  url = found_at url_name ms;
-  mime = found_at mime_name ms;
-  status = found_at status_name ms;
-  digest = found_at digest_name ms;
-  length = found_at length_name ms;
-  offset = found_at offset_name ms;
-  filename = found_at filename_name ms;
-}
-
-abbrev pub if_named : List ℕ → List ℕ → Data → Option Data → Option Data
-if_named name member d found = if bytes_eq name member then Some d else found
-
--- the same, with a value put at a name
-abbrev pub with_member : List ℕ → Data → FoundValue → FoundValue
-with_member name d found = record {
-  url = if_named name url_name d found.url;
-  mime = if_named name mime_name d found.mime;
-  status = if_named name status_name d found.status;
-  digest = if_named name digest_name d found.digest;
-  length = if_named name length_name d found.length;
-  offset = if_named name offset_name d found.offset;
-  filename = if_named name filename_name d found.filename;
-}
+abbrev pub found_of : JsonMembers → FoundValue
+found_of ms = map_members (found_at ms) names
 
 abbrev pub object_found : Data → Option FoundValue
 object_found null = None
@@ -103,7 +74,7 @@ items_passed depth ts = option_map (λ p. p.1)
     (converted of_items (items (value depth) (length ts) ts))
 
 -- the members of an object, and the tokens after it
-abbrev pub members_read : ℕ → List Token → Option (Members × List Token)
+abbrev pub members_read : ℕ → List Token → Option (JsonMembers × List Token)
 members_read depth ts = converted (λ ms. of_members ms no_members)
     (members (value depth) (length ts) ts)
 

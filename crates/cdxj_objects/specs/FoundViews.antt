@@ -5,6 +5,7 @@ use Rattle.cdxj_objects.specs.declared.member_value.MemberValue.{MemberValue}
 use Rattle.cdxj_objects.specs.declared.member_value.MemberValue.TheVariants.{Text, Number, Other}
 use Rattle.cdxj_objects.specs.declared.found_members.FoundMembers.{FoundMembers}
 use Rattle.cdxj_objects.specs.FoundMembers.{FoundValue}
+use Rattle.cdxj_objects.specs.ObjectMembers.{map_members}
 
 abbrev pub value_view : MemberValue → Data
 value_view (Text s) = string s.now
@@ -12,12 +13,4 @@ value_view (Number n) = number (unsigned n)
 value_view Other = null
 
 abbrev pub found_view : FoundMembers → FoundValue
-found_view f = record {
-  url = option_map value_view f.url;
-  mime = option_map value_view f.mime;
-  status = option_map value_view f.status;
-  digest = option_map value_view f.digest;
-  length = option_map value_view f.length;
-  offset = option_map value_view f.offset;
-  filename = option_map value_view f.filename;
-}
+found_view f = map_members (option_map value_view) f.members

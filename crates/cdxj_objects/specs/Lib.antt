@@ -1,10 +1,9 @@
-pub mod Names
+pub mod ObjectMembers
 pub mod Texts
 pub mod Objects
 pub mod MemberValues
 pub mod FoundMembers
 pub mod FoundViews
-pub mod MemberViews
 pub mod Plain
 pub mod PlainPlaces
 pub mod Spelling

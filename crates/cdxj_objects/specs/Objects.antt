@@ -7,10 +7,6 @@ use Rattle.json.specs.Print.{quoted}
 abbrev pub member_text : List ℕ × List ℕ → List ℕ
 member_text (name, value) = quoted name ++ codes ": " ++ quoted value
 
--- a member after another
-abbrev pub later_text : List ℕ × List ℕ → List ℕ
-later_text member = codes ", " ++ member_text member
-
 -- the members between braces, with `, ` between
 abbrev pub object_text : List (List ℕ × List ℕ) → List ℕ
 object_text members = codes "{" ++ (join_by member_text (codes ", ") members ++ codes "}")

@@ -1,23 +1,19 @@
 -- The texts of a line's members.
-use Rattle.std.specs.Prelude.{ℕ, ◌==◌, List, [], ◌∷◌, length, codes, if◌then◌else◌}
-use Rattle.cdxj_objects.specs.Names.{url_name, mime_name, status_name, digest_name, length_name, offset_name}
-use Rattle.cdxj_objects.specs.Names.{filename_name}
+use Rattle.std.specs.Prelude.{ℕ, ◌==◌, List, length, codes, if◌then◌else◌}
+use Rattle.std.specs.Borrow.{Bor}
+use Rattle.cdxj_objects.specs.declared.members.Members.{Members}
+use Rattle.cdxj_objects.specs.ObjectMembers.{each, map_members, names, zip_members}
 
-pub record TextsValue : Type 0 where
-  pub url : List ℕ
-  pub mime : List ℕ
-  pub status : List ℕ
-  pub digest : List ℕ
-  pub length : List ℕ
-  pub offset : List ℕ
-  pub filename : List ℕ
+abbrev pub TextsValue : Type 0
+TextsValue = Members (List ℕ)
+
+-- what contracts see of texts that are borrowed
+abbrev pub borrowed_view : Members (Bor (List ℕ)) → TextsValue
+borrowed_view t = map_members (λ s. s.now) t
 
 -- the members of these texts, in the order of a written line
 abbrev pub text_members : TextsValue → List (List ℕ × List ℕ)
-text_members t =
-    (url_name, t.url) ∷ (mime_name, t.mime) ∷ (status_name, t.status)
-    ∷ (digest_name, t.digest) ∷ (length_name, t.length)
-    ∷ (offset_name, t.offset) ∷ (filename_name, t.filename) ∷ []
+text_members t = each (zip_members (λ name text. (name, text)) names t)
 
 -- the text of a value that is missing
 abbrev pub missing : List ℕ

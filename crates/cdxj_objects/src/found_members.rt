@@ -1,15 +1,13 @@
 //! The members that a line takes from its JSON object.
 ghost use Rattle.std.specs.Prelude.{◌≡◌, ◌<◌, ◌^◌, length, Some, None, IfOk, IfSome, MatchResult, option_map};
-ghost use Rattle.serde_json.specs.Data.{no_members};
-ghost use Rattle.cdxj_objects.specs.FoundMembers.{found_of, with_member, members_found};
-ghost use Rattle.cdxj_objects.specs.FoundMembers.{object_read, members_in};
-ghost use Rattle.cdxj_objects.specs.FoundViews.{value_view, found_view};
+ghost use Rattle.cdxj_objects.specs.FoundMembers.{members_found, members_in, object_read};
+ghost use Rattle.cdxj_objects.specs.FoundViews.{found_view};
 ghost use Rattle.cdxj_objects.specs.MemberValues.{filename_value, offset_value};
 
 use crate::json_values::read_value;
 use crate::member_value::MemberValue;
 use crate::member_values::{filename_value, offset_value};
-use crate::members::{DIGEST, FILENAME, LENGTH, MIME, OFFSET, STATUS, URL};
+use crate::members::Members;
 use json::{Invalid, Reader, Scratch, Token};
 use std::alloc::AllocError;
 
@@ -19,13 +17,7 @@ const MEMBER_DEPTH: usize = 126;
 /// The members that a line takes from its JSON object: the value of each, the last one of its name.
 #[derive(Clone, Copy, Debug)]
 pub struct FoundMembers<'a> {
-    pub(crate) url: Option<MemberValue<'a>>,
-    pub(crate) mime: Option<MemberValue<'a>>,
-    pub(crate) status: Option<MemberValue<'a>>,
-    pub(crate) digest: Option<MemberValue<'a>>,
-    pub(crate) length: Option<MemberValue<'a>>,
-    offset: Option<MemberValue<'a>>,
-    filename: Option<MemberValue<'a>>,
+    pub(crate) members: Members<Option<MemberValue<'a>>>,
 }
 
 impl<'a> FoundMembers<'a> {
@@ -51,7 +43,7 @@ impl<'a> FoundMembers<'a> {
             ≡ filename_value (found_view self.entry).filename }
         ensures some { IfSome result (λ s. 0 < length s.now) }
     {
-        filename_value(self.filename)
+        filename_value(self.members.filename)
     }
 
     /// Returns the offset, if it is a number or digits, and below 2^63.
@@ -59,7 +51,7 @@ impl<'a> FoundMembers<'a> {
         ensures value { result ≡ offset_value (found_view self.entry).offset }
         ensures small { IfSome result (λ n. n < 2 ^ 63) }
     {
-        offset_value(self.offset)
+        offset_value(self.members.offset)
     }
 
     // Reads an object, after which no token follows.
@@ -83,41 +75,11 @@ impl<'a> FoundMembers<'a> {
             (λ found. members_found reader.old ≡ Some (found_view found, reader.new))
             (λ _. members_found reader.old ≡ None) }
     {
-        let mut found = FoundMembers::none();
+        let mut members = Members::all(None);
         'members: while let Some(name) = reader.next_key()? {
             let value = read_value(reader, MEMBER_DEPTH)?;
-            found.put(name, value);
+            members.put(name, Some(value));
         }
-        Ok(found)
-    }
-
-    fn none() -> FoundMembers<'a>
-        ensures { found_view result ≡ found_of no_members }
-    {
-        FoundMembers {
-            url: None,
-            mime: None,
-            status: None,
-            digest: None,
-            length: None,
-            offset: None,
-            filename: None,
-        }
-    }
-
-    fn put(&mut self, name: &str, value: MemberValue<'a>)
-        ensures { found_view self.new ≡ with_member name.now (value_view value.entry)
-            (found_view self.old) }
-    {
-        match name {
-            URL => self.url = Some(value),
-            MIME => self.mime = Some(value),
-            STATUS => self.status = Some(value),
-            DIGEST => self.digest = Some(value),
-            LENGTH => self.length = Some(value),
-            OFFSET => self.offset = Some(value),
-            FILENAME => self.filename = Some(value),
-            _ => {}
-        }
+        Ok(FoundMembers { members })
     }
 }

@@ -1,73 +1,123 @@
 //! The seven members of a line's object. Here alone the code spells their names.
+ghost use Rattle.std.specs.Prelude.{◌≡◌, length, min, sum_by};
+ghost use Rattle.cdxj_objects.specs.ObjectMembers.{all_members, each, with_named};
+ghost use Rattle.cdxj_objects.specs.Texts.{borrowed_view};
+
 use crate::lanes::Front;
 
-// Their names, in the order of a written line.
+/// What each of the seven members has, in the order of a written line.
+#[derive(Clone, Copy, Debug)]
+pub struct Members<T> {
+    pub url: T,
+    pub mime: T,
+    pub status: T,
+    pub digest: T,
+    pub length: T,
+    pub offset: T,
+    pub filename: T,
+}
 
-pub(crate) const URL: &str = "url";
-
-pub(crate) const MIME: &str = "mime";
-
-pub(crate) const STATUS: &str = "status";
-
-pub(crate) const DIGEST: &str = "digest";
-
-pub(crate) const LENGTH: &str = "length";
-
-pub(crate) const OFFSET: &str = "offset";
-
-pub(crate) const FILENAME: &str = "filename";
-
-// What stands before the text of each in a plain object, behind the text before it.
-
-pub(crate) const BEFORE_URL: &str = "{\"url\": \"";
-
-pub(crate) const BEFORE_MIME: &str = "\", \"mime\": \"";
-
-pub(crate) const BEFORE_STATUS: &str = "\", \"status\": \"";
-
-pub(crate) const BEFORE_DIGEST: &str = "\", \"digest\": \"";
-
-pub(crate) const BEFORE_LENGTH: &str = "\", \"length\": \"";
-
-pub(crate) const BEFORE_OFFSET: &str = "\", \"offset\": \"";
-
-pub(crate) const BEFORE_FILENAME: &str = "\", \"filename\": \"";
-
-pub(crate) const AFTER_FILENAME: &str = "\"}";
-
-// The same, filled up: a vector of 16 bytes is compared with each.
-
-pub(crate) const URL_FRONT: Front = Front {
-    bytes: *b"{\"url\": \"       ",
-    length: BEFORE_URL.len(),
+/// What stands before the text of each in a plain object, behind the text before it.
+pub(crate) const BEFORE: Members<&str> = Members {
+    url: "{\"url\": \"",
+    mime: "\", \"mime\": \"",
+    status: "\", \"status\": \"",
+    digest: "\", \"digest\": \"",
+    length: "\", \"length\": \"",
+    offset: "\", \"offset\": \"",
+    filename: "\", \"filename\": \"",
 };
 
-pub(crate) const MIME_FRONT: Front = Front {
-    bytes: *b"\", \"mime\": \"    ",
-    length: BEFORE_MIME.len(),
+/// What stands behind the last text.
+pub(crate) const AFTER: &str = "\"}";
+
+/// The length of what a plain object has beside its texts.
+pub const FRAME: usize = BEFORE.url.len()
+    + BEFORE.mime.len()
+    + BEFORE.status.len()
+    + BEFORE.digest.len()
+    + BEFORE.length.len()
+    + BEFORE.offset.len()
+    + BEFORE.filename.len()
+    + AFTER.len();
+
+/// What stands before each text, filled up: a vector of 16 bytes is compared with each.
+pub(crate) const FRONTS: Members<Front> = Members {
+    url: Front {
+        bytes: *b"{\"url\": \"       ",
+        length: BEFORE.url.len(),
+    },
+    mime: Front {
+        bytes: *b"\", \"mime\": \"    ",
+        length: BEFORE.mime.len(),
+    },
+    status: Front {
+        bytes: *b"\", \"status\": \"  ",
+        length: BEFORE.status.len(),
+    },
+    digest: Front {
+        bytes: *b"\", \"digest\": \"  ",
+        length: BEFORE.digest.len(),
+    },
+    length: Front {
+        bytes: *b"\", \"length\": \"  ",
+        length: BEFORE.length.len(),
+    },
+    offset: Front {
+        bytes: *b"\", \"offset\": \"  ",
+        length: BEFORE.offset.len(),
+    },
+    filename: Front {
+        bytes: *b"\", \"filename\": \"",
+        length: BEFORE.filename.len(),
+    },
 };
 
-pub(crate) const STATUS_FRONT: Front = Front {
-    bytes: *b"\", \"status\": \"  ",
-    length: BEFORE_STATUS.len(),
-};
+impl<T: Copy> Members<T> {
+    /// Returns the members that all have this value.
+    pub(crate) fn all(value: T) -> Members<T>
+        ensures { result ≡ all_members value }
+    {
+        Members {
+            url: value,
+            mime: value,
+            status: value,
+            digest: value,
+            length: value,
+            offset: value,
+            filename: value,
+        }
+    }
 
-pub(crate) const DIGEST_FRONT: Front = Front {
-    bytes: *b"\", \"digest\": \"  ",
-    length: BEFORE_DIGEST.len(),
-};
+    /// Gives the member of this name a value, if there is one.
+    pub(crate) fn put(&mut self, name: &str, value: T)
+        ensures { self.new ≡ with_named name.now value self.old }
+    {
+        match name {
+            "url" => self.url = value,
+            "mime" => self.mime = value,
+            "status" => self.status = value,
+            "digest" => self.digest = value,
+            "length" => self.length = value,
+            "offset" => self.offset = value,
+            "filename" => self.filename = value,
+            _ => {}
+        }
+    }
+}
 
-pub(crate) const LENGTH_FRONT: Front = Front {
-    bytes: *b"\", \"length\": \"  ",
-    length: BEFORE_LENGTH.len(),
-};
-
-pub(crate) const OFFSET_FRONT: Front = Front {
-    bytes: *b"\", \"offset\": \"  ",
-    length: BEFORE_OFFSET.len(),
-};
-
-pub(crate) const FILENAME_FRONT: Front = Front {
-    bytes: *b"\", \"filename\": \"",
-    length: BEFORE_FILENAME.len(),
-};
+impl Members<&str> {
+    /// Returns the length of all texts in bytes, or `usize::MAX` if it is larger.
+    pub fn total_length(&self) -> usize
+        ensures { result ≡ min (sum_by length (each (borrowed_view self.now))) usize.MAX }
+    {
+        self.url
+            .len()
+            .saturating_add(self.mime.len())
+            .saturating_add(self.status.len())
+            .saturating_add(self.digest.len())
+            .saturating_add(self.length.len())
+            .saturating_add(self.offset.len())
+            .saturating_add(self.filename.len())
+    }
+}

@@ -4,16 +4,21 @@ ghost use Rattle.std.specs.Prelude.{◌≡◌, ◌≤◌, ◌<◌, ◌+◌, ◌^
 ghost use Rattle.std.specs.Char.{is_ascii_digit};
 ghost use Rattle.std.specs.List.{list_all, prefix_len};
 ghost use Rattle.std.specs.Str.Parse.{digits_value};
-ghost use Rattle.cdxj_objects.specs.PlainPlaces.{ArePlainMembers, IsNumberAfter, IsTextAfter};
+ghost use Rattle.cdxj_objects.specs.PlainPlaces.{ArePlainMembers, AreParts, IsNumberAfter, IsTextAfter, texts_at};
+ghost use Rattle.cdxj_objects.specs.Texts.{borrowed_view};
 
 use crate::lanes::{Front, digits_before, has_front, holds_lanes, place_of_either};
-use crate::member_ends::{MemberEnds, PlainMembers, TO_FILENAME};
-use crate::members::{
-    DIGEST_FRONT, FILENAME_FRONT, LENGTH_FRONT, MIME_FRONT, OFFSET_FRONT, STATUS_FRONT, URL_FRONT,
-};
+use crate::members::{AFTER, BEFORE, FRONTS, Members};
 
 /// The least number of digits that aren't read as an offset here.
 const TOO_MANY_DIGITS: usize = 16;
+
+/// Where the fronts of a plain object's members stand, and the offset.
+#[derive(Clone, Copy, Debug, Drop)]
+pub struct PlainMembers {
+    pub fronts: Members<usize>,
+    pub offset: u64,
+}
 
 /// Returns the end of the text behind a front, if that front stands at a place.
 #[inline(always)]
@@ -82,38 +87,57 @@ fn number_after(text: &[u8], at: usize, front: Front) -> Option<(usize, u64)>
 }
 
 #[inline(always)]
-fn is_closed(text: &[u8], filename: usize) -> bool
-    requires { filename ≤ length text.now }
-    ensures { result ≡ true → drop filename text.now ≡ codes "\"}" }
+fn is_closed(text: &[u8], end: usize) -> bool
+    requires { end ≤ length text.now }
+    ensures { result ≡ true → drop end text.now ≡ codes "\"}" }
 {
-    matches!(&text[filename..], [b'"', b'}'])
+    matches!(&text[end..], [b'"', b'}'])
 }
 
-/// Returns where the texts of a plain object's members end, if the object begins at a place of the
-/// text and ends with it, and has a file name. It may decline any object.
+/// Returns where a plain object's members stand, if the object begins at a place of the text and
+/// ends with it, and has a file name. It may decline any object.
 #[inline(always)]
 pub fn plain_members(text: &[u8], object: usize) -> Option<PlainMembers>
     ensures { IfSome result (ArePlainMembers text.now object) }
 {
-    let url = end_after(text, object, URL_FRONT)?;
-    let mime = end_after(text, url, MIME_FRONT)?;
-    let status = end_after(text, mime, STATUS_FRONT)?;
-    let digest = end_after(text, status, DIGEST_FRONT)?;
-    let length = end_after(text, digest, LENGTH_FRONT)?;
-    let (offset, number) = number_after(text, length, OFFSET_FRONT)?;
-    let filename = end_after(text, offset, FILENAME_FRONT)?;
-    if filename == offset + TO_FILENAME || !is_closed(text, filename) {
+    let mime = end_after(text, object, FRONTS.url)?;
+    let status = end_after(text, mime, FRONTS.mime)?;
+    let digest = end_after(text, status, FRONTS.status)?;
+    let length = end_after(text, digest, FRONTS.digest)?;
+    let offset = end_after(text, length, FRONTS.length)?;
+    let (filename, number) = number_after(text, offset, FRONTS.offset)?;
+    let end = end_after(text, filename, FRONTS.filename)?;
+    if end == filename + BEFORE.filename.len() || !is_closed(text, end) {
         return None;
     }
     Some(PlainMembers {
-        ends: MemberEnds {
-            url,
+        fronts: Members {
+            url: object,
             mime,
             status,
             digest,
             length,
             offset,
+            filename,
         },
         offset: number,
     })
+}
+
+/// Returns the texts of the members whose fronts stand there.
+#[inline(always)]
+pub fn texts_at<'a>(text: &'a str, fronts: &Members<usize>) -> Members<&'a str>
+    requires { AreParts text.now fronts.now }
+    ensures { borrowed_view result ≡ texts_at text.now fronts.now }
+{
+    let at = *fronts;
+    Members {
+        url: &text[at.url + BEFORE.url.len()..at.mime],
+        mime: &text[at.mime + BEFORE.mime.len()..at.status],
+        status: &text[at.status + BEFORE.status.len()..at.digest],
+        digest: &text[at.digest + BEFORE.digest.len()..at.length],
+        length: &text[at.length + BEFORE.length.len()..at.offset],
+        offset: &text[at.offset + BEFORE.offset.len()..at.filename],
+        filename: &text[at.filename + BEFORE.filename.len()..text.len() - AFTER.len()],
+    }
 }

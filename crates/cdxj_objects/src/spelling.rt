@@ -7,12 +7,8 @@ ghost use Rattle.cdxj_objects.specs.Spelling.{IsSpelled};
 ghost use Rattle.cdxj_objects.specs.Texts.{or_missing};
 
 use crate::found_members::FoundMembers;
-use crate::member_ends::MemberEnds;
 use crate::member_value::MemberValue;
-use crate::members::{
-    AFTER_FILENAME, BEFORE_DIGEST, BEFORE_FILENAME, BEFORE_LENGTH, BEFORE_MIME, BEFORE_OFFSET,
-    BEFORE_STATUS, BEFORE_URL,
-};
+use crate::members::{AFTER, BEFORE, Members};
 use itoa::Buffer;
 use std::alloc::{AllocError, Global};
 
@@ -63,38 +59,38 @@ fn push_member(
     push_value(text, front, member_text(member, &mut digits))
 }
 
-/// Returns the line followed by a plain object with the texts of its members, and the ends of these
-/// texts.
+/// Returns the line followed by a plain object with the texts of its members, and where the fronts
+/// of these members stand.
 pub fn spelled(
     alloc: Global,
     line: &str,
     found: FoundMembers<'_>,
-    offset: u64,
-    filename: &str,
-) -> Result<(String, MemberEnds), AllocError>
-    ensures { IfOk result (λ p. IsSpelled line.now (found_view found.entry) offset filename.now
+    number: u64,
+    name: &str,
+) -> Result<(String, Members<usize>), AllocError>
+    ensures { IfOk result (λ p. IsSpelled line.now (found_view found.entry) number name.now
         (string_bytes p.0) p.1) }
 {
+    let members = found.members;
     let mut text = String::with_capacity(alloc, line.len().saturating_mul(2))?;
     text.push_str(line)?;
-    let url = push_member(&mut text, BEFORE_URL, found.url)?;
-    let mime = push_member(&mut text, BEFORE_MIME, found.mime)?;
-    let status = push_member(&mut text, BEFORE_STATUS, found.status)?;
-    let digest = push_member(&mut text, BEFORE_DIGEST, found.digest)?;
-    let length = push_member(&mut text, BEFORE_LENGTH, found.length)?;
+    let mime = push_member(&mut text, BEFORE.url, members.url)?;
+    let status = push_member(&mut text, BEFORE.mime, members.mime)?;
+    let digest = push_member(&mut text, BEFORE.status, members.status)?;
+    let length = push_member(&mut text, BEFORE.digest, members.digest)?;
+    let offset = push_member(&mut text, BEFORE.length, members.length)?;
     let mut digits = Buffer::new();
-    let offset = push_value(&mut text, BEFORE_OFFSET, number_text(offset, &mut digits))?;
-    push_value(&mut text, BEFORE_FILENAME, filename)?;
-    text.push_str(AFTER_FILENAME)?;
-    Ok((
-        text,
-        MemberEnds {
-            url,
-            mime,
-            status,
-            digest,
-            length,
-            offset,
-        },
-    ))
+    let filename = push_value(&mut text, BEFORE.offset, number_text(number, &mut digits))?;
+    push_value(&mut text, BEFORE.filename, name)?;
+    text.push_str(AFTER)?;
+    let fronts = Members {
+        url: line.len(),
+        mime,
+        status,
+        digest,
+        length,
+        offset,
+        filename,
+    };
+    Ok((text, fronts))
 }

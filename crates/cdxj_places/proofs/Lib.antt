@@ -9,3 +9,4 @@ pub mod RisingLaws
 pub mod RisingAlike
 pub mod NumberedRising
 pub mod SortedRising
+pub mod StableRising

@@ -2,6 +2,7 @@ pub mod Bytes
 pub mod Pair
 pub mod Places
 pub mod Pairs
+pub mod PairViews
 pub mod TextLines
 pub mod PlaceViews
 pub mod Abbreviated

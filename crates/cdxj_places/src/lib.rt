@@ -25,8 +25,8 @@ pub use crate::laws::{
     resume_key_is_read, rising_list_is_unique, rising_list_of_views,
 };
 pub use crate::offset::read_offset;
-pub use crate::order::{HasPlace, Row, in_order, rows_in_order};
+pub use crate::order::{HasPlace, Row, in_order, rows_in_order, sort_by_place};
 pub use crate::owned_place::OwnedPlace;
-pub use crate::pair::split_pair;
+pub use crate::pair::{LEAST_PAIR, Pair, split_pair};
 pub use crate::place::Place;
 pub use crate::resume::resume_text;

@@ -1,10 +1,24 @@
-//! The key and the stamp at the start of a line.
+//! Pairs of a key and a stamp, and the pair at the start of a line.
 ghost use Rattle.std.specs.Prelude.{◌≡◌, option_map, take, drop};
 ghost use Rattle.std.specs.List.{position, before_first, after_first};
 ghost use Rattle.cdxj_places.specs.Pair.{is_space, begins_with_space, pair_of};
 
 use crate::key_and_stamp::{is_key, is_stamp};
 use memchr::memchr;
+
+/// A key and a stamp, by which the lines of an index are sorted. Pairs are ordered by key and then by
+/// stamp, each by its bytes.
+#[derive(Clone, Copy, Debug, PartialEq, Eq, PartialOrd, Ord)]
+pub struct Pair<'a> {
+    pub key: &'a str,
+    pub stamp: [u8; 14],
+}
+
+/// The pair of the empty key, which no pair of a line is below.
+pub const LEAST_PAIR: Pair<'static> = Pair {
+    key: "",
+    stamp: *b"00000000000000",
+};
 
 #[tactic(auto, using(crate::proofs::Found::IsFirstByte_position))]
 fn first_space(line: &[u8]) -> Option<usize>

@@ -3,6 +3,7 @@ ghost use Rattle.std.specs.Prelude.{◌≡◌, ◌<◌, ◌^◌, length, true};
 ghost use Rattle.cdxj_places.specs.Pair.{is_key, is_stamp};
 
 use crate::order::HasPlace;
+use crate::pair::Pair;
 use std::cmp::Ordering;
 
 /// The place of a capture in an index. Places are ordered by key, stamp and file name, each by its
@@ -21,6 +22,22 @@ pub struct Place<'a> {
     pub ghost stamp_rule: { is_stamp stamp ≡ true },
     pub ghost filename_rule: { 0 < length filename.now },
     pub ghost offset_rule: { offset < 2 ^ 63 },
+}
+
+impl<'a> Place<'a> {
+    ghost use Rattle.cdxj_places.specs.Pairs.{place_pair};
+    ghost use Rattle.cdxj_places.specs.PairViews.{pair_view};
+    ghost use Rattle.cdxj_places.specs.PlaceViews.{place_view};
+
+    /// Returns the key and the stamp.
+    pub fn pair(self) -> Pair<'a>
+        ensures { pair_view result ≡ place_pair (place_view self.entry) }
+    {
+        Pair {
+            key: self.key,
+            stamp: self.stamp,
+        }
+    }
 }
 
 impl<'a> HasPlace for Place<'a> {

@@ -10,6 +10,7 @@ mod matches;
 mod options;
 mod sizes;
 mod task;
+mod usage_errors;
 mod words;
 
 pub use fault::WordsFault;

@@ -4,20 +4,18 @@ ghost use Rattle.std.specs.List.{list_any};
 ghost use Rattle.std.specs.Option.{IfSome, ok_or};
 ghost use Rattle.clap.specs.Words.{kind_of, subcommand_rows_of};
 ghost use Rattle.command_line.specs.Words.{texts, asks_for_help, is_unknown_option};
-ghost use Rattle.command_line.specs.Commands.{IsMeant, IsUsage, Help, Usage, asked, asked_of, help_or_usage, is_input, named_as, other_words, refusal_of, view, with_input};
+ghost use Rattle.command_line.specs.Commands.{IsMeant, Help, Usage, asked, asked_of, help_or_usage, is_input, named_as, other_words, refusal_of, view, with_input};
 ghost use Rattle.command_line.specs.Clap.{matches_task, refusal_for};
 
 use crate::command::command_line;
 use crate::fault::WordsFault;
 use crate::help::VERSION;
-use crate::matches::{operand_word, task_of};
+use crate::matches::task_of;
 use crate::options::{
     NamedInput, asks_for_version, help_option, input_of, named, other_words, unknown_option,
 };
 use crate::task::Task;
-use capture_core::Types;
-use cdxj_places::read_offset;
-use clap::error::ErrorKind;
+use crate::usage_errors::{fault_of, no_input, no_task, unexpected};
 use clap::{ArgMatches, Error};
 use std::alloc::{AllocError, Global};
 
@@ -161,7 +159,7 @@ fn read_task(alloc: Global, words: &[String]) -> Result<Task, WordsFault>
             Some(task) => Ok(task),
             None => Err(no_task(alloc, &matches)),
         },
-        Err(error) => Err(fault_of(alloc, &error)),
+        Err(error) => Err(fault_of(alloc, words, &error)),
     }
 }
 
@@ -187,7 +185,7 @@ fn help_fault(alloc: Global, words: &[String], help: &String) -> WordsFault
     ensures { IfSome (refusal_of result) (λ refusal. refusal ≡ help_or_usage (texts words.now)) }
 {
     let first = words.first().unwrap_or(help);
-    fault_of(alloc, &help_error(alloc, first, help))
+    fault_of(alloc, words, &help_error(alloc, first, help))
 }
 
 fn help_error(alloc: Global, first: &str, help: &str) -> Error
@@ -202,143 +200,5 @@ fn help_error(alloc: Global, first: &str, help: &str) -> Error
             Err(error) => error,
         },
         Err(refused) => Error::from(refused),
-    }
-}
-
-/// Returns the fault for clap's error, with its text.
-fn fault_of(alloc: Global, error: &Error) -> WordsFault
-    ensures { IfSome (refusal_of result) (λ refusal. refusal_for (kind_of error.now)
-        ≡ Some refusal) }
-{
-    let Ok(text) = error.to_string(alloc) else {
-        return WordsFault::Memory;
-    };
-    match error.kind() {
-        ErrorKind::OutOfMemory => WordsFault::Memory,
-        ErrorKind::DisplayHelp => WordsFault::Help(text),
-        _ => WordsFault::Usage(text),
-    }
-}
-
-/// Returns the usage error for an unknown option. clap's own text would suggest `-- -x`, which is refused too.
-fn unexpected(alloc: Global, option: &str) -> WordsFault
-    ensures { IsUsage result }
-{
-    let tip = tip_for(option);
-    usage(format!(in alloc;
-        "error: unexpected option '{option}'\n\n  \
-         tip: {tip}\n\n\
-         For more information, try '--help'.\n"
-    ))
-}
-
-fn tip_for(option: &str) -> &'static str {
-    if has_value(option) {
-        "an option and its value are two arguments, as '--types response'"
-    } else if option.starts_with("--types") {
-        "'--types TYPES' stands once, directly after 'index' or 'scan'"
-    } else if option.starts_with("--length") {
-        "'--length LENGTH' stands once, directly after 'get'"
-    } else if option.starts_with("--name") {
-        "'--name NAME' stands once, directly after 'index', 'scan' or their '--types TYPES'"
-    } else if option == "--version" || option == "-V" {
-        "'--version' is the only argument"
-    } else if option == "-o" || option == "--output" {
-        "the output is standard output: write '> FILE' behind the command"
-    } else if matches!(option, "-j" | "--jobs" | "-r" | "--recursive") {
-        "'warcdx-update' indexes folders, several archives at a time"
-    } else {
-        "a file whose name begins with '-' is written './-name'"
-    }
-}
-
-/// Returns `true` for an option that takes a value and has it behind `=`.
-fn has_value(option: &str) -> bool {
-    option.starts_with("--types=")
-        || option.starts_with("--name=")
-        || option.starts_with("--length=")
-}
-
-/// Returns the usage error for types, sizes, a length or an offset. clap accepts any argument for them; the texts are in its
-/// style.
-fn no_task(alloc: Global, matches: &ArgMatches) -> WordsFault
-    ensures { IsUsage result }
-{
-    match operand_word(matches, "types") {
-        Some(word) if Types::read(word).is_none() => no_types(alloc, word),
-        _ => no_numbers(alloc, matches),
-    }
-}
-
-fn no_numbers(alloc: Global, matches: &ArgMatches) -> WordsFault
-    ensures { IsUsage result }
-{
-    match operand_word(matches, "sizes") {
-        Some(word) => no_sizes(alloc, word),
-        None => no_place(alloc, matches),
-    }
-}
-
-fn no_place(alloc: Global, matches: &ArgMatches) -> WordsFault
-    ensures { IsUsage result }
-{
-    match operand_word(matches, "length") {
-        Some(word) if read_offset(word).is_none() => no_length(alloc, word),
-        _ => no_offset(alloc, operand_word(matches, "offset").unwrap_or("")),
-    }
-}
-
-fn no_length(alloc: Global, word: &str) -> WordsFault
-    ensures { IsUsage result }
-{
-    usage(format!(in alloc;
-        "error: invalid value '{word}' for '--length <LENGTH>': a length is 1 to 19 digits, below 2^63\n\n\
-         For more information, try '--help'.\n"
-    ))
-}
-
-fn no_input(alloc: Global) -> WordsFault
-    ensures { IsUsage result }
-{
-    usage(format!(in alloc;
-        "error: '--name <NAME>' names the archive '-', which isn't given\n\n\
-         For more information, try '--help'.\n"
-    ))
-}
-
-fn no_types(alloc: Global, word: &str) -> WordsFault
-    ensures { IsUsage result }
-{
-    usage(format!(in alloc;
-        "error: invalid value '{word}' for '--types <TYPES>': types are response, resource, revisit, conversion and metadata, \
-         each once at most, with ',' between\n\n\
-         For more information, try '--help'.\n"
-    ))
-}
-
-fn no_sizes(alloc: Global, word: &str) -> WordsFault
-    ensures { IsUsage result }
-{
-    usage(format!(in alloc;
-        "error: invalid value '{word}' for '<SIZES>': sizes are 1 to 1,000 numbers from 1 to 1,000,000, with ',' between\n\n\
-         For more information, try '--help'.\n"
-    ))
-}
-
-fn no_offset(alloc: Global, word: &str) -> WordsFault
-    ensures { IsUsage result }
-{
-    usage(format!(in alloc;
-        "error: invalid value '{word}' for '<OFFSET>': an offset is 1 to 19 digits, below 2^63, and precedes the archive\n\n\
-         For more information, try '--help'.\n"
-    ))
-}
-
-fn usage(text: Result<String, AllocError>) -> WordsFault
-    ensures { IsUsage result }
-{
-    match text {
-        Ok(text) => WordsFault::Usage(text),
-        Err(_refused) => WordsFault::Memory,
     }
 }

@@ -1,5 +1,5 @@
 //! What lines say.
-use cdxj_core::{Field, Line, LineFault, LineRef, split_pair};
+use cdxj_core::{Field, Line, LineFault, LineRef, Pair, split_pair};
 use fixtures::{FOREIGN, cut};
 use std::alloc::Global;
 
@@ -22,8 +22,11 @@ fn has_foreign_values(read: &LineRef<'_>) -> bool {
 }
 
 fn has_foreign_pair(read: &LineRef<'_>) -> bool {
-    let (key, stamp) = read.pair();
-    key == "com,example)/" && stamp == *b"20140103030321"
+    read.pair()
+        == Pair {
+            key: "com,example)/",
+            stamp: *b"20140103030321",
+        }
 }
 
 #[test]

@@ -82,7 +82,7 @@ fn has_texts(read: &LineRef<'_>, members: &Members) -> bool {
         members.filename,
     ];
     let mut fields = TEXTS.iter().zip(&texts);
-    fields.all(|(field, text)| read.value(*field) == *text) && read.pair().1 == *members.stamp
+    fields.all(|(field, text)| read.value(*field) == *text) && read.pair().stamp == *members.stamp
 }
 
 const HOME_LINE: &[u8] =

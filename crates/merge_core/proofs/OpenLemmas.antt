@@ -4,6 +4,7 @@ use Rattle.std.proofs.Common.{inl, ◌≤◌, drop, filter, ◌∙◌, Option, N
 use Rattle.std.specs.List.{AllByRecursion, AllZip, sum}
 use Rattle.std.proofs.lemmas.List.Sums.{sum-map, sum_by_push}
 use Rattle.std.proofs.lemmas.List.{drop_all, take_more_set}
+use Rattle.cdxj_places.specs.Pairs.{IsLeast, Pair}
 use Rattle.cdxj_places.proofs.RisingLaws.{each_weaker}
 use Rattle.cdxj_core.specs.Members.{Member}
 use Rattle.source_core.specs.Cursors.{CursorState}
@@ -11,7 +12,8 @@ use Rattle.merge_core.specs.declared.state.MergeState.{MergeState}
 use Rattle.merge_core.specs.WaitingLines.{WaitingLine, waits_of}
 use Rattle.merge_core.specs.Feeds.{Fed, Feed, IsSettled, Ready, done, feed_of, feeds, given, option_list, stays}
 use Rattle.merge_core.specs.NextLine.{IsNextLine}
-use Rattle.merge_core.specs.Openings.{AddedSource}
+use Rattle.merge_core.specs.Openings.{AddedSource, IsCutAt, OpenedAt}
+use Rattle.merge_core.specs.Spending.{CameOnce, CameWithin}
 use Rattle.merge_core.proofs.FeedLemmas.{LineRead, done_next, fed_end, fed_more, settled_more}
 use Rattle.source_core.specs.Cursors.{Stands}
 use Rattle.source_core.specs.IndexLines.{BeginsAfter, first_length}
@@ -60,6 +62,35 @@ module _ {limit : ℕ} {past : List ℕ → Bool} {S : Type 0} {text : S → Opt
         settled = rw added_feeds (zip_push_each (λ s f. IsSettled limit past (text s) f) ss (feeds m) s its_feed
             was.settled added.settled);
       }
+
+-- what is known of sources that were opened, one by one
+abbrev AreOpened : {S : Type 0} → (S → Option (List ℕ)) → (S → ℕ) → (S → ℕ) → ℕ → Pair → List S → List (S × Feed) → Type 0
+AreOpened text extent gave limit start =
+    AllZip (λ x y. OpenedAt limit start (text x) (extent x) (gave x) (gave y.0) y.1.cursor)
+
+module _ {S : Type 0} (text : S → Option (List ℕ)) (extent gave : S → ℕ) (limit : ℕ) (start : Pair) where
+  pub cuts_of : (olds ss : List S) (fs : List Feed) → map text ss ≡ map text olds → AreOpened text extent gave limit start olds (zip ss fs)
+      → AllByRecursion (λ x. IsCutAt limit start (text x.0) x.1.cursor) (zip ss fs)
+  cuts_of (x ∷ olds) (s ∷ ss) (f ∷ fs) same h =
+      let here : text s ≡ text x = cc in (rw here h.0.cut, cuts_of olds ss fs (cc) h.1)
+  cuts_of olds ss fs same h = grind arith
+
+  pub begun_of : (olds ss : List S) (fs : List Feed) → length ss ≡ length fs → IsLeast start
+      → AreOpened text extent gave limit start olds (zip ss fs) → AllByRecursion (λ f. f.cursor.start ≡ 0) fs
+  begun_of (x ∷ olds) (s ∷ ss) (f ∷ fs) long least h = (h.0.first least, begun_of olds ss fs (omega arith) least h.1)
+  begun_of [] (s ∷ ss) (f ∷ fs) long least h = absurd h
+  begun_of olds [] (f ∷ fs) long least h = absurd (omega arith)
+  begun_of olds ss [] long least h = tt
+
+  pub came_of : (olds : List S) (ys : List (S × Feed)) → AreOpened text extent gave limit start olds ys
+      → AllZip (λ x y. CameWithin (text x) (extent x) (gave x) (gave y.0) y.1.cursor) olds ys
+  came_of (x ∷ olds) (y ∷ ys) h = (h.0.came, came_of olds ys h.1)
+  came_of olds ys h = grind arith
+
+  pub came_once_of : (olds : List S) (ys : List (S × Feed)) → IsLeast start → AreOpened text extent gave limit start olds ys
+      → AllZip (λ x y. CameOnce (gave x) (gave y.0) y.1.cursor) olds ys
+  came_once_of (x ∷ olds) (y ∷ ys) least h = (h.0.once least, came_once_of olds ys least h.1)
+  came_once_of olds ys least h = grind arith
 
 pub added_by : {limit : ℕ} {past : List ℕ → Bool} {text : Option (List ℕ)} {extent : ℕ} {m m' : MergeState}
     {A B : CursorState → Type 0} → (added : AddedSource limit past text extent A m m') → B added.cursor

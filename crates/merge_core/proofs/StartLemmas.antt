@@ -1,7 +1,7 @@
 -- The lines that the sources have from where they are read on.
 use Rattle.std.specs.List.{AllZip, AllByRecursion}
 use Rattle.std.proofs.Common.{◌≡◌, ℕ, List, [], ◌∷◌, ◌++◌, length, map, drop, filter, zip, not, Option, Some, sym}
-use Rattle.std.proofs.Common.{ap, refl, ap₂, ◌∙◌, arith}
+use Rattle.std.proofs.Common.{ap, refl, ap₂, ◌∙◌, arith, false}
 use Rattle.std.proofs.lemmas.List.{drop_at, length-map, map-append}
 use Rattle.std.proofs.lemmas.List.Elements.{filter-append}
 use Rattle.cdxj_places.specs.Pairs.{Pair, pair_cmp}
@@ -10,7 +10,7 @@ use Rattle.cdxj_places.specs.TextLines.{lines}
 use Rattle.cdxj_places.proofs.RisingLaws.{each_weaker}
 use Rattle.cdxj_core.specs.Indexes.{IsRun, IsIndex}
 use Rattle.cdxj_core.specs.Members.{Member, member_pair}
-use Rattle.source_core.specs.Search.{IsCut}
+use Rattle.source_core.specs.Search.{IsCut, is_below}
 use Rattle.merge_core.specs.Feeds.{Feed}
 use Rattle.merge_core.specs.PairOrders.{is_low}
 use Rattle.merge_core.specs.Collections.{Known, all_lines}
@@ -26,6 +26,16 @@ after_front us vs xs ys n e =
 falls_back : (us vs : List Member) → NeverFalls member_pair pair_cmp (us ++ vs) → NeverFalls member_pair pair_cmp vs
 falls_back [] vs h = h
 falls_back (u ∷ us) vs h = falls_back us vs h.1
+
+-- no pair is below the empty one
+pub none_below_empty : (key stamp : List ℕ) → is_below ([], []) (key, stamp) ≡ false
+none_below_empty [] [] = refl
+none_below_empty [] (b ∷ bs) = refl
+none_below_empty (b ∷ bs) stamp = refl
+
+each_from_empty : (ms : List Member) → AllByRecursion (λ m. is_below ([], []) (member_pair m) ≡ false) ms
+each_from_empty [] = tt
+each_from_empty (m ∷ ms) = (none_below_empty (member_pair m).0 (member_pair m).1, each_from_empty ms)
 
 -- an index that was cut: its last lines are a run, and they are those that aren't below
 pub run_after : (limit : ℕ) (start : Pair) (t : List ℕ) (ms : List Member) (offset : ℕ) → IsIndex limit t ms
@@ -54,6 +64,24 @@ module _ {S : Type 0} (limit : ℕ) (text : S → Option (List ℕ)) where
         filter-append (λ m. not (is_low start m)) i (all_lines is) ∙ ap₂ (λ u v. u ++ v) run.1 others.2,
       )
   runs_sought start ss fs texts is same known are cut = grind arith
+
+  -- feeds that begin at the start of their sources are cut there
+  pub cut_at_start : (ss : List S) (fs : List Feed) → AllByRecursion (λ f. f.cursor.start ≡ 0) fs
+      → AllByRecursion (λ x. IsCutAt limit ([], []) (text x.0) x.1.cursor) (zip ss fs)
+  cut_at_start (s ∷ ss) (f ∷ fs) h = (
+    λ t members e index. rw h.0 (record {
+      before = [];
+      begins = (refl, refl);
+      low = [];
+      high = members;
+      members_are = refl;
+      as_many = refl;
+      all_below = tt;
+      none_below = each_from_empty members;
+    }),
+    cut_at_start ss fs h.1,
+  )
+  cut_at_start ss fs h = grind arith
 
   -- feeds that stand where a search ended do so after more was read
   pub cuts_kept : (start : Pair) (extent gave : S → ℕ) (xs ys : List (S × Feed)) → AllZip (Move text extent gave) xs ys

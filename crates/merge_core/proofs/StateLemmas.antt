@@ -56,11 +56,6 @@ pub counts_of : (n : ℕ) (cs : List CursorState) (ws : List WaitingLine)
 counts_of n [] ws = refl
 counts_of n (c ∷ cs) ws = ap (λ l. c.count ∷ l) (counts_of (n + 1) cs ws)
 
-pub starts_of : (n : ℕ) (cs : List CursorState) (ws : List WaitingLine) → AllByRecursion (λ (c : CursorState). c.start ≡ 0) cs
-    → AllByRecursion (λ (f : Feed). f.cursor.start ≡ 0) (feeds_from n cs ws)
-starts_of n [] ws h = tt
-starts_of n (c ∷ cs) ws h = (h.0, starts_of (n + 1) cs ws h.1)
-
 feed_at : (n i m : ℕ) (cs : List CursorState) (ws : List WaitingLine) (c : CursorState) (b : Feed) → m ≡ n + i
     → i < length cs → get_or (feeds_from n cs ws) i b ≡ feed_of (get_or cs i c) (waits_of m ws)
 feed_at n zero m (x ∷ cs) ws c b e l = grind arith

@@ -30,9 +30,13 @@ OverIndexes limit told P =
 abbrev pub all_lines : List (List Member) → List Member
 all_lines indexes = flat_map (λ members. members) indexes
 
--- in the order of places, each with the first line that has it
+-- in the order of places, only the first line at each place
+abbrev pub in_places : List Member → List Member
+in_places members = rising member_place place_cmp members
+
+-- all lines of the indexes, in the order of places
 abbrev pub collection : List (List Member) → List Member
-collection indexes = rising member_place place_cmp (all_lines indexes)
+collection indexes = in_places (all_lines indexes)
 
 -- the texts are indexes, and their collection was written, which has so many lines
 pub record Merged (limit : ℕ) (texts : List (List ℕ)) (old new : Option (List ℕ)) (number : ℕ) : Type 0 where

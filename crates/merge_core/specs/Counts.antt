@@ -1,9 +1,10 @@
 -- How many lines share a pair.
-use Rattle.std.specs.Prelude.{ℕ, ◌≤◌, List, length, Bool}
+use Rattle.std.specs.Prelude.{ℕ, ◌≤◌, List, length, Bool, Option}
 use Rattle.std.specs.List.{filter}
 use Rattle.std.specs.Ordering.{is_eq}
 use Rattle.cdxj_places.specs.Pairs.{Pair, pair_cmp}
 use Rattle.cdxj_core.specs.Members.{Member, member_pair}
+use Rattle.merge_core.specs.Collections.{OverIndexes, all_lines}
 
 -- the line has the pair
 abbrev pub is_at : Pair → Member → Bool
@@ -12,3 +13,8 @@ is_at pair m = is_eq (pair_cmp (member_pair m) pair)
 -- no more than so many of the lines share a pair
 abbrev pub ShareAtMost : ℕ → List Member → Type 0
 ShareAtMost most ms = (pair : Pair) → length (filter (is_at pair) ms) ≤ most
+
+-- a fact of how many lines of the sources share a pair at most, if all texts are known, and are indexes
+abbrev pub OverShares : ℕ → List (Option (List ℕ)) → (ℕ → Type 0) → Type 0
+OverShares limit told P =
+    OverIndexes limit told (λ texts indexes. (most : ℕ) → ShareAtMost most (all_lines indexes) → P most)

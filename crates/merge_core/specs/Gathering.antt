@@ -97,3 +97,11 @@ pub record Grouped {S : Type 0} (limit : ℕ) (past : List ℕ → Bool) (text :
   pub gathered : AreTold text olds
       → AllByRecursion (λ m. Below (member_pair m) pair) (all_done limit past text olds (feeds old))
       → Gathered pair (all_done limit past text olds (feeds old)) (all_done limit past text news (feeds new)) [] group
+
+-- a group was taken, which begins with this line, or no line waited
+abbrev pub IsGroup : {S : Type 0} → ℕ → (List ℕ → Bool) → (S → Option (List ℕ)) → (S → ℕ) → List S → MergeState → List S
+    → MergeState → Option Member → List Member → Type 0
+IsGroup limit past text extent olds old news new None rest =
+    (news ≡ olds) × (new.cursors.items ≡ old.cursors.items) × (old.queue ≡ []) × (new.queue ≡ [])
+IsGroup limit past text extent olds old news new (Some first) rest =
+    Grouped limit past text extent olds old news new (member_pair first) (first ∷ rest)

@@ -1,3 +1,4 @@
+pub mod BoxedLines
 pub mod WaitingLines
 pub mod PairOrders
 pub mod TurnOrder
@@ -10,6 +11,7 @@ pub mod Written
 pub mod Openings
 pub mod Collections
 pub mod NextLine
+pub mod Sinks
 pub mod Counts
 pub mod Runs
 pub mod SourceLines

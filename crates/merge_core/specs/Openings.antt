@@ -3,17 +3,27 @@ use Rattle.std.specs.Prelude.{◌≡◌, ℕ, ◌++◌, ◌∷◌, List, [], Boo
 use Rattle.std.specs.List.Sorted.{IsPermutation}
 use Rattle.cdxj_core.specs.Indexes.{IsIndex}
 use Rattle.cdxj_core.specs.Members.{Member}
-use Rattle.cdxj_places.specs.Pairs.{Pair}
+use Rattle.cdxj_places.specs.Pairs.{IsLeast, Pair}
 use Rattle.source_core.specs.Cursors.{CursorState}
 use Rattle.source_core.specs.Search.{IsCut}
 use Rattle.merge_core.specs.declared.state.MergeState.{MergeState}
 use Rattle.merge_core.specs.Feeds.{Fed, IsSettled, done, feed_of}
+use Rattle.merge_core.specs.Spending.{CameOnce, CameWithin}
 use Rattle.merge_core.specs.WaitingLines.{queued}
 
 -- of an index, the lines before the cursor's start are those below the pair
 abbrev pub IsCutAt : ℕ → Pair → Option (List ℕ) → CursorState → Type 0
 IsCutAt limit start text c = (t : List ℕ) → (members : List Member) → text ≡ Some t → IsIndex limit t members
     → IsCut start t members c.start
+
+-- The cursor of a source that was opened at a pair, with this text and size, and how many bytes it had given before and
+-- has given now
+pub record OpenedAt (limit : ℕ) (start : Pair) (text : Option (List ℕ)) (extent old new : ℕ) (c : CursorState) : Type 0
+  where
+    pub cut : IsCutAt limit start text c
+    pub came : CameWithin text extent old new c
+    pub first : IsLeast start → c.start ≡ 0
+    pub once : IsLeast start → CameOnce old new c
 
 -- A source was added, with this text and size, whose cursor is this; its first line waits, if it lies within the range
 pub record AddedSource (limit : ℕ) (past : List ℕ → Bool) (text : Option (List ℕ)) (extent : ℕ)

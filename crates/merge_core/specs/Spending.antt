@@ -7,8 +7,10 @@ use Rattle.cdxj_core.specs.Members.{Member, member_pair, line_entry}
 use Rattle.source_core.specs.Cursors.{CursorState, reach}
 use Rattle.source_core.specs.Halving.{digits}
 use Rattle.source_core.specs.IndexLines.{longest}
-use Rattle.merge_core.specs.Feeds.{Feed, bytes_of}
-use Rattle.merge_core.specs.PairOrders.{IsUpto}
+use Rattle.merge_core.specs.declared.state.MergeState.{MergeState}
+use Rattle.merge_core.specs.Feeds.{Feed, bytes_of, feeds}
+use Rattle.merge_core.specs.Gathering.{all_done}
+use Rattle.merge_core.specs.PairOrders.{IsUpto, Upto}
 use Rattle.merge_core.specs.Written.{lines_text}
 
 -- Of a source with this text, lines were read that lie within the range and aren't above the bound; beyond them, two
@@ -27,6 +29,13 @@ abbrev pub AreReadTo : {S : Type 0} → ℕ → (List ℕ → Bool) → (S → O
     → Type 0
 AreReadTo limit past text b ss fs = AllByRecursion (λ x. (t : List ℕ) → text x.0 ≡ Some t
     → ReadTo limit past b t x.1.cursor) (zip ss fs)
+
+-- the sources were read no further than this pair, if no line above it was taken before
+abbrev pub ReadUpto : {S : Type 0} → ℕ → (List ℕ → Bool) → (S → Option (List ℕ)) → Pair → List S → MergeState → List S
+    → MergeState → Type 0
+ReadUpto limit past text pair olds old news new =
+    AllByRecursion (λ m. Upto (member_pair m) pair) (all_done limit past text olds (feeds old))
+    → AreReadTo limit past text (Some pair) news (feeds new)
 
 -- what a search in a source of so many bytes, with this text, takes at most
 abbrev pub search_most : ℕ → List ℕ → ℕ

@@ -3,6 +3,7 @@ ghost use Rattle.std.specs.Prelude.{◌≡◌, ◌+◌, ◌≤◌, ℕ, List, []
 ghost use Rattle.source_core.specs.Device.{KeepsSource};
 ghost use Rattle.cdxj_core.specs.declared.limit.TheConstants.{LINE_LIMIT};
 ghost use Rattle.cdxj_core.specs.Members.{member_pair};
+ghost use Rattle.merge_core.specs.BoxedLines.{boxed_line, boxed_lines};
 ghost use Rattle.merge_core.specs.Failures.{CountsFeed};
 ghost use Rattle.source_core.specs.Cursors.{reach};
 ghost use Rattle.merge_core.specs.Feeds.{Fed, feed_of, given, option_list};
@@ -42,8 +43,8 @@ impl LineBuffers {
         ensures read { IfOk result (λ o.
             ReadGroup LINE_LIMIT (R.past range.now) (member_pair first.now)
             (S.text source.new) (S.extent source.new) cursor.old
-            (feed_of cursor.new (option_list (option_map (λ b. b.value) o)))
-            (map (λ b. b.value) rest.old.items) (map (λ b. b.value) rest.new.items)) }
+            (feed_of cursor.new (option_list (boxed_line o)))
+            (boxed_lines rest.old.items) (boxed_lines rest.new.items)) }
         ensures most { (t : List ℕ) → S.text source.old ≡ Some t
             → ReadTo LINE_LIMIT (R.past range.now) (Some (member_pair first.now)) t cursor.new }
         ensures fault { (t : List ℕ) → S.text source.old ≡ Some t

@@ -2,8 +2,8 @@
 ghost use Rattle.std.specs.Prelude.{◌≤◌, ◌+◌, ℕ, length, map, IfOk, IfErr};
 ghost use Rattle.cdxj_core.specs.declared.limit.TheConstants.{LINE_LIMIT};
 ghost use Rattle.devices.specs.Device.{AppendsPrefix};
-ghost use Rattle.merge_core.specs.Collections.{KeepsSources, Merged, OverIndexes, OverTexts, all_lines, collection};
-ghost use Rattle.merge_core.specs.Counts.{ShareAtMost};
+ghost use Rattle.merge_core.specs.Collections.{KeepsSources, Merged, OverIndexes, OverTexts, collection};
+ghost use Rattle.merge_core.specs.Counts.{OverShares};
 ghost use Rattle.merge_core.specs.Failures.{CountsMerge};
 ghost use Rattle.merge_core.specs.LineFaults.{IsMergeFaultOf};
 ghost use Rattle.merge_core.specs.SourceLines.{WritesLinesOf};
@@ -15,6 +15,7 @@ use crate::line_writer::LineWriter;
 use crate::merging::merge;
 use crate::range::All;
 use crate::state::MergeState;
+use cdxj_core::LEAST_PAIR;
 use devices::Output;
 use source_core::Source;
 use std::alloc::Global;
@@ -50,11 +51,10 @@ pub fn merge_indexes<S: Source, O: Output>(
     ensures lines { WritesLinesOf LINE_LIMIT (λ merged. merged.count) (map S.text sources.old)
         result (O.written out.old) (O.written out.new) }
     ensures bytes { AllGaveOnce S.extent S.gave sources.old sources.new }
-    ensures most_lines { OverIndexes LINE_LIMIT (map S.text sources.old) (λ texts indexes.
-        (most : ℕ) → ShareAtMost most (all_lines indexes)
-        → IfOk result (λ merged. merged.most_lines ≤ length sources.old + most)) }
+    ensures most_lines { OverShares LINE_LIMIT (map S.text sources.old) (λ most.
+        IfOk result (λ merged. merged.most_lines ≤ length sources.old + most)) }
 {
-    let mut opened = MergeState::open_at(alloc, sources, b"", b"", &All)?;
+    let mut opened = MergeState::open_at(alloc, sources, LEAST_PAIR, &All)?;
     let mut writer = LineWriter::new();
     merge(alloc, sources, &mut opened.merge, &All, &mut writer, out)?;
     Ok(MergedLines {

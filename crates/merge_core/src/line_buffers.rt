@@ -13,7 +13,8 @@ ghost use Rattle.source_core.specs.IndexLines.{first_length};
 ghost use Rattle.merge_core.specs.Feeds.{option_list, read_lines, stays};
 ghost use Rattle.std.specs.List.{filter};
 ghost use Rattle.merge_core.specs.LineFaults.{IsFeedFaultAt, line_fault};
-ghost use Rattle.merge_core.specs.NextLine.{IsNextLine};
+ghost use Rattle.merge_core.specs.NextLine.{GivesLine, IsNextLine, MovesOn};
+ghost use Rattle.merge_core.specs.BoxedLines.{boxed_line};
 
 use crate::fault::FeedFault;
 use crate::range::Range;
@@ -96,11 +97,11 @@ impl LineBuffers {
         line: Option<Box<Line>>,
         range: &R,
     ) -> Option<Box<Line>>
-        ensures { option_list (option_map (λ b. b.value) result)
-            ≡ filter (stays (R.past range.now)) (option_list (option_map (λ b. b.value) line)) }
+        ensures { option_list (boxed_line result)
+            ≡ filter (stays (R.past range.now)) (option_list (boxed_line line)) }
     {
         let line = line?;
-        if range.is_past(line.pair().0) {
+        if range.is_past(line.pair().key) {
             self.recycle(line);
             None
         } else {
@@ -121,20 +122,12 @@ impl LineBuffers {
         ensures failures { CountsFeed result (S.failures source.old) (S.failures source.new) }
         ensures stands { OnOk result (Stands (S.text source.new) (S.extent source.new) cursor.new) }
         ensures start { cursor.new.start ≡ cursor.old.start }
-        ensures count { IfOk result (λ o.
-            MatchOption o (cursor.new.count ≡ cursor.old.count) (λ _.
-            cursor.new.count ≡ cursor.old.count + 1)) }
-        ensures there { IfOk result (λ o.
-            MatchOption o (cursor.new.at ≡ S.extent source.old) (λ _.
-            cursor.old.at < cursor.new.at)) }
-        ensures given { (t : List ℕ) → S.text source.old ≡ Some t → IfOk result (λ o. MatchOption o
-            ((read_lines t cursor.new ≡ read_lines t cursor.old)
-            × (lines (drop cursor.new.at t) ≡ []))
-            (λ line. (l : List ℕ) × (read_lines t cursor.new ≡ read_lines t cursor.old ++ l ∷ [])
-            × (line_entry LINE_LIMIT l ≡ Some line.value))) }
-        ensures next { (t : List ℕ) → S.text source.old ≡ Some t
-            → IfOk result (λ o. IsNextLine LINE_LIMIT t cursor.old.at cursor.new.at
-            (option_map (λ b. b.value) o)) }
+        ensures moves { IfOk result (λ o.
+            MovesOn (S.extent source.old) cursor.old cursor.new (boxed_line o)) }
+        ensures given { (t : List ℕ) → S.text source.old ≡ Some t → IfOk result (λ o.
+            GivesLine LINE_LIMIT t cursor.old cursor.new (boxed_line o)) }
+        ensures next { (t : List ℕ) → S.text source.old ≡ Some t → IfOk result (λ o.
+            IsNextLine LINE_LIMIT t cursor.old.at cursor.new.at (boxed_line o)) }
         ensures most { (t : List ℕ) → S.text source.old ≡ Some t → cursor.new.at
             ≤ cursor.old.at + first_length (lines (drop cursor.old.at t)) }
         ensures ahead { length cursor.new.ahead ≤ 8192 }

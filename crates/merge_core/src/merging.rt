@@ -1,8 +1,7 @@
 //! The merging of several sources.
 ghost use Rattle.std.specs.Prelude.{◌≡◌, ◌+◌, ◌≤◌, ℕ, [], length, map, IfOk, IfErr, OnErr};
 ghost use Rattle.cdxj_core.specs.declared.limit.TheConstants.{LINE_LIMIT};
-ghost use Rattle.merge_core.specs.Collections.{OverIndexes, all_lines};
-ghost use Rattle.merge_core.specs.Counts.{ShareAtMost};
+ghost use Rattle.merge_core.specs.Counts.{OverShares};
 ghost use Rattle.merge_core.specs.Failures.{CountsMerge};
 ghost use Rattle.merge_core.specs.LineFaults.{IsMergeFaultOf};
 ghost use Rattle.merge_core.specs.Feeds.{AllMoved, Ready, feeds};
@@ -35,9 +34,8 @@ pub fn merge<S: Source, R: Range, K: Sink, O: Output>(
     ensures failures { CountsMerge result (map S.failures sources.old) (map S.failures sources.new)
         (O.failures out.old) (O.failures out.new) }
     ensures fault { IfErr result (IsMergeFaultOf LINE_LIMIT (map S.text sources.old)) }
-    ensures most_lines { OverIndexes LINE_LIMIT (map S.text sources.old) (λ texts indexes.
-        (most : ℕ) → ShareAtMost most (all_lines indexes)
-        → merge.old.most_lines ≤ length sources.old + most
+    ensures most_lines { OverShares LINE_LIMIT (map S.text sources.old) (λ most.
+        merge.old.most_lines ≤ length sources.old + most
         → merge.new.most_lines ≤ length sources.old + most) }
     ensures passed { IfOk result (Passed K.Wrote K.Enough (R.past range.now) S.text S.extent S.gave
         sources.old merge.old sink.old (O.written out.old)

@@ -3,6 +3,8 @@ ghost use Rattle.std.specs.List.{AllZip};
 ghost use Rattle.source_core.specs.Device.{KeepsSource};
 ghost use Rattle.std.specs.Prelude.{◌≡◌, ◌⊎◌, ◌+◌, ◌*◌, ◌≤◌, ℕ, List, [], map, Some, IfOk, IfErr, OnOk};
 ghost use Rattle.std.specs.List.{AllByRecursion, zip, sum};
+ghost use Rattle.cdxj_places.specs.Pairs.{IsLeast};
+ghost use Rattle.cdxj_places.specs.PairViews.{pair_view};
 ghost use Rattle.cdxj_core.specs.declared.limit.TheConstants.{LINE_LIMIT};
 ghost use Rattle.source_core.specs.Cursors.{Stands, reach};
 ghost use Rattle.source_core.specs.Halving.{digits};
@@ -17,6 +19,7 @@ use crate::line_buffers::LineBuffers;
 use crate::line_queue::LineQueue;
 use crate::range::Range;
 use crate::state::MergeState;
+use cdxj_core::Pair;
 use source_core::{Cursor, Found, Source, search};
 use std::alloc::Global;
 
@@ -30,7 +33,7 @@ pub struct OpenedMerge {
 
 impl MergeState {
     ghost use Rattle.merge_core.specs.Feeds.{Ready, feeds};
-    ghost use Rattle.merge_core.specs.Openings.{AddedSource, IsCutAt};
+    ghost use Rattle.merge_core.specs.Openings.{AddedSource, OpenedAt};
     ghost use Rattle.merge_core.specs.Gathering.{all_done};
 
     /// Adds a source, and reads the first line after the cursor.
@@ -73,8 +76,7 @@ impl MergeState {
         &mut self,
         alloc: Global,
         source: &mut S,
-        key: &[u8],
-        stamp: &[u8],
+        start: Pair<'_>,
         range: &R,
     ) -> Result<u64, FeedFault>
         ensures kept { KeepsSource S.text S.extent source.old source.new }
@@ -85,31 +87,26 @@ impl MergeState {
         ensures most_lines { self.new.most_lines ≡ self.old.most_lines }
         ensures added { OnOk result
             (AddedSource LINE_LIMIT (R.past range.now) (S.text source.new) (S.extent source.new)
-            (λ c. IsCutAt LINE_LIMIT (key.now, stamp.now) (S.text source.new) c
-            × CameWithin (S.text source.old) (S.extent source.old) (S.gave source.old)
-            (S.gave source.new) c
-            × (key.now ≡ [] → stamp.now ≡ [] → c.start ≡ 0)
-            × (key.now ≡ [] → stamp.now ≡ [] → CameOnce (S.gave source.old) (S.gave source.new) c))
-            self.old self.new) }
+            (OpenedAt LINE_LIMIT (pair_view start.entry) (S.text source.old) (S.extent source.old)
+            (S.gave source.old) (S.gave source.new)) self.old self.new) }
         ensures spent { OpenedWithin (S.text source.old) (S.extent source.old) (S.gave source.old)
             (S.gave source.new) }
-        ensures once { key.now ≡ [] → stamp.now ≡ []
+        ensures once { IsLeast (pair_view start.entry)
             → GaveOnce (S.extent source.old) (S.gave source.old) (S.gave source.new) }
     {
-        let Found { cursor, probes } = search(alloc, source, key, stamp)?;
+        let Found { cursor, probes } = search(alloc, source, start)?;
         self.add(source, cursor, range)?;
         Ok(probes)
     }
 
-    /// Opens each source at its first line whose pair isn't below this one, and reads that line. With an empty key and an
-    /// empty stamp that is the first line of each source, and no search is made for it.
+    /// Opens each source at its first line whose pair isn't below this one, and reads that line. With an empty key that is
+    /// the first line of each source, and no search is made for it.
     ///
     /// Errors are `Memory`, and `Read`, `BadLine` and `OutOfOrder` with the number of the source.
     pub fn open_at<S: Source, R: Range>(
         alloc: Global,
         sources: &mut [S],
-        key: &[u8],
-        stamp: &[u8],
+        start: Pair<'_>,
         range: &R,
     ) -> Result<OpenedMerge, MergeFault>
         ensures kept { KeepsSources S.text S.extent sources.old sources.new }
@@ -117,22 +114,14 @@ impl MergeState {
             (map S.failures sources.new) }
         ensures spent { AllZip (λ x y.
             OpenedWithin (S.text x) (S.extent x) (S.gave x) (S.gave y)) sources.old sources.new }
-        ensures once { key.now ≡ [] → stamp.now ≡ []
+        ensures once { IsLeast (pair_view start.entry)
             → AllGaveOnce S.extent S.gave sources.old sources.new }
-        ensures came_once { key.now ≡ [] → stamp.now ≡ [] → IfOk result (λ o.
-            AllZip (λ x y. CameOnce (S.gave x) (S.gave y.0) y.1.cursor)
-            sources.old (zip sources.new (feeds o.merge))) }
-        ensures came { IfOk result (λ o.
-            AllZip (λ x y. CameWithin (S.text x) (S.extent x) (S.gave x) (S.gave y.0) y.1.cursor)
-            sources.old (zip sources.new (feeds o.merge))) }
+        ensures opened { IfOk result (λ o.
+            AllZip (λ x y. OpenedAt LINE_LIMIT (pair_view start.entry) (S.text x) (S.extent x)
+            (S.gave x) (S.gave y.0) y.1.cursor) sources.old (zip sources.new (feeds o.merge))) }
         ensures fault { IfErr result (IsMergeFaultOf LINE_LIMIT (map S.text sources.old)) }
         ensures ready { IfOk result (λ o.
             Ready LINE_LIMIT (R.past range.now) S.text S.extent sources.new o.merge) }
-        ensures cut { IfOk result (λ o.
-            AllByRecursion (λ x. IsCutAt LINE_LIMIT (key.now, stamp.now) (S.text x.0) x.1.cursor)
-            (zip sources.new (feeds o.merge))) }
-        ensures start { key.now ≡ [] → stamp.now ≡ []
-            → IfOk result (λ o. AllByRecursion (λ c. c.start ≡ 0) o.merge.cursors.items) }
         ensures fresh { IfOk result (λ o.
             all_done LINE_LIMIT (R.past range.now) S.text sources.new (feeds o.merge) ≡ []) }
         ensures most_lines { IfOk result (λ o. o.merge.most_lines ≡ 0) }
@@ -147,7 +136,7 @@ impl MergeState {
         };
         let mut probes = 0u64;
         for i in 0..sources.len() {
-            match merge.add_from(alloc, &mut sources[i], key, stamp, range) {
+            match merge.add_from(alloc, &mut sources[i], start, range) {
                 Ok(turns) => probes = probes.saturating_add(turns),
                 Err(fault) => return Err(MergeFault::Feed(i, fault)),
             }

@@ -10,7 +10,5 @@ use std::cmp::Ordering;
 pub fn compare_pairs(line: &Line, other: &Line) -> Ordering
     ensures { result ≡ pair_cmp (member_pair line.now) (member_pair other.now) }
 {
-    let (key, stamp) = line.pair();
-    let (other_key, other_stamp) = other.pair();
-    key.cmp(other_key).then_with(|| stamp.cmp(&other_stamp))
+    line.pair().cmp(&other.pair())
 }

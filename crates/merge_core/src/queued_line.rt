@@ -42,7 +42,7 @@ impl QueuedLine {
         ensures { result ≡ record { member = line.value; source = source } }
     {
         QueuedLine {
-            key_start: key_start(line.pair().0.as_bytes()),
+            key_start: key_start(line.pair().key.as_bytes()),
             line,
             source,
         }

@@ -6,12 +6,16 @@ ghost use Rattle.cdxj_places.specs.Rising.{rising};
 ghost use Rattle.cdxj_core.specs.Members.{Member, member_place};
 ghost use Rattle.cdxj_core.specs.declared.limit.TheConstants.{LINE_LIMIT};
 ghost use Rattle.devices.specs.Device.{Grows};
+ghost use Rattle.merge_core.specs.BoxedLines.{boxed_lines};
+ghost use Rattle.merge_core.specs.Collections.{in_places};
 ghost use Rattle.merge_core.specs.Failures.{CountsHanding};
+ghost use Rattle.merge_core.specs.Sinks.{BreaksAt, Takes, TakesOrBreaks};
 ghost use Rattle.devices.specs.WriteFaults.{CountsWriteFault};
 ghost use Rattle.merge_core.specs.SourceLines.{HasEntry};
 
 use crate::fault::MergeFault;
-use cdxj_core::{HasPlace, Line, in_order};
+use cdxj_core::{HasPlace, Line};
+use cdxj_places::sort_by_place;
 use devices::{Output, WriteFault};
 use std::alloc::{AllocError, Global};
 use std::cmp::Ordering;
@@ -38,11 +42,8 @@ pub trait Sink {
         lines: &[&Line],
         out: &mut O,
     ) -> Result<bool, WriteFault>
-        ensures wrote { (first : Self) (taken : List Member) (start : Option (List ℕ))
-            → Wrote first self.old taken start (O.written out.old)
-            → MatchResult result (λ _.
-            Wrote first self.new (taken ++ map (λ l. l.now) lines.now) start (O.written out.new))
-            (λ _. Broke first (taken ++ map (λ l. l.now) lines.now) start (O.written out.new)) }
+        ensures wrote { TakesOrBreaks Wrote Broke result (map (λ l. l.now) lines.now) self.old self.new
+            (O.written out.old) (O.written out.new) }
         ensures enough { IfOk result (λ all. all ≡ false → Enough self.new) }
         ensures further { IfOk result (λ all. all ≡ true → Enough self.new → ⊥) }
         ensures grows { Grows (O.written out.old) (O.written out.new) }
@@ -55,7 +56,7 @@ fn references<'a>(
     rest: &'a [Box<Line>],
 ) -> Result<Vec<&'a Line>, AllocError>
     ensures { IfOk result (λ v.
-        map (λ l. l.now) v.items ≡ first.entry.now ∷ map (λ b. b.value) rest.entry.now) }
+        map (λ l. l.now) v.items ≡ first.entry.now ∷ boxed_lines rest.entry.now) }
 {
     let mut lines = Vec::with_capacity(alloc, rest.len().saturating_add(1))?;
     lines.push(first)?;
@@ -66,34 +67,22 @@ fn references<'a>(
 }
 
 /// Returns the lines in the order of places, only the first line at each place.
-fn ordered<'a>(alloc: Global, lines: &[&'a Line]) -> Result<Vec<&'a Line>, AllocError>
-    ensures { IfOk result (λ v.
-        map (λ l. l.now) v.items ≡ rising member_place place_cmp (map (λ l. l.now) lines.now)) }
-{
-    let sorted = in_order(alloc, lines)?;
-    let mut in_place = Vec::with_capacity(alloc, sorted.len())?;
-    for line in &sorted {
-        in_place.push(**line)?;
-    }
-    Ok(in_place)
-}
-
 fn in_places<'a>(
     alloc: Global,
     first: &'a Line,
     rest: &'a [Box<Line>],
 ) -> Result<Vec<&'a Line>, AllocError>
     ensures { IfOk result (λ v.
-        map (λ l. l.now) v.items
-        ≡ rising member_place place_cmp (first.entry.now ∷ map (λ b. b.value) rest.entry.now)) }
+        map (λ l. l.now) v.items ≡ in_places (first.entry.now ∷ boxed_lines rest.entry.now)) }
 {
-    let lines = references(alloc, first, rest)?;
-    Ok(ordered(alloc, &lines)?)
+    let mut lines = references(alloc, first, rest)?;
+    sort_by_place(&mut lines)?;
+    Ok(lines)
 }
 
 /// Shows that each of the lines has an entry, which is what was read of it. Nothing else is done.
 fn have_entries(lines: &[Box<Line>])
-    ensures { AllByRecursion (HasEntry LINE_LIMIT) (map (λ b. b.value) lines.now) }
+    ensures { AllByRecursion (HasEntry LINE_LIMIT) (boxed_lines lines.now) }
 {
     for line in lines {
         // For the proof alone, as below.
@@ -109,14 +98,8 @@ fn take_two<K: Sink, O: Output>(
     sink: &mut K,
     out: &mut O,
 ) -> Result<bool, WriteFault>
-    ensures wrote { (begin : K) (taken : List Member) (start : Option (List ℕ))
-        → K.Wrote begin sink.old taken start (O.written out.old)
-        → MatchResult result (λ _. K.Wrote begin sink.new
-        (taken ++ rising member_place place_cmp (first.now ∷ second.now ∷ []))
-        start (O.written out.new))
-        (λ _. K.Broke begin
-        (taken ++ rising member_place place_cmp (first.now ∷ second.now ∷ []))
-        start (O.written out.new)) }
+    ensures wrote { TakesOrBreaks K.Wrote K.Broke result (in_places (first.now ∷ second.now ∷ []))
+        sink.old sink.new (O.written out.old) (O.written out.new) }
     ensures enough { IfOk result (λ all. all ≡ false → K.Enough sink.new) }
     ensures further { IfOk result (λ all. all ≡ true → K.Enough sink.new → ⊥) }
     ensures grows { Grows (O.written out.old) (O.written out.new) }
@@ -140,22 +123,15 @@ pub fn pass_group<K: Sink, O: Output>(
     sink: &mut K,
     out: &mut O,
 ) -> Result<bool, MergeFault>
-    ensures wrote { OnOk result
-        ((begin : K) → (taken : List Member) → (start : Option (List ℕ))
-        → K.Wrote begin sink.old taken start (O.written out.old)
-        → K.Wrote begin sink.new
-        (taken ++ rising member_place place_cmp (first.now ∷ map (λ b. b.value) rest.now)) start
-        (O.written out.new)) }
+    ensures wrote { OnOk result (Takes K.Wrote (in_places (first.now ∷ boxed_lines rest.now))
+        sink.old sink.new (O.written out.old) (O.written out.new)) }
     ensures broke { OnErr result (((sink.new ≡ sink.old) × (out.new ≡ out.old))
-        ⊎ ((begin : K) → (taken : List Member) → (start : Option (List ℕ))
-        → K.Wrote begin sink.old taken start (O.written out.old)
-        → K.Broke begin (taken ++ rising member_place place_cmp
-        (first.now ∷ map (λ b. b.value) rest.now)) start (O.written out.new))) }
+        ⊎ BreaksAt K.Wrote K.Broke (in_places (first.now ∷ boxed_lines rest.now))
+        sink.old (O.written out.old) (O.written out.new)) }
     ensures enough { IfOk result (λ all. all ≡ false → K.Enough sink.new) }
     ensures further { IfOk result (λ all. all ≡ true → K.Enough sink.new → ⊥) }
     ensures grows { Grows (O.written out.old) (O.written out.new) }
-    ensures entries { AllByRecursion (HasEntry LINE_LIMIT)
-        (first.now ∷ map (λ b. b.value) rest.now) }
+    ensures entries { AllByRecursion (HasEntry LINE_LIMIT) (first.now ∷ boxed_lines rest.now) }
     ensures failures { CountsHanding result (O.failures out.old) (O.failures out.new) }
 {
     // For the proof alone: the bytes of each line have it as their entry.

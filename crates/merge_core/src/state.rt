@@ -5,10 +5,10 @@ ghost use Rattle.std.specs.List.Sorted.{IsPermutation};
 ghost use Rattle.cdxj_core.specs.declared.limit.TheConstants.{LINE_LIMIT};
 ghost use Rattle.cdxj_core.specs.Members.{member_pair};
 ghost use Rattle.merge_core.specs.PairOrders.{Upto};
+ghost use Rattle.merge_core.specs.BoxedLines.{boxed_line, boxed_lines};
 ghost use Rattle.merge_core.specs.WaitingLines.{queued};
 ghost use Rattle.merge_core.specs.Failures.{CountsReads};
 ghost use Rattle.merge_core.specs.LineFaults.{IsMergeFaultOf};
-ghost use Rattle.merge_core.specs.Spending.{AreReadTo};
 
 use crate::fault::MergeFault;
 use crate::keyed_line::KeyedLine;
@@ -34,8 +34,9 @@ pub struct MergeState {
 
 impl MergeState {
     ghost use Rattle.merge_core.specs.Feeds.{Aligned, AllMoved, Feed, Ready, feeds, option_list};
-    ghost use Rattle.merge_core.specs.Gathering.{Grouped, IsDue, ReadOn, all_done};
+    ghost use Rattle.merge_core.specs.Gathering.{IsDue, IsGroup, ReadOn};
     ghost use Rattle.merge_core.specs.Merging.{HaltedGroup};
+    ghost use Rattle.merge_core.specs.Spending.{ReadUpto};
 
     pub(crate) fn enqueue(
         &mut self,
@@ -44,7 +45,7 @@ impl MergeState {
     ) -> Result<(), AllocError>
         ensures cursors { self.new.cursors.items ≡ self.old.cursors.items }
         ensures queue { OnOk result (IsPermutation
-            (queued source (option_list (option_map (λ b. b.value) line)) ++ self.old.queue)
+            (queued source (option_list (boxed_line line)) ++ self.old.queue)
             self.new.queue) }
         ensures refused { OnErr result (self.new.queue ≡ self.old.queue) }
         ensures most_lines { self.new.most_lines ≡ self.old.most_lines }
@@ -76,11 +77,9 @@ impl MergeState {
         ensures fault { IfErr result (IsMergeFaultOf LINE_LIMIT (map S.text sources.old)) }
         ensures read { OnOk result (ReadOn LINE_LIMIT (R.past range.now) S.text S.extent
             (member_pair first.now) i sources.old self.old sources.new self.new
-            (map (λ b. b.value) rest.old.items) (map (λ b. b.value) rest.new.items)) }
-        ensures most { AllByRecursion (λ m. Upto (member_pair m) (member_pair first.now))
-            (all_done LINE_LIMIT (R.past range.now) S.text sources.old (feeds self.old))
-            → AreReadTo LINE_LIMIT (R.past range.now) S.text
-            (Some (member_pair first.now)) sources.new (feeds self.new) }
+            (boxed_lines rest.old.items) (boxed_lines rest.new.items)) }
+        ensures most { ReadUpto LINE_LIMIT (R.past range.now) S.text (member_pair first.now)
+            sources.old self.old sources.new self.new }
         ensures most_lines { self.new.most_lines ≡ self.old.most_lines }
     {
         let next = match self
@@ -110,12 +109,9 @@ impl MergeState {
         ensures fault { IfErr result (IsMergeFaultOf LINE_LIMIT (map S.text sources.old)) }
         ensures ready { OnOk result
             (Ready LINE_LIMIT (R.past range.now) S.text S.extent sources.new self.new) }
-        ensures group { IfOk result (λ o. MatchOption o
-            ((sources.new ≡ sources.old) × (self.new.cursors.items ≡ self.old.cursors.items)
-            × (self.old.queue ≡ []) × (self.new.queue ≡ []))
-            (λ first. Grouped LINE_LIMIT (R.past range.now) S.text S.extent sources.old self.old
-            sources.new self.new (member_pair first.value)
-            (first.value ∷ map (λ b. b.value) rest.new.items))) }
+        ensures group { IfOk result (λ first.
+            IsGroup LINE_LIMIT (R.past range.now) S.text S.extent sources.old self.old
+            sources.new self.new (boxed_line first) (boxed_lines rest.new.items)) }
         ensures reads { OnErr result (HaltedGroup (R.past range.now) S.text sources.old self.old
             sources.new self.new) }
         ensures most_lines { self.new.most_lines ≡ self.old.most_lines }

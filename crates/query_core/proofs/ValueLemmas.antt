@@ -7,11 +7,9 @@ use Rattle.serde_json.specs.Data.{unsigned, negative, float, Data, null, boolean
 use Rattle.serde_json.specs.Find.{get}
 use Rattle.serde_json.specs.Read.{read}
 use Rattle.cdxj_objects.specs.MemberValues.{filename_value, offset_value, value_text}
-use Rattle.cdxj_objects.specs.Names.{digest_name, filename_name, length_name, mime_name, offset_name, status_name}
-use Rattle.cdxj_objects.specs.Names.{url_name}
+use Rattle.cdxj_objects.specs.ObjectMembers.{names}
 use Rattle.cdxj_places.specs.Pair.{is_key, is_stamp}
 use Rattle.cdxj_core.specs.declared.field.Field.{Field}
-use Rattle.cdxj_core.specs.declared.field.Field.TheVariants as field
 use Rattle.cdxj_core.specs.declared.limit.TheConstants.{LINE_LIMIT}
 use Rattle.cdxj_core.specs.Lines.{LineValue, field_value, line_from, object_values}
 use Rattle.cdxj_core.specs.Members.{Member}
@@ -52,7 +50,7 @@ object_some : (read_as : Option Data) (key stamp : List ℕ) (v : LineValue)
     → option_and_then (line_from key stamp) read_as ≡ Some v
     → (d : Data) × (f : List ℕ) × (o : ℕ) × (v ≡ object_values key stamp d f o)
 object_some (Some d) key stamp v e =
-    let m = made (filename_value (get filename_name d)) (offset_value (get offset_name d)) (object_values key stamp d) v e
+    let m = made (filename_value (get names.filename d)) (offset_value (get names.offset d)) (object_values key stamp d) v e
     in (d, m.0, m.1, m.2)
 object_some None key stamp v e = absurd (grind arith)
 
@@ -60,15 +58,7 @@ object_some None key stamp v e = absurd (grind arith)
 of_field : (v : LineValue) (key stamp : List ℕ) (d : Data) (filename : List ℕ) (offset : ℕ) → is_key v.key ≡ true
     → is_stamp v.stamp ≡ true → 0 < length v.filename → v ≡ object_values key stamp d filename offset
     → (f : Field) → 0 < length (field_value f v)
-of_field v key stamp d filename offset k s n e field.Urlkey = grind (arith, nat_tests)
-of_field v key stamp d filename offset k s n e field.Timestamp = grind (arith, nat_tests, eqb-true)
-of_field v key stamp d filename offset k s n e field.Original = rw e (text_some (get url_name d))
-of_field v key stamp d filename offset k s n e field.Mimetype = rw e (text_some (get mime_name d))
-of_field v key stamp d filename offset k s n e field.Statuscode = rw e (text_some (get status_name d))
-of_field v key stamp d filename offset k s n e field.Digest = rw e (text_some (get digest_name d))
-of_field v key stamp d filename offset k s n e field.Length = rw e (text_some (get length_name d))
-of_field v key stamp d filename offset k s n e field.Offset = decimal_some v.offset
-of_field v key stamp d filename offset k s n e field.Filename = n
+of_field v key stamp d filename offset k s n e f = grind (arith, nat_tests, eqb-true, text_some, decimal_some)
 
 pub value_some : (m : Member) → HasEntry LINE_LIMIT m → (f : Field) → 0 < length (field_value f m.values)
 value_some m h =

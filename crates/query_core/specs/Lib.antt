@@ -12,7 +12,6 @@ pub mod Conversions
 pub mod AnswerCounts
 pub mod Refusals
 pub mod Starts
-pub mod StartViews
 pub mod Paging
 pub mod QueryLaws
 pub mod MergeLaws

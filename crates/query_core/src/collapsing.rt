@@ -4,7 +4,7 @@ ghost use Rattle.query_text.specs.Collapses.{part_of};
 ghost use Rattle.query_core.specs.Collapsings.{collapsing_at, has_part};
 ghost use Rattle.query_core.specs.WriterView.{from_view};
 
-use cdxj_core::Place;
+use cdxj_core::{Pair, Place};
 use query_text::Collapse;
 use std::alloc::{AllocError, Global};
 use std::marker::Model;
@@ -52,40 +52,47 @@ impl Collapsing {
         };
         match from {
             Some(place) => {
-                begun.keep(place.key, place.stamp)?;
+                begun.keep(place.pair())?;
                 Ok(Some(begun))
             }
             None => Ok(Some(begun)),
         }
     }
 
-    /// Returns `true` if a capture of this key and stamp has its part in common with the one before.
-    pub(crate) fn repeats(&self, key: &str, stamp: &[u8; 14]) -> bool
-        ensures { result ≡ has_part self.now.part (part_of self.now.by key.now stamp.now) }
+    /// Returns `true` if a capture of this pair has its part in common with the one before.
+    pub(crate) fn repeats(&self, pair: Pair<'_>) -> bool
+        ensures { result
+            ≡ has_part self.now.part (part_of self.now.by pair.entry.key.now pair.entry.stamp) }
     {
-        match &self.stamp {
-            Some(before) => self.by.part(self.key.as_str(), before) == self.by.part(key, stamp),
+        match self.stamp {
+            Some(stamp) => {
+                let before = Pair {
+                    key: self.key.as_str(),
+                    stamp,
+                };
+                self.by.part(&before) == self.by.part(&pair)
+            }
             None => false,
         }
     }
 
-    /// Stores what is compared of a capture of this key and stamp.
-    pub(crate) fn keep(&mut self, key: &str, stamp: [u8; 14]) -> Result<(), AllocError>
+    /// Stores what is compared of a capture of this pair.
+    pub(crate) fn keep(&mut self, pair: Pair<'_>) -> Result<(), AllocError>
         ensures { OnOk result
             (self.new ≡ record {
               by = self.old.by;
               part = Some
-                  (part_of self.old.by key.now stamp);
+                  (part_of self.old.by pair.entry.key.now pair.entry.stamp);
             }) }
     {
         match self.by {
             Collapse::Urlkey => {
                 self.key.clear();
-                self.key.push_str(key)?;
+                self.key.push_str(pair.key)?;
             }
             Collapse::Timestamp(_) => {}
         }
-        self.stamp = Some(stamp);
+        self.stamp = Some(pair.stamp);
         Ok(())
     }
 }

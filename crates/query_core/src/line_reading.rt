@@ -6,7 +6,8 @@ ghost use Rattle.cdxj_core.specs.declared.limit.TheConstants.{LINE_LIMIT};
 ghost use Rattle.cdxj_core.specs.Members.{member_pair};
 ghost use Rattle.cdxj_places.specs.Pairs.{pair_cmp};
 ghost use Rattle.source_core.specs.Cursors.{Stands, reach};
-ghost use Rattle.merge_core.specs.NextLine.{IsNextLine};
+ghost use Rattle.merge_core.specs.BoxedLines.{boxed_line};
+ghost use Rattle.merge_core.specs.NextLine.{IsNextLine, MovesOn};
 ghost use Rattle.query_core.specs.AnswerCounts.{CountsSource};
 ghost use Rattle.query_core.specs.Checking.{IsCheckFault, IsLineFaultAt};
 
@@ -25,13 +26,10 @@ pub(crate) fn next_line<S: Source>(
     ensures kept { KeepsSource S.text S.extent source.old source.new }
     ensures stands { OnOk result (Stands (S.text source.new) (S.extent source.new) cursor.new) }
     ensures start { cursor.new.start ≡ cursor.old.start }
-    ensures count { IfOk result (λ found.
-        MatchOption found (cursor.new.count ≡ cursor.old.count) (λ _.
-        cursor.new.count ≡ cursor.old.count + 1)) }
-    ensures on { IfOk result (λ found. MatchOption found ⊤ (λ _. cursor.old.at < cursor.new.at)) }
-    ensures line { (t : List ℕ) → S.text source.old ≡ Some t
-        → IfOk result (λ found.
-        IsNextLine LINE_LIMIT t cursor.old.at cursor.new.at (option_map (λ b. b.value) found)) }
+    ensures moves { IfOk result (λ found.
+        MovesOn (S.extent source.old) cursor.old cursor.new (boxed_line found)) }
+    ensures line { (t : List ℕ) → S.text source.old ≡ Some t → IfOk result (λ found.
+        IsNextLine LINE_LIMIT t cursor.old.at cursor.new.at (boxed_line found)) }
     ensures fault { (t : List ℕ) → S.text source.old ≡ Some t
         → IfErr result (IsLineFaultAt LINE_LIMIT t cursor.old.at) }
     ensures kind { IfErr result IsCheckFault }
@@ -52,10 +50,5 @@ pub(crate) fn next_line<S: Source>(
 pub(crate) fn falls(previous: &Line, line: &Line) -> bool
     ensures { result ≡ is_gt (pair_cmp (member_pair previous.now) (member_pair line.now)) }
 {
-    let (previous_key, previous_stamp) = previous.pair();
-    let (key, stamp) = line.pair();
-    previous_key
-        .cmp(key)
-        .then_with(|| previous_stamp.cmp(&stamp))
-        .is_gt()
+    previous.pair().cmp(&line.pair()).is_gt()
 }

@@ -3,8 +3,8 @@ ghost use Rattle.std.specs.Prelude.{◌≡◌, ◌+◌, ◌≤◌, ℕ, length, 
 ghost use Rattle.std.specs.List.{sum};
 ghost use Rattle.cdxj_core.specs.declared.limit.TheConstants.{LINE_LIMIT};
 ghost use Rattle.source_core.specs.Halving.{digits};
-ghost use Rattle.merge_core.specs.Collections.{KeepsSources, OverIndexes, all_lines};
-ghost use Rattle.merge_core.specs.Counts.{ShareAtMost};
+ghost use Rattle.merge_core.specs.Collections.{KeepsSources};
+ghost use Rattle.merge_core.specs.Counts.{OverShares};
 ghost use Rattle.query_core.specs.AnswerCounts.{CountsAnswer};
 ghost use Rattle.query_core.specs.IndexFaults.{IsAnswerFaultOf};
 ghost use Rattle.query_core.specs.Passes.{BrokeOff, Halted, TookLines};
@@ -48,9 +48,8 @@ pub(crate) fn read_lines<S: Source, K: Sink, O: Output>(
     ensures fault { IfErr result (IsAnswerFaultOf LINE_LIMIT (map S.text sources.old)) }
     ensures probes { IfOk result (λ pass.
         pass.probes ≤ sum (map (λ s. digits (S.extent s)) sources.old)) }
-    ensures held { OverIndexes LINE_LIMIT (map S.text sources.old) (λ texts indexes.
-        (most : ℕ) → ShareAtMost most (all_lines indexes)
-        → IfOk result (λ pass. pass.held ≤ length sources.old + most)) }
+    ensures held { OverShares LINE_LIMIT (map S.text sources.old) (λ most.
+        IfOk result (λ pass. pass.held ≤ length sources.old + most)) }
     ensures enough { IfOk result (λ pass. pass.all ≡ false → K.Enough sink.new) }
     ensures took { IfOk result (TookLines K.Wrote K.Broke K.Enough S.text S.extent S.gave query.now
         sources.old sources.new sink.old (O.written out.old) sink.new (O.written out.new)) }
@@ -62,9 +61,7 @@ pub(crate) fn read_lines<S: Source, K: Sink, O: Output>(
     let range = TargetRange {
         target: query.target(),
     };
-    let start = start_pair(query);
-    let key = start.key.as_bytes();
-    let mut opened = MergeState::open_at(alloc, sources, key, &start.stamp, &range)?;
+    let mut opened = MergeState::open_at(alloc, sources, start_pair(query), &range)?;
     let all = merge(alloc, sources, &mut opened.merge, &range, sink, out)?;
     Ok(Pass {
         all,

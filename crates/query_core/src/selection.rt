@@ -61,10 +61,7 @@ impl<'q> Selection<'q> {
         ensures { result ≡ repeats_part self.now.collapsing (member_place line.now) }
     {
         match &self.collapsing {
-            Some(collapsing) => {
-                let (key, stamp) = line.pair();
-                collapsing.repeats(key, &stamp)
-            }
+            Some(collapsing) => collapsing.repeats(line.pair()),
             None => false,
         }
     }
@@ -76,10 +73,7 @@ impl<'q> Selection<'q> {
         ensures same { IsSame self.old self.new }
     {
         match &mut self.collapsing {
-            Some(collapsing) => {
-                let (key, stamp) = line.pair();
-                collapsing.keep(key, stamp)
-            }
+            Some(collapsing) => collapsing.keep(line.pair()),
             None => Ok(()),
         }
     }

@@ -1,4 +1,5 @@
 //! The lines of sources: checking them, and searching in them.
+use cdxj_core::{LEAST_PAIR, Pair};
 use devices::{Fuse, Gather};
 use fixtures::{
     FALLING, FIRST_OF_2016, LETTERS, Refused, Row, TORN, UNENDED_LETTERS, cut, falling_lines,
@@ -147,10 +148,24 @@ fn a_file_that_was_cut_after_it_was_opened_fails(rt: HostRuntime) -> Result<(), 
     Ok(())
 }
 
+/// Returns the least pair of this key.
+fn first_at(key: &str) -> Pair<'_> {
+    Pair {
+        key,
+        stamp: LEAST_PAIR.stamp,
+    }
+}
+
+/// The pair of the last of 100,000 lines.
+const LAST: Pair<'static> = Pair {
+    key: "com,example)/99999",
+    stamp: *b"20160101000000",
+};
+
 /// Returns `true` if the first line at or above this key begins at this offset.
 fn is_found(alloc: Global, key: &str, offset: u64) -> Result<bool, SearchFault> {
     let mut source = SliceSource::new(UNENDED_LETTERS);
-    let found = search(alloc, &mut source, key.as_bytes(), b"00000000000000")?;
+    let found = search(alloc, &mut source, first_at(key))?;
     Ok(found.cursor.at() == offset && found.probes <= 9)
 }
 
@@ -172,7 +187,7 @@ fn the_search_finds_the_first_line_at_or_above_a_key(rt: HostRuntime) -> Result<
 /// Returns `true` if the search fails if the first call of its source does.
 fn is_unread(alloc: Global) -> Result<bool, SearchFault> {
     let mut source = Fuse::new(SliceSource::new(UNENDED_LETTERS), 2, 1);
-    match search(alloc, &mut source, b"b)/", b"00000000000000") {
+    match search(alloc, &mut source, first_at("b)/")) {
         Err(SearchFault::Memory) => Err(SearchFault::Memory),
         Err(fault) => Ok(fault == SearchFault::Read),
         Ok(_found) => Ok(false),
@@ -189,7 +204,7 @@ fn the_search_fails_where_its_source_does(rt: HostRuntime) -> Result<(), SearchF
 fn is_last_found(alloc: Global, text: &[u8]) -> Result<bool, SearchFault> {
     let length = text.len() as u64 / 100_000;
     let mut source = SliceSource::new(text);
-    let found = search(alloc, &mut source, b"com,example)/99999", b"20160101000000")?;
+    let found = search(alloc, &mut source, LAST)?;
     Ok(
         found.cursor.at() / 99_999 == length
             && found.cursor.at() % 99_999 == 0
@@ -209,7 +224,7 @@ fn the_search_for_the_last_of_100_000_lines_reads_less_than_a_hundredth(
 /// Returns `true` if the search for the last of 100,000 lines takes more than 20 steps, and no more reads than this.
 fn is_found_in(alloc: Global, text: &[u8], reads: u64) -> Result<bool, SearchFault> {
     let mut source = Fuse::new(SliceSource::new(text), 8_192, 0);
-    let found = search(alloc, &mut source, b"com,example)/99999", b"20160101000000")?;
+    let found = search(alloc, &mut source, LAST)?;
     Ok(found.probes > 20 && source.calls <= reads)
 }
 
@@ -261,7 +276,7 @@ fn a_line_that_is_too_long_is_read_up_to_the_limit(rt: HostRuntime) -> Result<()
 /// read.
 fn found_in(alloc: Global, text: &[u8]) -> Result<(u64, u64), SearchFault> {
     let mut source = SliceSource::new(text);
-    let found = search(alloc, &mut source, b"c)/", b"00000000000000")?;
+    let found = search(alloc, &mut source, first_at("c)/"))?;
     Ok((found.cursor.at(), source.gave()))
 }
 

@@ -6,6 +6,7 @@ ghost use Rattle.query_text.specs.Collapses.{collapse_of, width_of};
 use crate::fault::QueryFault;
 use crate::parts::is_number;
 use crate::stamp::front;
+use cdxj_core::Pair;
 
 /// The part by which adjacent captures are collapsed. Of those with the same part, the first is kept.
 #[derive(Clone, Copy, Debug, Drop, PartialEq, Eq)]
@@ -19,13 +20,13 @@ pub enum Collapse {
 impl Collapse {
     ghost use Rattle.query_text.specs.Collapses.{part_of};
 
-    /// Returns the part that is compared, of a capture with this key and stamp.
-    pub fn part<'p>(self, key: &'p str, stamp: &'p [u8]) -> &'p [u8]
-        ensures { result.now ≡ part_of self key.now stamp.now }
+    /// Returns the part that is compared, of a capture with this pair.
+    pub fn part<'p>(self, pair: &'p Pair<'p>) -> &'p [u8]
+        ensures { result.now ≡ part_of self pair.now.key.now pair.now.stamp }
     {
         match self {
-            Collapse::Urlkey => key.as_bytes(),
-            Collapse::Timestamp(digits) => front(stamp, digits),
+            Collapse::Urlkey => pair.key.as_bytes(),
+            Collapse::Timestamp(digits) => front(&pair.stamp, digits),
         }
     }
 }

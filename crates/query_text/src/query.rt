@@ -13,7 +13,7 @@ use crate::output::OutputFormat;
 use crate::parameters::Parameters;
 use crate::stamp::{StampStart, not_after, not_before};
 use crate::target::{MatchKind, Target};
-use cdxj_core::{Field, Line, LineRef, OwnedPlace, Place};
+use cdxj_core::{Field, Line, LineRef, OwnedPlace, Pair, Place};
 use std::alloc::{AllocError, Global};
 use std::marker::Model;
 
@@ -165,26 +165,26 @@ impl Query {
     }
 
     /// Returns `true` if the query matches this key and stamp. Its filters are not considered.
-    pub fn matches_pair(&self, key: &str, stamp: [u8; 14]) -> bool
-        ensures { result ≡ matches_pair self.now key.now stamp }
+    pub fn matches_pair(&self, pair: Pair<'_>) -> bool
+        ensures { result ≡ matches_pair self.now pair.entry.key.now pair.entry.stamp }
     {
-        self.target.matches(key) && not_before(&self.from, &stamp) && not_after(&self.to, &stamp)
+        self.target.matches(pair.key)
+            && not_before(&self.from, &pair.stamp)
+            && not_after(&self.to, &pair.stamp)
     }
 
     /// Returns `true` if the query matches the line.
     pub fn matches(&self, line: &LineRef<'_>) -> bool
         ensures { result ≡ matches self.now line.now.values }
     {
-        let (key, stamp) = line.pair();
-        self.matches_pair(key, stamp) && all_hold(self.filters.as_slice(), line)
+        self.matches_pair(line.pair()) && all_hold(self.filters.as_slice(), line)
     }
 
     /// Returns `true` if the query matches the line.
     pub fn matches_kept(&self, line: &Line) -> bool
         ensures { result ≡ matches self.now line.now.values }
     {
-        let (key, stamp) = line.pair();
-        self.matches_pair(key, stamp) && all_hold(self.filters.as_slice(), &line.values())
+        self.matches_pair(line.pair()) && all_hold(self.filters.as_slice(), &line.values())
     }
 
     /// Returns the maximum number of captures on a page, if there is one.

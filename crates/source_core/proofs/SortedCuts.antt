@@ -1,17 +1,18 @@
 -- Indexes, cut at a pair.
 use Rattle.std.proofs.Common.{take-append-drop, ◌≡◌, ℕ, zero, suc, ◌+◌, ◌-◌, ◌*◌, ◌^◌, ◌<◌, ◌≤◌, List, [], ◌∷◌, ◌++◌}
-use Rattle.std.proofs.Common.{Bool, true, false, Option, not, cond, length, take, drop, flat_map, map, Some, refl}
+use Rattle.std.proofs.Common.{Bool, true, false, None, not, cond, length, take, drop, flat_map, map, Some, refl}
 use Rattle.std.proofs.Common.{sym, ap, ◌∙◌, arith, length-append, length-drop, length-take, is_gt}
 use Rattle.std.specs.List.{AllByRecursion}
 use Rattle.std.proofs.lemmas.Grind.{flat_map-append}
+use Rattle.std.proofs.lemmas.Bool.{and_parts}
 use Rattle.std.proofs.lemmas.List.{take_all}
 use Rattle.std.proofs.Math.Pow.{pow_mono}
 use Rattle.cdxj_core.specs.Lines.{body_of}
 use Rattle.cdxj_core.specs.Members.{Member, member_pair, line_entry}
 use Rattle.cdxj_core.specs.Indexes.{IsIndex}
 use Rattle.cdxj_core.proofs.MemberLemmas.{entry_pair_is, entry_is_short}
-use Rattle.cdxj_places.specs.Pair.{pair_of}
-use Rattle.cdxj_places.specs.Pairs.{Pair, pair_cmp}
+use Rattle.cdxj_places.specs.Pair.{begins_with_pair, is_key, key_part, pair_of, stamp_part}
+use Rattle.cdxj_places.specs.Pairs.{IsLeast, Pair, pair_cmp}
 use Rattle.cdxj_places.specs.Rising.{NeverFalls}
 use Rattle.cdxj_places.proofs.PairLemmas.{pair_cmp_total}
 use Rattle.source_core.specs.IndexLines.{lines, from_line, longest, BeginsAfter}
@@ -45,20 +46,27 @@ not_below_later : (start p q : Pair) → is_below start p ≡ false → is_gt (p
     ≡ false
 not_below_later start p q low up = grind (arith, pair_cmp_total.trans p q start, pair_cmp_total.congr p q start)
 
--- nothing is below the least pair
-pub none_below_least : (key stamp : List ℕ) → is_below ([], []) (key, stamp) ≡ false
-none_below_least [] [] = refl
-none_below_least [] (b ∷ bs) = refl
-none_below_least (b ∷ bs) stamp = refl
+-- no pair of a line is below a pair of an empty key
+none_below_least : (start : Pair) (key stamp : List ℕ) → IsLeast start → is_key key ≡ true
+    → is_below start (key, stamp) ≡ false
+none_below_least start [] stamp least some = absurd (cc)
+none_below_least start (b ∷ bs) stamp least some = rw least refl
 
-pub least_stops : (limit : ℕ) (start : Pair) (ls : List (List ℕ)) → start ≡ ([], [])
+not_below_least : (start : Pair) (line : List ℕ) → IsLeast start → is_some_below start (pair_of line) ≡ false
+not_below_least start line least = go (begins_with_pair line) refl
+  where
+    go : (b : Bool) → begins_with_pair line ≡ b
+        → is_some_below start (cond b (Some (key_part line, stamp_part line)) None) ≡ false
+    go false e = refl
+    go true e =
+        let is_key : is_key (key_part line) ≡ true = grind (arith, and_parts) in
+        none_below_least start (key_part line) (stamp_part line) least is_key
+
+pub least_stops : (limit : ℕ) (start : Pair) (ls : List (List ℕ)) → IsLeast start
     → stops_lines (line_below limit start) ls ≡ true
 unfolding line_below
-least_stops limit start [] e = refl
-least_stops limit start (l ∷ ls) e = least_not_some (pair_of (take limit l))
-  where
-    least_not_some : (o : Option Pair) → not (is_some_below start o) ≡ true
-    least_not_some o = grind (arith, none_below_least)
+least_stops limit start [] least = refl
+least_stops limit start (l ∷ ls) least = ap not (not_below_least start (take limit l) least)
 
 -- ---- the pair of a line that has an entry
 

@@ -1,9 +1,11 @@
 //! The binary search for the line where the reading of an index begins.
-ghost use Rattle.std.specs.Prelude.{◌≡◌, ◌+◌, ◌-◌, ◌*◌, ◌<◌, ◌≤◌, ℕ, Option, List, length, drop, false, IfOk, OnOk, OnErr, IfSome, IfNone, Some, []};
+ghost use Rattle.std.specs.Prelude.{◌≡◌, ◌+◌, ◌-◌, ◌*◌, ◌<◌, ◌≤◌, ℕ, Option, List, length, drop, false, IfOk, OnOk, OnErr, IfSome, IfNone, Some};
 ghost use Rattle.source_core.specs.Device.{KeepsSource};
 ghost use Rattle.cdxj_core.specs.declared.limit.TheConstants.{LINE_LIMIT};
 ghost use Rattle.cdxj_core.specs.Indexes.{IsIndex};
 ghost use Rattle.cdxj_core.specs.Members.{Member};
+ghost use Rattle.cdxj_places.specs.Pairs.{IsLeast};
+ghost use Rattle.cdxj_places.specs.PairViews.{pair_view};
 ghost use Rattle.source_core.specs.IndexLines.{lines, from_line, longest, BeginsAfter};
 ghost use Rattle.source_core.specs.Search.{line_below, IsStop, IsCut, CountsSearch};
 ghost use Rattle.source_core.specs.Halving.{stops, stops_lines, digits};
@@ -19,7 +21,7 @@ use crate::line_start::next_line_start;
 use crate::source::Source;
 use crate::start_pair::{front_is_below, is_least};
 use crate::window::{SEARCH_PIECE, Window};
-use cdxj_core::LINE_LIMIT;
+use cdxj_core::{LINE_LIMIT, Pair};
 use devices::PIECE;
 use std::alloc::{AllocError, Global};
 
@@ -135,15 +137,14 @@ fn stops_at<S: Source>(
     window: &mut Window,
     offset: u64,
     front: &mut Vec<u8>,
-    key: &[u8],
-    stamp: &[u8],
+    start: Pair<'_>,
 ) -> Result<bool, SearchFault>
     requires holds { Holds (S.text source.old) (S.extent source.old) window.old }
     requires inside { offset ≤ S.extent source.old }
     ensures kept { KeepsSource S.text S.extent source.old source.new }
     ensures holds { Holds (S.text source.new) (S.extent source.new) window.new }
     ensures stops { (t : List ℕ) → S.text source.old ≡ Some t → IfOk result (λ stop.
-        stop ≡ stops_lines (line_below LINE_LIMIT (key.now, stamp.now)) (lines (drop offset t))) }
+        stop ≡ stops_lines (line_below LINE_LIMIT (pair_view start.entry)) (lines (drop offset t))) }
     ensures gave { (t : List ℕ) → S.text source.old ≡ Some t
         → S.gave source.new ≤ S.gave source.old + longest (lines t) + 512 }
     ensures bound { S.gave source.new ≤ S.gave source.old + LINE_LIMIT }
@@ -152,7 +153,7 @@ fn stops_at<S: Source>(
     let size = source.size();
     let mut ends = held_front(window, offset, front)?;
     'fronts: loop {
-        match front_is_below(front, key, stamp) {
+        match front_is_below(front, start) {
             Some(below) => return Ok(!below),
             None => {}
         }
@@ -183,8 +184,7 @@ fn probe<S: Source>(
     middle: u64,
     until: u64,
     front: &mut Vec<u8>,
-    key: &[u8],
-    stamp: &[u8],
+    start: Pair<'_>,
 ) -> Result<Option<Probed>, SearchFault>
     requires holds { Holds (S.text source.old) (S.extent source.old) window.old }
     requires some { middle < until }
@@ -201,7 +201,7 @@ fn probe<S: Source>(
         drop line.offset t ≡ from_line line.offset t)) }
     ensures stops { (t : List ℕ) → S.text source.old ≡ Some t
         → IfOk result (λ found. IfSome found (λ line.
-        line.stops ≡ stops (line_below LINE_LIMIT (key.now, stamp.now)) middle t)) }
+        line.stops ≡ stops (line_below LINE_LIMIT (pair_view start.entry)) middle t)) }
     ensures none { (t : List ℕ) → S.text source.old ≡ Some t
         → IfOk result (λ found. IfNone found (from_line until t ≡ from_line middle t)) }
     ensures gave { (t : List ℕ) → S.text source.old ≡ Some t
@@ -211,7 +211,7 @@ fn probe<S: Source>(
 {
     match next_line_start(source, window, middle, until)? {
         Some(offset) => {
-            let stops = stops_at(source, window, offset, front, key, stamp)?;
+            let stops = stops_at(source, window, offset, front, start)?;
             Ok(Some(Probed { offset, stops }))
         }
         None => Ok(None),
@@ -237,16 +237,15 @@ fn halve<S: Source>(
     window: &mut Window,
     front: &mut Vec<u8>,
     span: Span,
-    key: &[u8],
-    stamp: &[u8],
+    start: Pair<'_>,
 ) -> Result<Span, SearchFault>
     requires holds { Holds (S.text source.old) (S.extent source.old) window.old }
     requires some { span.low < span.high }
-    requires halved { Halved LINE_LIMIT (key.now, stamp.now)
+    requires halved { Halved LINE_LIMIT (pair_view start)
         (S.text source.old) (S.extent source.old) span }
     ensures kept { KeepsSource S.text S.extent source.old source.new }
     ensures holds { Holds (S.text source.new) (S.extent source.new) window.new }
-    ensures halved { IfOk result (λ next. Halved LINE_LIMIT (key.now, stamp.now)
+    ensures halved { IfOk result (λ next. Halved LINE_LIMIT (pair_view start.entry)
         (S.text source.new) (S.extent source.new) next) }
     ensures probes { IfOk result (λ next. next.probes ≡ span.probes + 1) }
     ensures inner { IfOk result (λ next. (span.low ≤ next.low) × (next.high ≤ span.high)) }
@@ -261,7 +260,7 @@ fn halve<S: Source>(
     let _size = source.size();
     let middle = span.low + (span.high - span.low) / 2;
     let until = middle + (span.high - middle).min(LINE_LIMIT as u64);
-    let found = probe(source, window, middle, until, front, key, stamp)?;
+    let found = probe(source, window, middle, until, front, start)?;
     let probes = span.probes + 1;
     match found {
         Some(probed) if probed.stops => Ok(Span {
@@ -310,8 +309,8 @@ fn hold_few<S: Source>(source: &mut S, window: &mut Window, span: Span) -> Resul
 }
 
 /// Finds the first line of an index whose pair isn't below this one, by a binary search over the byte offsets. A step
-/// looks at the first line that begins in the upper half of the offsets that are left. For the pair of an empty key and
-/// an empty stamp, which none is below, nothing is read.
+/// looks at the first line that begins in the upper half of the offsets that are left. For a pair of an empty key, which
+/// none is below, nothing is read.
 ///
 /// Of a line it looks at the first [`LINE_LIMIT`] bytes at most; a line that shows no pair in them isn't below. It looks
 /// through as many bytes at most for the end of a line. If they have no line feed, the line is too long, and what
@@ -325,26 +324,25 @@ fn hold_few<S: Source>(source: &mut S, window: &mut Window, span: Span) -> Resul
 pub fn search<S: Source>(
     alloc: Global,
     source: &mut S,
-    key: &[u8],
-    stamp: &[u8],
+    start: Pair<'_>,
 ) -> Result<Found, SearchFault>
     ensures kept { KeepsSource S.text S.extent source.old source.new }
     ensures stands { IfOk result (λ found.
         Stands (S.text source.new) (S.extent source.new) found.cursor) }
     ensures fresh { IfOk result (λ found. IsFresh found.cursor found.cursor.start) }
     ensures within { IfOk result (λ found. found.cursor.start ≤ S.extent source.old) }
-    ensures first { key.now ≡ [] → stamp.now ≡ []
+    ensures first { IsLeast (pair_view start.entry)
         → IfOk result (λ found. found.cursor.start ≡ 0) }
-    ensures unread { key.now ≡ [] → stamp.now ≡ [] → source.new ≡ source.old }
+    ensures unread { IsLeast (pair_view start.entry) → source.new ≡ source.old }
     ensures begins { (t : List ℕ) → S.text source.old ≡ Some t
         → IfOk result (λ found. (before : List (List ℕ))
         × BeginsAfter t found.cursor.start before) }
     ensures stops { (t : List ℕ) → S.text source.old ≡ Some t
         → IfOk result (λ found.
-        IsStop LINE_LIMIT (key.now, stamp.now) (lines (drop found.cursor.start t))) }
+        IsStop LINE_LIMIT (pair_view start.entry) (lines (drop found.cursor.start t))) }
     ensures cut { (t : List ℕ) → (members : List Member)
         → S.text source.old ≡ Some t → IsIndex LINE_LIMIT t members
-        → IfOk result (λ found. IsCut (key.now, stamp.now) t members found.cursor.start) }
+        → IfOk result (λ found. IsCut (pair_view start.entry) t members found.cursor.start) }
     ensures probes { IfOk result (λ found. found.probes ≤ digits (S.extent source.old)) }
     ensures gave { (t : List ℕ) → S.text source.old ≡ Some t → S.gave source.new
         ≤ S.gave source.old + digits (S.extent source.old) * (2 * longest (lines t) + 2048) }
@@ -352,7 +350,7 @@ pub fn search<S: Source>(
         ≤ S.gave source.old + digits (S.extent source.old) * (2 * LINE_LIMIT) }
     ensures failures { CountsSearch result (S.failures source.old) (S.failures source.new) }
 {
-    if is_least(key, stamp) {
+    if is_least(start) {
         let cursor = Cursor::new(alloc, 0)?;
         return Ok(Found { cursor, probes: 0 });
     }
@@ -366,11 +364,11 @@ pub fn search<S: Source>(
         probes: 0,
     };
     while span.high - span.low > FEW {
-        span = halve(source, &mut window, &mut front, span, key, stamp)?;
+        span = halve(source, &mut window, &mut front, span, start)?;
     }
     hold_few(source, &mut window, span)?;
     while span.low < span.high {
-        span = halve(source, &mut window, &mut front, span, key, stamp)?;
+        span = halve(source, &mut window, &mut front, span, start)?;
     }
     // the line that is too long is the last one that was below
     let offset = match span.line {

@@ -9,11 +9,25 @@ use warc_core::Cause;
 
 const BAD_LINE: &str = "The line that begins there isn't one of a CDXJ index.";
 
-/// Returns the first name in a query text that isn't that of a parameter, if it has one.
+/// Why an index isn't read from a pipe.
+pub const NO_PIPE: &str =
+    "An index is a file, because it is searched: write what a pipe has to a file first.";
+
+/// Returns the first name in a query text that isn't that of a parameter, if there is one.
 pub fn unknown_parameter(text: &str) -> Option<&str> {
     text.split('&')
         .map(parameter_name)
         .find(|name| !is_parameter(name))
+}
+
+/// Returns `true` if a name has no escape, and no byte that a terminal may take for another line.
+pub fn is_plain(name: &str) -> bool {
+    name.bytes().all(|byte| byte.is_ascii_alphanumeric())
+}
+
+/// Returns `true` if what isn't the name of a parameter may be a URL, or the name of a file.
+pub fn is_address(name: &str) -> bool {
+    name.contains('.') || name.contains('/')
 }
 
 fn parameter_name(piece: &str) -> &str {
@@ -95,9 +109,15 @@ fn no_archive_advice(kind: FileKind) -> &'static str {
         FileKind::Zip => {
             "It is a ZIP file, as a WACZ file is: unpack it, and index the WARC files in it."
         }
+        FileKind::Zstandard => "It is compressed by zstd: decompress it first.",
+        FileKind::WarcWithLineFeeds => {
+            "Its first line ends with LF alone: a WARC file has CR LF after each line of a header."
+        }
+        FileKind::Arc => "It is an ARC file: convert it to a WARC file first.",
         FileKind::Cdx => "It is a CDX file: warcdx-cdx converts it to an index.",
         FileKind::ByteOrderMark => "It begins with a byte order mark: remove its first 3 bytes.",
         FileKind::Index => "It seems to be an index: warcdx query reads indexes.",
+        FileKind::Markup => "It seems to be an HTML or XML file, and not a WARC file.",
         FileKind::Warc | FileKind::Other => cause_advice(Cause::Version),
     }
 }
@@ -154,9 +174,11 @@ pub fn answer_advice<R: Runtime>(rt: &R, name: &str, fault: AnswerFault) -> Opti
 fn no_index_advice(kind: FileKind) -> &'static str {
     match kind {
         FileKind::Gzip => "It is compressed by gzip: decompress it first.",
+        FileKind::Zstandard => "It is compressed by zstd: decompress it first.",
         FileKind::Warc => "It is a WARC file: warcdx index makes an index of it.",
         FileKind::Cdx => "It is a CDX file: warcdx-cdx converts it to an index.",
-        FileKind::Zip | FileKind::ByteOrderMark | FileKind::Index | FileKind::Other => BAD_LINE,
+        FileKind::Markup => "It seems to be an HTML or XML file, and not an index.",
+        _ => BAD_LINE,
     }
 }
 
@@ -188,6 +210,6 @@ pub fn unread_advice<R: Runtime>(rt: &R, name: &str) -> &'static str {
     } else if is_file(rt, name) {
         "The file is shorter than it was, or can't be read."
     } else {
-        "An index is a file, because it is searched: write what a pipe has to a file first."
+        NO_PIPE
     }
 }

@@ -2,7 +2,9 @@
 ghost use Rattle.std.specs.Prelude.{◌≡◌};
 ghost use Rattle.tasks.specs.Outcome.{outcome_of};
 
-use crate::advice::{answer_advice, index_advice, query_advice, unknown_parameter};
+use crate::advice::{
+    answer_advice, index_advice, is_address, is_plain, query_advice, unknown_parameter,
+};
 use crate::outcome::{Outcome, outcome_of};
 use index_core::IndexFault;
 use query_core::{AnswerFault, QueryFault};
@@ -51,16 +53,27 @@ fn say_query_fault<R: Runtime>(rt: &R, fault: QueryFault) {
     }
 }
 
-/// Reports why a query of this text is refused, with the name that isn't that of a parameter.
+/// Reports why a query of this text is refused, with what isn't the name of a parameter.
 pub fn say_refusal<R: Runtime>(rt: &R, text: &str, fault: QueryFault) {
     match unknown_parameter(text) {
-        Some(name) if fault == QueryFault::Unknown => {
-            let (cause, advice) = (fault.name(), query_advice(fault));
-            let _ = eprintln!(rt; "warcdx: query: {cause}");
-            let _ = eprintln!(rt; "  '{name}' isn't a parameter. {advice}");
-        }
+        Some(name) if fault == QueryFault::Unknown => say_unknown(rt, name, fault),
         _ => say_query_fault(rt, fault),
     }
+}
+
+/// Reports that a query has a name that isn't that of a parameter.
+fn say_unknown<R: Runtime>(rt: &R, name: &str, fault: QueryFault) {
+    let (cause, advice) = (fault.name(), query_advice(fault));
+    let _ = eprintln!(rt; "warcdx: query: {cause}");
+    let _ = if is_plain(name) {
+        eprintln!(rt; "  '{name}' isn't a parameter. {advice}")
+    } else if is_address(name) {
+        eprintln!(rt;
+            "  A query precedes the indexes, and a URL in it is written as url=example.com. {advice}"
+        )
+    } else {
+        eprintln!(rt; "  {advice}")
+    };
 }
 
 /// Reports a fault of a call on several indexes under the name of the index concerned, if there is one.

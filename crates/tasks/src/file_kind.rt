@@ -13,14 +13,22 @@ pub enum FileKind {
     Gzip,
     /// A ZIP file, as WACZ files are.
     Zip,
+    /// A file that zstd has compressed (RFC 8878, section 3.1.1).
+    Zstandard,
     /// A WARC file.
     Warc,
+    /// A WARC file whose first line ends with LF alone.
+    WarcWithLineFeeds,
+    /// An ARC file, the format before WARC.
+    Arc,
     /// A CDX file with a header.
     Cdx,
     /// A text after a byte order mark in UTF-8.
     ByteOrderMark,
     /// A CDXJ index.
     Index,
+    /// An HTML or XML file.
+    Markup,
     /// A file of none of these kinds, or what isn't a file, or can't be read.
     Other,
 }
@@ -48,9 +56,13 @@ fn kind_of(front: &[u8]) -> FileKind {
     match front {
         [0x1f, 0x8b, ..] => FileKind::Gzip,
         [b'P', b'K', 3, 4, ..] => FileKind::Zip,
+        [0x28, 0xb5, 0x2f, 0xfd, ..] => FileKind::Zstandard,
+        [b'W', b'A', b'R', b'C', b'/', _, _, _, b'\n', ..] => FileKind::WarcWithLineFeeds,
         [b'W', b'A', b'R', b'C', b'/', ..] => FileKind::Warc,
         [b' ', b'C', b'D', b'X', b' ', ..] => FileKind::Cdx,
         [0xef, 0xbb, 0xbf, ..] => FileKind::ByteOrderMark,
+        [b'<', ..] => FileKind::Markup,
+        _ if front.starts_with(b"filedesc:") => FileKind::Arc,
         _ if has_object(front) => FileKind::Index,
         _ => FileKind::Other,
     }

@@ -3,7 +3,7 @@ ghost use Rattle.std.specs.Prelude.{◌≡◌, ℕ, List, Option, None, ⊤, IfE
 ghost use Rattle.command_line.specs.Words.{texts};
 ghost use Rattle.tasks.specs.Opening.{HasTold, IsUnopened, IsUnopenedIndex, AreUnopenedIndexes};
 
-use crate::advice::unread_advice;
+use crate::advice::{NO_PIPE, unread_advice};
 use crate::outcome::Outcome;
 use either::Either;
 use index_core::IndexFault;
@@ -150,10 +150,18 @@ fn open_file<R: Runtime + AllocGlobal>(rt: &R, name: &str) -> Result<<R as Files
         }
         Err(error) => {
             let outcome = cannot_open(rt, name);
-            let _ = eprintln!(rt; "  {error}");
+            say_why(rt, name, &error);
             Err(outcome)
         }
     }
+}
+
+/// Reports on standard error why a file can't be opened: the system's reason, or that indexes aren't read from a pipe.
+fn say_why<R: Runtime>(rt: &R, name: &str, error: &io::Error) {
+    let _ = match name {
+        "-" => eprintln!(rt; "  {NO_PIPE}"),
+        _ => eprintln!(rt; "  {error}"),
+    };
 }
 
 /// Reports on standard error that a file can't be opened.

@@ -1,7 +1,8 @@
 -- What a piece of a head does to the reading of it.
-use Rattle.std.proofs.Common.{◌≡◌, ◌∙◌, ℕ, ◌+◌, ◌-◌, ◌<◌, ◌≤◌, List, ◌++◌, Option, Ok, Err}
-use Rattle.std.proofs.Common.{true, false, length, take, drop, arith, ap, append_assoc, length-append}
+use Rattle.std.proofs.Common.{◌≡◌, ◌∙◌, ℕ, ◌+◌, ◌-◌, ◌<◌, ◌≤◌, List, [], ◌++◌, Option, None, Some, Ok, Err}
+use Rattle.std.proofs.Common.{true, false, refl, length, take, drop, arith, ap, append_assoc, length-append}
 use Rattle.std.specs.Io.KnownBytes.{prepend_known}
+use Rattle.std.specs.Prelude.{IfSome, MatchOption}
 use Rattle.std.proofs.lemmas.List.{take-append-drop, length-take-le, take-append-le, take-take}
 use Rattle.warc_core.specs.declared.fault.Cause.TheVariants as causes
 use Rattle.warc_core.specs.Reading.{Reads}
@@ -11,7 +12,7 @@ use Rattle.warc_core.proofs.HeadLemmas.{going, going-found, going-wrong, going-g
 use Rattle.std.proofs.Math.Seq.{take-append-add}
 use Rattle.warc_core.proofs.HeadLemmas.{agrees-longer}
 
-split_at : (count : ℕ) (b z : List ℕ) → b ++ z ≡ take count b ++ (drop count b ++ z)
+pub split_at : (count : ℕ) (b z : List ℕ) → b ++ z ≡ take count b ++ (drop count b ++ z)
 split_at count b z = rw (← append_assoc, take-append-drop)
 
 -- a front of what agrees
@@ -60,3 +61,20 @@ head-is-found limit seen b new count end c e before h room agree =
     let v = has_version-take end new agree in
     let f : (n : ℕ) → n < end → is_closed (take n new) ≡ false = λ n l. grind (arith, take-append-le) in
     grind (arith, length-take-le, length-append, take-take)
+
+-- the head that ends first in a front of what is held
+whole-found : (limit count end : ℕ) (b : List ℕ) → count ≤ length b → count ≤ limit → has_version b ≡ true
+    → ClosesFirst (take count b) 0 end → IsFoundHead limit (take end b)
+whole-found limit count end b c l agree h =
+    let len = length-take-le count b c in
+    let found =
+    head-is-found limit [] b (take count b) count end c refl (λ n k. grind arith) h (omega arith)
+    (has_version-take count b agree)
+    in
+    grind (arith, take-take)
+
+pub whole-found-if : (limit count : ℕ) (b : List ℕ) (end : Option ℕ) → count ≤ length b → count ≤ limit
+    → has_version b ≡ true → MatchOption end (IsOpenAfter (take count b) 0) (ClosesFirst (take count b) 0)
+    → IfSome end (λ n. IsFoundHead limit (take n b))
+whole-found-if limit count b None c l agree h = tt
+whole-found-if limit count b (Some end) c l agree h = whole-found limit count end b c l agree h

@@ -34,6 +34,7 @@ fn expect_closing<I: Input>(buffer: &mut Buffer, input: &mut I) -> Result<(), Ca
     ensures cause { IfErr result StopsRecord }
     ensures failures { CountsRead result (I.failures input.old) (I.failures input.new) }
 {
+    buffer.fill(input)?;
     if begins_with_closing(buffer.as_slice()) {
         buffer.consume(4);
         return Ok(());

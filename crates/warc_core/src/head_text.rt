@@ -1,11 +1,12 @@
 //! The text of a head, read from the input piece by piece.
-ghost use Rattle.std.specs.Prelude.{◌≡◌, Option, ℕ, ◌+◌, ◌-◌, ◌<◌, ◌≤◌, List, [], ◌++◌, true, length, drop, take, IfOk, IfErr, OnOk, MatchResult, MatchOption};
+ghost use Rattle.std.specs.Prelude.{◌≡◌, Option, ℕ, ◌+◌, ◌-◌, ◌<◌, ◌≤◌, List, [], ◌++◌, true, length, drop, take, IfOk, IfErr, OnOk, MatchResult, MatchOption, IfSome};
 ghost use Rattle.std.specs.Io.KnownBytes.{Keeps, IsAtEnd, prepend_known, ReadConsumes};
 ghost use Rattle.warc_core.specs.Reading.{Reads};
 ghost use Rattle.warc_core.specs.Answers.{CountsRead, seen_as};
 ghost use Rattle.warc_core.specs.HeadText.{agrees, has_version, head_text, IsFoundHead, IsOpenAfter, ClosesFirst};
 ghost use Rattle.warc_core.specs.Cause.{StopsHead};
 ghost use Rattle.warc_core.specs.Record.{closing};
+ghost use Rattle.warc_core.specs.RecordText.{IsVersionLine};
 
 use crate::fault::Cause;
 use devices::{Buffer, Input};
@@ -15,6 +16,9 @@ use warc_head::{LANES, run_to_closing};
 
 /// The maximum number of bytes added to a head at once. Most heads are shorter.
 const HEAD_PIECE: usize = 1024;
+
+/// The length of a version line in bytes: `WARC/1.1` or `WARC/1.0`, and CR LF.
+const VERSION_LINE: usize = 10;
 
 /// Returns `true` if the bytes are those of the line, as far as both go.
 fn agrees(head: &[u8], line: &[u8]) -> bool
@@ -36,7 +40,19 @@ fn has_version(head: &[u8]) -> bool
 fn begins_with_version(head: &[u8]) -> bool
     ensures { result ≡ true → has_version head.now ≡ true }
 {
-    head.starts_with(b"WARC/1.1\r\n") || head.starts_with(b"WARC/1.0\r\n")
+    match head.get(..VERSION_LINE) {
+        Some(line) => is_version_line(line),
+        None => false,
+    }
+}
+
+fn is_version_line(line: &[u8]) -> bool
+    ensures { result ≡ true → IsVersionLine line.now }
+{
+    match <&[u8; VERSION_LINE]>::try_from(line) {
+        Ok(line) => line == b"WARC/1.1\r\n" || line == b"WARC/1.0\r\n",
+        Err(_) => false,
+    }
 }
 
 /// Returns `true` if the text begins with CR LF CR LF.
@@ -69,9 +85,49 @@ fn closing_end(text: &[u8], before: usize) -> Option<usize>
     }
 }
 
-/// Reads the text of the next head, of at most `limit` bytes. The errors are `Memory`, `Read`, `Version`, `ShortHead` and
-/// `HeadTooLong`.
+/// Returns the length of the head that the bytes begin with, if it ends among the first 1,024.
+fn whole_head(held: &[u8], limit: usize) -> Option<usize>
+    ensures within { IfSome result (λ end. end ≤ length held.now) }
+    ensures found { IfSome result (λ end. IsFoundHead limit (take end held.now)) }
+{
+    if !begins_with_version(held) {
+        return None;
+    }
+    let count = held.len().min(HEAD_PIECE).min(limit);
+    closing_end(&held[..count], 0)
+}
+
+/// Reads the text of the next head, of at most `limit` bytes. Most stand whole in the buffer. The errors are `Memory`,
+/// `Read`, `Version`, `ShortHead` and `HeadTooLong`.
 pub fn read_head_text<I: Input>(
+    alloc: Global,
+    buffer: &mut Buffer,
+    input: &mut I,
+    limit: usize,
+) -> Result<Vec<u8>, Cause>
+    requires { 10 ≤ limit }
+    ensures cause { IfErr result StopsHead }
+    ensures found { IfOk result (λ v. IsFoundHead limit v.items) }
+    ensures bytes { Reads (head_text limit) (seen_as (λ v. v.items) result)
+        (prepend_known buffer.old (I.remaining input.old))
+        (prepend_known buffer.new (I.remaining input.new)) }
+    ensures failures { CountsRead (seen_as (λ v. v.items) result) (I.failures input.old)
+        (I.failures input.new) }
+{
+    buffer.fill(input)?;
+    let held = buffer.as_slice();
+    match whole_head(held, limit) {
+        Some(end) => {
+            let head = Vec::from_slice(alloc, &held[..end])?;
+            buffer.consume(end);
+            Ok(head)
+        }
+        None => gather_head_text(alloc, buffer, input, limit),
+    }
+}
+
+/// Reads the text of the next head piece by piece. The errors are those of `read_head_text`.
+fn gather_head_text<I: Input>(
     alloc: Global,
     buffer: &mut Buffer,
     input: &mut I,

@@ -2,6 +2,8 @@
 ghost use Rattle.std.specs.Prelude.{◌≡◌};
 ghost use Rattle.warc_head.specs.Kind.{kind_of};
 
+use crate::names::is_spelled;
+
 /// The type of a record (ISO 28500:2017, clause 6). `Other` is a type that the standard doesn't name.
 #[derive(Clone, Copy, Debug, PartialEq, Eq)]
 pub enum Kind {
@@ -51,21 +53,21 @@ impl Kind {
 pub fn kind_of(value: &[u8]) -> Kind
     ensures { result ≡ kind_of value.now }
 {
-    if value.eq_ignore_ascii_case(b"warcinfo") {
+    if is_spelled(value, b"warcinfo") {
         Kind::Warcinfo
-    } else if value.eq_ignore_ascii_case(b"response") {
+    } else if is_spelled(value, b"response") {
         Kind::Response
-    } else if value.eq_ignore_ascii_case(b"resource") {
+    } else if is_spelled(value, b"resource") {
         Kind::Resource
-    } else if value.eq_ignore_ascii_case(b"request") {
+    } else if is_spelled(value, b"request") {
         Kind::Request
-    } else if value.eq_ignore_ascii_case(b"metadata") {
+    } else if is_spelled(value, b"metadata") {
         Kind::Metadata
-    } else if value.eq_ignore_ascii_case(b"revisit") {
+    } else if is_spelled(value, b"revisit") {
         Kind::Revisit
-    } else if value.eq_ignore_ascii_case(b"conversion") {
+    } else if is_spelled(value, b"conversion") {
         Kind::Conversion
-    } else if value.eq_ignore_ascii_case(b"continuation") {
+    } else if is_spelled(value, b"continuation") {
         Kind::Continuation
     } else {
         Kind::Other

@@ -1,5 +1,5 @@
 //! The names of fields.
-ghost use Rattle.std.specs.Prelude.{◌≡◌};
+ghost use Rattle.std.specs.Prelude.{◌≡◌, true};
 ghost use Rattle.warc_head.specs.Names.{is_name, same_name};
 
 /// Returns `true` if the text is one or more bytes that a field name may contain.
@@ -7,6 +7,48 @@ pub fn is_name(name: &[u8]) -> bool
     ensures { result ≡ is_name name.now }
 {
     httparse::is_token(name)
+}
+
+/// The offset of a byte in which the names of the mandatory fields differ.
+const TELLING: usize = 5;
+
+/// Returns `true` if a field's name is this one, ignoring ASCII case. Most names have another length, are spelled alike
+/// or differ at [`TELLING`], which are the faster tests.
+#[inline(always)]
+pub fn is_named<const N: usize>(name: &[u8], wanted: &[u8; N]) -> bool
+    ensures { result ≡ same_name name.now wanted.now }
+{
+    match <&[u8; N]>::try_from(name) {
+        Ok(spelled) => may_be_same(spelled, wanted) && is_same(spelled, wanted),
+        Err(_) => false,
+    }
+}
+
+/// Returns `false` for many names that are not the same: one byte is compared.
+#[inline(always)]
+fn may_be_same<const N: usize>(name: &[u8; N], wanted: &[u8; N]) -> bool
+    ensures { same_name name.now wanted.now ≡ true → result ≡ true }
+{
+    N <= TELLING || name[TELLING].eq_ignore_ascii_case(&wanted[TELLING])
+}
+
+/// Returns `true` if the text is this one, ignoring ASCII case. Most texts have another length or are spelled alike, which
+/// are the faster tests.
+#[inline(always)]
+pub fn is_spelled<const N: usize>(text: &[u8], wanted: &[u8; N]) -> bool
+    ensures { result ≡ same_name text.now wanted.now }
+{
+    match <&[u8; N]>::try_from(text) {
+        Ok(spelled) => is_same(spelled, wanted),
+        Err(_) => false,
+    }
+}
+
+#[inline(always)]
+fn is_same<const N: usize>(name: &[u8; N], wanted: &[u8; N]) -> bool
+    ensures { result ≡ same_name name.now wanted.now }
+{
+    name == wanted || name.as_slice().eq_ignore_ascii_case(wanted.as_slice())
 }
 
 /// Returns `true` if the names are the same, ignoring ASCII case. Most names that are the same are spelled alike, which

@@ -1,5 +1,5 @@
 //! How often a field occurs in a head.
-use crate::names::same_name;
+use crate::names::is_named;
 use crate::spans::FieldSpan;
 
 /// How often a field of a name occurs in a head, with its span where it occurs once.
@@ -20,12 +20,12 @@ impl Occurrence {
 
     /// Counts the field at this span, if it has the wanted name.
     #[inline(always)]
-    pub fn count(&mut self, text: &[u8], wanted: &[u8], span: FieldSpan)
+    pub fn count<const N: usize>(&mut self, text: &[u8], wanted: &[u8; N], span: FieldSpan)
         requires { IsWithin (length text.now) span }
         ensures { (values : List (List ℕ)) → Occurs text.now values self.old
             → Occurs text.now (values ++ values_in wanted.now (field_at text.now span)) self.new }
     {
-        if same_name(span.name(text), wanted) {
+        if is_named(span.name(text), wanted) {
             *self = self.with_span(span);
         }
     }

@@ -1,5 +1,5 @@
 //! The parts of pages, and the opening of sources at a pair.
-use cdxj_core::{Field, Line};
+use cdxj_core::{Field, Line, Pair};
 use devices::Gather;
 use fixtures::LETTERS;
 use merge_core::{All, LineWriter, MergeState, merge};
@@ -83,25 +83,19 @@ fn fields_have_names(rt: HostRuntime) {
 }
 
 /// Pairs at which two sources are opened, and how many bytes of the letters precede them.
-const STARTS: &[(&str, &str, usize)] = &[
-    ("", "00000000000000", 0),
-    ("a)/", "20160101000000", 0),
-    ("a)/", "20160101000001", 145),
-    ("b)/", "00000000000000", 145),
-    ("bb)/", "00000000000000", 290),
-    ("z)/", "00000000000000", 435),
+const STARTS: &[(&str, &[u8; 14], usize)] = &[
+    ("", b"00000000000000", 0),
+    ("a)/", b"20160101000000", 0),
+    ("a)/", b"20160101000001", 145),
+    ("b)/", b"00000000000000", 145),
+    ("bb)/", b"00000000000000", 290),
+    ("z)/", b"00000000000000", 435),
 ];
 
 /// Returns the merge of the text and an empty one from this pair on, and the number of steps of the search for it.
-fn merged_from(alloc: Global, text: &[u8], key: &str, stamp: &str) -> Result<(Gather, u64), Fail> {
+fn merged_from(alloc: Global, text: &[u8], start: Pair<'_>) -> Result<(Gather, u64), Fail> {
     let mut sources = [SliceSource::new(text), SliceSource::new(b"")];
-    let mut opened = MergeState::open_at(
-        alloc,
-        &mut sources,
-        key.as_bytes(),
-        stamp.as_bytes(),
-        &All,
-    )?;
+    let mut opened = MergeState::open_at(alloc, &mut sources, start, &All)?;
     let mut writer = LineWriter::new();
     let mut out = Gather::new(alloc);
     let _all = merge(
@@ -117,8 +111,8 @@ fn merged_from(alloc: Global, text: &[u8], key: &str, stamp: &str) -> Result<(Ga
 }
 
 /// Returns `true` if the merge from this pair on has all lines of the letters but the first `before` bytes, after few steps.
-fn begins_at(alloc: Global, key: &str, stamp: &str, before: usize) -> Result<bool, Fail> {
-    let (out, probes) = merged_from(alloc, LETTERS, key, stamp)?;
+fn begins_at(alloc: Global, start: Pair<'_>, before: usize) -> Result<bool, Fail> {
+    let (out, probes) = merged_from(alloc, LETTERS, start)?;
     Ok(
         LETTERS
             .get(before..)
@@ -130,10 +124,11 @@ fn begins_at(alloc: Global, key: &str, stamp: &str, before: usize) -> Result<boo
 #[test]
 fn sources_are_opened_at_a_pair(rt: HostRuntime) -> Result<(), Fail> {
     for (key, stamp, before) in STARTS {
-        assert!(rt;
-            begins_at(rt.alloc(), key, stamp, *before)?,
-            "{key} {stamp}"
-        );
+        let start = Pair {
+            key,
+            stamp: **stamp,
+        };
+        assert!(rt; begins_at(rt.alloc(), start, *before)?, "{key}");
     }
     Ok(())
 }

@@ -24,9 +24,10 @@ use Rattle.merge_core.specs.SourceLines.{AreLinesOf}
 use Rattle.merge_core.proofs.ReadLemmas.{took_of_indexes}
 use Rattle.merge_core.proofs.OnceLemmas.{gave_once}
 use Rattle.merge_core.proofs.RunLemmas.{none_wait}
-use Rattle.merge_core.proofs.StateLemmas.{long_of, starts_of}
+use Rattle.merge_core.proofs.OpenLemmas.{begun_of, came_once_of}
+use Rattle.merge_core.proofs.StateLemmas.{long_of}
 use Rattle.merge_core.proofs.TakenLemmas.{taken_first}
-use Rattle.source_core.proofs.SortedCuts.{none_below_least}
+use Rattle.merge_core.proofs.StartLemmas.{cut_at_start, none_below_empty}
 use Rattle.merge_core.proofs.SourceLemmas.{taken_lines}
 use Rattle.merge_core.proofs.WholeLemmas.{all_kept, all_lines_are, are_read, its_lines, told_known}
 use Rattle.merge_core.proofs.WholeLemmas.{starts_kept}
@@ -41,6 +42,15 @@ filter_every : (xs : List Member) → filter (λ m. true) xs ≡ xs
 filter_every [] = refl
 filter_every (x ∷ xs) = ap (λ l. x ∷ l) (filter_every xs)
 
+-- each source is read from its start on
+begun : (g : Over) (c : After-merge g)
+    → AllByRecursion (λ (f : Feed). f.cursor.start ≡ 0) (feeds c.in_ok-opened.opened.merge)
+begun g c =
+    let opened = c.in_ok-opened.ensures in
+    begun_of g.S.Source.text g.S.Source.extent g.S.Source.gave LINE_LIMIT _
+    c.args.sources.now c.open_at.new.sources (feeds c.in_ok-opened.opened.merge)
+    (long_of opened.ready.aligned) refl opened.opened
+
 module _ (g : Over) (c : After-merge g) {ss : List g.row.S.Denot} {m : MergeState} {b : Option Pair}
     {taken : List Member} (reached : Reached LINE_LIMIT g.S.Source.text never g.S.Source.extent g.S.Source.gave
     c.open_at.new.sources c.in_ok-opened.opened.merge ss m b taken) where
@@ -50,9 +60,11 @@ module _ (g : Over) (c : After-merge g) {ss : List g.row.S.Denot} {m : MergeStat
       (λ texts indexes. AppendsPrefix old new (lines_text (collection indexes)))
   front old new p texts indexes known are =
       let opened = c.in_ok-opened.ensures in
-      let first = taken_first (took_of_indexes reached opened.ready.aligned.same ([], []) opened.cut texts indexes
+      let cut = cut_at_start LINE_LIMIT g.S.Source.text c.open_at.new.sources (feeds c.in_ok-opened.opened.merge)
+      (begun g c) in
+      let first = taken_first (took_of_indexes reached opened.ready.aligned.same ([], []) cut texts indexes
       (rw (← opened.kept.0) at known) are (λ key later e h. absurd (true≢false (sym e))) (λ m. true) (λ m e. refl)
-      (λ m e. none_below_least (member_pair m).0 (member_pair m).1)) in
+      (λ m e. none_below_empty (member_pair m).0 (member_pair m).1)) in
       let whole : collection indexes ≡ taken ++ first.0 = grind (arith, filter_every) in
       rw (whole, flat_map-append) (prefix_longer old new _ _ p)
 
@@ -121,10 +133,11 @@ once g c =
     let long : length c.merge.new.sources ≡ length c.open_at.new.sources = kept_long g c in
     gave_once g.S.Source.text g.S.Source.extent g.S.Source.gave c.args.sources.now c.open_at.new.sources
     (feeds c.in_ok-opened.opened.merge) c.merge.new.sources (feeds c.merge.new.merge) LINE_LIMIT never opened.kept.1
-    opened.ready.aligned.fed (opened.came_once refl refl) c.merge.ensures.moved long
+    opened.ready.aligned.fed (came_once_of g.S.Source.text g.S.Source.extent
+    g.S.Source.gave LINE_LIMIT _ c.args.sources.now _ refl opened.opened) c.merge.ensures.moved long
 
 pub returns-in_err-opened-clause-bytes : goal.returns-in_err-opened-clause-bytes
-returns-in_err-opened-clause-bytes g c = c.open_at.ensures.once refl refl
+returns-in_err-opened-clause-bytes g c = c.open_at.ensures.once refl
 
 pub returns-in_err-merge-clause-bytes : goal.returns-in_err-merge-clause-bytes
 returns-in_err-merge-clause-bytes g c = once g (goal.at.returns-in_err-merge-clause-bytes g c).After-merge
@@ -152,7 +165,7 @@ returns g c =
           let empty : m.queue ≡ [] = grind (arith, cases_Bool) in
           let long_now = long_of reached.ready.aligned in
           let starts = starts_kept text extent g.S.Source.gave _ _ _ _ (long_before g at.After-merge) long_now
-          c.merge.ensures.moved (starts_of 0 c.in_ok-opened.opened.merge.cursors.items _ (opened.start refl refl)) in
+          c.merge.ensures.moved (begun g at.After-merge) in
           let none : AllByRecursion (λ (f : Feed). f.waits ≡ []) (feeds m) = rw empty (none_wait 0 m.cursors.items) in
           let all : taken ≡ collection lines =
           (reached.handed.told (told_known _ _ texts (rw (← opened.kept.0) at known))).0

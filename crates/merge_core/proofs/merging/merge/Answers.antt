@@ -1,8 +1,7 @@
 use Rattle.std.proofs.lemmas.List.{length-map}
-use Rattle.std.proofs.Common.{arith, ◌≡◌, ℕ, ◌+◌, ◌≤◌, length, ◌∷◌, ◌++◌, [], inl, inr, Box, Global, List, Some, None}
+use Rattle.std.proofs.Common.{arith, ◌≡◌, ℕ, ◌+◌, ◌≤◌, length, ◌∷◌, ◌++◌, [], inl, inr, List, Some, None}
 use Rattle.std.proofs.Common.{max, min, ◌-◌, ◌^◌, map, refl}
 use Rattle.cdxj_core.specs.declared.limit.TheConstants.{LINE_LIMIT}
-use Rattle.cdxj_core.specs.declared.line.Line.{Line}
 use Rattle.cdxj_core.specs.Members.{Member, member_pair, member_place}
 use Rattle.cdxj_places.specs.Places.{place_cmp}
 use Rattle.cdxj_places.specs.Rising.{rising}
@@ -11,6 +10,7 @@ use Rattle.cdxj_places.proofs.RisingLaws.{each_rising}
 use Rattle.merge_core.proofs.SpendLemmas.{are_read_to}
 use Rattle.merge_core.specs.Collections.{OverIndexes, all_lines}
 use Rattle.merge_core.specs.Counts.{ShareAtMost}
+use Rattle.merge_core.specs.BoxedLines.{boxed_lines}
 use Rattle.merge_core.specs.Gathering.{Grouped}
 use Rattle.merge_core.specs.Reached.{Reached}
 use Rattle.merge_core.proofs.WholeLemmas.{all_kept}
@@ -25,11 +25,8 @@ use Rattle.merge_core.proofs.merging.merge.Given.{Over}
 use Rattle.merge_core.proofs.merging.merge.Goals.{After-gather, After-pass_group}
 use Rattle.merge_core.proofs.merging.merge.Goals as goal
 
-abbrev values : List (Box Line Global) → List Member
-values = map (λ b. b.value)
-
 abbrev group : (g : Over) → After-pass_group g → List Member
-group g c = c.in-Some.first.value ∷ values c.gather.new.rest.items
+group g c = c.in-Some.first.value ∷ boxed_lines c.gather.new.rest.items
 
 -- the lines before this group, and those with it
 abbrev taken : (g : Over) → After-pass_group g → List Member
@@ -61,7 +58,7 @@ most_lines g c now is texts indexes known are most share h =
     grind (arith, length-map)
 
 order : (g : Over) (c : After-pass_group g)
-    → rising member_place place_cmp (c.deref.result.now ∷ values c.deref-in-Some.result.now)
+    → rising member_place place_cmp (c.deref.result.now ∷ boxed_lines c.deref-in-Some.result.now)
     ≡ rising member_place place_cmp (group g c)
 order g c = cc
 

@@ -1,5 +1,6 @@
 use Rattle.std.proofs.Common.{◌≡◌, ◌∷◌, map, take}
+use Rattle.merge_core.specs.BoxedLines.{boxed_lines}
 use Rattle.merge_core.proofs.sink.references.Given as goal
 
 abbrev pub invariant-loop-line : goal.invariant-loop-line
-invariant-loop-line l = map (λ e. e.now) l.lines.items ≡ l.first ∷ map (λ b. b.value) (take l.line-index l.rest)
+invariant-loop-line l = map (λ e. e.now) l.lines.items ≡ l.first ∷ boxed_lines (take l.line-index l.rest)

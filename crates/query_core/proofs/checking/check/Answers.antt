@@ -1,13 +1,8 @@
-use Rattle.std.proofs.Common.{Box, Global, Option, option_map, ◌∙◌, arith}
+use Rattle.std.proofs.Common.{◌∙◌, arith}
 use Rattle.std.proofs.lemmas.Result.{err_from_is_err_and}
 use Rattle.cdxj_core.specs.declared.limit.TheConstants.{LINE_LIMIT}
-use Rattle.cdxj_core.specs.declared.line.Line.{Line}
-use Rattle.cdxj_core.specs.Members.{Member}
 use Rattle.query_core.proofs.CheckLemmas.{checked_more, checked_whole, checked_falls, checked_fault}
 use Rattle.query_core.proofs.checking.check.Goals as goal
-
-abbrev value : Option (Box Line Global) → Option Member
-value = option_map (λ (b : Box Line Global). b.value)
 
 pub returns-in_err-line-clause-checked : goal.returns-in_err-line-clause-checked
 returns-in_err-line-clause-checked g c = λ t e.
@@ -41,7 +36,7 @@ loop-previous-preserved g c =
       long = inv.long;
       told = λ t e.
           let next = rw c.in-Some.is at (ok.line t (inv.text ∙ e)) in
-          rw (rw c.in-Some.is at ok.count, c.replace.ensures.after) (checked_more LINE_LIMIT t (inv.told t e) _ _ next
+          rw ((rw c.in-Some.is at ok.moves).0, c.replace.ensures.after) (checked_more LINE_LIMIT t (inv.told t e) _ _ next
           (rw c.deref.ensures at (c.falls_after.ensures.stays c.if-falls_after.false)));
     }
 

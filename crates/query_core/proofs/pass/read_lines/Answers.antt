@@ -10,9 +10,11 @@ use Rattle.query_core.proofs.CaptureLemmas.{captures_append}
 use Rattle.query_core.proofs.PageOfIndexes.{Opened, reading, told, wanted_whole}
 use Rattle.query_core.proofs.ReachLemmas.{cut_all, cut_before, cut_last, gave_upto, gave_within, lines_within, of_parts}
 use Rattle.query_core.proofs.ReachLemmas.{took, within_opening}
+use Rattle.merge_core.proofs.OpenLemmas.{came_of, cuts_of}
 use Rattle.merge_core.specs.Feeds.{feeds}
 use Rattle.query_core.specs.Passes.{ReadFor, WantedMore}
 use Rattle.cdxj_core.specs.Members.{Member}
+use Rattle.cdxj_core.specs.declared.limit.TheConstants.{LINE_LIMIT}
 use Rattle.query_core.proofs.pass.read_lines.Given.{Over}
 use Rattle.query_core.proofs.pass.read_lines.Goals.{After-merge, In_ok-opened}
 use Rattle.query_core.proofs.pass.read_lines.Goals as goal
@@ -74,8 +76,11 @@ start : (g : Over) (c : In_ok-opened g) → Opened g.S.Source.text g.S.Source.ex
 start g c = record {
   kept = c.open_at.ensures.kept.0;
   same = c.in_ok-opened.ensures.ready.aligned.same;
-  came = c.in_ok-opened.ensures.came;
-  cut = rw (c.as_bytes-key.ensures.value, c.start_pair-start.ensures) at c.in_ok-opened.ensures.cut;
+  came = came_of g.S.Source.text g.S.Source.extent g.S.Source.gave LINE_LIMIT _ c.args.sources.now _
+      c.in_ok-opened.ensures.opened;
+  cut = rw c.start_pair.ensures at (cuts_of g.S.Source.text g.S.Source.extent g.S.Source.gave LINE_LIMIT _
+      c.args.sources.now c.open_at.new.sources (feeds c.in_ok-opened.opened.merge) c.open_at.ensures.kept.0
+      c.in_ok-opened.ensures.opened);
 }
 
 pub returns-in_err-all-clause-broke : goal.returns-in_err-all-clause-broke

@@ -1,10 +1,9 @@
-use Rattle.std.proofs.Common.{arith, drop}
-use Rattle.warc_core.specs.HeadText.{version_1_1, version_1_0}
+use Rattle.std.proofs.Common.{arith, drop, take}
+use Rattle.std.proofs.lemmas.List.{take-append-drop}
 use Rattle.warc_core.proofs.HeadLemmas.{begins_version}
 use Rattle.warc_core.proofs.head_text.begins_with_version.Goals as goal
 
-pub returns-then-starts_with : goal.returns-then-starts_with
-returns-then-starts_with c = grind (arith, begins_version version_1_1 c.args.head.now (drop 10 c.args.head.now))
-
-pub returns-else-starts_with : goal.returns-else-starts_with
-returns-else-starts_with c = grind (arith, begins_version version_1_0 c.args.head.now (drop 10 c.args.head.now))
+pub returns-in-Some : goal.returns-in-Some
+returns-in-Some c =
+    let head = c.args.head.now in
+    grind (arith, begins_version (take 10 head) head (drop 10 head), take-append-drop 10 head)

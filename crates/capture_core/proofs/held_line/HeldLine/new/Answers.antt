@@ -1,7 +1,6 @@
 use Rattle.std.proofs.Common.{arith, subst, sym}
 use Rattle.cdxj_core.specs.declared.limit.TheConstants.{LINE_LIMIT}
-use Rattle.cdxj_core.specs.Entries.{HasLine}
-use Rattle.cdxj_core.specs.EntryView.{entry_view}
+use Rattle.cdxj_core.specs.Entries.{HasLine, entry_view}
 use Rattle.capture_core.specs.Spelling.{HoldsLine}
 use Rattle.capture_core.proofs.HeldLines.{holds_line, holds_spelled}
 use Rattle.capture_core.proofs.SpellingLemmas.{spells}

@@ -1,13 +1,13 @@
 use Rattle.std.proofs.lemmas.List.{map-append}
-use Rattle.std.proofs.Common.{is_lt, false, true, ◌≡◌, inl, inr, [], ◌∷◌, ◌++◌, Box, Global, map, refl, ◌∙◌, arith}
+use Rattle.std.proofs.Common.{is_lt, false, true, ◌≡◌, inl, inr, [], ◌∷◌, ◌++◌, refl, ◌∙◌, arith}
 use Rattle.std.proofs.Common.{append_assoc, ℕ, ◌≤◌, List, Some, length, filter, drop, Bool}
 use Rattle.cdxj_places.specs.Pairs.{Pair}
 use Rattle.cdxj_places.specs.TextLines.{lines}
 use Rattle.std.specs.List.{AllByRecursion}
 use Rattle.cdxj_core.specs.declared.limit.TheConstants.{LINE_LIMIT}
-use Rattle.cdxj_core.specs.declared.line.Line.{Line}
 use Rattle.cdxj_core.specs.Members.{Member, member_pair}
 use Rattle.cdxj_places.proofs.PairLemmas.{pair_cmp_total}
+use Rattle.merge_core.specs.BoxedLines.{boxed_lines}
 use Rattle.merge_core.specs.PairOrders.{Alike, Below, Upto}
 use Rattle.merge_core.specs.Feeds.{Fed, done, feed_of, given, stays}
 use Rattle.merge_core.specs.Gathering.{EndsAt}
@@ -129,8 +129,8 @@ loop-line-preserved g c =
     let first = member_pair c.args.first.now in
     let m = c.in-Some.line.value in
     let alike : Alike (member_pair m) first = grind arith in
-    let pushed : map (λ (b : Box Line Global). b.value) c.push.new.self.items
-    ≡ map (λ (b : Box Line Global). b.value) c.loop-line.rest.items ++ m ∷ [] = grind (arith, map-append) in
+    let pushed : boxed_lines c.push.new.self.items ≡ boxed_lines c.loop-line.rest.items ++ m ∷ [] =
+    grind (arith, map-append) in
     let read = was_read g (goal.at.loop-line-preserved g c).After-compare_pairs (grind arith) in
     let last = λ (t : List ℕ) (e : g.S.Source.text c.args.source.now ≡ Some t). same_stays past first m (given LINE_LIMIT t c.loop-line.cursor) (inv.last t e) alike in
     record {

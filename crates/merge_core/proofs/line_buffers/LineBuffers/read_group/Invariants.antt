@@ -1,9 +1,10 @@
-use Rattle.std.proofs.Common.{◌≡◌, ◌+◌, ◌-◌, ◌≤◌, ◌++◌, ℕ, List, [], map, Some}
+use Rattle.std.proofs.Common.{◌≡◌, ◌+◌, ◌-◌, ◌≤◌, ◌++◌, ℕ, List, [], Some}
 use Rattle.std.specs.List.{AllByRecursion}
 use Rattle.cdxj_core.specs.declared.limit.TheConstants.{LINE_LIMIT}
 use Rattle.cdxj_core.specs.Members.{Member, member_pair}
 use Rattle.source_core.specs.Cursors.{reach}
 use Rattle.merge_core.specs.PairOrders.{Alike}
+use Rattle.merge_core.specs.BoxedLines.{boxed_lines}
 use Rattle.merge_core.specs.Feeds.{Fed, feed_of, given}
 use Rattle.merge_core.specs.Gathering.{EndsAt}
 use Rattle.merge_core.proofs.line_buffers.LineBuffers.read_group.Given as goal
@@ -21,7 +22,7 @@ invariant-loop-line g l = record {
   begin : l.begin ≡ l.cursor.at;
   last : (t : List ℕ) → g.S.Source.text l.fn.source ≡ Some t
       → EndsAt (g.R.Range.past l.range) (member_pair l.first) (given LINE_LIMIT t l.cursor);
-  taken : (taken : List Member) × (map (λ b. b.value) l.rest.items ≡ map (λ b. b.value) l.fn.rest.items ++ taken)
+  taken : (taken : List Member) × (boxed_lines l.rest.items ≡ boxed_lines l.fn.rest.items ++ taken)
       × AllByRecursion (λ m. Alike (member_pair m) (member_pair l.first)) taken
       × ((t : List ℕ) → g.S.Source.text l.fn.source ≡ Some t
       → given LINE_LIMIT t l.cursor ≡ given LINE_LIMIT t l.fn.cursor ++ taken);

@@ -1,9 +1,8 @@
-use Rattle.std.proofs.Common.{◌≡◌, ℕ, ◌+◌, ◌*◌, ◌≤◌, [], List, Some, Box, Global, option_map, arith}
+use Rattle.std.proofs.Common.{◌≡◌, ℕ, ◌+◌, ◌*◌, ◌≤◌, [], List, Some, arith}
 use Rattle.source_core.specs.Cursors.{reach}
 use Rattle.source_core.specs.IndexLines.{lines, longest}
 use Rattle.cdxj_core.specs.declared.limit.TheConstants.{LINE_LIMIT}
-use Rattle.cdxj_core.specs.declared.line.Line.{Line}
-use Rattle.cdxj_core.specs.Members.{Member}
+use Rattle.merge_core.specs.BoxedLines.{boxed_line}
 use Rattle.merge_core.specs.Feeds.{Fed, feed_of, option_list}
 use Rattle.merge_core.proofs.FeedLemmas.{bad_named}
 use Rattle.merge_core.proofs.FailLemmas.{if_err}
@@ -49,16 +48,15 @@ returns-in_err-enqueue-clause-spent g c = grind (arith, spent)
 pub returns-clause-added : goal.returns-clause-added
 returns-clause-added g c =
     let here = (goal.at.returns-clause-added g c).After-next_line in
-    let value : Box Line Global → Member = λ l. l.value in
     let ok = c.in_ok-next.ensures in
     let was : Fed LINE_LIMIT (g.R.Range.past c.args.range.now) (g.S.Source.text c.next_line.new.source)
     (g.S.Source.extent c.next_line.new.source) (feed_of c.args.cursor []) = let f = fresh g here in grind arith in
-    let read = first_read was c.requires.fresh c.next_line.new.cursor (option_map value c.in_ok-next.next) _ ok.stands
+    let read = first_read was c.requires.fresh c.next_line.new.cursor (boxed_line c.in_ok-next.next) _ ok.stands
     c.next_line.ensures.start (grind arith) (λ t e. c.next_line.ensures.most t (grind arith))
     (λ t e. ok.next t (grind arith)) c.within-first.ensures in
     record {
       cursor = c.next_line.new.cursor;
-      first = option_list (option_map value c.within-first.result);
+      first = option_list (boxed_line c.within-first.result);
       cursors_are = grind arith;
       queue_is = grind arith;
       fed = read.fed;

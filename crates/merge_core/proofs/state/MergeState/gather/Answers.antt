@@ -1,16 +1,16 @@
 use Rattle.std.proofs.lemmas.List.{map-append}
-use Rattle.std.proofs.Common.{[], ◌≡◌, Some, ◌+◌, ◌∷◌, Box, Global, List, map}
+use Rattle.std.proofs.Common.{[], ◌≡◌, Some, ◌+◌, ◌∷◌}
 use Rattle.std.proofs.Common.{refl, sym, ap, ◌∙◌, arith}
 use Rattle.std.proofs.lemmas.Cmp.{tied_itself}
 use Rattle.std.proofs.lemmas.List.Sorted.{IsPermutation-sym}
 use Rattle.cdxj_places.proofs.PairLemmas.{pair_cmp_total}
 use Rattle.cdxj_places.proofs.RisingLaws.{each_weaker}
 use Rattle.cdxj_core.specs.declared.limit.TheConstants.{LINE_LIMIT}
-use Rattle.cdxj_core.specs.declared.line.Line.{Line}
 use Rattle.cdxj_core.specs.Members.{Member, member_pair}
 use Rattle.merge_core.specs.declared.state.MergeState.{MergeState}
 use Rattle.merge_core.specs.PairOrders.{Upto}
 use Rattle.merge_core.specs.WaitingLines.{WaitingLine, waiting_pair}
+use Rattle.merge_core.specs.BoxedLines.{boxed_lines}
 use Rattle.merge_core.specs.Feeds.{AreSettled, feeds}
 use Rattle.merge_core.specs.Gathering.{AreTold, all_done}
 use Rattle.merge_core.specs.Spending.{AreReadTo}
@@ -28,9 +28,6 @@ use Rattle.merge_core.proofs.state.MergeState.gather.Given.{Over}
 use Rattle.merge_core.proofs.state.MergeState.gather.Goals.{After-read_on, After-push, In_ok-read_on}
 use Rattle.merge_core.proofs.state.MergeState.gather.Goals as goal
 
-abbrev values : List (Box Line Global) → List Member
-values = map (λ (b : Box Line Global). b.value)
-
 -- the source is read on at the pair of the group
 same : (g : Over) (c : In_ok-read_on g) → member_pair c.deref-in-sources.result.now ≡ member_pair c.new-keyed.result
 same g c = cc
@@ -39,7 +36,7 @@ same g c = cc
 drained : (g : Over) (c : In_ok-read_on g)
     → Gathers LINE_LIMIT (g.R.Range.past c.args.range.now) g.S.Source.text g.S.Source.extent g.S.Source.gave
     c.args.sources.now c.args.self.now (member_pair c.new-keyed.result) (c.sources.i + 1)
-    c.read_on.new.sources c.read_on.new.self (c.new-keyed.result ∷ values c.read_on.new.rest.items)
+    c.read_on.new.sources c.read_on.new.self (c.new-keyed.result ∷ boxed_lines c.read_on.new.rest.items)
 drained g c =
     let inv = c.sources.invariant in
     let read = rw (same g c) at c.in_ok-read_on.ensures.read in
@@ -68,7 +65,7 @@ popped_merge g c = record c.read_on.new.self { queue = c.pop_at.new.self }
 taken : (g : Over) (c : After-push g)
     (h : Gathers LINE_LIMIT (g.R.Range.past c.args.range.now) g.S.Source.text g.S.Source.extent g.S.Source.gave
     c.args.sources.now c.args.self.now (member_pair c.new-keyed.result) (c.sources.i + 1)
-    c.read_on.new.sources c.read_on.new.self (c.new-keyed.result ∷ values c.read_on.new.rest.items))
+    c.read_on.new.sources c.read_on.new.self (c.new-keyed.result ∷ boxed_lines c.read_on.new.rest.items))
     → TakenNext h (taken_line g c) (popped_merge g c)
 taken g c h =
     let took = c.in-Some-pop_at.ensures in

@@ -3,6 +3,7 @@ use Rattle.std.specs.List.{AllByRecursion}
 use Rattle.cdxj_core.specs.declared.limit.TheConstants.{LINE_LIMIT}
 use Rattle.cdxj_core.specs.Members.{member_pair}
 use Rattle.cdxj_places.specs.Pairs.{Pair}
+use Rattle.merge_core.specs.BoxedLines.{boxed_lines}
 use Rattle.merge_core.specs.PairOrders.{IsAbove, Upto}
 use Rattle.merge_core.specs.WaitingLines.{waiting_pair}
 use Rattle.merge_core.specs.Feeds.{AreSettled, Feed, IsSettled, feeds}
@@ -13,7 +14,7 @@ use Rattle.merge_core.proofs.state.MergeState.gather.Given as goal
 abbrev pub invariant-sources : goal.invariant-sources
 invariant-sources g l = record {
   gathers : Gathers LINE_LIMIT (g.R.Range.past l.range) g.S.Source.text g.S.Source.extent g.S.Source.gave l.fn.sources
-      l.fn.self (member_pair l.keyed) (l.i + 1) l.sources l.self (l.keyed ∷ map (λ b. b.value) l.rest.items);
+      l.fn.self (member_pair l.keyed) (l.i + 1) l.sources l.self (l.keyed ∷ boxed_lines l.rest.items);
   most_lines : l.self.most_lines ≡ l.fn.self.most_lines;
   inside : l.i < length l.sources;
   due : (a : g.row.S.Denot) → (d : Feed)

@@ -1,6 +1,6 @@
 use Rattle.std.specs.List.{sum}
 use Rattle.std.proofs.lemmas.List.Concat.{flat_map-append}
-use Rattle.std.proofs.Common.{append-nil, ◌≡◌, [], ◌∷◌, get_or, take, ◌<◌, length, map, ap, zip, length-append, arith}
+use Rattle.std.proofs.Common.{append-nil, ◌≡◌, get_or, take, ◌<◌, length, map, ap, zip, length-append, arith}
 use Rattle.std.proofs.lemmas.Slice.Zip.{all_zipped_more}
 use Rattle.std.proofs.lemmas.List.{take_all, take_more, take_more_set}
 use Rattle.cdxj_core.specs.declared.limit.TheConstants.{LINE_LIMIT}
@@ -8,7 +8,6 @@ use Rattle.source_core.specs.Halving.{digits}
 use Rattle.merge_core.proofs.OnceLemmas.{once_none}
 use Rattle.merge_core.proofs.SpendLemmas.{opened_none, left_here, left_after}
 use Rattle.merge_core.proofs.FailLemmas.{raised_by_feed}
-use Rattle.cdxj_places.proofs.RisingLaws.{each_join}
 use Rattle.merge_core.proofs.Many.{map_set_same, two_put}
 use Rattle.std.proofs.lemmas.Simd.{map-map}
 use Rattle.merge_core.specs.Feeds.{feed_of, feeds}
@@ -46,19 +45,14 @@ loop-i-preserved g c =
       most_lines = grind arith;
       count = grind (arith, length-append);
       ready = rw front ready;
-      cut = rw (now, zipped) (each_join _ (zip ss fs) ((s, f) ∷ []) inv.cut (added.cursor_is.0, tt));
-      start = grind (arith, each_join);
       fresh = rw (now, zipped) (let is = fresh_of LINE_LIMIT past (text s) f added.fresh in grind (arith, flat_map-append, append-nil));
       probes = grind (arith, sum_turn (λ s. digits (extent s)) ss i s inside);
       left = grind (arith, left_after);
       spent = grind (arith, two_put);
-      once = λ k z. grind (arith, two_put, inv.once k z, ok.once);
-      came_once = λ k z. rw (now, zipped, take_more olds i a (omega arith))
-          (all_zipped_more _ (take i olds) (zip ss fs) (get_or olds i a) (s, f) (inv.came_once k z)
-          (rw same_here at (added.cursor_is.3 k z)));
-      came = rw (now, zipped, take_more olds i a (omega arith))
-          (all_zipped_more _ (take i olds) (zip ss fs) (get_or olds i a) (s, f) inv.came
-          (rw same_here at added.cursor_is.1));
+      once = λ k. grind (arith, two_put, inv.once k, ok.once);
+      opened = rw (now, zipped, take_more olds i a (omega arith))
+          (all_zipped_more _ (take i olds) (zip ss fs) (get_or olds i a) (s, f) inv.opened
+          (rw same_here at added.cursor_is));
     }
 
 pub returns-in-Err-clause-kept : goal.returns-in-Err-clause-kept
@@ -74,10 +68,10 @@ returns-in-Err-clause-spent g c =
     grind (arith, two_put)
 
 pub returns-in-Err-clause-once : goal.returns-in-Err-clause-once
-returns-in-Err-clause-once g c = λ k z.
+returns-in-Err-clause-once g c = λ k.
     let here = left_here c.args.sources.now c.loop-i.sources c.loop-i.i c.index-sources-i.result
     c.loop-i.invariant.left in
-    grind (arith, two_put, c.loop-i.invariant.once k z)
+    grind (arith, two_put, c.loop-i.invariant.once k)
 
 pub returns : goal.returns
 returns g c =
@@ -87,6 +81,5 @@ returns g c =
     let same = ap sum (simp map-map at (ap (map digits) inv.extent)) in
     let olds : take c.loop-i.i c.args.sources.now ≡ c.args.sources.now = take_all c.loop-i.i c.args.sources.now
     (omega (arith, ap length inv.extent, inv.count)) in
-    let came = rw olds at inv.came in
-    let came_once = λ (k : c.args.key.now ≡ []) (z : c.args.stamp.now ≡ []). rw olds at (inv.came_once k z) in
+    let opened = rw olds at inv.opened in
     grind arith

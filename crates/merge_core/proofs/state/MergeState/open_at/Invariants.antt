@@ -1,12 +1,13 @@
-use Rattle.std.specs.List.{AllZip, AllByRecursion, sum}
+use Rattle.std.specs.List.{AllZip, sum}
 use Rattle.std.proofs.Common.{◌≡◌, ◌≤◌, [], length, map, take, drop, zip}
 use Rattle.cdxj_core.specs.declared.limit.TheConstants.{LINE_LIMIT}
-use Rattle.source_core.specs.Cursors.{CursorState}
+use Rattle.cdxj_places.specs.Pairs.{IsLeast}
+use Rattle.cdxj_places.specs.PairViews.{pair_view}
 use Rattle.source_core.specs.Halving.{digits}
-use Rattle.merge_core.specs.Feeds.{Feed, Ready, feeds}
+use Rattle.merge_core.specs.Feeds.{Ready, feeds}
 use Rattle.merge_core.specs.Gathering.{all_done}
-use Rattle.merge_core.specs.Spending.{AllGaveOnce, CameOnce, CameWithin, OpenedWithin}
-use Rattle.merge_core.specs.Openings.{IsCutAt}
+use Rattle.merge_core.specs.Spending.{AllGaveOnce, OpenedWithin}
+use Rattle.merge_core.specs.Openings.{OpenedAt}
 use Rattle.merge_core.proofs.state.MergeState.open_at.Given as goal
 
 abbrev pub invariant-loop-i : goal.invariant-loop-i
@@ -17,18 +18,12 @@ invariant-loop-i g l = record {
   most_lines : l.merge.most_lines ≡ 0;
   count : length l.merge.cursors.items ≡ l.i;
   ready : Ready LINE_LIMIT (g.R.Range.past l.range) g.S.Source.text g.S.Source.extent (take l.i l.sources) l.merge;
-  cut : AllByRecursion (λ (x : g.row.S.Denot × Feed). IsCutAt LINE_LIMIT (l.key, l.stamp) (g.S.Source.text x.0)
-      x.1.cursor) (zip l.sources (feeds l.merge));
-  start : l.key ≡ [] → l.stamp ≡ [] → AllByRecursion (λ (c : CursorState). c.start ≡ 0) l.merge.cursors.items;
   fresh : all_done LINE_LIMIT (g.R.Range.past l.range) g.S.Source.text l.sources (feeds l.merge) ≡ [];
   probes : l.probes ≤ sum (map (λ s. digits (g.S.Source.extent s)) (take l.i l.sources));
   left : drop l.i l.sources ≡ drop l.i l.fn.sources;
   spent : AllZip (λ x y. OpenedWithin (g.S.Source.text x) (g.S.Source.extent x) (g.S.Source.gave x) (g.S.Source.gave y))
       l.fn.sources l.sources;
-  came : AllZip (λ x y. CameWithin (g.S.Source.text x) (g.S.Source.extent x) (g.S.Source.gave x) (g.S.Source.gave y.0)
-      y.1.cursor) (take l.i l.fn.sources) (zip l.sources (feeds l.merge));
-  once : l.key ≡ [] → l.stamp ≡ [] → AllGaveOnce g.S.Source.extent g.S.Source.gave l.fn.sources l.sources;
-  came_once : l.key ≡ [] → l.stamp ≡ []
-      → AllZip (λ x y. CameOnce (g.S.Source.gave x) (g.S.Source.gave y.0) y.1.cursor) (take l.i l.fn.sources)
-      (zip l.sources (feeds l.merge));
+  opened : AllZip (λ x y. OpenedAt LINE_LIMIT (pair_view l.start) (g.S.Source.text x) (g.S.Source.extent x)
+      (g.S.Source.gave x) (g.S.Source.gave y.0) y.1.cursor) (take l.i l.fn.sources) (zip l.sources (feeds l.merge));
+  once : IsLeast (pair_view l.start) → AllGaveOnce g.S.Source.extent g.S.Source.gave l.fn.sources l.sources;
 }

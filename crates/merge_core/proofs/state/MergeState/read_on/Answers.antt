@@ -1,12 +1,12 @@
 use Rattle.std.specs.List.{AllByRecursion}
-use Rattle.std.proofs.Common.{List, ◌≡◌, [], Some, Box, Global, length, option_map, set, get_or, refl, arith}
+use Rattle.std.proofs.Common.{List, ◌≡◌, [], Some, length, set, get_or, refl, arith}
 use Rattle.std.specs.Vec.{with_item}
 use Rattle.std.proofs.lemmas.List.{get_or_default}
 use Rattle.cdxj_core.specs.declared.limit.TheConstants.{LINE_LIMIT}
-use Rattle.cdxj_core.specs.declared.line.Line.{Line}
 use Rattle.cdxj_core.specs.Members.{Member, member_pair}
 use Rattle.merge_core.specs.declared.state.MergeState.{MergeState}
 use Rattle.merge_core.specs.PairOrders.{Upto}
+use Rattle.merge_core.specs.BoxedLines.{boxed_line}
 use Rattle.merge_core.specs.Feeds.{AllMoved, Feed, feed_of, feeds, option_list}
 use Rattle.merge_core.specs.Gathering.{all_done}
 use Rattle.merge_core.specs.Spending.{AreReadTo}
@@ -114,7 +114,7 @@ returns g c =
     let i = c.args.i in
     let now = c.read_group.new.cursor in
     let read = c.in-Ok.ensures.read in
-    let waits : List Member = option_list (option_map (λ (l : Box Line Global). l.value) c.in-Ok.next) in
+    let waits : List Member = option_list (boxed_line c.in-Ok.next) in
     let f = feed_of now waits in
     let is = here g at in
     let cursors = c.enqueue.ensures.cursors in

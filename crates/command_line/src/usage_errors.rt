@@ -1,0 +1,211 @@
+//! The texts of usage errors.
+ghost use Rattle.std.specs.Prelude.{◌≡◌, Some};
+ghost use Rattle.std.specs.Option.{IfSome};
+ghost use Rattle.clap.specs.Words.{kind_of};
+ghost use Rattle.command_line.specs.Commands.{IsUsage, refusal_of};
+ghost use Rattle.command_line.specs.Clap.{refusal_for};
+
+use crate::fault::WordsFault;
+use crate::matches::operand_word;
+use capture_core::Types;
+use cdxj_places::read_offset;
+use clap::error::ErrorKind;
+use clap::{ArgMatches, Error};
+use std::alloc::{AllocError, Global};
+
+/// Returns the fault for clap's error over these arguments, with its text or one that says more.
+pub fn fault_of(alloc: Global, words: &[String], error: &Error) -> WordsFault
+    ensures { IfSome (refusal_of result) (λ refusal. refusal_for (kind_of error.now)
+        ≡ Some refusal) }
+{
+    let Ok(text) = error.to_string(alloc) else {
+        return WordsFault::Memory;
+    };
+    match error.kind() {
+        ErrorKind::OutOfMemory => WordsFault::Memory,
+        ErrorKind::DisplayHelp => WordsFault::Help(text),
+        ErrorKind::InvalidSubcommand => no_command(alloc, words, text),
+        ErrorKind::MissingRequiredArgument => no_argument(alloc, words, text),
+        _ => WordsFault::Usage(text),
+    }
+}
+
+/// Returns the usage error for a first argument that isn't a command. `text` is clap's, which suggests a similar one.
+fn no_command(alloc: Global, words: &[String], text: String) -> WordsFault
+    ensures { IsUsage result }
+{
+    let word = first_word(words);
+    match command_tip(word) {
+        Some(tip) => usage(format!(in alloc;
+            "error: unrecognized subcommand '{word}'\n\n  \
+             tip: {tip}\n\n\
+             For more information, try '--help'.\n"
+        )),
+        None => WordsFault::Usage(text),
+    }
+}
+
+fn first_word(words: &[String]) -> &str {
+    match words {
+        [word, ..] => word,
+        [] => "",
+    }
+}
+
+fn command_tip(word: &str) -> Option<&'static str> {
+    match word {
+        "help" => Some("'warcdx --help' and 'warcdx COMMAND --help' print help"),
+        "version" => Some("'warcdx --version' prints the version"),
+        _ if is_file_name(word) => Some("a command precedes the files, as in 'warcdx index FILE'"),
+        _ => None,
+    }
+}
+
+fn is_file_name(word: &str) -> bool {
+    word == "-" || word.contains('.') || word.contains('/')
+}
+
+/// Returns the usage error for too few arguments. `text` is clap's, which doesn't see that the sizes are missing.
+fn no_argument(alloc: Global, words: &[String], text: String) -> WordsFault
+    ensures { IsUsage result }
+{
+    match words {
+        [command, query, ..] if takes_sizes(command) && query.contains('=') => no_sizes(
+            alloc, query,
+        ),
+        _ => WordsFault::Usage(text),
+    }
+}
+
+fn takes_sizes(command: &str) -> bool {
+    command == "pages" || command == "scan"
+}
+
+/// Returns the usage error for an unknown option. clap's own text would suggest `-- -x`, which is refused too.
+pub fn unexpected(alloc: Global, option: &str) -> WordsFault
+    ensures { IsUsage result }
+{
+    let tip = tip_for(option);
+    usage(format!(in alloc;
+        "error: unexpected option '{option}'\n\n  \
+         tip: {tip}\n\n\
+         For more information, try '--help'.\n"
+    ))
+}
+
+fn tip_for(option: &str) -> &'static str {
+    if has_value(option) {
+        "an option and its value are two arguments, as '--types response'"
+    } else if option.starts_with("--types") {
+        "'--types TYPES' stands once, directly after 'index' or 'scan'"
+    } else if option.starts_with("--length") {
+        "'--length LENGTH' stands once, directly after 'get'"
+    } else if option.starts_with("--name") {
+        "'--name NAME' stands once, directly after 'index', 'scan' or their '--types TYPES'"
+    } else if option == "--version" || option == "-V" {
+        "'--version' is the only argument"
+    } else if option == "-o" || option == "--output" {
+        "the output is standard output: write '> FILE' behind the command"
+    } else if matches!(option, "-j" | "--jobs" | "-r" | "--recursive") {
+        "'warcdx-update' indexes folders, several archives at a time"
+    } else if is_negative(option) {
+        "an offset, a length and a size are numbers without '-'"
+    } else {
+        "a file whose name begins with '-' is written './-name'"
+    }
+}
+
+fn is_negative(option: &str) -> bool {
+    option.bytes().skip(1).all(|byte| byte.is_ascii_digit())
+}
+
+/// Returns `true` for an option that takes a value and has it behind `=`.
+fn has_value(option: &str) -> bool {
+    option.starts_with("--types=")
+        || option.starts_with("--name=")
+        || option.starts_with("--length=")
+}
+
+/// Returns the usage error for types, sizes, a length or an offset. clap accepts any argument for them; the texts are in its
+/// style.
+pub fn no_task(alloc: Global, matches: &ArgMatches) -> WordsFault
+    ensures { IsUsage result }
+{
+    match operand_word(matches, "types") {
+        Some(word) if Types::read(word).is_none() => no_types(alloc, word),
+        _ => no_numbers(alloc, matches),
+    }
+}
+
+fn no_numbers(alloc: Global, matches: &ArgMatches) -> WordsFault
+    ensures { IsUsage result }
+{
+    match operand_word(matches, "sizes") {
+        Some(word) => no_sizes(alloc, word),
+        None => no_place(alloc, matches),
+    }
+}
+
+fn no_place(alloc: Global, matches: &ArgMatches) -> WordsFault
+    ensures { IsUsage result }
+{
+    match operand_word(matches, "length") {
+        Some(word) if read_offset(word).is_none() => no_length(alloc, word),
+        _ => no_offset(alloc, operand_word(matches, "offset").unwrap_or("")),
+    }
+}
+
+fn no_length(alloc: Global, word: &str) -> WordsFault
+    ensures { IsUsage result }
+{
+    usage(format!(in alloc;
+        "error: invalid value '{word}' for '--length <LENGTH>': a length is 1 to 19 digits, below 2^63\n\n\
+         For more information, try '--help'.\n"
+    ))
+}
+
+pub fn no_input(alloc: Global) -> WordsFault
+    ensures { IsUsage result }
+{
+    usage(format!(in alloc;
+        "error: '--name <NAME>' names the archive '-', which isn't given\n\n\
+         For more information, try '--help'.\n"
+    ))
+}
+
+fn no_types(alloc: Global, word: &str) -> WordsFault
+    ensures { IsUsage result }
+{
+    usage(format!(in alloc;
+        "error: invalid value '{word}' for '--types <TYPES>': types are response, resource, revisit, conversion and metadata, \
+         each once at most, with ',' between\n\n\
+         For more information, try '--help'.\n"
+    ))
+}
+
+fn no_sizes(alloc: Global, word: &str) -> WordsFault
+    ensures { IsUsage result }
+{
+    usage(format!(in alloc;
+        "error: invalid value '{word}' for '<SIZES>': sizes are 1 to 1,000 numbers from 1 to 1,000,000, with ',' between\n\n\
+         For more information, try '--help'.\n"
+    ))
+}
+
+fn no_offset(alloc: Global, word: &str) -> WordsFault
+    ensures { IsUsage result }
+{
+    usage(format!(in alloc;
+        "error: invalid value '{word}' for '<OFFSET>': an offset is 1 to 19 digits, below 2^63, and precedes the archive\n\n\
+         For more information, try '--help'.\n"
+    ))
+}
+
+fn usage(text: Result<String, AllocError>) -> WordsFault
+    ensures { IsUsage result }
+{
+    match text {
+        Ok(text) => WordsFault::Usage(text),
+        Err(_refused) => WordsFault::Memory,
+    }
+}
