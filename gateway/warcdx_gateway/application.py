@@ -314,6 +314,7 @@ def streamed(pieces: Iterator[bytes], headers: Mapping[str, str], kind: str) -> 
     The first ones are made at once. So what fails until then has a status, and a short answer has
     a length.
     """
+    fields = [*headers.items(), ("Content-Type", kind)]  # one by one they cost more
     begun, size = list[bytes](), 0
     for piece in pieces:
         begun.append(piece)
@@ -321,8 +322,9 @@ def streamed(pieces: Iterator[bytes], headers: Mapping[str, str], kind: str) -> 
         if size > MOST_WHOLE:
             break
     else:
-        return Response(b"".join(begun), 200, headers, content_type=kind)
-    response = Response(itertools.chain(begun, pieces), 200, headers, content_type=kind)
+        body = b"".join(begun)
+        return Response(body, 200, [*fields, ("Content-Length", str(len(body)))])
+    response = Response(itertools.chain(begun, pieces), 200, fields)
     if isinstance(pieces, Generator):
         response.call_on_close(pieces.close)
     return response

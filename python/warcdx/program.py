@@ -76,6 +76,8 @@ def start(
         return subprocess.Popen(command, room, stdin=stdin, stdout=stdout, stderr=said, preexec_fn=_ending_with_starter())
     except OSError as error:
         raise ProgramMissing(f"{command[0]}: {error.strerror}") from error
+    except subprocess.SubprocessError as error:  # the new process had no memory to do what it does first
+        raise MemoryError from error
 
 
 def _ending_with_starter() -> Optional[Callable[[], None]]:

@@ -19,6 +19,19 @@ unknown() { # WORD
     refusal "unrecognized subcommand '$1'" "[COMMAND]"
 }
 
+tipped() { # WORD TIP
+    lines "error: unrecognized subcommand '$1'" "" "  tip: $2" "" "For more information, try '--help'."
+}
+
+file_first() { # WORD
+    tipped "$1" "a command precedes the files, as in 'warcdx index FILE'"
+}
+
+negative() { # OPTION
+    lines "error: unexpected option '$1'" "" "  tip: an offset, a length and a size are numbers without '-'" "" \
+        "For more information, try '--help'."
+}
+
 no_offset() { # WORD
     lines "error: invalid value '$1' for '<OFFSET>': an offset is 1 to 19 digits, below 2^63, and precedes the archive" "" \
         "For more information, try '--help'."
@@ -115,6 +128,7 @@ no_value=$(lines "error: a value is required for '--types <TYPES>' but none was 
 no_input=$(lines "error: '--name <NAME>' names the archive '-', which isn't given" "" "For more information, try '--help'.")
 no_length_value=$(lines "error: a value is required for '--length <LENGTH>' but none was supplied" "" "For more information, try '--help'.")
 no_archive_of_length=$(refusal "the following required arguments were not provided:"$'\n  <WARC>' "get --length <LENGTH> <OFFSET> <WARC>")
+help_tip=$(tipped help "'warcdx --help' and 'warcdx COMMAND --help' print help")
 long_name=$(printf '%04096d' 0)
 
 #     case                              output error           status, arguments and input
@@ -133,6 +147,8 @@ for sizes in "" 0 1,0 "1," ,1 1,,2 +1 1.5 x 1000001 00000001 "1 2" "1;2" "$(prin
     check "pages $(head --bytes=20 <<< "$sizes")"  "" "$(no_sizes "$sizes")"   2 pages "$sizes" url=a missing
 done
 check "scan alone"                      "" "$no_scan"                      2 scan
+check "pages without sizes"             "" "$(no_sizes url=a)"             2 pages url=a missing
+check "scan without sizes"              "" "$(no_sizes url=a)"             2 scan url=a missing
 check "scan 0"                          "" "$(no_sizes 0)"                 2 scan 0 url=a missing
 for types in "" "," request Response response,response "response," ,response "response, resource" warcinfo all; do
     check "index --types $types"        "" "$(no_types "$types")"          2 index --types "$types" missing
@@ -155,7 +171,7 @@ for length in "" x +1 -1 1.5 0x10 9223372036854775808 00000000000000000001; do
     check "get --length $length"        "" "$(no_length "$length")"        2 get --length "$length" 0 missing
 done
 check "get --length, a bad offset"      "" "$(no_offset x)"                2 get --length 5 x missing
-check "get --length of an option"       "" "$(unexpected -1)"              2 get --length -1 0 missing
+check "get --length of an option"       "" "$(negative -1)"                2 get --length -1 0 missing
 check "get --length, nothing"           "" "$no_length_value"              2 get --length
 check "get --length, no archive"        "" "$no_archive_of_length"         2 get --length 5 0
 check "--length behind an offset"       "" "$(misplaced_length --length)"  2 get 0 --length 5 r.warc
@@ -187,19 +203,20 @@ check "get of two archives"             "" "$one_too_many"                 2 get
 check "get x"                           "" "$(no_offset x)"                2 get x r.warc
 check "get of an empty offset"          "" "$(no_offset "")"               2 get "" r.warc
 check "get +1"                          "" "$(no_offset +1)"               2 get +1 r.warc
-check "get -1"                          "" "$(unexpected -1)"              2 get -1 r.warc
+check "get -1"                          "" "$(negative -1)"                2 get -1 r.warc
 check "get 0x0"                         "" "$(no_offset 0x0)"              2 get 0x0 r.warc
 check "get 2^63"          "" "$(no_offset 9223372036854775808)"            2 get 9223372036854775808 r.warc
 check "get of twenty digits" "" "$(no_offset 00000000000000000000)"        2 get 00000000000000000000 r.warc
 check "an unknown word"                 "" "$(unknown frob)"               2 frob
 check "a command misspelt"              "" "$misspelt"                     2 lst same.warc
-check "a name in place of a command"    "" "$(unknown same.warc)"          2 same.warc
-check "a name before a command"         "" "$(unknown same.warc)"          2 same.warc list
+check "a name in place of a command"    "" "$(file_first same.warc)"       2 same.warc
+check "a name before a command"         "" "$(file_first same.warc)"       2 same.warc list
 check "an unknown word before -h"       "" "$(unknown frob)"               2 frob -h
-check "- in place of a command"         "" "$(unknown -)"                  2 -
+check "- in place of a command"         "" "$(file_first -)"               2 -
 check "an empty word"                   "" "$(unknown "")"                 2 ""
-check "help"                            "" "$(unknown help)"               2 help
-check "help list"                       "" "$(unknown help)"               2 help list
+check "help"                            "" "$help_tip"                     2 help
+check "help list"                       "" "$help_tip"                     2 help list
+check "version"                         "" "$(tipped version "'warcdx --version' prints the version")" 2 version
 check "a command in capitals"           "" "$(unknown LIST)"               2 LIST same.warc
 check "-x"                              "" "$(unexpected -x)"              2 -x
 check "--"                              "" "$(unexpected --)"              2 --

@@ -328,9 +328,19 @@ printf ' CDX N b a m s k r M S V g\n' > crawl.cdx
 printf '\357\273\277%s' "$(< r.warc)" > marked.warc
 printf '\357\273\277' | cat - sorted.cdxj > marked.cdxj
 echo text > forged
+printf '\050\265\057\375' > r.warc.zst
+printf 'WARC/1.1\nWARC-Type: response\n\n' > unix.warc
+printf 'filedesc://a.arc 0.0.0.0 20000101000000 text/plain 77\n' > a.arc
+printf '<!DOCTYPE html>\n' > page.html
+printf 'WARC/0.18\r\n' > old.warc
 advises "why: no such file"         "No such file or directory (os error 2)"                            3 index missing
 advises "why: an archive of gzip"   "It is compressed by gzip: warcdx-gz indexes .warc.gz files."       1 index r.warc.gz
 advises "why: not a WARC file"      "No record begins there: its first line isn't WARC/1.0 or WARC/1.1." 1 index forged
+advises "why: an archive of zstd"   "It is compressed by zstd: decompress it first."                    1 index r.warc.zst
+advises "why: LF alone"             "Its first line ends with LF alone: a WARC file has CR LF after each line of a header." 1 index unix.warc
+advises "why: an ARC file"          "It is an ARC file: convert it to a WARC file first."               1 index a.arc
+advises "why: an HTML file"         "It seems to be an HTML or XML file, and not a WARC file."          1 index page.html
+advises "why: an older version"     "No record begins there: its first line isn't WARC/1.0 or WARC/1.1." 1 index old.warc
 advises "why: an index as an archive" "It seems to be an index: warcdx query reads indexes."              1 index sorted.cdxj
 advises "why: a ZIP file"           "It is a ZIP file, as a WACZ file is: unpack it, and index the WARC files in it." 1 index crawl.wacz
 advises "why: a CDX file"           "It is a CDX file: warcdx-cdx converts it to an index."             1 index crawl.cdx
@@ -341,6 +351,8 @@ advises "why: a file name twice"    "Another archive has this file name: rename 
 advises "why: no record"            "No record begins at this offset, or it has another length."        1 get 1 r.warc
 advises "why: a folder as an index" "It is a folder."                                                   3 check folder
 advises "why: an index of gzip"     "It is compressed by gzip: decompress it first."                    1 check sorted.cdxj.gz
+advises "why: an index of zstd"     "It is compressed by zstd: decompress it first."                    1 check r.warc.zst
+advises "why: HTML as an index"     "It seems to be an HTML or XML file, and not an index."             1 check page.html
 advises "why: a bad line"           "The line that begins there isn't one of a CDXJ index."             1 check forged
 advises "why: a WARC file as an index" "It is a WARC file: warcdx index makes an index of it."          1 check r.warc
 advises "why: a CDX file as an index" "It is a CDX file: warcdx-cdx converts it to an index."           1 query url=a crawl.cdx
@@ -349,6 +361,15 @@ advises "why: a falling index"      "The index isn't in order: LC_ALL=C sort put
 advises "why: 1,025 indexes"        "At most 1024 files are taken: merge the indexes of some of them first." 1 merge "${too_many[@]}"
 advises "why: an unknown parameter" "'page' isn't a parameter. The parameters are url, key, matchType, from, to, filter, is, isnot, has, hasnot, \
 limit, resumeKey, showResumeKey, fl, output and collapse. warcdx-gateway has others too." 1 query "url=a&page=0" sorted.cdxj
+for query in "url=a&%70age=0" $'url=a&x\nwarcdx: y: fault 0 Read=1'; do
+    advises "why: $(head --lines=1 <<< "$query")" "The parameters are url, key, matchType, from, to, filter, is, isnot, has, hasnot, limit, resumeKey, \
+showResumeKey, fl, output and collapse. warcdx-gateway has others too." 1 query "$query" sorted.cdxj
+done
+for query in http://example.com/ sorted.cdxj; do
+    advises "why: $query" "A query precedes the indexes, and a URL in it is written as url=example.com. The parameters are url, key, matchType, from, to, \
+filter, is, isnot, has, hasnot, limit, resumeKey, showResumeKey, fl, output and collapse. warcdx-gateway has others too." 1 query "$query" sorted.cdxj
+done
+advises "why: standard input as an index" "An index is a file, because it is searched: write what a pipe has to a file first." 3 query url=a -
 advises "why: a pattern" "filter takes a literal text, without \\ ^ \$ . | ? * + ( ) [ ] { }. For a part of a value, write has=FIELD:TEXT." \
     1 query "url=a&filter=statuscode:2.." sorted.cdxj
 advises "why: no url"               "A query has a url or a key, such as url=example.com."              1 query "" sorted.cdxj

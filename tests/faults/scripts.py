@@ -30,7 +30,8 @@ from script_runs import Disk, Ended, Run, Script, scripts_of
 from script_signals import at_moments, before_it_serves, cut_while_read
 
 SIZES = (0, 1, 4096, 70_000)  # bytes that a file may have
-SPARE_MEMORY = (0, 1, 3, 6, 12, 24)  # steps over the least memory under which a script starts
+LITTLE_MEMORY = (-6, -3, -1)  # steps below the least memory under which a script prints its help
+SPARE_MEMORY = (0, 1, 3, 6, 12, 24)  # steps over it
 MEMORY_STEP = 1 << 19  # bytes
 NOBODY = 65534
 
@@ -96,13 +97,14 @@ def surroundings(run: Run) -> Iterator[str]:
 
 
 def limits_of_memory(run: Run) -> Iterator[str]:
-    """From the least under which the script prints its help."""
+    """From the least under which the script prints its help, and of the commands also below, where modules can't be loaded."""
     least = MEMORY_STEP * bisect.bisect_left(range(1 << 10), True, key=lambda steps: starts(run, steps * MEMORY_STEP))
-    for step in SPARE_MEMORY:
+    steps = (*LITTLE_MEMORY, *SPARE_MEMORY) if run.script.has_version else SPARE_MEMORY
+    for step in steps:
         found = run.ended("prlimit", f"--as={least + step * MEMORY_STEP}")
         if found != run.usual():
             run.expect_failure(found)
-    yield f"{len(SPARE_MEMORY)} limits of memory from {least >> 20} MB"
+    yield f"{len(steps)} limits of memory around {least >> 20} MB"
 
 
 def starts(run: Run, memory: int) -> bool:

@@ -1,0 +1,104 @@
+"""Runs of warcdx-update that signals end, and runs without room on the disk, streams, memory or an archive."""
+import os
+import pathlib
+import shutil
+import signal
+import subprocess
+import time
+
+from update_trial import SLOW, WAIT, Trial, children_of, expect, until
+
+
+def a_signal_ends_a_run(program: pathlib.Path, folder: pathlib.Path) -> None:
+    """It ends as the signal says, without a word. No program goes on, and nothing is left but the parts that are whole."""
+    trial = Trial(program, folder, SLOW)
+    temporary = folder / "temporary"
+    temporary.mkdir()
+    for number in (signal.SIGINT, signal.SIGTERM):
+        for delay in (0.1, 0.2, 0.4, 0.7, 1.0):
+            shutil.rmtree(trial.parts, ignore_errors=True)
+            work = trial.start("--quiet", "--jobs", "2", env={**os.environ, "TMPDIR": str(temporary)})
+            time.sleep(delay)
+            children = children_of(work.pid)
+            os.kill(work.pid, number)
+            expect("status", work.wait(WAIT), -number)
+            expect("lines", trial.said, [])
+            for child in children:
+                until("the end of the programs", lambda: not os.path.exists(f"/proc/{child}"))
+            expect("temporary files", list(temporary.iterdir()), [])
+            expect("unfinished files", (trial.parts / "unfinished").exists(), False)
+    kept = trial.done
+    trial.forget()
+    expect("status", trial.run(), 1)
+    expect("archives of the last run", {name for _, name in trial.begun} & kept, set())
+    trial.expect_results({"07.warc": 1}, trial.wanted)
+
+
+def a_full_disk_is_reported(program: pathlib.Path, folder: pathlib.Path) -> None:
+    """What doesn't fit isn't in the index, or the index stays as it was. With room, a further run adds the rest."""
+    trial = Trial(program, folder)
+    disk = folder / "disk"
+    disk.mkdir()
+    if subprocess.run(("mount", "-t", "tmpfs", "-o", "size=64k", "tmpfs", disk), stderr=subprocess.DEVNULL).returncode:
+        print("skipped  a full disk: only root can make one")
+        return
+    try:
+        trial.index, trial.parts = disk / "all.cdxj", disk / "all.cdxj.parts"
+        for setting in ({}, {"PYTHONUNBUFFERED": "1"}):
+            expect("status", trial.start(env={**os.environ, **setting}).wait(WAIT), 3)
+            reasons = [line for line in trial.said if "%" not in line and "fault" not in line]
+            expect("reasons", [line for line in reasons if "No space left on device" not in line], [])
+            expect("a reason", len(reasons) > 0, True)
+            expect("tracebacks", "Traceback" in "\n".join(trial.said), False)
+            expect("index", trial.index.exists(), False)
+        subprocess.run(("mount", "-o", "remount,size=64m", disk), check=True)
+        expect("status with room", trial.run(), 1)
+        expect("index", trial.index.read_bytes() == trial.wanted, True)
+        trial.expect_parts()
+    finally:
+        subprocess.run(("umount", disk), check=True)
+
+
+def streams_may_be_closed(program: pathlib.Path, folder: pathlib.Path) -> None:
+    trial = Trial(program, folder)
+    for closed in ("<&-", ">&-", "2>&-", "<&- >&- 2>&-"):
+        for setting in ({}, {"PYTHONUNBUFFERED": "1"}):
+            shell = ("sh", "-c", f'exec "$@" {closed}', "sh", *trial.command())
+            with open(folder / "said", "wb") as said:
+                expect(closed, subprocess.run(shell, stderr=said, env={**os.environ, **setting}).returncode, 1)
+            trial.expect_results({"07.warc": 1}, trial.wanted)
+            shutil.rmtree(trial.parts)
+            trial.index.unlink()
+
+
+def memory_may_be_refused(program: pathlib.Path, folder: pathlib.Path) -> None:
+    """A run fails, or has the whole result. Each one says why, and a run with memory goes on."""
+    trial = Trial(program, folder)
+    statuses = set()
+    for megabytes in range(16, 112, 8):
+        limit = ("prlimit", f"--as={megabytes << 20}", *trial.command("--jobs", "2", "--quiet"))
+        done = subprocess.run(limit, stderr=subprocess.PIPE, stdout=subprocess.DEVNULL)
+        started = b"warcdx" in done.stderr or done.returncode in (0, 1)
+        if not started:  # Python itself had no memory
+            continue
+        statuses.add(done.returncode)
+        expect(f"status with {megabytes} MB", done.returncode in (1, 3), True)
+        expect(f"lines with {megabytes} MB", b"Traceback" in done.stderr, False)
+        expect("unfinished files", (trial.parts / "unfinished").exists(), False)
+    expect("statuses", statuses, {1, 3})
+    expect("status", trial.run(), 1)
+    trial.expect_results({"07.warc": 1}, trial.wanted)
+
+
+def an_archive_that_cannot_be_read_keeps_its_part(program: pathlib.Path, folder: pathlib.Path) -> None:
+    trial = Trial(program, folder)
+    expect("status", trial.run(), 1)
+    (trial.archives / "05.warc").unlink()
+    (trial.archives / "05.warc").symlink_to("nothing")
+    expect("status", trial.run(), 3)
+    trial.expect_results({"05.warc": 3, "07.warc": 1}, trial.wanted)
+    expect("line", "warcdx-update: 05.warc: No such file or directory; the index keeps its captures" in trial.said, True)
+    (trial.archives / "05.warc").unlink()
+    expect("status without the archive", trial.run(), 1)
+    trial.expect_results({"07.warc": 1}, trial.index_of("*.warc"))
+    expect("action", trial.reports["05.warc"]["action"], "removed")
