@@ -96,7 +96,12 @@ class Archive:
             for line in output:
                 if found := pattern.fullmatch(line):
                     yield found[0].decode(), *(group.decode() for group in found.groups())
-                elif found := _FAULT.fullmatch(line):
-                    raise fault(found[2].decode(), self.path, int(found[1]))
-                elif line.endswith(b"\n"):  # otherwise the program was ended in it
-                    raise ProgramError(f"warcdx {command} has written {line!r:.100}")
+                else:
+                    self._expect_end(command, line)
+
+    def _expect_end(self, command: str, line: bytes) -> None:
+        """Raises why a line of a report isn't about a record, unless the program was ended in it."""
+        if found := _FAULT.fullmatch(line):
+            raise fault(found[2].decode(), self.path, int(found[1]))
+        if line.endswith(b"\n"):
+            raise ProgramError(f"warcdx {command} has written {line!r:.100}")

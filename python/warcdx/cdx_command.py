@@ -49,21 +49,33 @@ def read_arguments(arguments: Optional[Sequence[str]]) -> argparse.Namespace:
 
 def to_cdx(given: argparse.Namespace, output: IO[bytes]) -> int:
     files = given.files or [INPUT]
-    with contextlib.ExitStack() as stack:
-        try:
-            for file in files:
-                if file != INPUT:
-                    opened(file).close()
-        except CannotRead as error:
-            report(NAME, f"{printable(file)}: {error}")
+    for file in files:
+        if file != INPUT and not can_open(file):
             return FAILED
-        copy = stack.enter_context(copied_input()) if INPUT in files else ""
-        try:
-            write_cdx([copy if file == INPUT else file for file in files], output, given.warcdx)
-        except Fault as fault:
-            if fault.file == copy:
-                fault.file = INPUT
-            return say(fault)
+    if INPUT not in files:
+        return write_captures(files, output, given.warcdx)
+    with copied_input() as copy:
+        return write_captures([copy if file == INPUT else file for file in files], output, given.warcdx, copy)
+
+
+def can_open(file: str) -> bool:
+    """Reports a file that can't be opened."""
+    try:
+        opened(file).close()
+    except CannotRead as error:
+        report(NAME, f"{printable(file)}: {error}")
+        return False
+    return True
+
+
+def write_captures(files: Sequence[str], output: IO[bytes], program: str, copy: Optional[str] = None) -> int:
+    """Writes the captures of indexes, one of which may be the copy of standard input. Returns the exit status."""
+    try:
+        write_cdx(files, output, program)
+    except Fault as fault:
+        if copy is not None and fault.file == copy:
+            fault.file = INPUT
+        return say(fault)
     return 0
 
 
@@ -95,9 +107,7 @@ def from_cdx(given: argparse.Namespace, output: IO[bytes]) -> int:
 def convert(name: str, program: str, output: IO[bytes]) -> int:
     """Writes the lines of a CDX file, and returns the exit status. Raises Error if the program fails."""
     try:
-        with contextlib.ExitStack() as stack:
-            file = sys.stdin.buffer if name == INPUT else stack.enter_context(opened(name))
-            output.writelines(cdxj_lines(file, program))
+        write_lines(name, program, output)
     except BadRow as bad:
         report(NAME, f"{printable(name)}: {bad}")
         return FAULTY
@@ -105,6 +115,14 @@ def convert(name: str, program: str, output: IO[bytes]) -> int:
         report(NAME, f"{printable(name)}: {error}")
         return FAILED
     return 0
+
+
+def write_lines(name: str, program: str, output: IO[bytes]) -> None:
+    if name == INPUT:
+        output.writelines(cdxj_lines(sys.stdin.buffer, program))
+    else:
+        with opened(name) as file:
+            output.writelines(cdxj_lines(file, program))
 
 
 def opened(name: str) -> IO[bytes]:

@@ -169,10 +169,7 @@ class _StandardError(io.RawIOBase):
         return True
 
     def write(self, data: "bytes | bytearray | memoryview") -> int:  # type: ignore[override]
-        with contextlib.suppress(OSError, MemoryError):
-            left = memoryview(data)
-            while left:
-                left = left[os.write(2, left) :]
+        _write_error(data)
         return len(data)
 
 
@@ -184,9 +181,35 @@ def run(name: str, work: Callable[[BinaryIO], int]) -> int:
     used. INT, TERM and HUP end the process as they do by default, after what `work` has made is removed and its
     programs are ended.
     """
+    no_memory = _message(name, "Memory")
+    try:
+        status, said = _run_on_standard_streams(name, work)
+    except (MemoryError, SystemError):  # SystemError: Python's own code had no memory for an exception
+        status, said = FAILED, no_memory
+    # What the exceptions held is free, so that there is memory to say so.
+    _write_error(said)
+    _signals.end()
+    return status
+
+
+def _run_on_standard_streams(name: str, work: Callable[[BinaryIO], int]) -> tuple[int, bytes]:
+    """Returns the exit status, and what is to be written to standard error."""
     _open_closed_streams()
     _signals.catch()
     threading.excepthook = _end_of_thread
+    output = _replace_standard_streams()
+    try:
+        return _work_and_flush(work, output), b""
+    except Ended:
+        return FAILED, b""
+    except (OSError, RuntimeError) as error:
+        return FAILED, _message(name, _failure_of(error))
+    finally:
+        _close(output)
+
+
+def _replace_standard_streams() -> io.BufferedWriter:
+    """Returns standard output."""
     # Unbuffered, a file of Python writes a part of what it is given. This one writes all of it.
     output = io.BufferedWriter(_StandardOutput(1, "wb", closefd=False), _BUFFER)
     if sys.stdin is None:  # it was closed
@@ -194,34 +217,35 @@ def run(name: str, work: Callable[[BinaryIO], int]) -> int:
     sys.stdout = io.TextIOWrapper(output, "utf-8", "surrogateescape", "\n", write_through=True)
     errors = io.BufferedWriter(_StandardError())
     sys.stderr = io.TextIOWrapper(errors, "utf-8", "backslashreplace", "\n", line_buffering=True)
-    try:
-        with _signals.raising():
-            try:
-                status = work(output)
-            except SystemExit as end:
-                status = end.code if isinstance(end.code, int) else 0
-            output.flush()
-    except Ended:
-        status = FAILED
-    except OutputError as error:
-        report(name, f"Write: {error.strerror}")
-        status = FAILED
-    except OSError as error:
-        report(name, reason_of(error))
-        status = FAILED
-    except MemoryError:
-        report(name, "Memory")
-        status = FAILED
-    except RuntimeError as error:
-        if str(error) != NO_THREAD:
-            raise
-        report(name, "Memory")
-        status = FAILED
-    with contextlib.suppress(OSError, ValueError, MemoryError):  # what couldn't be written isn't written again
+    return output
+
+
+def _work_and_flush(work: Callable[[BinaryIO], int], output: io.BufferedWriter) -> int:
+    with _signals.raising():
+        try:
+            status = work(output)
+        except SystemExit as end:
+            status = end.code if isinstance(end.code, int) else 0
+        output.flush()
+    return status
+
+
+def _failure_of(error: "OSError | RuntimeError") -> str:
+    """Returns why a command has failed. Raises an error of its code."""
+    if isinstance(error, OutputError):
+        return f"Write: {error.strerror}"
+    if isinstance(error, OSError):
+        return reason_of(error)
+    if str(error) == NO_THREAD:
+        return "Memory"
+    raise error
+
+
+def _close(output: io.BufferedWriter) -> None:
+    """Closes standard output. What couldn't be written isn't written again."""
+    with contextlib.suppress(OSError, ValueError, MemoryError):
         output.raw.close()
         output.close()
-    _signals.end()
-    return status
 
 
 _usual_end_of_thread = threading.excepthook
@@ -260,7 +284,19 @@ def _open_closed_streams() -> None:
 
 def report(name: str, text: str) -> None:
     """Writes a line to standard error, if that is possible."""
-    _StandardError().write(f"{name}: {text}\n".encode(errors="surrogateescape"))
+    _write_error(_message(name, text))
+
+
+def _message(name: str, text: str) -> bytes:
+    return f"{name}: {text}\n".encode(errors="surrogateescape")
+
+
+def _write_error(data: "bytes | bytearray | memoryview") -> None:
+    try:
+        while data:
+            data = data[os.write(2, data) :]
+    except (OSError, MemoryError):
+        pass
 
 
 def printable(text: str) -> str:

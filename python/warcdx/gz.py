@@ -17,13 +17,13 @@ from typing import IO, NoReturn, Optional, Union
 
 from .archive import Archive, Listed, Verified
 from .command import temporary_file
-from .errors import Fault, error_of, fault
+from .errors import Fault, fault
 from .faults import BadName, CannotOpen, Closing, NoMember, NoRecord, NotCompressed, Read
 from .faults import SeveralMembers, SeveralRecords, ShortBlock, ShortHead
 from .feeding import BATCH, Run, fed
 from .members import MAGIC, MOST_TEXT, Member, Members, Piece
 from .places import Places
-from .program import Path, close, find_program, started
+from .program import Path, close, fault_of, find_program, started
 from .record import HEAD_LIMIT, Record, RecordStream, Unreadable, size_of_record
 
 MOST_NAME = 255  # bytes
@@ -56,32 +56,47 @@ class CompressedArchive:
 
         If the archive is at fault, the captures before the fault are written first.
         """
-        shown = os.path.basename(self.path) if name is None else name
-        if not 1 <= len(shown.encode(errors="surrogateescape")) <= MOST_NAME:
-            raise BadName("BadName", self.path)
+        shown = self._checked_name(os.path.basename(self.path) if name is None else name)
         command = (self._program, "index", *(("--types", types) if types else ()), "-")
-        places, found = Places(), None
-        with self.open() as file, temporary_file() as lines, temporary_file() as said:
-            with started(command, said, subprocess.PIPE, lines, BATCH) as process:
-                assert process.stdin is not None
-                try:
-                    self._index_members(file, process.stdin, places)
-                except Fault as error:
-                    found = error
-                close(process.stdin)
-                status = process.wait()
-            said.seek(0)
-            reported = error_of(status, said.read().decode(errors="surrogateescape")) if status else None
-            if reported is not None and not (isinstance(reported, Fault) and reported.offset is not None):
-                raise reported
+        places = Places()
+        with self.open() as file, temporary_file() as lines:
+            damage, reported = self._index_members(command, file, lines, places)
             lines.seek(0)
             places.write(lines, output, shown)
-        if isinstance(reported, Fault) and (place := places.find(reported.offset or 0)) is not None:
-            raise fault(reported.name, self.path, place[0])
-        if found is not None:
-            raise found
         if reported is not None:
-            raise Unreadable(f"{self.path}: {reported.name}, at no member that the package has read")
+            raise self._fault_of_member(reported, places) or damage or self._elsewhere(reported)
+        if damage is not None:
+            raise damage
+
+    def _checked_name(self, name: str) -> str:
+        if not 1 <= len(name.encode(errors="surrogateescape")) <= MOST_NAME:
+            raise BadName("BadName", self.path)
+        return name
+
+    def _fault_of_member(self, reported: Fault, places: Places) -> Optional[Fault]:
+        """Returns what the program has reported, at the offset of the member in the compressed file."""
+        place = places.find(reported.offset or 0)
+        return None if place is None else fault(reported.name, self.path, place[0])
+
+    def _elsewhere(self, reported: Fault) -> Unreadable:
+        return Unreadable(f"{self.path}: {reported.name}, at no member that the package has read")
+
+    def _index_members(
+        self, command: tuple[str, ...], file: IO[bytes], lines: IO[bytes], places: Places
+    ) -> tuple[Optional[Fault], Optional[Fault]]:
+        """Writes the lines that the program makes of members, and adds their places.
+
+        Returns the fault at which the members end, and that which the program has reported. Raises its other errors.
+        """
+        with temporary_file() as said, started(command, said, subprocess.PIPE, lines, BATCH) as process:
+            assert process.stdin is not None
+            damage = None
+            try:
+                self._write_members(file, process.stdin, places)
+            except Fault as found:
+                damage = found
+            close(process.stdin)
+            return damage, fault_of(process, said)
 
     def get(self, offset: int, *, length: Optional[int] = None) -> Record:
         """Returns the record of the member that begins at an offset of the compressed file. Raises as `copy` does."""
@@ -179,7 +194,7 @@ class CompressedArchive:
         with self._reading(command) as reading:
             yield from reading.records()
 
-    def _index_members(self, file: IO[bytes], output: IO[bytes], places: Places) -> None:
+    def _write_members(self, file: IO[bytes], output: IO[bytes], places: Places) -> None:
         """Writes what the members hold, and adds those that are one whole record each.
 
         Raises a Fault at another one.
@@ -214,21 +229,24 @@ class CompressedArchive:
         """
         members = Members(file, self.path, offset)
         with fed((self._program, command, "-"), _first_record(members.one(offset))) as run:
-            first, second = run.line(), run.line()
-            if first is None:
-                if run.fault is None and run.status() in GOOD:
-                    raise NoRecord("NoRecord", self.path)
-                raise run.fault or run.error()
-            if first.is_fault:
-                run.skip(sys.maxsize)
-                raise run.fault or fault(first.said.decode(), self.path, offset)
-            if second is not None:
-                run.skip(MOST_TEXT)
-                raise run.fault or SeveralRecords("SeveralRecords", self.path, offset)
-            if run.status() not in GOOD:
-                raise run.error()
-            if run.fault is not None:
-                raise run.fault
+            return self._said_of_one(run, offset)
+
+    def _said_of_one(self, run: Run, offset: int) -> bytes:
+        first, second = run.line(), run.line()
+        if first is None:
+            if run.fault is None and run.status() in GOOD:
+                raise NoRecord("NoRecord", self.path)
+            raise run.fault or run.error()
+        if first.is_fault:
+            run.skip(sys.maxsize)
+            raise run.fault or fault(first.said.decode(), self.path, offset)
+        if second is not None:
+            run.skip(MOST_TEXT)
+            raise run.fault or SeveralRecords("SeveralRecords", self.path, offset)
+        if run.status() not in GOOD:
+            raise run.error()
+        if run.fault is not None:
+            raise run.fault
         return first.said
 
     def refuse(self, file: IO[bytes], offset: int) -> NoReturn:
@@ -237,11 +255,14 @@ class CompressedArchive:
             self._one("list", file, offset)
             raise Unreadable(f"the member at {offset} is one record whose head the package can't read")
         with fed((self._program, "list", "-"), Members(file, self.path, offset).all()) as run:
-            first = run.line()
-            if first is None:
-                raise run.error()
-            if first.is_fault:
-                raise fault(first.said.decode(), self.path, offset)
+            self._refuse_first(run, offset)
+
+    def _refuse_first(self, run: Run, offset: int) -> NoReturn:
+        first = run.line()
+        if first is None:
+            raise run.error()
+        if first.is_fault:
+            raise fault(first.said.decode(), self.path, offset)
         raise SeveralMembers("SeveralMembers", self.path, offset)
 
 

@@ -101,26 +101,47 @@ def index(given: argparse.Namespace, output: IO[bytes]) -> int:
         except Fault as fault:
             return say(fault)
         return 0
-    status, names, parts = 0, set(), []
     with temporary_folder() as folder:
-        for number, file in enumerate(given.files):
-            name = os.path.basename(file)
-            if name in names:
-                status = max(status, say(DuplicateName("DuplicateName", file)))
-                continue
-            names.add(name)
-            parts.append(pathlib.Path(folder, str(number)))
-            try:
-                with open(parts[-1], "wb") as part:
-                    index_one(given, file, part)
-            except Fault as fault:
-                if fault.file is None:  # the program failed, and not the archive
-                    raise
-                status = max(status, say(fault))
-                if isinstance(fault, CannotOpen):
-                    names.remove(name)
-        merge(parts, output, program=given.warcdx)
-    return status
+        parts = Parts(given, folder)
+        for file in given.files:
+            parts.add(file)
+        merge(parts.files, output, program=given.warcdx)
+    return parts.status
+
+
+class Parts:
+    """The indexes of archives, as files of a folder, and the largest exit status of an archive."""
+
+    def __init__(self, given: argparse.Namespace, folder: pathlib.Path) -> None:
+        self.files: list[pathlib.Path] = []
+        self.status = 0
+        self._given = given
+        self._folder = folder
+        self._names: set[str] = set()
+
+    def add(self, file: str) -> None:
+        """Indexes an archive, unless one of its name was indexed. Reports a fault of it."""
+        name = os.path.basename(file)
+        if name in self._names:
+            self._say(DuplicateName("DuplicateName", file))
+            return
+        self._names.add(name)
+        try:
+            self._index(file)
+        except Fault as fault:
+            if fault.file is None:  # the program failed, and not the archive
+                raise
+            self._say(fault)
+            if isinstance(fault, CannotOpen):
+                self._names.remove(name)
+
+    def _index(self, file: str) -> None:
+        self.files.append(self._folder / str(len(self.files)))
+        with open(self.files[-1], "wb") as part:
+            index_one(self._given, file, part)
+
+    def _say(self, fault: Fault) -> None:
+        self.status = max(self.status, say(fault))
 
 
 def index_one(given: argparse.Namespace, file: str, output: IO[bytes]) -> None:
@@ -137,24 +158,43 @@ def report(given: argparse.Namespace, output: IO[bytes]) -> int:
     status = 0
     for file in given.files:
         heading = os.fsencode(f"{file}:\n") if len(given.files) > 1 else b""
-        try:
-            archive = open_archive(file, program=given.warcdx)
-            lines = listed(archive) if given.command == "list" else verified(archive)
-            with contextlib.closing(lines):
-                for line in lines:
-                    output.write(heading + line)
-                    heading = b""
-                    if line.endswith(b" differs\n"):
-                        status = max(status, FAULTY)
-            output.write(heading)
-        except Fault as fault:
-            if fault.file is None:
-                raise
-            if fault.offset is None:
-                status = max(status, say(fault))
-            else:
-                output.write(heading + b"fault %d %s\n" % (fault.offset, fault.name.encode()))
-                status = max(status, status_of(fault))
+        status = max(status, report_one(given, file, Headed(output, heading)))
+    return status
+
+
+class Headed:
+    """An output of lines, with a heading before the first one."""
+
+    def __init__(self, output: IO[bytes], heading: bytes) -> None:
+        self._output = output
+        self._heading = heading
+
+    def write(self, line: bytes) -> None:
+        self._output.write(self._heading + line)
+        self._heading = b""
+
+
+def report_one(given: argparse.Namespace, file: str, output: Headed) -> int:
+    try:
+        return report_records(given, file, output)
+    except Fault as fault:
+        if fault.file is None:
+            raise
+        if fault.offset is None:
+            return say(fault)
+        output.write(b"fault %d %s\n" % (fault.offset, fault.name.encode()))
+        return status_of(fault)
+
+
+def report_records(given: argparse.Namespace, file: str, output: Headed) -> int:
+    status = 0
+    archive = open_archive(file, program=given.warcdx)
+    with contextlib.closing(listed(archive) if given.command == "list" else verified(archive)) as lines:
+        for line in lines:
+            output.write(line)
+            if line.endswith(b" differs\n"):
+                status = FAULTY
+    output.write(b"")  # the heading of an archive without records
     return status
 
 

@@ -160,14 +160,16 @@ class Index:
     def piece(self, pieces: Pieces) -> bytes:
         """Returns the next piece of a page, which may be empty."""
         while (asked := pieces.next_query()) is not None:
-            most = self.most if pieces.is_bounded else None
-            line = asked.encode(errors="surrogateescape")
             try:
-                with _naming_parameters(Query.of(asked, {})), self._serve() as serve:
-                    return pieces.add(serve.text(line, pieces.is_json, self.seconds, most))
+                return pieces.add(self._text_of(asked, pieces))
             except ReplyTooLong:
                 pieces.shrink()
         return b""
+
+    def _text_of(self, asked: str, pieces: Pieces) -> bytes:
+        most = self.most if pieces.is_bounded else None
+        with _naming_parameters(Query.of(asked, {})), self._serve() as serve:
+            return serve.text(asked.encode(errors="surrogateescape"), pieces.is_json, self.seconds, most)
 
     def close(self) -> None:
         """Ends the processes, after the queries that are being answered. A second call does nothing."""

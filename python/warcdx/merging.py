@@ -17,12 +17,15 @@ def merge(indexes: Sequence[Path], output: IO[bytes], *, program: str = "warcdx"
             write_output(output, find_program(program), "merge", *map(operand, indexes))
         return
     with temporary_folder() as folder:
-        groups: list[pathlib.Path] = []
-        for start in range(0, len(indexes), MOST):
-            groups.append(folder / str(start))
-            with open(groups[-1], "wb") as group:
-                merge(indexes[start : start + MOST], group, program=program)
+        starts = range(0, len(indexes), MOST)
+        groups = [_merge_group(indexes[start : start + MOST], folder / str(start), program) for start in starts]
         merge(groups, output, program=program)
+
+
+def _merge_group(indexes: Sequence[Path], path: pathlib.Path, program: str) -> pathlib.Path:
+    with open(path, "wb") as group:
+        merge(indexes, group, program=program)
+    return path
 
 
 def write_output(output: IO[bytes], *command: str) -> None:

@@ -286,13 +286,19 @@ def read_arguments(arguments: Optional[Sequence[str]]) -> argparse.Namespace:
     if given.output is not None:
         if not given.output.endswith(FORMATS):
             parser.error(f"FILE ends with {' or '.join(FORMATS)}")
-        try:
-            import matplotlib  # noqa: F401
-        except ImportError:
+        if not can_draw():
             parser.error("the module matplotlib is missing (Debian's package python3-matplotlib)")
     if given.title is None:
         given.title = TITLES[given.kind] + ("" if given.query == counting.ALL else f": {given.query}")
     return given
+
+
+def can_draw() -> bool:
+    try:
+        import matplotlib  # noqa: F401
+    except ImportError:
+        return False
+    return True
 
 
 def run(given: argparse.Namespace) -> int:

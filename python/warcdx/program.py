@@ -13,7 +13,7 @@ from collections.abc import Callable, Iterator
 from typing import IO, Optional, Union
 
 from .command import deferred, temporary_file
-from .errors import Error, ProgramMissing, ProgramTooOld, error_of
+from .errors import Error, Fault, ProgramMissing, ProgramTooOld, error_of
 
 Path = Union[str, os.PathLike[str]]
 
@@ -116,12 +116,16 @@ def started(
         yield process
     finally:
         if process is not None:
-            with deferred():
-                process.kill()
-                process.wait()
-                for pipe in (process.stdin, process.stdout):
-                    if pipe is not None:
-                        close(pipe)
+            _end(process)
+
+
+def _end(process: subprocess.Popen[bytes]) -> None:
+    with deferred():
+        process.kill()
+        process.wait()
+        for pipe in (process.stdin, process.stdout):
+            if pipe is not None:
+                close(pipe)
 
 
 def close(pipe: IO[bytes]) -> None:
@@ -135,6 +139,19 @@ def end_of(process: subprocess.Popen[bytes], said: IO[bytes]) -> Error:
     status = process.wait()
     said.seek(0)
     return error_of(status, said.read().decode(errors="surrogateescape"))
+
+
+def fault_of(process: subprocess.Popen[bytes], said: IO[bytes]) -> Optional[Fault]:
+    """Waits for the program to end, and returns the fault of its input that it has reported, if any.
+
+    Raises what else it has reported.
+    """
+    if not process.wait():
+        return None
+    reported = end_of(process, said)
+    if isinstance(reported, Fault) and reported.offset is not None:
+        return reported
+    raise reported
 
 
 @contextlib.contextmanager

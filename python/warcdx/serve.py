@@ -95,25 +95,32 @@ class Serve:
             raise
 
     def _pieces(self, query: bytes, is_json: bool, seconds: Optional[float]) -> Generator[bytes, None, None]:
-        process, held, is_first = self._running(), bytearray(), True
+        process, held = self._running(), bytearray()
         try:
-            limit = _limit(seconds)
-            self._ask(process, query + b"\n\n", limit)
-            while not is_whole(held, END):
-                if len(held) > TAIL:
-                    yield bytes(held[:-TAIL])
-                    del held[:-TAIL]
-                    is_first, limit = False, _limit(seconds)
-                held += self._read(process, limit)
+            is_short = yield from self._longer_pieces(process, query, held, seconds)
         except BaseException:
             process.kill()
             self._forget(process).wait()
             raise
         last = bytes(held[: -len(END)])
-        refusal = refusal_of(last) if is_first else None
+        refusal = refusal_of(last) if is_short else None
         if refusal is not None and self._reply(query + NOTHING + b"\n\n", END, seconds, None) == last:
             raise refusal
         yield text_of(last, is_json, self._indexes)
+
+    def _longer_pieces(
+        self, process: subprocess.Popen[bytes], query: bytes, held: bytearray, seconds: Optional[float]
+    ) -> Generator[bytes, None, bool]:
+        """Asks, and yields the reply but for its end, which is left in `held`. Returns whether it has nothing else."""
+        is_short, limit = True, _limit(seconds)
+        self._ask(process, query + b"\n\n", limit)
+        while not is_whole(held, END):
+            if len(held) > TAIL:
+                yield bytes(held[:-TAIL])
+                del held[:-TAIL]
+                is_short, limit = False, _limit(seconds)
+            held += self._read(process, limit)
+        return is_short
 
     def _exchange(
         self, process: subprocess.Popen[bytes], asked: bytes, end: bytes, limit: Optional[float], most: Optional[int]

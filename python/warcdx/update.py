@@ -5,7 +5,7 @@ import os
 import re
 import subprocess
 import threading
-from collections.abc import Callable, Iterator, Sequence
+from collections.abc import Callable, Iterator, Mapping, Sequence
 from concurrent.futures import CancelledError, Executor, Future, ThreadPoolExecutor, as_completed
 from enum import Enum
 from typing import Any, NamedTuple, Optional, Protocol, Union
@@ -191,15 +191,22 @@ class Update:
         os.scandir(self._folder).close()  # so that nothing is made for a folder that can't be read
         self._expect_replaceable()
         with self._results.locked():
-            found = find_archives(self._folder, recursive)
-            plan = self._results.plan(found)
-            with self._results.open(plan):
-                reports, failure = list(self._reports_of_others(found, plan)), None
-                if plan.new or not self._is_current():
-                    with self._open_workers() as workers:
-                        reports += self._index(workers, plan.new)
-                        failure = self._try_to_merge(workers)
-        return Outcome(sorted(reports, key=lambda report: report.archive), failure)
+            return self._run_alone(recursive)
+
+    def _run_alone(self, recursive: bool) -> Outcome:
+        found = find_archives(self._folder, recursive)
+        plan = self._results.plan(found)
+        with self._results.open(plan):
+            others = list(self._reports_of_others(found, plan))
+            reports, failure = self._carry_out(plan)
+        return Outcome(sorted(others + reports, key=lambda report: report.archive), failure)
+
+    def _carry_out(self, plan: Plan) -> tuple[list[Report], Optional[str]]:
+        """Indexes what is new, and makes the index of all. Returns a report on each new archive, and why there is no index."""
+        if not plan.new and self._is_current():
+            return [], None
+        with self._open_workers() as workers:
+            return list(self._index(workers, plan.new)), self._try_to_merge(workers)
 
     def _expect_replaceable(self) -> None:
         """Raises CannotUpdate if the index would replace what is neither an index nor the result of an earlier update."""
@@ -233,9 +240,13 @@ class Update:
             if not archive.is_text:
                 yield self._failure(archive, "the name isn't UTF-8")
         places = (self._folder, str(self._results.unfinished))
-        tasks = {
-            Task(index_archive, (*self._programs, *places, archive.name)): archive for archive in archives if archive.is_text
-        }
+        yield from self._run(
+            workers,
+            {Task(index_archive, (*self._programs, *places, archive.name)): archive for archive in archives if archive.is_text},
+        )
+
+    def _run(self, workers: Workers, tasks: Mapping[Task, Archive]) -> Iterator[Report]:
+        """Indexes archives by these tasks. Yields a report on each."""
         self._progress.begin(len(tasks), sum(archive.size for archive in tasks.values()))
         try:
             for task, outcome in workers.run(list(tasks)):

@@ -24,14 +24,14 @@ import os
 import re
 import sys
 from collections import Counter
-from collections.abc import Iterator, Sequence
+from collections.abc import Callable, Iterator, Sequence
 from typing import Any, BinaryIO, Optional
 
 from . import __version__, update_task
 from .command import FAILED, Parser, printable, report, run
 from .errors import Error
 from .program import find_program
-from .update import Action, CannotUpdate, Programs, Progress, Report, Update, Workers, local_workers
+from .update import Action, CannotUpdate, Outcome, Programs, Progress, Report, Update, Workers, local_workers
 from .update_folder import find_archives
 from .update_results import Locked, Results
 
@@ -173,17 +173,24 @@ def update(given: argparse.Namespace, output: BinaryIO) -> int:
     if given.dry_run:
         print_plan(given, results, output)
         return 0
-    open_workers = (
-        functools.partial(cluster_workers, given.scheduler)
-        if given.scheduler
-        else functools.partial(local_workers, given.jobs)
-    )
-    with contextlib.ExitStack() as stack:
-        file = stack.enter_context(open(given.report, "w", encoding="ascii")) if given.report else None
-        work = Update(given.folder, results, programs_of(given), open_workers, progress_of(given))
-        reports, failure = work.run(given.recursive)
-        if file is not None:
-            file.writelines(json.dumps(each.values()) + "\n" for each in reports)
+    work = Update(given.folder, results, programs_of(given), workers_of(given), progress_of(given))
+    if not given.report:
+        return say(given, work.run(given.recursive))
+    with open(given.report, "w", encoding="ascii") as file:
+        outcome = work.run(given.recursive)
+        file.writelines(json.dumps(each.values()) + "\n" for each in outcome.reports)
+    return say(given, outcome)
+
+
+def workers_of(given: argparse.Namespace) -> Callable[[], contextlib.AbstractContextManager[Workers]]:
+    if given.scheduler:
+        return functools.partial(cluster_workers, given.scheduler)
+    return functools.partial(local_workers, given.jobs)
+
+
+def say(given: argparse.Namespace, outcome: Outcome) -> int:
+    """Reports what was done, and returns the exit status."""
+    reports, failure = outcome
     for each in reports:
         if each.status:
             report(NAME, f"{printable(each.archive)}: {printable(each.message)}{CONSEQUENCES.get(each.action, '')}")

@@ -84,17 +84,23 @@ class Results:
 
         What a worker of an earlier run still writes is in a folder that is no more.
         """
-        removed = set(plan.removed)
         try:
             self._remove_unfinished()
-            self.log.start([name for name, part in self.log.parts.items() if name not in removed and self._has(part)])
+            self.log.start(self._names_kept(plan))
             self.unfinished.mkdir()
             yield
         finally:
-            with deferred():
-                self.log.close()
-                self._remove_unfinished()
-                self._remove_others()
+            self._close()
+
+    def _close(self) -> None:
+        with deferred():
+            self.log.close()
+            self._remove_unfinished()
+            self._remove_others()
+
+    def _names_kept(self, plan: Plan) -> list[str]:
+        removed = set(plan.removed)
+        return [name for name, part in self.log.parts.items() if name not in removed and self._has(part)]
 
     def keep(self, archive: str, made: Indexed) -> None:
         """Makes what a task has made the part of an archive. Only here is a part put into the folder."""

@@ -64,20 +64,34 @@ def index_archive(
     part = os.path.join(output, uuid.uuid4().hex)
     state = state_of(path)
     try:
-        with open(path, "rb") as file:
-            program = compressed if file.read(len(_GZIP)) == _GZIP else plain
-        status, said = _write_part((*program, "index", f"./{name}"), folder, name, part, start)
-        if status not in (0, FAULT):
-            raise Failed(said or f"{program[0]} has ended with status {status}")
+        program = compressed if _is_compressed(path) else plain
+        status, said = _write_successfully((*program, "index", f"./{name}"), folder, name, part, start)
         captures = _write_counts(plain, part, start)
         if state_of(path) != state:
             raise Failed("the archive was changed while it was indexed")
         return state, status, said, part, os.path.getsize(part), captures
     except BaseException:
-        for each in (part, f"{part}.json"):
-            with contextlib.suppress(OSError):
-                os.remove(each)
+        _remove(part)
+        _remove(f"{part}.json")
         raise
+
+
+def _write_successfully(command: Sequence[str], folder: str, name: str, part: str, start: Start) -> tuple[int, str]:
+    """Writes a part as _write_part does. Raises Failed if the program fails."""
+    status, said = _write_part(command, folder, name, part, start)
+    if status not in (0, FAULT):
+        raise Failed(said or f"{command[0]} has ended with status {status}")
+    return status, said
+
+
+def _is_compressed(path: str) -> bool:
+    with open(path, "rb") as file:
+        return file.read(len(_GZIP)) == _GZIP
+
+
+def _remove(path: str) -> None:
+    with contextlib.suppress(OSError):
+        os.remove(path)
 
 
 def _write_part(command: Sequence[str], folder: str, name: str, part: str, start: Start) -> tuple[int, str]:
@@ -87,12 +101,17 @@ def _write_part(command: Sequence[str], folder: str, name: str, part: str, start
         with _running(command, folder, start, output if base == name else subprocess.PIPE) as (process, said):
             if process.stdout is not None:
                 _write_renamed(process.stdout, output, base, name)
-            status = process.wait()
-            if status not in (0, FAULT):
-                _expect_room(output)
-            output.flush()
-            os.fsync(output.fileno())
-            return status, _text_of(said)
+            return _status_of(process, output), _text_of(said)
+
+
+def _status_of(process: "subprocess.Popen[bytes]", output: IO[bytes]) -> int:
+    """Waits for a program to end, and returns its status. Its output is on the disk."""
+    status = process.wait()
+    if status not in (0, FAULT):
+        _expect_room(output)
+    output.flush()
+    os.fsync(output.fileno())
+    return status
 
 
 def _write_renamed(lines: IO[bytes], output: IO[bytes], old_name: str, new_name: str) -> None:
@@ -111,27 +130,34 @@ def _tail_of(name: str) -> bytes:
 def _write_counts(program: Sequence[str], part: str, start: Start) -> int:
     """Counts the captures of an index, by host, year, type and status, writes the counts, and returns how many there are."""
     counts: dict[str, Counter[bytes]] = {name: Counter() for name in COUNTED}
-    captures = 0
     folder, name = os.path.split(part)
     with _running((*program, "query", _EACH, name), folder, start) as (process, said):
         assert process.stdout is not None
-        for lines in _whole_lines(process.stdout):
-            values = lines[:-1].replace(b"\n", b" ").split(b" ")
-            keys, timestamps, types, statuses = (values[field::4] for field in range(4))
-            captures += len(keys)
-            _add_hosts(counts["hosts"], keys)
-            counts["years"].update(map(_YEAR, timestamps))
-            counts["types"].update(types)
-            counts["statuses"].update(statuses)
+        captures = sum(_add_captures(counts, lines) for lines in _whole_lines(process.stdout))
         _expect_success(process, said)
     found: dict[str, Any] = {"captures": captures}
     for field, counter in counts.items():
         found[field] = {value.decode(errors="replace"): count for value, count in counter.items()}
-    with open(f"{part}.json", "x", encoding="utf-8") as output:
-        output.write(json.dumps(found, ensure_ascii=False))
+    _write_text(f"{part}.json", json.dumps(found, ensure_ascii=False))
+    return captures
+
+
+def _add_captures(counts: "dict[str, Counter[bytes]]", lines: bytes) -> int:
+    """Counts the captures of lines, and returns how many there are."""
+    values = lines[:-1].replace(b"\n", b" ").split(b" ")
+    keys, timestamps, types, statuses = (values[field::4] for field in range(4))
+    _add_hosts(counts["hosts"], keys)
+    counts["years"].update(map(_YEAR, timestamps))
+    counts["types"].update(types)
+    counts["statuses"].update(statuses)
+    return len(keys)
+
+
+def _write_text(path: str, text: str) -> None:
+    with open(path, "x", encoding="utf-8") as output:
+        output.write(text)
         output.flush()
         os.fsync(output.fileno())
-    return captures
 
 
 def _add_hosts(hosts: "Counter[bytes]", keys: Sequence[bytes]) -> None:
@@ -164,11 +190,15 @@ def merge_parts(
         os.remove(path)  # of an earlier try
     with open(path, "xb") as file:
         if parts:
-            with _running((*program, "merge", *parts), folder, start, file) as (process, said):
-                if process.wait():
-                    _expect_room(file)
-                _expect_success(process, said)
+            _write_merged((*program, "merge", *parts), folder, file, start)
         os.fsync(file.fileno())
+
+
+def _write_merged(command: Sequence[str], folder: str, file: IO[bytes], start: Start) -> None:
+    with _running(command, folder, start, file) as (process, said):
+        if process.wait():
+            _expect_room(file)
+        _expect_success(process, said)
 
 
 def check_index(program: Sequence[str], folder: str, name: str, start: Start = subprocess.Popen) -> int:
@@ -205,11 +235,15 @@ def _running(
         try:
             yield process, said
         finally:
-            if process.stdout is not None:
-                process.stdout.close()
-            if process.poll() is None:
-                process.kill()
-            process.wait()
+            _end(process)
+
+
+def _end(process: "subprocess.Popen[bytes]") -> None:
+    if process.stdout is not None:
+        process.stdout.close()
+    if process.poll() is None:
+        process.kill()
+    process.wait()
 
 
 def _whole_lines(pipe: IO[bytes]) -> Iterator[bytes]:

@@ -1,13 +1,13 @@
 """URL keys of many URLs, as `warcdx index` makes them."""
+import contextlib
 import re
 import subprocess
-from collections.abc import Iterator, Sequence
-from typing import NamedTuple
+from collections.abc import Iterable, Iterator, Sequence
+from typing import IO, NamedTuple
 
 from .codings import Unreadable
 from .command import temporary_file
-from .errors import Fault, error_of
-from .program import close, started
+from .program import close, fault_of, started
 
 MOST_URL = 1 << 20  # bytes: the program refuses the head of a record that is longer
 _HEAD = (
@@ -33,29 +33,34 @@ def keys_of(program: str, urls: Sequence[bytes]) -> Iterator[Keyed]:
 
     No URL has a line feed. The program reads the URLs as the targets of records. Raises Error if it fails.
     """
-    found: dict[int, Keyed] = {}
-    with temporary_file() as said, temporary_file() as lines:
-        with started((program, "index", "-"), said, subprocess.PIPE, lines) as process:
-            assert process.stdin is not None
-            try:
-                process.stdin.writelines(_HEAD + url + _END for url in urls)
-            except BrokenPipeError:  # the program has ended at a fault
-                pass
-            close(process.stdin)
-            status = process.wait()
-        said.seek(0)
-        reported = error_of(status, said.read().decode(errors="surrogateescape")) if status else None
-        if reported is not None and not (isinstance(reported, Fault) and reported.offset is not None):
-            raise reported
+    with temporary_file() as lines:
+        _index(program, urls, lines)
         lines.seek(0)
-        for line in lines:
-            parts = _LINE.fullmatch(line)
-            if parts is None:
-                raise Unreadable("the program has written no line of an index")
-            found[int(parts[3])] = Keyed(parts[1], parts[2])
+        found = _keyed_by_offset(lines)
     offset = 0
     for url in urls:
         if offset not in found:
             return
         yield found[offset]
         offset += len(_HEAD) + len(url) + len(_END)
+
+
+def _index(program: str, urls: Sequence[bytes], lines: IO[bytes]) -> None:
+    """Writes the lines of an archive with a record for each URL, up to the first one that the program can't index."""
+    with temporary_file() as said, started((program, "index", "-"), said, subprocess.PIPE, lines) as process:
+        assert process.stdin is not None
+        with contextlib.suppress(BrokenPipeError):  # the program has ended at a fault
+            process.stdin.writelines(_HEAD + url + _END for url in urls)
+        close(process.stdin)
+        fault_of(process, said)
+
+
+def _keyed_by_offset(lines: Iterable[bytes]) -> dict[int, Keyed]:
+    """Returns the URLs of lines, by the offsets of their records."""
+    found: dict[int, Keyed] = {}
+    for line in lines:
+        parts = _LINE.fullmatch(line)
+        if parts is None:
+            raise Unreadable("the program has written no line of an index")
+        found[int(parts[3])] = Keyed(parts[1], parts[2])
+    return found

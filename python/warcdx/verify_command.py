@@ -28,13 +28,14 @@ import functools
 import os
 import re
 from collections.abc import Sequence
-from typing import BinaryIO, Optional
+from typing import BinaryIO, Optional, Union
 
 from . import __version__
+from .archive import Archive
 from .command import FAILED, Parser, printable, report, run
 from .errors import Error, Fault
 from .faults import CannotFlush, CannotOpen, Input, Memory, Read, Write
-from .gz import open_archive
+from .gz import CompressedArchive, open_archive
 from .record_digests import Verdict
 from .verifying import check_archive
 from .workers import failure, run_in_order
@@ -64,28 +65,38 @@ def _jobs_of(text: str) -> int:
 
 def check(file: str, program: str, has_heading: bool, output: BinaryIO) -> int:
     """Prints the records of an archive, and returns the exit status. Raises an Error if the program fails."""
-    status, is_checked = 0, False
     try:
         archive = open_archive(file, program=program)
         if has_heading:
             output.write(os.fsencode(f"{file}:\n"))
-        with contextlib.closing(check_archive(archive)) as records:
-            for record in records:
-                verdicts = (record.block, record.payload)
-                output.write(f"{record.offset} {record.block.value} {record.payload.value}\n".encode())
-                is_checked = is_checked or any(verdict.is_compared for verdict in verdicts)
-                if Verdict.DIFFERS in verdicts:
-                    status = FAULTY
+        return print_archive(file, archive, output)
+    except Fault as error:
+        report(NAME, _line_of(error))
+        return _status_of(error)
+
+
+def print_archive(file: str, archive: Union[Archive, CompressedArchive], output: BinaryIO) -> int:
+    """Prints the records of an archive, and the fault of a damaged one. Raises a fault that has no offset."""
+    status, found = 0, set[Verdict]()
+    try:
+        print_records(archive, output, found)
     except Fault as error:
         if error.offset is None:
-            report(NAME, _line_of(error))
-            return max(status, _status_of(error))
+            raise
         output.write(b"fault %d %s\n" % (error.offset, error.name.encode()))
-        status = max(status, _status_of(error))
-    if not is_checked:
+        status = _status_of(error)
+    if not any(verdict.is_compared for verdict in found):
         report(NAME, f"{printable(file)}: no digest was compared")
-        status = max(status, FAULTY)
-    return status
+        return max(status, FAULTY)
+    return max(status, FAULTY) if Verdict.DIFFERS in found else status
+
+
+def print_records(archive: Union[Archive, CompressedArchive], output: BinaryIO, found: set[Verdict]) -> None:
+    """Prints the records of an archive, and adds their verdicts to those that were found."""
+    with contextlib.closing(check_archive(archive)) as records:
+        for record in records:
+            found |= {record.block, record.payload}
+            output.write(f"{record.offset} {record.block.value} {record.payload.value}\n".encode())
 
 
 def _status_of(error: Fault) -> int:

@@ -35,13 +35,16 @@ def _check_plain(archive: Archive) -> Generator[Checked, None, None]:
         raise CannotOpen("CannotOpen", archive.path) from error
     with file:
         for listed in archive.list():
-            try:
-                verdicts = _check_record(file, listed)
-            except EOFError as error:
-                raise fault(str(error), archive.path, listed.offset) from None
-            except (OSError, Unreadable) as error:
-                raise Read("Read", archive.path, listed.offset) from error
-            yield Checked(listed.offset, *verdicts)
+            yield Checked(listed.offset, *_check_listed(archive.path, file, listed))
+
+
+def _check_listed(path: str, file: IO[bytes], listed: Listed) -> Verdicts:
+    try:
+        return _check_record(file, listed)
+    except EOFError as error:
+        raise fault(str(error), path, listed.offset) from None
+    except (OSError, Unreadable) as error:
+        raise Read("Read", path, listed.offset) from error
 
 
 def _check_record(file: IO[bytes], listed: Listed) -> Verdicts:

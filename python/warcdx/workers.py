@@ -25,15 +25,11 @@ def run_in_order(name: str, works: Sequence[Work], most: int, output: BinaryIO) 
     with temporary_folder() as folder, contextlib.closing(_Workers(name, works, folder)) as workers:
         for number in range(len(works)):
             output.flush()  # so that no process has a copy of what isn't written yet
-            while number not in workers.statuses:
-                workers.start_to(most)
-                workers.wait()
-            status = max(status, workers.statuses[number] % BROKEN)
-            with open(workers.part(number), "rb") as part:
-                shutil.copyfileobj(part, output)
-            os.remove(workers.part(number))
+            ended = workers.status_of(number, most)
+            status = max(status, ended % BROKEN)
+            workers.move_output(number, output)
             workers.report(number)
-            if workers.statuses[number] >= BROKEN:
+            if ended >= BROKEN:
                 break
     return status
 
@@ -48,7 +44,7 @@ class _Workers:
     """The processes: those that run, and the exit statuses of those that have ended, by the numbers of their works."""
 
     def __init__(self, name: str, works: Sequence[Work], folder: pathlib.Path) -> None:
-        self.statuses: dict[int, int] = {}
+        self._statuses: dict[int, int] = {}
         self._name = name
         self._works = works
         self._folder = folder
@@ -61,34 +57,55 @@ class _Workers:
         """Returns the file with the output of a work."""
         return self._folder / str(number)
 
-    def start_to(self, most: int) -> None:
+    def status_of(self, number: int, most: int) -> int:
+        """Runs processes, at most `most` at a time, until a work has ended. Returns its exit status."""
+        while number not in self._statuses:
+            self._start_to(most)
+            self._wait()
+        return self._statuses[number]
+
+    def _start_to(self, most: int) -> None:
         """Starts processes until `most` run, or each work has one."""
         while len(self._running) < most and self._started < len(self._works):
             with deferred(), open(self.part(self._started), "wb") as part:
-                reading_end, writing_end = os.pipe()
-                self._errors[self._started] = open(reading_end, "rb", buffering=0)
-                try:
-                    identifier = os.fork()
-                    if not identifier:
-                        self._work(self._started, part.fileno(), writing_end)
-                finally:
-                    os.close(writing_end)
-                self._running[identifier] = self._started
+                self._start(self._started, part.fileno())
                 self._started += 1
 
-    def wait(self) -> None:
+    def _start(self, number: int, part: int) -> None:
+        """Starts the process of a work, whose output goes to the file descriptor `part`."""
+        reading_end, writing_end = os.pipe()
+        self._errors[number] = open(reading_end, "rb", buffering=0)
+        try:
+            identifier = os.fork()
+            if not identifier:
+                self._work(number, part, writing_end)
+        finally:
+            os.close(writing_end)
+        self._running[identifier] = number
+
+    def _wait(self) -> None:
         """Waits until a process ends. One that a signal has ended is reported, and has no output."""
         found = os.waitid(os.P_ALL, 0, os.WEXITED | os.WNOWAIT)
         assert found is not None
         with deferred():
-            number = self._running.pop(found.si_pid)
-            status = os.waitstatus_to_exitcode(os.waitpid(found.si_pid, 0)[1])
-            if status < 0:
-                report(self._name, f"a process has ended with signal {-status}")
-                os.truncate(self.part(number), 0)
-            with self._errors.pop(number) as error:
-                self._said[number] = error.read(_MOST_SAID)
-            self.statuses[number] = BROKEN + FAILED if status < 0 else status
+            self._end(found.si_pid)
+
+    def _end(self, identifier: int) -> None:
+        """Takes the status of a process that has ended, and what it has said."""
+        number = self._running.pop(identifier)
+        status = os.waitstatus_to_exitcode(os.waitpid(identifier, 0)[1])
+        if status < 0:
+            report(self._name, f"a process has ended with signal {-status}")
+            os.truncate(self.part(number), 0)
+        with self._errors.pop(number) as error:
+            self._said[number] = error.read(_MOST_SAID)
+        self._statuses[number] = BROKEN + FAILED if status < 0 else status
+
+    def move_output(self, number: int, output: BinaryIO) -> None:
+        """Writes the output of a work, and removes its file."""
+        with open(self.part(number), "rb") as part:
+            shutil.copyfileobj(part, output)
+        os.remove(self.part(number))
 
     def report(self, number: int) -> None:
         """Writes what a work has written to standard error, which is less than a pipe holds."""
