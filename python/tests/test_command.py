@@ -1,12 +1,16 @@
-"""How a signal ends a command."""
+"""How a signal ends a command, and a lack of memory."""
+import dis
 import pathlib
 import signal
 import subprocess
 import sys
 import unittest
+from collections.abc import Iterator
+from types import CodeType
 
 from .support import WAIT
 
+INSTRUCTION = 2  # bytes
 BEGINS = """
 import contextlib, os, signal, sys, time
 from warcdx.command import deferred, run, temporary_folder
@@ -50,6 +54,26 @@ class Signals(unittest.TestCase):
             command = (sys.executable, "-c", BEGINS + text + ENDS)
             done = subprocess.run(command, cwd=folder, stderr=subprocess.PIPE, timeout=WAIT)
             self.assertEqual((-signal.SIGTERM, b""), (done.returncode, done.stderr))
+
+
+@unittest.skipUnless(hasattr(dis, "_parse_exception_table"), "this Python has no tables of exception handlers")
+class Memory(unittest.TestCase):
+    def test_no_block_is_far_from_the_start_of_its_function(self) -> None:
+        """If there is no memory for a number over 256, Python 3.11 repeats the step for ever that handles an exception there."""
+        folder = pathlib.Path(__file__).resolve().parents[1]
+        paths = (*folder.glob("warcdx/*.py"), *folder.glob("bin/*"), folder.parent / "gateway/bin/warcdx-gateway")
+        for path in filter(pathlib.Path.exists, paths):
+            for code in codes_of(compile(path.read_bytes(), path, "exec")):
+                table = dis._parse_exception_table(code)  # type: ignore[attr-defined]
+                ends = [entry.end // INSTRUCTION for entry in table if entry.lasti]
+                self.assertLess(max(ends, default=0), 257, f"{path.name}, {code.co_name}")
+
+
+def codes_of(code: CodeType) -> Iterator[CodeType]:
+    yield code
+    for constant in code.co_consts:
+        if isinstance(constant, CodeType):
+            yield from codes_of(constant)
 
 
 if __name__ == "__main__":

@@ -1,22 +1,25 @@
 """What the commands of this package share: their arguments, output and messages, and how a signal ends them."""
 import argparse
 import contextlib
+import errno
 import io
 import json
 import os
 import pathlib
+import shutil
 import signal
 import sys
 import tempfile
 import threading
 from collections.abc import Callable, Iterator, Sequence
-from types import FrameType
+from types import FrameType, TracebackType
 from typing import IO, BinaryIO, NoReturn, Optional
 
 USAGE = 2  # the exit status after a usage error
 FAILED = 3  # the exit status if a file, memory, the output or a program failed
 NO_THREAD = "can't start new thread"  # the message of a RuntimeError if there is no memory for a thread
 _BUFFER = 1 << 16  # bytes
+_RESERVE = 1 << 21  # bytes
 _AGAIN = 0.001  # seconds
 
 
@@ -98,6 +101,33 @@ class _Signals:
 _signals = _Signals()
 
 
+class _Reserve:
+    """Memory that is kept for what a command does at its end. A block that ends for lack of memory frees it.
+
+    Without it Python can't remove and end what the command has made. It even repeats a step for ever that handles
+    an exception more than 256 instructions from the start of a function, for which it has to make a number.
+    """
+
+    def __init__(self) -> None:
+        self._kept: list[bytes] = []
+
+    def fill(self) -> None:
+        if not self._kept:
+            self._kept.append(bytes(_RESERVE))
+
+    def __enter__(self) -> None:
+        pass
+
+    def __exit__(
+        self, kind: Optional[type[BaseException]], error: Optional[BaseException], trace: Optional[TracebackType]
+    ) -> None:
+        if isinstance(error, (MemoryError, SystemError)) or isinstance(error, OSError) and error.errno == errno.ENOMEM:
+            self._kept.clear()
+
+
+reserve = _Reserve()
+
+
 def deferred() -> contextlib.AbstractContextManager[None]:
     """Lets a signal end the command only after a block, such as one that makes what has to be removed later."""
     return _signals.deferred()
@@ -106,7 +136,7 @@ def deferred() -> contextlib.AbstractContextManager[None]:
 @contextlib.contextmanager
 def temporary_file() -> Iterator[IO[bytes]]:
     """Makes a file without a name, which is gone when the block ends, also if a signal ends the command."""
-    with contextlib.ExitStack() as stack:
+    with contextlib.ExitStack() as stack, reserve:
         with deferred():
             file = stack.enter_context(tempfile.TemporaryFile())
         yield file
@@ -115,10 +145,20 @@ def temporary_file() -> Iterator[IO[bytes]]:
 @contextlib.contextmanager
 def temporary_folder() -> Iterator[pathlib.Path]:
     """Makes a folder, and removes it and all that is in it, also if a signal ends the command."""
-    with contextlib.ExitStack() as stack:
-        with deferred():
-            name = stack.enter_context(tempfile.TemporaryDirectory(prefix="warcdx-"))
-        yield pathlib.Path(name)
+    name = None
+    try:
+        with reserve:
+            with deferred():
+                name = tempfile.mkdtemp(prefix="warcdx-")
+            yield pathlib.Path(name)
+    finally:
+        if name is not None:
+            _remove_folder(name)
+
+
+def _remove_folder(name: str) -> None:
+    with deferred():
+        shutil.rmtree(name)
 
 
 class Parser(argparse.ArgumentParser):
@@ -183,6 +223,7 @@ def run(name: str, work: Callable[[BinaryIO], int]) -> int:
     """
     no_memory = _message(name, "Memory")
     try:
+        reserve.fill()
         status, said = _run_on_standard_streams(name, work)
     except (MemoryError, SystemError):  # SystemError: Python's own code had no memory for an exception
         status, said = FAILED, no_memory

@@ -12,7 +12,7 @@ import threading
 from collections.abc import Callable, Iterator
 from typing import IO, Optional, Union
 
-from .command import deferred, temporary_file
+from .command import deferred, reserve, temporary_file
 from .errors import Error, Fault, ProgramMissing, ProgramTooOld, error_of
 
 Path = Union[str, os.PathLike[str]]
@@ -111,9 +111,10 @@ def started(
     """Starts the program as `start` does, and ends it at the end of the block, also if a signal ends the command."""
     process = None
     try:
-        with deferred():
-            process = start(command, said, stdin, stdout, room)
-        yield process
+        with reserve:
+            with deferred():
+                process = start(command, said, stdin, stdout, room)
+            yield process
     finally:
         if process is not None:
             _end(process)

@@ -174,12 +174,15 @@ def update(given: argparse.Namespace, output: BinaryIO) -> int:
         print_plan(given, results, output)
         return 0
     work = Update(given.folder, results, programs_of(given), workers_of(given), progress_of(given))
-    if not given.report:
-        return say(given, work.run(given.recursive))
+    outcome = run_with_report(work, given) if given.report else work.run(given.recursive)
+    return say(given, outcome)
+
+
+def run_with_report(work: Update, given: argparse.Namespace) -> Outcome:
     with open(given.report, "w", encoding="ascii") as file:
         outcome = work.run(given.recursive)
         file.writelines(json.dumps(each.values()) + "\n" for each in outcome.reports)
-    return say(given, outcome)
+    return outcome
 
 
 def workers_of(given: argparse.Namespace) -> Callable[[], contextlib.AbstractContextManager[Workers]]:

@@ -65,23 +65,26 @@ def index_archive(
     state = state_of(path)
     try:
         program = compressed if _is_compressed(path) else plain
-        status, said = _write_successfully((*program, "index", f"./{name}"), folder, name, part, start)
+        status, said = _write_successfully(program, folder, name, part, start)
         captures = _write_counts(plain, part, start)
-        if state_of(path) != state:
-            raise Failed("the archive was changed while it was indexed")
+        _expect_state(path, state)
         return state, status, said, part, os.path.getsize(part), captures
     except BaseException:
-        _remove(part)
-        _remove(f"{part}.json")
+        _remove_made(part)
         raise
 
 
-def _write_successfully(command: Sequence[str], folder: str, name: str, part: str, start: Start) -> tuple[int, str]:
+def _write_successfully(program: Sequence[str], folder: str, name: str, part: str, start: Start) -> tuple[int, str]:
     """Writes a part as _write_part does. Raises Failed if the program fails."""
-    status, said = _write_part(command, folder, name, part, start)
+    status, said = _write_part((*program, "index", f"./{name}"), folder, name, part, start)
     if status not in (0, FAULT):
-        raise Failed(said or f"{command[0]} has ended with status {status}")
+        raise Failed(said or f"{program[0]} has ended with status {status}")
     return status, said
+
+
+def _expect_state(path: str, state: State) -> None:
+    if state_of(path) != state:
+        raise Failed("the archive was changed while it was indexed")
 
 
 def _is_compressed(path: str) -> bool:
@@ -89,9 +92,10 @@ def _is_compressed(path: str) -> bool:
         return file.read(len(_GZIP)) == _GZIP
 
 
-def _remove(path: str) -> None:
-    with contextlib.suppress(OSError):
-        os.remove(path)
+def _remove_made(part: str) -> None:
+    for path in (part, f"{part}.json"):
+        with contextlib.suppress(OSError):
+            os.remove(path)
 
 
 def _write_part(command: Sequence[str], folder: str, name: str, part: str, start: Start) -> tuple[int, str]:

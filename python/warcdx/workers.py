@@ -7,7 +7,7 @@ import signal
 from collections.abc import Callable, Sequence
 from typing import IO, BinaryIO, NoReturn
 
-from .command import FAILED, deferred, printable, report, run, temporary_folder
+from .command import FAILED, deferred, printable, report, reserve, run, temporary_folder
 from .errors import Error
 
 Work = Callable[[BinaryIO], int]
@@ -21,17 +21,8 @@ def run_in_order(name: str, works: Sequence[Work], most: int, output: BinaryIO) 
     Writes their outputs in the order of the works. Until then they are in temporary files. A work that fails by
     an exception is the last, and is reported.
     """
-    status = 0
-    with temporary_folder() as folder, contextlib.closing(_Workers(name, works, folder)) as workers:
-        for number in range(len(works)):
-            output.flush()  # so that no process has a copy of what isn't written yet
-            ended = workers.status_of(number, most)
-            status = max(status, ended % BROKEN)
-            workers.move_output(number, output)
-            workers.report(number)
-            if ended >= BROKEN:
-                break
-    return status
+    with temporary_folder() as folder, contextlib.closing(_Workers(name, works, folder)) as workers, reserve:
+        return workers.run_all(most, output)
 
 
 def failure(name: str, error: Error) -> int:
@@ -53,11 +44,23 @@ class _Workers:
         self._errors: dict[int, IO[bytes]] = {}  # pipes from the standard errors of those that run
         self._said: dict[int, bytes] = {}  # what those that have ended have written there
 
-    def part(self, number: int) -> pathlib.Path:
+    def _part(self, number: int) -> pathlib.Path:
         """Returns the file with the output of a work."""
         return self._folder / str(number)
 
-    def status_of(self, number: int, most: int) -> int:
+    def run_all(self, most: int, output: BinaryIO) -> int:
+        status = 0
+        for number in range(len(self._works)):
+            output.flush()  # so that no process has a copy of what isn't written yet
+            ended = self._status_of(number, most)
+            status = max(status, ended % BROKEN)
+            self._move_output(number, output)
+            self._report(number)
+            if ended >= BROKEN:
+                break
+        return status
+
+    def _status_of(self, number: int, most: int) -> int:
         """Runs processes, at most `most` at a time, until a work has ended. Returns its exit status."""
         while number not in self._statuses:
             self._start_to(most)
@@ -67,7 +70,7 @@ class _Workers:
     def _start_to(self, most: int) -> None:
         """Starts processes until `most` run, or each work has one."""
         while len(self._running) < most and self._started < len(self._works):
-            with deferred(), open(self.part(self._started), "wb") as part:
+            with deferred(), open(self._part(self._started), "wb") as part:
                 self._start(self._started, part.fileno())
                 self._started += 1
 
@@ -96,18 +99,18 @@ class _Workers:
         status = os.waitstatus_to_exitcode(os.waitpid(identifier, 0)[1])
         if status < 0:
             report(self._name, f"a process has ended with signal {-status}")
-            os.truncate(self.part(number), 0)
+            os.truncate(self._part(number), 0)
         with self._errors.pop(number) as error:
             self._said[number] = error.read(_MOST_SAID)
         self._statuses[number] = BROKEN + FAILED if status < 0 else status
 
-    def move_output(self, number: int, output: BinaryIO) -> None:
+    def _move_output(self, number: int, output: BinaryIO) -> None:
         """Writes the output of a work, and removes its file."""
-        with open(self.part(number), "rb") as part:
+        with open(self._part(number), "rb") as part:
             shutil.copyfileobj(part, output)
-        os.remove(self.part(number))
+        os.remove(self._part(number))
 
-    def report(self, number: int) -> None:
+    def _report(self, number: int) -> None:
         """Writes what a work has written to standard error, which is less than a pipe holds."""
         text = self._said.pop(number)
         with contextlib.suppress(OSError):

@@ -30,8 +30,8 @@ from script_runs import Disk, Ended, Run, Script, scripts_of
 from script_signals import at_moments, before_it_serves, cut_while_read
 
 SIZES = (0, 1, 4096, 70_000)  # bytes that a file may have
-LITTLE_MEMORY = (-6, -3, -1)  # steps below the least memory under which a script prints its help
-SPARE_MEMORY = (0, 1, 3, 6, 12, 24)  # steps over it
+LITTLE_MEMORY = (-9, -7, -5, -4, -3, -2, -1)  # steps below the least memory under which a script prints its help
+SPARE_MEMORY = (*range(13), 14, 16, 20, 24)  # steps over it
 MEMORY_STEP = 1 << 19  # bytes
 NOBODY = 65534
 
