@@ -35,7 +35,7 @@ cat > "$copy/crates/bench_lines/src/main.rt" <<'PROGRAM'
 
 ghost use Rattle.cdxj_core.specs.Entries.{IsGood};
 
-use cdxj_core::{Entry, Field, LineRef, url_key, write_line};
+use cdxj_core::{Entry, Field, Line, LineRef, url_key, write_line};
 use serde_json::Value;
 use std::alloc::Global;
 use std::time::Instant;
@@ -90,9 +90,12 @@ fn read_objects(alloc: Global, lines: &[String]) -> anyhow::Result<u64> {
 fn read_lines(alloc: Global, lines: &[String]) -> anyhow::Result<u64> {
     let mut total = 0;
     for line in lines {
-        match LineRef::read(alloc, line.as_bytes()) {
-            Ok(read) => add(&mut total, read.value(Field::Original).len()),
-            Err(_fault) => {}
+        match LineRef::plain(line.as_bytes()) {
+            Some(read) => add(&mut total, read.value(Field::Original).len()),
+            None => match Line::read(alloc, line.as_bytes()) {
+                Ok(read) => add(&mut total, read.values().value(Field::Original).len()),
+                Err(_fault) => {}
+            },
         }
     }
     Ok(total)
@@ -205,8 +208,8 @@ row() {
         status=1
     fi
 }
-row written 'LineRef::read, lines as they are written' 300 0.300
-row numbered 'LineRef::read, lines with a number' 1600 1.600
+row written 'LineRef::plain, lines as they are written' 300 0.300
+row numbered 'Line::read, lines with a number' 1600 1.600
 row write_line 'write_line' 1200 1.200
 row url_key 'url_key' 1500 1.500
 exit $status

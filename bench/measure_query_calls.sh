@@ -83,8 +83,8 @@ fn read_queries(alloc: Global, queries: &[String]) -> anyhow::Result<u64> {
 fn read_lines(alloc: Global, lines: &[String]) -> anyhow::Result<u64> {
     let mut total = 0;
     for line in lines {
-        match LineRef::read(alloc, line.as_bytes()) {
-            Ok(read) => add(&mut total, read.value(Field::Original).len()),
+        match Line::read(alloc, line.as_bytes()) {
+            Ok(read) => add(&mut total, read.values().value(Field::Original).len()),
             Err(_fault) => {}
         }
     }
@@ -99,12 +99,12 @@ fn match_lines(query: &Query, lines: &[LineRef<'_>]) -> u64 {
     total
 }
 
-fn match_kept(query: &Query, lines: &[Line]) -> anyhow::Result<u64> {
+fn match_kept(query: &Query, lines: &[Line]) -> u64 {
     let mut total = 0;
     for line in lines {
-        add(&mut total, usize::from(query.matches_kept(line)?));
+        add(&mut total, usize::from(query.matches_kept(line)));
     }
-    Ok(total)
+    total
 }
 
 fn main(rt: HostRuntime) -> anyhow::Result<()> {
@@ -118,11 +118,13 @@ fn main(rt: HostRuntime) -> anyhow::Result<()> {
         lines.push(line(alloc, number)?)?;
     }
     println!(rt; "bytes {}", queries.first().map_or(0, |text| text.len()))?;
-    let mut read = Vec::new(alloc);
     let mut kept = Vec::new(alloc);
     for line in lines.as_slice() {
-        read.push(LineRef::read(alloc, line.as_bytes())?)?;
         kept.push(Line::read(alloc, line.as_bytes())?)?;
+    }
+    let mut read = Vec::new(alloc);
+    for line in kept.as_slice() {
+        read.push(line.values())?;
     }
     let exact = Query::read(alloc, "url=example.com/articles/150000/index.html")?;
     let prefix = Query::read(alloc, "url=example.com/articles/*&from=2016")?;
@@ -137,8 +139,8 @@ fn main(rt: HostRuntime) -> anyhow::Result<()> {
                 2 => read_lines(alloc, &lines)?,
                 3 => match_lines(&exact, &read),
                 4 => match_lines(&prefix, &read),
-                5 => match_kept(&exact, &kept)?,
-                _ => match_kept(&prefix, &kept)?,
+                5 => match_kept(&exact, &kept),
+                _ => match_kept(&prefix, &kept),
             };
             let time = start.elapsed(&rt)?.as_nanos() / u128::from(LINES);
             total = total.wrapping_add(sum);

@@ -1,46 +1,21 @@
 -- The entry that a line spells, and lines that are held.
-use Rattle.std.specs.Prelude.{◌≡◌, ◌⊎◌, ℕ, ◌+◌, ◌-◌, ◌==◌, Bool, nat_lt, List, [], ◌++◌, length, take, drop, Option}
-use Rattle.std.specs.Prelude.{None, Some, if◌then◌else◌}
+use Rattle.std.specs.Prelude.{◌≡◌, ◌⊎◌, ℕ, ◌+◌, ◌-◌, ◌==◌, Bool, nat_lt, List, [], ◌++◌, length, take, drop}
+use Rattle.std.specs.Prelude.{unwrap_or, if◌then◌else◌}
 use Rattle.std.specs.List.{after_last, before_first, position_or_len}
-use Rattle.std.specs.Str.Parse.{digits_value}
 use Rattle.cdxj_core.specs.declared.limit.TheConstants.{LINE_LIMIT}
 use Rattle.cdxj_core.specs.Entries.{EntryValue, line_text, HasLine}
-use Rattle.cdxj_core.specs.Lines.{LineValue, body_of, line_in}
+use Rattle.cdxj_core.specs.Lines.{LineValue, body_of, entry_of_values, line_in, line_value}
+use Rattle.cdxj_core.specs.ObjectMembers.{all_members}
 use Rattle.cdxj_places.specs.Bytes.{line_feed, quote}
 use Rattle.cdxj_places.specs.Pair.{is_space}
 
--- the entry with these values
-abbrev pub entry_of_values : LineValue → EntryValue
-entry_of_values l = record {
-  key = l.key;
-  stamp = l.stamp;
-  url = l.original;
-  mime = l.mimetype;
-  status = l.statuscode;
-  digest = l.digest;
-  length = digits_value 10 l.length;
-  offset = l.offset;
-  filename = l.filename;
-}
-
--- the same, or an entry of nothing where there are no values
-abbrev pub entry_or_nothing : Option LineValue → EntryValue
-entry_or_nothing (Some l) = entry_of_values l
-entry_or_nothing None = record {
-  key = [];
-  stamp = [];
-  url = [];
-  mime = [];
-  status = [];
-  digest = [];
-  length = 0;
-  offset = 0;
-  filename = [];
-}
+-- the values of nothing
+abbrev pub no_values : LineValue
+no_values = line_value [] [] (all_members []) 0
 
 -- the entry that a line spells
 unfoldable pub entry_in : List ℕ → EntryValue
-entry_in line = entry_or_nothing (line_in LINE_LIMIT (body_of line))
+entry_in line = entry_of_values (unwrap_or (line_in LINE_LIMIT (body_of line)) no_values)
 
 abbrev pub is_line_feed : ℕ → Bool
 is_line_feed b = b == line_feed

@@ -1,7 +1,5 @@
 //! Captures, held as their lines.
-use cdxj_core::{
-    Entry, EntryRef, Field, HasPlace, LineFault, LineRef, Pair, write_entry, written_line_is_read,
-};
+use cdxj_core::{Entry, EntryRef, HasPlace, Line, LineFault, write_entry, written_line_is_read};
 use memchr::{memchr, memrchr};
 use std::alloc::{AllocError, Global};
 use std::cmp::Ordering;
@@ -66,22 +64,11 @@ impl HeldLine {
         ensures { IfOk result (λ entry. entry ≡ self.now) }
     {
         written_line_is_read();
-        let line = match LineRef::read(alloc, self.line()) {
-            Ok(line) => line,
+        let read = match Line::read(alloc, first_line(&self.bytes)) {
+            Ok(read) => read,
             Err(_) => return Err(AllocError),
         };
-        let Pair { key, stamp } = line.pair();
-        Ok(Entry {
-            key: String::from_str(alloc, key)?,
-            stamp,
-            url: String::from_str(alloc, line.value(Field::Original))?,
-            mime: String::from_str(alloc, line.value(Field::Mimetype))?,
-            status: String::from_str(alloc, line.value(Field::Statuscode))?,
-            digest: String::from_str(alloc, line.value(Field::Digest))?,
-            length,
-            offset: self.offset,
-            filename: String::from_str(alloc, line.value(Field::Filename))?,
-        })
+        Entry::of_line(alloc, &read.values(), length)
     }
 
     fn key(&self) -> &[u8]

@@ -7,7 +7,7 @@ use Rattle.cdxj_places.specs.Pairs.{Pair}
 use Rattle.cdxj_places.specs.Places.{PlaceValue}
 use Rattle.cdxj_objects.specs.Objects.{object_text}
 use Rattle.cdxj_objects.specs.Texts.{TextsValue, text_members}
-use Rattle.cdxj_core.specs.declared.entry_ref.EntryRef.{EntryRef}
+use Rattle.cdxj_core.specs.declared.entry.EntryRef.{EntryRef}
 
 -- what an index says of a capture: texts as the lists of their bytes, length and offset in bytes
 pub record EntryValue : Type 0 where

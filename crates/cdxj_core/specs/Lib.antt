@@ -1,6 +1,6 @@
 pub mod Entries
+pub mod Fields
 pub mod Lines
-pub mod LineTexts
 pub mod Members
 pub mod KeptLine
 pub mod Indexes

@@ -2,6 +2,7 @@
 use Rattle.std.specs.Prelude.{ℕ, ◌&&◌, ◌==◌, Bool, not, nat_lt, List, take, length, ◌-◌, slice_index}
 use Rattle.std.specs.Prelude.{decimal, Option, None, option_map, option_and_then, if◌then◌else◌}
 use Rattle.std.specs.List.{list_all, before_first, after_first}
+use Rattle.std.specs.Str.Parse.{digits_value}
 use Rattle.serde_json.specs.Data.{Data}
 use Rattle.serde_json.specs.Read.{read}
 use Rattle.serde_json.specs.Find.{get}
@@ -73,6 +74,20 @@ texts_in v = record {
 -- the values that the line of a good entry has
 abbrev pub entry_values : EntryValue → LineValue
 entry_values e = line_value e.key e.stamp (entry_texts e) e.offset
+
+-- the entry with these values
+abbrev pub entry_of_values : LineValue → EntryValue
+entry_of_values l = record {
+  key = l.key;
+  stamp = l.stamp;
+  url = l.original;
+  mime = l.mimetype;
+  status = l.statuscode;
+  digest = l.digest;
+  length = digits_value 10 l.length;
+  offset = l.offset;
+  filename = l.filename;
+}
 
 -- the texts of an object's members
 abbrev pub texts_of : Data → List ℕ → ℕ → TextsValue

@@ -1,6 +1,9 @@
-//! The entry of a capture in an index.
-use crate::entry_ref::EntryRef;
-use cdxj_places::{HasPlace, Pair, is_key, is_stamp};
+//! The entry of a capture in an index, with its own texts or borrowed ones.
+use crate::field::Field;
+use crate::line_ref::LineRef;
+use cdxj_objects::{Members, is_plain_text};
+use cdxj_places::{HasPlace, Pair, Place, is_key, is_stamp};
+use std::alloc::{AllocError, Global};
 use std::cmp::Ordering;
 use std::marker::Model;
 
@@ -47,8 +50,9 @@ impl Model for Entry {
 }
 
 impl Entry {
-    ghost use Rattle.std.specs.Prelude.{◌≡◌, ◌↔◌, IsTrue};
+    ghost use Rattle.std.specs.Prelude.{◌≡◌, ◌↔◌, IfOk, IsTrue};
     ghost use Rattle.cdxj_core.specs.Entries.{AreUtf8, IsGood, entry_view};
+    ghost use Rattle.cdxj_core.specs.Lines.{entry_of_values};
 
     /// Returns `true` if the entry can be written: the key is a key, the stamp is 14 digits, no
     /// text is empty, and length and offset are below 2^63.
@@ -65,6 +69,31 @@ impl Entry {
             && self.length < 1 << 63
             && self.offset < 1 << 63
             && !self.filename.is_empty()
+    }
+
+    /// Copies the texts of a line that was read, for a record of this length in bytes.
+    /// The only error is refused memory.
+    pub fn of_line(alloc: Global, line: &LineRef<'_>, length: u64) -> Result<Entry, AllocError>
+        ensures { IfOk result (λ entry. entry
+            ≡ record (entry_of_values line.now.values) { length = length }) }
+    {
+        let Place {
+            key,
+            stamp,
+            filename,
+            offset,
+        } = line.place();
+        Ok(Entry {
+            key: String::from_str(alloc, key)?,
+            stamp,
+            url: String::from_str(alloc, line.value(Field::Original))?,
+            mime: String::from_str(alloc, line.value(Field::Mimetype))?,
+            status: String::from_str(alloc, line.value(Field::Statuscode))?,
+            digest: String::from_str(alloc, line.value(Field::Digest))?,
+            length,
+            offset,
+            filename: String::from_str(alloc, filename)?,
+        })
     }
 
     /// Returns the entry with its texts borrowed.
@@ -117,5 +146,68 @@ impl HasPlace for Entry {
             .cmp(&other.pair())
             .then_with(|| self.filename.as_str().cmp(other.filename.as_str()))
             .then_with(|| self.offset.cmp(&other.offset))
+    }
+}
+
+/// The contents of an index line about one capture. Its texts are borrowed.
+#[derive(Clone, Copy, Debug)]
+pub struct EntryRef<'a> {
+    /// The key of `url`.
+    pub key: &'a str,
+    /// 14 digits, `YYYYMMDDhhmmss`.
+    pub stamp: [u8; 14],
+    /// The target.
+    pub url: &'a str,
+    /// The media type, or `-`.
+    pub mime: &'a str,
+    /// The HTTP status in three digits, or `-`.
+    pub status: &'a str,
+    /// The digest of the payload, or `-`.
+    pub digest: &'a str,
+    /// The length of the record in bytes.
+    pub length: u64,
+    /// The offset in bytes from the archive's start.
+    pub offset: u64,
+    /// The archive's name.
+    pub filename: &'a str,
+}
+
+impl<'a> EntryRef<'a> {
+    ghost use Rattle.std.specs.Prelude.{◌≡◌, ◌↔◌, IsTrue};
+    ghost use Rattle.cdxj_objects.specs.Plain.{ArePlain};
+    ghost use Rattle.cdxj_objects.specs.Texts.{borrowed_view};
+    ghost use Rattle.cdxj_core.specs.Entries.{IsGood, entry_texts, entry_view};
+
+    /// Returns the texts of the members. `length` and `offset` are the entry's numbers in decimal.
+    pub(crate) fn members(self, length: &'a str, offset: &'a str) -> Members<&'a str>
+        ensures { borrowed_view result
+            ≡ record (entry_texts (entry_view self.entry)) {
+              length = length.now;
+              offset = offset.now;
+            } }
+    {
+        Members {
+            url: self.url,
+            mime: self.mime,
+            status: self.status,
+            digest: self.digest,
+            length,
+            offset,
+            filename: self.filename,
+        }
+    }
+
+    /// Returns `true` if no text of the entry's line needs an escape. Numbers are digits, which
+    /// never need one.
+    #[tactic(auto, using(cdxj_objects::proofs::PlainBytes::plain_decimal))]
+    pub(crate) fn has_plain_texts(self) -> bool
+        requires { IsGood (entry_view self) }
+        ensures { IsTrue result ↔ ArePlain (entry_texts (entry_view self.entry)) }
+    {
+        is_plain_text(self.url.as_bytes())
+            && is_plain_text(self.mime.as_bytes())
+            && is_plain_text(self.status.as_bytes())
+            && is_plain_text(self.digest.as_bytes())
+            && is_plain_text(self.filename.as_bytes())
     }
 }

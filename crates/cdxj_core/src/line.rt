@@ -6,8 +6,7 @@ ghost use Rattle.cdxj_core.specs.declared.limit.TheConstants.{LINE_LIMIT};
 use crate::body::{body_of, has_no_feed};
 use crate::fault::LineFault;
 use crate::limit::LINE_LIMIT;
-use crate::line_parts::LineParts;
-use crate::line_ref::{LineRef, LineText};
+use crate::line_ref::LineRef;
 use crate::spans::Spans;
 use cdxj_objects::{FoundMembers, spelled};
 use cdxj_places::{HasPlace, Pair, Place, cut_first, is_key, is_stamp};
@@ -64,13 +63,18 @@ impl Line {
     ghost use Rattle.cdxj_core.specs.Members.{member_place, line_entry, IsLineReading};
     ghost use Rattle.cdxj_places.specs.PlaceViews.{place_view};
 
-    /// Reads a line, with or without its line feed. Errors are those of `LineRef::read`.
+    /// Reads a line, with or without its line feed: a key, a space, a stamp, a space and a JSON
+    /// object with a file name and an offset.
+    ///
+    /// The error is `LineTooLong`, which is checked first, if the line has more than `LINE_LIMIT`
+    /// bytes, counted with a line feed. It is `BadLine` if the line doesn't have this form, and
+    /// `Memory` if memory could not be allocated.
     #[tactic(auto, using(crate::proofs::MemberLemmas::entry_is_short))]
     pub fn read(alloc: Global, line: &[u8]) -> Result<Line, LineFault>
         ensures { IsLineReading LINE_LIMIT line.now result }
     {
-        match LineParts::read(line) {
-            Some(parts) => Ok(Line::of(alloc, &parts)?),
+        match LineRef::plain(line) {
+            Some(plain) => Ok(Line::new(alloc, &plain)?),
             None => Line::read_json(alloc, line),
         }
     }
@@ -78,7 +82,7 @@ impl Line {
     /// Reads a line that has any JSON object.
     #[cold]
     #[inline(never)]
-    pub(crate) fn read_json(alloc: Global, line: &[u8]) -> Result<Line, LineFault>
+    fn read_json(alloc: Global, line: &[u8]) -> Result<Line, LineFault>
         ensures { IsLineReading LINE_LIMIT line.now result }
     {
         Line::read_with(alloc, line, &mut Scratch::new(alloc))
@@ -137,26 +141,20 @@ impl Line {
     pub fn new(alloc: Global, line: &LineRef<'_>) -> Result<Line, AllocError>
         ensures { IfOk result (λ kept. kept ≡ line.now) }
     {
-        Line::of(alloc, &line.parts())
-    }
-
-    fn of(alloc: Global, parts: &LineParts<'_>) -> Result<Line, AllocError>
-        ensures { IfOk result (λ kept. kept ≡ parts.now) }
-    {
         Ok(Line {
             alloc,
-            text: String::from_str(alloc, parts.text)?,
-            spans: parts.spans,
+            text: String::from_str(alloc, line.text)?,
+            spans: line.spans,
         })
     }
 
     /// Reads another line into this line's buffer. If the buffer is large enough, a plain line
-    /// takes no memory. Errors are those of `LineRef::read`; after an error this line is unchanged.
+    /// takes no memory. Errors are those of `read`; after an error this line is unchanged.
     pub fn refill(&mut self, line: &[u8]) -> Result<(), LineFault>
         ensures { MatchResult result (λ _. IsLineReading LINE_LIMIT line.now (Ok self.new))
             (λ fault. IsLineReading LINE_LIMIT line.now (Err fault) × (self.new ≡ self.old)) }
     {
-        self.refill_from(line, LineParts::read(line))
+        self.refill_from(line, LineRef::plain(line))
     }
 
     /// The same for a line that consists of characters of ASCII other than controls and backslashes,
@@ -166,20 +164,20 @@ impl Line {
         ensures { MatchResult result (λ _. IsLineReading LINE_LIMIT line.now (Ok self.new))
             (λ fault. IsLineReading LINE_LIMIT line.now (Err fault) × (self.new ≡ self.old)) }
     {
-        self.refill_from(line, LineParts::read_unescaped(line))
+        self.refill_from(line, LineRef::plain_unescaped(line))
     }
 
     /// The same for a line that was read as a plain one, or declined.
     #[inline(always)]
     #[tactic(auto, using(crate::proofs::MemberLemmas::entry_is_short))]
-    fn refill_from(&mut self, line: &[u8], parts: Option<LineParts<'_>>) -> Result<(), LineFault>
-        requires { IfSome parts (λ found. line_entry LINE_LIMIT line.now ≡ Some found) }
+    fn refill_from(&mut self, line: &[u8], plain: Option<LineRef<'_>>) -> Result<(), LineFault>
+        requires { IfSome plain (λ found. line_entry LINE_LIMIT line.now ≡ Some found) }
         ensures { MatchResult result (λ _. IsLineReading LINE_LIMIT line.now (Ok self.new))
             (λ fault. IsLineReading LINE_LIMIT line.now (Err fault) × (self.new ≡ self.old)) }
     {
-        match parts {
-            Some(parts) => {
-                self.keep(&parts)?;
+        match plain {
+            Some(plain) => {
+                self.keep(&plain)?;
                 Ok(())
             }
             None => {
@@ -190,21 +188,22 @@ impl Line {
     }
 
     #[inline(always)]
-    fn keep(&mut self, parts: &LineParts<'_>) -> Result<(), AllocError>
-        ensures ok { OnOk result (self.new ≡ parts.now) }
+    fn keep(&mut self, line: &LineRef<'_>) -> Result<(), AllocError>
+        ensures ok { OnOk result (self.new ≡ line.now) }
         ensures err { OnErr result (self.new ≡ self.old) }
     {
-        make_room(&mut self.text, parts.text.len())?;
-        fill(&mut self.text, parts.text);
-        self.spans = parts.spans;
+        make_room(&mut self.text, line.text.len())?;
+        fill(&mut self.text, line.text);
+        self.spans = line.spans;
         Ok(())
     }
 
+    /// Returns the line with all its values.
     #[inline(always)]
-    pub(crate) fn parts(&self) -> LineParts<'_>
+    pub fn values(&self) -> LineRef<'_>
         ensures { result ≡ self.now }
     {
-        LineParts {
+        LineRef {
             text: self.text.as_str(),
             spans: self.spans,
         }
@@ -215,14 +214,14 @@ impl Line {
         ensures key { result.key.now ≡ self.now.values.key }
         ensures stamp { result.stamp ≡ self.now.values.stamp }
     {
-        self.parts().pair()
+        self.values().pair()
     }
 
     /// Returns the place of the line's capture.
     pub fn place(&self) -> Place<'_>
         ensures { place_view result ≡ member_place self.now }
     {
-        self.parts().place()
+        self.values().place()
     }
 
     /// Returns the line without its line feed.
@@ -230,17 +229,7 @@ impl Line {
         ensures value { result.now ≡ self.now.line }
         ensures entry { line_entry LINE_LIMIT result.now ≡ Some self.now }
     {
-        self.parts().line().as_bytes()
-    }
-
-    /// Returns the line with all its values.
-    pub fn values(&self) -> LineRef<'_>
-        ensures { result ≡ self.now }
-    {
-        LineRef {
-            text: LineText::Borrowed(self.text.as_str()),
-            spans: self.spans,
-        }
+        self.values().line()
     }
 }
 
@@ -250,7 +239,7 @@ impl HasPlace for Line {
     ghost place_of = { member_place };
 
     fn key_bytes(&self) -> &[u8] {
-        self.parts().key().as_bytes()
+        self.pair().key.as_bytes()
     }
 
     fn compare_place(&self, other: &Line) -> Ordering {

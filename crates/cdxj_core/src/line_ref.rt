@@ -1,42 +1,24 @@
-//! Lines that were read and that borrow their bytes.
-ghost use Rattle.std.specs.Prelude.{◌≡◌, Some};
+//! Lines that were read and that borrow their text.
+ghost use Rattle.std.specs.Prelude.{◌≡◌, IfSome, true};
 ghost use Rattle.cdxj_core.specs.declared.limit.TheConstants.{LINE_LIMIT};
 
-use crate::fault::LineFault;
+use crate::body::{ascii_text, body_of, unescaped_text};
 use crate::field::Field;
-use crate::line::Line;
-use crate::line_parts::LineParts;
-use crate::spans::Spans;
+use crate::limit::LINE_LIMIT;
+use crate::spans::{Spans, TO_OBJECT, TO_STAMP, TO_STAMP_END};
+use cdxj_objects::{
+    Members, has_stamp, is_plain_text, or_missing, place_of_either, plain_members, texts_at,
+};
 use cdxj_places::{HasPlace, Pair, Place};
-use std::alloc::Global;
 use std::cmp::Ordering;
 use std::marker::Model;
 
-/// The text of a line: borrowed if the line is plain, and owned otherwise.
-#[derive(Debug, Drop)]
-pub(crate) enum LineText<'a> {
-    Borrowed(&'a str),
-    Owned(String),
-}
+const DELETE: u8 = 0x7f;
 
-impl<'a> LineText<'a> {
-    ghost use Rattle.cdxj_core.specs.LineTexts.{text_view};
-
-    #[inline(always)]
-    fn as_str(&self) -> &str
-        ensures { result.now ≡ text_view self.now }
-    {
-        match self {
-            LineText::Borrowed(text) => text,
-            LineText::Owned(text) => text.as_str(),
-        }
-    }
-}
-
-/// A line of an index that was read, with all its values. It borrows its bytes if it is plain.
+/// A line of an index that was read, with all its values. Its text is borrowed.
 #[derive(Debug, Drop)]
 pub struct LineRef<'a> {
-    pub(crate) text: LineText<'a>,
+    pub(crate) text: &'a str,
     pub(crate) spans: Spans,
 }
 
@@ -44,66 +26,159 @@ impl<'a> Model for LineRef<'a> {
     ghost use Rattle.std.specs.Prelude.{take};
     ghost use Rattle.cdxj_core.specs.declared.limit.TheConstants.{LINE_LIMIT};
     ghost use Rattle.cdxj_core.specs.KeptLine.{IsKept, member_in};
-    ghost use Rattle.cdxj_core.specs.LineTexts.{text_view};
     ghost use Rattle.cdxj_core.specs.Members.{Member};
 
     ghost Value = { Member };
 
-    ghost view = { λ l. member_in LINE_LIMIT (take l.spans.size (text_view l.text)) };
+    ghost view = { λ p. member_in LINE_LIMIT (take p.spans.size p.text.now) };
 
-    ghost invariant = { λ l. IsKept LINE_LIMIT (text_view l.text) l.spans
-        (member_in LINE_LIMIT (take l.spans.size (text_view l.text))) };
+    ghost invariant = { λ p. IsKept LINE_LIMIT p.text.now p.spans
+        (member_in LINE_LIMIT (take p.spans.size p.text.now)) };
 }
 
 impl<'a> LineRef<'a> {
-    ghost use Rattle.std.specs.Prelude.{true};
+    ghost use Rattle.std.specs.Prelude.{◌<◌, length, Some};
     ghost use Rattle.std.specs.List.{list_all};
+    ghost use Rattle.cdxj_objects.specs.Plain.{is_unescaped, is_unescaped_ascii};
     ghost use Rattle.json.specs.Run.{is_plain};
-    ghost use Rattle.cdxj_core.specs.declared.field.Field.{Field};
-    ghost use Rattle.cdxj_core.specs.Lines.{field_value};
-    ghost use Rattle.cdxj_core.specs.Members.{member_place, line_entry, IsLineReading};
     ghost use Rattle.cdxj_places.specs.PlaceViews.{place_view};
+    ghost use Rattle.cdxj_core.specs.declared.field.Field.{Field};
+    ghost use Rattle.cdxj_objects.specs.Plain.{values_of_texts};
+    ghost use Rattle.cdxj_objects.specs.Texts.{borrowed_view};
+    ghost use Rattle.cdxj_core.specs.Lines.{body_of, field_value, texts_in};
+    ghost use Rattle.cdxj_core.specs.Members.{member_place, line_entry};
 
-    /// Reads a line, with or without its line feed: a key, a space, a stamp, a space and a JSON
-    /// object with a file name and an offset.
-    ///
-    /// The error is `LineTooLong`, which is checked first, if the line has more than `LINE_LIMIT`
-    /// bytes, counted with a line feed. It is `BadLine` if the line doesn't have this form.
-    pub fn read(alloc: Global, line: &'a [u8]) -> Result<LineRef<'a>, LineFault>
-        ensures { IsLineReading LINE_LIMIT line.now result }
+    /// Reads a plain line where it stands, with or without its line feed. It may decline any line,
+    /// which [`Line::read`](crate::Line::read) reads then, and takes no memory.
+    #[inline(always)]
+    pub fn plain(line: &'a [u8]) -> Option<LineRef<'a>>
+        ensures { IfSome result (λ found. line_entry LINE_LIMIT line.now ≡ Some found) }
     {
-        match LineParts::read(line) {
-            Some(parts) => Ok(LineRef {
-                text: LineText::Borrowed(parts.text),
-                spans: parts.spans,
-            }),
-            None => {
-                let line = Line::read_json(alloc, line)?;
-                Ok(LineRef {
-                    spans: line.spans,
-                    text: LineText::Owned(line.text),
-                })
-            }
+        LineRef::of_text(unescaped_text(body_of(line))?)
+    }
+
+    /// The same for a line of ASCII without controls and backslashes.
+    #[inline(always)]
+    pub(crate) fn plain_unescaped(line: &'a [u8]) -> Option<LineRef<'a>>
+        requires { list_all is_unescaped_ascii (body_of line.now) ≡ true }
+        ensures { IfSome result (λ found. line_entry LINE_LIMIT line.now ≡ Some found) }
+    {
+        let body = body_of(line);
+        if body.len() >= LINE_LIMIT {
+            return None;
         }
+        LineRef::of_text(ascii_text(body))
+    }
+
+    /// Reads a plain line without its line feed, in which no byte is a control or a backslash. It may
+    /// decline any line.
+    #[inline(always)]
+    pub(crate) fn of_text(text: &'a str) -> Option<LineRef<'a>>
+        requires short { length text.now < LINE_LIMIT }
+        requires unescaped { list_all is_unescaped text.now ≡ true }
+        ensures { IfSome result (λ found. line_entry LINE_LIMIT text.now ≡ Some found) }
+    {
+        let bytes = text.as_bytes();
+        let key = place_of_either(bytes, 0, b' ', DELETE);
+        if key == 0 || !has_stamp(bytes, key + TO_STAMP) || bytes[key] != b' ' {
+            return None;
+        }
+        let Ok(stamp) = <[u8; 14]>::try_from(&bytes[key + TO_STAMP..key + TO_STAMP_END]) else {
+            return None;
+        };
+        let members = plain_members(bytes, key + TO_OBJECT)?;
+        Some(LineRef {
+            text,
+            spans: Spans {
+                size: text.len(),
+                key,
+                stamp,
+                offset: members.offset,
+                fronts: members.fronts,
+            },
+        })
+    }
+
+    /// Returns the line without its line feed, from which the values were read.
+    #[inline(always)]
+    pub fn line(&self) -> &'a [u8]
+        ensures value { result.now ≡ self.now.line }
+        ensures entry { line_entry LINE_LIMIT result.now ≡ Some self.now }
+    {
+        self.text[..self.spans.size].as_bytes()
     }
 
     #[inline(always)]
-    pub(crate) fn parts(&self) -> LineParts<'_>
-        ensures { result ≡ self.now }
+    fn key(&self) -> &'a str
+        ensures { result.now ≡ self.now.values.key }
     {
-        LineParts {
-            text: self.text.as_str(),
-            spans: self.spans,
+        &self.text[..self.spans.key]
+    }
+
+    #[inline(always)]
+    fn stamp(&self) -> &'a str
+        ensures { result.now ≡ self.now.values.stamp }
+    {
+        &self.text[self.spans.key + TO_STAMP..self.spans.key + TO_STAMP_END]
+    }
+
+    #[inline(always)]
+    fn texts(&self) -> Members<&'a str>
+        ensures { values_of_texts (borrowed_view result) ≡ texts_in self.now.values }
+    {
+        texts_at(self.text, &self.spans.fronts)
+    }
+
+    #[inline(always)]
+    fn filename(&self) -> &'a str
+        ensures { result.now ≡ self.now.values.filename }
+    {
+        self.texts().filename
+    }
+
+    /// Returns the key and the stamp.
+    #[inline(always)]
+    pub fn pair(&self) -> Pair<'a>
+        ensures key { result.key.now ≡ self.now.values.key }
+        ensures stamp { result.stamp ≡ self.now.values.stamp }
+    {
+        Pair {
+            key: self.key(),
+            stamp: self.spans.stamp,
+        }
+    }
+
+    /// Returns the place of the line's capture.
+    #[inline(always)]
+    pub fn place(&self) -> Place<'a>
+        ensures { place_view result ≡ member_place self.now }
+    {
+        Place {
+            key: self.key(),
+            stamp: self.spans.stamp,
+            filename: self.filename(),
+            offset: self.spans.offset,
         }
     }
 
     /// Returns the value of a field: the key, the stamp, the offset in decimal, or the text of a
     /// member. The value of a member that is absent, empty, or neither a text nor an unsigned
     /// 64-bit number is `-`.
-    pub fn value(&self, field: Field) -> &str
+    pub fn value(&self, field: Field) -> &'a str
         ensures { result.now ≡ field_value field self.now.values }
     {
-        self.parts().value(field)
+        let texts = self.texts();
+        match field {
+            Field::Urlkey => self.key(),
+            Field::Timestamp => self.stamp(),
+            Field::Original => or_missing(texts.url),
+            Field::Mimetype => or_missing(texts.mime),
+            Field::Statuscode => or_missing(texts.status),
+            Field::Digest => or_missing(texts.digest),
+            Field::Length => or_missing(texts.length),
+            Field::Offset => texts.offset,
+            Field::Filename => texts.filename,
+        }
     }
 
     /// Returns `true` if JSON writes each value of the line without escapes. It may be `false` for
@@ -112,30 +187,7 @@ impl<'a> LineRef<'a> {
         ensures { result ≡ true → (field : Field)
             → list_all is_plain (field_value field self.now.values) ≡ true }
     {
-        self.parts().needs_no_escapes()
-    }
-
-    /// Returns the key and the stamp.
-    pub fn pair(&self) -> Pair<'_>
-        ensures key { result.key.now ≡ self.now.values.key }
-        ensures stamp { result.stamp ≡ self.now.values.stamp }
-    {
-        self.parts().pair()
-    }
-
-    /// Returns the place of the line's capture.
-    pub fn place(&self) -> Place<'_>
-        ensures { place_view result ≡ member_place self.now }
-    {
-        self.parts().place()
-    }
-
-    /// Returns the line without its line feed, from which the values were read.
-    pub fn line(&self) -> &[u8]
-        ensures value { result.now ≡ self.now.line }
-        ensures entry { line_entry LINE_LIMIT result.now ≡ Some self.now }
-    {
-        self.parts().line().as_bytes()
+        self.spans.size == self.text.len() && is_plain_text(self.key().as_bytes())
     }
 }
 
@@ -145,7 +197,7 @@ impl<'a> HasPlace for LineRef<'a> {
     ghost place_of = { member_place };
 
     fn key_bytes(&self) -> &[u8] {
-        self.parts().key().as_bytes()
+        self.key().as_bytes()
     }
 
     fn compare_place(&self, other: &LineRef<'a>) -> Ordering {

@@ -2,8 +2,7 @@
 ghost use Rattle.std.specs.Prelude.{◌≡◌, ◌≢◌, ◌<◌, ◌≤◌, ◌↔◌, ◌++◌, [], ◌∷◌, length, IfOk, IsTrue, MatchResult};
 ghost use Rattle.cdxj_core.specs.Entries.{IsGood, entry_view, line_text};
 
-use crate::entry::Entry;
-use crate::entry_ref::EntryRef;
+use crate::entry::{Entry, EntryRef};
 use crate::fault::LineFault;
 use crate::limit::LINE_LIMIT;
 use crate::spans::TO_OBJECT;

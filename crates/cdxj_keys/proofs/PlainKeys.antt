@@ -7,8 +7,8 @@ use Rattle.url.specs.Parts.{serialize}
 use Rattle.url.specs.Scheme.{IsScheme, scheme_type}
 use Rattle.url.specs.declared.scheme.SchemeType.TheVariants.{SpecialNotFile}
 use Rattle.cdxj_keys.specs.Key.{domain_text, folded, key_of, key_text, is_web, query_text, web_text}
-use Rattle.cdxj_keys.specs.PlainUrls.{plain_parts, plain_key_text, IsPlainHost, IsPlainQuery, IsPlainTail, IsPlainUrl}
-use Rattle.cdxj_keys.proofs.PlainLaws.{parses, http_scheme, https_scheme, http_kind, https_kind}
+use Rattle.cdxj_keys.specs.PlainUrls.{plain_key_text, IsPlainHost, IsPlainQuery, IsPlainTail, IsPlainUrl}
+use Rattle.cdxj_keys.proofs.PlainLaws.{parses, plain_parts, http_scheme, https_scheme, http_kind, https_kind}
 
 serialized : (scheme host path : List ℕ) (query : Option (List ℕ)) → IfSome query IsPlainQuery
     → serialize (plain_parts scheme host path query) ≡ scheme

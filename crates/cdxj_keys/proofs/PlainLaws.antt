@@ -1,7 +1,7 @@
 -- The URL parser leaves a plain web URL as it is.
 use Rattle.std.proofs.lemmas.Grind.{common_steps}
 use Rattle.std.proofs.Common.{◌≡◌, ℕ, ◌<◌, ◌==◌, cond, ◌&&◌, ◌||◌, Bool, true, false, not, List, [], ◌∷◌}
-use Rattle.std.proofs.Common.{codes, zip, drop, length, All, Option, None, IfSome, Ok, refl, sym, ap, ◌∙◌, subst}
+use Rattle.std.proofs.Common.{codes, zip, drop, length, All, Option, None, Some, IfSome, Ok, refl, sym, ap, ◌∙◌, subst}
 use Rattle.std.proofs.Common.{arith}
 use Rattle.std.specs.List.{list_all, slice_split, onto_first}
 use Rattle.std.specs.Char.{is_ascii_digit, is_ascii_lowercase}
@@ -19,14 +19,28 @@ use Rattle.url.specs.declared.scheme.SchemeType.{SchemeType}
 use Rattle.url.specs.declared.host.Host.TheVariants.{Domain}
 use Rattle.url.specs.Host.{IsDomain, IsHostOf}
 use Rattle.url.specs.Parser.{parse_url}
-use Rattle.url.specs.Parts.{IsValid, serialize}
+use Rattle.url.specs.Parts.{IsValid, Parts, serialize}
 use Rattle.url.proofs.Theorems.{parse_url-serialize_special}
 use Rattle.url.specs.Input.{is_empty, lowercase, rsplit_once}
 use Rattle.url.specs.Ipv4.{ends_in_a_number, last_label, parse_number, is_number}
 use Rattle.url.specs.Path.{IsSegment, IsSegmentList, join_segments, dot_count}
 use Rattle.url.specs.Scheme.{IsScheme, default_port, scheme_len, scheme_type}
-use Rattle.cdxj_keys.specs.PlainUrls.{is_domain_byte, is_plain_byte, is_path_byte, begins_plain, plain_parts}
+use Rattle.cdxj_keys.specs.Bytes.{slash}
+use Rattle.cdxj_keys.specs.PlainUrls.{is_domain_byte, is_plain_byte, is_path_byte, begins_plain}
 use Rattle.cdxj_keys.specs.PlainUrls.{IsPlainHost, IsPlainPath}
+
+-- the parts of a web URL with this scheme, host, path behind its first `/`, and query
+abbrev pub plain_parts : List ℕ → List ℕ → List ℕ → Option (List ℕ) → Parts
+plain_parts scheme host path query = record {
+  scheme = scheme;
+  username = [];
+  password = [];
+  host = Some (Domain host);
+  port = None;
+  path = slash ∷ path;
+  query = query;
+  fragment = None;
+}
 
 -- ---- bytes
 

@@ -1,11 +1,9 @@
 -- Web URLs that the URL parser leaves as they are.
 use Rattle.std.specs.Prelude.{◌≡◌, ℕ, ◌&&◌, ◌||◌, ◌==◌, ◌<◌, ◌⊎◌, Bool, true, not, List, [], ◌∷◌, ◌++◌, codes, drop}
-use Rattle.std.specs.Prelude.{length, slice_index, zip, Option, Some, None, IfSome}
+use Rattle.std.specs.Prelude.{length, slice_index, zip, Option, IfSome}
 use Rattle.std.specs.List.{list_all, list_any}
 use Rattle.std.specs.Char.{is_ascii_lowercase, is_ascii_digit}
-use Rattle.url.specs.declared.host.Host.TheVariants.{Domain}
 use Rattle.url.specs.Ipv4.{last_label}
-use Rattle.url.specs.Parts.{Parts}
 use Rattle.cdxj_keys.specs.Bytes.{percent, hyphen, full_stop, slash, question_mark}
 use Rattle.cdxj_keys.specs.Key.{domain_text, is_graphic, query_text}
 
@@ -35,19 +33,6 @@ pub record IsPlainPath (path : List ℕ) : Type 0 where
 pub record IsPlainHost (host : List ℕ) : Type 0 where
   pub bytes : list_all is_domain_byte host ≡ true
   pub letter : is_ascii_lowercase (slice_index (last_label host) 0) ≡ true
-
--- the parts of a web URL with this scheme, host, path behind its first `/`, and query
-abbrev pub plain_parts : List ℕ → List ℕ → List ℕ → Option (List ℕ) → Parts
-plain_parts scheme host path query = record {
-  scheme = scheme;
-  username = [];
-  password = [];
-  host = Some (Domain host);
-  port = None;
-  path = slash ∷ path;
-  query = query;
-  fragment = None;
-}
 
 -- a query that is left as it is, and isn't empty
 abbrev pub IsPlainQuery : List ℕ → Type 0

@@ -1,5 +1,5 @@
 //! How long lines are, and the pairs that they begin with.
-use cdxj_core::{LINE_LIMIT, LineFault, LineRef, split_pair};
+use cdxj_core::{LINE_LIMIT, Line, LineFault, split_pair};
 use fixtures::padded;
 use std::alloc::{AllocError, Global};
 
@@ -13,7 +13,7 @@ fn long_line(alloc: Global, length: usize, feed: bool) -> Result<Vec<u8>, AllocE
 
 /// Returns the offset in a line, or `None` if it is too long. Other faults are errors of the test.
 fn offset_of(alloc: Global, line: &[u8]) -> Result<Option<u64>, LineFault> {
-    match LineRef::read(alloc, line) {
+    match Line::read(alloc, line) {
         Ok(read) => Ok(Some(read.place().offset)),
         Err(LineFault::LineTooLong) => Ok(None),
         Err(fault) => Err(fault),

@@ -8,15 +8,16 @@ use std::test::Fail;
 const PLAIN: &[u8] =
     b"k 20160101000000 {\"url\": \"http://x/\", \"mime\": \"text/html\", \"status\": \"200\", \"digest\": \"-\", \"length\": \"1\", \"offset\": \"0\", \"filename\": \"a.warc\"}\n";
 
-/// Returns `true` if the line has the URL and the file name of the plain line.
+/// Returns `true` if the line has the URL and the file name of the plain line, without escapes.
 fn is_plain(read: &LineRef<'_>) -> bool {
-    read.value(Field::Original) == "http://x/" && read.value(Field::Filename) == "a.warc"
+    read.value(Field::Original) == "http://x/"
+        && read.value(Field::Filename) == "a.warc"
+        && read.needs_no_escapes()
 }
 
 #[test]
 fn a_plain_line_takes_no_memory(rt: HostRuntime) -> Result<(), Fail> {
-    let read = LineRef::read(rt.alloc(), PLAIN)?;
-    assert!(rt; is_plain(&read) && read.needs_no_escapes());
+    assert!(rt; LineRef::plain(PLAIN).is_some_and(|read| is_plain(&read)));
     assert!(rt; has_pair(PLAIN, b"k"));
     Ok(())
 }

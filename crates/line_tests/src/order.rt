@@ -1,6 +1,6 @@
 //! The order of entries and of lines.
 use crate::writing::{HOME, Members, entry};
-use cdxj_core::{Entry, LineFault, LineRef, in_order};
+use cdxj_core::{Entry, Line, LineFault, LineRef, in_order};
 use cdxj_places::rows_in_order;
 use std::alloc::{AllocError, Global};
 
@@ -127,10 +127,10 @@ fn are_offsets(lines: &[&&LineRef<'_>], offsets: &[u64]) -> bool {
 
 #[test]
 fn lines_rise_by_place(rt: HostRuntime) -> Result<(), LineFault> {
-    let first = LineRef::read(rt.alloc(), OFFSET_1000)?;
-    let second = LineRef::read(rt.alloc(), OFFSET_99)?;
-    let third = LineRef::read(rt.alloc(), OFFSET_5)?;
-    let lines = [&first, &second, &third];
+    let first = Line::read(rt.alloc(), OFFSET_1000)?;
+    let second = Line::read(rt.alloc(), OFFSET_99)?;
+    let third = Line::read(rt.alloc(), OFFSET_5)?;
+    let lines = [&first.values(), &second.values(), &third.values()];
     let order = in_order(rt.alloc(), &lines)?;
     assert!(rt; are_offsets(&order, &[5, 99, 1000]));
     Ok(())

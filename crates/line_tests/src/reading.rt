@@ -31,7 +31,8 @@ fn has_foreign_pair(read: &LineRef<'_>) -> bool {
 
 #[test]
 fn a_foreign_line_is_read(rt: HostRuntime) -> Result<(), LineFault> {
-    let read = LineRef::read(rt.alloc(), FOREIGN)?;
+    let kept = Line::read(rt.alloc(), FOREIGN)?;
+    let read = kept.values();
     assert!(rt; has_foreign_values(&read));
     assert!(rt; has_foreign_pair(&read) && read.line() == FOREIGN);
     Ok(())
@@ -57,7 +58,8 @@ fn has_values(read: &LineRef<'_>, values: &str) -> bool {
 
 /// Returns `true` if the line is read with these values.
 pub fn is_read(alloc: Global, line: &str, values: &str) -> Result<bool, LineFault> {
-    let read = LineRef::read(alloc, line.as_bytes())?;
+    let kept = Line::read(alloc, line.as_bytes())?;
+    let read = kept.values();
     let end = line.strip_suffix('\n').unwrap_or(line);
     Ok(
         has_values(&read, values)
@@ -274,7 +276,8 @@ fn refuses_key_alone(kept: &mut Line) -> Result<bool, LineFault> {
 #[test]
 fn a_kept_line_is_refilled(rt: HostRuntime) -> Result<(), LineFault> {
     let alloc = rt.alloc();
-    let mut kept = Line::new(alloc, &LineRef::read(alloc, FOREIGN)?)?;
+    let read = Line::read(alloc, FOREIGN)?;
+    let mut kept = Line::new(alloc, &read.values())?;
     assert!(rt; keeps_foreign(&kept));
     assert!(rt; has_member(&kept, Field::Statuscode, "200"));
     kept.refill(ESCAPED)?;

@@ -1,10 +1,10 @@
 //! Lines that are refused.
-use cdxj_core::{LineFault, LineRef};
+use cdxj_core::{Line, LineFault};
 use std::alloc::Global;
 
 /// Returns `true` if the line is refused as bad. Failed allocations are errors of the test.
 pub fn is_bad(alloc: Global, line: &[u8]) -> Result<bool, LineFault> {
-    match LineRef::read(alloc, line) {
+    match Line::read(alloc, line) {
         Err(LineFault::Memory) => Err(LineFault::Memory),
         Err(LineFault::BadLine) => Ok(true),
         _ => Ok(false),

@@ -1,5 +1,5 @@
 //! The lines that are written for entries.
-use cdxj_core::{Entry, Field, LineFault, LineRef, push_quoted, write_line};
+use cdxj_core::{Entry, Field, Line, LineFault, push_quoted, write_line};
 use std::alloc::{AllocError, Global};
 use std::test::Fail;
 
@@ -72,7 +72,8 @@ const TEXTS: &[Field] = &[
 ];
 
 /// Returns `true` if a line has the texts and the stamp of these members.
-fn has_texts(read: &LineRef<'_>, members: &Members) -> bool {
+fn has_texts(line: &Line, members: &Members) -> bool {
+    let read = line.values();
     let texts = [
         members.key,
         members.url,
@@ -109,12 +110,13 @@ fn is_written(alloc: Global, members: &Members, line: &[u8]) -> Result<bool, Fai
         return Ok(false);
     }
     let written = write_line(alloc, &entry)?;
-    Ok(written.as_slice() == line && has_texts(&LineRef::read(alloc, line)?, members))
+    Ok(written.as_slice() == line && has_texts(&Line::read(alloc, line)?, members))
 }
 
 /// Returns `true` if the line has this length and offset.
 fn has_numbers(alloc: Global, line: &[u8], length: &str, offset: &str) -> Result<bool, LineFault> {
-    let read = LineRef::read(alloc, line)?;
+    let kept = Line::read(alloc, line)?;
+    let read = kept.values();
     Ok(read.value(Field::Length) == length && read.value(Field::Offset) == offset)
 }
 

@@ -19,7 +19,7 @@ ghost use Rattle.merge_core.specs.BoxedLines.{boxed_line};
 use crate::fault::FeedFault;
 use crate::range::Range;
 use cdxj_core::{Line, LineFault};
-use source_core::{Cursor, LineReadFault, Source};
+use source_core::{Cursor, LineBytes, LineReadFault, Source};
 use std::alloc::Global;
 
 fn boxed(alloc: Global, line: Line) -> Result<Box<Line>, LineFault>
@@ -31,25 +31,23 @@ fn boxed(alloc: Global, line: Line) -> Result<Box<Line>, LineFault>
     }
 }
 
-/// Returns the line of these bytes, in the buffer of a line that isn't needed any more if there is one. If `is_unescaped`,
-/// they are characters of ASCII other than controls and backslashes, but for the line feed.
+/// Returns the line of these bytes, in the buffer of a line that isn't needed any more if there is one.
 #[tactic(auto, using(crate::proofs::FeedLemmas::no_entry))]
 fn line_of(
     alloc: Global,
     spare: &mut Vec<Box<Line>>,
     bytes: &[u8],
-    is_unescaped: bool,
+    kind: LineBytes,
 ) -> Result<Box<Line>, LineFault>
-    requires { is_unescaped ≡ true → list_all is_unescaped_ascii (body_of bytes.now) ≡ true }
+    requires { kind ≡ LineBytes.Unescaped → list_all is_unescaped_ascii (body_of bytes.now) ≡ true }
     ensures { MatchResult result (λ line. line_entry LINE_LIMIT bytes.now ≡ Some line.value)
         (λ fault. fault ≢ LineFault.Memory → line_entry LINE_LIMIT bytes.now ≡ None) }
 {
     match spare.pop() {
         Some(mut line) => {
-            if is_unescaped {
-                line.refill_unescaped(bytes)?;
-            } else {
-                line.refill(bytes)?;
+            match kind {
+                LineBytes::Unescaped => line.refill_unescaped(bytes)?,
+                LineBytes::Any => line.refill(bytes)?,
             }
             Ok(line)
         }
@@ -136,9 +134,9 @@ impl LineBuffers {
             → IfErr result (IsFeedFaultAt LINE_LIMIT (lines (drop cursor.old.at t)) cursor.old.at) }
     {
         let begin = cursor.at();
-        if let Some((bytes, is_unescaped)) = cursor.held_line() {
+        if let Some((bytes, kind)) = cursor.held_line() {
             let size = bytes.len();
-            let read = line_of(self.alloc, &mut self.spare, bytes, is_unescaped);
+            let read = line_of(self.alloc, &mut self.spare, bytes, kind);
             cursor.pass_line(source, size);
             return match read {
                 Ok(line) => Ok(Some(line)),
@@ -147,7 +145,7 @@ impl LineBuffers {
         }
         match cursor.next(source, &mut self.bytes) {
             Ok(false) => Ok(None),
-            Ok(true) => match line_of(self.alloc, &mut self.spare, &self.bytes, false) {
+            Ok(true) => match line_of(self.alloc, &mut self.spare, &self.bytes, LineBytes::Any) {
                 Ok(line) => Ok(Some(line)),
                 Err(fault) => Err(fault_at(begin, fault)),
             },

@@ -5,7 +5,8 @@ use Rattle.cdxj_places.specs.Bytes.{line_feed}
 use Rattle.cdxj_core.specs.declared.field.Field.{Field}
 use Rattle.page_core.specs.Form.{FormValue, Text, Cdxj, Json}
 use Rattle.cdxj_core.specs.Members.{Member, line_row}
-use Rattle.page_core.specs.Rows.{row_value, field_name, text_row, json_row}
+use Rattle.cdxj_core.specs.Fields.{field_name}
+use Rattle.page_core.specs.Rows.{row_value, text_row, json_row}
 
 -- an empty line and the key, where one is printed
 abbrev pub key_lines : Option (List ℕ) → List ℕ

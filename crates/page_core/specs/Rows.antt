@@ -5,26 +5,12 @@ use Rattle.std.specs.List.{join_by}
 use Rattle.json.specs.Print.{quoted}
 use Rattle.cdxj_places.specs.Bytes.{line_feed, space, quote, delete}
 use Rattle.cdxj_core.specs.declared.field.Field.{Field}
-use Rattle.cdxj_core.specs.declared.field.Field.TheVariants.{Urlkey, Timestamp, Original, Mimetype, Statuscode, Digest}
-use Rattle.cdxj_core.specs.declared.field.Field.TheVariants.{Length, Offset, Filename}
 use Rattle.cdxj_core.specs.Lines.{field_value}
 use Rattle.cdxj_core.specs.Members.{Member}
 
 -- the value of a field
 abbrev pub row_value : Member → Field → List ℕ
 row_value m field = field_value field m.values
-
--- the name of a field
-abbrev pub field_name : Field → List ℕ
-field_name Urlkey = codes "urlkey"
-field_name Timestamp = codes "timestamp"
-field_name Original = codes "original"
-field_name Mimetype = codes "mimetype"
-field_name Statuscode = codes "statuscode"
-field_name Digest = codes "digest"
-field_name Length = codes "length"
-field_name Offset = codes "offset"
-field_name Filename = codes "filename"
 
 -- a digit of base 16, as `0` to `9` and `A` to `F`
 abbrev pub hex_digit : ℕ → ℕ

@@ -3,28 +3,12 @@ ghost use Rattle.std.specs.Prelude.{◌≡◌, [], ◌∷◌, ◌++◌, codes, m
 ghost use Rattle.json.specs.Print.{quoted};
 ghost use Rattle.std.specs.List.{join_by};
 ghost use Rattle.cdxj_places.specs.Bytes.{quote};
-ghost use Rattle.page_core.specs.Rows.{row_value, field_name, json_row, between_quotes};
+ghost use Rattle.cdxj_core.specs.Fields.{field_name};
+ghost use Rattle.page_core.specs.Rows.{row_value, json_row, between_quotes};
 ghost use Rattle.page_core.specs.PageText.{key_rows, later_row};
 
-use cdxj_core::{Field, LineRef, push_quoted};
+use cdxj_core::{Field, LineRef, field_name, push_quoted};
 use std::alloc::{AllocError, Global};
-
-/// Returns the name of a field, as queries and JSON pages write it.
-pub fn field_name(field: Field) -> &'static str
-    ensures { result.now ≡ field_name field }
-{
-    match field {
-        Field::Urlkey => "urlkey",
-        Field::Timestamp => "timestamp",
-        Field::Original => "original",
-        Field::Mimetype => "mimetype",
-        Field::Statuscode => "statuscode",
-        Field::Digest => "digest",
-        Field::Length => "length",
-        Field::Offset => "offset",
-        Field::Filename => "filename",
-    }
-}
 
 fn push_later_quoted(text: &mut Vec<u8>, alloc: Global, value: &str) -> Result<(), AllocError>
     ensures { IfOk result (λ _. text.new.items

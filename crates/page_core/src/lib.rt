@@ -12,6 +12,5 @@ mod page_output;
 mod text_rows;
 
 pub use crate::form::PageForm;
-pub use crate::json_rows::field_name;
 pub use crate::laws::{begun_page_is_front, page_is_its_pieces, pages_join};
 pub use crate::page_output::PageOutput;

@@ -7,6 +7,7 @@ use Rattle.std.proofs.lemmas.Bool.{cond-false}
 use Rattle.std.proofs.lemmas.List.Folds.{list_all-append}
 use Rattle.std.proofs.lemmas.Str.{IsUtf8-from_ascii}
 use Rattle.cdxj_core.specs.declared.field.Field.TheVariants.{Urlkey}
+use Rattle.cdxj_core.specs.Fields.{field_named}
 use Rattle.cdxj_core.specs.Lines.{LineValue}
 use Rattle.cdxj_core.specs.Members.{Member}
 use Rattle.query_text.specs.declared.filter.Test.TheVariants.{HasNot}
@@ -75,6 +76,7 @@ value_is : decoded (codes "urlkey:") ≡ codes "urlkey:"
 value_is = plain_text_stands (codes "urlkey:") (IsUtf8-from_ascii (codes "urlkey:") (grind arith)) refl
 
 condition_read : (w : ParameterValues) → with_piece w (codes "hasnot=urlkey:") ≡ Ok (with_filter w no_key)
+unfolding field_named
 condition_read w = ap (λ name. with_parameter (parameter_named name) w (codes "urlkey:")) name_is
     ∙ ap (λ t. and_then (filter_of HasNot t) (λ f. Ok (with_filter w f))) value_is
 

@@ -10,7 +10,8 @@ use Rattle.cdxj_core.specs.Lines.{has_no_feed}
 use Rattle.cdxj_core.specs.Members.{Member}
 use Rattle.cdxj_core.proofs.IndexLemmas.{lines_front}
 use Rattle.page_core.specs.PageText.{json_page, key_rows, later_row}
-use Rattle.page_core.specs.Rows.{field_name, json_row, row_value}
+use Rattle.cdxj_core.specs.Fields.{field_name}
+use Rattle.page_core.specs.Rows.{json_row, row_value}
 use Rattle.query_core.specs.PageLines.{BeginsWithBracket}
 
 joined : (us vs : List ℕ) → has_no_feed us ≡ true → has_no_feed vs ≡ true → has_no_feed (us ++ vs) ≡ true

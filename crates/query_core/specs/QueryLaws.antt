@@ -13,9 +13,8 @@ use Rattle.query_text.specs.Collapses.{same_part}
 use Rattle.query_text.specs.Matching.{matches}
 use Rattle.query_text.specs.Queries.{QueryValue, query_of}
 use Rattle.query_text.specs.Resuming.{text_with_key}
-use Rattle.query_text.specs.Values.{field_named}
+use Rattle.cdxj_core.specs.Fields.{field_name, field_named}
 use Rattle.page_core.specs.Pages.{Page, AllPositive, collapsed, is_above}
-use Rattle.page_core.specs.Rows.{field_name}
 use Rattle.merge_core.specs.Collections.{OverIndexes, all_lines, collection}
 use Rattle.query_core.specs.declared.fault.AnswerFault.{AnswerFault}
 use Rattle.query_core.specs.IndexFaults.{IsAnswerFaultOf, NamesNoLine}

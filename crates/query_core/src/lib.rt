@@ -38,12 +38,12 @@ pub use crate::paging::pages;
 pub use crate::report::Report;
 pub use crate::serving::serve;
 pub use crate::sizes::are_sizes;
-pub use cdxj_core::{Field, LINE_LIMIT, Line, LineFault, LineRef, Place};
+pub use cdxj_core::{Field, LINE_LIMIT, Line, LineFault, LineRef, Place, field_name};
 pub use devices::{
     DeviceFault, FromRead, FromWrite, Gather, INPUT_LIMIT, Input, Output, Positioned, Prompt,
     Slice, SystemFile,
 };
-pub use page_core::{field_name, page_is_its_pieces, pages_join};
+pub use page_core::{page_is_its_pieces, pages_join};
 pub use query_text::{
     Collapse, MatchKind, OutputFormat, QUERY_LIMIT, Query, QueryFault, Target,
     matching_keys_are_in_one_range, resume_key_is_put_into_query,

@@ -9,7 +9,7 @@ use Rattle.query_text.specs.declared.fault.QueryFault.TheVariants as fault
 use Rattle.query_text.specs.declared.filter.Test.{Test}
 use Rattle.query_text.specs.declared.filter.Test.TheVariants.{Is, IsNot, Has, HasNot}
 use Rattle.query_text.specs.Readings.{Text, Read, and_then}
-use Rattle.query_text.specs.Values.{field_named}
+use Rattle.cdxj_core.specs.Fields.{field_named}
 
 -- a condition on one field of a line
 pub record FilterValue : Type 0 where

@@ -1,11 +1,11 @@
 -- The values of a query's parameters.
-use Rattle.std.specs.Prelude.{ℕ, ◌==◌, ◌&&◌, Bool, nat_lt, nat_le, List, [], ◌∷◌, length, codes, bytes_eq, Option, Some}
+use Rattle.std.specs.Prelude.{ℕ, ◌==◌, ◌&&◌, Bool, nat_lt, nat_le, List, [], ◌∷◌, length, Option, Some}
 use Rattle.std.specs.Prelude.{None, Ok, Err, if◌then◌else◌}
 use Rattle.std.specs.List.{list_all, slice_split}
 use Rattle.std.specs.Char.{is_ascii_digit}
 use Rattle.std.specs.Str.Parse.{digits_value}
 use Rattle.cdxj_core.specs.declared.field.Field.{Field}
-use Rattle.cdxj_core.specs.declared.field.Field.TheVariants as field
+use Rattle.cdxj_core.specs.Fields.{field_named}
 use Rattle.cdxj_core.specs.Places.{PlaceValue, resume_place}
 use Rattle.query_text.specs.declared.fault.QueryFault.TheVariants as fault
 use Rattle.query_text.specs.Readings.{Text, Read, and_then}
@@ -35,17 +35,6 @@ or_refused refusal None = refusal
 -- the place that a resume key names, from its text as it was printed
 abbrev pub resume_of : Text → Read PlaceValue
 resume_of text = or_refused (Err fault.BadResume) (resume_place text)
-
-abbrev pub field_named : Text → Option Field
-field_named name = if bytes_eq name (codes "urlkey") then Some field.Urlkey
-    else (if bytes_eq name (codes "timestamp") then Some field.Timestamp
-    else (if bytes_eq name (codes "original") then Some field.Original
-    else (if bytes_eq name (codes "mimetype") then Some field.Mimetype
-    else (if bytes_eq name (codes "statuscode") then Some field.Statuscode
-    else (if bytes_eq name (codes "digest") then Some field.Digest
-    else (if bytes_eq name (codes "length") then Some field.Length
-    else (if bytes_eq name (codes "offset") then Some field.Offset
-    else (if bytes_eq name (codes "filename") then Some field.Filename else None))))))))
 
 -- a field more, before those that follow
 abbrev pub field_before : Option Field → Read (List Field) → Read (List Field)

@@ -4,8 +4,7 @@ ghost use Rattle.query_text.specs.Readings.{IsReading};
 ghost use Rattle.query_text.specs.Filters.{filter_of, literal_of, is_literal, bang_cut, occurs, holds};
 
 use crate::fault::QueryFault;
-use crate::fields::field_named;
-use cdxj_core::{Field, LineRef};
+use cdxj_core::{Field, LineRef, field_named};
 use std::alloc::Global;
 use std::marker::Model;
 

@@ -1,5 +1,5 @@
 //! Which lines queries select.
-use cdxj_core::{Line, LineRef};
+use cdxj_core::Line;
 use fixtures::{FOREIGN, HOSTS, LETTER_ROWS, Rows, index_lines};
 use query_text::{Query, QueryFault};
 use std::alloc::Global;
@@ -11,8 +11,8 @@ fn selected(alloc: Global, text: &str, lines: &[Vec<u8>]) -> Result<String, Fail
     let query = Query::read(alloc, text)?;
     let mut numbers = String::new(alloc);
     for (number, line) in lines.iter().enumerate() {
-        let asked = query.matches(&LineRef::read(alloc, line)?);
         let kept = Line::read(alloc, line)?;
+        let asked = query.matches(&kept.values());
         if asked != query.matches_kept(&kept) {
             numbers.push_str(" otherwise")?;
         } else if asked {

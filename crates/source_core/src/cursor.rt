@@ -12,6 +12,15 @@ use devices::PIECE;
 use std::alloc::{AllocError, Global};
 use std::marker::Model;
 
+/// Which bytes a line that was read ahead may have.
+#[derive(Clone, Copy, Debug, Drop)]
+pub enum LineBytes {
+    /// Characters of ASCII other than controls and backslashes, but for the line feed.
+    Unescaped,
+    /// Any bytes.
+    Any,
+}
+
 /// Reads the lines of a source from an offset on. It does not hold the source; each call takes it.
 ///
 /// It reads pieces of at most [`PIECE`] bytes and holds one of them.
@@ -91,24 +100,24 @@ impl Cursor {
         self.count
     }
 
-    /// Returns the next line, with its line feed, if all of it was read ahead. The second part is `true` if it consists of
-    /// characters of ASCII other than controls and backslashes, but for the line feed. It may be `false` for any line.
+    /// Returns the next line, with its line feed, if all of it was read ahead, and which bytes it may have. That may be
+    /// `Any` for any line.
     #[inline(always)]
-    pub fn held_line(&self) -> Option<(&[u8], bool)>
+    pub fn held_line(&self) -> Option<(&[u8], LineBytes)>
         ensures line { IfSome result (λ l. (l.0.now ≡ take (length l.0.now) self.now.ahead)
             × IsHeldLine self.now.ahead (length l.0.now)) }
         ensures none { IfNone result (NoFeed self.now.ahead) }
         ensures unescaped { IfSome result
-            (λ l. l.1 ≡ true → list_all is_unescaped_ascii (body_of l.0.now) ≡ true) }
+            (λ l. l.1 ≡ LineBytes.Unescaped → list_all is_unescaped_ascii (body_of l.0.now) ≡ true) }
     {
         let held = self.window.from(self.at);
         let body = unescaped_length(held);
         if body < held.len() && held[body] == b'\n' {
-            return Some((&held[..body + 1], true));
+            return Some((&held[..body + 1], LineBytes::Unescaped));
         }
         let (length, ends) = line_part(held);
         if ends {
-            Some((&held[..length], false))
+            Some((&held[..length], LineBytes::Any))
         } else {
             None
         }

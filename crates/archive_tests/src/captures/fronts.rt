@@ -1,7 +1,7 @@
 //! One front for records whose HTTP heads end in each of its steps.
 use super::{ABC, HTTP, record_text};
 use capture_core::{BlockStart, CaptureFault, HeldLine, Types, held_capture};
-use cdxj_core::{Field, LineRef};
+use cdxj_core::{Field, Line, LineRef};
 use fixtures::repeated;
 use std::alloc::{AllocError, Global};
 use std::test::Fail;
@@ -49,11 +49,15 @@ fn next_with(
     }
 }
 
+fn has_values(line: &LineRef<'_>, status: &str) -> bool {
+    line.value(Field::Statuscode) == status && line.value(Field::Digest) == ABC
+}
+
 /// Returns `true` if the line of the capture has this status, and the digest of `abc`.
 fn says(alloc: Global, captured: &Option<HeldLine>, status: &str) -> bool {
     match captured {
-        Some(line) => match LineRef::read(alloc, line.line()) {
-            Ok(line) => line.value(Field::Statuscode) == status && line.value(Field::Digest) == ABC,
+        Some(line) => match Line::read(alloc, line.line()) {
+            Ok(line) => has_values(&line.values(), status),
             Err(_) => false,
         },
         None => false,

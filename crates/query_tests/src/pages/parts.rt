@@ -1,9 +1,9 @@
 //! The parts of pages, and the opening of sources at a pair.
-use cdxj_core::{Field, Line, Pair};
+use cdxj_core::{Field, Line, Pair, field_name};
 use devices::Gather;
 use fixtures::LETTERS;
 use merge_core::{All, LineWriter, MergeState, merge};
-use page_core::{PageForm, PageOutput, field_name};
+use page_core::{PageForm, PageOutput};
 use query_core::SliceSource;
 use std::alloc::{AllocError, Global};
 use std::test::Fail;

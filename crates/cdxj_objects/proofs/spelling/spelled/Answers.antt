@@ -1,9 +1,52 @@
-use Rattle.std.proofs.Common.{◌≡◌, ◌++◌, ap, ◌∙◌, arith, length, string_bytes}
+use Rattle.std.proofs.Common.{◌≡◌, ℕ, List, ◌++◌, ap, ◌∙◌, arith, codes, length, length-append, string_bytes}
+use Rattle.cdxj_objects.specs.declared.members.Members.{Members}
 use Rattle.cdxj_objects.specs.FoundViews.{found_view}
-use Rattle.cdxj_objects.specs.Plain.{fronts, plain_text}
+use Rattle.cdxj_objects.specs.Plain.{fronts, plain_pieces, plain_text}
+use Rattle.cdxj_objects.specs.PlainPlaces.{AreFrontsOf}
 use Rattle.cdxj_objects.specs.Spelling.{raw_texts}
-use Rattle.cdxj_objects.proofs.SpellingLemmas.{is_written}
+use Rattle.cdxj_objects.specs.Texts.{TextsValue}
+use Rattle.cdxj_objects.proofs.PlainLaw.{in_one}
 use Rattle.cdxj_objects.proofs.spelling.spelled.Goals as goal
+
+-- a front and a text were added to a text, which ends there
+abbrev IsPushed : List ℕ → List ℕ → List ℕ → List ℕ → ℕ → Type 0
+IsPushed old front text new end = (new ≡ old ++ (front ++ text)) × (end ≡ length new)
+
+-- texts that were added behind their fronts, one after another, and where each ends
+is_written : (t : TextsValue) (at : Members ℕ) (s0 s1 s2 s3 s4 s5 s6 s7 s8 : List ℕ) → at.url ≡ length s0
+    → IsPushed s0 fronts.url t.url s1 at.mime → IsPushed s1 fronts.mime t.mime s2 at.status
+    → IsPushed s2 fronts.status t.status s3 at.digest → IsPushed s3 fronts.digest t.digest s4 at.length
+    → IsPushed s4 fronts.length t.length s5 at.offset → IsPushed s5 fronts.offset t.offset s6 at.filename
+    → s7 ≡ s6 ++ (fronts.filename ++ t.filename) → s8 ≡ s7 ++ codes "\"}"
+    → (s8 ≡ s0 ++ plain_text t) × AreFrontsOf s8 t at
+is_written t at s0 s1 s2 s3 s4 s5 s6 s7 s8 object url mime status digest size offset filename closed = (
+  in_one (plain_pieces t) s0 s8 (
+    s1,
+    url.0,
+    (
+      s2,
+      mime.0,
+      (
+        s3,
+        status.0,
+        (
+          s4,
+          digest.0,
+          (
+            s5,
+            size.0,
+            (
+              s6,
+              offset.0,
+              (s7, filename, closed),
+            ),
+          ),
+        ),
+      ),
+    ),
+  ),
+  grind (arith, length-append),
+)
 
 pub returns : goal.returns
 returns c =

@@ -1,7 +1,7 @@
 use Rattle.std.proofs.Common.{◌≡◌, ◌∷◌, [], ◌++◌, take, map}
 use Rattle.std.specs.Prelude.{flat_map}
 use Rattle.json.specs.Print.{quoted}
-use Rattle.page_core.specs.Rows.{field_name}
+use Rattle.cdxj_core.specs.Fields.{field_name}
 use Rattle.page_core.proofs.json_rows.push_names.Given as goal
 
 abbrev pub invariant-loop-field : goal.invariant-loop-field

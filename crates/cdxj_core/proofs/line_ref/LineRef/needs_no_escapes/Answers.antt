@@ -1,5 +1,5 @@
 use Rattle.std.proofs.Common.{arith}
-use Rattle.cdxj_core.proofs.line_parts.LineParts.needs_no_escapes.Goals as goal
+use Rattle.cdxj_core.proofs.line_ref.LineRef.needs_no_escapes.Goals as goal
 use Rattle.cdxj_objects.proofs.PlainBytes.{digits_plain}
 
 pub returns-then-self : goal.returns-then-self

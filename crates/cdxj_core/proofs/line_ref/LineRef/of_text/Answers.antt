@@ -7,7 +7,7 @@ use Rattle.cdxj_objects.specs.Plain.{is_neither}
 use Rattle.cdxj_objects.specs.PlainPlaces.{ArePlainMembers}
 use Rattle.cdxj_core.specs.declared.limit.TheConstants.{LINE_LIMIT}
 use Rattle.cdxj_core.proofs.KeptLemmas.{plain_kept}
-use Rattle.cdxj_core.proofs.line_parts.LineParts.of_text.Goals as goal
+use Rattle.cdxj_core.proofs.line_ref.LineRef.of_text.Goals as goal
 
 pub overflow_add-key : goal.overflow_add-key
 overflow_add-key c = grind (arith, prefix_len-le-length (is_neither 32 127) c.args.text.now)

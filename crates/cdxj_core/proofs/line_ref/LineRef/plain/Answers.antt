@@ -1,7 +1,7 @@
 use Rattle.std.proofs.lemmas.Option.{IfSome_then}
 use Rattle.cdxj_core.specs.declared.limit.TheConstants.{LINE_LIMIT}
 use Rattle.cdxj_core.proofs.KeptLemmas.{line_of_text}
-use Rattle.cdxj_core.proofs.line_parts.LineParts.read.Goals as goal
+use Rattle.cdxj_core.proofs.line_ref.LineRef.plain.Goals as goal
 
 pub returns : goal.returns
 returns c =
