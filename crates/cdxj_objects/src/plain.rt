@@ -100,13 +100,15 @@ fn is_closed(text: &[u8], end: usize) -> bool
 pub fn plain_members(text: &[u8], object: usize) -> Option<PlainMembers>
     ensures { IfSome result (ArePlainMembers text.now object) }
 {
-    let mime = end_after(text, object, FRONTS.url)?;
-    let status = end_after(text, mime, FRONTS.mime)?;
-    let digest = end_after(text, status, FRONTS.status)?;
-    let length = end_after(text, digest, FRONTS.digest)?;
-    let offset = end_after(text, length, FRONTS.length)?;
-    let (filename, number) = number_after(text, offset, FRONTS.offset)?;
-    let end = end_after(text, filename, FRONTS.filename)?;
+    // One copy: each use of the constant itself would be compiled as a copy of the whole.
+    let fronts = FRONTS;
+    let mime = end_after(text, object, fronts.url)?;
+    let status = end_after(text, mime, fronts.mime)?;
+    let digest = end_after(text, status, fronts.status)?;
+    let length = end_after(text, digest, fronts.digest)?;
+    let offset = end_after(text, length, fronts.length)?;
+    let (filename, number) = number_after(text, offset, fronts.offset)?;
+    let end = end_after(text, filename, fronts.filename)?;
     if end == filename + BEFORE.filename.len() || !is_closed(text, end) {
         return None;
     }

@@ -1,8 +1,7 @@
 -- What a piece of a head does to the reading of it.
-use Rattle.std.proofs.Common.{◌≡◌, ◌∙◌, ℕ, ◌+◌, ◌-◌, ◌<◌, ◌≤◌, List, [], ◌++◌, Option, None, Some, Ok, Err}
-use Rattle.std.proofs.Common.{true, false, refl, length, take, drop, arith, ap, append_assoc, length-append}
+use Rattle.std.proofs.Common.{◌≡◌, ◌∙◌, ℕ, ◌+◌, ◌-◌, ◌<◌, ◌≤◌, List, ◌++◌, Option, Ok, Err}
+use Rattle.std.proofs.Common.{true, false, refl, sym, length, take, drop, arith, ap, append_assoc, length-append}
 use Rattle.std.specs.Io.KnownBytes.{prepend_known}
-use Rattle.std.specs.Prelude.{IfSome, MatchOption}
 use Rattle.std.proofs.lemmas.List.{take-append-drop, length-take-le, take-append-le, take-take}
 use Rattle.warc_core.specs.declared.fault.Cause.TheVariants as causes
 use Rattle.warc_core.specs.Reading.{Reads}
@@ -10,7 +9,10 @@ use Rattle.warc_core.proofs.ReadingLemmas.{GoesOn}
 use Rattle.warc_core.specs.HeadText.{has_version, is_closed, head_text, IsFoundHead, IsOpenAfter, ClosesFirst}
 use Rattle.warc_core.proofs.HeadLemmas.{going, going-found, going-wrong, going-gathered}
 use Rattle.std.proofs.Math.Seq.{take-append-add}
-use Rattle.warc_core.proofs.HeadLemmas.{agrees-longer}
+use Rattle.warc_core.proofs.HeadLemmas.{agrees-longer, begins_version}
+use Rattle.warc_core.specs.RecordText.{IsVersionLine}
+use Rattle.warc_core.proofs.ClosingLemmas.{NoneBetween, none-in-run, found-first, begins-occurs}
+use Rattle.warc_head.specs.Usual.{ClosesAt}
 
 pub split_at : (count : ℕ) (b z : List ℕ) → b ++ z ≡ take count b ++ (drop count b ++ z)
 split_at count b z = rw (← append_assoc, take-append-drop)
@@ -62,19 +64,27 @@ head-is-found limit seen b new count end c e before h room agree =
     let f : (n : ℕ) → n < end → is_closed (take n new) ≡ false = λ n l. grind (arith, take-append-le) in
     grind (arith, length-take-le, length-append, take-take)
 
--- the head that ends first in a front of what is held
-whole-found : (limit count end : ℕ) (b : List ℕ) → count ≤ length b → count ≤ limit → has_version b ≡ true
-    → ClosesFirst (take count b) 0 end → IsFoundHead limit (take end b)
-whole-found limit count end b c l agree h =
-    let len = length-take-le count b c in
-    let found =
-    head-is-found limit [] b (take count b) count end c refl (λ n k. grind arith) h (omega arith)
-    (has_version-take count b agree)
-    in
-    grind (arith, take-take)
+-- a head of this size at the front of a text
+module _ (limit size : ℕ) (b : List ℕ) (version : IsVersionLine (take 10 b)) (closes : ClosesAt b size) (small : size ≤ limit)
+  where
+    none : NoneBetween b 0 (size - 4)
+    none k from below h =
+        none-in-run b 0 0 (λ j x y z. omega (arith, y)) (size - 4) (λ j l p q. grind (arith, closes.first j)) k from
+        (omega (arith, below)) h
 
-pub whole-found-if : (limit count : ℕ) (b : List ℕ) (end : Option ℕ) → count ≤ length b → count ≤ limit
-    → has_version b ≡ true → MatchOption end (IsOpenAfter (take count b) 0) (ClosesFirst (take count b) 0)
-    → IfSome end (λ n. IsFoundHead limit (take n b))
-whole-found-if limit count b None c l agree h = tt
-whole-found-if limit count b (Some end) c l agree h = whole-found limit count end b c l agree h
+    first : ClosesFirst b 0 (size - 4 + 4)
+    first =
+        found-first b 0 (size - 4) none (omega arith)
+        (begins-occurs b (size - 4) (omega (arith, closes.within)) (rw closes.closing refl))
+
+    pub usual-found : IsFoundHead limit (take size b)
+    usual-found =
+        let n : size - 4 + 4 ≡ size = omega (arith, closes.long) in
+        let f : ClosesFirst b 0 size = rw n at first in
+        let long = length-take-le size b closes.within in
+        record {
+          version = has_version-take size b (begins_version (take 10 b) b (drop 10 b) version (sym (take-append-drop 10 b)));
+          closed = f.closed;
+          first = λ n l. grind (arith, take-take, long, f.first n);
+          small = omega (arith, long, small);
+        }

@@ -16,3 +16,4 @@ pub mod LimitLemmas
 pub mod Bits
 pub mod DigestLemmas
 pub mod VerdictLemmas
+pub mod HeldLemmas

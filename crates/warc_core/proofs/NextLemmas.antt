@@ -38,6 +38,12 @@ module _ (limit start : ℕ) (raw : List ℕ) (before now : Option (List ℕ))
       → Reads (head_at limit start) (Ok (head_of start raw p)) before now
   head-read p e l = grind (arith, text-there)
 
+-- a head whose text isn't there
+pub text-unread : (limit start : ℕ) (c : Cause) (before after : Option (List ℕ))
+    → Reads (head_text limit) (Err c) before after → Reads (head_at limit start) (Err c) before after
+unfolding head_at
+text-unread limit start c before after r = grind arith
+
 -- where some bytes are held, some are known
 longer : (held : List ℕ) (left : Option (List ℕ)) (w : List ℕ) → 0 < length held → prepend_known held left ≡ Some w
     → 0 < length w

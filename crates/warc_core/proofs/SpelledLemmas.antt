@@ -8,14 +8,14 @@ use Rattle.warc_core.specs.declared.fault.Cause.{Cause}
 use Rattle.warc_core.specs.Record.{after_text, after_block, after_record, closing}
 use Rattle.warc_core.specs.HeadText.{shortest, head_text, is_closed, IsFoundHead}
 use Rattle.warc_core.specs.Reading.{◌>>=◌, Reads}
-use Rattle.std.specs.Io.KnownBytes.{Keeps, prepend_known}
+use Rattle.std.specs.Io.KnownBytes.{prepend_known}
 use Rattle.warc_core.specs.Head.{parts_or_cause}
 use Rattle.warc_core.specs.HeadView.{HeadView, record_length}
 use Rattle.warc_core.specs.Next.{head_at, next_at}
 use Rattle.warc_core.specs.Walk.{record_at, closed_at, Walks}
 use Rattle.warc_core.specs.Laws.{ReadIsSpelled, SpelledIsRead, NoPrefix, RecordsOrDamage}
 use Rattle.warc_core.proofs.HeadTextLemmas.{found-spelled, spelled-found}
-use Rattle.warc_core.proofs.GatherLemmas.{has_version-front, split_at}
+use Rattle.warc_core.proofs.GatherLemmas.{has_version-front}
 use Rattle.warc_core.proofs.WalkLemmas.{none_at_end}
 use Rattle.warc_core.proofs.HeadLemmas.{going-start, going-piece, going-found}
 use Rattle.warc_core.proofs.ReadingLemmas.{nil_of}
@@ -65,11 +65,10 @@ shortest-first test seen [] head e n l m = grind arith
 head-back : (limit : ℕ) (raw x : List ℕ) → IsFoundHead limit raw → head_text limit (raw ++ x) ≡ Ok (raw, x)
 head-back limit raw x h = grind (arith, going-start, going-piece, going-found)
 
--- a head that stands whole in what is held
-pub held-head : (limit end : ℕ) (b : List ℕ) (before left : Option (List ℕ)) → IsFoundHead limit (take end b)
-    → Keeps before (prepend_known b left)
-    → Reads (head_text limit) (Ok (take end b)) before (prepend_known (drop end b) left)
-held-head limit end b before left found keeps = grind (arith, head-back, split_at end b)
+-- a head that was taken from what is held
+pub taken-head : (limit : ℕ) (raw b rest : List ℕ) (left : Option (List ℕ)) → IsFoundHead limit raw → b ≡ raw ++ rest
+    → Reads (head_text limit) (Ok raw) (prepend_known b left) (prepend_known rest left)
+taken-head limit raw b rest left found e = grind (arith, head-back, append_assoc)
 
 -- what is read as a head is a head text, and the rest follows it
 pub head-there : (limit : ℕ) (bytes raw rest : List ℕ) → head_text limit bytes ≡ Ok (raw, rest) → IsFoundHead limit raw

@@ -37,8 +37,9 @@ fn has_version(head: &[u8]) -> bool
 }
 
 /// Returns `true` if the bytes begin with a whole version line.
-fn begins_with_version(head: &[u8]) -> bool
-    ensures { result ≡ true → has_version head.now ≡ true }
+pub(crate) fn begins_with_version(head: &[u8]) -> bool
+    ensures version { result ≡ true → has_version head.now ≡ true }
+    ensures line { result ≡ true → IsVersionLine (take 10 head.now) }
 {
     match head.get(..VERSION_LINE) {
         Some(line) => is_version_line(line),
@@ -85,49 +86,9 @@ fn closing_end(text: &[u8], before: usize) -> Option<usize>
     }
 }
 
-/// Returns the length of the head that the bytes begin with, if it ends among the first 1,024.
-fn whole_head(held: &[u8], limit: usize) -> Option<usize>
-    ensures within { IfSome result (λ end. end ≤ length held.now) }
-    ensures found { IfSome result (λ end. IsFoundHead limit (take end held.now)) }
-{
-    if !begins_with_version(held) {
-        return None;
-    }
-    let count = held.len().min(HEAD_PIECE).min(limit);
-    closing_end(&held[..count], 0)
-}
-
-/// Reads the text of the next head, of at most `limit` bytes. Most stand whole in the buffer. The errors are `Memory`,
-/// `Read`, `Version`, `ShortHead` and `HeadTooLong`.
+/// Reads the text of the next head, of at most `limit` bytes, piece by piece. The errors are `Memory`, `Read`, `Version`,
+/// `ShortHead` and `HeadTooLong`.
 pub fn read_head_text<I: Input>(
-    alloc: Global,
-    buffer: &mut Buffer,
-    input: &mut I,
-    limit: usize,
-) -> Result<Vec<u8>, Cause>
-    requires { 10 ≤ limit }
-    ensures cause { IfErr result StopsHead }
-    ensures found { IfOk result (λ v. IsFoundHead limit v.items) }
-    ensures bytes { Reads (head_text limit) (seen_as (λ v. v.items) result)
-        (prepend_known buffer.old (I.remaining input.old))
-        (prepend_known buffer.new (I.remaining input.new)) }
-    ensures failures { CountsRead (seen_as (λ v. v.items) result) (I.failures input.old)
-        (I.failures input.new) }
-{
-    buffer.fill(input)?;
-    let held = buffer.as_slice();
-    match whole_head(held, limit) {
-        Some(end) => {
-            let head = Vec::from_slice(alloc, &held[..end])?;
-            buffer.consume(end);
-            Ok(head)
-        }
-        None => gather_head_text(alloc, buffer, input, limit),
-    }
-}
-
-/// Reads the text of the next head piece by piece. The errors are those of `read_head_text`.
-fn gather_head_text<I: Input>(
     alloc: Global,
     buffer: &mut Buffer,
     input: &mut I,

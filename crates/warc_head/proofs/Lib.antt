@@ -12,3 +12,4 @@ pub mod FirstPlace
 pub mod MandatoryLemmas
 pub mod LaneLemmas
 pub mod ReadLemmas
+pub mod UsualLemmas

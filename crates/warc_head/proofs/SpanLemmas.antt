@@ -26,7 +26,7 @@ last_of P before p h = grind (arith, h (length before) p, length-append, common_
 before_of : (P : FieldSpan → Type 0) (before : List FieldSpan) (p : FieldSpan) → All P (before ++ p ∷ []) → All P before
 before_of P before p h = λ k d l. grind (arith, h k d, length-append, common_steps)
 
-fields_more : (text more : List ℕ) (spans : List FieldSpan) → All (IsWithin (length text)) spans
+pub fields_more : (text more : List ℕ) (spans : List FieldSpan) → All (IsWithin (length text)) spans
     → fields_at (text ++ more) spans ≡ fields_at text spans
 fields_more text more [] h = refl
 fields_more text more (p ∷ spans) h =

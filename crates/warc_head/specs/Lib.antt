@@ -13,3 +13,4 @@ pub mod Spans
 pub mod Said
 pub mod Spelling
 pub mod Folding
+pub mod Usual

@@ -135,6 +135,7 @@ fn two(text: &[u8], at: usize) -> u32
     10 * u32::from(text[at].saturating_sub(b'0')) + u32::from(text[at + 1].saturating_sub(b'0'))
 }
 
+#[inline(never)] // inlined, it becomes fourteen values that are moved one by one
 fn digits_of(whole: &[u8; 19]) -> [u8; 14]
     ensures { result ≡ digits_of whole.now }
 {

@@ -1,11 +1,13 @@
 //! The lines of a head's fields.
-ghost use Rattle.std.specs.Prelude.{◌≡◌, length, All, MatchOption, Some, IfOk, OnOk, Ok, Err};
+ghost use Rattle.std.specs.Prelude.{◌≡◌, length, All, MatchOption, Some, IfOk, IfSome, OnOk, Ok, Err};
 ghost use Rattle.memchr.specs.Find.{IsFirstByte, is_byte};
 ghost use Rattle.warc_head.specs.Answers.{AgreesWith};
 ghost use Rattle.warc_head.specs.declared.fault.HeadFault.TheVariants.{FieldLine};
 ghost use Rattle.warc_head.specs.Fields.{field_in, fields_of};
+ghost use Rattle.warc_head.specs.Lines.{EndsLine};
 ghost use Rattle.warc_head.specs.Parts.{field_lines_in};
 ghost use Rattle.warc_head.specs.Spans.{Continues, IsWithin, field_at, fields_at};
+ghost use Rattle.warc_head.specs.Usual.{BeginsWithHead};
 
 use crate::continuing::continue_field;
 use crate::fault::HeadFault;
@@ -14,7 +16,7 @@ use crate::lines::{continues, line_end, trimmed};
 use crate::names::is_name;
 use crate::spans::FieldSpan;
 use memchr::memchr_iter;
-use std::alloc::Global;
+use std::alloc::{AllocError, Global};
 
 /// The length of a version line in bytes: `WARC/1.1` or `WARC/1.0`, and CR LF.
 const VERSION_LINE: usize = 10;
@@ -53,7 +55,46 @@ pub fn read_fields(alloc: Global, text: &mut Vec<u8>) -> Result<Vec<FieldSpan>, 
     Ok(spans)
 }
 
+/// The spans of a head's fields, and the head's length in bytes.
+pub struct UsualFields {
+    pub spans: Vec<FieldSpan>,
+    pub size: usize,
+}
+
+/// Returns the spans of the fields of the head that a text begins with. It may decline any text, and declines a head in
+/// which a field takes several lines. The only error is refused memory.
+pub fn usual_fields(alloc: Global, text: &[u8]) -> Result<Option<UsualFields>, AllocError>
+    requires { EndsLine text.now 0 8 }
+    ensures { IfOk result (λ found. IfSome found (λ f.
+        BeginsWithHead text.now f.size (fields_at text.now f.spans.items)
+        × All (IsWithin f.size) f.spans.items)) }
+{
+    let mut spans = Vec::with_capacity(alloc, USUAL_FIELDS)?;
+    let mut at = VERSION_LINE;
+    'lines: while at < text.len() {
+        let Some(stop) = line_end(text, at) else {
+            return Ok(None);
+        };
+        if stop == at {
+            return Ok(Some(UsualFields {
+                spans,
+                size: at + 2,
+            }));
+        }
+        if continues(&text[at..stop]) {
+            return Ok(None);
+        }
+        let Some(span) = field_in(&text[at..stop]) else {
+            return Ok(None);
+        };
+        spans.push(span.moved(at))?;
+        at = stop + 2;
+    }
+    Ok(None)
+}
+
 /// Returns the span of the field that begins on a line.
+#[inline(always)]
 #[tactic(auto, unfolding(crate::specs::Fields::field_in))]
 fn field_in(line: &[u8]) -> Option<FieldSpan>
     ensures { MatchOption result

@@ -25,4 +25,4 @@ pub use kind::Kind;
 pub use lanes::{LANES, run_to_closing};
 pub use laws::{fields_are_spelled, spelling_reads_back};
 pub use lines::trim;
-pub use parts::{Parts, read_parts};
+pub use parts::{Parts, read_parts, read_usual_parts};

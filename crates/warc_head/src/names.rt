@@ -32,23 +32,39 @@ fn may_be_same<const N: usize>(name: &[u8; N], wanted: &[u8; N]) -> bool
     N <= TELLING || name[TELLING].eq_ignore_ascii_case(&wanted[TELLING])
 }
 
-/// Returns `true` if the text is this one, ignoring ASCII case. Most texts have another length or are spelled alike, which
-/// are the faster tests.
+/// Returns `true` if the text is this one, ignoring ASCII case. Most texts have another length, are spelled alike or begin
+/// with another byte, which are the faster tests.
 #[inline(always)]
 pub fn is_spelled<const N: usize>(text: &[u8], wanted: &[u8; N]) -> bool
     ensures { result ≡ same_name text.now wanted.now }
 {
     match <&[u8; N]>::try_from(text) {
-        Ok(spelled) => is_same(spelled, wanted),
+        Ok(spelled) => begin_alike(spelled, wanted) && is_same(spelled, wanted),
         Err(_) => false,
     }
+}
+
+#[inline(always)]
+fn begin_alike<const N: usize>(text: &[u8; N], wanted: &[u8; N]) -> bool
+    ensures { same_name text.now wanted.now ≡ true → result ≡ true }
+{
+    N == 0 || text[0].eq_ignore_ascii_case(&wanted[0])
 }
 
 #[inline(always)]
 fn is_same<const N: usize>(name: &[u8; N], wanted: &[u8; N]) -> bool
     ensures { result ≡ same_name name.now wanted.now }
 {
-    name == wanted || name.as_slice().eq_ignore_ascii_case(wanted.as_slice())
+    name == wanted || is_same_in_another_case(name.as_slice(), wanted.as_slice())
+}
+
+/// Compares names that aren't spelled alike. It is compiled apart, since few are the same.
+#[cold]
+#[inline(never)]
+fn is_same_in_another_case(name: &[u8], wanted: &[u8]) -> bool
+    ensures { result ≡ same_name name.now wanted.now }
+{
+    name.eq_ignore_ascii_case(wanted)
 }
 
 /// Returns `true` if the names are the same, ignoring ASCII case. Most names that are the same are spelled alike, which

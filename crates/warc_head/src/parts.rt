@@ -1,19 +1,21 @@
 //! The contents of a record's head.
-ghost use Rattle.std.specs.Prelude.{◌≡◌, ◌≤◌, ◌^◌, ◌-◌, true, length, All, IfOk};
+ghost use Rattle.std.specs.Prelude.{◌≡◌, ◌≤◌, ◌^◌, ◌-◌, true, length, All, IfOk, IfSome};
 ghost use Rattle.warc_head.specs.Answers.{AgreesWith};
 ghost use Rattle.warc_head.specs.Length.{all_digits};
+ghost use Rattle.warc_head.specs.Lines.{EndsLine};
 ghost use Rattle.warc_head.specs.Parts.{parts_in, parts_of};
+ghost use Rattle.warc_head.specs.Usual.{IsHeadOf};
 ghost use Rattle.warc_head.specs.Spans.{IsWithin, fields_at};
 ghost use Rattle.warc_head.specs.Said.{said_of};
 
 use crate::date::stamp_of;
 use crate::fault::HeadFault;
-use crate::field_lines::read_fields;
+use crate::field_lines::{UsualFields, read_fields, usual_fields};
 use crate::kind::{Kind, kind_of};
 use crate::length::length_of;
 use crate::mandatory::mandatory_values;
 use crate::spans::{FieldSpan, value_of};
-use std::alloc::Global;
+use std::alloc::{AllocError, Global};
 use std::marker::Model;
 
 /// The text of a record's head, and what it says.
@@ -118,6 +120,28 @@ pub fn read_parts(alloc: Global, raw: Vec<u8>) -> Result<Parts, HeadFault>
         spans,
         said,
     })
+}
+
+/// Reads the head that a text begins with, if its first line has eight bytes. It may decline any text, and
+/// declines what isn't the usual head: faults, and fields that take several lines. The only error is refused memory.
+pub fn read_usual_parts(alloc: Global, text: &[u8]) -> Result<Option<Parts>, AllocError>
+    requires { EndsLine text.now 0 8 }
+    ensures head { IfOk result (λ found. IfSome found (IsHeadOf text.now)) }
+    ensures bound { IfOk result (λ found. IfSome found (λ p. p.parts.block_length ≤ 2 ^ 63 - 1)) }
+{
+    let Some(UsualFields { spans, size }) = usual_fields(alloc, text)? else {
+        return Ok(None);
+    };
+    let raw = Vec::from_slice(alloc, &text[..size])?;
+    match said_in(&raw, &spans) {
+        Ok(said) => Ok(Some(Parts {
+            text: raw,
+            size,
+            spans,
+            said,
+        })),
+        Err(_) => Ok(None),
+    }
 }
 
 /// Returns what the mandatory fields among the fields at these spans say.

@@ -3,7 +3,7 @@ use Rattle.std.specs.Io.KnownBytes.{prepend_known}
 use Rattle.warc_core.proofs.ReadingLemmas.{GoesOn}
 use Rattle.warc_core.specs.HeadText.{has_version, is_closed, head_text}
 use Rattle.warc_core.proofs.HeadLemmas.{going}
-use Rattle.warc_core.proofs.head_text.gather_head_text.Given as goal
+use Rattle.warc_core.proofs.head_text.read_head_text.Given as goal
 
 abbrev pub invariant-loop-buffer : goal.invariant-loop-buffer
 invariant-loop-buffer g l = record {
