@@ -1,8 +1,8 @@
 //! The opening of sources at a key and stamp.
 ghost use Rattle.std.specs.List.{AllZip};
-ghost use Rattle.source_core.specs.Device.{KeepsSource};
-ghost use Rattle.std.specs.Prelude.{◌≡◌, ◌⊎◌, ◌+◌, ◌*◌, ◌≤◌, ℕ, List, [], map, Some, IfOk, IfErr, OnOk};
-ghost use Rattle.std.specs.List.{AllByRecursion, zip, sum};
+ghost use Rattle.source_core.specs.Device.{KeepsSource, OverText};
+ghost use Rattle.std.specs.Prelude.{◌≡◌, ◌+◌, ◌*◌, ◌≤◌, ℕ, List, [], map, IfOk, IfErr, OnOk};
+ghost use Rattle.std.specs.List.{zip, sum};
 ghost use Rattle.cdxj_places.specs.Pairs.{IsLeast};
 ghost use Rattle.cdxj_places.specs.PairViews.{pair_view};
 ghost use Rattle.cdxj_core.specs.declared.limit.TheConstants.{LINE_LIMIT};
@@ -12,7 +12,7 @@ ghost use Rattle.source_core.specs.IndexLines.{BeginsAfter, lines, longest};
 ghost use Rattle.merge_core.specs.Collections.{KeepsSources};
 ghost use Rattle.merge_core.specs.Failures.{CountsFeed, CountsReads};
 ghost use Rattle.merge_core.specs.LineFaults.{NamesLine, IsMergeFaultOf};
-ghost use Rattle.merge_core.specs.Spending.{AllGaveOnce, CameOnce, CameWithin, GaveOnce, OpenedWithin};
+ghost use Rattle.merge_core.specs.Spending.{AllGaveOnce, GaveOnce, OpenedWithin};
 
 use crate::fault::{FeedFault, MergeFault};
 use crate::line_buffers::LineBuffers;
@@ -46,20 +46,19 @@ impl MergeState {
         requires stands { Stands (S.text source.old) (S.extent source.old) cursor }
         requires fresh { cursor.count ≡ 0 }
         requires first { cursor.at ≡ cursor.start }
-        requires begins { (t : List ℕ) → S.text source.old ≡ Some t → (before : List (List ℕ))
-            × BeginsAfter t cursor.start before }
+        requires begins { OverText (S.text source.old) (λ t. (before : List (List ℕ))
+            × BeginsAfter t cursor.start before) }
         ensures kept { KeepsSource S.text S.extent source.old source.new }
         ensures failures { CountsFeed result (S.failures source.old) (S.failures source.new) }
-        ensures fault { (t : List ℕ) → S.text source.old ≡ Some t
-            → IfErr result (NamesLine LINE_LIMIT t) }
+        ensures fault { OverText (S.text source.old) (λ t. IfErr result (NamesLine LINE_LIMIT t)) }
         ensures most_lines { self.new.most_lines ≡ self.old.most_lines }
         ensures added { OnOk result
             (AddedSource LINE_LIMIT (R.past range.now) (S.text source.new) (S.extent source.new)
             (λ c. (c.start ≡ cursor.start)
             × (S.gave source.new + reach cursor ≤ S.gave source.old + reach c))
             self.old self.new) }
-        ensures spent { (t : List ℕ) → S.text source.old ≡ Some t → S.gave source.new + reach cursor
-            ≤ S.gave source.old + cursor.start + 2 * longest (lines t) + 8192 }
+        ensures spent { OverText (S.text source.old) (λ t. S.gave source.new + reach cursor
+            ≤ S.gave source.old + cursor.start + 2 * longest (lines t) + 8192) }
         ensures once { GaveOnce (S.extent source.old) (S.gave source.old) (S.gave source.new) }
     {
         let next = self.buffers.next_line(source, &mut cursor)?;
@@ -82,8 +81,7 @@ impl MergeState {
         ensures kept { KeepsSource S.text S.extent source.old source.new }
         ensures failures { CountsFeed result (S.failures source.old) (S.failures source.new) }
         ensures probes { IfOk result (λ n. n ≤ digits (S.extent source.old)) }
-        ensures fault { (t : List ℕ) → S.text source.old ≡ Some t
-            → IfErr result (NamesLine LINE_LIMIT t) }
+        ensures fault { OverText (S.text source.old) (λ t. IfErr result (NamesLine LINE_LIMIT t)) }
         ensures most_lines { self.new.most_lines ≡ self.old.most_lines }
         ensures added { OnOk result
             (AddedSource LINE_LIMIT (R.past range.now) (S.text source.new) (S.extent source.new)

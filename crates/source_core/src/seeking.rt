@@ -1,6 +1,6 @@
 //! The binary search for the line where the reading of an index begins.
 ghost use Rattle.std.specs.Prelude.{◌≡◌, ◌+◌, ◌-◌, ◌*◌, ◌<◌, ◌≤◌, ℕ, Option, List, length, drop, false, IfOk, OnOk, OnErr, IfSome, IfNone, Some};
-ghost use Rattle.source_core.specs.Device.{KeepsSource};
+ghost use Rattle.source_core.specs.Device.{KeepsSource, OverText};
 ghost use Rattle.cdxj_core.specs.declared.limit.TheConstants.{LINE_LIMIT};
 ghost use Rattle.cdxj_core.specs.Indexes.{IsIndex};
 ghost use Rattle.cdxj_core.specs.Members.{Member};
@@ -72,8 +72,8 @@ fn read_on<S: Source>(
     ensures within { OnOk result (offset + length front.new.items ≤ S.extent source.old) }
     ensures some { OnOk result (length front.old.items < length front.new.items) }
     ensures most { OnOk result (length front.new.items ≤ length front.old.items + most) }
-    ensures reads { (t : List ℕ) → S.text source.old ≡ Some t → BeginsWith t offset front.old.items
-        → IfOk result (λ ends. ReadsOn t offset front.new.items ends) }
+    ensures reads { OverText (S.text source.old) (λ t. BeginsWith t offset front.old.items
+        → IfOk result (λ ends. ReadsOn t offset front.new.items ends)) }
     ensures gave { S.gave source.new ≤ S.gave source.old + most }
     ensures held { IfOk result (λ ends. ends ≡ false
         → S.gave source.new + length front.old.items ≤ S.gave source.old + length front.new.items) }
@@ -106,11 +106,11 @@ fn read_to<S: Source>(
     ensures within { OnOk result (offset + length front.new.items ≤ S.extent source.old) }
     ensures some { OnOk result (length front.old.items < length front.new.items) }
     ensures most { OnOk result (length front.new.items ≤ wanted) }
-    ensures reads { (t : List ℕ) → S.text source.old ≡ Some t → BeginsWith t offset front.old.items
-        → IfOk result (λ ends. ReadsOn t offset front.new.items ends) }
-    ensures gave { (t : List ℕ) → S.text source.old ≡ Some t → BeginsWith t offset front.old.items
-        → S.gave source.new + length front.old.items
-        ≤ S.gave source.old + longest (lines t) + 512 }
+    ensures reads { OverText (S.text source.old) (λ t. BeginsWith t offset front.old.items
+        → IfOk result (λ ends. ReadsOn t offset front.new.items ends)) }
+    ensures gave { OverText (S.text source.old) (λ t. BeginsWith t offset front.old.items
+        → S.gave source.new + length front.old.items ≤ S.gave source.old + longest (lines t)
+        + 512) }
     ensures bound { S.gave source.new + length front.old.items ≤ S.gave source.old + wanted }
     ensures held { IfOk result (λ ends. ends ≡ false
         → S.gave source.new + length front.old.items ≤ S.gave source.old + length front.new.items) }
@@ -143,10 +143,11 @@ fn stops_at<S: Source>(
     requires inside { offset ≤ S.extent source.old }
     ensures kept { KeepsSource S.text S.extent source.old source.new }
     ensures holds { Holds (S.text source.new) (S.extent source.new) window.new }
-    ensures stops { (t : List ℕ) → S.text source.old ≡ Some t → IfOk result (λ stop.
-        stop ≡ stops_lines (line_below LINE_LIMIT (pair_view start.entry)) (lines (drop offset t))) }
-    ensures gave { (t : List ℕ) → S.text source.old ≡ Some t
-        → S.gave source.new ≤ S.gave source.old + longest (lines t) + 512 }
+    ensures stops { OverText (S.text source.old) (λ t.
+        IfOk result (λ stop. stop
+        ≡ stops_lines (line_below LINE_LIMIT (pair_view start.entry)) (lines (drop offset t)))) }
+    ensures gave { OverText (S.text source.old) (λ t. S.gave source.new ≤ S.gave source.old
+        + longest (lines t) + 512) }
     ensures bound { S.gave source.new ≤ S.gave source.old + LINE_LIMIT }
     ensures failures { CountsSearch result (S.failures source.old) (S.failures source.new) }
 {
@@ -194,18 +195,19 @@ fn probe<S: Source>(
     ensures after { IfOk result (λ found. IfSome found (λ line. middle ≤ line.offset)) }
     ensures within { IfOk result (λ found. IfSome found (λ line. line.offset < until)) }
     ensures later { IfOk result (λ found. IfNone found (0 < middle)) }
-    ensures line { (t : List ℕ) → S.text source.old ≡ Some t
-        → IfOk result (λ found. IfSome found (λ line. drop line.offset t ≡ from_line middle t)) }
-    ensures begins { (t : List ℕ) → S.text source.old ≡ Some t
-        → IfOk result (λ found. IfSome found (λ line.
-        drop line.offset t ≡ from_line line.offset t)) }
-    ensures stops { (t : List ℕ) → S.text source.old ≡ Some t
-        → IfOk result (λ found. IfSome found (λ line.
-        line.stops ≡ stops (line_below LINE_LIMIT (pair_view start.entry)) middle t)) }
-    ensures none { (t : List ℕ) → S.text source.old ≡ Some t
-        → IfOk result (λ found. IfNone found (from_line until t ≡ from_line middle t)) }
-    ensures gave { (t : List ℕ) → S.text source.old ≡ Some t
-        → S.gave source.new ≤ S.gave source.old + (2 * longest (lines t) + 1024) }
+    ensures line { OverText (S.text source.old) (λ t.
+        IfOk result (λ found. IfSome found (λ line. drop line.offset t ≡ from_line middle t))) }
+    ensures begins { OverText (S.text source.old) (λ t.
+        IfOk result (λ found.
+        IfSome found (λ line. drop line.offset t ≡ from_line line.offset t))) }
+    ensures stops { OverText (S.text source.old) (λ t.
+        IfOk result (λ found.
+        IfSome found (λ line. line.stops
+        ≡ stops (line_below LINE_LIMIT (pair_view start.entry)) middle t))) }
+    ensures none { OverText (S.text source.old) (λ t.
+        IfOk result (λ found. IfNone found (from_line until t ≡ from_line middle t))) }
+    ensures gave { OverText (S.text source.old) (λ t. S.gave source.new ≤ S.gave source.old
+        + (2 * longest (lines t) + 1024)) }
     ensures bound { S.gave source.new + middle ≤ S.gave source.old + until + LINE_LIMIT }
     ensures failures { CountsSearch result (S.failures source.old) (S.failures source.new) }
 {
@@ -250,8 +252,8 @@ fn halve<S: Source>(
     ensures probes { IfOk result (λ next. next.probes ≡ span.probes + 1) }
     ensures inner { IfOk result (λ next. (span.low ≤ next.low) × (next.high ≤ span.high)) }
     ensures smaller { IfOk result (λ next. next.high - next.low < span.high - span.low) }
-    ensures gave { (t : List ℕ) → S.text source.old ≡ Some t
-        → S.gave source.new ≤ S.gave source.old + (2 * longest (lines t) + 1024) }
+    ensures gave { OverText (S.text source.old) (λ t. S.gave source.new ≤ S.gave source.old
+        + (2 * longest (lines t) + 1024)) }
     ensures bound { S.gave source.new ≤ S.gave source.old + 2 * LINE_LIMIT }
     ensures near { S.gave source.new + span.low ≤ S.gave source.old + span.high + LINE_LIMIT }
     ensures failures { CountsSearch result (S.failures source.old) (S.failures source.new) }
@@ -334,18 +336,17 @@ pub fn search<S: Source>(
     ensures first { IsLeast (pair_view start.entry)
         → IfOk result (λ found. found.cursor.start ≡ 0) }
     ensures unread { IsLeast (pair_view start.entry) → source.new ≡ source.old }
-    ensures begins { (t : List ℕ) → S.text source.old ≡ Some t
-        → IfOk result (λ found. (before : List (List ℕ))
-        × BeginsAfter t found.cursor.start before) }
-    ensures stops { (t : List ℕ) → S.text source.old ≡ Some t
-        → IfOk result (λ found.
-        IsStop LINE_LIMIT (pair_view start.entry) (lines (drop found.cursor.start t))) }
+    ensures begins { OverText (S.text source.old) (λ t.
+        IfOk result (λ found. (before : List (List ℕ)) × BeginsAfter t found.cursor.start before)) }
+    ensures stops { OverText (S.text source.old) (λ t.
+        IfOk result (λ found.
+        IsStop LINE_LIMIT (pair_view start.entry) (lines (drop found.cursor.start t)))) }
     ensures cut { (t : List ℕ) → (members : List Member)
         → S.text source.old ≡ Some t → IsIndex LINE_LIMIT t members
         → IfOk result (λ found. IsCut (pair_view start.entry) t members found.cursor.start) }
     ensures probes { IfOk result (λ found. found.probes ≤ digits (S.extent source.old)) }
-    ensures gave { (t : List ℕ) → S.text source.old ≡ Some t → S.gave source.new
-        ≤ S.gave source.old + digits (S.extent source.old) * (2 * longest (lines t) + 2048) }
+    ensures gave { OverText (S.text source.old) (λ t. S.gave source.new ≤ S.gave source.old
+        + digits (S.extent source.old) * (2 * longest (lines t) + 2048)) }
     ensures bound { S.gave source.new
         ≤ S.gave source.old + digits (S.extent source.old) * (2 * LINE_LIMIT) }
     ensures failures { CountsSearch result (S.failures source.old) (S.failures source.new) }

@@ -1,26 +1,12 @@
-use Rattle.std.proofs.Common.{◌≡◌, ◌-◌, ◌^◌, ℕ, List, Option, [], ◌∷◌, ◌++◌, filter, length, map, min, Bool, true}
-use Rattle.std.proofs.Common.{false, refl, sym, ap, ◌∙◌, arith, append-nil, inl, inr}
-use Rattle.std.specs.Io.KnownBytes.{Appends}
-use Rattle.std.proofs.lemmas.List.{length-map}
-use Rattle.std.proofs.lemmas.Result.{err_from_is_err_and}
-use Rattle.std.proofs.lemmas.Bool.{true≢false, cases_Bool}
-use Rattle.std.proofs.lemmas.List.Concat.{flat_map-append}
-use Rattle.cdxj_core.specs.declared.limit.TheConstants.{LINE_LIMIT}
-use Rattle.cdxj_core.specs.Members.{Member, member_pair, member_place}
-use Rattle.cdxj_places.specs.Pairs.{Pair}
-use Rattle.cdxj_places.specs.Places.{place_cmp}
-use Rattle.cdxj_places.specs.Rising.{rising}
-use Rattle.devices.specs.Device.{AppendsPrefix}
+use Rattle.merge_core.proofs.Words.{[], ℕ, ◌++◌, ◌-◌, ◌^◌, ◌∙◌, ◌∷◌, ◌≡◌, AllByRecursion, AllGaveOnce, Appends}
+use Rattle.merge_core.proofs.Words.{AppendsPrefix, AreLinesOf, Bool, Feed, KeepsSources, LINE_LIMIT, List, Member}
+use Rattle.merge_core.proofs.Words.{MergeState, Option, OverIndexes, Pair, Reached, ap, append-nil, arith, collection}
+use Rattle.merge_core.proofs.Words.{err_from_is_err_and, false, feeds, filter, flat_map-append, inl, inr, length}
+use Rattle.merge_core.proofs.Words.{length-map, lines_text, map, member_pair, member_place, min, place_cmp}
+use Rattle.merge_core.proofs.Words.{prefix_longer, refl, rising, sym, true, true≢false}
+use Rattle.std.proofs.lemmas.Bool.{cases_Bool}
 use Rattle.devices.proofs.DeviceLemmas.{Appends-none}
-use Rattle.devices.proofs.WritingLemmas.{prefix_whole, prefix_longer, wrote_nothing}
-use Rattle.std.specs.List.{AllByRecursion}
-use Rattle.merge_core.specs.declared.state.MergeState.{MergeState}
-use Rattle.merge_core.specs.Feeds.{Feed, feeds}
-use Rattle.merge_core.specs.Collections.{KeepsSources, OverIndexes, collection}
-use Rattle.merge_core.specs.Reached.{Reached}
-use Rattle.merge_core.specs.Spending.{AllGaveOnce}
-use Rattle.merge_core.specs.Written.{lines_text}
-use Rattle.merge_core.specs.SourceLines.{AreLinesOf}
+use Rattle.devices.proofs.WritingLemmas.{prefix_whole, wrote_nothing}
 use Rattle.merge_core.proofs.ReadLemmas.{took_of_indexes}
 use Rattle.merge_core.proofs.OnceLemmas.{gave_once}
 use Rattle.merge_core.proofs.RunLemmas.{none_wait}
@@ -75,18 +61,18 @@ module _ (g : Over) (c : After-merge g) {ss : List g.row.S.Denot} {m : MergeStat
 -- all lines that were taken were written and counted
 wrote : (g : Over) (c : In_ok-merge g)
     → Appends (g.O.Output.written c.args.out.now) (g.O.Output.written c.merge.new.out)
-    (lines_text c.in_ok-merge.ensures.passed.so_far.taken)
-    × (c.merge.new.sink.count ≡ min (length c.in_ok-merge.ensures.passed.so_far.taken) (2 ^ 64 - 1))
+    (lines_text c.in_ok-merge.ensures.ended.so_far.taken)
+    × (c.merge.new.sink.count ≡ min (length c.in_ok-merge.ensures.ended.so_far.taken) (2 ^ 64 - 1))
 wrote g c =
     let out = g.O.Output.written c.args.out.now in
-    c.in_ok-merge.ensures.passed.so_far.came c.new-writer.result out (Appends-none out, c.new-writer.ensures)
+    c.in_ok-merge.ensures.ended.so_far.came c.new-writer.result out (Appends-none out, c.new-writer.ensures)
 
 -- or a prefix of them
 broke : (g : Over) (c : In_err-merge g) → AppendsPrefix (g.O.Output.written c.args.out.now)
-    (g.O.Output.written c.merge.new.out) (lines_text c.in_err-merge.ensures.broke.taken)
+    (g.O.Output.written c.merge.new.out) (lines_text c.in_err-merge.ensures.ended.0.taken)
 broke g c =
     let out = g.O.Output.written c.args.out.now in
-    let broke = c.in_err-merge.ensures.broke in
+    let broke = c.in_err-merge.ensures.ended.0 in
     elim (broke.wrote c.new-writer.result out (Appends-none out, c.new-writer.ensures)) [
       | inl k ↦ grind (arith, append-nil, prefix_whole)
       | inr p ↦ p
@@ -103,11 +89,11 @@ returns-in_err-opened-clause-lines g c =
 pub returns-in_err-merge-clause-part : goal.returns-in_err-merge-clause-part
 returns-in_err-merge-clause-part g c =
     let at = goal.at.returns-in_err-merge-clause-part g c in
-    front g at.After-merge c.in_err-merge.ensures.broke.reached _ _ (broke g at.In_err-merge)
+    front g at.After-merge c.in_err-merge.ensures.ended.0.reached _ _ (broke g at.In_err-merge)
 
 pub returns-in_err-merge-clause-lines : goal.returns-in_err-merge-clause-lines
 returns-in_err-merge-clause-lines g c =
-    let b = c.in_err-merge.ensures.broke in
+    let b = c.in_err-merge.ensures.ended.0 in
     grind (arith, err_from_is_err_and, lines, broke)
 
 -- as many sources
@@ -151,7 +137,7 @@ returns g c =
     let text = g.S.Source.text in let extent = g.S.Source.extent in
     let sources = c.merge.new.sources in let m = c.merge.new.merge in
     let opened = c.in_ok-opened.ensures in
-    let passed = c.in_ok-merge.ensures.passed in
+    let passed = c.in_ok-merge.ensures.ended in
     let taken = passed.so_far.taken in
     let reached = passed.so_far.reached in
     let wrote = wrote g at.In_ok-merge in

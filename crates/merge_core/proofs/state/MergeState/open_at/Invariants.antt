@@ -1,13 +1,6 @@
-use Rattle.std.specs.List.{AllZip, sum}
-use Rattle.std.proofs.Common.{◌≡◌, ◌≤◌, [], length, map, take, drop, zip}
-use Rattle.cdxj_core.specs.declared.limit.TheConstants.{LINE_LIMIT}
-use Rattle.cdxj_places.specs.Pairs.{IsLeast}
+use Rattle.merge_core.proofs.Words.{[], ◌≡◌, ◌≤◌, AllGaveOnce, AllZip, IsLeast, LINE_LIMIT, OpenedAt, OpenedWithin}
+use Rattle.merge_core.proofs.Words.{Ready, all_done, digits, drop, feeds, length, map, sum, take, zip}
 use Rattle.cdxj_places.specs.PairViews.{pair_view}
-use Rattle.source_core.specs.Halving.{digits}
-use Rattle.merge_core.specs.Feeds.{Ready, feeds}
-use Rattle.merge_core.specs.Gathering.{all_done}
-use Rattle.merge_core.specs.Spending.{AllGaveOnce, OpenedWithin}
-use Rattle.merge_core.specs.Openings.{OpenedAt}
 use Rattle.merge_core.proofs.state.MergeState.open_at.Given as goal
 
 abbrev pub invariant-loop-i : goal.invariant-loop-i

@@ -1,6 +1,4 @@
-use Rattle.std.proofs.Common.{arith, ap, refl, sym, ◌∙◌}
-use Rattle.devices.proofs.WritingLemmas.{wrote_nothing}
-use Rattle.query_core.specs.QueryPages.{form_of}
+use Rattle.query_core.proofs.Words.{◌∙◌, ap, arith, form_of, refl, sym, wrote_nothing}
 use Rattle.query_core.proofs.PagesLemmas.{none_stand}
 use Rattle.query_core.proofs.WriterLemmas.{nothing_taken}
 use Rattle.query_core.proofs.page_writer.PageWriter.begin.Goals as goal
