@@ -6,7 +6,7 @@ use Rattle.merge_core.proofs.Words.{WaitingLine, arith, done, drop, drop_all, ea
 use Rattle.merge_core.proofs.Words.{first_length, given, inl, length, length-append, lines, map, option_list, refl, set}
 use Rattle.merge_core.proofs.Words.{stays, suc, sum, sum-map, take, take_more_set, text_or, waits_of, zip}
 use Rattle.std.proofs.lemmas.List.Sums.{sum_by_push}
-use Rattle.merge_core.specs.Openings.{AddedSource}
+use Rattle.merge_core.specs.Openings.{AddedSource, AreOpened}
 use Rattle.merge_core.proofs.FeedLemmas.{LineRead, done_next, fed_end, fed_more, settled_more}
 use Rattle.source_core.specs.IndexLines.{BeginsAfter}
 use Rattle.merge_core.proofs.HeapLemmas.{waits_other}
@@ -52,11 +52,6 @@ module _ {limit : ℕ} {past : List ℕ → Bool} {S : Type 0} {text : S → Opt
         settled = rw added_feeds (zip_push_each (λ s f. IsSettled limit past (text s) f) ss (feeds m) s its_feed
             was.settled added.settled);
       }
-
--- what is known of sources that were opened, one by one
-abbrev AreOpened : {S : Type 0} → (S → Option (List ℕ)) → (S → ℕ) → (S → ℕ) → ℕ → Pair → List S → List (S × Feed) → Type 0
-AreOpened text extent gave limit start =
-    AllZip (λ x y. OpenedAt limit start (text x) (extent x) (gave x) (gave y.0) y.1.cursor)
 
 module _ {S : Type 0} (text : S → Option (List ℕ)) (extent gave : S → ℕ) (limit : ℕ) (start : Pair) where
   pub cuts_of : (olds ss : List S) (fs : List Feed) → map text ss ≡ map text olds → AreOpened text extent gave limit start olds (zip ss fs)

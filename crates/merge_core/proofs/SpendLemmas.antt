@@ -9,6 +9,7 @@ use Rattle.merge_core.proofs.Words.{take-append-drop, take-map, text_or}
 use Rattle.std.proofs.lemmas.Grind.{drop_more_same}
 use Rattle.std.proofs.Common.{get_or-drop}
 use Rattle.source_core.proofs.LongestLines.{first_most, longest_drop}
+use Rattle.merge_core.specs.Spending.{AllOpenedWithin}
 use Rattle.merge_core.proofs.FeedLemmas.{all_taken, all_upto, done_cut, done_within}
 use Rattle.merge_core.proofs.Filters.{each_both}
 use Rattle.merge_core.proofs.GroupLemmas.{each_cut}
@@ -111,7 +112,7 @@ module _ (limit : ℕ) (past : List ℕ → Bool) where
 -- ---- the opening of sources
 
 pub opened_none : {S : Type 0} (text : S → Option (List ℕ)) (extent gave : S → ℕ) (ss : List S)
-    → AllZip (λ x y. OpenedWithin (text x) (extent x) (gave x) (gave y)) ss ss
+    → AllOpenedWithin text extent gave ss ss
 opened_none text extent gave = grind (arith, two_same)
 
 -- what is left of a list that was gone over up to an index

@@ -1,13 +1,13 @@
 //! The reading of lines into reused buffers.
 ghost use Rattle.std.specs.Prelude.{◌≡◌, ◌≢◌, ◌+◌, ◌<◌, ◌≤◌, true, length, drop, Some, None, MatchResult, IfOk, IfErr, OnOk};
-ghost use Rattle.source_core.specs.Device.{KeepsSource, OverText};
+ghost use Rattle.source_core.specs.Device.{OverText};
 ghost use Rattle.cdxj_core.specs.declared.limit.TheConstants.{LINE_LIMIT};
 ghost use Rattle.std.specs.List.{list_all};
 ghost use Rattle.cdxj_core.specs.Plain.{is_unescaped_ascii};
 ghost use Rattle.cdxj_core.specs.Lines.{body_of};
 ghost use Rattle.cdxj_core.specs.Members.{line_entry};
 ghost use Rattle.cdxj_places.specs.TextLines.{lines};
-ghost use Rattle.merge_core.specs.Failures.{CountsFeed};
+ghost use Rattle.merge_core.specs.Failures.{FeedsFrom};
 ghost use Rattle.source_core.specs.Cursors.{Stands, reach};
 ghost use Rattle.source_core.specs.IndexLines.{first_length};
 ghost use Rattle.merge_core.specs.Feeds.{option_list, stays};
@@ -117,9 +117,8 @@ impl LineBuffers {
         cursor: &mut Cursor,
     ) -> Result<Option<Box<Line>>, FeedFault>
         requires stands { Stands (S.text source.old) (S.extent source.old) cursor.old }
-        ensures kept { KeepsSource S.text S.extent source.old source.new }
+        ensures source { FeedsFrom S.text S.extent S.failures result source.old source.new }
         ensures gave { S.gave source.new + reach cursor.old ≤ S.gave source.old + reach cursor.new }
-        ensures failures { CountsFeed result (S.failures source.old) (S.failures source.new) }
         ensures stands { OnOk result (Stands (S.text source.new) (S.extent source.new) cursor.new) }
         ensures start { cursor.new.start ≡ cursor.old.start }
         ensures moves { IfOk result (λ o.

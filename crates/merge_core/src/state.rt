@@ -1,5 +1,5 @@
 //! The state of a merge.
-ghost use Rattle.std.specs.Prelude.{◌≡◌, ◌+◌, ◌-◌, ◌^◌, ◌<◌, ◌++◌, [], length, map, max, min, slice_index_or, Option, Some, IfErr, OnOk, MatchResult};
+ghost use Rattle.std.specs.Prelude.{◌≡◌, ◌+◌, ◌-◌, ◌^◌, ◌<◌, ◌++◌, [], length, map, max, min, Option, Some, IfErr, OnOk, MatchResult};
 ghost use Rattle.std.specs.List.{sum};
 ghost use Rattle.std.specs.List.Sorted.{IsPermutation};
 ghost use Rattle.cdxj_core.specs.declared.limit.TheConstants.{LINE_LIMIT};
@@ -32,8 +32,8 @@ pub struct MergeState {
 }
 
 impl MergeState {
-    ghost use Rattle.merge_core.specs.Feeds.{Aligned, AllMoved, Feed, Ready, feeds, option_list};
-    ghost use Rattle.merge_core.specs.Gathering.{IsDue, IsGroup, ReadOn};
+    ghost use Rattle.merge_core.specs.Feeds.{Aligned, AllMoved, Feed, Ready, option_list};
+    ghost use Rattle.merge_core.specs.Gathering.{IsDueAt, IsGroup, ReadOn};
     ghost use Rattle.merge_core.specs.Merging.{HaltedGroup};
     ghost use Rattle.merge_core.specs.Spending.{ReadUpto};
 
@@ -66,9 +66,8 @@ impl MergeState {
         requires aligned { Aligned LINE_LIMIT (R.past range.now) S.text S.extent
             sources.old self.old }
         requires inside { i < length sources.old }
-        requires due { (a : S) → (d : Feed)
-            → IsDue LINE_LIMIT (R.past range.now) (member_pair first.now)
-            (S.text (slice_index_or sources.old i a)) (slice_index_or (feeds self.old) i d) }
+        requires due { IsDueAt LINE_LIMIT (R.past range.now) S.text (member_pair first.now) i
+            sources.old self.old }
         ensures moved { AllMoved S.text S.extent S.gave sources.old self.old sources.new self.new }
         ensures failures { CountsReads result (map S.failures sources.old)
             (map S.failures sources.new) }

@@ -7,7 +7,7 @@ ghost use Rattle.cdxj_core.specs.Members.{Member};
 ghost use Rattle.cdxj_places.specs.Pairs.{IsLeast};
 ghost use Rattle.cdxj_places.specs.PairViews.{pair_view};
 ghost use Rattle.source_core.specs.IndexLines.{lines, from_line, longest, BeginsAfter};
-ghost use Rattle.source_core.specs.Search.{line_below, IsStop, IsCut, CountsSearch};
+ghost use Rattle.source_core.specs.Search.{line_below, IsStop, IsCut, CountsSearch, SearchesSource};
 ghost use Rattle.source_core.specs.Halving.{stops, stops_lines, digits};
 ghost use Rattle.source_core.specs.Halved.{Halved};
 ghost use Rattle.source_core.specs.LineParts.{BeginsWith, ReadsOn};
@@ -67,7 +67,7 @@ fn read_on<S: Source>(
     requires some { 0 < most }
     requires room { most ≤ 8192 }
     requires inside { offset + length front.old.items < S.extent source.old }
-    ensures kept { KeepsSource S.text S.extent source.old source.new }
+    ensures source { SearchesSource S.text S.extent S.failures result source.old source.new }
     ensures holds { Holds (S.text source.new) (S.extent source.new) window.new }
     ensures within { OnOk result (offset + length front.new.items ≤ S.extent source.old) }
     ensures some { OnOk result (length front.old.items < length front.new.items) }
@@ -77,7 +77,6 @@ fn read_on<S: Source>(
     ensures gave { S.gave source.new ≤ S.gave source.old + most }
     ensures held { IfOk result (λ ends. ends ≡ false
         → S.gave source.new + length front.old.items ≤ S.gave source.old + length front.new.items) }
-    ensures failures { CountsSearch result (S.failures source.old) (S.failures source.new) }
 {
     // For the proof alone: the source's known bytes are so many.
     let _size = source.size();
@@ -101,7 +100,7 @@ fn read_to<S: Source>(
     requires holds { Holds (S.text source.old) (S.extent source.old) window.old }
     requires inside { offset + length front.old.items < S.extent source.old }
     requires more { length front.old.items < wanted }
-    ensures kept { KeepsSource S.text S.extent source.old source.new }
+    ensures source { SearchesSource S.text S.extent S.failures result source.old source.new }
     ensures holds { Holds (S.text source.new) (S.extent source.new) window.new }
     ensures within { OnOk result (offset + length front.new.items ≤ S.extent source.old) }
     ensures some { OnOk result (length front.old.items < length front.new.items) }
@@ -114,7 +113,6 @@ fn read_to<S: Source>(
     ensures bound { S.gave source.new + length front.old.items ≤ S.gave source.old + wanted }
     ensures held { IfOk result (λ ends. ends ≡ false
         → S.gave source.new + length front.old.items ≤ S.gave source.old + length front.new.items) }
-    ensures failures { CountsSearch result (S.failures source.old) (S.failures source.new) }
 {
     let size = source.size();
     while front.len() < wanted && offset + (front.len() as u64) < size {
@@ -141,7 +139,7 @@ fn stops_at<S: Source>(
 ) -> Result<bool, SearchFault>
     requires holds { Holds (S.text source.old) (S.extent source.old) window.old }
     requires inside { offset ≤ S.extent source.old }
-    ensures kept { KeepsSource S.text S.extent source.old source.new }
+    ensures source { SearchesSource S.text S.extent S.failures result source.old source.new }
     ensures holds { Holds (S.text source.new) (S.extent source.new) window.new }
     ensures stops { OverText (S.text source.old) (λ t.
         IfOk result (λ stop. stop
@@ -149,7 +147,6 @@ fn stops_at<S: Source>(
     ensures gave { OverText (S.text source.old) (λ t. S.gave source.new ≤ S.gave source.old
         + longest (lines t) + 512) }
     ensures bound { S.gave source.new ≤ S.gave source.old + LINE_LIMIT }
-    ensures failures { CountsSearch result (S.failures source.old) (S.failures source.new) }
 {
     let size = source.size();
     let mut ends = held_front(window, offset, front)?;
@@ -190,7 +187,7 @@ fn probe<S: Source>(
     requires holds { Holds (S.text source.old) (S.extent source.old) window.old }
     requires some { middle < until }
     requires inside { until ≤ S.extent source.old }
-    ensures kept { KeepsSource S.text S.extent source.old source.new }
+    ensures source { SearchesSource S.text S.extent S.failures result source.old source.new }
     ensures holds { Holds (S.text source.new) (S.extent source.new) window.new }
     ensures after { IfOk result (λ found. IfSome found (λ line. middle ≤ line.offset)) }
     ensures within { IfOk result (λ found. IfSome found (λ line. line.offset < until)) }
@@ -209,7 +206,6 @@ fn probe<S: Source>(
     ensures gave { OverText (S.text source.old) (λ t. S.gave source.new ≤ S.gave source.old
         + (2 * longest (lines t) + 1024)) }
     ensures bound { S.gave source.new + middle ≤ S.gave source.old + until + LINE_LIMIT }
-    ensures failures { CountsSearch result (S.failures source.old) (S.failures source.new) }
 {
     match next_line_start(source, window, middle, until)? {
         Some(offset) => {
@@ -245,7 +241,7 @@ fn halve<S: Source>(
     requires some { span.low < span.high }
     requires halved { Halved LINE_LIMIT (pair_view start)
         (S.text source.old) (S.extent source.old) span }
-    ensures kept { KeepsSource S.text S.extent source.old source.new }
+    ensures source { SearchesSource S.text S.extent S.failures result source.old source.new }
     ensures holds { Holds (S.text source.new) (S.extent source.new) window.new }
     ensures halved { IfOk result (λ next. Halved LINE_LIMIT (pair_view start.entry)
         (S.text source.new) (S.extent source.new) next) }
@@ -256,7 +252,6 @@ fn halve<S: Source>(
         + (2 * longest (lines t) + 1024)) }
     ensures bound { S.gave source.new ≤ S.gave source.old + 2 * LINE_LIMIT }
     ensures near { S.gave source.new + span.low ≤ S.gave source.old + span.high + LINE_LIMIT }
-    ensures failures { CountsSearch result (S.failures source.old) (S.failures source.new) }
 {
     // For the proof alone: the source's known bytes are so many.
     let _size = source.size();
@@ -296,13 +291,12 @@ fn halve<S: Source>(
 fn hold_few<S: Source>(source: &mut S, window: &mut Window, span: Span) -> Result<(), SearchFault>
     requires holds { Holds (S.text source.old) (S.extent source.old) window.old }
     requires inside { span.high ≤ S.extent source.old }
-    ensures kept { KeepsSource S.text S.extent source.old source.new }
+    ensures source { SearchesSource S.text S.extent S.failures result source.old source.new }
     ensures holds { Holds (S.text source.new) (S.extent source.new) window.new }
     ensures gave { S.gave source.new ≤ S.gave source.old + 8192 }
     ensures inside { S.gave source.new ≤ S.gave source.old + S.extent source.old }
     ensures none { span.high ≤ span.low → S.gave source.new ≡ S.gave source.old }
     ensures unread { OnErr result (S.gave source.new ≤ S.gave source.old) }
-    ensures failures { CountsSearch result (S.failures source.old) (S.failures source.new) }
 {
     if span.low < span.high {
         window.read(source, span.low.saturating_sub(1), PIECE)?;
