@@ -8,8 +8,7 @@ ghost use Rattle.cdxj_core.specs.declared.limit.TheConstants.{LINE_LIMIT};
 ghost use Rattle.source_core.specs.Cursors.{Stands, reach};
 ghost use Rattle.source_core.specs.Halving.{digits};
 ghost use Rattle.source_core.specs.IndexLines.{BeginsAfter, lines, longest};
-ghost use Rattle.merge_core.specs.Collections.{KeepsSources};
-ghost use Rattle.merge_core.specs.Failures.{FeedsFrom, CountsReads};
+ghost use Rattle.merge_core.specs.Failures.{FeedsFrom, ReadsSources};
 ghost use Rattle.merge_core.specs.LineFaults.{NamesLine, IsMergeFaultOf};
 ghost use Rattle.merge_core.specs.Spending.{AllOpenedWithin, AllGaveOnce, GaveOnce, OpenedWithin};
 
@@ -104,9 +103,7 @@ impl MergeState {
         start: Pair<'_>,
         range: &R,
     ) -> Result<OpenedMerge, MergeFault>
-        ensures kept { KeepsSources S.text S.extent sources.old sources.new }
-        ensures failures { CountsReads result (map S.failures sources.old)
-            (map S.failures sources.new) }
+        ensures sources { ReadsSources S.text S.extent S.failures result sources.old sources.new }
         ensures spent { AllOpenedWithin S.text S.extent S.gave sources.old sources.new }
         ensures once { IsLeast (pair_view start.entry)
             → AllGaveOnce S.extent S.gave sources.old sources.new }

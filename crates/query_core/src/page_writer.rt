@@ -1,5 +1,5 @@
 //! The writing of pages.
-ghost use Rattle.std.specs.Prelude.{◌≡◌, ◌++◌, ◌∷◌, [], List, Option, None, Some, ℕ, OnOk, IfOk, OnErr, IfSome, option_map, string_bytes};
+ghost use Rattle.std.specs.Prelude.{◌≡◌, ◌++◌, ◌∷◌, [], List, Option, None, Some, ℕ, OnOk, IfOk, OnErr, MatchResult, IfSome, option_map, string_bytes};
 ghost use Rattle.cdxj_core.specs.Members.{Member, member_place};
 ghost use Rattle.page_core.specs.FormView.{form_view};
 ghost use Rattle.devices.specs.WriteFaults.{CountsWriteFault};
@@ -135,9 +135,8 @@ impl<'q> PageWriter<'q> {
         ensures wrote { (AllPositive sizes.now → limit ≡ Some (first_size sizes.now))
             → IfOk result (λ writer.
             Wrote writer writer [] (O.written out.old) (O.written out.new)) }
-        ensures begins { IfOk result (IsWriterOf query.now limit sizes.now) }
-        ensures front { OnErr result (AppendsPrefix (O.written out.old) (O.written out.new)
-            (page_start (form_of query.now))) }
+        ensures begins { MatchResult result (IsWriterOf query.now limit sizes.now) (λ _.
+            AppendsPrefix (O.written out.old) (O.written out.new) (page_start (form_of query.now))) }
         ensures failures { CountsWriteFault result (O.failures out.old) (O.failures out.new) }
     {
         let selection = Selection::begin(alloc, query)?;

@@ -1,13 +1,13 @@
 //! The binary search for the line where the reading of an index begins.
 ghost use Rattle.std.specs.Prelude.{◌≡◌, ◌+◌, ◌-◌, ◌*◌, ◌<◌, ◌≤◌, ℕ, Option, List, length, drop, false, IfOk, OnOk, OnErr, IfSome, IfNone, Some};
-ghost use Rattle.source_core.specs.Device.{KeepsSource, OverText};
+ghost use Rattle.source_core.specs.Device.{OverText};
 ghost use Rattle.cdxj_core.specs.declared.limit.TheConstants.{LINE_LIMIT};
 ghost use Rattle.cdxj_core.specs.Indexes.{IsIndex};
 ghost use Rattle.cdxj_core.specs.Members.{Member};
 ghost use Rattle.cdxj_places.specs.Pairs.{IsLeast};
 ghost use Rattle.cdxj_places.specs.PairViews.{pair_view};
 ghost use Rattle.source_core.specs.IndexLines.{lines, from_line, longest, BeginsAfter};
-ghost use Rattle.source_core.specs.Search.{line_below, IsStop, IsCut, CountsSearch, SearchesSource};
+ghost use Rattle.source_core.specs.Search.{line_below, IsStop, IsCut, SearchesSource};
 ghost use Rattle.source_core.specs.Halving.{stops, stops_lines, digits};
 ghost use Rattle.source_core.specs.Halved.{Halved};
 ghost use Rattle.source_core.specs.LineParts.{BeginsWith, ReadsOn};
@@ -322,7 +322,7 @@ pub fn search<S: Source>(
     source: &mut S,
     start: Pair<'_>,
 ) -> Result<Found, SearchFault>
-    ensures kept { KeepsSource S.text S.extent source.old source.new }
+    ensures source { SearchesSource S.text S.extent S.failures result source.old source.new }
     ensures stands { IfOk result (λ found.
         Stands (S.text source.new) (S.extent source.new) found.cursor) }
     ensures fresh { IfOk result (λ found. IsFresh found.cursor found.cursor.start) }
@@ -343,7 +343,6 @@ pub fn search<S: Source>(
         + digits (S.extent source.old) * (2 * longest (lines t) + 2048)) }
     ensures bound { S.gave source.new
         ≤ S.gave source.old + digits (S.extent source.old) * (2 * LINE_LIMIT) }
-    ensures failures { CountsSearch result (S.failures source.old) (S.failures source.new) }
 {
     if is_least(start) {
         let cursor = Cursor::new(alloc, 0)?;

@@ -1,5 +1,5 @@
 //! Bytes of a source that are read once and used again.
-ghost use Rattle.std.specs.Prelude.{◌≡◌, ◌+◌, ◌-◌, ◌<◌, ◌≤◌, [], length, IfOk, OnOk, OnErr, MatchResult};
+ghost use Rattle.std.specs.Prelude.{◌≡◌, ◌+◌, ◌-◌, ◌<◌, ◌≤◌, [], length, IfOk, OnOk, MatchResult};
 ghost use Rattle.source_core.specs.Device.{ReadsSource};
 ghost use Rattle.source_core.specs.Device.{HoldsPart};
 ghost use Rattle.source_core.specs.Windows.{AreBytesAt, Holds, held_from};
@@ -90,9 +90,9 @@ impl Window {
         ensures holds { Holds (S.text source.new) (S.extent source.new) self.new }
         ensures at { self.new.at ≡ at }
         ensures most { length self.new.bytes ≤ most }
-        ensures some { OnOk result
-            (at < S.extent source.old → 0 < most → 0 < length self.new.bytes) }
-        ensures none { OnErr result (self.new.bytes ≡ []) }
+        ensures held { MatchResult result
+            (λ _. at < S.extent source.old → 0 < most → 0 < length self.new.bytes)
+            (λ _. self.new.bytes ≡ []) }
         ensures gave { S.gave source.new ≤ S.gave source.old + length self.new.bytes }
     {
         self.at = at;

@@ -49,14 +49,14 @@ module _ (g : Over) (c : After-merge g) {ss : List g.row.S.Denot} {m : MergeStat
       let cut = cut_at_start LINE_LIMIT g.S.Source.text c.open_at.new.sources (feeds c.in_ok-opened.opened.merge)
       (begun g c) in
       let first = taken_first (took_of_indexes reached opened.ready.aligned.same ([], []) cut texts indexes
-      (rw (← opened.kept.0) at known) are (λ key later e h. absurd (true≢false (sym e))) (λ m. true) (λ m e. refl)
+      (rw (← opened.sources.0.0) at known) are (λ key later e h. absurd (true≢false (sym e))) (λ m. true) (λ m e. refl)
       (λ m e. none_below_empty (member_pair m).0 (member_pair m).1)) in
       let whole : collection indexes ≡ taken ++ first.0 = grind (arith, filter_every) in
       rw (whole, flat_map-append) (prefix_longer old new _ _ p)
 
   -- and of any sources, it is lines of theirs
   lines : AreLinesOf LINE_LIMIT (map g.S.Source.text c.args.sources.now) taken
-  lines = rw (← c.in_ok-opened.ensures.kept.0) (grind (arith, taken_lines))
+  lines = rw (← c.in_ok-opened.ensures.sources.0.0) (grind (arith, taken_lines))
 
 -- all lines that were taken were written and counted
 wrote : (g : Over) (c : In_ok-merge g)
@@ -109,7 +109,7 @@ kept g c =
     let all = all_kept g.S.Source.text g.S.Source.extent g.S.Source.gave c.open_at.new.sources
     c.in_ok-opened.opened.merge c.merge.new.sources c.merge.new.merge opened.ready.aligned.same (kept_long g c)
     c.merge.ensures.moved in
-    (all.0 ∙ opened.kept.0, all.1 ∙ opened.kept.1)
+    (all.0 ∙ opened.sources.0.0, all.1 ∙ opened.sources.0.1)
 
 -- each byte of each source was given at most once
 once : (g : Over) (c : After-merge g) → AllGaveOnce g.S.Source.extent g.S.Source.gave c.args.sources.now
@@ -118,7 +118,7 @@ once g c =
     let opened = c.in_ok-opened.ensures in
     let long : length c.merge.new.sources ≡ length c.open_at.new.sources = kept_long g c in
     gave_once g.S.Source.text g.S.Source.extent g.S.Source.gave c.args.sources.now c.open_at.new.sources
-    (feeds c.in_ok-opened.opened.merge) c.merge.new.sources (feeds c.merge.new.merge) LINE_LIMIT never opened.kept.1
+    (feeds c.in_ok-opened.opened.merge) c.merge.new.sources (feeds c.merge.new.merge) LINE_LIMIT never opened.sources.0.1
     opened.ready.aligned.fed (came_once_of g.S.Source.text g.S.Source.extent
     g.S.Source.gave LINE_LIMIT _ c.args.sources.now _ refl opened.opened) c.merge.ensures.moved long
 
@@ -154,7 +154,7 @@ returns g c =
           c.merge.ensures.moved (begun g at.After-merge) in
           let none : AllByRecursion (λ (f : Feed). f.waits ≡ []) (feeds m) = rw empty (none_wait 0 m.cursors.items) in
           let all : taken ≡ collection lines =
-          (reached.handed.told (told_known _ _ texts (rw (← opened.kept.0) at known))).0
+          (reached.handed.told (told_known _ _ texts (rw (← opened.sources.0.0) at known))).0
           ∙ ap (rising member_place place_cmp) (all_lines_are LINE_LIMIT never (λ key. refl) text extent sources (feeds m)) in
           record {
             indexes = lines;
@@ -167,8 +167,8 @@ returns g c =
       part = front g at.After-merge reached _ _ (rw append-nil at (prefix_whole _ _ _ [] wrote.0));
       lines = (taken, grind (arith, lines), wrote);
       most_lines = λ texts indexes known are most share.
-          let same = ap length opened.kept.1 in
-          let few = c.merge.ensures.most_lines texts indexes (rw (← opened.kept.0) at known) are most share
+          let same = ap length opened.sources.0.1 in
+          let few = c.merge.ensures.most_lines texts indexes (rw (← opened.sources.0.0) at known) are most share
           (omega (arith, opened.most_lines)) in
           grind (arith, length-map);
     }

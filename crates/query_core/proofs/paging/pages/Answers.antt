@@ -58,7 +58,7 @@ before : (g : Over) (c : In_err-writer g) → (lines : List Member) → Rises me
 before g c lines rise =
     let positive = all_positive c.args.sizes.now (search rules) in
     wrote_front c.args.query.now c.args.sizes.now positive lines rise [] _ _ _ refl
-    (start_front c.args.query.now c.args.sizes.now _ _ positive c.in_err-writer.ensures.front)
+    (start_front c.args.query.now c.args.sizes.now _ _ positive c.in_err-writer.ensures.begins)
 
 abbrev begin : (g : Over) (c : In_ok-writer g) → BeginningPages c.args.query.now c.args.sizes.now
     (g.O.Output.written c.args.out.now) (g.O.Output.written c.begin.new.out)

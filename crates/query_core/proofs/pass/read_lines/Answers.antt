@@ -21,7 +21,7 @@ kept g c =
     let all = all_kept g.S.Source.text g.S.Source.extent g.S.Source.gave c.open_at.new.sources
     c.in_ok-opened.opened.merge c.merge.new.sources c.merge.new.merge c.in_ok-opened.ensures.ready.aligned.same
     (omega arith) c.merge.ensures.moved in
-    (all.0 ∙ c.open_at.ensures.kept.0, all.1 ∙ c.open_at.ensures.kept.1)
+    (all.0 ∙ c.open_at.ensures.sources.0.0, all.1 ∙ c.open_at.ensures.sources.0.1)
 
 pub returns-in_err-all-clause-kept : goal.returns-in_err-all-clause-kept
 returns-in_err-all-clause-kept g c = kept g (goal.at.returns-in_err-all-clause-kept g c).After-merge
@@ -37,7 +37,7 @@ returns-in_err-all-clause-fault g c = grind (arith, err_from_is_err_and, merge_l
 
 pub returns-clause-held : goal.returns-clause-held
 returns-clause-held g c = λ texts indexes known are most share.
-    let h = c.merge.ensures.most_lines texts indexes (rw c.open_at.ensures.kept.0 known) are most share in
+    let h = c.merge.ensures.most_lines texts indexes (rw c.open_at.ensures.sources.0.0 known) are most share in
     grind (arith, length-map)
 
 -- ---- sources that couldn't be opened
@@ -70,12 +70,12 @@ returns-in_err-opened-clause-ended g c =
 start : (g : Over) (c : In_ok-opened g) → Opened g.S.Source.text g.S.Source.extent g.S.Source.gave
     c.args.query.now c.args.sources.now c.open_at.new.sources c.in_ok-opened.opened.merge
 start g c = record {
-  kept = c.open_at.ensures.kept.0;
+  kept = c.open_at.ensures.sources.0.0;
   same = c.in_ok-opened.ensures.ready.aligned.same;
   came = came_of g.S.Source.text g.S.Source.extent g.S.Source.gave LINE_LIMIT _ c.args.sources.now _
       c.in_ok-opened.ensures.opened;
   cut = rw c.start_pair.ensures at (cuts_of g.S.Source.text g.S.Source.extent g.S.Source.gave LINE_LIMIT _
-      c.args.sources.now c.open_at.new.sources (feeds c.in_ok-opened.opened.merge) c.open_at.ensures.kept.0
+      c.args.sources.now c.open_at.new.sources (feeds c.in_ok-opened.opened.merge) c.open_at.ensures.sources.0.0
       c.in_ok-opened.ensures.opened);
 }
 

@@ -23,5 +23,5 @@ returns-clause-wrote g c = λ sized.
       };
     }
 
-pub returns-in_err-selection-clause-front : goal.returns-in_err-selection-clause-front
-returns-in_err-selection-clause-front g c = grind (arith, wrote_nothing)
+pub returns-in_err-selection-clause-begins : goal.returns-in_err-selection-clause-begins
+returns-in_err-selection-clause-begins g c = grind (arith, wrote_nothing)
