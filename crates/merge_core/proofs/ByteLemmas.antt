@@ -1,22 +1,10 @@
 -- How many bytes indexes gave.
-use Rattle.std.specs.List.{AllZip, AllByRecursion}
-use Rattle.std.proofs.Common.{◌≡◌, ℕ, ◌≤◌, List, ◌∷◌, ◌++◌, length, map, filter, zip, Bool, false, Option, Some}
-use Rattle.std.proofs.Common.{ap, ◌∙◌, arith, length-append, length-take}
-use Rattle.std.proofs.lemmas.List.{map-append}
-use Rattle.std.proofs.lemmas.List.Concat.{flat_map-append}
-use Rattle.std.proofs.lemmas.List.Elements.{filter-append}
-use Rattle.cdxj_places.specs.Pairs.{Pair}
-use Rattle.cdxj_core.specs.Indexes.{IsIndex}
-use Rattle.cdxj_core.specs.Members.{Member, line_row, line_entry}
+use Rattle.merge_core.proofs.Words.{ℕ, ◌++◌, ◌∙◌, ◌∷◌, ◌≡◌, ◌≤◌, AllByRecursion, AllZip, Bool, CameWithin, CursorState}
+use Rattle.merge_core.proofs.Words.{Feed, IsCut, IsCutAt, IsIndex, Known, List, Member, Option, Pair, ReadTo, Some, ap}
+use Rattle.merge_core.proofs.Words.{arith, bytes_of, false, filter, filter-append, flat_map-append, is_low, length}
+use Rattle.merge_core.proofs.Words.{length-append, length-take, line_entry, line_row, lines_text, map, map-append, zip}
 use Rattle.cdxj_core.proofs.MemberLemmas.{entered}
-use Rattle.source_core.specs.Cursors.{CursorState}
-use Rattle.source_core.specs.Search.{IsCut}
-use Rattle.merge_core.specs.PairOrders.{is_low}
-use Rattle.merge_core.specs.Collections.{Known}
-use Rattle.merge_core.specs.Feeds.{Feed, bytes_of}
-use Rattle.merge_core.specs.Openings.{IsCutAt}
-use Rattle.merge_core.specs.Spending.{ReadTo, CameWithin, AllGaveWithin}
-use Rattle.merge_core.specs.Written.{lines_text}
+use Rattle.merge_core.specs.Spending.{AllGaveWithin}
 use Rattle.merge_core.proofs.CountLemmas.{Passes, each_passes}
 use Rattle.merge_core.proofs.GroupLemmas.{each_cut, filter_all}
 use Rattle.merge_core.proofs.Many.{Move}

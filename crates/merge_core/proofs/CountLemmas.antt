@@ -1,32 +1,20 @@
 -- How many lines were read of indexes, and are held at once.
-use Rattle.std.proofs.lemmas.List.{take-map, take-take, length-map, map-append, nil_from_length}
-use Rattle.std.specs.List.{AllZip, AllByRecursion, sum}
-use Rattle.std.proofs.Common.{◌≡◌, ℕ, zero, suc, ◌+◌, ◌<◌, ◌≤◌, List, [], ◌∷◌, length, take, drop, map, filter, Bool}
-use Rattle.std.proofs.Common.{true, false, not, Option, Some, refl, ap, arith, length-append, zip, length-take}
+use Rattle.merge_core.proofs.Words.{[], ℕ, ◌+◌, ◌<◌, ◌∷◌, ◌≡◌, ◌≤◌, AllByRecursion, AllZip, AreFed, Bool, Fed, Feed}
+use Rattle.merge_core.proofs.Words.{Grouped, IsCut, IsCutAt, IsIndex, IsUpto, Known, List, Member, MergeState, Option}
+use Rattle.merge_core.proofs.Words.{OverIndexes, Pair, Reached, ShareAtMost, Some, Upto, WaitingLine, all_done}
+use Rattle.merge_core.proofs.Words.{all_lines, ap, arith, done, drop, each_weaker, false, feeds, filter, filter-append}
+use Rattle.merge_core.proofs.Words.{given, is_low, is_of, length, length-append, length-map, length-take, lines, map}
+use Rattle.merge_core.proofs.Words.{map-append, member_of, member_pair, nil_from_length, not, refl, suc, sum}
+use Rattle.merge_core.proofs.Words.{sum_by-cons, take, take-map, text_or, true, waits_of, zero, zip}
+use Rattle.std.proofs.lemmas.List.{take-take}
 use Rattle.merge_core.proofs.Filters.{filter_fewer, filter_weaker, filter_front, filter_back, each_both, each_take}
-use Rattle.std.proofs.lemmas.List.Elements.{filter-append}
-use Rattle.cdxj_places.specs.Pairs.{Pair}
-use Rattle.cdxj_places.specs.TextLines.{lines}
-use Rattle.cdxj_places.proofs.RisingLaws.{each_weaker}
-use Rattle.cdxj_core.specs.Indexes.{IsIndex}
-use Rattle.cdxj_core.specs.Members.{Member, member_pair}
-use Rattle.merge_core.specs.declared.state.MergeState.{MergeState}
-use Rattle.merge_core.specs.PairOrders.{Upto, is_low, IsUpto}
-use Rattle.merge_core.specs.WaitingLines.{WaitingLine, is_of, waits_of}
-use Rattle.merge_core.specs.Collections.{Known, OverIndexes, all_lines}
-use Rattle.merge_core.specs.Counts.{is_at, ShareAtMost}
-use Rattle.merge_core.specs.Feeds.{AreFed, Fed, Feed, done, feeds, given, member_of}
-use Rattle.merge_core.specs.Gathering.{Grouped, all_done, text_or}
-use Rattle.merge_core.specs.Reached.{Reached}
+use Rattle.merge_core.specs.Counts.{is_at}
 use Rattle.merge_core.proofs.MergeLemmas.{gathered_now}
 use Rattle.merge_core.proofs.ReadLines.{members_are}
 use Rattle.merge_core.proofs.FeedLemmas.{done_cut, done_within}
 use Rattle.merge_core.proofs.StateLemmas.{few_wait, feeds_long}
 use Rattle.merge_core.proofs.WholeLemmas.{told_known, texts_kept}
-use Rattle.std.proofs.lemmas.List.Sums.{sum_by-cons}
 use Rattle.std.proofs.lemmas.List.Filters.{length-filter_both}
-use Rattle.source_core.specs.Search.{IsCut}
-use Rattle.merge_core.specs.Openings.{IsCutAt}
 use Rattle.merge_core.proofs.GroupLemmas.{each_cut, filter_all}
 use Rattle.merge_core.proofs.StartLemmas.{run_after}
 

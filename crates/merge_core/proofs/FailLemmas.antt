@@ -1,7 +1,7 @@
 -- Which device failed.
-use Rattle.std.proofs.lemmas.List.{get_or-map, length-map, map-set}
-use Rattle.std.proofs.Common.{◌≡◌, ℕ, ◌<◌, List, arith, length, map, get_or, set, Result, IfErr, IsErrAnd}
-use Rattle.merge_core.specs.declared.fault.FeedFault.{FeedFault}
+use Rattle.merge_core.proofs.Words.{ℕ, ◌<◌, ◌≡◌, FeedFault, IsErrAnd, List, Result, arith, get_or, get_or-map, length}
+use Rattle.merge_core.proofs.Words.{length-map, map, map-set, set}
+use Rattle.std.proofs.Common.{IfErr}
 use Rattle.merge_core.specs.declared.fault.MergeFault.TheVariants as fault
 use Rattle.merge_core.specs.Failures.{RaisedByFeed, RaisedByRead}
 use Rattle.merge_core.proofs.Many.{map_set_same}

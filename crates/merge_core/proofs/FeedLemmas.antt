@@ -1,33 +1,20 @@
 -- What one line more makes of a feed.
-use Rattle.std.proofs.lemmas.List.{map-append, drop_all, length-map}
-use Rattle.std.proofs.Common.{true, ◌⊎◌, inl, inr, ◌≡◌, ℕ, suc, ◌+◌, ◌-◌, ◌≤◌, List, [], ◌∷◌, ◌++◌, length, refl}
-use Rattle.std.proofs.Common.{sym, ◌∙◌, arith, Bool, false, filter, ap, take_all, take_at}
-use Rattle.std.proofs.Common.{Option, Some, None, take, drop, map, append-nil, length-append, ◌<◌, length-take}
-use Rattle.std.proofs.Common.{append_assoc, take-append-drop}
-use Rattle.std.proofs.lemmas.List.Elements.{filter-append}
-use Rattle.std.specs.List.{AllByRecursion}
+use Rattle.merge_core.proofs.Words.{[], ℕ, ◌++◌, ◌+◌, ◌-◌, ◌<◌, ◌∙◌, ◌∷◌, ◌≡◌, ◌≤◌, ◌⊎◌, Alike, AllByRecursion, Below}
+use Rattle.merge_core.proofs.Words.{Bool, CursorState, EndsAt, Fed, Feed, FeedFault, IsNextLine, IsSettled, List}
+use Rattle.merge_core.proofs.Words.{Member, NeverFalls, None, Option, Pair, Some, Stands, Upto, ap, append-nil}
+use Rattle.merge_core.proofs.Words.{append_assoc, arith, done, drop, drop_all, each_join, each_weaker, false, feed_of}
+use Rattle.merge_core.proofs.Words.{filter, filter-append, first_length, flat_map-append, given, inl, inr, length}
+use Rattle.merge_core.proofs.Words.{length-append, length-map, length-take, line_entry, lines, map, map-append}
+use Rattle.merge_core.proofs.Words.{member_pair, not-false, not-true, pair_cmp, pair_cmp_total, read_lines, refl, stays}
+use Rattle.merge_core.proofs.Words.{suc, sym, take, take-append-drop, tied_back, true, true≢false}
+use Rattle.std.proofs.Common.{take_all, take_at}
 use Rattle.std.specs.FinMap.{nat_cmp-IsAntisymmetric, slice_cmp-IsAntisymmetric}
-use Rattle.std.proofs.lemmas.Cmp.{tied_back}
-use Rattle.std.proofs.lemmas.List.Concat.{flat_map-append}
-use Rattle.cdxj_places.proofs.PairLemmas.{pair_cmp_total}
-use Rattle.cdxj_places.proofs.RisingLaws.{each_join, each_weaker}
-use Rattle.cdxj_places.specs.Pairs.{Pair, pair_cmp}
-use Rattle.cdxj_places.specs.Rising.{NeverFalls}
-use Rattle.cdxj_places.specs.TextLines.{lines}
 use Rattle.cdxj_core.specs.Lines.{body_of}
-use Rattle.cdxj_core.specs.Members.{Member, member_pair, line_entry}
 use Rattle.cdxj_core.proofs.MemberLemmas.{entry_is_short, long_line_none}
-use Rattle.source_core.specs.Cursors.{CursorState, Stands}
-use Rattle.source_core.specs.IndexLines.{first_length}
-use Rattle.merge_core.specs.PairOrders.{Alike, Upto, Below}
-use Rattle.merge_core.specs.Gathering.{EndsAt}
-use Rattle.merge_core.specs.Feeds.{Feed, Fed, IsSettled, feed_of, read_lines, given, done, stays}
 use Rattle.merge_core.proofs.PairOrder.{below_then, same_upto, same_from, upto_upto}
-use Rattle.std.proofs.lemmas.Bool.{cases_lt, not-false, not-true, true≢false}
+use Rattle.std.proofs.lemmas.Bool.{cases_lt}
 use Rattle.source_core.specs.LinesAtFault.{IsOutOfOrder, LineBeginsAt}
 use Rattle.source_core.proofs.SortedCuts.{begins_at}
-use Rattle.merge_core.specs.declared.fault.FeedFault.{FeedFault}
-use Rattle.merge_core.specs.NextLine.{IsNextLine}
 use Rattle.merge_core.proofs.GroupLemmas.{filter_all}
 use Rattle.merge_core.specs.LineFaults.{IsBadFirst, IsFeedFaultAt, NamesLine}
 

@@ -1,9 +1,7 @@
 -- Lists that are filtered, and what holds of each of a list.
-use Rattle.std.proofs.Common.{◌≡◌, ℕ, suc, ◌≤◌, List, [], ◌∷◌, ◌++◌, length, take, filter, Bool, true, false}
-use Rattle.std.proofs.Common.{not, arith, length-append, take-append-drop}
-use Rattle.std.specs.List.{AllByRecursion}
-use Rattle.std.proofs.lemmas.Bool.{cond-true}
-use Rattle.std.proofs.lemmas.List.Elements.{filter-append}
+use Rattle.merge_core.proofs.Words.{[], ℕ, ◌++◌, ◌∷◌, ◌≡◌, ◌≤◌, AllByRecursion, Bool, List, arith, cond-true, false}
+use Rattle.merge_core.proofs.Words.{filter, filter-append, length, length-append, not, suc, take, take-append-drop}
+use Rattle.merge_core.proofs.Words.{true}
 
 -- what a filter lets through, of things that have a property
 pub each_filter : {X : Type 0} (A : X → Type 0) (f : X → Bool) (xs : List X) → AllByRecursion A xs

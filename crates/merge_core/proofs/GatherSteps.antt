@@ -1,19 +1,12 @@
 -- The steps of a group's gathering.
-use Rattle.std.specs.List.{AllZip, AllByRecursion}
-use Rattle.std.proofs.Common.{◌≡◌, ℕ, ◌+◌, ◌<◌, ◌≤◌, List, [], ◌∷◌, ◌++◌, length, get_or, set, drop, zip, flat_map}
-use Rattle.std.proofs.Common.{Bool, true, false, is_lt, Option, sym, append_assoc, append-nil, arith, length-set}
-use Rattle.std.specs.List.Sorted.{IsPermutation}
-use Rattle.std.specs.Option.{is_some}
-use Rattle.std.proofs.lemmas.List.{set-set, set-get_or, get_or-set_same}
-use Rattle.std.proofs.lemmas.List.Sorted.{length_permutation}
-use Rattle.cdxj_places.specs.Pairs.{Pair}
-use Rattle.cdxj_places.proofs.RisingLaws.{each_weaker, each_join}
-use Rattle.cdxj_core.specs.Members.{Member, member_pair}
-use Rattle.merge_core.specs.declared.state.MergeState.{MergeState}
-use Rattle.merge_core.specs.PairOrders.{Alike, Upto}
-use Rattle.merge_core.specs.WaitingLines.{WaitingLine, waiting_pair, turn_cmp}
-use Rattle.merge_core.specs.Feeds.{Aligned, AreSettled, Feed, IsSettled, done, feeds}
-use Rattle.merge_core.specs.Gathering.{Gathered, AreTold, text_or, all_done, unread, IsFrom, IsDue, TookOf}
+use Rattle.merge_core.proofs.Words.{[], ℕ, ◌++◌, ◌+◌, ◌<◌, ◌∷◌, ◌≡◌, ◌≤◌, Aligned, Alike, AllByRecursion, AllZip}
+use Rattle.merge_core.proofs.Words.{AreSettled, AreTold, Bool, Feed, Gathered, IsDue, IsFrom, IsPermutation, IsSettled}
+use Rattle.merge_core.proofs.Words.{List, Member, MergeState, Option, Pair, TookOf, Upto, WaitingLine, all_done}
+use Rattle.merge_core.proofs.Words.{append-nil, append_assoc, arith, done, drop, each_join, each_weaker, false, feeds}
+use Rattle.merge_core.proofs.Words.{flat_map, get_or, is_lt, is_some, length, length-set, length_permutation}
+use Rattle.merge_core.proofs.Words.{member_pair, set, set-get_or, sym, text_or, true, turn_cmp, unread, waiting_pair}
+use Rattle.merge_core.proofs.Words.{zip}
+use Rattle.std.proofs.lemmas.List.{set-set, get_or-set_same}
 use Rattle.merge_core.proofs.HeapLemmas.{each_get, each_permuted}
 use Rattle.merge_core.proofs.Many.{is_told, zip_set, zip_at, length_zip, Move, moved_trans, moved_still, moved_set}
 use Rattle.merge_core.proofs.Many.{move_not, told_moved, unread_set}

@@ -1,21 +1,12 @@
 -- The lines of one pair, taken of one source after another.
-use Rattle.std.proofs.Common.{◌≡◌, ◌≢◌, ℕ, ◌+◌, ◌-◌, ◌<◌, ◌≤◌, List, [], ◌∷◌, ◌++◌, length, get_or, set, take, drop}
-use Rattle.std.proofs.Common.{flat_map, filter, Bool, true, false, is_lt, refl, sym, ap, ◌∙◌}
-use Rattle.std.proofs.Common.{arith, append-nil, append_assoc, drop-drop, drop-set-lt, take-append-drop}
-use Rattle.std.specs.List.{AllByRecursion}
-use Rattle.std.proofs.lemmas.Bool.{cond-false, cond-true}
-use Rattle.std.proofs.lemmas.Cmp.{tied_back}
-use Rattle.std.proofs.lemmas.List.{take_more, take_more_set}
-use Rattle.std.proofs.lemmas.List.Concat.{flat_map-append}
-use Rattle.std.proofs.lemmas.List.Elements.{filter-append}
-use Rattle.cdxj_places.specs.Pairs.{Pair}
-use Rattle.cdxj_places.proofs.PairLemmas.{pair_cmp_total}
-use Rattle.cdxj_places.proofs.RisingLaws.{each_join, each_weaker}
-use Rattle.cdxj_core.specs.Members.{Member, member_pair}
-use Rattle.merge_core.specs.PairOrders.{Alike, Below, Upto}
-use Rattle.merge_core.specs.WaitingLines.{WaitingLine, queued, turn_cmp, waiting_pair, waits_of}
-use Rattle.merge_core.specs.Gathering.{Gathered, IsFrom}
-use Rattle.std.specs.List.Sorted.{IsPermutation}
+use Rattle.merge_core.proofs.Words.{[], ℕ, ◌++◌, ◌+◌, ◌-◌, ◌<◌, ◌∙◌, ◌∷◌, ◌≡◌, ◌≢◌, ◌≤◌, Alike, AllByRecursion, Below}
+use Rattle.merge_core.proofs.Words.{Bool, Gathered, IsFrom, IsPermutation, List, Member, Pair, Upto, WaitingLine, ap}
+use Rattle.merge_core.proofs.Words.{append-nil, append_assoc, arith, cond-false, cond-true, drop, drop-set-lt}
+use Rattle.merge_core.proofs.Words.{each_join, each_weaker, false, filter, filter-append, flat_map, flat_map-append}
+use Rattle.merge_core.proofs.Words.{get_or, is_lt, length, member_pair, pair_cmp_total, queued, refl, set, sym, take}
+use Rattle.merge_core.proofs.Words.{take-append-drop, take_more, take_more_set, tied_back, true, turn_cmp, waiting_pair}
+use Rattle.merge_core.proofs.Words.{waits_of}
+use Rattle.std.proofs.Common.{drop-drop}
 use Rattle.merge_core.proofs.Filters.{each_both}
 use Rattle.merge_core.proofs.PairOrder.{below_upto, same_upto, same_from, upto_upto, not_below_itself}
 use Rattle.merge_core.proofs.TurnLemmas.{not_before, source_after}

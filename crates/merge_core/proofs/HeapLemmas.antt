@@ -1,15 +1,13 @@
 -- Which lines of each source wait, as lines come and go.
+use Rattle.merge_core.proofs.Words.{[], ℕ, ◌++◌, ◌<◌, ◌∙◌, ◌∷◌, ◌≡◌, ◌≢◌, ◌≤◌, AllByRecursion, IsPermutation, List}
+use Rattle.merge_core.proofs.Words.{Member, WaitingLine, arith, cond-false, cond-true, each_weaker, false, filter}
+use Rattle.merge_core.proofs.Words.{get_or, is_of, length, map, queued, refl, subst, suc, sum_by-cons, sym, true}
+use Rattle.merge_core.proofs.Words.{waits_of}
 use Rattle.std.proofs.lemmas.Grind.{common_steps}
-use Rattle.std.proofs.Common.{◌≡◌, ◌≢◌, ℕ, suc, ◌==◌, ◌<◌, ◌≤◌, List, [], ◌∷◌, length, get_or, map, filter, true}
-use Rattle.std.proofs.Common.{◌++◌, ◌∙◌, false, cond, refl, sym, subst, arith, sum_by}
-use Rattle.std.specs.List.{AllByRecursion, All}
-use Rattle.std.specs.List.Sorted.{IsPermutation}
-use Rattle.std.proofs.lemmas.Bool.{cond-true, cond-false}
+use Rattle.std.proofs.Common.{◌==◌}
+use Rattle.std.proofs.Common.{cond, sum_by}
+use Rattle.std.specs.List.{All}
 use Rattle.std.proofs.lemmas.List.Sorted.{All-permutation, sum_by-IsPermutation}
-use Rattle.std.proofs.lemmas.List.Sums.{sum_by-cons}
-use Rattle.cdxj_places.proofs.RisingLaws.{each_weaker}
-use Rattle.cdxj_core.specs.Members.{Member}
-use Rattle.merge_core.specs.WaitingLines.{WaitingLine, is_of, queued, waits_of}
 
 pub each_get : {X : Type 0} (P : X → Type 0) (xs : List X) (i : ℕ) (d : X) → AllByRecursion P xs → i < length xs
     → P (get_or xs i d)

@@ -1,3 +1,4 @@
+pub mod Words
 pub mod PairOrder
 pub mod HeapLemmas
 pub mod TurnLemmas

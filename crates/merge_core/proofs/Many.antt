@@ -1,13 +1,10 @@
 -- Lists of sources and feeds, seen as one list of pairs.
-use Rattle.std.specs.List.{AllZip, AllByRecursion}
-use Rattle.std.proofs.Common.{◌≡◌, ℕ, suc, ◌+◌, ◌-◌, ◌<◌, List, [], ◌∷◌, ap, arith, Option}
-use Rattle.std.proofs.Common.{Some, true, length, get_or, set, map, zip}
-use Rattle.std.specs.Option.{is_some}
-use Rattle.std.proofs.lemmas.List.{get_or-map, map-set, set-get_or}
-use Rattle.std.proofs.lemmas.List.Sums.{sum-map, sum_by-set}
+use Rattle.merge_core.proofs.Words.{[], ℕ, ◌+◌, ◌-◌, ◌<◌, ◌∷◌, ◌≡◌, AllByRecursion, AllZip, Feed, List, Option, Some}
+use Rattle.merge_core.proofs.Words.{ap, arith, get_or, get_or-map, is_some, length, map, map-set, set, set-get_or, suc}
+use Rattle.merge_core.proofs.Words.{sum-map, text_or, true, unread, zip}
+use Rattle.std.proofs.lemmas.List.Sums.{sum_by-set}
 use Rattle.std.proofs.lemmas.Slice.Zip.{get_or-zip, length-zip}
-use Rattle.merge_core.specs.Feeds.{Feed, Moved}
-use Rattle.merge_core.specs.Gathering.{text_or, unread}
+use Rattle.merge_core.specs.Feeds.{Moved}
 
 pub is_told : (o : Option (List ℕ)) → is_some o ≡ true → o ≡ Some (text_or o)
 is_told o e = grind arith

@@ -1,24 +1,16 @@
 -- One group more of a merge.
-use Rattle.std.proofs.Common.{arith, ◌≡◌, ℕ, Result, inl, IsErrAnd, OnErr, List, [], ◌∷◌, ◌++◌}
-use Rattle.std.proofs.Common.{Bool, Option, Some, None, true, Less, Ordering, is_lt, is_gt}
-use Rattle.std.specs.List.{AllByRecursion}
-use Rattle.cdxj_places.specs.Pairs.{Pair}
-use Rattle.cdxj_places.specs.Places.{place_cmp}
-use Rattle.cdxj_places.specs.Rising.{IsLower, Rises, rising}
-use Rattle.cdxj_places.proofs.PlaceOrder.{place_cmp_total}
-use Rattle.cdxj_places.proofs.RisingLaws.{each_weaker, each_rising, rises_rising, rising_split, each_join}
-use Rattle.cdxj_core.specs.Members.{Member, member_pair, member_place}
-use Rattle.merge_core.specs.PairOrders.{Alike, Below, IsAbove, IsUpto, is_low}
-use Rattle.merge_core.specs.WaitingLines.{WaitingLine, waiting_pair}
-use Rattle.merge_core.specs.Gathering.{Gathered, Grouped, AreTold, all_done}
-use Rattle.devices.specs.Device.{Grows}
-use Rattle.merge_core.specs.Merging.{BrokenMerge, HaltedGroup, HaltedMerge, SoFar}
-use Rattle.merge_core.specs.Reached.{Reached}
-use Rattle.merge_core.specs.declared.state.MergeState.{MergeState}
-use Rattle.merge_core.specs.Feeds.{AllMoved, Ready, feeds}
+use Rattle.merge_core.proofs.Words.{[], ℕ, ◌++◌, ◌∷◌, ◌≡◌, Alike, AllByRecursion, AllMoved, AreTold, Below, Bool}
+use Rattle.merge_core.proofs.Words.{Gathered, Grouped, Grows, HasEntry, IsAbove, IsErrAnd, IsLower, IsUpto, Less, List}
+use Rattle.merge_core.proofs.Words.{Member, MergeState, None, Option, Ordering, Pair, Reached, Ready, Result, SoFar}
+use Rattle.merge_core.proofs.Words.{Some, WaitingLine, all_done, arith, each_join, each_rising, each_weaker, feeds, inl}
+use Rattle.merge_core.proofs.Words.{is_gt, is_low, is_lt, member_pair, member_place, place_cmp, place_cmp_total, rising}
+use Rattle.merge_core.proofs.Words.{rising_split, true, waiting_pair}
+use Rattle.std.proofs.Common.{MatchResult}
+use Rattle.cdxj_places.specs.Rising.{Rises}
+use Rattle.cdxj_places.proofs.RisingLaws.{rises_rising}
+use Rattle.merge_core.specs.Merging.{BrokenMerge, HaltedGroup, HaltedMerge}
 use Rattle.merge_core.proofs.StateLemmas.{long_of}
 use Rattle.merge_core.proofs.Many.{told_moved, moved_trans}
-use Rattle.merge_core.specs.SourceLines.{HasEntry}
 use Rattle.merge_core.proofs.PairOrder.{from_not_below, below_then, then_below, below_upto, same_upto, same_from}
 use Rattle.merge_core.proofs.GroupLemmas.{AreAt, AreBelow}
 
@@ -158,5 +150,6 @@ module _ {K S : Type 0} {Wrote : K → K → List Member → Option (List ℕ) �
             (below_next so_far.bound halted.pair above _ (reached.handed.told told).1);
       }
 
-pub on_err : {A E : Type 0} (r : Result A E) (e : E) (P : Type 0) → IsErrAnd r (λ x. x ≡ e) → P → OnErr r P
-on_err r e P h p = grind arith
+pub on_fault : {A E : Type 0} (r : Result A E) (e : E) (P : A → Type 0) (Q : Type 0) → IsErrAnd r (λ x. x ≡ e) → Q
+    → MatchResult r P (λ _. Q)
+on_fault r e P Q h q = grind arith

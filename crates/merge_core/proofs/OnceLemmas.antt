@@ -1,8 +1,6 @@
 -- Each byte of a source is given at most once.
-use Rattle.std.proofs.Common.{arith, ◌≡◌, ℕ, List, [], ◌∷◌, Bool, Option, length, map, zip}
-use Rattle.std.specs.List.{AllZip}
-use Rattle.merge_core.specs.Feeds.{AreFed, Feed}
-use Rattle.merge_core.specs.Spending.{AllGaveOnce, CameOnce}
+use Rattle.merge_core.proofs.Words.{[], ℕ, ◌∷◌, ◌≡◌, AllGaveOnce, AllZip, AreFed, Bool, CameOnce, Feed, List, Option}
+use Rattle.merge_core.proofs.Words.{arith, length, map, zip}
 use Rattle.merge_core.proofs.Many.{Move}
 
 module _ {S : Type 0} (text : S → Option (List ℕ)) (extent gave : S → ℕ) where

@@ -1,24 +1,14 @@
 -- The opening of sources, one after another.
-use Rattle.std.proofs.Common.{◌≡◌, ℕ, suc, ◌+◌, ◌<◌, List, [], ◌∷◌, ◌++◌, length, set, zip, map, take, Bool}
-use Rattle.std.proofs.Common.{inl, ◌≤◌, drop, filter, ◌∙◌, Option, None, Some, MatchOption, refl, arith, length-append}
-use Rattle.std.specs.List.{AllByRecursion, AllZip, sum}
-use Rattle.std.proofs.lemmas.List.Sums.{sum-map, sum_by_push}
-use Rattle.std.proofs.lemmas.List.{drop_all, take_more_set}
-use Rattle.cdxj_places.specs.Pairs.{IsLeast, Pair}
-use Rattle.cdxj_places.proofs.RisingLaws.{each_weaker}
-use Rattle.cdxj_core.specs.Members.{Member}
-use Rattle.source_core.specs.Cursors.{CursorState}
-use Rattle.merge_core.specs.declared.state.MergeState.{MergeState}
-use Rattle.merge_core.specs.WaitingLines.{WaitingLine, waits_of}
-use Rattle.merge_core.specs.Feeds.{Fed, Feed, IsSettled, Ready, done, feed_of, feeds, given, option_list, stays}
-use Rattle.merge_core.specs.NextLine.{IsNextLine}
-use Rattle.merge_core.specs.Openings.{AddedSource, IsCutAt, OpenedAt}
-use Rattle.merge_core.specs.Spending.{CameOnce, CameWithin}
+use Rattle.merge_core.proofs.Words.{[], ℕ, ◌++◌, ◌+◌, ◌<◌, ◌∙◌, ◌∷◌, ◌≡◌, ◌≤◌, AllByRecursion, AllZip, Bool, CameOnce}
+use Rattle.merge_core.proofs.Words.{CameWithin, CursorState, Fed, Feed, IsCutAt, IsLeast, IsNextLine, IsSettled, List}
+use Rattle.merge_core.proofs.Words.{MatchOption, Member, MergeState, None, OpenedAt, Option, Pair, Ready, Some, Stands}
+use Rattle.merge_core.proofs.Words.{WaitingLine, arith, done, drop, drop_all, each_weaker, feed_of, feeds, filter}
+use Rattle.merge_core.proofs.Words.{first_length, given, inl, length, length-append, lines, map, option_list, refl, set}
+use Rattle.merge_core.proofs.Words.{stays, suc, sum, sum-map, take, take_more_set, text_or, waits_of, zip}
+use Rattle.std.proofs.lemmas.List.Sums.{sum_by_push}
+use Rattle.merge_core.specs.Openings.{AddedSource, AreOpened}
 use Rattle.merge_core.proofs.FeedLemmas.{LineRead, done_next, fed_end, fed_more, settled_more}
-use Rattle.source_core.specs.Cursors.{Stands}
-use Rattle.source_core.specs.IndexLines.{BeginsAfter, first_length}
-use Rattle.cdxj_places.specs.TextLines.{lines}
-use Rattle.merge_core.specs.Gathering.{text_or}
+use Rattle.source_core.specs.IndexLines.{BeginsAfter}
 use Rattle.merge_core.proofs.HeapLemmas.{waits_other}
 use Rattle.merge_core.proofs.StateLemmas.{feeds_added, few_of_fed, placed_queued}
 
@@ -62,11 +52,6 @@ module _ {limit : ℕ} {past : List ℕ → Bool} {S : Type 0} {text : S → Opt
         settled = rw added_feeds (zip_push_each (λ s f. IsSettled limit past (text s) f) ss (feeds m) s its_feed
             was.settled added.settled);
       }
-
--- what is known of sources that were opened, one by one
-abbrev AreOpened : {S : Type 0} → (S → Option (List ℕ)) → (S → ℕ) → (S → ℕ) → ℕ → Pair → List S → List (S × Feed) → Type 0
-AreOpened text extent gave limit start =
-    AllZip (λ x y. OpenedAt limit start (text x) (extent x) (gave x) (gave y.0) y.1.cursor)
 
 module _ {S : Type 0} (text : S → Option (List ℕ)) (extent gave : S → ℕ) (limit : ℕ) (start : Pair) where
   pub cuts_of : (olds ss : List S) (fs : List Feed) → map text ss ≡ map text olds → AreOpened text extent gave limit start olds (zip ss fs)

@@ -1,10 +1,7 @@
 -- The order of pairs is total.
-use Rattle.std.proofs.Common.{arith, ◌≡◌, ◌⊎◌, inl, inr, refl, false, ap, ◌∙◌, Less, Equal, Greater, is_gt, is_lt}
-use Rattle.std.specs.Ordering.{ordering_reverse}
-use Rattle.std.proofs.lemmas.Cmp.{tied_itself, tied_back}
-use Rattle.cdxj_places.specs.Pairs.{Pair, pair_cmp}
-use Rattle.cdxj_places.proofs.PairLemmas.{pair_cmp_total}
-use Rattle.merge_core.specs.PairOrders.{Below, Upto}
+use Rattle.merge_core.proofs.Words.{◌∙◌, ◌≡◌, ◌⊎◌, Below, Equal, Less, Pair, Upto, ap, arith, false, inl, inr, is_gt}
+use Rattle.merge_core.proofs.Words.{is_lt, ordering_reverse, pair_cmp, pair_cmp_total, refl, tied_back, tied_itself}
+use Rattle.std.proofs.Common.{Greater}
 
 pub below_upto : (p q : Pair) → Below p q → Upto p q
 below_upto p q h = ap is_gt h

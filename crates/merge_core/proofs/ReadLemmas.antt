@@ -1,20 +1,9 @@
 -- What was taken of sources that are indexes, beside all of their collection.
-use Rattle.std.specs.List.{AllZip, AllByRecursion}
-use Rattle.std.proofs.Common.{◌≡◌, ℕ, ◌+◌, List, [], ◌∷◌, length, map, filter, zip, Bool, true, false, Option, arith}
-use Rattle.std.proofs.lemmas.List.Elements.{filter-append}
-use Rattle.cdxj_places.specs.Pairs.{Pair}
-use Rattle.cdxj_places.proofs.RisingLaws.{each_weaker}
-use Rattle.cdxj_core.specs.Indexes.{IsIndex}
-use Rattle.cdxj_core.specs.Members.{Member}
-use Rattle.source_core.specs.Cursors.{CursorState}
-use Rattle.merge_core.specs.declared.state.MergeState.{MergeState}
-use Rattle.merge_core.specs.PairOrders.{is_low}
-use Rattle.merge_core.specs.WaitingLines.{WaitingLine}
-use Rattle.merge_core.specs.Collections.{Known, all_lines, collection}
-use Rattle.merge_core.specs.Feeds.{AreFed, AreSettled, Feed, done, feeds, feeds_from, stays}
-use Rattle.merge_core.specs.Gathering.{AreTold, text_or, all_done}
-use Rattle.merge_core.specs.Openings.{IsCutAt}
-use Rattle.merge_core.specs.Reached.{Reached}
+use Rattle.merge_core.proofs.Words.{[], ℕ, ◌+◌, ◌∷◌, ◌≡◌, AllByRecursion, AllZip, AreFed, AreSettled, AreTold, Bool}
+use Rattle.merge_core.proofs.Words.{CursorState, Feed, IsCutAt, IsIndex, Known, List, Member, MergeState, Option, Pair}
+use Rattle.merge_core.proofs.Words.{Reached, WaitingLine, all_done, all_lines, arith, collection, done, each_weaker}
+use Rattle.merge_core.proofs.Words.{false, feeds, feeds_from, filter, filter-append, is_low, length, map, stays}
+use Rattle.merge_core.proofs.Words.{text_or, true, zip}
 use Rattle.merge_core.proofs.GroupLemmas.{each_cut}
 use Rattle.merge_core.proofs.HeapLemmas.{each_waits}
 use Rattle.merge_core.proofs.Many.{is_told, told_moved}

@@ -1,24 +1,17 @@
 -- The lines of one source that were come to, among all that it has from its start on.
-use Rattle.std.proofs.Common.{arith, ◌≡◌, ℕ, List, [], ◌∷◌, ◌++◌, refl, sym, ap, ◌∙◌, Bool, true, false, not, ◌&&◌}
-use Rattle.std.proofs.Common.{inl, inr, Some, take, drop, map, filter, append-nil, append_assoc, take-append-drop, is_gt}
-use Rattle.std.proofs.lemmas.List.{take-map, drop-map}
-use Rattle.std.specs.List.{AllByRecursion}
+use Rattle.merge_core.proofs.Words.{[], ℕ, ◌++◌, ◌∙◌, ◌∷◌, ◌≡◌, AllByRecursion, Bool, Fed, Feed, IsLower, IsRun}
+use Rattle.merge_core.proofs.Words.{IsSettled, List, Member, NeverFalls, Some, Upto, ap, append-nil, append_assoc}
+use Rattle.merge_core.proofs.Words.{arith, done, drop, each_rising, each_weaker, false, filter, filter-append, given}
+use Rattle.merge_core.proofs.Words.{inl, inr, is_gt, line_entry, lines, map, member_of, member_pair, member_place, not}
+use Rattle.merge_core.proofs.Words.{pair_cmp, place_cmp, place_cmp_total, refl, rising, rising_split, stays, sym, take}
+use Rattle.merge_core.proofs.Words.{take-append-drop, take-map, true}
+use Rattle.std.proofs.Common.{◌&&◌}
+use Rattle.std.proofs.lemmas.List.{drop-map}
 use Rattle.merge_core.proofs.Filters.{each_both}
 use Rattle.merge_core.proofs.FeedLemmas.{filter_passes}
 use Rattle.std.specs.Ordering.{nat_cmp}
 use Rattle.std.specs.Cmp.Lexicographic.{slice_cmp}
 use Rattle.std.proofs.lemmas.Cmp.{nat_list_cmp_total}
-use Rattle.std.proofs.lemmas.List.Elements.{filter-append}
-use Rattle.cdxj_places.specs.Pairs.{pair_cmp}
-use Rattle.cdxj_places.specs.Places.{place_cmp}
-use Rattle.cdxj_places.specs.Rising.{IsLower, NeverFalls, rising}
-use Rattle.cdxj_places.specs.TextLines.{lines}
-use Rattle.cdxj_places.proofs.PlaceOrder.{place_cmp_total}
-use Rattle.cdxj_places.proofs.RisingLaws.{each_weaker, each_rising, rising_split}
-use Rattle.cdxj_core.specs.Indexes.{IsRun}
-use Rattle.cdxj_core.specs.Members.{Member, member_pair, member_place, line_entry}
-use Rattle.merge_core.specs.PairOrders.{Upto}
-use Rattle.merge_core.specs.Feeds.{Feed, Fed, IsSettled, done, given, member_of, stays}
 use Rattle.merge_core.proofs.PairOrder.{upto_itself}
 use Rattle.merge_core.proofs.GroupLemmas.{filter_all, filter_none}
 use Rattle.merge_core.proofs.MergeLemmas.{place_below}

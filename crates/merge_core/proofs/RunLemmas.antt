@@ -1,24 +1,15 @@
 -- What was taken of sources of any bytes, beside the lines that were read of them.
-use Rattle.std.specs.List.{AllByRecursion, AllZip, sum}
-use Rattle.std.proofs.Common.{◌≡◌, ℕ, ◌+◌, List, [], ◌∷◌, length, drop, map, filter, Bool, true, Option, Some}
-use Rattle.std.proofs.Common.{refl, arith, take-append-drop, append_assoc}
-use Rattle.std.proofs.lemmas.List.{length-map, nil_from_length}
-use Rattle.std.proofs.lemmas.List.Sums.{sum_by-cons}
-use Rattle.cdxj_places.specs.Pairs.{Pair}
-use Rattle.cdxj_places.specs.TextLines.{lines}
-use Rattle.cdxj_core.specs.Members.{Member}
-use Rattle.source_core.specs.Cursors.{CursorState}
-use Rattle.merge_core.specs.declared.state.MergeState.{MergeState}
-use Rattle.merge_core.specs.Collections.{Known, all_lines, collection}
-use Rattle.merge_core.specs.Feeds.{AreFed, AreSettled, Fed, Feed, IsSettled, done, feeds, feeds_from, given, read_lines, stays}
-use Rattle.merge_core.specs.Gathering.{AreTold, text_or, all_done}
-use Rattle.merge_core.specs.Reached.{Reached}
+use Rattle.merge_core.proofs.Words.{[], ℕ, ◌+◌, ◌∷◌, ◌≡◌, AllByRecursion, AllZip, AreFed, AreSettled, AreTold, Bool}
+use Rattle.merge_core.proofs.Words.{CursorState, Fed, Feed, IsSettled, Known, List, Member, MergeState, Option, Pair}
+use Rattle.merge_core.proofs.Words.{Reached, Some, all_done, all_lines, append_assoc, arith, collection, done, drop}
+use Rattle.merge_core.proofs.Words.{feeds, feeds_from, filter, filter-append, given, length, length-map, lines, map}
+use Rattle.merge_core.proofs.Words.{nil_from_length, read_lines, refl, stays, sum, sum_by-cons, take-append-drop}
+use Rattle.merge_core.proofs.Words.{text_or, true}
 use Rattle.merge_core.specs.Runs.{IsPart, parts}
 use Rattle.merge_core.proofs.Many.{is_told, told_moved}
 use Rattle.merge_core.proofs.ReadLines.{IsUpward, is_read, IsLate, given_read}
 use Rattle.merge_core.proofs.ReadLemmas.{late_feeds}
 use Rattle.merge_core.proofs.StateLemmas.{long_of}
-use Rattle.std.proofs.lemmas.List.Elements.{filter-append}
 use Rattle.merge_core.proofs.GroupLemmas.{each_cut}
 use Rattle.merge_core.proofs.TakenLemmas.{Took}
 

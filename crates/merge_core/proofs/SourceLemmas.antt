@@ -1,20 +1,11 @@
 -- The lines that were taken of sources are lines of theirs.
-use Rattle.std.proofs.Common.{◌≡◌, ◌⊎◌, inl, inr, ℕ, suc, List, [], ◌∷◌, ◌++◌, length, take, arith, map, Bool}
-use Rattle.std.proofs.Common.{Option, Some, refl}
-use Rattle.std.proofs.lemmas.Slice.Zip.{AllZip-long}
-use Rattle.std.specs.List.{AllByRecursion}
-use Rattle.cdxj_places.specs.Pairs.{Pair}
+use Rattle.merge_core.proofs.Words.{[], ℕ, ◌++◌, ◌∷◌, ◌≡◌, ◌⊎◌, AllByRecursion, AllZip-long, AreFed, AreLinesOf}
+use Rattle.merge_core.proofs.Words.{AreTold, Bool, Fed, Feed, HasEntry, List, Member, MergeState, Option, Pair, Reached}
+use Rattle.merge_core.proofs.Words.{Some, all_done, arith, done, each_join, each_rising, each_weaker, feeds, given, inl}
+use Rattle.merge_core.proofs.Words.{inr, length, line_entry, lines, map, member_place, place_cmp, place_cmp_total}
+use Rattle.merge_core.proofs.Words.{read_lines, refl, suc, take, text_or}
 use Rattle.cdxj_places.specs.Rising.{IsIn}
-use Rattle.cdxj_places.specs.TextLines.{lines}
-use Rattle.cdxj_places.proofs.PlaceOrder.{place_cmp_total}
-use Rattle.cdxj_places.proofs.RisingLaws.{each_weaker, each_rising, each_join}
-use Rattle.cdxj_core.specs.Members.{Member, line_entry, member_place}
-use Rattle.cdxj_places.specs.Places.{place_cmp}
-use Rattle.merge_core.specs.declared.state.MergeState.{MergeState}
-use Rattle.merge_core.specs.Feeds.{AreFed, Fed, Feed, done, feeds, given, read_lines}
-use Rattle.merge_core.specs.Gathering.{AreTold, text_or, all_done}
-use Rattle.merge_core.specs.Reached.{Reached}
-use Rattle.merge_core.specs.SourceLines.{HasEntry, IsLineIn, IsLineOf, AreLinesOf}
+use Rattle.merge_core.specs.SourceLines.{IsLineIn, IsLineOf}
 use Rattle.merge_core.proofs.FeedLemmas.{done_cut}
 use Rattle.merge_core.proofs.Filters.{each_take}
 use Rattle.merge_core.proofs.StateLemmas.{feeds_long, long_of}

@@ -1,21 +1,15 @@
 -- How far sources were read.
+use Rattle.merge_core.proofs.Words.{[], ℕ, ◌*◌, ◌++◌, ◌+◌, ◌∙◌, ◌∷◌, ◌≡◌, ◌≤◌, AllByRecursion, AllZip, AreFed}
+use Rattle.merge_core.proofs.Words.{AreReadTo, Bool, CursorState, EndsAt, Fed, Feed, IsUpto, List, Member, None}
+use Rattle.merge_core.proofs.Words.{OpenedWithin, Option, Pair, ReadTo, Some, all_done, ap, append-nil, append_assoc}
+use Rattle.merge_core.proofs.Words.{arith, bytes_of, done, drop, drop-set-lt, false, feed_of, first_length}
+use Rattle.merge_core.proofs.Words.{flat_map-append, get_or, given, length, length-append, length-drop, line_entry}
+use Rattle.merge_core.proofs.Words.{lines, longest, map, member_pair, reach, read_lines, refl, set, suc, sym, take}
+use Rattle.merge_core.proofs.Words.{take-append-drop, take-map, text_or}
 use Rattle.std.proofs.lemmas.Grind.{drop_more_same}
-use Rattle.std.proofs.lemmas.List.{take-map}
-use Rattle.std.specs.List.{AllZip, AllByRecursion}
-use Rattle.std.proofs.Common.{◌≡◌, ℕ, suc, ◌+◌, ◌*◌, ◌≤◌, List, [], ◌∷◌, ◌++◌, length, take, drop, map, get_or}
-use Rattle.std.proofs.Common.{set, Bool, false, Option, None, Some, refl, sym, ap, ◌∙◌, arith, append_assoc, append-nil}
-use Rattle.std.proofs.Common.{take-append-drop, length-append, length-drop, drop-set-lt, get_or-drop}
-use Rattle.std.proofs.lemmas.List.Concat.{flat_map-append}
-use Rattle.cdxj_places.specs.Pairs.{Pair}
-use Rattle.cdxj_places.specs.TextLines.{lines}
-use Rattle.cdxj_core.specs.Members.{Member, member_pair, line_entry}
-use Rattle.source_core.specs.Cursors.{CursorState, reach}
-use Rattle.source_core.specs.IndexLines.{first_length, longest}
+use Rattle.std.proofs.Common.{get_or-drop}
 use Rattle.source_core.proofs.LongestLines.{first_most, longest_drop}
-use Rattle.merge_core.specs.PairOrders.{IsUpto}
-use Rattle.merge_core.specs.Feeds.{AreFed, Fed, Feed, bytes_of, done, feed_of, given, read_lines}
-use Rattle.merge_core.specs.Gathering.{EndsAt, text_or, all_done}
-use Rattle.merge_core.specs.Spending.{ReadTo, AreReadTo, OpenedWithin}
+use Rattle.merge_core.specs.Spending.{AllOpenedWithin}
 use Rattle.merge_core.proofs.FeedLemmas.{all_taken, all_upto, done_cut, done_within}
 use Rattle.merge_core.proofs.Filters.{each_both}
 use Rattle.merge_core.proofs.GroupLemmas.{each_cut}
@@ -118,7 +112,7 @@ module _ (limit : ℕ) (past : List ℕ → Bool) where
 -- ---- the opening of sources
 
 pub opened_none : {S : Type 0} (text : S → Option (List ℕ)) (extent gave : S → ℕ) (ss : List S)
-    → AllZip (λ x y. OpenedWithin (text x) (extent x) (gave x) (gave y)) ss ss
+    → AllOpenedWithin text extent gave ss ss
 opened_none text extent gave = grind (arith, two_same)
 
 -- what is left of a list that was gone over up to an index

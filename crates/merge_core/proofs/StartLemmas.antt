@@ -1,20 +1,11 @@
 -- The lines that the sources have from where they are read on.
-use Rattle.std.specs.List.{AllZip, AllByRecursion}
-use Rattle.std.proofs.Common.{◌≡◌, ℕ, List, [], ◌∷◌, ◌++◌, length, map, drop, filter, zip, not, Option, Some, sym}
-use Rattle.std.proofs.Common.{ap, refl, ap₂, ◌∙◌, arith, false}
-use Rattle.std.proofs.lemmas.List.{drop_at, length-map, map-append}
-use Rattle.std.proofs.lemmas.List.Elements.{filter-append}
-use Rattle.cdxj_places.specs.Pairs.{Pair, pair_cmp}
-use Rattle.cdxj_places.specs.Rising.{NeverFalls}
-use Rattle.cdxj_places.specs.TextLines.{lines}
-use Rattle.cdxj_places.proofs.RisingLaws.{each_weaker}
-use Rattle.cdxj_core.specs.Indexes.{IsRun, IsIndex}
-use Rattle.cdxj_core.specs.Members.{Member, member_pair}
-use Rattle.source_core.specs.Search.{IsCut, is_below}
-use Rattle.merge_core.specs.Feeds.{Feed}
-use Rattle.merge_core.specs.PairOrders.{is_low}
-use Rattle.merge_core.specs.Collections.{Known, all_lines}
-use Rattle.merge_core.specs.Openings.{IsCutAt}
+use Rattle.merge_core.proofs.Words.{[], ℕ, ◌++◌, ◌∙◌, ◌∷◌, ◌≡◌, AllByRecursion, AllZip, Feed, IsCut, IsCutAt, IsIndex}
+use Rattle.merge_core.proofs.Words.{IsRun, Known, List, Member, NeverFalls, Option, Pair, Some, all_lines, ap, arith}
+use Rattle.merge_core.proofs.Words.{drop, each_weaker, false, filter, filter-append, is_low, length, length-map, lines}
+use Rattle.merge_core.proofs.Words.{map, map-append, member_pair, not, pair_cmp, refl, sym, zip}
+use Rattle.std.proofs.Common.{ap₂}
+use Rattle.std.proofs.lemmas.List.{drop_at}
+use Rattle.source_core.specs.Search.{is_below}
 use Rattle.merge_core.proofs.GroupLemmas.{filter_none, filter_all}
 use Rattle.merge_core.proofs.Many.{Move}
 

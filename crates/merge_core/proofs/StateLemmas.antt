@@ -1,24 +1,14 @@
 -- Sources and the feeds of a merge, while lines wait.
-use Rattle.std.specs.List.{AllZip, AllByRecursion}
-use Rattle.std.proofs.Common.{◌≡◌, ◌≢◌, ℕ, zero, suc, ◌+◌, ◌<◌, ◌≤◌, List, [], ◌∷◌, ◌++◌, length, map, get_or, set}
-use Rattle.std.proofs.Common.{Bool, true, Option, Some, refl, sym, ap}
-use Rattle.std.proofs.Common.{inl, inr, ◌∙◌, arith, length-set, length-append, append-nil, take_all}
-use Rattle.std.specs.List.Sorted.{IsPermutation}
-use Rattle.std.proofs.lemmas.Bool.{not-true}
-use Rattle.std.proofs.lemmas.List.{get_or_default, nil_from_length, set-get_or, length-map}
-use Rattle.std.proofs.lemmas.List.Elements.{filter-append}
-use Rattle.std.proofs.lemmas.List.Sorted.{length_permutation}
-use Rattle.cdxj_places.specs.Pairs.{Pair}
-use Rattle.cdxj_core.specs.Members.{Member}
-use Rattle.source_core.specs.Cursors.{CursorState}
-use Rattle.merge_core.specs.declared.state.MergeState.{MergeState}
-use Rattle.merge_core.specs.WaitingLines.{WaitingLine, queued, waiting_pair, waits_of}
-use Rattle.merge_core.specs.Feeds.{Aligned, AreFed, Fed, Feed, done, feed_of, feeds, feeds_from, given, stays}
-use Rattle.merge_core.specs.Gathering.{IsDue, TookOf}
-use Rattle.merge_core.specs.PairOrders.{Alike}
+use Rattle.merge_core.proofs.Words.{[], ℕ, ◌++◌, ◌+◌, ◌<◌, ◌∙◌, ◌∷◌, ◌≡◌, ◌≢◌, ◌≤◌, Aligned, Alike, AllByRecursion}
+use Rattle.merge_core.proofs.Words.{AllZip, AreFed, Bool, CursorState, Fed, Feed, IsDue, IsPermutation, List, Member}
+use Rattle.merge_core.proofs.Words.{MergeState, Option, Pair, Some, TookOf, WaitingLine, ap, append-nil, arith, done}
+use Rattle.merge_core.proofs.Words.{each_join, feed_of, feeds, feeds_from, filter-append, get_or, get_or_default, given}
+use Rattle.merge_core.proofs.Words.{inl, inr, length, length-append, length-map, length-set, length_permutation, map}
+use Rattle.merge_core.proofs.Words.{nil_from_length, not-true, queued, refl, set, set-get_or, stays, suc, sym, true}
+use Rattle.merge_core.proofs.Words.{waiting_pair, waits_of, zero}
+use Rattle.std.proofs.Common.{take_all}
 use Rattle.merge_core.proofs.FeedLemmas.{filter_passes}
 use Rattle.merge_core.proofs.GroupLemmas.{filter_all}
-use Rattle.cdxj_places.proofs.RisingLaws.{each_join}
 use Rattle.merge_core.proofs.HeapLemmas.{each_permuted, waits_beside, waits_here, waits_other, waits_permuted, waits_queued}
 use Rattle.merge_core.proofs.Many.{each_replaced}
 

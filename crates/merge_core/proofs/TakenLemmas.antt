@@ -1,22 +1,14 @@
 -- What was taken of lines, beside all that is wanted of them.
-use Rattle.std.proofs.Common.{arith, ◌≡◌, ℕ, List, [], ◌∷◌, ◌++◌, filter, Bool, true, false, not}
-use Rattle.std.proofs.Common.{Option, None, Some, refl, sym, ap, ◌∙◌, append-nil, is_gt, is_lt}
-use Rattle.std.proofs.lemmas.Bool.{and_cases, not-false, not-true, true≢false}
-use Rattle.std.specs.List.{AllByRecursion}
+use Rattle.merge_core.proofs.Words.{[], ℕ, ◌++◌, ◌∙◌, ◌∷◌, ◌≡◌, AllByRecursion, Below, Bool, IsAbove, IsLower, IsUpto}
+use Rattle.merge_core.proofs.Words.{List, Member, None, Option, Pair, Some, Upto, WaitingLine, ap, append-nil, arith}
+use Rattle.merge_core.proofs.Words.{each_rising, each_weaker, false, filter, is_gt, is_low, is_lt, member_pair}
+use Rattle.merge_core.proofs.Words.{member_place, not, not-false, not-true, ordering_reverse, pair_cmp, pair_cmp_total}
+use Rattle.merge_core.proofs.Words.{place_cmp, place_cmp_total, refl, rising, stays, sym, true, true≢false}
+use Rattle.merge_core.proofs.Words.{waiting_pair}
+use Rattle.std.proofs.lemmas.Bool.{and_cases}
 use Rattle.merge_core.proofs.Filters.{filter_out, each_filter}
-use Rattle.std.specs.Ordering.{ordering_reverse}
-use Rattle.cdxj_places.specs.Pairs.{Pair, pair_cmp}
-use Rattle.cdxj_places.specs.Places.{place_cmp}
-use Rattle.cdxj_places.specs.Rising.{IsLower, rising}
-use Rattle.cdxj_places.proofs.PairLemmas.{pair_cmp_total}
-use Rattle.cdxj_places.proofs.PlaceOrder.{place_cmp_total}
-use Rattle.cdxj_places.proofs.RisingLaws.{each_weaker, each_rising}
-use Rattle.cdxj_core.specs.Members.{Member, member_pair, member_place}
-use Rattle.merge_core.specs.PairOrders.{Below, Upto, IsAbove, IsUpto, is_low}
-use Rattle.merge_core.specs.WaitingLines.{WaitingLine, waiting_pair}
 use Rattle.merge_core.proofs.PairOrder.{below_then, then_below, from_not_below, upto_upto}
 use Rattle.merge_core.proofs.MergeLemmas.{place_below, below_next, is_less}
-use Rattle.merge_core.specs.Feeds.{stays}
 use Rattle.merge_core.proofs.ReadLines.{wanted_parts, IsUpward, is_read, IsLate, stays_lower}
 
 -- ---- what stands above a bound

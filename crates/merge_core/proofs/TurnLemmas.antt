@@ -1,14 +1,9 @@
 -- Whose turn comes first.
-use Rattle.std.proofs.Common.{◌≡◌, ◌<◌, ◌≤◌, List, [], ◌∷◌, length, Option, MatchOption, IfSome}
-use Rattle.std.proofs.Common.{get_or, false, arith, Equal, is_lt, is_eq}
-use Rattle.cdxj_places.proofs.PairLemmas.{pair_cmp_total}
-use Rattle.std.specs.List.{AllByRecursion}
-use Rattle.cdxj_places.specs.Pairs.{Pair, pair_cmp}
-use Rattle.std.specs.List.Sorted.{IsPermutation}
-use Rattle.std.proofs.lemmas.List.Sorted.{length_permutation}
-use Rattle.cdxj_places.proofs.RisingLaws.{each_weaker}
-use Rattle.merge_core.specs.PairOrders.{Below, Upto, Alike, IsAbove}
-use Rattle.merge_core.specs.WaitingLines.{WaitingLine, waiting_pair, turn_cmp}
+use Rattle.merge_core.proofs.Words.{[], ◌<◌, ◌∷◌, ◌≡◌, ◌≤◌, Alike, AllByRecursion, Below, Equal, IsAbove, IsPermutation}
+use Rattle.merge_core.proofs.Words.{List, MatchOption, Option, Pair, Upto, WaitingLine, arith, each_weaker, false}
+use Rattle.merge_core.proofs.Words.{get_or, is_eq, is_lt, length, length_permutation, pair_cmp, pair_cmp_total}
+use Rattle.merge_core.proofs.Words.{turn_cmp, waiting_pair}
+use Rattle.std.proofs.Common.{IfSome}
 use Rattle.merge_core.proofs.HeapLemmas.{each_permuted}
 use Rattle.merge_core.proofs.PairOrder.{from_not_below, below_then}
 

@@ -1,19 +1,11 @@
 -- Sources of which all lines were read: each that tells its bytes is an index, and all its lines are done.
-use Rattle.std.specs.List.{AllZip, AllByRecursion}
-use Rattle.std.proofs.Common.{◌≡◌, ℕ, List, [], ◌∷◌, length, map, Bool, false, true, Option, Some}
-use Rattle.std.proofs.Common.{◌++◌, append-nil, refl, sym, drop, inl, inr, flat_map, zip, ap, ◌∙◌, arith, length-drop}
-use Rattle.std.specs.Option.{is_some}
-use Rattle.std.proofs.lemmas.List.{nil_from_length, take_all}
-use Rattle.cdxj_core.specs.Members.{Member}
-use Rattle.cdxj_core.specs.Indexes.{IsIndex}
-use Rattle.merge_core.specs.Feeds.{AllMoved, AreFed, AreSettled, Fed, Feed, IsSettled, done, feeds, given}
-use Rattle.merge_core.specs.Gathering.{text_or, all_done}
-use Rattle.merge_core.specs.declared.state.MergeState.{MergeState}
-use Rattle.merge_core.specs.Collections.{KeepsSources}
+use Rattle.merge_core.proofs.Words.{[], ℕ, ◌++◌, ◌∙◌, ◌∷◌, ◌≡◌, AllByRecursion, AllMoved, AllZip, AreFed, AreSettled}
+use Rattle.merge_core.proofs.Words.{Bool, Fed, Feed, IsIndex, IsSettled, KeepsSources, List, Member, MergeState, Option}
+use Rattle.merge_core.proofs.Words.{Some, all_done, ap, append-nil, arith, done, drop, false, feeds, flat_map, given}
+use Rattle.merge_core.proofs.Words.{inl, inr, is_some, length, length-drop, lines, map, nil_from_length, refl, sym}
+use Rattle.merge_core.proofs.Words.{take_all, text_or, true, true≢false, zip}
 use Rattle.merge_core.proofs.StateLemmas.{feeds_long}
 use Rattle.merge_core.proofs.Many.{Move}
-use Rattle.std.proofs.lemmas.Bool.{true≢false}
-use Rattle.cdxj_places.specs.TextLines.{lines}
 
 module _ (limit : ℕ) (past : List ℕ → Bool) (never : (key : List ℕ) → past key ≡ false) where
   -- a source of which no line waits was read to its end

@@ -1,8 +1,10 @@
 -- Which device failed in a call.
-use Rattle.std.specs.Prelude.{◌≡◌, ℕ, ◌<◌, List, length, get_or, set, Result, MatchResult}
+use Rattle.std.specs.Prelude.{◌≡◌, ℕ, ◌<◌, List, length, get_or, set, map, Option, Result, MatchResult}
 use Rattle.devices.specs.Device.{next_count}
+use Rattle.source_core.specs.Device.{KeepsSource}
 use Rattle.source_core.specs.declared.fault.SearchFault.{SearchFault}
 use Rattle.source_core.specs.declared.fault.SearchFault.TheVariants as search
+use Rattle.merge_core.specs.Collections.{KeepsSources}
 use Rattle.merge_core.specs.declared.fault.FeedFault.{FeedFault}
 use Rattle.merge_core.specs.declared.fault.FeedFault.TheVariants as feed
 use Rattle.merge_core.specs.declared.fault.MergeFault.{MergeFault}
@@ -52,8 +54,19 @@ RaisedBy other sources sources' out out' = (sources' ≡ sources) × (out' ≡ o
 abbrev pub CountsFeed : {A : Type 0} → Result A FeedFault → ℕ → ℕ → Type 0
 CountsFeed result old new = MatchResult result (λ _. new ≡ old) (λ fault. RaisedByFeed fault old new)
 
+-- a call that reads lines of a source keeps it, and counts its failure
+abbrev pub FeedsFrom : {S A : Type 0} → (S → Option (List ℕ)) → (S → ℕ) → (S → ℕ) → Result A FeedFault → S → S → Type 0
+FeedsFrom text extent failures result old new =
+    KeepsSource text extent old new × CountsFeed result (failures old) (failures new)
+
 abbrev pub CountsReads : {A : Type 0} → Result A MergeFault → List ℕ → List ℕ → Type 0
 CountsReads result old new = MatchResult result (λ _. new ≡ old) (λ fault. RaisedByRead fault old new)
+
+-- a call that reads lines of all sources keeps them, and counts the failure
+abbrev pub ReadsSources : {S A : Type 0} → (S → Option (List ℕ)) → (S → ℕ) → (S → ℕ) → Result A MergeFault → List S
+    → List S → Type 0
+ReadsSources text extent failures result olds news =
+    KeepsSources text extent olds news × CountsReads result (map failures olds) (map failures news)
 
 abbrev pub CountsHanding : {A : Type 0} → Result A MergeFault → ℕ → ℕ → Type 0
 CountsHanding result old new = MatchResult result (λ _. new ≡ old) (λ fault. RaisedByWrite fault old new)

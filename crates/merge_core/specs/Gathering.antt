@@ -48,6 +48,11 @@ pub record IsDue (limit : ℕ) (past : List ℕ → Bool) (pair : Pair) (text : 
   pub none : f.waits ≡ []
   pub last : (t : List ℕ) → text ≡ Some t → EndsAt past pair (given limit t f.cursor)
 
+-- the same of the source of this number
+abbrev pub IsDueAt : {S : Type 0} → ℕ → (List ℕ → Bool) → (S → Option (List ℕ)) → Pair → ℕ → List S → MergeState → Type 0
+IsDueAt {S = S} limit past text pair i ss m =
+    (a : S) → (d : Feed) → IsDue limit past pair (text (slice_index_or ss i a)) (slice_index_or (feeds m) i d)
+
 -- The further lines of a source with the pair were read and taken, and the line after them, which waits unless it lies
 -- past the range.
 pub record ReadGroup (limit : ℕ) (past : List ℕ → Bool) (pair : Pair) (text : Option (List ℕ)) (extent : ℕ)

@@ -1,5 +1,5 @@
 -- What a merge passed on to its sink.
-use Rattle.std.specs.Prelude.{◌≡◌, ◌⊎◌, ◌++◌, ℕ, List, [], Bool, true, false, Option, Some}
+use Rattle.std.specs.Prelude.{◌≡◌, ◌⊎◌, ◌++◌, ℕ, List, [], Bool, true, false, Option, Some, Result, MatchResult}
 use Rattle.std.specs.List.{AllByRecursion}
 use Rattle.cdxj_places.specs.Pairs.{Pair}
 use Rattle.cdxj_core.specs.declared.limit.TheConstants.{LINE_LIMIT}
@@ -89,3 +89,9 @@ module _ {K S : Type 0} (Wrote : K → K → List Member → Option (List ℕ) �
     pub above : IsAbove so_far.bound next
     pub least : AllByRecursion (λ w. Upto next (waiting_pair w)) stood.queue
     pub read : AreTold text olds → AreReadTo LINE_LIMIT past text (Some next) news (feeds merge)
+
+  -- a merge ended, or broke off at a fault
+  abbrev pub EndedMerge : {E : Type 0} → (K → List Member → Option (List ℕ) → Option (List ℕ) → Type 0) → Result Bool E
+      → List S → MergeState → K → Option (List ℕ) → Type 0
+  EndedMerge Broke result news merge state now = MatchResult result (Passed news merge state now)
+      (λ _. BrokenMerge Broke now × HaltedMerge news merge now)

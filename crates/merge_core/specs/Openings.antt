@@ -1,5 +1,6 @@
 -- Feeds that stand where a search ended.
 use Rattle.std.specs.Prelude.{◌≡◌, ℕ, ◌++◌, ◌∷◌, List, [], Bool, length, Option, Some}
+use Rattle.std.specs.List.{AllZip}
 use Rattle.std.specs.List.Sorted.{IsPermutation}
 use Rattle.cdxj_core.specs.Indexes.{IsIndex}
 use Rattle.cdxj_core.specs.Members.{Member}
@@ -7,7 +8,7 @@ use Rattle.cdxj_places.specs.Pairs.{IsLeast, Pair}
 use Rattle.source_core.specs.Cursors.{CursorState}
 use Rattle.source_core.specs.Search.{IsCut}
 use Rattle.merge_core.specs.declared.state.MergeState.{MergeState}
-use Rattle.merge_core.specs.Feeds.{Fed, IsSettled, done, feed_of}
+use Rattle.merge_core.specs.Feeds.{Fed, Feed, IsSettled, done, feed_of}
 use Rattle.merge_core.specs.Spending.{CameOnce, CameWithin}
 use Rattle.merge_core.specs.WaitingLines.{queued}
 
@@ -24,6 +25,12 @@ pub record OpenedAt (limit : ℕ) (start : Pair) (text : Option (List ℕ)) (ext
     pub came : CameWithin text extent old new c
     pub first : IsLeast start → c.start ≡ 0
     pub once : IsLeast start → CameOnce old new c
+
+-- the cursors of the sources of a merge that were opened at a pair
+abbrev pub AreOpened : {S : Type 0} → (S → Option (List ℕ)) → (S → ℕ) → (S → ℕ) → ℕ → Pair → List S → List (S × Feed)
+    → Type 0
+AreOpened text extent gave limit start =
+    AllZip (λ x y. OpenedAt limit start (text x) (extent x) (gave x) (gave y.0) y.1.cursor)
 
 -- A source was added, with this text and size, whose cursor is this; its first line waits, if it lies within the range
 pub record AddedSource (limit : ℕ) (past : List ℕ → Bool) (text : Option (List ℕ)) (extent : ℕ)

@@ -1,5 +1,5 @@
 -- What a sink makes of lines, by what it wrote of lines.
-use Rattle.std.specs.Prelude.{ℕ, List, ◌++◌, Option, Result, MatchResult}
+use Rattle.std.specs.Prelude.{ℕ, List, ◌++◌, ◌⊎◌, Option, Result, MatchResult}
 use Rattle.cdxj_core.specs.Members.{Member}
 
 module _ {K : Type 0} (Wrote : K → K → List Member → Option (List ℕ) → Option (List ℕ) → Type 0) where
@@ -17,8 +17,15 @@ module _ {K : Type 0} (Wrote : K → K → List Member → Option (List ℕ) →
         → Broke begin (taken ++ lines) start now
 
     -- it took these lines, or broke at one of them
-    abbrev pub TakesOrBreaks : {A E : Type 0} → Result A E → List Member → K → K → Option (List ℕ) → Option (List ℕ) → Type 0
+    abbrev pub TakesOrBreaks : {A E : Type 0} → Result A E → List Member → K → K → Option (List ℕ) → Option (List ℕ)
+        → Type 0
     TakesOrBreaks result lines old new before now =
         (begin : K) (taken : List Member) (start : Option (List ℕ)) → Wrote begin old taken start before
         → MatchResult result (λ _. Wrote begin new (taken ++ lines) start now)
         (λ _. Broke begin (taken ++ lines) start now)
+
+    -- it took these lines, or broke at one of them, or a fault came before them, where this holds
+    abbrev pub PassesOrBreaks : {A E : Type 0} → Type 0 → Result A E → List Member → K → K → Option (List ℕ)
+        → Option (List ℕ) → Type 0
+    PassesOrBreaks before_them result lines old new before now =
+        MatchResult result (λ _. Takes lines old new before now) (λ _. before_them ⊎ BreaksAt lines old before now)

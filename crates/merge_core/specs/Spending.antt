@@ -46,6 +46,10 @@ abbrev pub OpenedWithin : Option (List ℕ) → ℕ → ℕ → ℕ → Type 0
 OpenedWithin text extent old new = (t : List ℕ) → text ≡ Some t
     → new ≤ old + search_most extent t + 2 * longest (lines t) + 8192
 
+-- the same of each source
+abbrev pub AllOpenedWithin : {S : Type 0} → (S → Option (List ℕ)) → (S → ℕ) → (S → ℕ) → List S → List S → Type 0
+AllOpenedWithin text extent gave = AllZip (λ x y. OpenedWithin (text x) (extent x) (gave x) (gave y))
+
 -- a source gave no more than a search takes, and what lies between the cursor's start and the offset up to which it was
 -- read
 abbrev pub CameWithin : Option (List ℕ) → ℕ → ℕ → ℕ → CursorState → Type 0

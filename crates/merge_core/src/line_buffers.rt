@@ -1,16 +1,16 @@
 //! The reading of lines into reused buffers.
-ghost use Rattle.std.specs.Prelude.{◌≡◌, ◌≢◌, ◌+◌, ◌<◌, ◌≤◌, ◌++◌, ◌∷◌, ℕ, List, [], true, length, drop, option_map, Some, None, MatchOption, MatchResult, IfOk, IfErr, OnOk};
-ghost use Rattle.source_core.specs.Device.{KeepsSource};
+ghost use Rattle.std.specs.Prelude.{◌≡◌, ◌≢◌, ◌+◌, ◌<◌, ◌≤◌, true, length, drop, Some, None, MatchResult, IfOk, IfErr, OnOk};
+ghost use Rattle.source_core.specs.Device.{OverText};
 ghost use Rattle.cdxj_core.specs.declared.limit.TheConstants.{LINE_LIMIT};
 ghost use Rattle.std.specs.List.{list_all};
 ghost use Rattle.cdxj_core.specs.Plain.{is_unescaped_ascii};
 ghost use Rattle.cdxj_core.specs.Lines.{body_of};
 ghost use Rattle.cdxj_core.specs.Members.{line_entry};
 ghost use Rattle.cdxj_places.specs.TextLines.{lines};
-ghost use Rattle.merge_core.specs.Failures.{CountsFeed};
+ghost use Rattle.merge_core.specs.Failures.{FeedsFrom};
 ghost use Rattle.source_core.specs.Cursors.{Stands, reach};
 ghost use Rattle.source_core.specs.IndexLines.{first_length};
-ghost use Rattle.merge_core.specs.Feeds.{option_list, read_lines, stays};
+ghost use Rattle.merge_core.specs.Feeds.{option_list, stays};
 ghost use Rattle.std.specs.List.{filter};
 ghost use Rattle.merge_core.specs.LineFaults.{IsFeedFaultAt, line_fault};
 ghost use Rattle.merge_core.specs.NextLine.{GivesLine, IsNextLine, MovesOn};
@@ -115,23 +115,22 @@ impl LineBuffers {
         cursor: &mut Cursor,
     ) -> Result<Option<Box<Line>>, FeedFault>
         requires stands { Stands (S.text source.old) (S.extent source.old) cursor.old }
-        ensures kept { KeepsSource S.text S.extent source.old source.new }
+        ensures source { FeedsFrom S.text S.extent S.failures result source.old source.new }
         ensures gave { S.gave source.new + reach cursor.old ≤ S.gave source.old + reach cursor.new }
-        ensures failures { CountsFeed result (S.failures source.old) (S.failures source.new) }
         ensures stands { OnOk result (Stands (S.text source.new) (S.extent source.new) cursor.new) }
         ensures start { cursor.new.start ≡ cursor.old.start }
         ensures moves { IfOk result (λ o.
             MovesOn (S.extent source.old) cursor.old cursor.new (boxed_line o)) }
-        ensures given { (t : List ℕ) → S.text source.old ≡ Some t → IfOk result (λ o.
-            GivesLine LINE_LIMIT t cursor.old cursor.new (boxed_line o)) }
-        ensures next { (t : List ℕ) → S.text source.old ≡ Some t → IfOk result (λ o.
-            IsNextLine LINE_LIMIT t cursor.old.at cursor.new.at (boxed_line o)) }
-        ensures most { (t : List ℕ) → S.text source.old ≡ Some t → cursor.new.at
-            ≤ cursor.old.at + first_length (lines (drop cursor.old.at t)) }
+        ensures given { OverText (S.text source.old) (λ t.
+            IfOk result (λ o. GivesLine LINE_LIMIT t cursor.old cursor.new (boxed_line o))) }
+        ensures next { OverText (S.text source.old) (λ t.
+            IfOk result (λ o. IsNextLine LINE_LIMIT t cursor.old.at cursor.new.at (boxed_line o))) }
+        ensures most { OverText (S.text source.old) (λ t. cursor.new.at ≤ cursor.old.at
+            + first_length (lines (drop cursor.old.at t))) }
         ensures ahead { length cursor.new.ahead ≤ 8192 }
         ensures inside { reach cursor.new ≤ S.extent source.old }
-        ensures fault { (t : List ℕ) → S.text source.old ≡ Some t
-            → IfErr result (IsFeedFaultAt LINE_LIMIT (lines (drop cursor.old.at t)) cursor.old.at) }
+        ensures fault { OverText (S.text source.old) (λ t.
+            IfErr result (IsFeedFaultAt LINE_LIMIT (lines (drop cursor.old.at t)) cursor.old.at)) }
     {
         let begin = cursor.at();
         if let Some((bytes, kind)) = cursor.held_line() {

@@ -1,5 +1,5 @@
 //! The queue of the lines that wait to be merged.
-ghost use Rattle.std.specs.Prelude.{◌≡◌, ◌<◌, true, false, [], ◌∷◌, length, slice_index_or, MatchOption, IfSome, OnOk, OnErr};
+ghost use Rattle.std.specs.Prelude.{◌≡◌, ◌<◌, true, false, [], ◌∷◌, length, slice_index_or, MatchOption, MatchResult, IfSome};
 ghost use Rattle.std.specs.List.{AllByRecursion};
 ghost use Rattle.std.specs.List.Sorted.{IsPermutation};
 ghost use Rattle.std.specs.Ordering.{is_lt};
@@ -51,8 +51,8 @@ impl LineQueue {
     /// Adds a line. If memory can't be allocated, the line is lost.
     /// The only error is refused memory.
     pub fn push(&mut self, waiting: QueuedLine) -> Result<(), AllocError>
-        ensures ok { OnOk result (IsPermutation (waiting ∷ self.old) self.new) }
-        ensures err { OnErr result (self.new ≡ self.old) }
+        ensures { MatchResult result (λ _. IsPermutation (waiting ∷ self.old) self.new)
+            (λ _. self.new ≡ self.old) }
     {
         match self.heap.push(waiting) {
             Ok(()) => Ok(()),

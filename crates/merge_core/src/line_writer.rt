@@ -1,8 +1,8 @@
 //! The writing of lines as they stand in their indexes.
-ghost use Rattle.std.specs.Prelude.{◌≡◌, ◌+◌, ◌-◌, ◌^◌, min, OnOk, OnErr};
-ghost use Rattle.std.specs.Io.KnownBytes.{Appends};
+ghost use Rattle.std.specs.Prelude.{◌≡◌, ◌+◌, ◌-◌, ◌^◌, min, OnOk};
 ghost use Rattle.cdxj_core.specs.Members.{line_row};
-ghost use Rattle.devices.specs.Device.{AppendsPrefix, Grows};
+ghost use Rattle.devices.specs.Device.{Grows};
+ghost use Rattle.devices.specs.Writing.{WritesText};
 ghost use Rattle.devices.specs.WriteFaults.{CountsWriteFault};
 
 use crate::sink::Sink;
@@ -27,10 +27,8 @@ impl LineWriter {
 
     #[tactic(auto, using(devices::proofs::DeviceLemmas::grows_part))]
     fn put_line<O: Output>(&mut self, line: &Line, out: &mut O) -> Result<(), WriteFault>
-        ensures text { OnOk result
-            (Appends (O.written out.old) (O.written out.new) (line_row line.now)) }
-        ensures part { OnErr result
-            (AppendsPrefix (O.written out.old) (O.written out.new) (line_row line.now)) }
+        ensures text { WritesText result (O.written out.old) (O.written out.new)
+            (line_row line.now) }
         ensures grows { Grows (O.written out.old) (O.written out.new) }
         ensures count { OnOk result (self.new.count ≡ min (self.old.count + 1) (2 ^ 64 - 1)) }
         ensures failures { CountsWriteFault result (O.failures out.old) (O.failures out.new) }

@@ -1,12 +1,12 @@
 //! The merging of several sources.
-ghost use Rattle.std.specs.Prelude.{◌≡◌, ◌+◌, ◌≤◌, ℕ, [], length, map, IfOk, IfErr, OnErr};
+ghost use Rattle.std.specs.Prelude.{◌≡◌, ◌+◌, ◌≤◌, [], length, map, IfErr};
 ghost use Rattle.cdxj_core.specs.declared.limit.TheConstants.{LINE_LIMIT};
 ghost use Rattle.merge_core.specs.Counts.{OverShares};
 ghost use Rattle.merge_core.specs.Failures.{CountsMerge};
 ghost use Rattle.merge_core.specs.LineFaults.{IsMergeFaultOf};
 ghost use Rattle.merge_core.specs.Feeds.{AllMoved, Ready, feeds};
 ghost use Rattle.merge_core.specs.Gathering.{all_done};
-ghost use Rattle.merge_core.specs.Merging.{BrokenMerge, HaltedMerge, Passed};
+ghost use Rattle.merge_core.specs.Merging.{EndedMerge};
 
 use crate::fault::MergeFault;
 use crate::range::Range;
@@ -37,14 +37,9 @@ pub fn merge<S: Source, R: Range, K: Sink, O: Output>(
     ensures most_lines { OverShares LINE_LIMIT (map S.text sources.old) (λ most.
         merge.old.most_lines ≤ length sources.old + most
         → merge.new.most_lines ≤ length sources.old + most) }
-    ensures passed { IfOk result (Passed K.Wrote K.Enough (R.past range.now) S.text S.extent S.gave
-        sources.old merge.old sink.old (O.written out.old)
-        sources.new merge.new sink.new (O.written out.new)) }
-    ensures broke { OnErr result (BrokenMerge K.Wrote K.Enough (R.past range.now) S.text S.extent
-        S.gave sources.old merge.old sink.old (O.written out.old) K.Broke (O.written out.new)) }
-    ensures halted { OnErr result (HaltedMerge K.Wrote K.Enough (R.past range.now) S.text S.extent
-        S.gave sources.old merge.old sink.old (O.written out.old)
-        sources.new merge.new (O.written out.new)) }
+    ensures ended { EndedMerge K.Wrote K.Enough (R.past range.now) S.text S.extent S.gave
+        sources.old merge.old sink.old (O.written out.old) K.Broke result
+        sources.new merge.new sink.new (O.written out.new) }
 {
     let mut rest = Vec::new(alloc);
     while let Some(first) = merge.gather(sources, range, &mut rest)? {

@@ -1,18 +1,16 @@
 //! The opening of sources at a key and stamp.
-ghost use Rattle.std.specs.List.{AllZip};
-ghost use Rattle.source_core.specs.Device.{KeepsSource};
-ghost use Rattle.std.specs.Prelude.{◌≡◌, ◌⊎◌, ◌+◌, ◌*◌, ◌≤◌, ℕ, List, [], map, Some, IfOk, IfErr, OnOk};
-ghost use Rattle.std.specs.List.{AllByRecursion, zip, sum};
+ghost use Rattle.source_core.specs.Device.{OverText};
+ghost use Rattle.std.specs.Prelude.{◌≡◌, ◌+◌, ◌*◌, ◌≤◌, ℕ, List, [], map, IfOk, IfErr, OnOk};
+ghost use Rattle.std.specs.List.{zip, sum};
 ghost use Rattle.cdxj_places.specs.Pairs.{IsLeast};
 ghost use Rattle.cdxj_places.specs.PairViews.{pair_view};
 ghost use Rattle.cdxj_core.specs.declared.limit.TheConstants.{LINE_LIMIT};
 ghost use Rattle.source_core.specs.Cursors.{Stands, reach};
 ghost use Rattle.source_core.specs.Halving.{digits};
 ghost use Rattle.source_core.specs.IndexLines.{BeginsAfter, lines, longest};
-ghost use Rattle.merge_core.specs.Collections.{KeepsSources};
-ghost use Rattle.merge_core.specs.Failures.{CountsFeed, CountsReads};
+ghost use Rattle.merge_core.specs.Failures.{FeedsFrom, ReadsSources};
 ghost use Rattle.merge_core.specs.LineFaults.{NamesLine, IsMergeFaultOf};
-ghost use Rattle.merge_core.specs.Spending.{AllGaveOnce, CameOnce, CameWithin, GaveOnce, OpenedWithin};
+ghost use Rattle.merge_core.specs.Spending.{AllOpenedWithin, AllGaveOnce, GaveOnce, OpenedWithin};
 
 use crate::fault::{FeedFault, MergeFault};
 use crate::line_buffers::LineBuffers;
@@ -33,7 +31,7 @@ pub struct OpenedMerge {
 
 impl MergeState {
     ghost use Rattle.merge_core.specs.Feeds.{Ready, feeds};
-    ghost use Rattle.merge_core.specs.Openings.{AddedSource, OpenedAt};
+    ghost use Rattle.merge_core.specs.Openings.{AreOpened, AddedSource, OpenedAt};
     ghost use Rattle.merge_core.specs.Gathering.{all_done};
 
     /// Adds a source, and reads the first line after the cursor.
@@ -46,20 +44,18 @@ impl MergeState {
         requires stands { Stands (S.text source.old) (S.extent source.old) cursor }
         requires fresh { cursor.count ≡ 0 }
         requires first { cursor.at ≡ cursor.start }
-        requires begins { (t : List ℕ) → S.text source.old ≡ Some t → (before : List (List ℕ))
-            × BeginsAfter t cursor.start before }
-        ensures kept { KeepsSource S.text S.extent source.old source.new }
-        ensures failures { CountsFeed result (S.failures source.old) (S.failures source.new) }
-        ensures fault { (t : List ℕ) → S.text source.old ≡ Some t
-            → IfErr result (NamesLine LINE_LIMIT t) }
+        requires begins { OverText (S.text source.old) (λ t. (before : List (List ℕ))
+            × BeginsAfter t cursor.start before) }
+        ensures source { FeedsFrom S.text S.extent S.failures result source.old source.new }
+        ensures fault { OverText (S.text source.old) (λ t. IfErr result (NamesLine LINE_LIMIT t)) }
         ensures most_lines { self.new.most_lines ≡ self.old.most_lines }
         ensures added { OnOk result
             (AddedSource LINE_LIMIT (R.past range.now) (S.text source.new) (S.extent source.new)
             (λ c. (c.start ≡ cursor.start)
             × (S.gave source.new + reach cursor ≤ S.gave source.old + reach c))
             self.old self.new) }
-        ensures spent { (t : List ℕ) → S.text source.old ≡ Some t → S.gave source.new + reach cursor
-            ≤ S.gave source.old + cursor.start + 2 * longest (lines t) + 8192 }
+        ensures spent { OverText (S.text source.old) (λ t. S.gave source.new + reach cursor
+            ≤ S.gave source.old + cursor.start + 2 * longest (lines t) + 8192) }
         ensures once { GaveOnce (S.extent source.old) (S.gave source.old) (S.gave source.new) }
     {
         let next = self.buffers.next_line(source, &mut cursor)?;
@@ -79,11 +75,9 @@ impl MergeState {
         start: Pair<'_>,
         range: &R,
     ) -> Result<u64, FeedFault>
-        ensures kept { KeepsSource S.text S.extent source.old source.new }
-        ensures failures { CountsFeed result (S.failures source.old) (S.failures source.new) }
+        ensures source { FeedsFrom S.text S.extent S.failures result source.old source.new }
         ensures probes { IfOk result (λ n. n ≤ digits (S.extent source.old)) }
-        ensures fault { (t : List ℕ) → S.text source.old ≡ Some t
-            → IfErr result (NamesLine LINE_LIMIT t) }
+        ensures fault { OverText (S.text source.old) (λ t. IfErr result (NamesLine LINE_LIMIT t)) }
         ensures most_lines { self.new.most_lines ≡ self.old.most_lines }
         ensures added { OnOk result
             (AddedSource LINE_LIMIT (R.past range.now) (S.text source.new) (S.extent source.new)
@@ -109,16 +103,13 @@ impl MergeState {
         start: Pair<'_>,
         range: &R,
     ) -> Result<OpenedMerge, MergeFault>
-        ensures kept { KeepsSources S.text S.extent sources.old sources.new }
-        ensures failures { CountsReads result (map S.failures sources.old)
-            (map S.failures sources.new) }
-        ensures spent { AllZip (λ x y.
-            OpenedWithin (S.text x) (S.extent x) (S.gave x) (S.gave y)) sources.old sources.new }
+        ensures sources { ReadsSources S.text S.extent S.failures result sources.old sources.new }
+        ensures spent { AllOpenedWithin S.text S.extent S.gave sources.old sources.new }
         ensures once { IsLeast (pair_view start.entry)
             → AllGaveOnce S.extent S.gave sources.old sources.new }
         ensures opened { IfOk result (λ o.
-            AllZip (λ x y. OpenedAt LINE_LIMIT (pair_view start.entry) (S.text x) (S.extent x)
-            (S.gave x) (S.gave y.0) y.1.cursor) sources.old (zip sources.new (feeds o.merge))) }
+            AreOpened S.text S.extent S.gave LINE_LIMIT (pair_view start.entry) sources.old
+            (zip sources.new (feeds o.merge))) }
         ensures fault { IfErr result (IsMergeFaultOf LINE_LIMIT (map S.text sources.old)) }
         ensures ready { IfOk result (λ o.
             Ready LINE_LIMIT (R.past range.now) S.text S.extent sources.new o.merge) }

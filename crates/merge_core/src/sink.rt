@@ -1,15 +1,13 @@
 //! The consumers of the lines of a merge.
 ghost use Rattle.std.specs.List.{AllByRecursion};
-ghost use Rattle.std.specs.Prelude.{◌≡◌, ◌⊎◌, ◌++◌, ◌∷◌, ℕ, Option, List, [], map, true, false, IfOk, IfErr, OnOk, OnErr, MatchResult};
-ghost use Rattle.cdxj_places.specs.Places.{place_cmp};
-ghost use Rattle.cdxj_places.specs.Rising.{rising};
-ghost use Rattle.cdxj_core.specs.Members.{Member, member_place};
+ghost use Rattle.std.specs.Prelude.{◌≡◌, ◌∷◌, ℕ, Option, List, [], map, IfOk, MatchBool};
+ghost use Rattle.cdxj_core.specs.Members.{Member};
 ghost use Rattle.cdxj_core.specs.declared.limit.TheConstants.{LINE_LIMIT};
 ghost use Rattle.devices.specs.Device.{Grows};
 ghost use Rattle.merge_core.specs.BoxedLines.{boxed_lines};
 ghost use Rattle.merge_core.specs.Collections.{in_places};
 ghost use Rattle.merge_core.specs.Failures.{CountsHanding};
-ghost use Rattle.merge_core.specs.Sinks.{BreaksAt, Takes, TakesOrBreaks};
+ghost use Rattle.merge_core.specs.Sinks.{PassesOrBreaks, TakesOrBreaks};
 ghost use Rattle.devices.specs.WriteFaults.{CountsWriteFault};
 ghost use Rattle.merge_core.specs.SourceLines.{HasEntry};
 
@@ -42,10 +40,10 @@ pub trait Sink {
         lines: &[&Line],
         out: &mut O,
     ) -> Result<bool, WriteFault>
-        ensures wrote { TakesOrBreaks Wrote Broke result (map (λ l. l.now) lines.now) self.old self.new
-            (O.written out.old) (O.written out.new) }
-        ensures enough { IfOk result (λ all. all ≡ false → Enough self.new) }
-        ensures further { IfOk result (λ all. all ≡ true → Enough self.new → ⊥) }
+        ensures wrote { TakesOrBreaks Wrote Broke result (map (λ l. l.now) lines.now)
+            self.old self.new (O.written out.old) (O.written out.new) }
+        ensures more { IfOk result (λ more.
+            MatchBool more (Enough self.new → ⊥) (Enough self.new)) }
         ensures grows { Grows (O.written out.old) (O.written out.new) }
         ensures failures { CountsWriteFault result (O.failures out.old) (O.failures out.new) };
 }
@@ -100,8 +98,8 @@ fn take_two<K: Sink, O: Output>(
 ) -> Result<bool, WriteFault>
     ensures wrote { TakesOrBreaks K.Wrote K.Broke result (in_places (first.now ∷ second.now ∷ []))
         sink.old sink.new (O.written out.old) (O.written out.new) }
-    ensures enough { IfOk result (λ all. all ≡ false → K.Enough sink.new) }
-    ensures further { IfOk result (λ all. all ≡ true → K.Enough sink.new → ⊥) }
+    ensures more { IfOk result (λ more.
+        MatchBool more (K.Enough sink.new → ⊥) (K.Enough sink.new)) }
     ensures grows { Grows (O.written out.old) (O.written out.new) }
     ensures failures { CountsWriteFault result (O.failures out.old) (O.failures out.new) }
 {
@@ -123,13 +121,11 @@ pub fn pass_group<K: Sink, O: Output>(
     sink: &mut K,
     out: &mut O,
 ) -> Result<bool, MergeFault>
-    ensures wrote { OnOk result (Takes K.Wrote (in_places (first.now ∷ boxed_lines rest.now))
-        sink.old sink.new (O.written out.old) (O.written out.new)) }
-    ensures broke { OnErr result (((sink.new ≡ sink.old) × (out.new ≡ out.old))
-        ⊎ BreaksAt K.Wrote K.Broke (in_places (first.now ∷ boxed_lines rest.now))
-        sink.old (O.written out.old) (O.written out.new)) }
-    ensures enough { IfOk result (λ all. all ≡ false → K.Enough sink.new) }
-    ensures further { IfOk result (λ all. all ≡ true → K.Enough sink.new → ⊥) }
+    ensures passed { PassesOrBreaks K.Wrote K.Broke ((sink.new ≡ sink.old) × (out.new ≡ out.old))
+        result (in_places (first.now ∷ boxed_lines rest.now)) sink.old sink.new
+        (O.written out.old) (O.written out.new) }
+    ensures more { IfOk result (λ more.
+        MatchBool more (K.Enough sink.new → ⊥) (K.Enough sink.new)) }
     ensures grows { Grows (O.written out.old) (O.written out.new) }
     ensures entries { AllByRecursion (HasEntry LINE_LIMIT) (first.now ∷ boxed_lines rest.now) }
     ensures failures { CountsHanding result (O.failures out.old) (O.failures out.new) }

@@ -1,10 +1,9 @@
 //! The state of a merge.
-ghost use Rattle.std.specs.Prelude.{◌≡◌, ◌≢◌, ◌+◌, ◌-◌, ◌^◌, ◌<◌, ◌≤◌, ◌∷◌, ◌++◌, ℕ, [], length, map, option_map, max, min, slice_index_or, Option, Some, IfOk, IfErr, OnOk, OnErr, MatchOption};
-ghost use Rattle.std.specs.List.{AllByRecursion, sum};
+ghost use Rattle.std.specs.Prelude.{◌≡◌, ◌+◌, ◌-◌, ◌^◌, ◌<◌, ◌++◌, [], length, map, max, min, Option, Some, IfErr, OnOk, MatchResult};
+ghost use Rattle.std.specs.List.{sum};
 ghost use Rattle.std.specs.List.Sorted.{IsPermutation};
 ghost use Rattle.cdxj_core.specs.declared.limit.TheConstants.{LINE_LIMIT};
 ghost use Rattle.cdxj_core.specs.Members.{member_pair};
-ghost use Rattle.merge_core.specs.PairOrders.{Upto};
 ghost use Rattle.merge_core.specs.BoxedLines.{boxed_line, boxed_lines};
 ghost use Rattle.merge_core.specs.WaitingLines.{queued};
 ghost use Rattle.merge_core.specs.Failures.{CountsReads};
@@ -33,8 +32,8 @@ pub struct MergeState {
 }
 
 impl MergeState {
-    ghost use Rattle.merge_core.specs.Feeds.{Aligned, AllMoved, Feed, Ready, feeds, option_list};
-    ghost use Rattle.merge_core.specs.Gathering.{IsDue, IsGroup, ReadOn};
+    ghost use Rattle.merge_core.specs.Feeds.{Aligned, AllMoved, Feed, Ready, option_list};
+    ghost use Rattle.merge_core.specs.Gathering.{IsDueAt, IsGroup, ReadOn};
     ghost use Rattle.merge_core.specs.Merging.{HaltedGroup};
     ghost use Rattle.merge_core.specs.Spending.{ReadUpto};
 
@@ -44,10 +43,9 @@ impl MergeState {
         source: usize,
     ) -> Result<(), AllocError>
         ensures cursors { self.new.cursors.items ≡ self.old.cursors.items }
-        ensures queue { OnOk result (IsPermutation
-            (queued source (option_list (boxed_line line)) ++ self.old.queue)
-            self.new.queue) }
-        ensures refused { OnErr result (self.new.queue ≡ self.old.queue) }
+        ensures queue { MatchResult result (λ _. IsPermutation
+            (queued source (option_list (boxed_line line)) ++ self.old.queue) self.new.queue)
+            (λ _. self.new.queue ≡ self.old.queue) }
         ensures most_lines { self.new.most_lines ≡ self.old.most_lines }
     {
         match line {
@@ -68,9 +66,8 @@ impl MergeState {
         requires aligned { Aligned LINE_LIMIT (R.past range.now) S.text S.extent
             sources.old self.old }
         requires inside { i < length sources.old }
-        requires due { (a : S) → (d : Feed)
-            → IsDue LINE_LIMIT (R.past range.now) (member_pair first.now)
-            (S.text (slice_index_or sources.old i a)) (slice_index_or (feeds self.old) i d) }
+        requires due { IsDueAt LINE_LIMIT (R.past range.now) S.text (member_pair first.now) i
+            sources.old self.old }
         ensures moved { AllMoved S.text S.extent S.gave sources.old self.old sources.new self.new }
         ensures failures { CountsReads result (map S.failures sources.old)
             (map S.failures sources.new) }
@@ -109,11 +106,10 @@ impl MergeState {
         ensures fault { IfErr result (IsMergeFaultOf LINE_LIMIT (map S.text sources.old)) }
         ensures ready { OnOk result
             (Ready LINE_LIMIT (R.past range.now) S.text S.extent sources.new self.new) }
-        ensures group { IfOk result (λ first.
+        ensures gathered { MatchResult result (λ first.
             IsGroup LINE_LIMIT (R.past range.now) S.text S.extent sources.old self.old
-            sources.new self.new (boxed_line first) (boxed_lines rest.new.items)) }
-        ensures reads { OnErr result (HaltedGroup (R.past range.now) S.text sources.old self.old
-            sources.new self.new) }
+            sources.new self.new (boxed_line first) (boxed_lines rest.new.items)) (λ _.
+            HaltedGroup (R.past range.now) S.text sources.old self.old sources.new self.new) }
         ensures most_lines { self.new.most_lines ≡ self.old.most_lines }
     {
         let Some(next) = self.queue.pop() else {

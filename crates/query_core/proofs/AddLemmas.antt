@@ -1,11 +1,6 @@
 -- A line that is the first at its place stays so where more lines follow.
-use Rattle.std.proofs.Common.{arith, List, [], ◌∷◌, ◌++◌}
-use Rattle.cdxj_places.specs.Places.{place_cmp}
-use Rattle.cdxj_places.specs.Rising.{IsFirst, IsIn}
-use Rattle.cdxj_core.specs.Members.{Member, member_place}
-use Rattle.merge_core.specs.Collections.{all_lines, collection}
-use Rattle.query_core.specs.QueryPages.{selected}
-use Rattle.query_text.specs.Queries.{QueryValue}
+use Rattle.query_core.proofs.Words.{[], ◌++◌, ◌∷◌, IsFirst, IsIn, List, Member, QueryValue, all_lines, arith}
+use Rattle.query_core.proofs.Words.{collection, member_place, place_cmp, selected}
 use Rattle.query_core.specs.QueryLaws.{SelectedAreFirst}
 use Rattle.query_core.proofs.ComposeLemmas.{lines_join}
 

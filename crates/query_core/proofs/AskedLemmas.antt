@@ -1,20 +1,11 @@
 -- One page of a query, by what was taken of its sources, and by what a writer has written.
-use Rattle.std.proofs.Common.{arith, ◌≡◌, ◌∙◌, ◌⊎◌, inl, inr, List, [], ◌++◌, Bool, true, false, ℕ, Option, Some}
-use Rattle.std.specs.Option.{is_some}
-use Rattle.std.specs.Io.KnownBytes.{Appends}
-use Rattle.cdxj_places.specs.Places.{PlaceValue}
-use Rattle.devices.specs.Device.{AppendsPrefix}
-use Rattle.devices.proofs.WritingLemmas.{prefix_longer}
-use Rattle.query_text.specs.Queries.{QueryValue}
-use Rattle.cdxj_core.specs.Members.{Member}
-use Rattle.page_core.specs.Pages.{Page}
-use Rattle.page_core.specs.PageText.{page_text, page_end, begun}
-use Rattle.page_core.proofs.PageLemmas.{begun_is_front, written-whole, front-end}
+use Rattle.query_core.proofs.Words.{[], ℕ, ◌++◌, ◌∙◌, ◌≡◌, ◌⊎◌, Appends, AppendsPrefix, Bool, Broke, IsWriterOf, List}
+use Rattle.query_core.proofs.Words.{Member, Option, Page, PageStands, PageWriter, PlaceValue, QueryValue, Some, Wrote}
+use Rattle.query_core.proofs.Words.{answer_text, arith, begun, begun_is_front, captures_over, false, form_of, from_view}
+use Rattle.query_core.proofs.Words.{inl, inr, is_some, next_of, page_end, page_over, page_text, prefix_longer}
+use Rattle.query_core.proofs.Words.{query_page, shown_key, true}
+use Rattle.page_core.proofs.PageLemmas.{written-whole, front-end}
 use Rattle.query_core.specs.declared.page_writer.PageEnd.{PageEnd}
-use Rattle.query_core.specs.declared.page_writer.PageWriter.{PageWriter}
-use Rattle.query_core.specs.QueryPages.{answer_text, form_of, shown_key, query_page}
-use Rattle.query_core.specs.PageWriting.{captures_over, page_over, next_of, PageStands}
-use Rattle.query_core.specs.WriterView.{Broke, IsWriterOf, Wrote, from_view}
 use Rattle.query_core.proofs.CaptureLemmas.{filter_and}
 use Rattle.query_core.proofs.WriterLemmas.{page, decided, next_is, page_front, whole_prefix}
 use Rattle.query_core.specs.Answering.{Answered}

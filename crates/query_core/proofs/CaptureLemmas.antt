@@ -1,18 +1,13 @@
 -- The captures of lines, which are collapsed, and what the next line is compared with.
-use Rattle.std.proofs.Common.{arith, ◌≡◌, Bool, List, [], ◌∷◌, ◌++◌, refl, Option, Some, true}
-use Rattle.std.proofs.Common.{false, filter, append-nil, ◌&&◌}
-use Rattle.std.proofs.lemmas.Bool.{cond-true, true≢false}
+use Rattle.query_core.proofs.Words.{[], ◌&&◌, ◌++◌, ◌∷◌, ◌≡◌, Bool, List, Member, Option, PlaceValue, QueryValue, Some}
+use Rattle.query_core.proofs.Words.{append-nil, arith, bytes_eq-Decides, captures_over, end_place, false, filter}
+use Rattle.query_core.proofs.Words.{is_wanted, kept, member_place, place_before, place_cmp_total, refl, same_part, true}
+use Rattle.query_core.proofs.Words.{true≢false}
+use Rattle.std.proofs.lemmas.Bool.{cond-true}
 use Rattle.std.proofs.lemmas.List.Elements.{filter-append}
-use Rattle.std.proofs.lemmas.Slice.Eq.{bytes_eq-Decides}
-use Rattle.cdxj_places.specs.Places.{PlaceValue}
-use Rattle.cdxj_places.proofs.PlaceOrder.{place_cmp_total}
-use Rattle.cdxj_core.specs.Members.{Member, member_place}
-use Rattle.query_text.specs.Collapses.{same_part}
-use Rattle.query_text.specs.Queries.{QueryValue}
-use Rattle.page_core.specs.Pages.{repeats, kept, end_place}
+use Rattle.page_core.specs.Pages.{repeats}
 use Rattle.page_core.proofs.PageLaws.{kept_append}
 use Rattle.query_core.specs.Collapsings.{CollapsingValue, collapsing_at, collapsing_after, repeats_part}
-use Rattle.query_core.specs.PageWriting.{is_wanted, captures_over, place_before}
 
 -- ---- two tests
 

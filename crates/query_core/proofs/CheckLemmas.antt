@@ -1,23 +1,17 @@
 -- How far a check has come.
-use Rattle.std.proofs.Common.{◌≡◌, ℕ, ◌+◌, ◌≤◌, List, [], ◌∷◌, ◌++◌, length, take, drop, Option, None, Some, refl, sym}
-use Rattle.std.proofs.Common.{ap, ◌∙◌, arith, take-append-drop, length-append, length-drop}
+use Rattle.query_core.proofs.Words.{[], ℕ, ◌++◌, ◌+◌, ◌∙◌, ◌∷◌, ◌≡◌, ◌≤◌, AllByRecursion, AnswerFault, IsIndex, List}
+use Rattle.query_core.proofs.Words.{Member, NeverFalls, None, Option, Some, Upto, ap, arith, drop, each_join}
+use Rattle.query_core.proofs.Words.{each_weaker, length, length-append, length-drop, line_entry, map-append}
+use Rattle.query_core.proofs.Words.{member_pair, pair_cmp, refl, sym, take, take-append-drop, take_all, upto_upto}
 use Rattle.std.specs.Prelude.{Err, MatchOption}
-use Rattle.std.proofs.lemmas.List.{take_all, drop-drop, map-append}
-use Rattle.cdxj_core.specs.Members.{Member, member_pair, line_entry}
-use Rattle.cdxj_core.specs.Indexes.{IsRun, IsIndex}
+use Rattle.std.proofs.lemmas.List.{drop-drop}
+use Rattle.cdxj_core.specs.Indexes.{IsRun}
 use Rattle.source_core.specs.IndexLines.{lines}
 use Rattle.source_core.specs.LinesAtFault.{LineBeginsAt}
 use Rattle.source_core.proofs.SortedCuts.{begins_at}
-use Rattle.query_core.specs.declared.fault.AnswerFault.{AnswerFault}
 use Rattle.merge_core.specs.NextLine.{IsNextLine}
 use Rattle.query_core.specs.Checking.{IsLineFaultAt, IsLastOf, FallsAfter, EndsOutOfOrder, IsChecked}
-use Rattle.std.specs.List.{AllByRecursion}
-use Rattle.cdxj_places.specs.Pairs.{pair_cmp}
-use Rattle.cdxj_places.specs.Rising.{NeverFalls}
-use Rattle.cdxj_places.proofs.RisingLaws.{each_join, each_weaker}
-use Rattle.merge_core.specs.PairOrders.{Upto}
 use Rattle.merge_core.proofs.FeedLemmas.{falls_push, take_next}
-use Rattle.merge_core.proofs.PairOrder.{upto_upto}
 use Rattle.merge_core.proofs.FeedLemmas.{falls_last}
 
 all_upto : (members : List Member) (previous : Option Member) (m : Member) → IsLastOf members previous

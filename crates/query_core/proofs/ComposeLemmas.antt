@@ -1,11 +1,7 @@
 -- Merges of merges, and of indexes in another order.
-use Rattle.std.proofs.Common.{arith, ◌≡◌, ◌↔◌, List, [], ◌∷◌, ◌++◌, inr, refl, append_assoc}
-use Rattle.cdxj_places.specs.Places.{place_cmp}
-use Rattle.cdxj_places.specs.Rising.{IsFirst, IsIn}
-use Rattle.cdxj_places.proofs.PlaceOrder.{place_cmp_total}
-use Rattle.cdxj_places.proofs.RisingLaws.{rises_rising, rising_members, rising_same}
-use Rattle.cdxj_core.specs.Members.{Member, member_place}
-use Rattle.merge_core.specs.Collections.{all_lines, collection}
+use Rattle.query_core.proofs.Words.{[], ◌++◌, ◌↔◌, ◌∷◌, ◌≡◌, IsFirst, IsIn, List, Member, all_lines, append_assoc}
+use Rattle.query_core.proofs.Words.{arith, collection, inr, member_place, place_cmp, place_cmp_total, refl}
+use Rattle.query_core.proofs.Words.{rises_rising, rising_members, rising_same}
 use Rattle.query_core.specs.MergeLaws.{HaveOneLine}
 use Rattle.query_core.proofs.RisingParts.{in_list, rising_left, rising_right}
 

@@ -1,11 +1,10 @@
 -- The faults of merges and of texts, as faults of the calls on indexes.
-use Rattle.std.proofs.Common.{ℕ, List, Option}
+use Rattle.query_core.proofs.Words.{ℕ, IsAnswerFaultOf, List, Option}
 use Rattle.merge_core.specs.declared.fault.FeedFault.TheVariants as feed
 use Rattle.merge_core.specs.declared.fault.MergeFault.{MergeFault}
 use Rattle.merge_core.specs.declared.fault.MergeFault.TheVariants as merge
 use Rattle.merge_core.specs.LineFaults as lines
 use Rattle.query_core.specs.Conversions.{fault_of_merge}
-use Rattle.query_core.specs.IndexFaults.{IsAnswerFaultOf}
 
 pub merge_line : (limit : ℕ) (texts : List (Option (List ℕ))) (e : MergeFault) → lines.IsMergeFaultOf limit texts e
     → IsAnswerFaultOf limit texts (fault_of_merge e)

@@ -1,3 +1,4 @@
+pub mod Words
 pub mod TakenLines
 pub mod CaptureLemmas
 pub mod WriterLemmas

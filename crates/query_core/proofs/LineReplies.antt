@@ -1,22 +1,12 @@
 -- The reply to a line, by what the line is.
-use Rattle.std.proofs.Common.{arith, ◌≡◌, ◌≤◌, ℕ, List, [], ◌++◌, length, true, le-ltb, refl, Option, Some, Result, Ok, Err}
-use Rattle.std.specs.Str.{is_utf8}
-use Rattle.std.specs.Prelude.{codes}
-use Rattle.std.specs.Io.KnownBytes.{Appends}
-use Rattle.cdxj_core.specs.declared.limit.TheConstants.{LINE_LIMIT}
-use Rattle.cdxj_core.specs.Members.{Member}
-use Rattle.devices.specs.Device.{AppendsPrefix}
+use Rattle.query_core.proofs.Words.{[], ℕ, ◌++◌, ◌≡◌, ◌≤◌, AnswerFault, Appends, Appends-join, AppendsPrefix}
+use Rattle.query_core.proofs.Words.{AreLinesOf, Err, IsAnswerFaultOf, IsMarkedReply, LINE_LIMIT, List, Member, Ok}
+use Rattle.query_core.proofs.Words.{Option, QueryFault, QueryValue, Some, answer_text, arith, codes, is_utf8, le-ltb}
+use Rattle.query_core.proofs.Words.{length, prefix_after, prefix_longer, query_page, refl, true}
+use Rattle.std.proofs.Common.{Result}
 use Rattle.devices.specs.Writing.{WritesText}
-use Rattle.devices.proofs.DeviceLemmas.{Appends-join}
-use Rattle.devices.proofs.WritingLemmas.{prefix_after, prefix_longer}
-use Rattle.query_text.specs.declared.fault.QueryFault.{QueryFault}
-use Rattle.query_text.specs.Queries.{QueryValue}
-use Rattle.merge_core.specs.SourceLines.{AreLinesOf}
-use Rattle.query_core.specs.declared.fault.AnswerFault.{AnswerFault}
 use Rattle.query_core.specs.AnyReplies.{IsPageReply, IsQueryReply, fault_text}
-use Rattle.query_core.specs.Conversations.{IsLineReply, IsMarkedReply, WritesSome}
-use Rattle.query_core.specs.IndexFaults.{IsAnswerFaultOf}
-use Rattle.query_core.specs.QueryPages.{query_page, answer_text}
+use Rattle.query_core.specs.Conversations.{IsLineReply, WritesSome}
 
 -- ---- what was written
 

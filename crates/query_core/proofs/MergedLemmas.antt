@@ -1,22 +1,12 @@
 -- The lines of a merge are an index.
-use Rattle.std.proofs.Common.{arith, ◌≡◌, ℕ, true, false, List, [], ◌∷◌, map, Some, refl, append_assoc}
-use Rattle.std.proofs.Common.{Ordering, is_gt}
-use Rattle.std.specs.List.{AllByRecursion, AllZip}
-use Rattle.std.proofs.lemmas.Str.{is_utf8-from_IsUtf8}
-use Rattle.cdxj_places.specs.Pairs.{pair_cmp}
-use Rattle.cdxj_places.specs.Places.{place_cmp}
-use Rattle.cdxj_places.specs.Rising.{Rises, NeverFalls}
-use Rattle.cdxj_places.specs.TextLines.{lines}
-use Rattle.cdxj_places.proofs.PlaceOrder.{place_cmp_total}
-use Rattle.cdxj_places.proofs.RisingLaws.{each_weaker, each_join, each_rising, rises_rising}
-use Rattle.cdxj_core.specs.Lines.{has_no_feed, line_in, body_of}
-use Rattle.cdxj_core.specs.Members.{Member, member_pair, member_place, line_entry, line_row}
-use Rattle.cdxj_core.specs.Indexes.{IsIndex}
+use Rattle.query_core.proofs.Words.{[], ℕ, ◌∷◌, ◌≡◌, AllByRecursion, AllZip, IsIndex, List, Member, NeverFalls}
+use Rattle.query_core.proofs.Words.{Ordering, Rises, Some, all_lines, append_assoc, arith, collection, each_join}
+use Rattle.query_core.proofs.Words.{each_rising, each_weaker, false, has_no_feed, is_gt, is_utf8-from_IsUtf8}
+use Rattle.query_core.proofs.Words.{line_entry, line_row, lines, lines_front, lines_text, map, member_pair}
+use Rattle.query_core.proofs.Words.{member_place, pair_cmp, place_cmp, place_cmp_total, refl, rises_rising, true}
+use Rattle.cdxj_core.specs.Lines.{line_in, body_of}
 use Rattle.cdxj_core.proofs.EntryRead.{body_of-feed}
-use Rattle.cdxj_core.proofs.IndexLemmas.{lines_front}
 use Rattle.cdxj_core.proofs.MemberLemmas.{entered}
-use Rattle.merge_core.specs.Collections.{all_lines, collection}
-use Rattle.merge_core.specs.Written.{lines_text}
 
 -- the line of a member, with a line feed, says the member
 abbrev pub IsRow : ℕ → Member → Type 0

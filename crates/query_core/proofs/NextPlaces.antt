@@ -1,12 +1,6 @@
 -- The captures of a query are wanted.
-use Rattle.std.proofs.Common.{arith, ◌≡◌, List, [], ◌∷◌, Bool, true, filter, Option}
-use Rattle.std.specs.List.{AllByRecursion}
-use Rattle.cdxj_places.specs.Places.{PlaceValue}
-use Rattle.cdxj_places.proofs.PlaceOrder.{place_cmp_total}
-use Rattle.cdxj_core.specs.Members.{Member}
-use Rattle.query_text.specs.Queries.{QueryValue}
-use Rattle.page_core.proofs.PageLaws.{each_kept}
-use Rattle.query_core.specs.PageWriting.{is_wanted, captures_over}
+use Rattle.query_core.proofs.Words.{[], ◌∷◌, ◌≡◌, AllByRecursion, Bool, List, Member, Option, PlaceValue, QueryValue}
+use Rattle.query_core.proofs.Words.{arith, captures_over, each_kept, filter, is_wanted, place_cmp_total, true}
 
 filter_holds : {X : Type 0} (f : X → Bool) (xs : List X) → AllByRecursion (λ x. f x ≡ true) (filter f xs)
 filter_holds f [] = tt

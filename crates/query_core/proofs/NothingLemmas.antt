@@ -1,27 +1,24 @@
 -- The query that selects nothing, and is refused as another.
-use Rattle.std.proofs.Common.{◌≡◌, ℕ, ◌<◌, ◌≤◌, true, false, List, [], ◌∷◌, ◌++◌, length, codes}
-use Rattle.std.proofs.Common.{Ok, Err, refl, ap, ◌∙◌, arith, length-append, le-ltb, nat_lt, ◌==◌}
+use Rattle.query_core.proofs.Words.{[], ℕ, ◌++◌, ◌<◌, ◌∙◌, ◌∷◌, ◌≡◌, ◌≤◌, Err, LineValue, List, Member, Ok, QUERY_LIMIT}
+use Rattle.query_core.proofs.Words.{QueryValue, TargetValue, ap, arith, false, le-ltb, length, length-append, list_all}
+use Rattle.query_core.proofs.Words.{list_all-append, nat_lt, query_of, refl, selected, true}
+use Rattle.std.proofs.Common.{codes}
+use Rattle.std.proofs.Common.{◌==◌}
 use Rattle.std.specs.Prelude.{MatchResult}
-use Rattle.std.specs.List.{list_all, onto_first, slice_split}
+use Rattle.std.specs.List.{onto_first, slice_split}
 use Rattle.std.proofs.lemmas.Bool.{cond-false}
-use Rattle.std.proofs.lemmas.List.Folds.{list_all-append}
 use Rattle.std.proofs.lemmas.Str.{IsUtf8-from_ascii}
 use Rattle.cdxj_core.specs.declared.field.Field.TheVariants.{Urlkey}
 use Rattle.cdxj_core.specs.Fields.{field_named}
-use Rattle.cdxj_core.specs.Lines.{LineValue}
-use Rattle.cdxj_core.specs.Members.{Member}
 use Rattle.query_text.specs.declared.filter.Test.TheVariants.{HasNot}
-use Rattle.query_text.specs.declared.query.TheConstants.{QUERY_LIMIT}
 use Rattle.query_text.specs.Filters.{FilterValue, filter_of, holds, occurs}
 use Rattle.query_text.specs.ParameterNames.{parameter_named}
 use Rattle.query_text.specs.Parameters.{ParameterValues, no_values, pieces_of, with_filter, with_parameter, with_piece}
 use Rattle.query_text.specs.Parameters.{with_pieces}
 use Rattle.query_text.specs.Parts.{decoded}
-use Rattle.query_text.specs.Queries.{QueryValue, query_of, query_with, target_of, with_target}
-use Rattle.query_text.specs.Targets.{TargetValue}
+use Rattle.query_text.specs.Queries.{query_with, target_of, with_target}
 use Rattle.query_text.specs.Readings.{Read, and_then}
 use Rattle.query_text.proofs.PlainTexts.{plain_text_stands}
-use Rattle.query_core.specs.QueryPages.{selected}
 use Rattle.query_core.specs.NothingAsked.{AppendedSelectsNothing, nothing}
 
 -- ---- the pieces

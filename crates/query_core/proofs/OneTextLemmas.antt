@@ -1,19 +1,9 @@
 -- Over known indexes and a known output, a call that succeeds writes one text.
-use Rattle.std.proofs.Common.{◌≡◌, ℕ, List, ◌∷◌, Option, Some, arith}
-use Rattle.std.specs.List.{AllZip}
-use Rattle.std.specs.Io.KnownBytes.{Appends}
-use Rattle.cdxj_places.specs.Places.{place_cmp}
-use Rattle.cdxj_places.proofs.PlaceOrder.{place_cmp_total}
-use Rattle.cdxj_core.specs.declared.limit.TheConstants.{LINE_LIMIT}
-use Rattle.cdxj_core.specs.Indexes.{IsIndex}
-use Rattle.cdxj_core.specs.Members.{Member, member_place}
+use Rattle.query_core.proofs.Words.{ℕ, ◌∷◌, ◌≡◌, AllZip, Appends, IsIndex, LINE_LIMIT, List, Member, Option, QueryValue}
+use Rattle.query_core.proofs.Words.{Some, WrotePages, arith, collection, member_place, place_cmp, place_cmp_total}
+use Rattle.query_core.proofs.Words.{same_part, selected}
 use Rattle.cdxj_core.proofs.IndexLemmas.{one_index}
-use Rattle.query_text.specs.Collapses.{same_part}
-use Rattle.query_text.specs.Queries.{QueryValue}
-use Rattle.merge_core.specs.Collections.{collection}
 use Rattle.page_core.proofs.PageLaws.{chain_one}
-use Rattle.query_core.specs.QueryPages.{selected}
-use Rattle.query_core.specs.WrittenPages.{WrotePages}
 use Rattle.query_core.specs.OneText.{AnswerIsOne, MergeIsOne, PagesAreOne}
 
 -- texts are indexes with one list of members each

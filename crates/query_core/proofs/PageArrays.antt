@@ -1,18 +1,11 @@
 -- The lines of a page in json.
-use Rattle.std.proofs.Common.{◌≡◌, ℕ, true, List, [], ◌∷◌, ◌++◌, map, Option, refl, subst, sym, arith, append_assoc, flat_map}
-use Rattle.std.specs.Prelude.{codes}
-use Rattle.std.specs.List.{AllByRecursion}
-use Rattle.std.proofs.lemmas.List.Folds.{list_all-append}
+use Rattle.query_core.proofs.Words.{[], ℕ, ◌++◌, ◌∷◌, ◌≡◌, AllByRecursion, BeginsWithBracket, Field, List, Member}
+use Rattle.query_core.proofs.Words.{Option, append_assoc, arith, codes, flat_map, has_no_feed, lines, lines_front}
+use Rattle.query_core.proofs.Words.{list_all-append, map, refl, row_value, subst, sym, true}
 use Rattle.json.specs.Print.{escape, escape_byte, quoted}
-use Rattle.cdxj_places.specs.TextLines.{lines}
-use Rattle.cdxj_core.specs.declared.field.Field.{Field}
-use Rattle.cdxj_core.specs.Lines.{has_no_feed}
-use Rattle.cdxj_core.specs.Members.{Member}
-use Rattle.cdxj_core.proofs.IndexLemmas.{lines_front}
 use Rattle.page_core.specs.PageText.{json_page, key_rows, later_row}
 use Rattle.cdxj_core.specs.Fields.{field_name}
-use Rattle.page_core.specs.Rows.{json_row, row_value}
-use Rattle.query_core.specs.PageLines.{BeginsWithBracket}
+use Rattle.page_core.specs.Rows.{json_row}
 
 joined : (us vs : List ℕ) → has_no_feed us ≡ true → has_no_feed vs ≡ true → has_no_feed (us ++ vs) ≡ true
 joined us vs h k = grind (arith, list_all-append)

@@ -1,24 +1,16 @@
 -- The pages of a query, by how its captures are cut.
-use Rattle.std.proofs.Common.{◌≡◌, ℕ, List, ◌∷◌, ◌++◌, take, drop, Bool, Option, None, Some, sym, ap, ◌∙◌, arith}
-use Rattle.cdxj_places.specs.Places.{PlaceValue, place_cmp}
-use Rattle.cdxj_places.specs.Rising.{Rises}
-use Rattle.cdxj_places.proofs.PlaceOrder.{place_cmp_total}
-use Rattle.cdxj_core.specs.Members.{Member, member_place}
-use Rattle.devices.proofs.WritingLemmas.{wrote_nothing}
-use Rattle.query_text.specs.Collapses.{same_part}
-use Rattle.query_text.specs.Queries.{QueryValue}
-use Rattle.page_core.specs.Pages.{Page, AllPositive, first_size, later_sizes, end_place, next_after, collapsed, IsChain}
-use Rattle.page_core.proofs.PageLaws.{chain_law, split_there, collapse_resumes, rises_collapsed, rises_filter}
-use Rattle.query_core.specs.QueryPages.{selected, IsQueryChain}
-use Rattle.query_core.specs.PageWriting.{captures_over}
-use Rattle.query_core.specs.PagesWriting.{AreCut}
-use Rattle.query_core.specs.WrittenPages.{WrotePages, WrotePagesInPart}
-use Rattle.query_core.specs.WriterView.{IsFront}
+use Rattle.query_core.proofs.Words.{ℕ, ◌++◌, ◌∙◌, ◌∷◌, ◌≡◌, AllPositive, AreCut, Bool, IsChain, IsFront, List, Member}
+use Rattle.query_core.proofs.Words.{None, Option, Page, PlaceValue, QueryValue, Rises, Some, WrotePages}
+use Rattle.query_core.proofs.Words.{WrotePagesInPart, ap, arith, captures_over, chain_law, collapsed, drop, end_place}
+use Rattle.query_core.proofs.Words.{first_size, later_sizes, member_place, next_after, place_cmp, place_cmp_total}
+use Rattle.query_core.proofs.Words.{rises_collapsed, rises_filter, same_part, selected, sym, take, take_all}
+use Rattle.query_core.proofs.Words.{wrote_nothing}
+use Rattle.page_core.proofs.PageLaws.{split_there, collapse_resumes}
+use Rattle.query_core.specs.QueryPages.{IsQueryChain}
 use Rattle.query_core.proofs.PageKeys.{keys_but_last, one_empty}
 use Rattle.query_core.proofs.CaptureLemmas.{end_last, filter_and}
 use Rattle.query_core.proofs.PagesLemmas.{Ended, EndedInPart, Pages, cut_there}
 use Rattle.query_core.proofs.WriterLemmas.{ends_at, next_place, next_short}
-use Rattle.std.proofs.lemmas.List.{take_all}
 use Rattle.query_core.proofs.SizeLemmas.{first_positive, later_positive}
 
 module _ (same : PlaceValue → PlaceValue → Bool) (l : List Member) (rises : Rises member_place place_cmp l) where

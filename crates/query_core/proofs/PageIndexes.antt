@@ -1,21 +1,10 @@
 -- A page in cdxj is an index.
-use Rattle.std.proofs.Common.{arith, ◌≡◌, ℕ, suc, List, ◌∷◌, Option, None, take, append-nil, filter}
-use Rattle.std.specs.List.{AllByRecursion, AllZip}
-use Rattle.cdxj_places.specs.Places.{place_cmp}
-use Rattle.cdxj_places.specs.Rising.{Rises}
-use Rattle.cdxj_places.proofs.PlaceOrder.{place_cmp_total}
-use Rattle.cdxj_places.proofs.RisingLaws.{rises_rising}
-use Rattle.cdxj_core.specs.Indexes.{IsIndex}
-use Rattle.cdxj_core.specs.Members.{Member, member_place}
+use Rattle.query_core.proofs.Words.{ℕ, ◌∷◌, ◌≡◌, AllByRecursion, AllZip, IsIndex, List, Member, None, Option}
+use Rattle.query_core.proofs.Words.{QueryValue, Rises, all_lines, answer_text, append-nil, arith, at_most, collection}
+use Rattle.query_core.proofs.Words.{each_filter, each_kept, filter, is_above, lines_text, matches, member_place}
+use Rattle.query_core.proofs.Words.{place_cmp, place_cmp_total, query_captures, query_page, rises_collapsed}
+use Rattle.query_core.proofs.Words.{rises_filter, rises_rising, same_part, selected, shown_key, suc, take}
 use Rattle.query_text.specs.declared.output.OutputFormat.TheVariants.{Cdxj}
-use Rattle.query_text.specs.Collapses.{same_part}
-use Rattle.query_text.specs.Matching.{matches}
-use Rattle.query_text.specs.Queries.{QueryValue}
-use Rattle.page_core.specs.Pages.{at_most, is_above}
-use Rattle.page_core.proofs.PageLaws.{each_filter, each_kept, rises_collapsed, rises_filter}
-use Rattle.query_core.specs.QueryPages.{answer_text, query_captures, query_page, selected, shown_key}
-use Rattle.merge_core.specs.Collections.{all_lines, collection}
-use Rattle.merge_core.specs.Written.{lines_text}
 use Rattle.merge_core.proofs.Filters.{each_take}
 use Rattle.query_core.proofs.MergedLemmas.{IsRow, collection_rows, rows_index}
 

@@ -1,14 +1,9 @@
 -- The resume keys of pages.
-use Rattle.std.proofs.Common.{arith, ◌≡◌, ℕ, zero, suc, List, [], ◌∷◌, Bool, Option, None, Some}
-use Rattle.std.proofs.Common.{MatchOption, refl, ap, ◌∙◌}
-use Rattle.std.specs.List.{AllByRecursion}
-use Rattle.std.specs.Option.{is_some}
-use Rattle.std.proofs.lemmas.List.{take_all}
-use Rattle.page_core.specs.Pages.{at_most, Page, first_size, later_sizes, collapsed, next_after, IsChain}
+use Rattle.query_core.proofs.Words.{[], ℕ, ◌∙◌, ◌∷◌, ◌≡◌, AllByRecursion, Bool, HasReadKey, IsChain, List, Member, None}
+use Rattle.query_core.proofs.Words.{Option, Page, PlaceValue, Some, ap, arith, at_most, collapsed, first_size, is_some}
+use Rattle.query_core.proofs.Words.{later_sizes, member_place, next_after, place_cmp, refl, suc, take_all, zero}
+use Rattle.std.proofs.Common.{MatchOption}
 use Rattle.query_core.proofs.WriterLemmas.{ends_at, next_place, next_short, next_some}
-use Rattle.cdxj_places.specs.Places.{PlaceValue, place_cmp}
-use Rattle.cdxj_core.specs.Members.{Member, member_place}
-use Rattle.query_core.specs.PagesWriting.{HasReadKey}
 use Rattle.query_core.specs.WrittenPages.{EndsWithKey, KeysButLast, empty_page}
 
 module _ (same : PlaceValue → PlaceValue → Bool) (l : List Member) where

@@ -1,33 +1,20 @@
 -- Which lines a page has, beside those of a reply that isn't a page.
-use Rattle.std.proofs.Common.{◌≡◌, ◌⊎◌, inl, inr, ℕ, suc, ◌+◌, ◌<◌, ◌≤◌, List, [], ◌∷◌, ◌++◌, map, length, Bool, true, false}
-use Rattle.std.proofs.Common.{Option, None, Some, refl, ap, sym, ◌∙◌, arith, append_assoc, append-nil, flat_map, filter, length-append}
-use Rattle.std.proofs.Common.{drop, zero, length-drop, cond, ◌&&◌}
-use Rattle.std.specs.Prelude.{codes, ⊤}
-use Rattle.std.specs.List.{AllByRecursion, after_first, position_or_len}
-use Rattle.std.proofs.lemmas.Bool.{cases_lt, true≢false}
-use Rattle.std.proofs.lemmas.Bool.Decides.{nat_tests}
-use Rattle.cdxj_places.specs.Pair.{begins_with_pair, begins_with_space, is_key, is_space, is_stamp, key_part, stamp_part, tail_part}
-use Rattle.cdxj_places.specs.Places.{PlaceValue, place_cmp}
-use Rattle.cdxj_places.specs.Rising.{IsIn}
-use Rattle.cdxj_places.specs.TextLines.{lines}
-use Rattle.cdxj_places.proofs.PlaceOrder.{place_cmp_total}
-use Rattle.cdxj_places.proofs.RisingLaws.{each_at, each_join, each_weaker}
-use Rattle.cdxj_core.specs.declared.field.Field.{Field}
-use Rattle.cdxj_core.specs.declared.limit.TheConstants.{LINE_LIMIT}
-use Rattle.cdxj_core.specs.Members.{Member, line_row, member_pair, member_place}
-use Rattle.cdxj_core.proofs.MemberLemmas.{entry_pair_is}
+use Rattle.query_core.proofs.Words.{[], ℕ, ⊤, ◌&&◌, ◌++◌, ◌+◌, ◌<◌, ◌∙◌, ◌∷◌, ◌≡◌, ◌≤◌, ◌⊎◌, AllByRecursion}
+use Rattle.query_core.proofs.Words.{BeginsWithBracket, Bool, Field, HasEntry, HaveEntries, IsIn, LINE_LIMIT, List}
+use Rattle.query_core.proofs.Words.{Member, None, Option, PlaceValue, QueryValue, Some, ap, append-nil, append_assoc}
+use Rattle.query_core.proofs.Words.{arith, begins_with_pair, cases_lt, codes, cond, drop, each_at, each_filter}
+use Rattle.query_core.proofs.Words.{each_join, each_kept, each_weaker, entry_pair_is, escaped, false, filter, flat_map}
+use Rattle.query_core.proofs.Words.{inl, inr, is_above, is_key, is_stamp, key_part, length, length-append, length-drop}
+use Rattle.query_core.proofs.Words.{line_row, lines, map, matches, member_pair, member_place, nat_tests, page_text}
+use Rattle.query_core.proofs.Words.{place_cmp, place_cmp_total, query_captures, query_page, refl, row_value, same_part}
+use Rattle.query_core.proofs.Words.{selected, shown_key, stamp_part, suc, sym, text_row, true, true≢false, zero}
+use Rattle.std.specs.List.{after_first, position_or_len}
+use Rattle.cdxj_places.specs.Pair.{begins_with_space, is_space, tail_part}
 use Rattle.query_text.specs.declared.output.OutputFormat.{OutputFormat}
 use Rattle.query_text.specs.declared.output.OutputFormat.TheVariants as output
-use Rattle.query_text.specs.Collapses.{same_part}
-use Rattle.query_text.specs.Matching.{matches}
-use Rattle.query_text.specs.Queries.{QueryValue}
-use Rattle.page_core.specs.Pages.{is_above}
-use Rattle.page_core.specs.PageText.{key_lines, page_text}
-use Rattle.page_core.specs.Rows.{escaped, row_value, text_row}
-use Rattle.page_core.proofs.PageLaws.{each_filter, each_kept}
-use Rattle.query_core.specs.QueryPages.{output_form, query_captures, query_page, selected, shown_key}
-use Rattle.merge_core.specs.SourceLines.{HasEntry}
-use Rattle.query_core.specs.PageLines.{BeginsWithBracket, HaveEntries, fault_row, has_no_space}
+use Rattle.page_core.specs.PageText.{key_lines}
+use Rattle.query_core.specs.QueryPages.{output_form}
+use Rattle.query_core.specs.PageLines.{fault_row, has_no_space}
 use Rattle.query_core.specs.Replies.{refusal_text}
 use Rattle.query_core.proofs.MergedLemmas.{is_row}
 use Rattle.query_core.proofs.PageIndexes.{each_at_most}

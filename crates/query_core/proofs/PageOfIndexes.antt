@@ -1,48 +1,30 @@
 -- What was taken of indexes, beside all that is wanted of their collection.
 use Rattle.query_core.proofs.AskedLemmas.{captures}
-use Rattle.std.proofs.Common.{arith, ◌≡◌, inl, inr, ℕ, List, [], ◌∷◌, ◌++◌, length, map, filter, zip, Bool, true, false}
-use Rattle.std.proofs.Common.{not, ◌&&◌, Option, refl, cond, Some, None, suc, ◌≤◌, Ordering, nat_cmp, is_gt}
-use Rattle.std.proofs.Common.{All, eqb-true, replicate}
-use Rattle.std.specs.List.{AllZip, AllByRecursion}
-use Rattle.cdxj_places.specs.Pair.{is_stamp, key_part, stamp_part, begins_with_pair}
-use Rattle.cdxj_places.specs.Pairs.{Pair, pair_cmp}
-use Rattle.cdxj_places.proofs.PlaceOrder.{place_cmp_total}
-use Rattle.cdxj_places.proofs.RisingLaws.{each_weaker, each_rising, each_join}
-use Rattle.cdxj_core.specs.declared.limit.TheConstants.{LINE_LIMIT}
-use Rattle.cdxj_core.specs.Indexes.{IsIndex}
-use Rattle.cdxj_core.specs.Members.{Member, member_pair, member_place}
-use Rattle.query_text.specs.Queries.{QueryValue}
-use Rattle.query_text.specs.Matching.{is_past}
-use Rattle.query_text.proofs.RangeLaw.{past_upward, match_not_below}
-use Rattle.page_core.proofs.PageLaws.{each_kept}
+use Rattle.query_core.proofs.Words.{[], ℕ, ◌&&◌, ◌++◌, ◌∷◌, ◌≡◌, ◌≤◌, All, All-head, All-tail, AllByRecursion, AllZip}
+use Rattle.query_core.proofs.Words.{AreLinesOf, Bool, IsAbove, IsIndex, Known, LINE_LIMIT, List, Member, None, Option}
+use Rattle.query_core.proofs.Words.{Ordering, Pair, PlaceValue, QueryValue, Some, Upto, all_lines, and_parts, arith}
+use Rattle.query_core.proofs.Words.{begins_with_pair, collection, cond, each_join, each_kept, each_rising, each_weaker}
+use Rattle.query_core.proofs.Words.{entry_pair_is, eqb-true, false, feeds, filter, inl, inr, is_above, is_gt, is_low}
+use Rattle.query_core.proofs.Words.{is_past, is_stamp, is_wanted, key_part, later_pair, length, lines, map, member_pair}
+use Rattle.query_core.proofs.Words.{member_place, nat_cmp, nat_tests, not, pair_cmp, pair_cmp_total, past_upward}
+use Rattle.query_core.proofs.Words.{place_before, place_cmp, place_cmp_total, refl, slice_cmp, stamp_part, start_pair}
+use Rattle.query_core.proofs.Words.{suc, taken_first, taken_whole, true, waiting_pair, zip}
+use Rattle.std.proofs.Common.{replicate}
+use Rattle.query_text.proofs.RangeLaw.{match_not_below}
 use Rattle.merge_core.specs.declared.state.MergeState.{MergeState}
-use Rattle.merge_core.specs.Feeds.{feeds}
-use Rattle.merge_core.specs.WaitingLines.{waiting_pair}
-use Rattle.merge_core.specs.Collections.{Known, all_lines, collection}
-use Rattle.merge_core.specs.PairOrders.{IsAbove, Upto, is_low}
 use Rattle.merge_core.specs.Openings.{IsCutAt}
 use Rattle.merge_core.specs.Reached.{Reached}
 use Rattle.merge_core.proofs.ReadLemmas.{took_of_indexes}
-use Rattle.merge_core.proofs.TakenLemmas.{Took, taken_before, taken_first, taken_whole}
-use Rattle.query_core.specs.PageWriting.{is_wanted, place_before}
-use Rattle.merge_core.specs.SourceLines.{AreLinesOf, IsLineIn, IsLineOf}
+use Rattle.merge_core.proofs.TakenLemmas.{Took, taken_before}
+use Rattle.merge_core.specs.SourceLines.{IsLineIn, IsLineOf}
 use Rattle.merge_core.specs.Gathering.{AreTold}
 use Rattle.merge_core.specs.Spending.{CameWithin}
 use Rattle.merge_core.proofs.WholeLemmas.{told_known}
-use Rattle.query_core.specs.Starts.{start_pair, first_stamp, later_pair}
+use Rattle.query_core.specs.Starts.{first_stamp}
 use Rattle.query_core.proofs.CaptureLemmas.{kept_after, captures_split}
-use Rattle.std.proofs.lemmas.Bool.{and_parts}
-use Rattle.cdxj_places.specs.TextLines.{lines}
-use Rattle.cdxj_core.proofs.MemberLemmas.{entry_pair_is}
 use Rattle.merge_core.proofs.SourceLemmas.{each_entry, taken_lines}
 use Rattle.std.specs.Char.{is_ascii_digit}
 use Rattle.std.specs.Ordering.{ordering_then}
-use Rattle.std.specs.Cmp.Lexicographic.{slice_cmp}
-use Rattle.std.proofs.lemmas.Bool.Decides.{nat_tests}
-use Rattle.std.proofs.lemmas.List.Elements.{All-head, All-tail}
-use Rattle.cdxj_places.specs.Places.{PlaceValue, place_cmp}
-use Rattle.cdxj_places.proofs.PairLemmas.{pair_cmp_total}
-use Rattle.page_core.specs.Pages.{is_above}
 
 -- ---- nothing that is wanted stands below the start of a page
 

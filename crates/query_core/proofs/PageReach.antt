@@ -1,35 +1,17 @@
 -- What was read for a page, beside its reach.
-use Rattle.std.proofs.Common.{◌≡◌, ℕ, zero, suc, ◌≤◌, List, [], ◌∷◌, ◌++◌, length, map, Bool, true, false, Option, None}
-use Rattle.std.proofs.Common.{Some, refl, arith, length-append, length-take, ◌-◌, ◌^◌, min}
-use Rattle.std.specs.Io.KnownBytes.{Appends}
-use Rattle.std.specs.Option.{is_some}
-use Rattle.std.proofs.Math.Seq.{take-append_seam}
-use Rattle.cdxj_places.specs.Places.{PlaceValue, place_cmp}
-use Rattle.cdxj_core.specs.Members.{Member, member_place}
-use Rattle.devices.proofs.DeviceLemmas.{Appends-none, grows_by, grows_on}
-use Rattle.query_text.specs.Queries.{QueryValue}
-use Rattle.page_core.specs.Form.{FormValue}
-use Rattle.page_core.specs.Pages.{kept}
-use Rattle.page_core.specs.PageText.{begun}
-use Rattle.cdxj_core.specs.declared.limit.TheConstants.{LINE_LIMIT}
-use Rattle.cdxj_core.specs.Indexes.{IsIndex}
-use Rattle.merge_core.specs.Collections.{Known, OverIndexes, collection}
-use Rattle.std.specs.List.{AllZip, sum}
-use Rattle.devices.specs.Device.{Grows}
-use Rattle.query_core.specs.PageWriting.{page_over}
-use Rattle.query_core.specs.Passes.{AreAtMost, AreFirst, GaveFor}
-use Rattle.query_core.specs.QueryPages.{form_of, query_page}
-use Rattle.query_core.specs.Reach.{captures_text, GaveInReach, WroteFirst}
+use Rattle.query_core.proofs.Words.{[], ℕ, ◌++◌, ◌-◌, ◌^◌, ◌∷◌, ◌≡◌, ◌≤◌, AllZip, Appends, Appends-none, AreAtMost}
+use Rattle.query_core.proofs.Words.{AreFirst, Bool, FormValue, GaveFor, GaveInReach, Grows, IsIndex, Known, LINE_LIMIT}
+use Rattle.query_core.proofs.Words.{List, Member, None, Option, OverIndexes, PageWriter, PlaceValue, QueryValue, Some}
+use Rattle.query_core.proofs.Words.{Wrote, WroteFirst, arith, begun, captures_text, collection, false}
+use Rattle.query_core.proofs.Words.{false_from_ne_true, form_of, grows_by, grows_on, is_some, kept, length}
+use Rattle.query_core.proofs.Words.{length-append, length-take, map, member_place, min, page_over, place_cmp, put}
+use Rattle.query_core.proofs.Words.{query_page, refl, rising, suc, sum, take-append_seam, true, true≢false, two_same}
+use Rattle.query_core.proofs.Words.{zero}
 use Rattle.query_core.proofs.AskedLemmas.{Beginning, Writing, captures, asked_is, passed, stood}
-use Rattle.query_core.specs.declared.page_writer.PageWriter.{PageWriter}
-use Rattle.query_core.specs.WriterView.{Wrote}
-use Rattle.std.proofs.lemmas.Bool.{true≢false, false_from_ne_true}
 use Rattle.query_core.proofs.ReachLemmas.{within_opening}
-use Rattle.merge_core.proofs.Many.{two_same}
 use Rattle.query_core.proofs.WriterLemmas.{page, next_none, page_front}
 use Rattle.std.proofs.lemmas.List.Concat.{length-flat_map}
 use Rattle.std.proofs.lemmas.List.Sums.{count_by-le-length, length-filter, sum-map}
-use Rattle.cdxj_places.specs.Rising.{put, rising}
 
 -- an empty page has none
 none_follows : (limit : Option ℕ) → is_some (page limit []).next ≡ false

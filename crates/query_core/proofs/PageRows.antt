@@ -1,20 +1,13 @@
 -- The rows of a page in text and cdxj, and its lines.
-use Rattle.std.proofs.Common.{◌≡◌, ℕ, suc, ◌+◌, ◌-◌, ◌<◌, List, [], ◌∷◌, ◌++◌, length, true, cond}
-use Rattle.std.proofs.Common.{All, refl, ap, arith, append_assoc, flat_map, length-append}
-use Rattle.std.specs.Prelude.{codes, decimal, ◌==◌}
-use Rattle.std.specs.List.{AllByRecursion}
-use Rattle.std.proofs.lemmas.Bool.Decides.{nat_tests}
-use Rattle.std.proofs.lemmas.List.Elements.{All-head, All-tail}
+use Rattle.query_core.proofs.Words.{[], ℕ, ◌++◌, ◌+◌, ◌-◌, ◌<◌, ◌∷◌, ◌≡◌, All, All-head, All-tail, AllByRecursion}
+use Rattle.query_core.proofs.Words.{Field, List, Member, PlaceValue, ap, append_assoc, arith, codes, cond, each_join}
+use Rattle.query_core.proofs.Words.{escaped, flat_map, has_no_feed, length, length-append, lines, lines_front}
+use Rattle.query_core.proofs.Words.{nat_tests, refl, resume_text, row_value, suc, text_row, true}
+use Rattle.std.specs.Prelude.{decimal, ◌==◌}
 use Rattle.form_urlencoded.proofs.FormLemmas.{IsSerializedByte, All-byte_serialize, byte_serialize-append, byte_serialize-cons}
 use Rattle.form_urlencoded.specs.Form.{byte_serialize}
-use Rattle.cdxj_places.specs.Places.{PlaceValue, place_text, resume_text}
-use Rattle.cdxj_places.specs.TextLines.{lines}
-use Rattle.cdxj_places.proofs.RisingLaws.{each_join}
-use Rattle.cdxj_core.specs.declared.field.Field.{Field}
-use Rattle.cdxj_core.specs.Lines.{has_no_feed}
-use Rattle.cdxj_core.specs.Members.{Member}
-use Rattle.cdxj_core.proofs.IndexLemmas.{lines_front}
-use Rattle.page_core.specs.Rows.{escaped, escaped_byte, hex_digit, row_value, text_row}
+use Rattle.cdxj_places.specs.Places.{place_text}
+use Rattle.page_core.specs.Rows.{escaped_byte, hex_digit}
 
 -- ---- lines
 

@@ -1,22 +1,12 @@
 -- What a writer has written of pages, where it ends and where it fails.
 use Rattle.query_core.proofs.AskedLemmas.{captures}
-use Rattle.std.proofs.Common.{◌≡◌, ◌⊎◌, inl, inr, ℕ, ◌+◌, ◌++◌, ◌-◌, ◌^◌, List, [], min, Option, None, Some, Bool}
-use Rattle.std.proofs.Common.{true, false, refl}
-use Rattle.std.specs.Io.KnownBytes.{Appends}
-use Rattle.cdxj_core.specs.Members.{Member, member_place}
-use Rattle.devices.specs.Device.{AppendsPrefix, Grows}
-use Rattle.query_text.specs.Queries.{QueryValue}
-use Rattle.cdxj_places.specs.Places.{place_cmp}
-use Rattle.cdxj_places.specs.Rising.{Rises}
-use Rattle.page_core.specs.Pages.{AllPositive, first_size}
-use Rattle.query_core.specs.WrittenPages.{WrotePages, WrotePagesInPart}
+use Rattle.query_core.proofs.Words.{[], ℕ, ◌++◌, ◌+◌, ◌-◌, ◌^◌, ◌≡◌, ◌⊎◌, AllPositive, Appends, AppendsPrefix, Bool}
+use Rattle.query_core.proofs.Words.{Broke, Grows, IsFront, IsWriterOf, List, Member, None, Option, PageWriter}
+use Rattle.query_core.proofs.Words.{QueryValue, Rises, Some, Wrote, WroteInPages, WrotePages, WrotePagesInPart, false}
+use Rattle.query_core.proofs.Words.{first_size, form_of, from_view, inl, inr, member_place, min, next_of, page_end}
+use Rattle.query_core.proofs.Words.{place_cmp, refl, shown_key, true}
 use Rattle.query_core.proofs.PageChains.{wrote_front, wrote_most, wrote_whole}
-use Rattle.page_core.specs.PageText.{page_end}
-use Rattle.query_core.specs.declared.page_writer.PageWriter.{PageWriter}
-use Rattle.query_core.specs.QueryPages.{form_of, shown_key}
-use Rattle.query_core.specs.WriterView.{Broke, IsFront, IsWriterOf, Wrote, WroteAll, from_view}
-use Rattle.query_core.specs.PageWriting.{next_of}
-use Rattle.query_core.specs.PagesReach.{WroteInPages}
+use Rattle.query_core.specs.WriterView.{WroteAll}
 use Rattle.query_core.proofs.PagesReach.{in_pages}
 use Rattle.query_core.proofs.PagesLemmas.{ended_stands, ending_front, stands_front}
 

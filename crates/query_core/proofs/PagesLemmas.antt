@@ -1,29 +1,18 @@
 -- Captures that are cut into pages, as they come.
-use Rattle.std.proofs.Common.{take-append-drop, length-take, ◌≡◌, inl, inr, ℕ, zero, suc, ◌+◌, ◌-◌, ◌^◌, ◌<◌, ◌≤◌, List}
-use Rattle.std.proofs.Common.{[], ◌∷◌, ◌++◌, length, take, drop, min, true, Option, None, Some, IfSome, option_map}
-use Rattle.std.proofs.Common.{refl, sym, ap, ◌∙◌, subst, arith, append_assoc, append-nil, length-append, length-drop}
-use Rattle.std.proofs.Common.{filter}
-use Rattle.std.specs.Io.KnownBytes.{Appends}
-use Rattle.std.proofs.lemmas.Bool.{cases_lt}
-use Rattle.std.specs.List.{AllByRecursion}
-use Rattle.std.proofs.lemmas.List.{take_all, take_at, drop_at}
-use Rattle.std.proofs.lemmas.List.Concat.{flat_map-append}
-use Rattle.cdxj_places.specs.Places.{PlaceValue, resume_text}
-use Rattle.cdxj_places.proofs.RisingLaws.{each_join}
-use Rattle.cdxj_core.specs.Members.{Member, member_place}
-use Rattle.devices.specs.Device.{AppendsPrefix}
-use Rattle.devices.proofs.DeviceLemmas.{Appends-join}
-use Rattle.devices.proofs.WritingLemmas.{prefix_after, prefix_longer}
-use Rattle.query_text.specs.Queries.{QueryValue}
-use Rattle.page_core.specs.Pages.{Page, AllPositive, first_size, later_sizes}
-use Rattle.page_core.specs.Form.{FormValue}
-use Rattle.page_core.specs.PageText.{begun, page_start, page_end, row_text}
-use Rattle.page_core.proofs.PageLemmas.{begun-more, begun_is_front, page_in_pieces}
-use Rattle.query_core.specs.QueryPages.{form_of, shown_key}
-use Rattle.query_core.specs.PageWriting.{captures_over, is_wanted, place_before}
-use Rattle.query_core.specs.WriterView.{IsFront}
-use Rattle.query_core.specs.WrittenPages.{IsReadBack, pages_text}
-use Rattle.query_core.specs.PagesWriting.{AreCut, HasNext, HasReadKey, PagesStand, last_of}
+use Rattle.query_core.proofs.Words.{[], ℕ, ◌++◌, ◌+◌, ◌-◌, ◌<◌, ◌^◌, ◌∙◌, ◌∷◌, ◌≡◌, ◌≤◌, AllByRecursion, AllPositive}
+use Rattle.query_core.proofs.Words.{Appends, Appends-join, AppendsPrefix, AreCut, FormValue, HasNext, HasReadKey}
+use Rattle.query_core.proofs.Words.{IsFront, List, Member, None, Option, Page, PagesStand, PlaceValue, QueryValue, Some}
+use Rattle.query_core.proofs.Words.{ap, append-nil, append_assoc, arith, begun, begun-more, begun_is_front}
+use Rattle.query_core.proofs.Words.{captures_over, cases_lt, drop, each_join, filter, first_size, flat_map-append}
+use Rattle.query_core.proofs.Words.{form_of, inl, inr, is_wanted, later_sizes, length, length-append, length-drop}
+use Rattle.query_core.proofs.Words.{length-take, member_place, min, option_map, page_end, page_start, pages_text}
+use Rattle.query_core.proofs.Words.{place_before, prefix_after, prefix_longer, refl, resume_text, row_text, shown_key}
+use Rattle.query_core.proofs.Words.{subst, suc, sym, take, take-append-drop, take_all, true, zero}
+use Rattle.std.proofs.Common.{IfSome}
+use Rattle.std.proofs.lemmas.List.{take_at, drop_at}
+use Rattle.page_core.proofs.PageLemmas.{page_in_pieces}
+use Rattle.query_core.specs.WrittenPages.{IsReadBack}
+use Rattle.query_core.specs.PagesWriting.{last_of}
 use Rattle.query_core.proofs.CaptureLemmas.{end_last, captures_append, kept_after}
 use Rattle.query_core.proofs.SizeLemmas.{first_positive, later_positive}
 use Rattle.query_core.proofs.WriterLemmas.{take_front, whole_prefix}

@@ -1,27 +1,11 @@
 -- What was read for pages, beside what stands written of them.
-use Rattle.std.proofs.Common.{◌≡◌, inl, inr, ℕ, List, [], ◌∷◌, ◌++◌, length, map, Option, None, Some, refl, arith}
-use Rattle.std.proofs.Common.{append-nil, length-append}
-use Rattle.std.specs.List.{AllZip}
-use Rattle.std.proofs.Math.Seq.{take-append_seam}
-use Rattle.cdxj_places.specs.Places.{PlaceValue}
-use Rattle.cdxj_core.specs.declared.limit.TheConstants.{LINE_LIMIT}
-use Rattle.cdxj_core.specs.Indexes.{IsIndex}
-use Rattle.cdxj_core.specs.Members.{Member}
-use Rattle.devices.specs.Device.{Grows}
-use Rattle.devices.proofs.DeviceLemmas.{Appends-none, grows_by, grows_on}
-use Rattle.query_text.specs.Queries.{QueryValue}
-use Rattle.merge_core.specs.Collections.{Known, OverIndexes, collection}
-use Rattle.merge_core.proofs.Many.{two_same}
-use Rattle.query_core.specs.PagesWriting.{HasNext, PagesStand}
-use Rattle.query_core.specs.QueryPages.{form_of, query_captures}
-use Rattle.query_core.specs.WrittenPages.{pages_text}
+use Rattle.query_core.proofs.Words.{[], ℕ, ◌++◌, ◌∷◌, ◌≡◌, AllZip, Appends, Appends-none, AreFirst, GaveFor}
+use Rattle.query_core.proofs.Words.{GaveInPages, Grows, HasNext, IsIndex, Known, LINE_LIMIT, List, Member, None, Option}
+use Rattle.query_core.proofs.Words.{OverIndexes, Page, PagesStand, PlaceValue, QueryValue, Some, WroteFirst}
+use Rattle.query_core.proofs.Words.{WroteInPages, append-nil, arith, begun, captures_text, collection, form_of}
+use Rattle.query_core.proofs.Words.{grows_by, grows_on, inl, inr, length, length-append, map, pages_text}
+use Rattle.query_core.proofs.Words.{query_captures, refl, take-append_seam, two_same}
 use Rattle.query_core.proofs.CaptureLemmas.{filter_and}
-use Rattle.query_core.specs.Passes.{AreFirst, GaveFor}
-use Rattle.page_core.specs.Pages.{Page}
-use Rattle.page_core.specs.PageText.{begun}
-use Rattle.std.specs.Io.KnownBytes.{Appends}
-use Rattle.query_core.specs.Reach.{WroteFirst, captures_text}
-use Rattle.query_core.specs.PagesReach.{GaveInPages, WroteInPages}
 use Rattle.query_core.proofs.AskedLemmas.{captures}
 use Rattle.query_core.proofs.ReachLemmas.{within_opening}
 

@@ -1,53 +1,38 @@
 -- What was read of indexes, beside the reach of a page.
-use Rattle.std.proofs.Common.{◌≡◌, ℕ, zero, suc, ◌≤◌, List, [], ◌∷◌, ◌++◌, length, map, filter, zip, Bool, true, false}
-use Rattle.std.proofs.Common.{not, Option, Some, refl, sym, ap, arith, min, ◌-◌, ◌^◌, append_assoc}
-use Rattle.std.proofs.Common.{append-nil, nat_cmp, is_gt, is_lt, ◌∙◌}
-use Rattle.std.specs.List.{AllByRecursion, sum, AllZip}
-use Rattle.std.specs.Cmp.Lexicographic.{slice_cmp}
+use Rattle.query_core.proofs.Words.{[], ℕ, ◌++◌, ◌-◌, ◌^◌, ◌∙◌, ◌∷◌, ◌≡◌, ◌≤◌, AllByRecursion, AllGaveWithin, AllZip}
+use Rattle.query_core.proofs.Words.{AreAtMost, Bool, GaveFor, IsAbove, IsIndex, Known, LINE_LIMIT, List, Member, Option}
+use Rattle.query_core.proofs.Words.{OverIndexes, Pair, PlaceValue, QueryValue, ReadFor, Some, TargetValue, Upto}
+use Rattle.query_core.proofs.Words.{all_kept, ap, append-nil, append_assoc, arith, bytes_eq-Decides, collection}
+use Rattle.query_core.proofs.Words.{each_join, each_kept, each_weaker, false, false_from_ne_true, feeds, filter}
+use Rattle.query_core.proofs.Words.{in_reach, is_gt, is_low, is_past, is_wanted, later_pair, length, map, member_pair}
+use Rattle.query_core.proofs.Words.{member_place, min, nat_cmp, not, pair_cmp, pair_cmp_total, past_upward}
+use Rattle.query_core.proofs.Words.{place_before, place_cmp, place_cmp_total, refl, same_part, slice_cmp, start_pair}
+use Rattle.query_core.proofs.Words.{suc, sum, sym, taken_first, taken_whole, true, upto_upto, waiting_pair, zero, zip}
+use Rattle.std.proofs.Common.{is_lt}
 use Rattle.std.specs.FinMap.{slice_cmp-IsAntisymmetric}
 use Rattle.std.proofs.lemmas.Slice.Zip.{AllZip-long}
-use Rattle.std.proofs.lemmas.Bool.{false_from_ne_true}
-use Rattle.std.proofs.lemmas.Slice.Eq.{bytes_eq-Decides}
-use Rattle.cdxj_places.specs.Pairs.{Pair, pair_cmp}
-use Rattle.cdxj_places.specs.Places.{PlaceValue, place_cmp}
 use Rattle.cdxj_places.proofs.PlaceLaw.{both}
-use Rattle.cdxj_places.proofs.PlaceOrder.{place_cmp_total}
-use Rattle.cdxj_places.proofs.PairLemmas.{pair_cmp_total}
-use Rattle.cdxj_places.proofs.RisingLaws.{each_join, each_weaker}
-use Rattle.cdxj_core.specs.declared.limit.TheConstants.{LINE_LIMIT}
-use Rattle.cdxj_core.specs.Indexes.{IsIndex}
-use Rattle.cdxj_core.specs.Members.{Member, member_pair, member_place}
-use Rattle.query_text.specs.Collapses.{same_part}
-use Rattle.query_text.specs.Queries.{QueryValue}
-use Rattle.query_text.specs.Targets.{TargetValue}
-use Rattle.query_text.specs.Matching.{begins, covers, is_past}
-use Rattle.page_core.proofs.PageLaws.{each_kept}
+use Rattle.query_text.specs.Matching.{begins, covers}
 use Rattle.source_core.specs.Cursors.{CursorState}
-use Rattle.merge_core.specs.Feeds.{Feed, feeds}
+use Rattle.merge_core.specs.Feeds.{Feed}
 use Rattle.merge_core.proofs.RunLemmas.{none_wait}
 use Rattle.merge_core.proofs.StateLemmas.{counts_of, feeds_long, long_of}
-use Rattle.merge_core.specs.PairOrders.{Alike, IsAbove, IsUpto, Upto, is_low}
-use Rattle.merge_core.specs.WaitingLines.{waiting_pair}
-use Rattle.merge_core.specs.Collections.{Known, OverIndexes, OverTexts, collection}
+use Rattle.merge_core.specs.PairOrders.{Alike, IsUpto}
+use Rattle.merge_core.specs.Collections.{OverTexts}
 use Rattle.merge_core.specs.Runs.{parts}
-use Rattle.merge_core.specs.Spending.{AllGaveWithin, AreReadTo, OpenedWithin}
+use Rattle.merge_core.specs.Spending.{AreReadTo, OpenedWithin}
 use Rattle.merge_core.proofs.CountLemmas.{Passes, lines_most}
 use Rattle.merge_core.proofs.Filters.{each_filter}
 use Rattle.merge_core.proofs.ByteLemmas.{gave_most, tell_both}
 use Rattle.merge_core.proofs.Many.{Move, length_zip, told_moved}
 use Rattle.merge_core.proofs.StartLemmas.{cuts_kept}
-use Rattle.merge_core.proofs.PairOrder.{below_below, below_upto, from_not_below, not_below_itself, same_from, upto_upto}
+use Rattle.merge_core.proofs.PairOrder.{below_below, below_upto, from_not_below, not_below_itself, same_from}
 use Rattle.merge_core.proofs.MergeLemmas.{is_less}
 use Rattle.merge_core.proofs.RunLemmas.{parts_are, parts_count, took_of_parts}
-use Rattle.merge_core.proofs.TakenLemmas.{taken_first, taken_whole}
 use Rattle.merge_core.proofs.SpendLemmas.{are_read_to}
-use Rattle.merge_core.proofs.WholeLemmas.{all_kept}
-use Rattle.query_text.proofs.RangeLaw.{past_upward}
 use Rattle.query_core.proofs.AskedLemmas.{captures}
-use Rattle.query_core.specs.PageWriting.{is_wanted, place_before}
-use Rattle.query_core.specs.Reach.{pair_after, is_within, in_reach}
-use Rattle.query_core.specs.Passes.{AreAtMost, GaveFor, IsOfParts, ReadFor, Took}
-use Rattle.query_core.specs.Starts.{later_pair, start_pair}
+use Rattle.query_core.specs.Reach.{pair_after, is_within}
+use Rattle.query_core.specs.Passes.{IsOfParts, Took}
 use Rattle.query_core.proofs.CaptureLemmas.{kept_after, captures_append, captures_split}
 use Rattle.query_core.proofs.PageOfIndexes.{Reading, known_opened, lines_taken, told, wanted_before, wanted_first}
 use Rattle.query_core.proofs.PageOfIndexes.{wanted_whole}

@@ -1,31 +1,17 @@
 -- What sources give for the lines of an input, one after another.
-use Rattle.std.proofs.Common.{◌≡◌, ◌⊎◌, inl, inr, ℕ, ◌+◌, ◌-◌, ◌<◌, ◌≤◌, List, [], ◌∷◌, ◌++◌, flat_map, length, map, take}
-use Rattle.std.proofs.Common.{Bool, cond, true, Option, None, Some, refl, sym, ap, arith, append_assoc, append-nil}
-use Rattle.std.proofs.Common.{length-take, le-ltb, lt-ltb, nat_lt}
-use Rattle.std.specs.Prelude.{⊤, Result, Ok}
-use Rattle.std.specs.List.{AllZip, sum}
-use Rattle.std.specs.Io.KnownBytes.{Appends, prepend_known}
-use Rattle.std.proofs.lemmas.Bool.{cases_lt}
-use Rattle.std.proofs.lemmas.List.{map-append, take_all}
-use Rattle.std.proofs.lemmas.List.Concat.{flat_map-append}
+use Rattle.query_core.proofs.Words.{[], ℕ, ⊤, ◌++◌, ◌+◌, ◌-◌, ◌<◌, ◌∷◌, ◌≡◌, ◌≤◌, ◌⊎◌, AllGaveWithin, AllZip, Appends}
+use Rattle.query_core.proofs.Words.{Appends-join, Appends-none, AppendsPrefix, Bool, IsIndex, IsMarkedReply, IsOneReply}
+use Rattle.query_core.proofs.Words.{Known, LINE_LIMIT, List, Member, None, Option, QueryFault, QueryValue, Some}
+use Rattle.query_core.proofs.Words.{TakesLine, ap, append-nil, append_assoc, arith, asked_most, cases_lt, collection}
+use Rattle.query_core.proofs.Words.{cond, cut_lines, flat_map, flat_map-append, grows_not, grows_part, in_reach, inl}
+use Rattle.query_core.proofs.Words.{inr, is_utf8, le-ltb, length, length-take, line_most, lt-ltb, map, map-append}
+use Rattle.query_core.proofs.Words.{nat_lt, prepend_known, query_of, refl, reply_of, sum, sym, take, take_all, true}
+use Rattle.query_core.proofs.Words.{without_carriage_return}
+use Rattle.std.specs.Prelude.{Result, Ok}
 use Rattle.std.proofs.lemmas.List.Sums.{sum_by_push}
-use Rattle.cdxj_core.specs.declared.limit.TheConstants.{LINE_LIMIT}
-use Rattle.cdxj_core.specs.Indexes.{IsIndex}
-use Rattle.cdxj_core.specs.Members.{Member}
-use Rattle.devices.specs.Device.{AppendsPrefix}
-use Rattle.devices.specs.LineCuts.{cut_lines, without_carriage_return}
-use Rattle.devices.specs.LineReading.{TakesLine}
-use Rattle.devices.proofs.DeviceLemmas.{Appends-none, Appends-join, grows_not, grows_part}
-use Rattle.std.specs.Str.{is_utf8}
-use Rattle.query_text.specs.declared.fault.QueryFault.{QueryFault}
-use Rattle.query_text.specs.Queries.{QueryValue, query_of}
-use Rattle.merge_core.specs.Collections.{Known, collection}
-use Rattle.merge_core.specs.Spending.{AllGaveWithin}
-use Rattle.query_core.specs.Conversations.{IsMarkedReply, IsOneReply}
-use Rattle.query_core.specs.Reach.{in_reach}
-use Rattle.query_core.specs.Replies.{marked_reply, reply_of}
+use Rattle.query_core.specs.Replies.{marked_reply}
 use Rattle.query_core.specs.ReplyReach.{AllGaveAtMost, Amount, AreFirstLines, GaveForLines}
-use Rattle.query_core.specs.ReplyReach.{asked_most, line_most, lines_most, query_most}
+use Rattle.query_core.specs.ReplyReach.{lines_most, query_most}
 
 -- ---- amounts
 

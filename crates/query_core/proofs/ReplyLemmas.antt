@@ -1,20 +1,18 @@
 -- The replies to the lines of an input, so far and at its end.
-use Rattle.std.proofs.Common.{◌≡◌, ℕ, ◌+◌, ◌-◌, ◌^◌, ◌<◌, ◌≤◌, List, [], ◌∷◌, ◌++◌, map, length, length-append}
-use Rattle.std.proofs.Common.{length-take, take, refl, sym, ap, ◌∙◌, subst, arith, cond, Bool, true, false, Option}
-use Rattle.std.proofs.Common.{Some, None, append_assoc, append-nil, lt-ltb, ltb-false, nat_lt, slice_index, ltb-true, ◌⊎◌}
+use Rattle.query_core.proofs.Words.{[], ℕ, ◌++◌, ◌+◌, ◌-◌, ◌<◌, ◌^◌, ◌∙◌, ◌∷◌, ◌≡◌, ◌≤◌, ◌⊎◌, AllZip, Appends}
+use Rattle.query_core.proofs.Words.{Appends-join, Appends-none, AppendsPrefix, Bool, CountsTaken, IsMarkedReply}
+use Rattle.query_core.proofs.Words.{IsOneReply, List, None, Option, RepliedSoFar, Some, TakesLine, ap, append-nil}
+use Rattle.query_core.proofs.Words.{append_assoc, arith, cond, cut_lines, false, flat_map-append, length, length-append}
+use Rattle.query_core.proofs.Words.{length-map, length-take, lt-ltb, map, map-append, nat_lt, prefix_after}
+use Rattle.query_core.proofs.Words.{prefix_longer, prepend_known, refl, subst, sym, take, take_all, true}
+use Rattle.query_core.proofs.Words.{without_carriage_return}
+use Rattle.std.proofs.Common.{ltb-false, slice_index, ltb-true}
 use Rattle.std.specs.Prelude.{flat_map}
-use Rattle.std.specs.List.{AllZip}
-use Rattle.std.proofs.lemmas.List.{length-map, map-append, take_all}
-use Rattle.std.proofs.lemmas.List.Concat.{flat_map-append}
 use Rattle.std.proofs.lemmas.List.Elements.{AllZip-push}
-use Rattle.std.specs.Io.KnownBytes.{Appends, prepend_known}
-use Rattle.devices.specs.Device.{AppendsPrefix}
-use Rattle.devices.proofs.DeviceLemmas.{Appends-none, Appends-join}
-use Rattle.devices.proofs.WritingLemmas.{prefix_longer, prefix_after, prefix_whole}
-use Rattle.devices.specs.LineCuts.{cut_lines, without_carriage_return}
-use Rattle.devices.specs.LineReading.{IsTooLong, StopsInLine, TakesLine, CountsTaken}
+use Rattle.devices.proofs.WritingLemmas.{prefix_whole}
+use Rattle.devices.specs.LineReading.{IsTooLong, StopsInLine}
 use Rattle.query_core.specs.Replies.{marked_reply}
-use Rattle.query_core.specs.Conversations.{AreLeft, IsMarkedReply, IsOneReply, Replied, RepliedInPart, RepliedSoFar}
+use Rattle.query_core.specs.Conversations.{AreLeft, Replied, RepliedInPart}
 use Rattle.query_core.specs.Conversations.{RepliedToAll, RepliedToFirst, RepliedToTaken}
 
 -- ---- lists of lines and of their replies

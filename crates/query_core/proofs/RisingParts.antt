@@ -1,10 +1,11 @@
 -- What rises already may stand in the stead of a list.
-use Rattle.std.proofs.Common.{arith, ◌≡◌, List, [], ◌∷◌, ◌++◌, ◌⊎◌, inr, refl, ap, Ordering, Equal}
-use Rattle.std.specs.List.{AllByRecursion, flat_map}
+use Rattle.query_core.proofs.Words.{[], ◌++◌, ◌∷◌, ◌≡◌, ◌⊎◌, AllByRecursion, IsFirst, IsIn, List, Ordering, Rises, ap}
+use Rattle.query_core.proofs.Words.{arith, each_at, each_rising, inr, put, refl, rises_rising, rising, rising_members}
+use Rattle.query_core.proofs.Words.{rising_same}
+use Rattle.std.proofs.Common.{Equal}
+use Rattle.std.specs.List.{flat_map}
 use Rattle.std.specs.Cmp.{IsTotalOrder}
 use Rattle.std.proofs.lemmas.Cmp.{tied_back}
-use Rattle.cdxj_places.specs.Rising.{IsIn, IsFirst, Rises, put, rising}
-use Rattle.cdxj_places.proofs.RisingLaws.{each_at, each_rising, rises_rising, rising_members, rising_same}
 
 module _ {X P : Type 0} (place : X → P) (R : P → P → Ordering) (o : IsTotalOrder R) where
   -- none of the list has the place of x

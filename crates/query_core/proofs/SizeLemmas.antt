@@ -1,10 +1,8 @@
 -- The sizes of pages.
-use Rattle.std.proofs.Common.{arith, ◌≡◌, ℕ, ◌^◌, ◌<◌, ◌≤◌, List, [], ◌∷◌, nat_lt, true, false, Option, None, Some}
-use Rattle.std.specs.List.{list_all}
-use Rattle.std.proofs.lemmas.Bool.{and_parts, eq-eqb, eqb-false, eqb-true, ltb-true}
-use Rattle.cdxj_places.specs.Places.{PlaceValue}
-use Rattle.page_core.specs.Pages.{AllPositive, first_size, later_sizes}
-use Rattle.query_core.specs.PageWriting.{FitsWord, is_full, last_after}
+use Rattle.query_core.proofs.Words.{[], ℕ, ◌<◌, ◌^◌, ◌∷◌, ◌≡◌, ◌≤◌, AllPositive, FitsWord, List, None, Option}
+use Rattle.query_core.proofs.Words.{PlaceValue, Some, and_parts, arith, eqb-false, false, first_size, is_full}
+use Rattle.query_core.proofs.Words.{last_after, later_sizes, list_all, nat_lt, true}
+use Rattle.std.proofs.lemmas.Bool.{eq-eqb, eqb-true, ltb-true}
 use Rattle.query_core.specs.WrittenPages.{are_sizes}
 
 each_positive : (n : ℕ) (ns : List ℕ) → list_all (λ size. nat_lt 0 size) (n ∷ ns) ≡ true → AllPositive (n ∷ ns)

@@ -1,14 +1,9 @@
 -- Of an index no line is at fault.
-use Rattle.std.specs.List.{AllZip, AllByRecursion}
-use Rattle.std.proofs.Common.{◌≡◌, ◌<◌, ℕ, List, [], ◌∷◌, ◌++◌, length, get_or, map, Option, None, Some, arith, refl}
-use Rattle.std.proofs.Common.{◌∙◌, append_assoc}
-use Rattle.cdxj_core.specs.declared.limit.TheConstants.{LINE_LIMIT}
-use Rattle.cdxj_core.specs.Members.{Member, member_pair, line_entry}
-use Rattle.cdxj_core.specs.Indexes.{IsIndex}
+use Rattle.query_core.proofs.Words.{[], ℕ, ◌++◌, ◌<◌, ◌∙◌, ◌∷◌, ◌≡◌, AllByRecursion, AllZip, IsIndex, Known, LINE_LIMIT}
+use Rattle.query_core.proofs.Words.{List, Member, None, Option, Some, Upto, append_assoc, arith, get_or, length}
+use Rattle.query_core.proofs.Words.{line_entry, map, member_pair, refl}
 use Rattle.source_core.specs.LinesAtFault.{IsBadLine, IsOutOfOrder}
-use Rattle.merge_core.specs.Collections.{Known}
 use Rattle.merge_core.proofs.ReadLines.{falls_after}
-use Rattle.merge_core.specs.PairOrders.{Upto}
 use Rattle.query_core.specs.declared.fault.AnswerFault.TheVariants as fault
 use Rattle.query_core.specs.QueryLaws.{NoLineIsAtFault}
 

@@ -1,8 +1,8 @@
 -- Lines that are taken one after another.
-use Rattle.std.proofs.Common.{arith, ◌≡◌, ℕ, suc, ◌+◌, ◌<◌, List, [], ◌∷◌, ◌++◌, length, get_or, take, drop, map}
-use Rattle.std.proofs.Common.{append_assoc, take-append-drop, drop-cons}
-use Rattle.std.proofs.lemmas.List.{map_more, map-append}
-use Rattle.cdxj_core.specs.Members.{Member}
+use Rattle.query_core.proofs.Words.{[], ℕ, ◌++◌, ◌+◌, ◌<◌, ◌∷◌, ◌≡◌, List, Member, append_assoc, arith, drop, get_or}
+use Rattle.query_core.proofs.Words.{length, map, map-append, suc, take, take-append-drop}
+use Rattle.std.proofs.Common.{drop-cons}
+use Rattle.std.proofs.lemmas.List.{map_more}
 
 module _ {B : Type 0} (seen : B → Member) (taken : List Member) (ls : List B) (k : ℕ) (b : B) (inside : k < length ls)
     (is : b ≡ get_or ls k b) where

@@ -1,6 +1,8 @@
 -- No value of a line that has an entry is empty.
-use Rattle.std.proofs.Common.{◌≡◌, ℕ, zero, suc, ◌<◌, List, [], length, Bool, true, false, Option, None, Some, arith, decimal, eqb-true}
-use Rattle.std.proofs.lemmas.Bool.Decides.{nat_tests}
+use Rattle.query_core.proofs.Words.{[], ℕ, ◌<◌, ◌≡◌, Bool, Field, HasEntry, LINE_LIMIT, LineValue, List, Member, None}
+use Rattle.query_core.proofs.Words.{Option, Some, arith, eqb-true, false, is_key, is_stamp, length, nat_tests, suc}
+use Rattle.query_core.proofs.Words.{true, zero}
+use Rattle.std.proofs.Common.{decimal}
 use Rattle.std.specs.Prelude.{option_and_then, option_map}
 use Rattle.std.specs.Fmt.{digits, digits_onto}
 use Rattle.serde_json.specs.Data.{unsigned, negative, float, Data, null, boolean, number, string, array, object}
@@ -8,13 +10,8 @@ use Rattle.serde_json.specs.Find.{get}
 use Rattle.serde_json.specs.Read.{read}
 use Rattle.cdxj_objects.specs.MemberValues.{filename_value, offset_value, value_text}
 use Rattle.cdxj_objects.specs.ObjectMembers.{names}
-use Rattle.cdxj_places.specs.Pair.{is_key, is_stamp}
-use Rattle.cdxj_core.specs.declared.field.Field.{Field}
-use Rattle.cdxj_core.specs.declared.limit.TheConstants.{LINE_LIMIT}
-use Rattle.cdxj_core.specs.Lines.{LineValue, field_value, line_from, object_values}
-use Rattle.cdxj_core.specs.Members.{Member}
+use Rattle.cdxj_core.specs.Lines.{field_value, line_from, object_values}
 use Rattle.cdxj_core.proofs.MemberLemmas.{entry_valued}
-use Rattle.merge_core.specs.SourceLines.{HasEntry}
 
 digits_more : (k base : ℕ) (upper : Bool) (n : ℕ) (acc : List ℕ) → 0 < length acc
     → 0 < length (digits_onto k base upper n acc)

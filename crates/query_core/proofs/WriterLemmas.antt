@@ -1,23 +1,14 @@
 -- A page by the lines that were taken for it.
-use Rattle.std.proofs.Common.{◌≡◌, ℕ, zero, suc, ◌+◌, ◌-◌, ◌^◌, ◌<◌, ◌≤◌, List, [], ◌∷◌, ◌++◌}
-use Rattle.std.proofs.Common.{refl, sym, ap, ◌∙◌, arith, Option, Some, None, Bool, true, false, filter, length}
-use Rattle.std.proofs.Common.{take, min, append-nil, length-append, length-take, ◌⊎◌, inl, inr}
-use Rattle.std.specs.Option.{is_some}
-use Rattle.std.specs.Io.KnownBytes.{Appends}
-use Rattle.std.proofs.lemmas.Bool.{cases_lt, true≢false, eqb-false}
-use Rattle.std.proofs.lemmas.List.{take_all, take-append-le}
-use Rattle.cdxj_places.specs.Places.{PlaceValue}
-use Rattle.query_text.specs.Queries.{QueryValue}
-use Rattle.cdxj_core.specs.Members.{Member, member_place}
-use Rattle.page_core.specs.Pages.{Page, at_most, next_after}
-use Rattle.page_core.specs.PageText.{begun, page_start, row_text}
-use Rattle.page_core.specs.Form.{FormValue}
-use Rattle.page_core.proofs.PageLemmas.{written-start, written-more, begun-append, begun-more}
-use Rattle.devices.proofs.WritingLemmas.{prefix_after, prefix_longer}
-use Rattle.devices.specs.Device.{AppendsPrefix}
-use Rattle.query_core.specs.QueryPages.{form_of}
-use Rattle.query_core.specs.PageWriting.{is_wanted, captures_over, place_before, page_over, place_at, last_place}
-use Rattle.query_core.specs.PageWriting.{is_full, last_after, FitsWord, next_of, PageStands}
+use Rattle.query_core.proofs.Words.{[], ℕ, ◌++◌, ◌+◌, ◌-◌, ◌<◌, ◌^◌, ◌∙◌, ◌∷◌, ◌≡◌, ◌≤◌, ◌⊎◌, Appends, AppendsPrefix}
+use Rattle.query_core.proofs.Words.{Bool, FitsWord, FormValue, List, Member, None, Option, Page, PageStands, PlaceValue}
+use Rattle.query_core.proofs.Words.{QueryValue, Some, ap, append-nil, arith, at_most, begun, begun-more, captures_over}
+use Rattle.query_core.proofs.Words.{cases_lt, eqb-false, false, filter, form_of, inl, inr, is_full, is_some, is_wanted}
+use Rattle.query_core.proofs.Words.{last_after, length, length-append, length-take, member_place, min, next_after}
+use Rattle.query_core.proofs.Words.{next_of, page_over, page_start, place_before, prefix_after, prefix_longer, refl}
+use Rattle.query_core.proofs.Words.{row_text, suc, sym, take, take_all, true, true≢false, zero}
+use Rattle.std.proofs.lemmas.List.{take-append-le}
+use Rattle.page_core.proofs.PageLemmas.{written-start, written-more, begun-append}
+use Rattle.query_core.specs.PageWriting.{place_at, last_place}
 use Rattle.query_core.proofs.CaptureLemmas.{end_last, kept_after, captures_append}
 
 abbrev next : ℕ → List Member → Option PlaceValue

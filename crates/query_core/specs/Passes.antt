@@ -1,6 +1,6 @@
 -- What one pass over sources reads of the lines of a query.
 use Rattle.std.specs.Prelude.{◌≡◌, ◌⊎◌, ℕ, ◌-◌, ◌^◌, ◌+◌, ◌≤◌, ⊤, List, [], ◌++◌, length, map, min, Bool, true, Option}
-use Rattle.std.specs.Prelude.{None, Some}
+use Rattle.std.specs.Prelude.{None, Some, Result, MatchResult}
 use Rattle.std.specs.List.{AllZip, filter, sum}
 use Rattle.cdxj_core.specs.declared.limit.TheConstants.{LINE_LIMIT}
 use Rattle.cdxj_core.specs.Members.{Member}
@@ -95,3 +95,7 @@ module _ {K S : Type 0} (Wrote : K → K → List Member → Option (List ℕ) �
     pub first : OverIndexes LINE_LIMIT (map text olds) (λ texts indexes. AreFirst q (collection indexes) earlier)
     pub before : WantedMore earlier
     pub grows : Grows before.middle new
+
+  -- a pass ended, or broke off at a fault
+  abbrev pub EndedPass : {E : Type 0} → Result Pass E → K → Option (List ℕ) → Type 0
+  EndedPass result last new = MatchResult result (TookLines last new) (λ _. BrokeOff new × Halted new)

@@ -1,7 +1,8 @@
 -- Which device failed, by the answer of a call.
-use Rattle.std.specs.Prelude.{◌≡◌, ◌⊎◌, ℕ, List, Option, Result, Ok, Err}
+use Rattle.std.specs.Prelude.{◌≡◌, ◌⊎◌, ℕ, List, map, Option, Result, Ok, Err}
 use Rattle.devices.specs.Device.{next_count}
 use Rattle.devices.specs.LineReading.{IsTooLong}
+use Rattle.merge_core.specs.Collections.{KeepsSources}
 use Rattle.merge_core.specs.Failures.{RaisedAt}
 use Rattle.query_core.specs.declared.fault.AnswerFault.{AnswerFault}
 use Rattle.query_core.specs.declared.fault.AnswerFault.TheVariants as fault
@@ -22,6 +23,12 @@ CountsReplying (Err fault.BadSizes) sources sources' out out' = ⊥
 CountsReplying (Err (fault.BadLine i offset)) sources sources' out out' = ⊥
 CountsReplying (Err (fault.OutOfOrder i offset)) sources sources' out out' = ⊥
 CountsReplying other sources sources' out out' = (sources' ≡ sources) × (out' ≡ out)
+
+-- a reply keeps the sources, and counts the failure that ends it
+abbrev pub RepliesFrom : {S A : Type 0} → (S → Option (List ℕ)) → (S → ℕ) → (S → ℕ) → Result A AnswerFault → List S
+    → List S → ℕ → ℕ → Type 0
+RepliesFrom text extent failures result olds news out out' =
+    KeepsSources text extent olds news × CountsReplying result (map failures olds) (map failures news) out out'
 
 -- the same of a conversation, and the count of its input, of which these bytes were left: Input where it failed or is
 -- too long

@@ -1,6 +1,6 @@
 //! The lines of one index, read one after another.
-ghost use Rattle.std.specs.Prelude.{◌≡◌, ◌+◌, ◌<◌, ◌≤◌, ℕ, List, ⊤, option_map, IfOk, IfErr, OnOk, MatchOption, Some};
-ghost use Rattle.source_core.specs.Device.{KeepsSource};
+ghost use Rattle.std.specs.Prelude.{◌≡◌, ◌+◌, ◌<◌, ◌≤◌, ⊤, IfOk, IfErr, OnOk};
+ghost use Rattle.source_core.specs.Device.{OverText};
 ghost use Rattle.std.specs.Ordering.{is_gt};
 ghost use Rattle.cdxj_core.specs.declared.limit.TheConstants.{LINE_LIMIT};
 ghost use Rattle.cdxj_core.specs.Members.{member_pair};
@@ -8,7 +8,7 @@ ghost use Rattle.cdxj_places.specs.Pairs.{pair_cmp};
 ghost use Rattle.source_core.specs.Cursors.{Stands, reach};
 ghost use Rattle.merge_core.specs.BoxedLines.{boxed_line};
 ghost use Rattle.merge_core.specs.NextLine.{IsNextLine, MovesOn};
-ghost use Rattle.query_core.specs.AnswerCounts.{CountsSource};
+ghost use Rattle.query_core.specs.AnswerCounts.{ReadsIndex};
 ghost use Rattle.query_core.specs.Checking.{IsCheckFault, IsLineFaultAt};
 
 use crate::fault::AnswerFault;
@@ -23,19 +23,19 @@ pub(crate) fn next_line<S: Source>(
     cursor: &mut Cursor,
 ) -> Result<Option<Box<Line>>, AnswerFault>
     requires stands { Stands (S.text source.old) (S.extent source.old) cursor.old }
-    ensures kept { KeepsSource S.text S.extent source.old source.new }
+    ensures source { ReadsIndex S.text S.extent S.failures result source.old source.new }
     ensures stands { OnOk result (Stands (S.text source.new) (S.extent source.new) cursor.new) }
     ensures start { cursor.new.start ≡ cursor.old.start }
     ensures moves { IfOk result (λ found.
         MovesOn (S.extent source.old) cursor.old cursor.new (boxed_line found)) }
-    ensures line { (t : List ℕ) → S.text source.old ≡ Some t → IfOk result (λ found.
-        IsNextLine LINE_LIMIT t cursor.old.at cursor.new.at (boxed_line found)) }
-    ensures fault { (t : List ℕ) → S.text source.old ≡ Some t
-        → IfErr result (IsLineFaultAt LINE_LIMIT t cursor.old.at) }
+    ensures line { OverText (S.text source.old) (λ t.
+        IfOk result (λ found.
+        IsNextLine LINE_LIMIT t cursor.old.at cursor.new.at (boxed_line found))) }
+    ensures fault { OverText (S.text source.old) (λ t.
+        IfErr result (IsLineFaultAt LINE_LIMIT t cursor.old.at)) }
     ensures kind { IfErr result IsCheckFault }
     ensures gave { S.gave source.new + reach cursor.old ≤ S.gave source.old + reach cursor.new }
     ensures inside { reach cursor.new ≤ S.extent source.old }
-    ensures failures { CountsSource result (S.failures source.old) (S.failures source.new) }
 {
     match buffers.next_line(source, cursor) {
         Ok(found) => Ok(found),

@@ -1,6 +1,5 @@
 //! The writing of pages.
-ghost use Rattle.std.specs.Prelude.{◌≡◌, ◌++◌, ◌∷◌, [], List, Option, None, Some, ℕ, OnOk, IfOk, OnErr, IfSome, option_map, string_bytes};
-ghost use Rattle.cdxj_places.specs.PlaceViews.{place_view};
+ghost use Rattle.std.specs.Prelude.{◌≡◌, ◌++◌, ◌∷◌, [], List, Option, None, Some, ℕ, OnOk, IfOk, OnErr, MatchResult, IfSome, option_map, string_bytes};
 ghost use Rattle.cdxj_core.specs.Members.{Member, member_place};
 ghost use Rattle.page_core.specs.FormView.{form_view};
 ghost use Rattle.devices.specs.WriteFaults.{CountsWriteFault};
@@ -116,10 +115,10 @@ pub(crate) struct PageWriter<'q> {
 
 impl<'q> PageWriter<'q> {
     ghost use Rattle.std.specs.Prelude.{◌+◌, ◌-◌, ◌^◌, ◌<◌, min, true, false, IsOkAnd};
-    ghost use Rattle.std.specs.Io.KnownBytes.{Appends};
     ghost use Rattle.devices.specs.Device.{AppendsPrefix, Grows};
     ghost use Rattle.page_core.specs.Pages.{AllPositive, first_size};
     ghost use Rattle.page_core.specs.PageText.{page_start, row_text};
+    ghost use Rattle.merge_core.specs.Sinks.{TakesOrBreaks};
     ghost use Rattle.query_core.specs.PageWriting.{is_full, last_after, next_of, FitsWord};
     ghost use Rattle.query_core.specs.WriterView.{AreInPages, Broke, IsFront, IsWriterOf, KeepsLines, SamePage, Turned, Wrote};
 
@@ -136,9 +135,8 @@ impl<'q> PageWriter<'q> {
         ensures wrote { (AllPositive sizes.now → limit ≡ Some (first_size sizes.now))
             → IfOk result (λ writer.
             Wrote writer writer [] (O.written out.old) (O.written out.new)) }
-        ensures begins { IfOk result (IsWriterOf query.now limit sizes.now) }
-        ensures front { OnErr result (AppendsPrefix (O.written out.old) (O.written out.new)
-            (page_start (form_of query.now))) }
+        ensures begins { MatchResult result (IsWriterOf query.now limit sizes.now) (λ _.
+            AppendsPrefix (O.written out.old) (O.written out.new) (page_start (form_of query.now))) }
         ensures failures { CountsWriteFault result (O.failures out.old) (O.failures out.new) }
     {
         let selection = Selection::begin(alloc, query)?;
@@ -225,12 +223,8 @@ impl<'q> PageWriter<'q> {
         line: &Line,
         out: &mut O,
     ) -> Result<(), WriteFault>
-        ensures text { OnOk result
-            (Appends (O.written out.old) (O.written out.new)
-            (row_text (form_of self.old.selection.query.now) line.now)) }
-        ensures part { OnErr result
-            (AppendsPrefix (O.written out.old) (O.written out.new)
-            (row_text (form_of self.old.selection.query.now) line.now)) }
+        ensures text { WritesText result (O.written out.old) (O.written out.new)
+            (row_text (form_of self.old.selection.query.now) line.now) }
         ensures same { SamePage self.old self.new }
         ensures fits { OnOk result (FitsWord self.old.limit) }
         ensures given { OnOk result (self.new.given ≡ min (self.old.given + 1) (2 ^ 64 - 1)) }
@@ -257,13 +251,8 @@ impl<'q> PageWriter<'q> {
         line: &Line,
         out: &mut O,
     ) -> Result<(), WriteFault>
-        ensures wrote { (first : PageWriter) → (taken : List Member) → (start : Option (List ℕ))
-            → Wrote first self.old taken start (O.written out.old)
-            → OnOk result (Wrote first self.new (taken ++ line.now ∷ []) start
-            (O.written out.new)) }
-        ensures broke { (first : PageWriter) → (taken : List Member) → (start : Option (List ℕ))
-            → Wrote first self.old taken start (O.written out.old)
-            → OnErr result (Broke first (taken ++ line.now ∷ []) start (O.written out.new)) }
+        ensures wrote { TakesOrBreaks Wrote Broke result (line.now ∷ []) self.old self.new
+            (O.written out.old) (O.written out.new) }
         ensures grows { Grows (O.written out.old) (O.written out.new) }
         ensures failures { CountsWriteFault result (O.failures out.old) (O.failures out.new) }
     {

@@ -1,5 +1,5 @@
 //! One pass over sources, from where a query's captures begin.
-ghost use Rattle.std.specs.Prelude.{◌≡◌, ◌+◌, ◌≤◌, ℕ, length, map, true, false, IfOk, IfErr, OnErr};
+ghost use Rattle.std.specs.Prelude.{◌≡◌, ◌+◌, ◌≤◌, length, map, false, IfOk, IfErr};
 ghost use Rattle.std.specs.List.{sum};
 ghost use Rattle.cdxj_core.specs.declared.limit.TheConstants.{LINE_LIMIT};
 ghost use Rattle.source_core.specs.Halving.{digits};
@@ -7,7 +7,7 @@ ghost use Rattle.merge_core.specs.Collections.{KeepsSources};
 ghost use Rattle.merge_core.specs.Counts.{OverShares};
 ghost use Rattle.query_core.specs.AnswerCounts.{CountsAnswer};
 ghost use Rattle.query_core.specs.IndexFaults.{IsAnswerFaultOf};
-ghost use Rattle.query_core.specs.Passes.{BrokeOff, Halted, TookLines};
+ghost use Rattle.query_core.specs.Passes.{EndedPass};
 ghost use Rattle.query_core.specs.Refusals.{IsBeforeReading};
 
 use crate::fault::AnswerFault;
@@ -51,12 +51,8 @@ pub(crate) fn read_lines<S: Source, K: Sink, O: Output>(
     ensures held { OverShares LINE_LIMIT (map S.text sources.old) (λ most.
         IfOk result (λ pass. pass.held ≤ length sources.old + most)) }
     ensures enough { IfOk result (λ pass. pass.all ≡ false → K.Enough sink.new) }
-    ensures took { IfOk result (TookLines K.Wrote K.Broke K.Enough S.text S.extent S.gave query.now
-        sources.old sources.new sink.old (O.written out.old) sink.new (O.written out.new)) }
-    ensures broke { OnErr result (BrokeOff K.Wrote K.Broke K.Enough S.text S.extent S.gave query.now
-        sources.old sources.new sink.old (O.written out.old) (O.written out.new)) }
-    ensures halted { OnErr result (Halted K.Wrote K.Broke K.Enough S.text S.extent S.gave query.now
-        sources.old sources.new sink.old (O.written out.old) (O.written out.new)) }
+    ensures ended { EndedPass K.Wrote K.Broke K.Enough S.text S.extent S.gave query.now
+        sources.old sources.new sink.old (O.written out.old) result sink.new (O.written out.new) }
 {
     let range = TargetRange {
         target: query.target(),

@@ -16,7 +16,7 @@ ghost use Rattle.query_core.specs.Replies.{reply_of, reply_to};
 ghost use Rattle.query_core.specs.ReplyReach.{AllGaveAtMost, GaveForLines, asked_most, line_most, query_most};
 ghost use Rattle.query_core.specs.AnyReplies.{IsPageReply, IsQueryReply, IsTextReply};
 ghost use Rattle.query_core.specs.Conversations.{Converses, IsLineReply, IsMarkedReply, IsOneReply, Replied, RepliedInPart, RepliedToTaken, WritesSome};
-ghost use Rattle.query_core.specs.ReplyFaults.{CountsReply, CountsReplying, CountsLine, CountsServing};
+ghost use Rattle.query_core.specs.ReplyFaults.{CountsReply, CountsLine, CountsServing, RepliesFrom};
 
 use crate::answering::answer;
 use crate::fault::AnswerFault;
@@ -38,10 +38,9 @@ fn reply_to_query<S: Source, O: Output>(
     query: &Query,
     out: &mut O,
 ) -> Result<(), AnswerFault>
-    ensures kept { KeepsSources S.text S.extent sources.old sources.new }
+    ensures sources { RepliesFrom S.text S.extent S.failures result sources.old sources.new
+        (O.failures out.old) (O.failures out.new) }
     ensures late { length sources.old ≤ SOURCES_LIMIT → IfErr result (λ e. IsBeforeReading e → ⊥) }
-    ensures failures { CountsReplying result (map S.failures sources.old)
-        (map S.failures sources.new) (O.failures out.old) (O.failures out.new) }
     ensures text { OverIndexes LINE_LIMIT (map S.text sources.old) (λ texts indexes.
         WritesText result (O.written out.old) (O.written out.new)
         (answer_text query.now (query_page query.now (collection indexes)))) }
@@ -90,10 +89,9 @@ fn reply_to_text<S: Source, O: Output>(
     text: &str,
     out: &mut O,
 ) -> Result<(), AnswerFault>
-    ensures kept { KeepsSources S.text S.extent sources.old sources.new }
+    ensures sources { RepliesFrom S.text S.extent S.failures result sources.old sources.new
+        (O.failures out.old) (O.failures out.new) }
     ensures late { length sources.old ≤ SOURCES_LIMIT → IfErr result (λ e. IsBeforeReading e → ⊥) }
-    ensures failures { CountsReplying result (map S.failures sources.old)
-        (map S.failures sources.new) (O.failures out.old) (O.failures out.new) }
     ensures text { OverIndexes LINE_LIMIT (map S.text sources.old) (λ texts indexes.
         WritesText result (O.written out.old) (O.written out.new)
         (reply_of QUERY_LIMIT (collection indexes) text.now)) }
@@ -117,10 +115,9 @@ fn reply_to_line<S: Source, O: Output>(
     line: &[u8],
     out: &mut O,
 ) -> Result<(), AnswerFault>
-    ensures kept { KeepsSources S.text S.extent sources.old sources.new }
+    ensures sources { RepliesFrom S.text S.extent S.failures result sources.old sources.new
+        (O.failures out.old) (O.failures out.new) }
     ensures late { length sources.old ≤ SOURCES_LIMIT → IfErr result (λ e. IsBeforeReading e → ⊥) }
-    ensures failures { CountsReplying result (map S.failures sources.old)
-        (map S.failures sources.new) (O.failures out.old) (O.failures out.new) }
     ensures text { OverIndexes LINE_LIMIT (map S.text sources.old) (λ texts indexes.
         WritesSome result (O.written out.old) (O.written out.new)
         (IsLineReply QUERY_LIMIT (IsOneReply (reply_of QUERY_LIMIT (collection indexes)))
@@ -147,10 +144,9 @@ fn reply_and_mark<S: Source, O: Output>(
     line: &[u8],
     out: &mut O,
 ) -> Result<(), AnswerFault>
-    ensures kept { KeepsSources S.text S.extent sources.old sources.new }
+    ensures sources { RepliesFrom S.text S.extent S.failures result sources.old sources.new
+        (O.failures out.old) (O.failures out.new) }
     ensures late { length sources.old ≤ SOURCES_LIMIT → IfErr result (λ e. IsBeforeReading e → ⊥) }
-    ensures failures { CountsReplying result (map S.failures sources.old)
-        (map S.failures sources.new) (O.failures out.old) (O.failures out.new) }
     ensures text { OverIndexes LINE_LIMIT (map S.text sources.old) (λ texts indexes.
         WritesSome result (O.written out.old) (O.written out.new)
         (IsMarkedReply QUERY_LIMIT (IsOneReply (reply_of QUERY_LIMIT (collection indexes)))

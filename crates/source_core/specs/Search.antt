@@ -7,6 +7,7 @@ use Rattle.cdxj_core.specs.Members.{Member, member_pair}
 use Rattle.cdxj_places.specs.Pair.{pair_of}
 use Rattle.cdxj_places.specs.Pairs.{Pair, pair_cmp}
 use Rattle.devices.specs.Device.{next_count}
+use Rattle.source_core.specs.Device.{KeepsSource}
 use Rattle.source_core.specs.Halving.{stops_lines}
 use Rattle.source_core.specs.IndexLines.{BeginsAfter, first_length}
 use Rattle.source_core.specs.declared.fault.SearchFault.{SearchFault}
@@ -43,3 +44,9 @@ pub record IsCut (start : Pair) (text : List ℕ) (members : List Member) (offse
 abbrev pub CountsSearch : {A : Type 0} → Result A SearchFault → ℕ → ℕ → Type 0
 CountsSearch (Err fault.Read) old new = new ≡ next_count old
 CountsSearch answer old new = new ≡ old
+
+-- a step of a search keeps the source, and counts its failure
+abbrev pub SearchesSource : {S A : Type 0} → (S → Option (List ℕ)) → (S → ℕ) → (S → ℕ) → Result A SearchFault → S → S
+    → Type 0
+SearchesSource text extent failures result old new =
+    KeepsSource text extent old new × CountsSearch result (failures old) (failures new)

@@ -1,6 +1,6 @@
 //! The lines of a source, one after another.
-ghost use Rattle.std.specs.Prelude.{◌≡◌, ◌+◌, ◌<◌, ◌≤◌, ◌≢◌, ◌∷◌, ℕ, Option, List, true, length, take, drop, IfOk, IfErr, OnOk, MatchOption, IfSome, IfNone, Some};
-ghost use Rattle.source_core.specs.Device.{KeepsSource};
+ghost use Rattle.std.specs.Prelude.{◌≡◌, ◌+◌, ◌<◌, ◌≤◌, ◌∷◌, ℕ, Option, List, true, length, take, drop, IfOk, IfErr, OnOk, MatchOption, IfSome, IfNone, Some};
+ghost use Rattle.source_core.specs.Device.{KeepsSource, OverText};
 ghost use Rattle.cdxj_core.specs.declared.limit.TheConstants.{LINE_LIMIT};
 
 use crate::fault::LineReadFault;
@@ -132,8 +132,8 @@ impl Cursor {
         ensures count { self.new.count ≡ self.old.count + 1 }
         ensures there { self.new.at ≡ self.old.at + size }
         ensures reach { reach self.new ≡ reach self.old }
-        ensures given { (t : List ℕ) → S.text source.now ≡ Some t → lines (drop self.old.at t)
-            ≡ take size self.old.ahead ∷ lines (drop self.new.at t) }
+        ensures given { OverText (S.text source.now) (λ t. lines (drop self.old.at t)
+            ≡ take size self.old.ahead ∷ lines (drop self.new.at t)) }
     {
         // For the proof alone: what is held lies within the source.
         let _extent = source.size();
@@ -163,13 +163,14 @@ impl Cursor {
         ensures some { IfOk result (λ found.
             IfSome (line_found found line.new.items) (λ l. 0 < length l)) }
         ensures short { length line.new.items ≤ LINE_LIMIT }
-        ensures given { (t : List ℕ) → S.text source.old ≡ Some t → IfOk result (λ found.
-            lines (drop self.old.at t)
-            ≡ first_then (line_found found line.new.items) (lines (drop self.new.at t))) }
-        ensures long { (t : List ℕ) → S.text source.old ≡ Some t → IfErr result (λ e.
-            e ≡ LineReadFault.Long → LINE_LIMIT < first_length (lines (drop self.old.at t))) }
-        ensures most { (t : List ℕ) → S.text source.old ≡ Some t
-            → self.new.at ≤ self.old.at + first_length (lines (drop self.old.at t)) }
+        ensures given { OverText (S.text source.old) (λ t.
+            IfOk result (λ found. lines (drop self.old.at t)
+            ≡ first_then (line_found found line.new.items) (lines (drop self.new.at t)))) }
+        ensures long { OverText (S.text source.old) (λ t.
+            IfErr result (λ e. e ≡ LineReadFault.Long → LINE_LIMIT
+            < first_length (lines (drop self.old.at t)))) }
+        ensures most { OverText (S.text source.old) (λ t. self.new.at ≤ self.old.at
+            + first_length (lines (drop self.old.at t))) }
         ensures gave { S.gave source.new + reach self.old ≤ S.gave source.old + reach self.new }
         ensures bound { S.gave source.new ≤ S.gave source.old + LINE_LIMIT + 8192 }
         ensures failures { CountsLineRead result (S.failures source.old) (S.failures source.new) }

@@ -1,7 +1,6 @@
 //! Where lines begin.
-ghost use Rattle.std.specs.Prelude.{◌≡◌, ◌+◌, ◌<◌, ◌≤◌, ℕ, List, length, drop, IfOk, IfSome, IfNone, Some};
-ghost use Rattle.source_core.specs.Device.{KeepsSource};
-ghost use Rattle.devices.specs.Device.{CountsFailure};
+ghost use Rattle.std.specs.Prelude.{◌≡◌, ◌+◌, ◌<◌, ◌≤◌, drop, IfOk, IfSome, IfNone, Some};
+ghost use Rattle.source_core.specs.Device.{OverText, ReadsSource};
 ghost use Rattle.source_core.specs.IndexLines.{lines, from_line, longest};
 ghost use Rattle.source_core.specs.Windows.{Holds};
 
@@ -21,21 +20,20 @@ pub(crate) fn next_line_start<S: Source>(
     requires holds { Holds (S.text source.old) (S.extent source.old) window.old }
     requires some { from < until }
     requires inside { until ≤ S.extent source.old }
-    ensures kept { KeepsSource S.text S.extent source.old source.new }
+    ensures source { ReadsSource S.text S.extent S.failures result source.old source.new }
     ensures holds { Holds (S.text source.new) (S.extent source.new) window.new }
     ensures after { IfOk result (λ found. IfSome found (λ offset. from ≤ offset)) }
     ensures within { IfOk result (λ found. IfSome found (λ offset. offset < until)) }
     ensures later { IfOk result (λ found. IfNone found (0 < from)) }
-    ensures line { (t : List ℕ) → S.text source.old ≡ Some t
-        → IfOk result (λ found. IfSome found (λ offset. drop offset t ≡ from_line from t)) }
-    ensures begins { (t : List ℕ) → S.text source.old ≡ Some t
-        → IfOk result (λ found. IfSome found (λ offset. drop offset t ≡ from_line offset t)) }
-    ensures none { (t : List ℕ) → S.text source.old ≡ Some t
-        → IfOk result (λ found. IfNone found (from_line until t ≡ from_line from t)) }
-    ensures gave { (t : List ℕ) → S.text source.old ≡ Some t
-        → S.gave source.new ≤ S.gave source.old + longest (lines t) + 512 }
+    ensures line { OverText (S.text source.old) (λ t.
+        IfOk result (λ found. IfSome found (λ offset. drop offset t ≡ from_line from t))) }
+    ensures begins { OverText (S.text source.old) (λ t.
+        IfOk result (λ found. IfSome found (λ offset. drop offset t ≡ from_line offset t))) }
+    ensures none { OverText (S.text source.old) (λ t.
+        IfOk result (λ found. IfNone found (from_line until t ≡ from_line from t))) }
+    ensures gave { OverText (S.text source.old) (λ t. S.gave source.new ≤ S.gave source.old
+        + longest (lines t) + 512) }
     ensures bound { S.gave source.new + from ≤ S.gave source.old + until }
-    ensures failures { CountsFailure result (S.failures source.old) (S.failures source.new) }
 {
     if from == 0 {
         return Ok(Some(0));

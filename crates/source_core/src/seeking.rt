@@ -1,13 +1,13 @@
 //! The binary search for the line where the reading of an index begins.
 ghost use Rattle.std.specs.Prelude.{◌≡◌, ◌+◌, ◌-◌, ◌*◌, ◌<◌, ◌≤◌, ℕ, Option, List, length, drop, false, IfOk, OnOk, OnErr, IfSome, IfNone, Some};
-ghost use Rattle.source_core.specs.Device.{KeepsSource};
+ghost use Rattle.source_core.specs.Device.{OverText};
 ghost use Rattle.cdxj_core.specs.declared.limit.TheConstants.{LINE_LIMIT};
 ghost use Rattle.cdxj_core.specs.Indexes.{IsIndex};
 ghost use Rattle.cdxj_core.specs.Members.{Member};
 ghost use Rattle.cdxj_places.specs.Pairs.{IsLeast};
 ghost use Rattle.cdxj_places.specs.PairViews.{pair_view};
 ghost use Rattle.source_core.specs.IndexLines.{lines, from_line, longest, BeginsAfter};
-ghost use Rattle.source_core.specs.Search.{line_below, IsStop, IsCut, CountsSearch};
+ghost use Rattle.source_core.specs.Search.{line_below, IsStop, IsCut, SearchesSource};
 ghost use Rattle.source_core.specs.Halving.{stops, stops_lines, digits};
 ghost use Rattle.source_core.specs.Halved.{Halved};
 ghost use Rattle.source_core.specs.LineParts.{BeginsWith, ReadsOn};
@@ -67,17 +67,16 @@ fn read_on<S: Source>(
     requires some { 0 < most }
     requires room { most ≤ 8192 }
     requires inside { offset + length front.old.items < S.extent source.old }
-    ensures kept { KeepsSource S.text S.extent source.old source.new }
+    ensures source { SearchesSource S.text S.extent S.failures result source.old source.new }
     ensures holds { Holds (S.text source.new) (S.extent source.new) window.new }
     ensures within { OnOk result (offset + length front.new.items ≤ S.extent source.old) }
     ensures some { OnOk result (length front.old.items < length front.new.items) }
     ensures most { OnOk result (length front.new.items ≤ length front.old.items + most) }
-    ensures reads { (t : List ℕ) → S.text source.old ≡ Some t → BeginsWith t offset front.old.items
-        → IfOk result (λ ends. ReadsOn t offset front.new.items ends) }
+    ensures reads { OverText (S.text source.old) (λ t. BeginsWith t offset front.old.items
+        → IfOk result (λ ends. ReadsOn t offset front.new.items ends)) }
     ensures gave { S.gave source.new ≤ S.gave source.old + most }
     ensures held { IfOk result (λ ends. ends ≡ false
         → S.gave source.new + length front.old.items ≤ S.gave source.old + length front.new.items) }
-    ensures failures { CountsSearch result (S.failures source.old) (S.failures source.new) }
 {
     // For the proof alone: the source's known bytes are so many.
     let _size = source.size();
@@ -101,20 +100,19 @@ fn read_to<S: Source>(
     requires holds { Holds (S.text source.old) (S.extent source.old) window.old }
     requires inside { offset + length front.old.items < S.extent source.old }
     requires more { length front.old.items < wanted }
-    ensures kept { KeepsSource S.text S.extent source.old source.new }
+    ensures source { SearchesSource S.text S.extent S.failures result source.old source.new }
     ensures holds { Holds (S.text source.new) (S.extent source.new) window.new }
     ensures within { OnOk result (offset + length front.new.items ≤ S.extent source.old) }
     ensures some { OnOk result (length front.old.items < length front.new.items) }
     ensures most { OnOk result (length front.new.items ≤ wanted) }
-    ensures reads { (t : List ℕ) → S.text source.old ≡ Some t → BeginsWith t offset front.old.items
-        → IfOk result (λ ends. ReadsOn t offset front.new.items ends) }
-    ensures gave { (t : List ℕ) → S.text source.old ≡ Some t → BeginsWith t offset front.old.items
-        → S.gave source.new + length front.old.items
-        ≤ S.gave source.old + longest (lines t) + 512 }
+    ensures reads { OverText (S.text source.old) (λ t. BeginsWith t offset front.old.items
+        → IfOk result (λ ends. ReadsOn t offset front.new.items ends)) }
+    ensures gave { OverText (S.text source.old) (λ t. BeginsWith t offset front.old.items
+        → S.gave source.new + length front.old.items ≤ S.gave source.old + longest (lines t)
+        + 512) }
     ensures bound { S.gave source.new + length front.old.items ≤ S.gave source.old + wanted }
     ensures held { IfOk result (λ ends. ends ≡ false
         → S.gave source.new + length front.old.items ≤ S.gave source.old + length front.new.items) }
-    ensures failures { CountsSearch result (S.failures source.old) (S.failures source.new) }
 {
     let size = source.size();
     while front.len() < wanted && offset + (front.len() as u64) < size {
@@ -141,14 +139,14 @@ fn stops_at<S: Source>(
 ) -> Result<bool, SearchFault>
     requires holds { Holds (S.text source.old) (S.extent source.old) window.old }
     requires inside { offset ≤ S.extent source.old }
-    ensures kept { KeepsSource S.text S.extent source.old source.new }
+    ensures source { SearchesSource S.text S.extent S.failures result source.old source.new }
     ensures holds { Holds (S.text source.new) (S.extent source.new) window.new }
-    ensures stops { (t : List ℕ) → S.text source.old ≡ Some t → IfOk result (λ stop.
-        stop ≡ stops_lines (line_below LINE_LIMIT (pair_view start.entry)) (lines (drop offset t))) }
-    ensures gave { (t : List ℕ) → S.text source.old ≡ Some t
-        → S.gave source.new ≤ S.gave source.old + longest (lines t) + 512 }
+    ensures stops { OverText (S.text source.old) (λ t.
+        IfOk result (λ stop. stop
+        ≡ stops_lines (line_below LINE_LIMIT (pair_view start.entry)) (lines (drop offset t)))) }
+    ensures gave { OverText (S.text source.old) (λ t. S.gave source.new ≤ S.gave source.old
+        + longest (lines t) + 512) }
     ensures bound { S.gave source.new ≤ S.gave source.old + LINE_LIMIT }
-    ensures failures { CountsSearch result (S.failures source.old) (S.failures source.new) }
 {
     let size = source.size();
     let mut ends = held_front(window, offset, front)?;
@@ -189,25 +187,25 @@ fn probe<S: Source>(
     requires holds { Holds (S.text source.old) (S.extent source.old) window.old }
     requires some { middle < until }
     requires inside { until ≤ S.extent source.old }
-    ensures kept { KeepsSource S.text S.extent source.old source.new }
+    ensures source { SearchesSource S.text S.extent S.failures result source.old source.new }
     ensures holds { Holds (S.text source.new) (S.extent source.new) window.new }
     ensures after { IfOk result (λ found. IfSome found (λ line. middle ≤ line.offset)) }
     ensures within { IfOk result (λ found. IfSome found (λ line. line.offset < until)) }
     ensures later { IfOk result (λ found. IfNone found (0 < middle)) }
-    ensures line { (t : List ℕ) → S.text source.old ≡ Some t
-        → IfOk result (λ found. IfSome found (λ line. drop line.offset t ≡ from_line middle t)) }
-    ensures begins { (t : List ℕ) → S.text source.old ≡ Some t
-        → IfOk result (λ found. IfSome found (λ line.
-        drop line.offset t ≡ from_line line.offset t)) }
-    ensures stops { (t : List ℕ) → S.text source.old ≡ Some t
-        → IfOk result (λ found. IfSome found (λ line.
-        line.stops ≡ stops (line_below LINE_LIMIT (pair_view start.entry)) middle t)) }
-    ensures none { (t : List ℕ) → S.text source.old ≡ Some t
-        → IfOk result (λ found. IfNone found (from_line until t ≡ from_line middle t)) }
-    ensures gave { (t : List ℕ) → S.text source.old ≡ Some t
-        → S.gave source.new ≤ S.gave source.old + (2 * longest (lines t) + 1024) }
+    ensures line { OverText (S.text source.old) (λ t.
+        IfOk result (λ found. IfSome found (λ line. drop line.offset t ≡ from_line middle t))) }
+    ensures begins { OverText (S.text source.old) (λ t.
+        IfOk result (λ found.
+        IfSome found (λ line. drop line.offset t ≡ from_line line.offset t))) }
+    ensures stops { OverText (S.text source.old) (λ t.
+        IfOk result (λ found.
+        IfSome found (λ line. line.stops
+        ≡ stops (line_below LINE_LIMIT (pair_view start.entry)) middle t))) }
+    ensures none { OverText (S.text source.old) (λ t.
+        IfOk result (λ found. IfNone found (from_line until t ≡ from_line middle t))) }
+    ensures gave { OverText (S.text source.old) (λ t. S.gave source.new ≤ S.gave source.old
+        + (2 * longest (lines t) + 1024)) }
     ensures bound { S.gave source.new + middle ≤ S.gave source.old + until + LINE_LIMIT }
-    ensures failures { CountsSearch result (S.failures source.old) (S.failures source.new) }
 {
     match next_line_start(source, window, middle, until)? {
         Some(offset) => {
@@ -243,18 +241,17 @@ fn halve<S: Source>(
     requires some { span.low < span.high }
     requires halved { Halved LINE_LIMIT (pair_view start)
         (S.text source.old) (S.extent source.old) span }
-    ensures kept { KeepsSource S.text S.extent source.old source.new }
+    ensures source { SearchesSource S.text S.extent S.failures result source.old source.new }
     ensures holds { Holds (S.text source.new) (S.extent source.new) window.new }
     ensures halved { IfOk result (λ next. Halved LINE_LIMIT (pair_view start.entry)
         (S.text source.new) (S.extent source.new) next) }
     ensures probes { IfOk result (λ next. next.probes ≡ span.probes + 1) }
     ensures inner { IfOk result (λ next. (span.low ≤ next.low) × (next.high ≤ span.high)) }
     ensures smaller { IfOk result (λ next. next.high - next.low < span.high - span.low) }
-    ensures gave { (t : List ℕ) → S.text source.old ≡ Some t
-        → S.gave source.new ≤ S.gave source.old + (2 * longest (lines t) + 1024) }
+    ensures gave { OverText (S.text source.old) (λ t. S.gave source.new ≤ S.gave source.old
+        + (2 * longest (lines t) + 1024)) }
     ensures bound { S.gave source.new ≤ S.gave source.old + 2 * LINE_LIMIT }
     ensures near { S.gave source.new + span.low ≤ S.gave source.old + span.high + LINE_LIMIT }
-    ensures failures { CountsSearch result (S.failures source.old) (S.failures source.new) }
 {
     // For the proof alone: the source's known bytes are so many.
     let _size = source.size();
@@ -294,13 +291,12 @@ fn halve<S: Source>(
 fn hold_few<S: Source>(source: &mut S, window: &mut Window, span: Span) -> Result<(), SearchFault>
     requires holds { Holds (S.text source.old) (S.extent source.old) window.old }
     requires inside { span.high ≤ S.extent source.old }
-    ensures kept { KeepsSource S.text S.extent source.old source.new }
+    ensures source { SearchesSource S.text S.extent S.failures result source.old source.new }
     ensures holds { Holds (S.text source.new) (S.extent source.new) window.new }
     ensures gave { S.gave source.new ≤ S.gave source.old + 8192 }
     ensures inside { S.gave source.new ≤ S.gave source.old + S.extent source.old }
     ensures none { span.high ≤ span.low → S.gave source.new ≡ S.gave source.old }
     ensures unread { OnErr result (S.gave source.new ≤ S.gave source.old) }
-    ensures failures { CountsSearch result (S.failures source.old) (S.failures source.new) }
 {
     if span.low < span.high {
         window.read(source, span.low.saturating_sub(1), PIECE)?;
@@ -326,7 +322,7 @@ pub fn search<S: Source>(
     source: &mut S,
     start: Pair<'_>,
 ) -> Result<Found, SearchFault>
-    ensures kept { KeepsSource S.text S.extent source.old source.new }
+    ensures source { SearchesSource S.text S.extent S.failures result source.old source.new }
     ensures stands { IfOk result (λ found.
         Stands (S.text source.new) (S.extent source.new) found.cursor) }
     ensures fresh { IfOk result (λ found. IsFresh found.cursor found.cursor.start) }
@@ -334,21 +330,19 @@ pub fn search<S: Source>(
     ensures first { IsLeast (pair_view start.entry)
         → IfOk result (λ found. found.cursor.start ≡ 0) }
     ensures unread { IsLeast (pair_view start.entry) → source.new ≡ source.old }
-    ensures begins { (t : List ℕ) → S.text source.old ≡ Some t
-        → IfOk result (λ found. (before : List (List ℕ))
-        × BeginsAfter t found.cursor.start before) }
-    ensures stops { (t : List ℕ) → S.text source.old ≡ Some t
-        → IfOk result (λ found.
-        IsStop LINE_LIMIT (pair_view start.entry) (lines (drop found.cursor.start t))) }
+    ensures begins { OverText (S.text source.old) (λ t.
+        IfOk result (λ found. (before : List (List ℕ)) × BeginsAfter t found.cursor.start before)) }
+    ensures stops { OverText (S.text source.old) (λ t.
+        IfOk result (λ found.
+        IsStop LINE_LIMIT (pair_view start.entry) (lines (drop found.cursor.start t)))) }
     ensures cut { (t : List ℕ) → (members : List Member)
         → S.text source.old ≡ Some t → IsIndex LINE_LIMIT t members
         → IfOk result (λ found. IsCut (pair_view start.entry) t members found.cursor.start) }
     ensures probes { IfOk result (λ found. found.probes ≤ digits (S.extent source.old)) }
-    ensures gave { (t : List ℕ) → S.text source.old ≡ Some t → S.gave source.new
-        ≤ S.gave source.old + digits (S.extent source.old) * (2 * longest (lines t) + 2048) }
+    ensures gave { OverText (S.text source.old) (λ t. S.gave source.new ≤ S.gave source.old
+        + digits (S.extent source.old) * (2 * longest (lines t) + 2048)) }
     ensures bound { S.gave source.new
         ≤ S.gave source.old + digits (S.extent source.old) * (2 * LINE_LIMIT) }
-    ensures failures { CountsSearch result (S.failures source.old) (S.failures source.new) }
 {
     if is_least(start) {
         let cursor = Cursor::new(alloc, 0)?;

@@ -1,7 +1,6 @@
 //! Bytes of a source that are read once and used again.
-ghost use Rattle.std.specs.Prelude.{◌≡◌, ◌+◌, ◌-◌, ◌<◌, ◌≤◌, [], length, IfOk, OnOk, OnErr, MatchResult};
-ghost use Rattle.source_core.specs.Device.{KeepsSource};
-ghost use Rattle.devices.specs.Device.{CountsFailure};
+ghost use Rattle.std.specs.Prelude.{◌≡◌, ◌+◌, ◌-◌, ◌<◌, ◌≤◌, [], length, IfOk, OnOk, MatchResult};
+ghost use Rattle.source_core.specs.Device.{ReadsSource};
 ghost use Rattle.source_core.specs.Device.{HoldsPart};
 ghost use Rattle.source_core.specs.Windows.{AreBytesAt, Holds, held_from};
 
@@ -21,7 +20,7 @@ fn read_part<S: Source>(
     most: usize,
 ) -> Result<usize, SourceFault>
     requires { most ≤ length buffer.old }
-    ensures kept { KeepsSource S.text S.extent source.old source.new }
+    ensures source { ReadsSource S.text S.extent S.failures result source.old source.new }
     ensures room { length buffer.new ≡ length buffer.old }
     ensures most { IfOk result (λ n. n ≤ most) }
     ensures inside { IfOk result (λ n. n ≤ S.extent source.old - at) }
@@ -29,7 +28,6 @@ fn read_part<S: Source>(
     ensures bytes { IfOk result (λ n. HoldsPart (S.text source.old) at n buffer.new) }
     ensures gave { MatchResult result (λ n. S.gave source.new ≤ S.gave source.old + n)
         (λ _. S.gave source.new ≤ S.gave source.old) }
-    ensures failures { CountsFailure result (S.failures source.old) (S.failures source.new) }
 {
     source.read_at(at, &mut buffer[..most])
 }
@@ -88,15 +86,14 @@ impl Window {
     ) -> Result<(), SourceFault>
         requires inside { at ≤ S.extent source.old }
         requires room { most ≤ 8192 }
-        ensures kept { KeepsSource S.text S.extent source.old source.new }
+        ensures source { ReadsSource S.text S.extent S.failures result source.old source.new }
         ensures holds { Holds (S.text source.new) (S.extent source.new) self.new }
         ensures at { self.new.at ≡ at }
         ensures most { length self.new.bytes ≤ most }
-        ensures some { OnOk result
-            (at < S.extent source.old → 0 < most → 0 < length self.new.bytes) }
-        ensures none { OnErr result (self.new.bytes ≡ []) }
+        ensures held { MatchResult result
+            (λ _. at < S.extent source.old → 0 < most → 0 < length self.new.bytes)
+            (λ _. self.new.bytes ≡ []) }
         ensures gave { S.gave source.new ≤ S.gave source.old + length self.new.bytes }
-        ensures failures { CountsFailure result (S.failures source.old) (S.failures source.new) }
     {
         self.at = at;
         self.count = 0;
@@ -115,7 +112,7 @@ impl Window {
         requires inside { at < S.extent source.old }
         requires some { 0 < most }
         requires room { most ≤ 8192 }
-        ensures kept { KeepsSource S.text S.extent source.old source.new }
+        ensures source { ReadsSource S.text S.extent S.failures result source.old source.new }
         ensures holds { Holds (S.text source.old) (S.extent source.old) self.old
             → Holds (S.text source.new) (S.extent source.new) self.new }
         ensures stands { AreBytesAt (S.text source.old) (S.extent source.old) at
@@ -125,7 +122,6 @@ impl Window {
         ensures most { S.gave source.new ≤ S.gave source.old + most }
         ensures gave { S.gave source.new + length (held_from self.old at)
             ≤ S.gave source.old + length (held_from self.new at) }
-        ensures failures { CountsFailure result (S.failures source.old) (S.failures source.new) }
     {
         if self.from(at).is_empty() {
             self.read(source, at, most)?;

@@ -1,26 +1,12 @@
-use Rattle.std.proofs.Common.{◌≡◌, ◌-◌, ◌^◌, ℕ, List, Option, [], ◌∷◌, ◌++◌, filter, length, map, min, Bool, true}
-use Rattle.std.proofs.Common.{false, refl, sym, ap, ◌∙◌, arith, append-nil, inl, inr}
-use Rattle.std.specs.Io.KnownBytes.{Appends}
-use Rattle.std.proofs.lemmas.List.{length-map}
-use Rattle.std.proofs.lemmas.Result.{err_from_is_err_and}
-use Rattle.std.proofs.lemmas.Bool.{true≢false, cases_Bool}
-use Rattle.std.proofs.lemmas.List.Concat.{flat_map-append}
-use Rattle.cdxj_core.specs.declared.limit.TheConstants.{LINE_LIMIT}
-use Rattle.cdxj_core.specs.Members.{Member, member_pair, member_place}
-use Rattle.cdxj_places.specs.Pairs.{Pair}
-use Rattle.cdxj_places.specs.Places.{place_cmp}
-use Rattle.cdxj_places.specs.Rising.{rising}
-use Rattle.devices.specs.Device.{AppendsPrefix}
+use Rattle.merge_core.proofs.Words.{[], ℕ, ◌++◌, ◌-◌, ◌^◌, ◌∙◌, ◌∷◌, ◌≡◌, AllByRecursion, AllGaveOnce, Appends}
+use Rattle.merge_core.proofs.Words.{AppendsPrefix, AreLinesOf, Bool, Feed, KeepsSources, LINE_LIMIT, List, Member}
+use Rattle.merge_core.proofs.Words.{MergeState, Option, OverIndexes, Pair, Reached, ap, append-nil, arith, collection}
+use Rattle.merge_core.proofs.Words.{err_from_is_err_and, false, feeds, filter, flat_map-append, inl, inr, length}
+use Rattle.merge_core.proofs.Words.{length-map, lines_text, map, member_pair, member_place, min, place_cmp}
+use Rattle.merge_core.proofs.Words.{prefix_longer, refl, rising, sym, true, true≢false}
+use Rattle.std.proofs.lemmas.Bool.{cases_Bool}
 use Rattle.devices.proofs.DeviceLemmas.{Appends-none}
-use Rattle.devices.proofs.WritingLemmas.{prefix_whole, prefix_longer, wrote_nothing}
-use Rattle.std.specs.List.{AllByRecursion}
-use Rattle.merge_core.specs.declared.state.MergeState.{MergeState}
-use Rattle.merge_core.specs.Feeds.{Feed, feeds}
-use Rattle.merge_core.specs.Collections.{KeepsSources, OverIndexes, collection}
-use Rattle.merge_core.specs.Reached.{Reached}
-use Rattle.merge_core.specs.Spending.{AllGaveOnce}
-use Rattle.merge_core.specs.Written.{lines_text}
-use Rattle.merge_core.specs.SourceLines.{AreLinesOf}
+use Rattle.devices.proofs.WritingLemmas.{prefix_whole, wrote_nothing}
 use Rattle.merge_core.proofs.ReadLemmas.{took_of_indexes}
 use Rattle.merge_core.proofs.OnceLemmas.{gave_once}
 use Rattle.merge_core.proofs.RunLemmas.{none_wait}
@@ -63,30 +49,30 @@ module _ (g : Over) (c : After-merge g) {ss : List g.row.S.Denot} {m : MergeStat
       let cut = cut_at_start LINE_LIMIT g.S.Source.text c.open_at.new.sources (feeds c.in_ok-opened.opened.merge)
       (begun g c) in
       let first = taken_first (took_of_indexes reached opened.ready.aligned.same ([], []) cut texts indexes
-      (rw (← opened.kept.0) at known) are (λ key later e h. absurd (true≢false (sym e))) (λ m. true) (λ m e. refl)
+      (rw (← opened.sources.0.0) at known) are (λ key later e h. absurd (true≢false (sym e))) (λ m. true) (λ m e. refl)
       (λ m e. none_below_empty (member_pair m).0 (member_pair m).1)) in
       let whole : collection indexes ≡ taken ++ first.0 = grind (arith, filter_every) in
       rw (whole, flat_map-append) (prefix_longer old new _ _ p)
 
   -- and of any sources, it is lines of theirs
   lines : AreLinesOf LINE_LIMIT (map g.S.Source.text c.args.sources.now) taken
-  lines = rw (← c.in_ok-opened.ensures.kept.0) (grind (arith, taken_lines))
+  lines = rw (← c.in_ok-opened.ensures.sources.0.0) (grind (arith, taken_lines))
 
 -- all lines that were taken were written and counted
 wrote : (g : Over) (c : In_ok-merge g)
     → Appends (g.O.Output.written c.args.out.now) (g.O.Output.written c.merge.new.out)
-    (lines_text c.in_ok-merge.ensures.passed.so_far.taken)
-    × (c.merge.new.sink.count ≡ min (length c.in_ok-merge.ensures.passed.so_far.taken) (2 ^ 64 - 1))
+    (lines_text c.in_ok-merge.ensures.ended.so_far.taken)
+    × (c.merge.new.sink.count ≡ min (length c.in_ok-merge.ensures.ended.so_far.taken) (2 ^ 64 - 1))
 wrote g c =
     let out = g.O.Output.written c.args.out.now in
-    c.in_ok-merge.ensures.passed.so_far.came c.new-writer.result out (Appends-none out, c.new-writer.ensures)
+    c.in_ok-merge.ensures.ended.so_far.came c.new-writer.result out (Appends-none out, c.new-writer.ensures)
 
 -- or a prefix of them
 broke : (g : Over) (c : In_err-merge g) → AppendsPrefix (g.O.Output.written c.args.out.now)
-    (g.O.Output.written c.merge.new.out) (lines_text c.in_err-merge.ensures.broke.taken)
+    (g.O.Output.written c.merge.new.out) (lines_text c.in_err-merge.ensures.ended.0.taken)
 broke g c =
     let out = g.O.Output.written c.args.out.now in
-    let broke = c.in_err-merge.ensures.broke in
+    let broke = c.in_err-merge.ensures.ended.0 in
     elim (broke.wrote c.new-writer.result out (Appends-none out, c.new-writer.ensures)) [
       | inl k ↦ grind (arith, append-nil, prefix_whole)
       | inr p ↦ p
@@ -103,11 +89,11 @@ returns-in_err-opened-clause-lines g c =
 pub returns-in_err-merge-clause-part : goal.returns-in_err-merge-clause-part
 returns-in_err-merge-clause-part g c =
     let at = goal.at.returns-in_err-merge-clause-part g c in
-    front g at.After-merge c.in_err-merge.ensures.broke.reached _ _ (broke g at.In_err-merge)
+    front g at.After-merge c.in_err-merge.ensures.ended.0.reached _ _ (broke g at.In_err-merge)
 
 pub returns-in_err-merge-clause-lines : goal.returns-in_err-merge-clause-lines
 returns-in_err-merge-clause-lines g c =
-    let b = c.in_err-merge.ensures.broke in
+    let b = c.in_err-merge.ensures.ended.0 in
     grind (arith, err_from_is_err_and, lines, broke)
 
 -- as many sources
@@ -123,7 +109,7 @@ kept g c =
     let all = all_kept g.S.Source.text g.S.Source.extent g.S.Source.gave c.open_at.new.sources
     c.in_ok-opened.opened.merge c.merge.new.sources c.merge.new.merge opened.ready.aligned.same (kept_long g c)
     c.merge.ensures.moved in
-    (all.0 ∙ opened.kept.0, all.1 ∙ opened.kept.1)
+    (all.0 ∙ opened.sources.0.0, all.1 ∙ opened.sources.0.1)
 
 -- each byte of each source was given at most once
 once : (g : Over) (c : After-merge g) → AllGaveOnce g.S.Source.extent g.S.Source.gave c.args.sources.now
@@ -132,7 +118,7 @@ once g c =
     let opened = c.in_ok-opened.ensures in
     let long : length c.merge.new.sources ≡ length c.open_at.new.sources = kept_long g c in
     gave_once g.S.Source.text g.S.Source.extent g.S.Source.gave c.args.sources.now c.open_at.new.sources
-    (feeds c.in_ok-opened.opened.merge) c.merge.new.sources (feeds c.merge.new.merge) LINE_LIMIT never opened.kept.1
+    (feeds c.in_ok-opened.opened.merge) c.merge.new.sources (feeds c.merge.new.merge) LINE_LIMIT never opened.sources.0.1
     opened.ready.aligned.fed (came_once_of g.S.Source.text g.S.Source.extent
     g.S.Source.gave LINE_LIMIT _ c.args.sources.now _ refl opened.opened) c.merge.ensures.moved long
 
@@ -151,7 +137,7 @@ returns g c =
     let text = g.S.Source.text in let extent = g.S.Source.extent in
     let sources = c.merge.new.sources in let m = c.merge.new.merge in
     let opened = c.in_ok-opened.ensures in
-    let passed = c.in_ok-merge.ensures.passed in
+    let passed = c.in_ok-merge.ensures.ended in
     let taken = passed.so_far.taken in
     let reached = passed.so_far.reached in
     let wrote = wrote g at.In_ok-merge in
@@ -168,7 +154,7 @@ returns g c =
           c.merge.ensures.moved (begun g at.After-merge) in
           let none : AllByRecursion (λ (f : Feed). f.waits ≡ []) (feeds m) = rw empty (none_wait 0 m.cursors.items) in
           let all : taken ≡ collection lines =
-          (reached.handed.told (told_known _ _ texts (rw (← opened.kept.0) at known))).0
+          (reached.handed.told (told_known _ _ texts (rw (← opened.sources.0.0) at known))).0
           ∙ ap (rising member_place place_cmp) (all_lines_are LINE_LIMIT never (λ key. refl) text extent sources (feeds m)) in
           record {
             indexes = lines;
@@ -181,8 +167,8 @@ returns g c =
       part = front g at.After-merge reached _ _ (rw append-nil at (prefix_whole _ _ _ [] wrote.0));
       lines = (taken, grind (arith, lines), wrote);
       most_lines = λ texts indexes known are most share.
-          let same = ap length opened.kept.1 in
-          let few = c.merge.ensures.most_lines texts indexes (rw (← opened.kept.0) at known) are most share
+          let same = ap length opened.sources.0.1 in
+          let few = c.merge.ensures.most_lines texts indexes (rw (← opened.sources.0.0) at known) are most share
           (omega (arith, opened.most_lines)) in
           grind (arith, length-map);
     }

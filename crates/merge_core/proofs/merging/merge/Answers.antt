@@ -1,25 +1,15 @@
-use Rattle.std.proofs.lemmas.List.{length-map}
-use Rattle.std.proofs.Common.{arith, ◌≡◌, ℕ, ◌+◌, ◌≤◌, length, ◌∷◌, ◌++◌, [], inl, inr, List, Some, None}
-use Rattle.std.proofs.Common.{max, min, ◌-◌, ◌^◌, map, refl}
-use Rattle.cdxj_core.specs.declared.limit.TheConstants.{LINE_LIMIT}
-use Rattle.cdxj_core.specs.Members.{Member, member_pair, member_place}
-use Rattle.cdxj_places.specs.Places.{place_cmp}
-use Rattle.cdxj_places.specs.Rising.{rising}
-use Rattle.cdxj_places.proofs.PlaceOrder.{place_cmp_total}
-use Rattle.cdxj_places.proofs.RisingLaws.{each_rising}
+use Rattle.merge_core.proofs.Words.{[], ℕ, ◌++◌, ◌+◌, ◌-◌, ◌^◌, ◌∷◌, ◌≡◌, ◌≤◌, AllZip-long, Grouped, LINE_LIMIT, List}
+use Rattle.merge_core.proofs.Words.{Member, None, OverIndexes, Reached, ShareAtMost, Some, all_lines, arith}
+use Rattle.merge_core.proofs.Words.{boxed_lines, each_rising, inl, inr, length, length-map, map, member_pair}
+use Rattle.merge_core.proofs.Words.{member_place, min, place_cmp, place_cmp_total, refl, rising}
+use Rattle.std.proofs.Common.{max}
 use Rattle.merge_core.proofs.SpendLemmas.{are_read_to}
-use Rattle.merge_core.specs.Collections.{OverIndexes, all_lines}
-use Rattle.merge_core.specs.Counts.{ShareAtMost}
-use Rattle.merge_core.specs.BoxedLines.{boxed_lines}
-use Rattle.merge_core.specs.Gathering.{Grouped}
-use Rattle.merge_core.specs.Reached.{Reached}
 use Rattle.merge_core.proofs.WholeLemmas.{all_kept}
-use Rattle.std.proofs.lemmas.Slice.Zip.{AllZip-long}
 use Rattle.merge_core.proofs.Many.{Move, length_zip, moved_trans, moved_still}
 use Rattle.merge_core.proofs.StateLemmas.{feeds_long}
 use Rattle.merge_core.proofs.CountLemmas.{held_most}
 use Rattle.merge_core.proofs.MergeLemmas.{above_none, below_next, broken_there, halted_there, reached_next, reached_same}
-use Rattle.merge_core.proofs.MergeLemmas.{on_err}
+use Rattle.merge_core.proofs.MergeLemmas.{on_fault}
 use Rattle.devices.proofs.DeviceLemmas.{grows_not}
 use Rattle.merge_core.proofs.merging.merge.Given.{Over}
 use Rattle.merge_core.proofs.merging.merge.Goals.{After-gather, After-pass_group}
@@ -111,10 +101,10 @@ returns-in_err-first g c =
       failures = grind arith;
       fault = let fault = rw kept.0 at c.gather.ensures.fault in grind arith;
       most_lines = rw c.gather.ensures.most_lines c.loop-rest.invariant.most_lines;
-      passed = grind arith;
-      broke = on_err _ _ _ c.from_residual.ensures.1 (broken_there came refl);
-      halted = on_err _ _ _ c.from_residual.ensures.1
-          (halted_there came c.loop-rest.invariant.further c.in_err-first.ensures.reads (grows_not _));
+      ended = on_fault _ _ _ _ c.from_residual.ensures.1 (
+        broken_there came refl,
+        halted_there came c.loop-rest.invariant.further c.in_err-first.ensures.gathered (grows_not _),
+      );
     }
 
 pub returns-in_err-more : goal.returns-in_err-more
@@ -127,26 +117,26 @@ returns-in_err-more g c =
       failures = grind arith;
       fault = grind arith;
       most_lines = rw c.gather.ensures.most_lines c.loop-rest.invariant.most_lines;
-      passed = grind arith;
-      broke = on_err _ _ _ c.from_residual-in_err-more.ensures.1 (elim c.in_err-more.ensures.broke [
-        | inl k ↦ broken_there came (grind arith)
-        | inr k ↦ record {
-          sources = c.gather.new.sources;
-          merge = c.gather.new.self;
-          bound = Some (member_pair c.in-Some.first.value);
-          taken = taken g here;
-          reached = reached g here;
-          wrote = grind (arith, order g here);
-        }
-      ]);
-      halted = on_err _ _ _ c.from_residual-in_err-more.ensures.1
-          (halted_there came c.loop-rest.invariant.further (record {
-            pair = member_pair c.in-Some.first.value;
-            above = gathered.above;
-            least = gathered.least;
-            read = λ told low. are_read_to _ _ _ g.S.Source.extent _ _ _ (reached g here).ready.aligned.fed
-                (gathered.gathered told low).upto;
-          }) c.pass_group.ensures.grows);
+      ended = on_fault _ _ _ _ c.from_residual-in_err-more.ensures.1 (
+        elim c.in_err-more.ensures.passed [
+          | inl k ↦ broken_there came (grind arith)
+          | inr k ↦ record {
+            sources = c.gather.new.sources;
+            merge = c.gather.new.self;
+            bound = Some (member_pair c.in-Some.first.value);
+            taken = taken g here;
+            reached = reached g here;
+            wrote = grind (arith, order g here);
+          }
+        ],
+        halted_there came c.loop-rest.invariant.further (record {
+          pair = member_pair c.in-Some.first.value;
+          above = gathered.above;
+          least = gathered.least;
+          read = λ told low. are_read_to _ _ _ g.S.Source.extent _ _ _ (reached g here).ready.aligned.fed
+              (gathered.gathered told low).upto;
+        }) c.pass_group.ensures.grows,
+      );
     }
 
 pub returns-then-not-more : goal.returns-then-not-more
@@ -161,7 +151,7 @@ returns-then-not-more g c =
       failures = grind arith;
       fault = grind arith;
       most_lines = most_lines g here c.recycle.new.self.most_lines c.recycle.ensures.most_lines;
-      passed = record {
+      ended = record {
         so_far = grind (arith, order);
         last = λ e. record {
           pair = member_pair c.in-Some.first.value;
@@ -180,6 +170,4 @@ returns-then-not-more g c =
         enough = grind arith;
         further = grind arith;
       };
-      broke = grind arith;
-      halted = grind arith;
     }

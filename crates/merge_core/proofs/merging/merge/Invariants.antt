@@ -1,10 +1,5 @@
-use Rattle.std.proofs.Common.{◌≡◌, ◌≤◌, ◌+◌, ℕ, [], length, map}
-use Rattle.cdxj_core.specs.declared.limit.TheConstants.{LINE_LIMIT}
-use Rattle.merge_core.specs.Feeds.{feeds}
-use Rattle.merge_core.specs.Collections.{OverIndexes, all_lines}
-use Rattle.merge_core.specs.Counts.{ShareAtMost}
-use Rattle.merge_core.specs.Gathering.{unread}
-use Rattle.merge_core.specs.Merging.{SoFar}
+use Rattle.merge_core.proofs.Words.{[], ℕ, ◌+◌, ◌≡◌, ◌≤◌, LINE_LIMIT, OverIndexes, ShareAtMost, SoFar, all_lines, feeds}
+use Rattle.merge_core.proofs.Words.{length, map, unread}
 use Rattle.merge_core.proofs.merging.merge.Given as goal
 
 abbrev pub invariant-loop-rest : goal.invariant-loop-rest

@@ -1,9 +1,5 @@
-use Rattle.std.proofs.Common.{map, ap, ◌∙◌, Bor}
-use Rattle.cdxj_places.specs.Places.{place_cmp}
-use Rattle.cdxj_places.specs.Rising.{rising}
+use Rattle.merge_core.proofs.Words.{◌∙◌, Bor, Line, ap, map, member_place, place_cmp, rising}
 use Rattle.cdxj_places.proofs.RisingAlike.{rising_referred}
-use Rattle.cdxj_core.specs.declared.line.Line.{Line}
-use Rattle.cdxj_core.specs.Members.{member_place}
 use Rattle.merge_core.proofs.sink.in_places.Goals as goal
 
 pub returns : goal.returns

@@ -1,5 +1,4 @@
-use Rattle.std.proofs.Common.{◌≡◌, ◌∷◌, map, take}
-use Rattle.merge_core.specs.BoxedLines.{boxed_lines}
+use Rattle.merge_core.proofs.Words.{◌∷◌, ◌≡◌, boxed_lines, map, take}
 use Rattle.merge_core.proofs.sink.references.Given as goal
 
 abbrev pub invariant-loop-line : goal.invariant-loop-line

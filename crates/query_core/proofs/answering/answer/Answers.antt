@@ -1,15 +1,6 @@
-use Rattle.std.proofs.Common.{◌≡◌, ℕ, map, List, [], Option, refl, sym, append-nil, arith}
-use Rattle.std.proofs.lemmas.List.{length-map}
-use Rattle.std.proofs.lemmas.Result.{err_from_is_err_and}
-use Rattle.devices.proofs.WritingLemmas.{wrote_nothing}
-use Rattle.cdxj_core.specs.declared.limit.TheConstants.{LINE_LIMIT}
-use Rattle.devices.proofs.DeviceLemmas.{grows_by, grows_not, grows_part}
-use Rattle.merge_core.specs.Collections.{OverIndexes, collection}
-use Rattle.query_core.specs.Passes.{AreAtMost}
-use Rattle.query_core.specs.PageWriting.{page_over}
-use Rattle.query_core.specs.QueryPages.{query_page}
-use Rattle.devices.specs.Device.{Grows}
-use Rattle.query_core.specs.Reach.{GaveInReach}
+use Rattle.query_core.proofs.Words.{[], ℕ, ◌≡◌, AreAtMost, GaveInReach, Grows, LINE_LIMIT, List, Option, OverIndexes}
+use Rattle.query_core.proofs.Words.{append-nil, arith, collection, err_from_is_err_and, grows_by, grows_not, grows_part}
+use Rattle.query_core.proofs.Words.{length-map, map, page_over, query_page, refl, sym, wrote_nothing}
 use Rattle.query_core.proofs.AskedLemmas.{Beginning, Writing, captures, asked_is, end_front, page_broke, page_ended}
 use Rattle.query_core.proofs.AskedLemmas.{passed, settles, stood}
 use Rattle.page_core.proofs.PageLemmas.{front-start}
@@ -31,18 +22,18 @@ begin g c = record {
 
 -- after all lines that were taken
 abbrev writing : (g : Over) (c : In_ok-pass g) → Writing c.args.query.now (g.O.Output.written c.args.out.now)
-    (g.O.Output.written c.read_lines.new.out) c.in_ok-pass.ensures.took.lines
+    (g.O.Output.written c.read_lines.new.out) c.in_ok-pass.ensures.ended.lines
 writing g c =
-    let took = c.in_ok-pass.ensures.took in
+    let took = c.in_ok-pass.ensures.ended in
     passed (begin g (goal.at.In_ok-pass g c).In_ok-writer) took.lines (g.O.Output.written c.read_lines.new.out)
     c.read_lines.new.sink took.came
 
 -- the page of the indexes is that of the lines that were taken
 settled_over : (g : Over) (c : In_ok-pass g) → OverIndexes LINE_LIMIT (map g.S.Source.text c.args.sources.now)
     (λ texts indexes. query_page c.args.query.now (collection indexes)
-    ≡ page_over c.args.query.now c.args.query.now.resume c.args.query.now.limit c.in_ok-pass.ensures.took.lines)
+    ≡ page_over c.args.query.now c.args.query.now.resume c.args.query.now.limit c.in_ok-pass.ensures.ended.lines)
 settled_over g c texts indexes known are =
-    let first = c.in_ok-pass.ensures.took.took.first texts indexes known are in
+    let first = c.in_ok-pass.ensures.ended.took.first texts indexes known are in
     settles (writing g c) (collection indexes) c.in_ok-pass.pass.all first.0 first.1 (grind arith)
     c.in_ok-pass.ensures.enough
 
@@ -56,21 +47,21 @@ returns-in_err-writer-clause-lines g c = ([], grind arith, grind (arith, err_fro
 
 pub returns-in_err-pass-clause-lines : goal.returns-in_err-pass-clause-lines
 returns-in_err-pass-clause-lines g c =
-    let broke = c.in_err-pass.ensures.broke in
+    let broke = c.in_err-pass.ensures.ended.0 in
     let p = page_broke (begin g (goal.at.returns-in_err-pass-clause-lines g c).In_ok-writer) _ _ broke.wrote broke.lines
     [] (sym (append-nil _)) in
     (broke.lines, broke.took.lines, grind (arith, err_from_is_err_and))
 
 pub returns-in_err-end-clause-lines : goal.returns-in_err-end-clause-lines
 returns-in_err-end-clause-lines g c =
-    let took = c.in_ok-pass.ensures.took in
+    let took = c.in_ok-pass.ensures.ended in
     let p = end_front (writing g (goal.at.returns-in_err-end-clause-lines g c).In_ok-pass) took.lines _
     (asked_is c.args.query.now took.lines) c.in_err-end.ensures.text in
     (took.lines, took.took.lines, grind (arith, err_from_is_err_and))
 
 pub returns-clause-lines : goal.returns-clause-lines
 returns-clause-lines g c =
-    let took = c.in_ok-pass.ensures.took in
+    let took = c.in_ok-pass.ensures.ended in
     let end = c.in_ok-end.ensures in (
       took.lines,
       took.took.lines,
@@ -88,7 +79,7 @@ returns-in_err-writer-clause-page g c = grind (arith, err_from_is_err_and, front
 
 pub returns-in_err-pass-clause-page : goal.returns-in_err-pass-clause-page
 returns-in_err-pass-clause-page g c = λ texts indexes known are.
-    let broke = c.in_err-pass.ensures.broke in
+    let broke = c.in_err-pass.ensures.ended.0 in
     let first = broke.took.first texts indexes known are in
     let p = page_broke (begin g (goal.at.returns-in_err-pass-clause-page g c).In_ok-writer) _ _ broke.wrote _ _
     first.1 in
@@ -111,7 +102,7 @@ returns-clause-page g c = λ texts indexes known are.
 pub returns-clause-parts : goal.returns-clause-parts
 returns-clause-parts g c = λ texts known.
     let end = c.in_ok-end.ensures in
-    let read = c.in_ok-pass.ensures.took.parts texts known in
+    let read = c.in_ok-pass.ensures.ended.parts texts known in
     let here = (goal.at.returns-clause-parts g c).In_ok-pass in
     let is = settles (writing g here) (collection read.parts) c.in_ok-pass.pass.all read.first.0 read.first.1 read.ended
     c.in_ok-pass.ensures.enough in
@@ -136,7 +127,7 @@ returns-in_err-writer-clause-reads g c = grind (arith, err_from_is_err_and, page
 
 pub returns-in_err-pass-clause-reads : goal.returns-in_err-pass-clause-reads
 returns-in_err-pass-clause-reads g c =
-    let halted = c.in_err-pass.ensures.halted in
+    let halted = c.in_err-pass.ensures.ended.1 in
     let before = halted.before in
     let here = begin g (goal.at.returns-in_err-pass-clause-reads g c).In_ok-writer in
     let bytes = page_reached g.S.Source.text g.S.Source.extent g.S.Source.gave _ c.args.sources.now
@@ -147,9 +138,9 @@ returns-in_err-pass-clause-reads g c =
 
 -- the captures of the earlier of the lines that were taken don't pass the page
 few : (g : Over) (c : In_ok-pass g)
-    → AreAtMost c.args.query.now.limit (captures c.args.query.now c.in_ok-pass.ensures.took.earlier)
+    → AreAtMost c.args.query.now.limit (captures c.args.query.now c.in_ok-pass.ensures.ended.earlier)
 few g c =
-    let before = c.in_ok-pass.ensures.took.before in
+    let before = c.in_ok-pass.ensures.ended.before in
     within (begin g (goal.at.In_ok-pass g c).In_ok-writer) _ _ before.state before.came before.more
 
 -- what was written so far reaches what the sources gave, whatever is written then
@@ -158,7 +149,7 @@ reached : (g : Over) (c : In_ok-pass g) (new : Option (List ℕ)) → Grows (g.O
     g.S.Source.gave c.args.query.now texts indexes (g.O.Output.written c.args.out.now) new c.args.sources.now
     c.read_lines.new.sources)
 reached g c new grows =
-    let took = c.in_ok-pass.ensures.took in
+    let took = c.in_ok-pass.ensures.ended in
     page_reached g.S.Source.text g.S.Source.extent g.S.Source.gave new c.args.sources.now c.read_lines.new.sources
     took.earlier took.later (writing g c) grows took.took.first took.split (few g c) took.before.within
 
@@ -173,7 +164,7 @@ returns-clause-reads g c =
     record {
       probes = c.in_ok-pass.ensures.probes;
       lines = λ texts indexes known are.
-          let most = c.in_ok-pass.ensures.took.few texts indexes known are c.args.query.now.limit (few g here) in
+          let most = c.in_ok-pass.ensures.ended.few texts indexes known are c.args.query.now.limit (few g here) in
           omega (arith, most, length-map c.args.sources.now g.S.Source.text);
       bytes = reached g here _ (grows_by _ _ _ c.in_ok-end.ensures.text);
       held = c.in_ok-pass.ensures.held;

@@ -1,6 +1,4 @@
-use Rattle.std.proofs.Common.{◌∙◌, arith}
-use Rattle.std.proofs.lemmas.Result.{err_from_is_err_and}
-use Rattle.cdxj_core.specs.declared.limit.TheConstants.{LINE_LIMIT}
+use Rattle.query_core.proofs.Words.{◌∙◌, LINE_LIMIT, arith, err_from_is_err_and}
 use Rattle.query_core.proofs.CheckLemmas.{checked_more, checked_whole, checked_falls, checked_fault}
 use Rattle.query_core.proofs.checking.check.Goals as goal
 

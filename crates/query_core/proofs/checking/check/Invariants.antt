@@ -1,5 +1,4 @@
-use Rattle.std.proofs.Common.{◌≡◌, ◌-◌, ◌+◌, ◌≤◌, ℕ, List, length, Some, option_map}
-use Rattle.cdxj_core.specs.declared.limit.TheConstants.{LINE_LIMIT}
+use Rattle.query_core.proofs.Words.{ℕ, ◌+◌, ◌-◌, ◌≡◌, ◌≤◌, LINE_LIMIT, List, Some, length, option_map}
 use Rattle.source_core.specs.Cursors.{Stands, reach}
 use Rattle.query_core.proofs.CheckLemmas.{CheckedTo}
 use Rattle.query_core.proofs.checking.check.Given as goal

@@ -1,4 +1,4 @@
-use Rattle.std.proofs.Common.{arith}
+use Rattle.query_core.proofs.Words.{arith}
 use Rattle.cdxj_core.specs.Fields.{field_named}
 use Rattle.query_core.proofs.laws.names_name_fields.Goals as goal
 

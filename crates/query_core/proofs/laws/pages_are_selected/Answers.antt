@@ -1,14 +1,6 @@
-use Rattle.std.proofs.Common.{arith, ◌≡◌, ◌↔◌, Bool, List, [], ◌∷◌, Option, None, Some, filter, true, refl}
-use Rattle.cdxj_places.specs.Places.{PlaceValue, place_cmp}
-use Rattle.cdxj_places.specs.Rising.{IsIn}
-use Rattle.cdxj_places.proofs.PlaceOrder.{place_cmp_total}
-use Rattle.cdxj_places.proofs.RisingLaws.{rises_rising, rising_members}
-use Rattle.cdxj_core.specs.Members.{Member, member_place}
-use Rattle.query_text.specs.Collapses.{same_part}
-use Rattle.query_text.specs.Matching.{matches}
-use Rattle.page_core.proofs.PageLaws.{rises_filter}
-use Rattle.merge_core.specs.Collections.{all_lines, collection}
-use Rattle.page_core.specs.Pages.{kept}
+use Rattle.query_core.proofs.Words.{[], ◌↔◌, ◌∷◌, ◌≡◌, Bool, IsIn, List, Member, None, Option, PlaceValue, Some}
+use Rattle.query_core.proofs.Words.{all_lines, arith, collection, filter, kept, matches, member_place, place_cmp}
+use Rattle.query_core.proofs.Words.{place_cmp_total, refl, rises_filter, rises_rising, rising_members, same_part, true}
 use Rattle.query_core.proofs.laws.pages_are_selected.Goals as goal
 
 pub returns-clause-rise : goal.returns-clause-rise

@@ -1,10 +1,5 @@
-use Rattle.cdxj_places.specs.Places.{place_cmp}
-use Rattle.cdxj_places.proofs.PlaceOrder.{place_cmp_total}
-use Rattle.cdxj_core.specs.Members.{member_place}
-use Rattle.query_text.specs.Collapses.{same_part}
-use Rattle.query_text.specs.Matching.{matches}
-use Rattle.page_core.proofs.PageLaws.{chain_law, rises_filter, rises_collapsed}
-use Rattle.query_core.specs.QueryPages.{selected}
+use Rattle.query_core.proofs.Words.{chain_law, matches, member_place, place_cmp, place_cmp_total, rises_collapsed}
+use Rattle.query_core.proofs.Words.{rises_filter, same_part, selected}
 use Rattle.query_core.proofs.NextPlaces.{captures_wanted}
 use Rattle.query_core.proofs.PageChains.{captures_are}
 use Rattle.query_core.proofs.laws.pages_rise.Goals as goal

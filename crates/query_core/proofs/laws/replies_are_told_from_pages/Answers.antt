@@ -1,10 +1,5 @@
-use Rattle.std.proofs.Common.{List, Option, ℕ}
-use Rattle.cdxj_core.specs.declared.limit.TheConstants.{LINE_LIMIT}
-use Rattle.cdxj_core.specs.Members.{Member}
-use Rattle.query_text.specs.Queries.{QueryValue}
-use Rattle.merge_core.specs.SourceLines.{HasEntry}
-use Rattle.query_core.specs.QueryPages.{query_page, shown_key}
-use Rattle.query_core.specs.PageLines.{HaveEntries}
+use Rattle.query_core.proofs.Words.{ℕ, HasEntry, HaveEntries, LINE_LIMIT, List, Member, Option, QueryValue, query_page}
+use Rattle.query_core.proofs.Words.{shown_key}
 use Rattle.query_core.proofs.PageArrays.{json_lines}
 use Rattle.query_core.proofs.PageLineLemmas.{empty_of, fault_of, mark_of, page_each, refusal_of, shown_is_above, spaceless}
 use Rattle.query_core.proofs.laws.replies_are_told_from_pages.Goals as goal

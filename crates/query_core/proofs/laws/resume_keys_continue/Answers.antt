@@ -1,7 +1,5 @@
-use Rattle.cdxj_places.specs.Places.{resume_text}
-use Rattle.cdxj_core.specs.Members.{member_place}
+use Rattle.query_core.proofs.Words.{QUERY_LIMIT, member_place, resume_text}
 use Rattle.query_text.specs.Resuming.{text_with_key}
-use Rattle.query_text.specs.declared.query.TheConstants.{QUERY_LIMIT}
 use Rattle.query_core.proofs.laws.resume_keys_continue.Goals as goal
 
 pub returns : goal.returns

@@ -1,6 +1,4 @@
-use Rattle.std.proofs.Common.{arith, []}
-use Rattle.std.proofs.lemmas.Result.{err_from_is_err_and}
-use Rattle.devices.proofs.WritingLemmas.{wrote_nothing}
+use Rattle.query_core.proofs.Words.{[], arith, err_from_is_err_and, wrote_nothing}
 use Rattle.merge_core.proofs.OnceLemmas.{once_none}
 use Rattle.query_core.proofs.ConversionLemmas.{merge_line}
 use Rattle.query_core.proofs.merging.merge.Goals as goal

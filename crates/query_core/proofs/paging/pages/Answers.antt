@@ -1,24 +1,13 @@
-use Rattle.std.proofs.Common.{arith, rules, List, [], append-nil, true, refl, sym, ap, ◌∙◌, ◌≡◌, None, Some}
-use Rattle.std.proofs.lemmas.Bool.{true_from_ne_false, true≢false}
-use Rattle.std.proofs.lemmas.Result.{err_from_is_err_and}
-use Rattle.cdxj_places.specs.Places.{place_cmp}
-use Rattle.cdxj_places.specs.Rising.{Rises}
-use Rattle.cdxj_places.proofs.PlaceOrder.{place_cmp_total}
-use Rattle.cdxj_places.proofs.RisingLaws.{rises_rising}
-use Rattle.cdxj_core.specs.Members.{Member, member_place}
-use Rattle.merge_core.specs.Collections.{OverIndexes, collection}
-use Rattle.query_core.specs.WrittenPages.{WrotePagesInPart}
+use Rattle.query_core.proofs.Words.{[], ℕ, ◌∙◌, ◌≡◌, GaveInPages, Grows, LINE_LIMIT, List, Member, None, Option}
+use Rattle.query_core.proofs.Words.{OverIndexes, Rises, Some, WrotePagesInPart, ap, append-nil, arith, collection}
+use Rattle.query_core.proofs.Words.{err_from_is_err_and, grows_by, grows_not, grows_part, map, member_place, place_cmp}
+use Rattle.query_core.proofs.Words.{place_cmp_total, refl, rises_rising, rules, sym, true, true≢false, two_same}
+use Rattle.std.proofs.lemmas.Bool.{true_from_ne_false}
 use Rattle.query_core.proofs.PageChains.{wrote_front, wrote_none}
 use Rattle.query_core.proofs.PagesExits.{BeginningPages, WritingPages, all, all_ended, any_front, at_end, stood_pages, stopped}
 use Rattle.query_core.proofs.PagesLemmas.{start_front}
 use Rattle.query_core.proofs.SizeLemmas.{all_positive}
 use Rattle.query_core.proofs.ReachLemmas.{within_opening}
-use Rattle.merge_core.proofs.Many.{two_same}
-use Rattle.std.proofs.Common.{map, Option, ℕ}
-use Rattle.cdxj_core.specs.declared.limit.TheConstants.{LINE_LIMIT}
-use Rattle.devices.specs.Device.{Grows}
-use Rattle.devices.proofs.DeviceLemmas.{grows_by, grows_not, grows_part}
-use Rattle.query_core.specs.PagesReach.{GaveInPages}
 use Rattle.query_core.proofs.PagesReach.{no_pages_reached, pages_reached}
 use Rattle.query_core.proofs.paging.pages.Given.{Over}
 use Rattle.query_core.proofs.paging.pages.Goals.{In_err-writer, In_ok-writer, In_ok-read_lines}
@@ -40,15 +29,15 @@ returns-in_err-writer-clause-bytes g c = grind (arith, within_opening, two_same)
 
 pub returns-in_err-read_lines-clause-bytes : goal.returns-in_err-read_lines-clause-bytes
 returns-in_err-read_lines-clause-bytes g c = λ texts indexes known are.
-    c.in_err-read_lines.ensures.halted.before.within _ _ known are None tt
+    c.in_err-read_lines.ensures.ended.1.before.within _ _ known are None tt
 
 pub returns-clause-bytes : goal.returns-clause-bytes
 returns-clause-bytes g c = λ texts indexes known are.
-    c.in_ok-read_lines.ensures.took.before.within _ _ known are None tt
+    c.in_ok-read_lines.ensures.ended.before.within _ _ known are None tt
 
 pub returns-in_err-end-clause-bytes : goal.returns-in_err-end-clause-bytes
 returns-in_err-end-clause-bytes g c = λ texts indexes known are.
-    c.in_ok-read_lines.ensures.took.before.within _ _ known are None tt
+    c.in_ok-read_lines.ensures.ended.before.within _ _ known are None tt
 
 -- ---- what stands written beside it
 
@@ -69,7 +58,7 @@ before : (g : Over) (c : In_err-writer g) → (lines : List Member) → Rises me
 before g c lines rise =
     let positive = all_positive c.args.sizes.now (search rules) in
     wrote_front c.args.query.now c.args.sizes.now positive lines rise [] _ _ _ refl
-    (start_front c.args.query.now c.args.sizes.now _ _ positive c.in_err-writer.ensures.front)
+    (start_front c.args.query.now c.args.sizes.now _ _ positive c.in_err-writer.ensures.begins)
 
 abbrev begin : (g : Over) (c : In_ok-writer g) → BeginningPages c.args.query.now c.args.sizes.now
     (g.O.Output.written c.args.out.now) (g.O.Output.written c.begin.new.out)
@@ -84,10 +73,10 @@ begin g c =
 
 abbrev writing : (g : Over) (c : In_ok-read_lines g)
     → WritingPages (begin g (goal.at.In_ok-read_lines g c).In_ok-writer) (g.O.Output.written c.read_lines.new.out)
-    c.in_ok-read_lines.ensures.took.lines
+    c.in_ok-read_lines.ensures.ended.lines
 writing g c = record {
   writer = c.read_lines.new.sink;
-  wrote = c.in_ok-read_lines.ensures.took.came c.in_ok-writer.writer
+  wrote = c.in_ok-read_lines.ensures.ended.came c.in_ok-writer.writer
       (g.O.Output.written c.args.out.now) (begin g (goal.at.In_ok-read_lines g c).In_ok-writer).began;
 }
 
@@ -100,7 +89,7 @@ all_read g c = true_from_ne_false c.in_ok-read_lines.field-0.all
 
 pub returns-in_err-read_lines-clause-reach : goal.returns-in_err-read_lines-clause-reach
 returns-in_err-read_lines-clause-reach g c =
-    let halted = c.in_err-read_lines.ensures.halted in
+    let halted = c.in_err-read_lines.ensures.ended.1 in
     let before = halted.before in
     let b = begin g (goal.at.returns-in_err-read_lines-clause-reach g c).In_ok-writer in
     let w = stopped b before.middle halted.earlier before.state before.came in
@@ -115,7 +104,7 @@ reached : (g : Over) (c : In_ok-read_lines g) (new : Option (List ℕ))
     g.S.Source.gave c.args.query.now c.args.sizes.now texts indexes (g.O.Output.written c.args.out.now) new
     c.args.sources.now c.read_lines.new.sources)
 reached g c new grows =
-    let took = c.in_ok-read_lines.ensures.took in
+    let took = c.in_ok-read_lines.ensures.ended in
     pages_reached g.S.Source.text g.S.Source.extent g.S.Source.gave c.args.query.now c.args.sizes.now new
     c.args.sources.now c.read_lines.new.sources took.lines took.earlier took.later
     (stood_pages (writing g c) new grows) took.took.first took.split took.before.within
@@ -148,21 +137,21 @@ returns-in_err-writer-clause-lines g c =
 
 pub returns-in_err-read_lines-clause-lines : goal.returns-in_err-read_lines-clause-lines
 returns-in_err-read_lines-clause-lines g c =
-    let broke = c.in_err-read_lines.ensures.broke in
+    let broke = c.in_err-read_lines.ensures.ended.0 in
     let b = any_front (begin g (goal.at.returns-in_err-read_lines-clause-lines g c).In_ok-writer) _ broke.lines
     broke.lines [] broke.wrote broke.took.lines.rise (sym (append-nil _)) in
     (broke.lines, broke.took.lines, grind (arith, err_from_is_err_and))
 
 pub returns-in_err-end-clause-lines : goal.returns-in_err-end-clause-lines
 returns-in_err-end-clause-lines g c =
-    let took = c.in_ok-read_lines.ensures.took in
+    let took = c.in_ok-read_lines.ensures.ended in
     let b = at_end (writing g (goal.at.returns-in_err-end-clause-lines g c).In_ok-read_lines) took.lines
     took.took.lines.rise refl _ c.in_err-end.ensures.text in
     (took.lines, took.took.lines, grind (arith, err_from_is_err_and))
 
 pub returns-clause-lines : goal.returns-clause-lines
 returns-clause-lines g c =
-    let took = c.in_ok-read_lines.ensures.took in
+    let took = c.in_ok-read_lines.ensures.ended in
     let w = writing g (goal.at.returns-clause-lines g c).In_ok-read_lines in
     (took.lines, took.took.lines, grind (arith, all_ended w))
 
@@ -178,7 +167,7 @@ returns-in_err-writer-clause-pages g c =
 
 pub returns-in_err-read_lines-clause-pages : goal.returns-in_err-read_lines-clause-pages
 returns-in_err-read_lines-clause-pages g c = λ texts indexes known are.
-    let broke = c.in_err-read_lines.ensures.broke in
+    let broke = c.in_err-read_lines.ensures.ended.0 in
     let first = broke.took.first texts indexes known are in
     let b = any_front (begin g (goal.at.returns-in_err-read_lines-clause-pages g c).In_ok-writer) _
     (collection indexes) broke.lines first.0 broke.wrote (collection_rises indexes) first.1 in
@@ -188,21 +177,21 @@ pub returns-in_err-end-clause-pages : goal.returns-in_err-end-clause-pages
 returns-in_err-end-clause-pages g c = λ texts indexes known are.
     let whole = all_read g (goal.at.returns-in_err-end-clause-pages g c).In_ok-read_lines in
     let b = at_end (writing g (goal.at.returns-in_err-end-clause-pages g c).In_ok-read_lines) (collection indexes)
-    (collection_rises indexes) (c.in_ok-read_lines.ensures.took.whole whole texts indexes known are) _
+    (collection_rises indexes) (c.in_ok-read_lines.ensures.ended.whole whole texts indexes known are) _
     c.in_err-end.ensures.text in
     grind (arith, err_from_is_err_and)
 
 pub returns-clause-pages : goal.returns-clause-pages
 returns-clause-pages g c = λ texts indexes known are.
     let whole = all_read g (goal.at.returns-clause-pages g c).In_ok-read_lines in
-    let all = c.in_ok-read_lines.ensures.took.whole whole texts indexes known are in
+    let all = c.in_ok-read_lines.ensures.ended.whole whole texts indexes known are in
     let w = writing g (goal.at.returns-clause-pages g c).In_ok-read_lines in
     grind (arith, all_ended w (collection indexes) (collection_rises indexes))
 
 pub returns-clause-parts : goal.returns-clause-parts
 returns-clause-parts g c = λ texts known.
     let whole = all_read g (goal.at.returns-clause-parts g c).In_ok-read_lines in
-    let read = c.in_ok-read_lines.ensures.took.parts texts known in
+    let read = c.in_ok-read_lines.ensures.ended.parts texts known in
     let w = writing g (goal.at.returns-clause-parts g c).In_ok-read_lines in
     let all = read.ended whole in
     record {

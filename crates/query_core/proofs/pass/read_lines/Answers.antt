@@ -1,20 +1,14 @@
 use Rattle.query_core.proofs.AskedLemmas.{captures}
-use Rattle.std.proofs.Common.{◌≡◌, Bool, true, false, refl, sym, ◌∙◌, arith, [], ap, append-nil, Some, List, map, ◌++◌}
-use Rattle.std.proofs.lemmas.List.{length-map}
-use Rattle.std.proofs.lemmas.Result.{err_from_is_err_and}
+use Rattle.query_core.proofs.Words.{[], ◌++◌, ◌∙◌, ◌≡◌, Bool, KeepsSources, LINE_LIMIT, List, Member, ReadFor, Some}
+use Rattle.query_core.proofs.Words.{all_kept, ap, append-nil, arith, err_from_is_err_and, false, feeds, grows_not, inl}
+use Rattle.query_core.proofs.Words.{length-map, map, refl, sym, true}
 use Rattle.query_core.proofs.ConversionLemmas.{merge_line}
-use Rattle.merge_core.proofs.WholeLemmas.{all_kept}
-use Rattle.merge_core.specs.Collections.{KeepsSources}
-use Rattle.devices.proofs.DeviceLemmas.{grows_not}
 use Rattle.query_core.proofs.CaptureLemmas.{captures_append}
 use Rattle.query_core.proofs.PageOfIndexes.{Opened, reading, told, wanted_whole}
 use Rattle.query_core.proofs.ReachLemmas.{cut_all, cut_before, cut_last, gave_upto, gave_within, lines_within, of_parts}
 use Rattle.query_core.proofs.ReachLemmas.{took, within_opening}
 use Rattle.merge_core.proofs.OpenLemmas.{came_of, cuts_of}
-use Rattle.merge_core.specs.Feeds.{feeds}
-use Rattle.query_core.specs.Passes.{ReadFor, WantedMore}
-use Rattle.cdxj_core.specs.Members.{Member}
-use Rattle.cdxj_core.specs.declared.limit.TheConstants.{LINE_LIMIT}
+use Rattle.query_core.specs.Passes.{WantedMore}
 use Rattle.query_core.proofs.pass.read_lines.Given.{Over}
 use Rattle.query_core.proofs.pass.read_lines.Goals.{After-merge, In_ok-opened}
 use Rattle.query_core.proofs.pass.read_lines.Goals as goal
@@ -27,7 +21,7 @@ kept g c =
     let all = all_kept g.S.Source.text g.S.Source.extent g.S.Source.gave c.open_at.new.sources
     c.in_ok-opened.opened.merge c.merge.new.sources c.merge.new.merge c.in_ok-opened.ensures.ready.aligned.same
     (omega arith) c.merge.ensures.moved in
-    (all.0 ∙ c.open_at.ensures.kept.0, all.1 ∙ c.open_at.ensures.kept.1)
+    (all.0 ∙ c.open_at.ensures.sources.0.0, all.1 ∙ c.open_at.ensures.sources.0.1)
 
 pub returns-in_err-all-clause-kept : goal.returns-in_err-all-clause-kept
 returns-in_err-all-clause-kept g c = kept g (goal.at.returns-in_err-all-clause-kept g c).After-merge
@@ -43,30 +37,32 @@ returns-in_err-all-clause-fault g c = grind (arith, err_from_is_err_and, merge_l
 
 pub returns-clause-held : goal.returns-clause-held
 returns-clause-held g c = λ texts indexes known are most share.
-    let h = c.merge.ensures.most_lines texts indexes (rw c.open_at.ensures.kept.0 known) are most share in
+    let h = c.merge.ensures.most_lines texts indexes (rw c.open_at.ensures.sources.0.0 known) are most share in
     grind (arith, length-map)
 
 -- ---- sources that couldn't be opened
 
-pub returns-in_err-opened-clause-broke : goal.returns-in_err-opened-clause-broke
-returns-in_err-opened-clause-broke g c =
-    let p = err_from_is_err_and c.from_residual.result c.from_residual.ensures.1 in
-    grind arith
-
-pub returns-in_err-opened-clause-halted : goal.returns-in_err-opened-clause-halted
-returns-in_err-opened-clause-halted g c =
-    rw (err_from_is_err_and c.from_residual.result c.from_residual.ensures.1).1 (record {
-      earlier = [];
-      first = λ texts indexes known are. (_, refl);
-      before = record {
-        state = _;
-        middle = _;
-        more = λ f. f;
-        came = λ begin start h. h;
-        within = λ texts indexes known are limit most. grind (arith, within_opening);
-      };
-      grows = grows_not _;
-    })
+pub returns-in_err-opened-clause-ended : goal.returns-in_err-opened-clause-ended
+returns-in_err-opened-clause-ended g c =
+    rw (err_from_is_err_and c.from_residual.result c.from_residual.ensures.1).1 (
+      record {
+        lines = [];
+        wrote = λ begin start h. inl (_, h);
+        took = record { lines = grind arith; first = λ texts indexes known are. (_, refl) };
+      },
+      record {
+        earlier = [];
+        first = λ texts indexes known are. (_, refl);
+        before = record {
+          state = _;
+          middle = _;
+          more = λ f. f;
+          came = λ begin start h. h;
+          within = λ texts indexes known are limit most. grind (arith, within_opening);
+        };
+        grows = grows_not _;
+      },
+    )
 
 -- ---- a merge that failed
 
@@ -74,53 +70,53 @@ returns-in_err-opened-clause-halted g c =
 start : (g : Over) (c : In_ok-opened g) → Opened g.S.Source.text g.S.Source.extent g.S.Source.gave
     c.args.query.now c.args.sources.now c.open_at.new.sources c.in_ok-opened.opened.merge
 start g c = record {
-  kept = c.open_at.ensures.kept.0;
+  kept = c.open_at.ensures.sources.0.0;
   same = c.in_ok-opened.ensures.ready.aligned.same;
   came = came_of g.S.Source.text g.S.Source.extent g.S.Source.gave LINE_LIMIT _ c.args.sources.now _
       c.in_ok-opened.ensures.opened;
   cut = rw c.start_pair.ensures at (cuts_of g.S.Source.text g.S.Source.extent g.S.Source.gave LINE_LIMIT _
-      c.args.sources.now c.open_at.new.sources (feeds c.in_ok-opened.opened.merge) c.open_at.ensures.kept.0
+      c.args.sources.now c.open_at.new.sources (feeds c.in_ok-opened.opened.merge) c.open_at.ensures.sources.0.0
       c.in_ok-opened.ensures.opened);
 }
 
-pub returns-in_err-all-clause-broke : goal.returns-in_err-all-clause-broke
-returns-in_err-all-clause-broke g c =
-    let broke = c.in_err-all.ensures.broke in
-    let opened = start g (goal.at.returns-in_err-all-clause-broke g c).In_ok-opened in
-    let t = took (reading opened (rw c.target.ensures at broke.reached)) in
-    rw (err_from_is_err_and c.from_residual-in_err-all.result c.from_residual-in_err-all.ensures.1).1
-    (record { lines = broke.taken; wrote = broke.wrote; took = t })
-
-pub returns-in_err-all-clause-halted : goal.returns-in_err-all-clause-halted
-returns-in_err-all-clause-halted g c =
-    let h = c.in_err-all.ensures.halted in
-    let opened = start g (goal.at.returns-in_err-all-clause-halted g c).In_ok-opened in
+pub returns-in_err-all-clause-ended : goal.returns-in_err-all-clause-ended
+returns-in_err-all-clause-ended g c =
+    let broke = c.in_err-all.ensures.ended.0 in
+    let h = c.in_err-all.ensures.ended.1 in
+    let opened = start g (goal.at.returns-in_err-all-clause-ended g c).In_ok-opened in
     let r = reading opened (rw c.target.ensures at h.so_far.reached) in
-    rw (err_from_is_err_and c.from_residual-in_err-all.result c.from_residual-in_err-all.ensures.1).1 (record {
-      earlier = h.so_far.taken;
-      first = (took r).first;
-      before = record {
-        state = h.state;
-        middle = h.middle;
-        more = h.more;
-        came = h.so_far.came;
-        within = gave_upto r (Some h.next) r.taken c.merge.new.sources (feeds c.merge.new.merge)
-            (cut_before r h.next h.above h.least) c.merge.ensures.moved (omega arith)
-            (λ texts known. rw c.target.ensures at (h.read (told r texts known)));
-      };
-      grows = h.grows;
-    })
+    rw (err_from_is_err_and c.from_residual-in_err-all.result c.from_residual-in_err-all.ensures.1).1 (
+      record {
+        lines = broke.taken;
+        wrote = broke.wrote;
+        took = took (reading opened (rw c.target.ensures at broke.reached));
+      },
+      record {
+        earlier = h.so_far.taken;
+        first = (took r).first;
+        before = record {
+          state = h.state;
+          middle = h.middle;
+          more = h.more;
+          came = h.so_far.came;
+          within = gave_upto r (Some h.next) r.taken c.merge.new.sources (feeds c.merge.new.merge)
+              (cut_before r h.next h.above h.least) c.merge.ensures.moved (omega arith)
+              (λ texts known. rw c.target.ensures at (h.read (told r texts known)));
+        };
+        grows = h.grows;
+      },
+    )
 
 -- ---- a merge that came to its end, or to enough
 
 by_truth : (b : Bool) (X : Type 0) → (b ≡ true → X) → (b ≡ false → X) → X
 by_truth b X f g = grind arith
 
-pub returns-clause-took : goal.returns-clause-took
-returns-clause-took g c =
+pub returns-clause-ended : goal.returns-clause-ended
+returns-clause-ended g c =
     let q = c.args.query.now in
-    let passed = c.in_ok-all.ensures.passed in
-    let r = reading (start g (goal.at.returns-clause-took g c).In_ok-opened)
+    let passed = c.in_ok-all.ensures.ended in
+    let r = reading (start g (goal.at.returns-clause-ended g c).In_ok-opened)
     (rw c.target.ensures at passed.so_far.reached) in
     let t = took r in
     let read = of_parts r c.lines.result c.lines.ensures c.in_ok-all.all passed.ended in

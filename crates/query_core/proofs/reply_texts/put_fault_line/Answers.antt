@@ -1,5 +1,4 @@
-use Rattle.std.proofs.Common.{arith}
-use Rattle.devices.proofs.WritingLemmas.{wrote_nothing}
+use Rattle.query_core.proofs.Words.{arith, wrote_nothing}
 use Rattle.query_core.proofs.reply_texts.put_fault_line.Goals as goal
 
 pub returns-in-Err-clause-text : goal.returns-in-Err-clause-text

@@ -1,5 +1,4 @@
-use Rattle.std.proofs.Common.{arith}
-use Rattle.devices.proofs.WritingLemmas.{wrote_nothing}
+use Rattle.query_core.proofs.Words.{arith, wrote_nothing}
 use Rattle.query_core.proofs.LineReplies.{some_reply}
 use Rattle.query_core.proofs.serving.put_query_refusal.Goals as goal
 

@@ -1,11 +1,5 @@
-use Rattle.std.proofs.Common.{arith, List, ℕ, map}
-use Rattle.std.proofs.lemmas.Result.{err_from_is_err_and}
-use Rattle.cdxj_core.specs.Members.{Member}
-use Rattle.merge_core.specs.Collections.{collection}
-use Rattle.query_text.specs.declared.query.TheConstants.{QUERY_LIMIT}
-use Rattle.query_core.specs.AnyReplies.{IsTextReply}
-use Rattle.query_core.specs.Conversations.{IsOneReply}
-use Rattle.query_core.specs.Replies.{reply_of}
+use Rattle.query_core.proofs.Words.{ℕ, IsOneReply, IsTextReply, List, Member, QUERY_LIMIT, arith, collection}
+use Rattle.query_core.proofs.Words.{err_from_is_err_and, map, reply_of}
 use Rattle.query_core.proofs.LineReplies.{marked_reply, unmarked_reply}
 use Rattle.query_core.proofs.serving.reply_and_mark.Goals as goal
 

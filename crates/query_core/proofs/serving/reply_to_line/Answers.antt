@@ -1,10 +1,6 @@
-use Rattle.std.proofs.Common.{arith, le-ltb, map}
-use Rattle.query_core.specs.AnyReplies.{IsTextReply}
-use Rattle.std.proofs.lemmas.Str.{IsUtf8-from_is_utf8, is_utf8-from_IsUtf8}
-use Rattle.std.proofs.lemmas.Bool.{false_from_ne_true}
-use Rattle.merge_core.specs.Collections.{collection}
-use Rattle.query_text.specs.declared.query.TheConstants.{QUERY_LIMIT}
-use Rattle.query_core.specs.ReplyReach.{line_most}
+use Rattle.query_core.proofs.Words.{IsTextReply, QUERY_LIMIT, arith, collection, false_from_ne_true}
+use Rattle.query_core.proofs.Words.{is_utf8-from_IsUtf8, le-ltb, line_most, map}
+use Rattle.std.proofs.lemmas.Str.{IsUtf8-from_is_utf8}
 use Rattle.query_core.proofs.LineReplies.{text_reply, writes_some}
 use Rattle.query_core.proofs.ReplyBytes.{gave_line, gave_none}
 use Rattle.query_core.proofs.serving.reply_to_line.Goals as goal

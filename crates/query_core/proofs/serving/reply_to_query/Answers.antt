@@ -1,6 +1,5 @@
-use Rattle.std.proofs.Common.{arith, map}
+use Rattle.query_core.proofs.Words.{arith, collection, map}
 use Rattle.query_core.specs.declared.fault.AnswerFault.TheVariants as fault
-use Rattle.merge_core.specs.Collections.{collection}
 use Rattle.query_core.proofs.LineReplies.{fault_reply}
 use Rattle.query_core.proofs.ReplyBytes.{gave_page}
 use Rattle.query_core.proofs.SoundIndexes.{no_line_at_fault}

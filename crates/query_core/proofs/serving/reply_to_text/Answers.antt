@@ -1,8 +1,4 @@
-use Rattle.std.proofs.Common.{map}
-use Rattle.query_text.specs.declared.query.TheConstants.{QUERY_LIMIT}
-use Rattle.query_text.specs.Queries.{query_of}
-use Rattle.merge_core.specs.Collections.{collection}
-use Rattle.query_core.specs.ReplyReach.{asked_most}
+use Rattle.query_core.proofs.Words.{QUERY_LIMIT, asked_most, collection, map, query_of}
 use Rattle.query_core.proofs.ReplyBytes.{gave_asked, gave_none}
 use Rattle.query_core.proofs.serving.reply_to_text.Goals as goal
 

@@ -1,15 +1,9 @@
-use Rattle.std.proofs.Common.{ℕ, List, [], arith, refl}
-use Rattle.std.specs.Io.KnownBytes.{prepend_known}
-use Rattle.cdxj_core.specs.Members.{Member}
+use Rattle.query_core.proofs.Words.{[], ℕ, IsOneReply, List, Member, QUERY_LIMIT, arith, collection}
+use Rattle.query_core.proofs.Words.{err_from_is_err_and, prepend_known, refl, reply_of}
 use Rattle.devices.proofs.Takings.{taken-join}
-use Rattle.query_text.specs.declared.query.TheConstants.{QUERY_LIMIT}
-use Rattle.merge_core.specs.Collections.{collection}
-use Rattle.query_core.specs.Conversations.{IsOneReply}
-use Rattle.query_core.specs.Replies.{reply_of}
 use Rattle.query_core.proofs.ReplyLemmas.{Turn, line-more, line-none, line-within, nothing_replied, one_reply}
 use Rattle.query_core.proofs.ReplyLemmas.{one_reply_part, replied-front, replied-none, replied-taken}
 use Rattle.query_core.proofs.ReplyBytes.{spent_more, spent_none, spent_stop, spent_within}
-use Rattle.std.proofs.lemmas.Result.{err_from_is_err_and}
 use Rattle.query_core.proofs.serving.serve.Given.{Over}
 use Rattle.query_core.proofs.serving.serve.Goals.{After-reply_and_mark}
 use Rattle.query_core.proofs.serving.serve.Goals as goal

@@ -1,12 +1,6 @@
-use Rattle.std.proofs.Common.{◌≡◌, ◌-◌, ◌+◌, ◌^◌, ◌<◌, ◌≤◌, map}
-use Rattle.std.specs.Io.KnownBytes.{prepend_known}
-use Rattle.cdxj_core.specs.declared.limit.TheConstants.{LINE_LIMIT}
-use Rattle.devices.specs.LineReading.{CountsTaken}
-use Rattle.query_text.specs.declared.query.TheConstants.{QUERY_LIMIT}
-use Rattle.merge_core.specs.Collections.{KeepsSources, OverIndexes, collection}
-use Rattle.query_core.specs.AnyReplies.{IsTextReply}
-use Rattle.query_core.specs.Conversations.{IsOneReply, RepliedSoFar}
-use Rattle.query_core.specs.Replies.{reply_of}
+use Rattle.query_core.proofs.Words.{◌+◌, ◌-◌, ◌<◌, ◌^◌, ◌≡◌, ◌≤◌, CountsTaken, IsOneReply, IsTextReply, KeepsSources}
+use Rattle.query_core.proofs.Words.{LINE_LIMIT, OverIndexes, QUERY_LIMIT, RepliedSoFar, collection, map, prepend_known}
+use Rattle.query_core.proofs.Words.{reply_of}
 use Rattle.query_core.proofs.ReplyBytes.{Spent}
 use Rattle.query_core.proofs.serving.serve.Given as goal
 

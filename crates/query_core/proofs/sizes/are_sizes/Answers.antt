@@ -1,4 +1,4 @@
-use Rattle.std.proofs.Common.{arith}
+use Rattle.query_core.proofs.Words.{arith}
 use Rattle.query_core.proofs.SizeLemmas.{all_positive}
 use Rattle.query_core.proofs.sizes.are_sizes.Goals as goal
 

@@ -1,8 +1,4 @@
-use Rattle.std.proofs.Common.{◌≡◌, sym, subst}
-use Rattle.std.specs.Ordering.{ordering_then}
-use Rattle.cdxj_core.specs.Members.{member_pair}
-use Rattle.cdxj_places.specs.Pairs.{pair_cmp}
-use Rattle.cdxj_places.specs.Abbreviated.{AreBytes, start_words}
+use Rattle.merge_core.proofs.Words.{◌≡◌, AreBytes, member_pair, ordering_then, pair_cmp, start_words, subst, sym}
 use Rattle.merge_core.proofs.KeyStarts.{starts_decide, decided}
 use Rattle.merge_core.proofs.keyed_line.KeyedLine.compare_pair.Goals as goal
 

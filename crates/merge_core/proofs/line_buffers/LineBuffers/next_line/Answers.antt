@@ -1,5 +1,4 @@
-use Rattle.std.proofs.Common.{arith, ◌≡◌, ◌∷◌, drop}
-use Rattle.cdxj_places.specs.TextLines.{lines}
+use Rattle.merge_core.proofs.Words.{◌∷◌, ◌≡◌, arith, drop, lines}
 use Rattle.merge_core.proofs.FeedLemmas.{first_long, one_more}
 use Rattle.merge_core.proofs.line_buffers.LineBuffers.next_line.Goals as goal
 

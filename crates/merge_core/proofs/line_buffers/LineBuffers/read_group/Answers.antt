@@ -1,22 +1,12 @@
-use Rattle.std.proofs.lemmas.List.{map-append}
-use Rattle.std.proofs.Common.{is_lt, false, true, ◌≡◌, inl, inr, [], ◌∷◌, ◌++◌, refl, ◌∙◌, arith}
-use Rattle.std.proofs.Common.{append_assoc, ℕ, ◌≤◌, List, Some, length, filter, drop, Bool}
-use Rattle.cdxj_places.specs.Pairs.{Pair}
-use Rattle.cdxj_places.specs.TextLines.{lines}
-use Rattle.std.specs.List.{AllByRecursion}
-use Rattle.cdxj_core.specs.declared.limit.TheConstants.{LINE_LIMIT}
-use Rattle.cdxj_core.specs.Members.{Member, member_pair}
-use Rattle.cdxj_places.proofs.PairLemmas.{pair_cmp_total}
-use Rattle.merge_core.specs.BoxedLines.{boxed_lines}
-use Rattle.merge_core.specs.PairOrders.{Alike, Below, Upto}
-use Rattle.merge_core.specs.Feeds.{Fed, done, feed_of, given, stays}
-use Rattle.merge_core.specs.Gathering.{EndsAt}
+use Rattle.merge_core.proofs.Words.{[], ℕ, ◌++◌, ◌∙◌, ◌∷◌, ◌≡◌, ◌≤◌, Alike, AllByRecursion, Below, Bool, EndsAt, Fed}
+use Rattle.merge_core.proofs.Words.{LINE_LIMIT, List, Member, Pair, Some, Upto, append_assoc, arith, boxed_lines, done}
+use Rattle.merge_core.proofs.Words.{drop, each_join, each_weaker, false, feed_of, filter, given, inl, inr, is_lt}
+use Rattle.merge_core.proofs.Words.{length, lines, map-append, member_pair, pair_cmp_total, refl, stays, true}
 use Rattle.merge_core.proofs.SpendLemmas.{group_most}
 use Rattle.merge_core.proofs.FeedLemmas.{LineRead, all_inside, all_taken, all_upto, bad_named, done_next, fed_end, fed_more, given_next}
 use Rattle.merge_core.proofs.FeedLemmas.{order_named, same_stays, settled_more}
 use Rattle.merge_core.proofs.FailLemmas.{if_err}
 use Rattle.merge_core.proofs.PairOrder.{from_not_below, upto_upto}
-use Rattle.cdxj_places.proofs.RisingLaws.{each_join, each_weaker}
 use Rattle.merge_core.proofs.line_buffers.LineBuffers.read_group.Given.{Over}
 use Rattle.merge_core.proofs.line_buffers.LineBuffers.read_group.Goals.{After-compare_pairs, After-next_line}
 use Rattle.merge_core.proofs.line_buffers.LineBuffers.read_group.Goals as goal

@@ -1,12 +1,5 @@
-use Rattle.std.proofs.Common.{◌≡◌, ◌+◌, ◌-◌, ◌≤◌, ◌++◌, ℕ, List, [], Some}
-use Rattle.std.specs.List.{AllByRecursion}
-use Rattle.cdxj_core.specs.declared.limit.TheConstants.{LINE_LIMIT}
-use Rattle.cdxj_core.specs.Members.{Member, member_pair}
-use Rattle.source_core.specs.Cursors.{reach}
-use Rattle.merge_core.specs.PairOrders.{Alike}
-use Rattle.merge_core.specs.BoxedLines.{boxed_lines}
-use Rattle.merge_core.specs.Feeds.{Fed, feed_of, given}
-use Rattle.merge_core.specs.Gathering.{EndsAt}
+use Rattle.merge_core.proofs.Words.{[], ℕ, ◌++◌, ◌+◌, ◌-◌, ◌≡◌, ◌≤◌, Alike, AllByRecursion, EndsAt, Fed, LINE_LIMIT}
+use Rattle.merge_core.proofs.Words.{List, Member, Some, boxed_lines, feed_of, given, member_pair, reach}
 use Rattle.merge_core.proofs.line_buffers.LineBuffers.read_group.Given as goal
 
 abbrev pub invariant-loop-line : goal.invariant-loop-line

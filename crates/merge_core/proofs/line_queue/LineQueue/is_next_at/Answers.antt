@@ -1,8 +1,5 @@
-use Rattle.std.proofs.Common.{◌≡◌, List, false, is_eq, is_lt, sym, ap, ◌∙◌, subst, get_or}
-use Rattle.std.specs.List.{AllByRecursion}
-use Rattle.cdxj_places.specs.Pairs.{pair_cmp}
-use Rattle.cdxj_core.specs.Members.{member_pair}
-use Rattle.merge_core.specs.WaitingLines.{WaitingLine, waiting_pair, turn_cmp}
+use Rattle.merge_core.proofs.Words.{◌∙◌, ◌≡◌, AllByRecursion, List, WaitingLine, ap, false, get_or, is_eq, is_lt}
+use Rattle.merge_core.proofs.Words.{member_pair, pair_cmp, subst, sym, turn_cmp, waiting_pair}
 use Rattle.merge_core.proofs.TurnLemmas.{all_later_unless}
 use Rattle.merge_core.proofs.line_queue.LineQueue.is_next_at.Goals as goal
 

@@ -1,4 +1,4 @@
-use Rattle.cdxj_core.specs.Members.{member_pair}
+use Rattle.merge_core.proofs.Words.{member_pair}
 use Rattle.merge_core.proofs.TurnLemmas.{popped_alike}
 use Rattle.merge_core.proofs.line_queue.LineQueue.pop_at.Goals as goal
 

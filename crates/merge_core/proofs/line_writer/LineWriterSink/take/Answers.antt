@@ -1,15 +1,9 @@
-use Rattle.std.proofs.Common.{arith, Bor, ◌≡◌, ℕ, ◌+◌, ◌<◌, List, [], ◌∷◌, ◌++◌, Option, length, get_or, take, drop}
-use Rattle.std.proofs.Common.{map, append_assoc, append-nil, length-append, take-append-drop}
-use Rattle.std.specs.Io.KnownBytes.{Appends}
-use Rattle.std.proofs.lemmas.List.{map-append, map_more}
-use Rattle.std.proofs.lemmas.List.Concat.{flat_map-append}
-use Rattle.std.proofs.lemmas.Result.{err_from_is_err_and}
-use Rattle.cdxj_core.specs.declared.line.Line.{Line}
-use Rattle.cdxj_core.specs.Members.{Member, line_row}
-use Rattle.devices.specs.Device.{AppendsPrefix}
-use Rattle.devices.proofs.DeviceLemmas.{Appends-join, grows_on}
-use Rattle.devices.proofs.WritingLemmas.{prefix_after, prefix_longer}
-use Rattle.merge_core.specs.Written.{lines_text}
+use Rattle.merge_core.proofs.Words.{[], ℕ, ◌++◌, ◌+◌, ◌<◌, ◌∷◌, ◌≡◌, Appends, AppendsPrefix, Bor, Line, List, Member}
+use Rattle.merge_core.proofs.Words.{Option, append-nil, append_assoc, arith, drop, err_from_is_err_and, flat_map-append}
+use Rattle.merge_core.proofs.Words.{get_or, grows_on, length, length-append, line_row, lines_text, map, map-append}
+use Rattle.merge_core.proofs.Words.{prefix_after, prefix_longer, take, take-append-drop}
+use Rattle.std.proofs.lemmas.List.{map_more}
+use Rattle.devices.proofs.DeviceLemmas.{Appends-join}
 use Rattle.merge_core.proofs.line_writer.LineWriterSink.take.Goals as goal
 
 -- lines, up to one of them
@@ -40,7 +34,7 @@ pub returns-in_err-put_line-clause-wrote : goal.returns-in_err-put_line-clause-w
 returns-in_err-put_line-clause-wrote g c =
     let p = err_from_is_err_and c.from_residual.result c.from_residual.ensures.1 in
     λ begin taken start w. rw p.1 (broke_at (λ (l : Bor Line). l.now) _ _ _ c.loop-line-test.true c.line-item.is taken
-    start _ _ (c.loop-line.invariant.wrote taken start w).0 c.in_err-put_line.ensures.part)
+    start _ _ (c.loop-line.invariant.wrote taken start w).0 c.in_err-put_line.ensures.text)
 
 pub returns-in_err-put_line-clause-grows : goal.returns-in_err-put_line-clause-grows
 returns-in_err-put_line-clause-grows g c = grows_on _ _ _ c.loop-line.invariant.grows c.put_line.ensures.grows

@@ -1,8 +1,5 @@
-use Rattle.std.proofs.Common.{◌≡◌, ◌++◌, ◌-◌, ◌^◌, ℕ, List, Option, length, take, map, min}
-use Rattle.std.specs.Io.KnownBytes.{Appends}
-use Rattle.cdxj_core.specs.Members.{Member}
-use Rattle.devices.specs.Device.{Grows}
-use Rattle.merge_core.specs.Written.{lines_text}
+use Rattle.merge_core.proofs.Words.{ℕ, ◌++◌, ◌-◌, ◌^◌, ◌≡◌, Appends, Grows, List, Member, Option, length, lines_text}
+use Rattle.merge_core.proofs.Words.{map, min, take}
 use Rattle.merge_core.proofs.line_writer.LineWriterSink.take.Given as goal
 
 abbrev Wrote : ℕ → List Member → Option (List ℕ) → Option (List ℕ) → Type 0

@@ -1,9 +1,6 @@
-use Rattle.std.proofs.Common.{◌≡◌, ℕ, ◌+◌, ◌*◌, ◌≤◌, [], List, Some, arith}
-use Rattle.source_core.specs.Cursors.{reach}
-use Rattle.source_core.specs.IndexLines.{lines, longest}
-use Rattle.cdxj_core.specs.declared.limit.TheConstants.{LINE_LIMIT}
-use Rattle.merge_core.specs.BoxedLines.{boxed_line}
-use Rattle.merge_core.specs.Feeds.{Fed, feed_of, option_list}
+use Rattle.merge_core.proofs.Words.{[], ℕ, ◌*◌, ◌+◌, ◌≡◌, ◌≤◌, Fed, LINE_LIMIT, List, Some, arith, boxed_line, feed_of}
+use Rattle.merge_core.proofs.Words.{longest, option_list, reach}
+use Rattle.source_core.specs.IndexLines.{lines}
 use Rattle.merge_core.proofs.FeedLemmas.{bad_named}
 use Rattle.merge_core.proofs.FailLemmas.{if_err}
 use Rattle.merge_core.proofs.OpenLemmas.{fed_fresh, first_read}

@@ -1,4 +1,4 @@
-use Rattle.std.proofs.Common.{arith}
+use Rattle.merge_core.proofs.Words.{arith}
 use Rattle.merge_core.proofs.OpenLemmas.{added_by}
 use Rattle.merge_core.proofs.state.MergeState.add_from.Goals as goal
 

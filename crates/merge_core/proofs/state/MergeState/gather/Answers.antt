@@ -1,21 +1,10 @@
-use Rattle.std.proofs.lemmas.List.{map-append}
-use Rattle.std.proofs.Common.{[], ◌≡◌, Some, ◌+◌, ◌∷◌}
-use Rattle.std.proofs.Common.{refl, sym, ap, ◌∙◌, arith}
-use Rattle.std.proofs.lemmas.Cmp.{tied_itself}
+use Rattle.merge_core.proofs.Words.{[], ◌+◌, ◌∙◌, ◌∷◌, ◌≡◌, AreReadTo, AreSettled, AreTold, LINE_LIMIT, Member}
+use Rattle.merge_core.proofs.Words.{MergeState, Some, Upto, WaitingLine, all_done, ap, arith, boxed_lines, each_weaker}
+use Rattle.merge_core.proofs.Words.{feeds, map-append, member_pair, pair_cmp_total, refl, sym, tied_itself}
+use Rattle.merge_core.proofs.Words.{waiting_pair}
 use Rattle.std.proofs.lemmas.List.Sorted.{IsPermutation-sym}
-use Rattle.cdxj_places.proofs.PairLemmas.{pair_cmp_total}
-use Rattle.cdxj_places.proofs.RisingLaws.{each_weaker}
-use Rattle.cdxj_core.specs.declared.limit.TheConstants.{LINE_LIMIT}
-use Rattle.cdxj_core.specs.Members.{Member, member_pair}
-use Rattle.merge_core.specs.declared.state.MergeState.{MergeState}
-use Rattle.merge_core.specs.PairOrders.{Upto}
-use Rattle.merge_core.specs.WaitingLines.{WaitingLine, waiting_pair}
-use Rattle.merge_core.specs.BoxedLines.{boxed_lines}
-use Rattle.merge_core.specs.Feeds.{AreSettled, feeds}
-use Rattle.merge_core.specs.Gathering.{AreTold, all_done}
-use Rattle.merge_core.specs.Spending.{AreReadTo}
 use Rattle.merge_core.proofs.PairOrder.{upto_itself}
-use Rattle.merge_core.proofs.MergeLemmas.{on_err}
+use Rattle.merge_core.proofs.MergeLemmas.{on_fault}
 use Rattle.merge_core.proofs.SpendLemmas.{idle_read}
 use Rattle.merge_core.proofs.WholeLemmas.{all_kept}
 use Rattle.merge_core.proofs.GroupLemmas.{AreBelow, from_waited}
@@ -165,7 +154,7 @@ returns-in_default-pop_at g c =
       failures = grind arith;
       fault = grind arith;
       ready = rw took.out.0 (record { aligned = now.aligned; settled = drained_settled g here });
-      group = rw (← (c.new-keyed.ensures ∙ c.deref.ensures), took.out.0) (record {
+      gathered = rw (← (c.new-keyed.ensures ∙ c.deref.ensures), took.out.0) (record {
         above = inv.above;
         least = inv.least;
         later = rw took.out.0 at took.out.1;
@@ -173,7 +162,6 @@ returns-in_default-pop_at g c =
         fewer = omega (arith, read.fewer, inv.fewer);
         gathered = λ told low. (now.gathered told low).0;
       });
-      reads = grind arith;
       most_lines = grind arith;
     }
 
@@ -189,13 +177,13 @@ returns-in_err-read_on-clause-fault g c =
     c.sources.sources c.sources.self c.requires.ready.aligned.same gathers.as_many gathers.moved in
     grind arith
 
-pub returns-in_err-read_on-clause-reads : goal.returns-in_err-read_on-clause-reads
-returns-in_err-read_on-clause-reads g c =
-    on_err _ _ _ c.from_residual.ensures.1 (record {
+pub returns-in_err-read_on-clause-gathered : goal.returns-in_err-read_on-clause-gathered
+returns-in_err-read_on-clause-gathered g c =
+    on_fault _ _ _ _ c.from_residual.ensures.1 (record {
       pair = member_pair c.new-keyed.result;
       above = c.sources.invariant.above;
       least = c.sources.invariant.least;
-      read = read_to g (goal.at.returns-in_err-read_on-clause-reads g c).After-read_on;
+      read = read_to g (goal.at.returns-in_err-read_on-clause-gathered g c).After-read_on;
     })
 
 pub returns-in_err-push : goal.returns-in_err-push
@@ -213,8 +201,7 @@ returns-in_err-push g c =
       failures = grind arith;
       fault = grind arith;
       ready = grind arith;
-      group = grind arith;
-      reads = on_err _ _ _ c.from_residual-in_err-push.ensures.1 (record {
+      gathered = on_fault _ _ _ _ c.from_residual-in_err-push.ensures.1 (record {
         pair = member_pair c.new-keyed.result;
         above = c.sources.invariant.above;
         least = c.sources.invariant.least;

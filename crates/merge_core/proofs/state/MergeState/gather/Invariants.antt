@@ -1,13 +1,6 @@
-use Rattle.std.proofs.Common.{◌≡◌, ◌+◌, ◌<◌, ◌∷◌, Option, length, map, get_or, set}
-use Rattle.std.specs.List.{AllByRecursion}
-use Rattle.cdxj_core.specs.declared.limit.TheConstants.{LINE_LIMIT}
-use Rattle.cdxj_core.specs.Members.{member_pair}
-use Rattle.cdxj_places.specs.Pairs.{Pair}
-use Rattle.merge_core.specs.BoxedLines.{boxed_lines}
-use Rattle.merge_core.specs.PairOrders.{IsAbove, Upto}
-use Rattle.merge_core.specs.WaitingLines.{waiting_pair}
-use Rattle.merge_core.specs.Feeds.{AreSettled, Feed, IsSettled, feeds}
-use Rattle.merge_core.specs.Gathering.{IsDue, unread}
+use Rattle.merge_core.proofs.Words.{◌+◌, ◌<◌, ◌∷◌, ◌≡◌, AllByRecursion, AreSettled, Feed, IsAbove, IsDue, IsSettled}
+use Rattle.merge_core.proofs.Words.{LINE_LIMIT, Option, Pair, Upto, boxed_lines, feeds, get_or, length, map}
+use Rattle.merge_core.proofs.Words.{member_pair, set, unread, waiting_pair}
 use Rattle.merge_core.proofs.GatherSteps.{Gathers}
 use Rattle.merge_core.proofs.state.MergeState.gather.Given as goal
 

@@ -1,6 +1,4 @@
-use Rattle.std.proofs.Common.{◌≡◌, ◌-◌, ◌^◌, map, min, take}
-use Rattle.std.specs.List.{sum}
-use Rattle.source_core.specs.Cursors.{CursorState}
+use Rattle.merge_core.proofs.Words.{◌-◌, ◌^◌, ◌≡◌, CursorState, map, min, sum, take}
 use Rattle.merge_core.proofs.state.MergeState.lines.Given as goal
 
 abbrev pub invariant-loop-cursor : goal.invariant-loop-cursor

@@ -1,16 +1,12 @@
-use Rattle.std.specs.List.{sum}
-use Rattle.std.proofs.lemmas.List.Concat.{flat_map-append}
-use Rattle.std.proofs.Common.{append-nil, ◌≡◌, get_or, take, ◌<◌, length, map, ap, zip, length-append, arith}
+use Rattle.merge_core.proofs.Words.{◌<◌, ◌≡◌, LINE_LIMIT, ap, append-nil, arith, digits, feed_of, feeds}
+use Rattle.merge_core.proofs.Words.{flat_map-append, get_or, length, length-append, map, sum, take, take_all, take_more}
+use Rattle.merge_core.proofs.Words.{take_more_set, zip}
 use Rattle.std.proofs.lemmas.Slice.Zip.{all_zipped_more}
-use Rattle.std.proofs.lemmas.List.{take_all, take_more, take_more_set}
-use Rattle.cdxj_core.specs.declared.limit.TheConstants.{LINE_LIMIT}
-use Rattle.source_core.specs.Halving.{digits}
 use Rattle.merge_core.proofs.OnceLemmas.{once_none}
 use Rattle.merge_core.proofs.SpendLemmas.{opened_none, left_here, left_after}
 use Rattle.merge_core.proofs.FailLemmas.{raised_by_feed}
 use Rattle.merge_core.proofs.Many.{map_set_same, two_put}
 use Rattle.std.proofs.lemmas.Simd.{map-map}
-use Rattle.merge_core.specs.Feeds.{feed_of, feeds}
 use Rattle.merge_core.proofs.OpenLemmas.{added_feeds, fresh_of, ready_added, sum_turn, zip_none, zip_push}
 use Rattle.merge_core.proofs.StateLemmas.{feeds_long}
 use Rattle.merge_core.proofs.state.MergeState.open_at.Goals as goal
@@ -55,11 +51,8 @@ loop-i-preserved g c =
           (rw same_here at added.cursor_is));
     }
 
-pub returns-in-Err-clause-kept : goal.returns-in-Err-clause-kept
-returns-in-Err-clause-kept g c = grind (arith, map_set_same)
-
-pub returns-in-Err-clause-failures : goal.returns-in-Err-clause-failures
-returns-in-Err-clause-failures g c = grind (arith, raised_by_feed)
+pub returns-in-Err-clause-sources : goal.returns-in-Err-clause-sources
+returns-in-Err-clause-sources g c = grind (arith, map_set_same, raised_by_feed)
 
 pub returns-in-Err-clause-spent : goal.returns-in-Err-clause-spent
 returns-in-Err-clause-spent g c =

@@ -1,13 +1,8 @@
-use Rattle.std.specs.List.{AllZip, sum}
-use Rattle.std.proofs.Common.{◌≡◌, ◌≤◌, [], length, map, take, drop, zip}
-use Rattle.cdxj_core.specs.declared.limit.TheConstants.{LINE_LIMIT}
-use Rattle.cdxj_places.specs.Pairs.{IsLeast}
+use Rattle.merge_core.proofs.Words.{[], ◌≡◌, ◌≤◌, AllGaveOnce, IsLeast, LINE_LIMIT}
+use Rattle.merge_core.proofs.Words.{Ready, all_done, digits, drop, feeds, length, map, sum, take, zip}
 use Rattle.cdxj_places.specs.PairViews.{pair_view}
-use Rattle.source_core.specs.Halving.{digits}
-use Rattle.merge_core.specs.Feeds.{Ready, feeds}
-use Rattle.merge_core.specs.Gathering.{all_done}
-use Rattle.merge_core.specs.Spending.{AllGaveOnce, OpenedWithin}
-use Rattle.merge_core.specs.Openings.{OpenedAt}
+use Rattle.merge_core.specs.Openings.{AreOpened}
+use Rattle.merge_core.specs.Spending.{AllOpenedWithin}
 use Rattle.merge_core.proofs.state.MergeState.open_at.Given as goal
 
 abbrev pub invariant-loop-i : goal.invariant-loop-i
@@ -21,9 +16,8 @@ invariant-loop-i g l = record {
   fresh : all_done LINE_LIMIT (g.R.Range.past l.range) g.S.Source.text l.sources (feeds l.merge) ≡ [];
   probes : l.probes ≤ sum (map (λ s. digits (g.S.Source.extent s)) (take l.i l.sources));
   left : drop l.i l.sources ≡ drop l.i l.fn.sources;
-  spent : AllZip (λ x y. OpenedWithin (g.S.Source.text x) (g.S.Source.extent x) (g.S.Source.gave x) (g.S.Source.gave y))
-      l.fn.sources l.sources;
-  opened : AllZip (λ x y. OpenedAt LINE_LIMIT (pair_view l.start) (g.S.Source.text x) (g.S.Source.extent x)
-      (g.S.Source.gave x) (g.S.Source.gave y.0) y.1.cursor) (take l.i l.fn.sources) (zip l.sources (feeds l.merge));
+  spent : AllOpenedWithin g.S.Source.text g.S.Source.extent g.S.Source.gave l.fn.sources l.sources;
+  opened : AreOpened g.S.Source.text g.S.Source.extent g.S.Source.gave LINE_LIMIT (pair_view l.start)
+      (take l.i l.fn.sources) (zip l.sources (feeds l.merge));
   once : IsLeast (pair_view l.start) → AllGaveOnce g.S.Source.extent g.S.Source.gave l.fn.sources l.sources;
 }

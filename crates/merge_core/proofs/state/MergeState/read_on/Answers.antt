@@ -1,15 +1,7 @@
-use Rattle.std.specs.List.{AllByRecursion}
-use Rattle.std.proofs.Common.{List, ◌≡◌, [], Some, length, set, get_or, refl, arith}
+use Rattle.merge_core.proofs.Words.{[], ◌≡◌, AllByRecursion, AllMoved, AreReadTo, Feed, LINE_LIMIT, List, Member}
+use Rattle.merge_core.proofs.Words.{MergeState, Some, Upto, all_done, arith, boxed_line, feed_of, feeds, get_or}
+use Rattle.merge_core.proofs.Words.{get_or_default, length, member_pair, option_list, refl, set}
 use Rattle.std.specs.Vec.{with_item}
-use Rattle.std.proofs.lemmas.List.{get_or_default}
-use Rattle.cdxj_core.specs.declared.limit.TheConstants.{LINE_LIMIT}
-use Rattle.cdxj_core.specs.Members.{Member, member_pair}
-use Rattle.merge_core.specs.declared.state.MergeState.{MergeState}
-use Rattle.merge_core.specs.PairOrders.{Upto}
-use Rattle.merge_core.specs.BoxedLines.{boxed_line}
-use Rattle.merge_core.specs.Feeds.{AllMoved, Feed, feed_of, feeds, option_list}
-use Rattle.merge_core.specs.Gathering.{all_done}
-use Rattle.merge_core.specs.Spending.{AreReadTo}
 use Rattle.merge_core.proofs.SpendLemmas.{are_read_to, read_on}
 use Rattle.merge_core.proofs.FailLemmas.{raised_by_feed}
 use Rattle.merge_core.proofs.Many.{moved_set, map_set_same, unread_set}
@@ -97,7 +89,7 @@ returns-in-Err-clause-most g c =
 pub returns-in_err-enqueue-clause-moved : goal.returns-in_err-enqueue-clause-moved
 returns-in_err-enqueue-clause-moved g c =
     moved_alone g (goal.at.returns-in_err-enqueue-clause-moved g c).After-read_group c.enqueue.new.self
-    c.enqueue.ensures.cursors c.in_err-enqueue.ensures.refused
+    c.enqueue.ensures.cursors c.in_err-enqueue.ensures.queue
 
 pub returns-in_err-enqueue-clause-failures : goal.returns-in_err-enqueue-clause-failures
 returns-in_err-enqueue-clause-failures g c = grind (arith, map_set_same)
@@ -105,7 +97,7 @@ returns-in_err-enqueue-clause-failures g c = grind (arith, map_set_same)
 pub returns-in_err-enqueue-clause-most : goal.returns-in_err-enqueue-clause-most
 returns-in_err-enqueue-clause-most g c =
     most_alone g (goal.at.returns-in_err-enqueue-clause-most g c).After-read_group c.enqueue.new.self
-    c.enqueue.ensures.cursors c.in_err-enqueue.ensures.refused
+    c.enqueue.ensures.cursors c.in_err-enqueue.ensures.queue
 
 pub returns : goal.returns
 returns g c =

@@ -1,6 +1,4 @@
-use Rattle.std.proofs.Common.{arith, ap, refl, sym, ◌∙◌}
-use Rattle.devices.proofs.WritingLemmas.{wrote_nothing}
-use Rattle.query_core.specs.QueryPages.{form_of}
+use Rattle.query_core.proofs.Words.{◌∙◌, ap, arith, form_of, refl, sym, wrote_nothing}
 use Rattle.query_core.proofs.PagesLemmas.{none_stand}
 use Rattle.query_core.proofs.WriterLemmas.{nothing_taken}
 use Rattle.query_core.proofs.page_writer.PageWriter.begin.Goals as goal
@@ -25,5 +23,5 @@ returns-clause-wrote g c = λ sized.
       };
     }
 
-pub returns-in_err-selection-clause-front : goal.returns-in_err-selection-clause-front
-returns-in_err-selection-clause-front g c = grind (arith, wrote_nothing)
+pub returns-in_err-selection-clause-begins : goal.returns-in_err-selection-clause-begins
+returns-in_err-selection-clause-begins g c = grind (arith, wrote_nothing)

@@ -1,5 +1,4 @@
-use Rattle.std.proofs.Common.{rules, arith, sym, ◌∙◌}
-use Rattle.std.proofs.lemmas.Result.{err_from_is_err_and}
+use Rattle.query_core.proofs.Words.{◌∙◌, arith, err_from_is_err_and, rules, sym}
 use Rattle.query_core.proofs.PagesLemmas.{turned_stands, turning_front}
 use Rattle.query_core.proofs.SizeLemmas.{first_positive, later_positive, size_full, size_room}
 use Rattle.query_core.proofs.page_writer.PageWriter.make_room.Goals as goal

@@ -1,8 +1,6 @@
-use Rattle.std.proofs.Common.{arith, rules, append-nil, ap, sym, ◌≡◌, ◌∙◌}
-use Rattle.std.proofs.lemmas.Bool.{true≢false}
-use Rattle.std.proofs.lemmas.Result.{err_from_is_err_and}
-use Rattle.devices.proofs.DeviceLemmas.{grows_by, grows_on, grows_part}
-use Rattle.query_core.specs.WriterView.{captures_of, from_view}
+use Rattle.query_core.proofs.Words.{◌∙◌, ◌≡◌, ap, append-nil, arith, err_from_is_err_and, from_view, grows_by, grows_on}
+use Rattle.query_core.proofs.Words.{grows_part, rules, sym, true≢false}
+use Rattle.query_core.specs.WriterView.{captures_of}
 use Rattle.query_core.proofs.CaptureLemmas.{captures_append}
 use Rattle.query_core.proofs.PagesLemmas.{stands_front, front_more, capture_stands, capture_front}
 use Rattle.query_core.proofs.SizeLemmas.{size_fits, size_last}
@@ -139,8 +137,8 @@ returns-clause-grows g c = grows_on _ _ _ c.make_room.ensures.grows (grind (arit
 
 -- ---- faults
 
-pub returns-in_err-takes-clause-broke : goal.returns-in_err-takes-clause-broke
-returns-in_err-takes-clause-broke g c = λ first taken start s.
+pub returns-in_err-takes-clause-wrote : goal.returns-in_err-takes-clause-wrote
+returns-in_err-takes-clause-wrote g c = λ first taken start s.
     let w = c.args.self.now.selection in
     rw (err_from_is_err_and c.from_residual.result c.from_residual.ensures.1).1 (record {
       one = λ none. let one = s.one none in
@@ -151,8 +149,8 @@ returns-in_err-takes-clause-broke g c = λ first taken start s.
           (stands_front _ _ _ _ _ _ _ _ _ all.stands.0 all.stands.1));
     })
 
-pub returns-in_err-make_room-clause-broke : goal.returns-in_err-make_room-clause-broke
-returns-in_err-make_room-clause-broke g c = λ first taken start s.
+pub returns-in_err-make_room-clause-wrote : goal.returns-in_err-make_room-clause-wrote
+returns-in_err-make_room-clause-wrote g c = λ first taken start s.
     let same = c.takes.ensures.same in
     rw (err_from_is_err_and c.from_residual-in_err-make_room.result c.from_residual-in_err-make_room.ensures.1).1 (record {
       one = λ none. absurd (c.in_err-make_room.ensures.room (c.ends_here.ensures.room (search rules) (s.one none).sizes));
@@ -162,12 +160,12 @@ returns-in_err-make_room-clause-broke g c = λ first taken start s.
           (record { size = all.size; stand = rw same.0 all.stands.0 }));
     })
 
-pub returns-in_err-put_capture-clause-broke : goal.returns-in_err-put_capture-clause-broke
-returns-in_err-put_capture-clause-broke g c = λ first taken start s.
+pub returns-in_err-put_capture-clause-wrote : goal.returns-in_err-put_capture-clause-wrote
+returns-in_err-put_capture-clause-wrote g c = λ first taken start s.
     let same = c.takes.ensures.same in
     let takes = c.in_ok-takes.ensures in
     let room = c.in_ok-make_room.ensures in
-    let part = c.in_err-put_capture.ensures.part in
+    let part = c.in_err-put_capture.ensures.text in
     rw (err_from_is_err_and c.from_residual-in_err-put_capture.result c.from_residual-in_err-put_capture.ensures.1).1
     (record {
       one = λ none.

@@ -1,8 +1,5 @@
-use Rattle.std.proofs.Common.{arith, rules, true}
-use Rattle.std.proofs.lemmas.Result.{err_from_is_err_and}
-use Rattle.devices.proofs.WritingLemmas.{prefix_after, prefix_longer}
-use Rattle.page_core.specs.PageText.{page_start, page_end}
-use Rattle.query_core.specs.QueryPages.{form_of, shown_key}
+use Rattle.query_core.proofs.Words.{arith, err_from_is_err_and, form_of, page_end, page_start, prefix_after}
+use Rattle.query_core.proofs.Words.{prefix_longer, rules, shown_key, true}
 use Rattle.query_core.proofs.page_writer.PageWriter.turn.Goals as goal
 
 pub returns-in_err-put_end-clause-text : goal.returns-in_err-put_end-clause-text

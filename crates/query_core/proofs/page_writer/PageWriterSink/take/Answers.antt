@@ -1,8 +1,5 @@
-use Rattle.std.proofs.Common.{◌≡◌, take, arith, append-nil, refl}
-use Rattle.std.proofs.lemmas.Result.{err_from_is_err_and}
-use Rattle.std.proofs.lemmas.List.{take_all}
-use Rattle.devices.proofs.DeviceLemmas.{grows_not, grows_on}
-use Rattle.query_core.specs.WriterView.{from_view}
+use Rattle.query_core.proofs.Words.{◌≡◌, append-nil, arith, err_from_is_err_and, from_view, grows_not, grows_on, refl}
+use Rattle.query_core.proofs.Words.{take, take_all}
 use Rattle.query_core.proofs.PagesLemmas.{front_more}
 use Rattle.query_core.proofs.TakenLines.{one_more, parted}
 use Rattle.query_core.proofs.WriterLemmas.{broke_longer}
@@ -32,7 +29,7 @@ returns-clause-wrote g c = λ first taken start s.
 pub returns-in_err-take_line-clause-wrote : goal.returns-in_err-take_line-clause-wrote
 returns-in_err-take_line-clause-wrote g c = λ first taken start s.
     let parts = parted (λ l. l.now) taken c.args.lines.now _ c.line-item.result c.loop-line-test.true c.line-item.is in
-    let broke = c.in_err-take_line.ensures.broke first _ start (c.loop-line.invariant.wrote first taken start s) in
+    let broke = c.in_err-take_line.ensures.wrote first _ start (c.loop-line.invariant.wrote first taken start s) in
     rw ((err_from_is_err_and c.from_residual.result c.from_residual.ensures.1).1, parts.1) (record {
       one = λ none. broke_longer first.selection.query.now (from_view first.selection.from) first.limit _ parts.0 start _
           (broke.one none);

@@ -1,8 +1,4 @@
-use Rattle.std.proofs.Common.{◌≡◌, ◌++◌, ℕ, List, Option, take, map}
-use Rattle.cdxj_core.specs.Members.{Member}
-use Rattle.devices.specs.Device.{Grows}
-use Rattle.query_core.specs.WriterView.{Wrote}
-use Rattle.query_core.specs.declared.page_writer.PageWriter.{PageWriter}
+use Rattle.query_core.proofs.Words.{ℕ, ◌++◌, ◌≡◌, Grows, List, Member, Option, PageWriter, Wrote, map, take}
 use Rattle.query_core.proofs.page_writer.PageWriterSink.take.Given as goal
 
 abbrev pub invariant-loop-line : goal.invariant-loop-line

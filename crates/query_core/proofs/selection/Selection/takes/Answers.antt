@@ -1,8 +1,7 @@
-use Rattle.std.proofs.Common.{arith}
+use Rattle.query_core.proofs.Words.{append-nil, arith}
 use Rattle.query_core.proofs.CaptureLemmas.{repeated_compares, capture_compares, capture_is_one}
 use Rattle.query_core.proofs.selection.Selection.takes.Goals as goal
 use Rattle.query_core.proofs.CaptureLemmas.{captures_repeated}
-use Rattle.std.proofs.Common.{append-nil}
 
 pub returns-then-repeats-clause-selects : goal.returns-then-repeats-clause-selects
 returns-then-repeats-clause-selects c = grind (arith, repeated_compares)
