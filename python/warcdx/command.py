@@ -21,6 +21,7 @@ NO_THREAD = "can't start new thread"  # the message of a RuntimeError if there i
 _BUFFER = 1 << 16  # bytes
 _RESERVE = 1 << 21  # bytes
 _AGAIN = 0.001  # seconds
+_TICK = 1.0  # seconds
 
 
 class Ended(BaseException):
@@ -37,6 +38,7 @@ class _Signals:
     def __init__(self) -> None:
         self.number: Optional[int] = None
         self._deferrals = 1
+        self._is_lost = False  # whether Ended was raised where Python ignores it
 
     def catch(self) -> None:
         """Handles the signals that aren't ignored."""
@@ -44,6 +46,8 @@ class _Signals:
             if signal.getsignal(number) is not signal.SIG_IGN:
                 signal.signal(number, self._handle)
         signal.signal(signal.SIGALRM, self._handle_alarm)
+        # Python handles a signal that comes just before a system call only after the call. Each tick ends one that waits.
+        signal.setitimer(signal.ITIMER_REAL, _TICK, _TICK)
         sys.unraisablehook = self._handle_unraisable
 
     @contextlib.contextmanager
@@ -84,14 +88,17 @@ class _Signals:
     def _handle_unraisable(self, arguments: "sys.UnraisableHookArgs") -> None:
         """Handles an exception in a finalizer, which ends there. Ended is raised again, a little later."""
         if issubclass(arguments.exc_type, Ended):
-            signal.setitimer(signal.ITIMER_REAL, _AGAIN)
+            self._is_lost = True
+            signal.setitimer(signal.ITIMER_REAL, _AGAIN, _TICK)
         else:
             sys.__unraisablehook__(arguments)
 
     def _handle_alarm(self, number: int, frame: Optional[FrameType]) -> None:
-        if self._deferrals:
-            signal.setitimer(signal.ITIMER_REAL, _AGAIN)
-        self._raise()
+        if self._is_lost and self._deferrals:
+            signal.setitimer(signal.ITIMER_REAL, _AGAIN, _TICK)
+        elif self._is_lost:
+            self._is_lost = False
+            self._raise()
 
     def _raise(self) -> None:
         if not self._deferrals:
