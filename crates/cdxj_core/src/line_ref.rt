@@ -116,24 +116,10 @@ impl<'a> LineRef<'a> {
     }
 
     #[inline(always)]
-    fn stamp(&self) -> &'a str
-        ensures { result.now ≡ self.now.values.stamp }
-    {
-        &self.text[self.spans.key + TO_STAMP..self.spans.key + TO_STAMP_END]
-    }
-
-    #[inline(always)]
     fn texts(&self) -> Members<&'a str>
         ensures { values_of_texts (borrowed_view result) ≡ texts_in self.now.values }
     {
         texts_at(self.text, &self.spans.fronts)
-    }
-
-    #[inline(always)]
-    fn filename(&self) -> &'a str
-        ensures { result.now ≡ self.now.values.filename }
-    {
-        self.texts().filename
     }
 
     /// Returns the key and the stamp.
@@ -156,7 +142,7 @@ impl<'a> LineRef<'a> {
         Place {
             key: self.key(),
             stamp: self.spans.stamp,
-            filename: self.filename(),
+            filename: self.texts().filename,
             offset: self.spans.offset,
         }
     }
@@ -170,7 +156,9 @@ impl<'a> LineRef<'a> {
         let texts = self.texts();
         match field {
             Field::Urlkey => self.key(),
-            Field::Timestamp => self.stamp(),
+            Field::Timestamp => {
+                &self.text[self.spans.key + TO_STAMP..self.spans.key + TO_STAMP_END]
+            }
             Field::Original => or_missing(texts.url),
             Field::Mimetype => or_missing(texts.mime),
             Field::Statuscode => or_missing(texts.status),
