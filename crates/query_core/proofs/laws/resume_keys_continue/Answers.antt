@@ -7,5 +7,4 @@ returns c = λ text query page meaning ended short.
     let place = member_place ended.last in
     let key = resume_text place in
     let law = c.resume_key_is_put_into_query.ensures in
-    law.meaning QUERY_LIMIT text (text_with_key key text) key query place meaning ended.read short
-    (law.pieces text place)
+    law.meaning _ text (text_with_key key text) key query place meaning ended.read short (law.pieces text place)
