@@ -1,4 +1,4 @@
-use Rattle.query_core.proofs.Words.{QUERY_LIMIT, member_place, resume_text}
+use Rattle.query_core.proofs.Words.{member_place, resume_text}
 use Rattle.query_text.specs.Resuming.{text_with_key}
 use Rattle.query_core.proofs.laws.resume_keys_continue.Goals as goal
 
