@@ -1,7 +1,7 @@
 -- The opening of sources, one after another.
 use Rattle.merge_core.proofs.Words.{[], ℕ, ◌++◌, ◌+◌, ◌<◌, ◌∙◌, ◌∷◌, ◌≡◌, ◌≤◌, AllByRecursion, AllZip, Bool, CameOnce}
 use Rattle.merge_core.proofs.Words.{CameWithin, CursorState, Fed, Feed, IsCutAt, IsLeast, IsNextLine, IsSettled, List}
-use Rattle.merge_core.proofs.Words.{MatchOption, Member, MergeState, None, OpenedAt, Option, Pair, Ready, Some, Stands}
+use Rattle.merge_core.proofs.Words.{MatchOption, Member, MergeState, None, Option, Pair, Ready, Some, Stands}
 use Rattle.merge_core.proofs.Words.{WaitingLine, arith, done, drop, drop_all, each_weaker, feed_of, feeds, filter}
 use Rattle.merge_core.proofs.Words.{first_length, given, inl, length, length-append, lines, map, option_list, refl, set}
 use Rattle.merge_core.proofs.Words.{stays, suc, sum, sum-map, take, take_more_set, text_or, waits_of, zip}

@@ -1,7 +1,7 @@
 -- How far sources were read.
-use Rattle.merge_core.proofs.Words.{[], ℕ, ◌*◌, ◌++◌, ◌+◌, ◌∙◌, ◌∷◌, ◌≡◌, ◌≤◌, AllByRecursion, AllZip, AreFed}
+use Rattle.merge_core.proofs.Words.{[], ℕ, ◌*◌, ◌++◌, ◌+◌, ◌∙◌, ◌∷◌, ◌≡◌, ◌≤◌, AllByRecursion, AreFed}
 use Rattle.merge_core.proofs.Words.{AreReadTo, Bool, CursorState, EndsAt, Fed, Feed, IsUpto, List, Member, None}
-use Rattle.merge_core.proofs.Words.{OpenedWithin, Option, Pair, ReadTo, Some, all_done, ap, append-nil, append_assoc}
+use Rattle.merge_core.proofs.Words.{Option, Pair, ReadTo, Some, all_done, ap, append-nil, append_assoc}
 use Rattle.merge_core.proofs.Words.{arith, bytes_of, done, drop, drop-set-lt, false, feed_of, first_length}
 use Rattle.merge_core.proofs.Words.{flat_map-append, get_or, given, length, length-append, length-drop, line_entry}
 use Rattle.merge_core.proofs.Words.{lines, longest, map, member_pair, reach, read_lines, refl, set, suc, sym, take}

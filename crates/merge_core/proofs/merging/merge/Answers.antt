@@ -12,7 +12,7 @@ use Rattle.merge_core.proofs.MergeLemmas.{above_none, below_next, broken_there, 
 use Rattle.merge_core.proofs.MergeLemmas.{on_fault}
 use Rattle.devices.proofs.DeviceLemmas.{grows_not}
 use Rattle.merge_core.proofs.merging.merge.Given.{Over}
-use Rattle.merge_core.proofs.merging.merge.Goals.{After-gather, After-pass_group}
+use Rattle.merge_core.proofs.merging.merge.Goals.{After-pass_group}
 use Rattle.merge_core.proofs.merging.merge.Goals as goal
 
 abbrev group : (g : Over) → After-pass_group g → List Member

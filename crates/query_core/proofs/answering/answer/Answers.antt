@@ -130,10 +130,8 @@ returns-in_err-pass-clause-reads g c =
     let halted = c.in_err-pass.ensures.ended.1 in
     let before = halted.before in
     let here = begin g (goal.at.returns-in_err-pass-clause-reads g c).In_ok-writer in
-    let bytes = page_reached g.S.Source.text g.S.Source.extent g.S.Source.gave _ c.args.sources.now
-    c.read_lines.new.sources halted.earlier [] (passed here _ _ before.state before.came)
-    halted.grows halted.first (sym (append-nil _))
-    (within here _ _ before.state before.came before.more) before.within in
+    let bytes = page_reached _ _ _ _ _ _ halted.earlier [] (passed here _ _ before.state before.came) halted.grows
+    halted.first (sym (append-nil _)) (within here _ _ before.state before.came before.more) before.within in
     grind (arith, err_from_is_err_and)
 
 -- the captures of the earlier of the lines that were taken don't pass the page

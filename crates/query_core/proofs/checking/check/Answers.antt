@@ -41,5 +41,4 @@ loop-previous-preserved g c =
 pub returns-clause-checked : goal.returns-clause-checked
 returns-clause-checked g c = λ t e.
     let inv = c.loop-previous.invariant in
-    checked_whole LINE_LIMIT t (inv.told t e) _ c.count.result _ (c.in_ok-line.ensures.line t (inv.text ∙ e))
-    (grind arith) (grind arith)
+    checked_whole _ t (inv.told t e) _ _ _ (c.in_ok-line.ensures.line t (inv.text ∙ e)) (grind arith) (grind arith)

@@ -1,4 +1,4 @@
-use Rattle.query_core.proofs.Words.{QUERY_LIMIT, member_place, resume_text}
+use Rattle.query_core.proofs.Words.{member_place, resume_text}
 use Rattle.query_text.specs.Resuming.{text_with_key}
 use Rattle.query_core.proofs.laws.resume_keys_continue.Goals as goal
 
@@ -7,5 +7,4 @@ returns c = λ text query page meaning ended short.
     let place = member_place ended.last in
     let key = resume_text place in
     let law = c.resume_key_is_put_into_query.ensures in
-    law.meaning QUERY_LIMIT text (text_with_key key text) key query place meaning ended.read short
-    (law.pieces text place)
+    law.meaning _ text (text_with_key key text) key query place meaning ended.read short (law.pieces text place)

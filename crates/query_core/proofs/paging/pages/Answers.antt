@@ -93,9 +93,8 @@ returns-in_err-read_lines-clause-reach g c =
     let before = halted.before in
     let b = begin g (goal.at.returns-in_err-read_lines-clause-reach g c).In_ok-writer in
     let w = stopped b before.middle halted.earlier before.state before.came in
-    pages_reached g.S.Source.text g.S.Source.extent g.S.Source.gave c.args.query.now c.args.sizes.now _
-    c.args.sources.now c.read_lines.new.sources halted.earlier halted.earlier [] (stood_pages w _ halted.grows)
-    halted.first (sym (append-nil _)) before.within
+    pages_reached _ _ _ _ _ _ _ _ halted.earlier halted.earlier [] (stood_pages w _ halted.grows) halted.first
+    (sym (append-nil _)) before.within
 
 -- what was written of the lines that were taken, whatever is written then
 reached : (g : Over) (c : In_ok-read_lines g) (new : Option (List ℕ))
@@ -105,9 +104,8 @@ reached : (g : Over) (c : In_ok-read_lines g) (new : Option (List ℕ))
     c.args.sources.now c.read_lines.new.sources)
 reached g c new grows =
     let took = c.in_ok-read_lines.ensures.ended in
-    pages_reached g.S.Source.text g.S.Source.extent g.S.Source.gave c.args.query.now c.args.sizes.now new
-    c.args.sources.now c.read_lines.new.sources took.lines took.earlier took.later
-    (stood_pages (writing g c) new grows) took.took.first took.split took.before.within
+    pages_reached _ _ _ _ _ new _ _ took.lines took.earlier took.later (stood_pages (writing g c) new grows)
+    took.took.first took.split took.before.within
 
 pub returns-in_err-end-clause-reach : goal.returns-in_err-end-clause-reach
 returns-in_err-end-clause-reach g c =

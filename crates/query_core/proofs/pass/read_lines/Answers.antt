@@ -72,8 +72,7 @@ start : (g : Over) (c : In_ok-opened g) → Opened g.S.Source.text g.S.Source.ex
 start g c = record {
   kept = c.open_at.ensures.sources.0.0;
   same = c.in_ok-opened.ensures.ready.aligned.same;
-  came = came_of g.S.Source.text g.S.Source.extent g.S.Source.gave LINE_LIMIT _ c.args.sources.now _
-      c.in_ok-opened.ensures.opened;
+  came = came_of _ _ _ _ _ _ _ c.in_ok-opened.ensures.opened;
   cut = rw c.start_pair.ensures at (cuts_of g.S.Source.text g.S.Source.extent g.S.Source.gave LINE_LIMIT _
       c.args.sources.now c.open_at.new.sources (feeds c.in_ok-opened.opened.merge) c.open_at.ensures.sources.0.0
       c.in_ok-opened.ensures.opened);

@@ -8,14 +8,12 @@ Is indexes = IsOneReply (reply_of QUERY_LIMIT (collection indexes))
 
 pub returns-in_err-reply_to_line-clause-text : goal.returns-in_err-reply_to_line-clause-text
 returns-in_err-reply_to_line-clause-text g c = λ texts indexes known are.
-    let u = unmarked_reply QUERY_LIMIT (Is indexes) c.args.line.now _ _
-    (c.in_err-reply_to_line.ensures.text texts indexes known are) in
+    let u = unmarked_reply _ (Is indexes) _ _ _ (c.in_err-reply_to_line.ensures.text texts indexes known are) in
     grind (arith, err_from_is_err_and)
 
 pub returns-in_err-reply_to_line-clause-lines : goal.returns-in_err-reply_to_line-clause-lines
 returns-in_err-reply_to_line-clause-lines g c =
-    let u = unmarked_reply QUERY_LIMIT (IsTextReply (map g.S.Source.text c.args.sources.now)) c.args.line.now _ _
-    c.in_err-reply_to_line.ensures.lines in
+    let u = unmarked_reply _ (IsTextReply (map _ _)) _ _ _ c.in_err-reply_to_line.ensures.lines in
     grind (arith, err_from_is_err_and)
 
 pub returns-clause-text : goal.returns-clause-text

@@ -11,9 +11,8 @@ returns-in-Ok-clause-text g c = grind (arith, le-ltb, writes_some, is_utf8-from_
 pub returns-in-Ok-clause-lines : goal.returns-in-Ok-clause-lines
 returns-in-Ok-clause-lines g c =
     let cases = c.in-Ok.ensures.cases in
-    text_reply QUERY_LIMIT (IsTextReply (map g.S.Source.text c.args.sources.now)) c.args.line.now _ _ _
-    (omega (arith, c.if-line-gt-QUERY_LIMIT.false)) (is_utf8-from_IsUtf8 _ cases.1)
-    (rw cases.0 at c.reply_to_text.ensures.lines)
+    text_reply _ (IsTextReply (map _ _)) _ _ _ _ (omega (arith, c.if-line-gt-QUERY_LIMIT.false))
+    (is_utf8-from_IsUtf8 _ cases.1) (rw cases.0 at c.reply_to_text.ensures.lines)
 
 pub returns-in-Err-clause-text : goal.returns-in-Err-clause-text
 returns-in-Err-clause-text g c = grind (arith, writes_some, le-ltb, false_from_ne_true, IsUtf8-from_is_utf8)
@@ -23,8 +22,7 @@ returns-in-Err-clause-lines g c = grind (arith, writes_some, le-ltb, false_from_
 
 pub returns-then-line-gt-QUERY_LIMIT-clause-bytes : goal.returns-then-line-gt-QUERY_LIMIT-clause-bytes
 returns-then-line-gt-QUERY_LIMIT-clause-bytes g c = λ texts indexes known are.
-    gave_none g.S.Source.text g.S.Source.extent g.S.Source.gave
-    (line_most QUERY_LIMIT (collection indexes) c.args.line.now) texts indexes c.args.sources.now known are
+    gave_none _ _ _ (line_most _ (collection indexes) _) texts indexes _ known are
 
 pub returns-in-Ok-clause-bytes : goal.returns-in-Ok-clause-bytes
 returns-in-Ok-clause-bytes g c = λ texts indexes known are.
@@ -35,5 +33,4 @@ returns-in-Ok-clause-bytes g c = λ texts indexes known are.
 
 pub returns-in-Err-clause-bytes : goal.returns-in-Err-clause-bytes
 returns-in-Err-clause-bytes g c = λ texts indexes known are.
-    gave_none g.S.Source.text g.S.Source.extent g.S.Source.gave
-    (line_most QUERY_LIMIT (collection indexes) c.args.line.now) texts indexes c.args.sources.now known are
+    gave_none _ _ _ (line_most _ (collection indexes) _) texts indexes _ known are

@@ -27,13 +27,11 @@ returns-in_err-lines-clause-lines g c = grind (arith, err_from_is_err_and, nothi
 
 pub returns-then-sources-gt-SOURCES_LIMIT-clause-bytes : goal.returns-then-sources-gt-SOURCES_LIMIT-clause-bytes
 returns-then-sources-gt-SOURCES_LIMIT-clause-bytes g c = λ texts indexes known are.
-    spent_stop (spent_none g.S.Source.text g.S.Source.extent g.S.Source.gave QUERY_LIMIT texts indexes
-    (g.I.Input.remaining c.args.input.now) [] (g.O.Output.written c.args.out.now) c.args.sources.now known are refl)
+    spent_stop (spent_none _ _ _ _ texts indexes (g.I.Input.remaining _) [] (g.O.Output.written _) _ known are refl)
 
 pub returns-in_err-lines-clause-bytes : goal.returns-in_err-lines-clause-bytes
 returns-in_err-lines-clause-bytes g c = λ texts indexes known are.
-    spent_stop (spent_none g.S.Source.text g.S.Source.extent g.S.Source.gave QUERY_LIMIT texts indexes
-    (g.I.Input.remaining c.args.input.now) [] (g.O.Output.written c.args.out.now) c.args.sources.now known are refl)
+    spent_stop (spent_none _ _ _ _ texts indexes (g.I.Input.remaining _) [] (g.O.Output.written _) _ known are refl)
 
 -- ---- a line isn't read
 
@@ -112,9 +110,8 @@ loop-lines-preserved g c =
       told = λ texts indexes known are. line-more t (IsOneReply (reply indexes)) (inv.told texts indexes known are)
           (rw c.line.ensures at (marked.text texts indexes (rw inv.kept.0 known) are));
       any = grind (arith, line-more t);
-      spent = λ texts indexes known are. spent_more (inv.spent texts indexes known are) t.after t.last t.line
-          c.reply_and_mark.new.sources t.takes inv.kept.1
-          (rw c.line.ensures at (marked.bytes texts indexes (rw inv.kept.0 known) are))
+      spent = λ texts indexes known are. spent_more (inv.spent texts indexes known are) t.after t.last t.line _ t.takes
+          inv.kept.1 (rw c.line.ensures at (marked.bytes texts indexes (rw inv.kept.0 known) are))
           (rw c.line.ensures at (marked.text texts indexes (rw inv.kept.0 known) are));
     }
 

@@ -104,9 +104,8 @@ returns-clause-wrote g c = λ first taken start s.
               same.1,
               takes.capture taken selects,
               c.if-not-branch.false,
-            )
-                (written_one _ _ c.args.line.now _ _ _ c.if-self.false roomy c.make_room.ensures.fits
-                (rw kept.0 at put.given) (rw kept.0 at put.last) (rw (kept.0, kept.1, same.0) at put.text) one.stands);
+            ) (written_one _ _ _ _ _ _ c.if-self.false roomy c.make_room.ensures.fits (rw kept.0 at put.given)
+            (rw kept.0 at put.last) (rw (kept.0, kept.1, same.0) at put.text) one.stands);
             selects = λ e. rw selection (takes.selects taken selects);
           };
       all = λ positive.
@@ -178,8 +177,7 @@ returns-in_err-put_capture-clause-wrote g c = λ first taken start s.
             ← one.limit,
             takes.capture taken (one.selects c.if-self.false),
             c.if-not-branch.false,
-          )
-          (broke_row _ _ c.args.line.now _ c.if-self.false roomy c.make_room.ensures.fits
+          ) (broke_row _ _ _ _ c.if-self.false roomy c.make_room.ensures.fits
           (rw (kept.0, kept.1, same.0) at part) one.stands);
       all = λ positive.
           let all = s.all positive in
