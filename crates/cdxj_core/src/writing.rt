@@ -1,5 +1,5 @@
 //! The writing of an entry's line.
-ghost use Rattle.std.specs.Prelude.{◌≡◌, ◌≢◌, ◌<◌, ◌≤◌, ◌↔◌, ◌++◌, [], ◌∷◌, length, IfOk, IsTrue, MatchResult};
+ghost use Rattle.std.specs.Prelude.{◌≡◌, ◌≢◌, ◌<◌, ◌≤◌, ◌++◌, [], ◌∷◌, length, IfOk, MatchResult};
 ghost use Rattle.cdxj_core.specs.Entries.{IsGood, entry_view, line_text};
 
 use crate::entry::{Entry, EntryRef};

@@ -1,5 +1,5 @@
 -- Web URLs that the URL parser leaves as they are.
-use Rattle.std.specs.Prelude.{◌≡◌, ℕ, ◌&&◌, ◌||◌, ◌==◌, ◌<◌, ◌⊎◌, Bool, true, not, List, [], ◌∷◌, ◌++◌, codes, drop}
+use Rattle.std.specs.Prelude.{◌≡◌, ℕ, ◌&&◌, ◌||◌, ◌==◌, ◌<◌, ◌⊎◌, Bool, true, not, List, ◌∷◌, ◌++◌, codes, drop}
 use Rattle.std.specs.Prelude.{length, slice_index, zip, Option, IfSome}
 use Rattle.std.specs.List.{list_all, list_any}
 use Rattle.std.specs.Char.{is_ascii_lowercase, is_ascii_digit}

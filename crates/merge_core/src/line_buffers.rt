@@ -46,8 +46,8 @@ fn line_of(
     match spare.pop() {
         Some(mut line) => {
             match kind {
-                LineBytes::Unescaped => line.refill_unescaped(bytes)?,
                 LineBytes::Any => line.refill(bytes)?,
+                LineBytes::Unescaped => line.refill_unescaped(bytes)?,
             }
             Ok(line)
         }

@@ -15,10 +15,10 @@ use std::marker::Model;
 /// Which bytes a line that was read ahead may have.
 #[derive(Clone, Copy, Debug, Drop)]
 pub enum LineBytes {
-    /// Characters of ASCII other than controls and backslashes, but for the line feed.
-    Unescaped,
     /// Any bytes.
     Any,
+    /// Characters of ASCII other than controls and backslashes, but for the line feed.
+    Unescaped,
 }
 
 /// Reads the lines of a source from an offset on. It does not hold the source; each call takes it.
