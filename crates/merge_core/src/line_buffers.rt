@@ -125,8 +125,8 @@ impl LineBuffers {
             IfOk result (λ o. GivesLine LINE_LIMIT t cursor.old cursor.new (boxed_line o))) }
         ensures next { OverText (S.text source.old) (λ t.
             IfOk result (λ o. IsNextLine LINE_LIMIT t cursor.old.at cursor.new.at (boxed_line o))) }
-        ensures most { OverText (S.text source.old) (λ t. cursor.new.at ≤ cursor.old.at
-            + first_length (lines (drop cursor.old.at t))) }
+        ensures most { OverText (S.text source.old) (λ t.
+            cursor.new.at ≤ cursor.old.at + first_length (lines (drop cursor.old.at t))) }
         ensures ahead { length cursor.new.ahead ≤ 8192 }
         ensures inside { reach cursor.new ≤ S.extent source.old }
         ensures fault { OverText (S.text source.old) (λ t.

@@ -44,8 +44,8 @@ impl MergeState {
         requires stands { Stands (S.text source.old) (S.extent source.old) cursor }
         requires fresh { cursor.count ≡ 0 }
         requires first { cursor.at ≡ cursor.start }
-        requires begins { OverText (S.text source.old) (λ t. (before : List (List ℕ))
-            × BeginsAfter t cursor.start before) }
+        requires begins { OverText (S.text source.old) (λ t.
+            (before : List (List ℕ)) × BeginsAfter t cursor.start before) }
         ensures source { FeedsFrom S.text S.extent S.failures result source.old source.new }
         ensures fault { OverText (S.text source.old) (λ t. IfErr result (NamesLine LINE_LIMIT t)) }
         ensures most_lines { self.new.most_lines ≡ self.old.most_lines }
@@ -54,7 +54,8 @@ impl MergeState {
             (λ c. (c.start ≡ cursor.start)
             × (S.gave source.new + reach cursor ≤ S.gave source.old + reach c))
             self.old self.new) }
-        ensures spent { OverText (S.text source.old) (λ t. S.gave source.new + reach cursor
+        ensures spent { OverText (S.text source.old) (λ t.
+            S.gave source.new + reach cursor
             ≤ S.gave source.old + cursor.start + 2 * longest (lines t) + 8192) }
         ensures once { GaveOnce (S.extent source.old) (S.gave source.old) (S.gave source.new) }
     {

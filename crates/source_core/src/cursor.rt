@@ -164,13 +164,14 @@ impl Cursor {
             IfSome (line_found found line.new.items) (λ l. 0 < length l)) }
         ensures short { length line.new.items ≤ LINE_LIMIT }
         ensures given { OverText (S.text source.old) (λ t.
-            IfOk result (λ found. lines (drop self.old.at t)
+            IfOk result (λ found.
+            lines (drop self.old.at t)
             ≡ first_then (line_found found line.new.items) (lines (drop self.new.at t)))) }
         ensures long { OverText (S.text source.old) (λ t.
-            IfErr result (λ e. e ≡ LineReadFault.Long → LINE_LIMIT
-            < first_length (lines (drop self.old.at t)))) }
-        ensures most { OverText (S.text source.old) (λ t. self.new.at ≤ self.old.at
-            + first_length (lines (drop self.old.at t))) }
+            IfErr result (λ e. e ≡ LineReadFault.Long
+            → LINE_LIMIT < first_length (lines (drop self.old.at t)))) }
+        ensures most { OverText (S.text source.old) (λ t.
+            self.new.at ≤ self.old.at + first_length (lines (drop self.old.at t))) }
         ensures gave { S.gave source.new + reach self.old ≤ S.gave source.old + reach self.new }
         ensures bound { S.gave source.new ≤ S.gave source.old + LINE_LIMIT + 8192 }
         ensures failures { CountsLineRead result (S.failures source.old) (S.failures source.new) }

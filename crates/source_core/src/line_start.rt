@@ -31,8 +31,8 @@ pub(crate) fn next_line_start<S: Source>(
         IfOk result (λ found. IfSome found (λ offset. drop offset t ≡ from_line offset t))) }
     ensures none { OverText (S.text source.old) (λ t.
         IfOk result (λ found. IfNone found (from_line until t ≡ from_line from t))) }
-    ensures gave { OverText (S.text source.old) (λ t. S.gave source.new ≤ S.gave source.old
-        + longest (lines t) + 512) }
+    ensures gave { OverText (S.text source.old) (λ t.
+        S.gave source.new ≤ S.gave source.old + longest (lines t) + 512) }
     ensures bound { S.gave source.new + from ≤ S.gave source.old + until }
 {
     if from == 0 {

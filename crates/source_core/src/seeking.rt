@@ -142,10 +142,11 @@ fn stops_at<S: Source>(
     ensures source { SearchesSource S.text S.extent S.failures result source.old source.new }
     ensures holds { Holds (S.text source.new) (S.extent source.new) window.new }
     ensures stops { OverText (S.text source.old) (λ t.
-        IfOk result (λ stop. stop
-        ≡ stops_lines (line_below LINE_LIMIT (pair_view start.entry)) (lines (drop offset t)))) }
-    ensures gave { OverText (S.text source.old) (λ t. S.gave source.new ≤ S.gave source.old
-        + longest (lines t) + 512) }
+        IfOk result (λ stop.
+        stop ≡ stops_lines (line_below LINE_LIMIT (pair_view start.entry))
+        (lines (drop offset t)))) }
+    ensures gave { OverText (S.text source.old) (λ t.
+        S.gave source.new ≤ S.gave source.old + longest (lines t) + 512) }
     ensures bound { S.gave source.new ≤ S.gave source.old + LINE_LIMIT }
 {
     let size = source.size();
@@ -199,12 +200,12 @@ fn probe<S: Source>(
         IfSome found (λ line. drop line.offset t ≡ from_line line.offset t))) }
     ensures stops { OverText (S.text source.old) (λ t.
         IfOk result (λ found.
-        IfSome found (λ line. line.stops
-        ≡ stops (line_below LINE_LIMIT (pair_view start.entry)) middle t))) }
+        IfSome found (λ line.
+        line.stops ≡ stops (line_below LINE_LIMIT (pair_view start.entry)) middle t))) }
     ensures none { OverText (S.text source.old) (λ t.
         IfOk result (λ found. IfNone found (from_line until t ≡ from_line middle t))) }
-    ensures gave { OverText (S.text source.old) (λ t. S.gave source.new ≤ S.gave source.old
-        + (2 * longest (lines t) + 1024)) }
+    ensures gave { OverText (S.text source.old) (λ t.
+        S.gave source.new ≤ S.gave source.old + (2 * longest (lines t) + 1024)) }
     ensures bound { S.gave source.new + middle ≤ S.gave source.old + until + LINE_LIMIT }
 {
     match next_line_start(source, window, middle, until)? {
@@ -248,8 +249,8 @@ fn halve<S: Source>(
     ensures probes { IfOk result (λ next. next.probes ≡ span.probes + 1) }
     ensures inner { IfOk result (λ next. (span.low ≤ next.low) × (next.high ≤ span.high)) }
     ensures smaller { IfOk result (λ next. next.high - next.low < span.high - span.low) }
-    ensures gave { OverText (S.text source.old) (λ t. S.gave source.new ≤ S.gave source.old
-        + (2 * longest (lines t) + 1024)) }
+    ensures gave { OverText (S.text source.old) (λ t.
+        S.gave source.new ≤ S.gave source.old + (2 * longest (lines t) + 1024)) }
     ensures bound { S.gave source.new ≤ S.gave source.old + 2 * LINE_LIMIT }
     ensures near { S.gave source.new + span.low ≤ S.gave source.old + span.high + LINE_LIMIT }
 {
@@ -339,8 +340,9 @@ pub fn search<S: Source>(
         → S.text source.old ≡ Some t → IsIndex LINE_LIMIT t members
         → IfOk result (λ found. IsCut (pair_view start.entry) t members found.cursor.start) }
     ensures probes { IfOk result (λ found. found.probes ≤ digits (S.extent source.old)) }
-    ensures gave { OverText (S.text source.old) (λ t. S.gave source.new ≤ S.gave source.old
-        + digits (S.extent source.old) * (2 * longest (lines t) + 2048)) }
+    ensures gave { OverText (S.text source.old) (λ t.
+        S.gave source.new
+        ≤ S.gave source.old + digits (S.extent source.old) * (2 * longest (lines t) + 2048)) }
     ensures bound { S.gave source.new
         ≤ S.gave source.old + digits (S.extent source.old) * (2 * LINE_LIMIT) }
 {
