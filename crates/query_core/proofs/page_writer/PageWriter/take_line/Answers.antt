@@ -105,7 +105,7 @@ returns-clause-wrote g c = λ first taken start s.
               takes.capture taken selects,
               c.if-not-branch.false,
             ) (written_one _ _ _ _ _ _ c.if-self.false roomy c.make_room.ensures.fits (rw kept.0 at put.given)
-            (rw kept.0 at put.last) (rw (kept.0, kept.1, same.0) at put.text) one.stands);
+                (rw kept.0 at put.last) (rw (kept.0, kept.1, same.0) at put.text) one.stands);
             selects = λ e. rw selection (takes.selects taken selects);
           };
       all = λ positive.
