@@ -16,6 +16,12 @@ signal.signal(signal.SIGINT, signal.default_int_handler)  # a job in the backgro
 PROGRAM = os.environ.get("WARCDX", "warcdx")
 SAMPLES = pathlib.Path(__file__).resolve().parents[2] / "samples"
 WAIT = 30  # seconds for what takes a few milliseconds
+# The signals that end a command, but for those that it ignores since these tests do, as below nohup.
+ENDING = tuple(
+    number
+    for number in (signal.SIGINT, signal.SIGTERM, signal.SIGHUP)
+    if signal.getsignal(number) is not signal.SIG_IGN
+)
 ALL = "key=&matchType=prefix"
 LINE = (
     'com,example)/%s 20160101000000 {"url": "http://example.com/%s", "mime": "text/html", "status": "200", '

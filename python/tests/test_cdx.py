@@ -10,7 +10,7 @@ import sys
 import unittest
 from typing import Any
 
-from tests.support import PROGRAM, SAMPLES, WAIT, Case, lines, wait_until_caught
+from tests.support import ENDING, PROGRAM, SAMPLES, WAIT, Case, lines, wait_until_caught
 
 COMMAND = pathlib.Path(__file__).resolve().parents[1] / "bin/warcdx-cdx"
 HEADER = b" CDX N b a m s k r M S V g\n"
@@ -192,7 +192,7 @@ class Both(Cdx):
     def test_a_signal_ends_it_without_a_word_and_leaves_nothing(self) -> None:
         temporary = self.folder / "temporary"
         temporary.mkdir()
-        for number in (signal.SIGINT, signal.SIGTERM, signal.SIGHUP):
+        for number in ENDING:
             for word in ("to", "from"):
                 with subprocess.Popen(
                     (sys.executable, COMMAND, "--warcdx", os.path.abspath(PROGRAM), word), cwd=self.folder,

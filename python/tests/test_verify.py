@@ -18,7 +18,7 @@ from warcdx.digests import Digest
 from warcdx.record_digests import RecordCheck
 from warcdx.verifying import check_archive
 
-from .support import PROGRAM, SAMPLES, WAIT, Case, wait_until_caught
+from .support import ENDING, PROGRAM, SAMPLES, WAIT, Case, wait_until_caught
 
 COMMAND = pathlib.Path(__file__).resolve().parents[1] / "bin/warcdx-verify"
 # Of `abc`, in base 32 and in hexadecimal digits.
@@ -296,7 +296,7 @@ class Command(Case):
         os.mkfifo(self.folder / "pipe")  # which nobody writes, so that reading it doesn't end
         temporary = self.folder / "temporary"
         temporary.mkdir()
-        for number in (signal.SIGINT, signal.SIGTERM, signal.SIGHUP):
+        for number in ENDING:
             name = self.put_bytes(record(b"abc", OF_ABC[0]))
             for arguments in (("pipe",), ("--jobs", "3", name, "pipe", "pipe", name)):
                 process = subprocess.Popen(
