@@ -6,7 +6,6 @@ import io
 import json
 import os
 import pathlib
-import shutil
 import signal
 import sys
 import tempfile
@@ -152,20 +151,16 @@ def temporary_file() -> Iterator[IO[bytes]]:
 @contextlib.contextmanager
 def temporary_folder() -> Iterator[pathlib.Path]:
     """Makes a folder, and removes it and all that is in it, also if a signal ends the command."""
-    name = None
+    folder = None
     try:
         with reserve:
             with deferred():
-                name = tempfile.mkdtemp(prefix="warcdx-")
-            yield pathlib.Path(name)
+                folder = tempfile.TemporaryDirectory(prefix="warcdx-")
+            yield pathlib.Path(folder.name)
     finally:
-        if name is not None:
-            _remove_folder(name)
-
-
-def _remove_folder(name: str) -> None:
-    with deferred():
-        shutil.rmtree(name)
+        if folder is not None:
+            with deferred():
+                folder.cleanup()
 
 
 class Parser(argparse.ArgumentParser):
