@@ -18,6 +18,7 @@ use Rattle.url.specs.Parser as parser
 use Rattle.url.specs.Parser.{host_len, parse_port, parse_authority, leading_slashes, after_double_slash, parse_body, split_scheme, parse_url}
 use Rattle.url.specs.Path.{dot_count, is_windows_drive_letter, drive_letter_prefix, shorten_path, push_segment, parse_segments, parse_path_start}
 use Rattle.url.specs.Scheme.{default_port, scheme_type, scheme_len}
+use Rattle.cdxj_core.specs.Fields.{field_named}
 use Rattle.cdxj_core.specs.Lines.{line_in}
 use Rattle.door_examples.specs.Texts.{KeyIsFound, LineIsIndex, QueryIsRead}
 
@@ -34,5 +35,5 @@ unfolding escape_byte digits line_in is_utf8 chars encode value punctuate lex co
 line_is_index = record { written = refl; read = record { entries = refl; ordered = (tt, tt) } }
 
 pub query_is_read : QueryIsRead
-unfolding utf8_lossy utf8_valid_len is_utf8 chars encode percent_decode
+unfolding utf8_lossy utf8_valid_len is_utf8 chars encode percent_decode field_named
 query_is_read = record { meaning = refl; refused = refl; selects = refl; leaves_out = refl }
