@@ -9,6 +9,7 @@ use Rattle.std.specs.Str.Lossy.{utf8_lossy, utf8_valid_len}
 use Rattle.json.specs.Print.{escape_byte}
 use Rattle.percent_encoding.specs.Percent.{percent_decode}
 use Rattle.cdxj_core.specs.declared.limit.TheConstants.{LINE_LIMIT}
+use Rattle.cdxj_core.specs.Fields.{field_named}
 use Rattle.cdxj_core.specs.Indexes.{IsIndex}
 use Rattle.cdxj_core.specs.Members.{Member, entry_member}
 use Rattle.merge_core.specs.Collections.{Merged, collection}
@@ -63,7 +64,7 @@ unfolding digits
 query_text = refl
 
 serve_text : replies QUERY_LIMIT (reply_of QUERY_LIMIT (collection members)) query_line ≡ codes "org,a)/\n.\n"
-unfolding digits utf8_lossy utf8_valid_len is_utf8 chars encode percent_decode
+unfolding digits utf8_lossy utf8_valid_len is_utf8 chars encode percent_decode field_named
 serve_text = refl
 
 same_query : (this that : QueryValue) → ◌≡◌ {A = Result QueryValue QueryFault} (Ok this) (Ok that) → this ≡ that
