@@ -94,8 +94,8 @@ def rows(folder: pathlib.Path) -> Iterator[Row]:
     archives, crawls = [archive(folder, batches) for batches in (1, 2)], [crawl(folder, captures) for captures in CAPTURES]
     one, four, many = ([indexes(folder, count, files) for count in LINES] for files in (1, 4, 1024))
     numbers = [with_numbers(index) for index in one]
-    yield Row("list of a file, a record of 20 kB", ["list"], *archives, 4500)
-    yield Row("index of a file, a capture", ["index"], *crawls, 11_700)
+    yield Row("list of a file, a record of 20 kB", ["list"], *archives, 3700)
+    yield Row("index of a file, a capture", ["index"], *crawls, 11_000)
     yield Row("check, a line", ["check"], *one, 950)
     yield Row("merge of 4 files, a line that is read", ["merge"], *four, 1700)
     yield Row("merge of 1,024 files, a line that is read", ["merge"], *many, 2000)
