@@ -1,7 +1,10 @@
 //! What lines say.
-use cdxj_core::{Field, Line, LineFault, LineRef, Pair, split_pair};
+use cdxj_core::{
+    Entry, Field, Line, LineFault, LineRef, Pair, field_name, field_named, split_pair,
+};
 use fixtures::{FOREIGN, cut};
 use std::alloc::Global;
+use std::test::Fail;
 
 const FOREIGN_VALUES: &[(Field, &str)] = &[
     (Field::Urlkey, "com,example)/"),
@@ -35,6 +38,50 @@ fn a_foreign_line_is_read(rt: HostRuntime) -> Result<(), LineFault> {
     let read = kept.values();
     assert!(rt; has_foreign_values(&read));
     assert!(rt; has_foreign_pair(&read) && read.line() == FOREIGN);
+    Ok(())
+}
+
+/// Returns `true` if the entry has the texts of the foreign line.
+fn has_foreign_texts(entry: &Entry) -> bool {
+    entry.key.as_str() == "com,example)/"
+        && entry.stamp == *b"20140103030321"
+        && entry.url.as_str() == "http://example.com/"
+        && entry.mime.as_str() == "text/html"
+        && entry.status.as_str() == "200"
+        && entry.digest.as_str() == "B2LTWWPUOYAH7UIPQ7ZUPQ4VMBSVC36A"
+        && entry.filename.as_str() == "example.warc"
+}
+
+#[test]
+fn an_entry_is_copied_of_a_line(rt: HostRuntime) -> Result<(), LineFault> {
+    let kept = Line::read(rt.alloc(), FOREIGN)?;
+    let entry = Entry::of_line(rt.alloc(), &kept.values(), 7)?;
+    assert!(rt; has_foreign_texts(&entry));
+    assert!(rt; entry.length == 7 && entry.offset == 333);
+    Ok(())
+}
+
+/// The names by which the Wayback CDX Server API knows the fields.
+const NAMES: &[(&str, Field)] = &[
+    ("urlkey", Field::Urlkey),
+    ("timestamp", Field::Timestamp),
+    ("original", Field::Original),
+    ("mimetype", Field::Mimetype),
+    ("statuscode", Field::Statuscode),
+    ("digest", Field::Digest),
+    ("length", Field::Length),
+    ("offset", Field::Offset),
+    ("filename", Field::Filename),
+];
+
+fn names(name: &str, field: Field) -> bool {
+    field_name(field) == name && field_named(name) == Some(field)
+}
+
+#[test]
+fn fields_have_the_names_of_the_server(rt: HostRuntime) -> Result<(), Fail> {
+    assert!(rt; NAMES.iter().all(|(name, field)| names(name, *field)));
+    assert!(rt; field_named("Urlkey").is_none() && field_named("").is_none());
     Ok(())
 }
 
