@@ -170,15 +170,14 @@ class Gateway:
             response.headers["Access-Control-Expose-Headers"] = "ETag, Last-Modified, Link"
             if origin != "*":
                 response.vary.add("Origin")
-        response.call_on_close(lambda: self.metrics.seconds.observe(time.monotonic() - start))
         self.metrics.requests.labels(name, str(response.status_code)).inc()
         if response.status_code != 200:
-            return Sent(self, environ, response(environ, start_response))
+            return Sent(self, environ, start, response(environ, start_response))
         # What Werkzeug does for other statuses costs more than an exact answer.
         if response.is_sequence and "Content-Length" not in response.headers:
             response.headers["Content-Length"] = str(sum(map(len, response.response)))
         start_response(response.status, response.headers.to_wsgi_list())
-        return Sent(self, environ, response.get_app_iter(environ))
+        return Sent(self, environ, start, response.get_app_iter(environ))
 
     def _response(self, request: GatewayRequest) -> tuple[str, Response]:
         """Returns the name of the collection, if there is one, and the response."""
@@ -240,9 +239,12 @@ class Gateway:
 class Sent:
     """An answer as gunicorn sends it. One that fails is broken off, so that it is seen."""
 
-    def __init__(self, gateway: "Gateway", environ: dict[str, Any], pieces: Iterable[bytes]) -> None:
+    def __init__(
+        self, gateway: Gateway, environ: dict[str, Any], start: float, pieces: Iterable[bytes]
+    ) -> None:
         self._gateway = gateway
         self._environ = environ
+        self._start = start
         self._pieces = pieces
         self._is_whole = False
 
@@ -269,6 +271,7 @@ class Sent:
         close = getattr(self._pieces, "close", None)
         if close is not None:
             close()
+        self._gateway.metrics.seconds.observe(time.monotonic() - self._start)
 
     def _break(self, error: BaseException) -> None:
         cause = type(error).__name__
