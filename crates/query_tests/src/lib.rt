@@ -1,5 +1,5 @@
-//! Tests of merges, and of the pages that answer queries: what no clause states, and values from
-//! standards or worked out by hand.
+//! Tests of queries: their texts, the lines that they select, merges, and pages. What no clause
+//! states, and values from standards or worked out by hand.
 #![tactic(auto)]
 
 #[cfg(test)]
@@ -7,10 +7,18 @@ mod conversations;
 #[cfg(test)]
 mod faults;
 #[cfg(test)]
+mod matching;
+#[cfg(test)]
 mod merges;
 #[cfg(test)]
+mod options;
+#[cfg(test)]
 mod pages;
+#[cfg(test)]
+mod refusals;
 #[cfg(test)]
 mod small_indexes;
 #[cfg(test)]
 mod sources;
+#[cfg(test)]
+mod targets;
