@@ -1,5 +1,5 @@
 -- Lines that are held: the line, its key and the file name are found in the bytes.
-use Rattle.std.proofs.Common.{◌≡◌, inl, inr, ℕ, ◌+◌, ◌-◌, ◌==◌, true, not, List, [], ◌∷◌, ◌++◌, length, refl}
+use Rattle.std.proofs.Common.{◌≡◌, inl, inr, ℕ, ◌+◌, ◌-◌, ◌==◌, true, false, not, List, [], ◌∷◌, ◌++◌, length, refl, sym, ap, ◌∙◌}
 use Rattle.std.proofs.Common.{Some, None, length-append, append_assoc, append-nil, arith}
 use Rattle.std.proofs.lemmas.Bool.{and_parts, lt-ltb}
 use Rattle.std.proofs.lemmas.List.Sums.{suffix_len_is}
@@ -12,7 +12,7 @@ use Rattle.cdxj_core.specs.declared.limit.TheConstants.{LINE_LIMIT}
 use Rattle.cdxj_core.specs.Entries.{EntryValue, HasLine, line_text}
 use Rattle.cdxj_core.specs.Lines.{has_no_feed}
 use Rattle.cdxj_core.proofs.EntryRead.{body_feed}
-use Rattle.capture_core.specs.Spelling.{HoldsLine, KeepsName, entry_in, first_line, is_line_feed, is_quote}
+use Rattle.capture_core.specs.Spelling.{HoldsLine, KeepsName, ends_with_feed, entry_in, first_line, is_line_feed, is_quote, nul}
 use Rattle.capture_core.proofs.SpellingLemmas.{spells}
 
 -- bytes that hold an entry hold the one that their line spells
@@ -36,13 +36,43 @@ module _ (e : EntryValue) (has : HasLine LINE_LIMIT e) (rest : List ℕ) where
   key_first : before_first is_space (line_text e ++ rest) ≡ e.key
   key_first = grind (arith, append_assoc, before_first_at, key_no_space)
 
+line_alone : (e : EntryValue) → HasLine LINE_LIMIT e → first_line (line_text e) ≡ line_text e
+line_alone e has = ap first_line (sym (append-nil (line_text e))) ∙ line_first e has []
+
+key_alone : (e : EntryValue) → HasLine LINE_LIMIT e → before_first is_space (line_text e) ≡ e.key
+key_alone e has = ap (before_first is_space) (sym (append-nil (line_text e))) ∙ key_first e has []
+
+-- a NUL is no line feed
+nul_last : (front : List ℕ) → ends_with_feed (front ++ nul ∷ []) ≡ false
+nul_last front =
+    let size : length (front ++ nul ∷ []) - 1 ≡ length front = omega (arith, length-append front (nul ∷ [])) in
+    rw (size, drop-append_seam front (nul ∷ [])) refl
+
+-- the line of an entry, with its file name and a NUL behind it
+holds_behind : (e : EntryValue) → HasLine LINE_LIMIT e → HoldsLine e (line_text e ++ (e.filename ++ nul ∷ [])) e.offset
+holds_behind e has =
+    let more = e.filename ++ nul ∷ [] in
+    let first = line_first e has more in
+    let longer : length (line_text e ++ more) ≡ length (line_text e) + length e.filename + 1 =
+    omega (arith, length-append (line_text e) more, length-append e.filename (nul ∷ [])) in
+    let inner : length (line_text e ++ more) - 1 - length (line_text e) ≡ length e.filename = omega (arith, longer) in
+    let last : ends_with_feed (line_text e ++ more) ≡ false =
+    ap ends_with_feed (sym (append_assoc (line_text e) e.filename (nul ∷ []))) ∙ nul_last (line_text e ++ e.filename) in
+    record {
+      has_line = has;
+      line_is = first;
+      alone = λ ends. grind (arith, last);
+      key_is = key_first e has more;
+      filename_is = grind (arith, first, longer, inner, lt-ltb, drop-append_seam, take-append_seam);
+      offset_is = refl;
+    }
+
 -- the line of an entry, with its file name put behind it where that is needed, holds the entry
 pub holds_line : (e : EntryValue) (line name bytes : List ℕ) → HasLine LINE_LIMIT e → line ≡ line_text e
     → name ≡ e.filename → KeepsName line name bytes → HoldsLine e bytes e.offset
 holds_line e line name bytes has is named (inl k) =
-    grind (arith, append-nil (line_text e), line_first, key_first)
-holds_line e line name bytes has is named (inr k) =
-    grind (arith, line_first, length-append, key_first, lt-ltb, drop-append_seam)
+    grind (arith, line_alone e has, key_alone e has)
+holds_line e line name bytes has is named (inr k) = grind (arith, holds_behind e has)
 
 -- ---- the last quote
 

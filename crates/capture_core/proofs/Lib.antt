@@ -7,3 +7,4 @@ pub mod Captures
 pub mod CaptureLemmas
 pub mod Steps
 pub mod RestLemmas
+pub mod FirstPlace

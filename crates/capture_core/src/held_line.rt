@@ -11,7 +11,7 @@ const CLOSING: usize = 3;
 /// A capture, held as its line in an index.
 #[derive(Debug, Drop)]
 pub struct HeldLine {
-    /// The line. A file name that has escapes in the line stands behind it.
+    /// The line. A file name that has escapes in the line stands behind it, with a NUL after it.
     bytes: Vec<u8>,
     offset: u64,
 }
@@ -55,7 +55,11 @@ impl HeldLine {
     pub fn line(&self) -> &[u8]
         ensures { result.now ≡ line_text self.now }
     {
-        first_line(&self.bytes)
+        if ends_with_feed(&self.bytes) {
+            &self.bytes
+        } else {
+            first_line(&self.bytes)
+        }
     }
 
     /// Returns the entry with texts of its own, for a record of this length.
@@ -89,7 +93,7 @@ impl HeldLine {
     {
         let line = self.line();
         if line.len() < self.bytes.len() {
-            &self.bytes[line.len()..]
+            &self.bytes[line.len()..self.bytes.len() - 1]
         } else {
             last_quoted(line)
         }
@@ -123,7 +127,14 @@ impl HasPlace for HeldLine {
 ghost use Rattle.std.specs.Prelude.{◌≡◌, OnOk};
 ghost use Rattle.std.specs.List.{before_first};
 ghost use Rattle.cdxj_places.specs.Pair.{is_space};
-ghost use Rattle.capture_core.specs.Spelling.{KeepsName, first_line, last_quoted};
+ghost use Rattle.capture_core.specs.Spelling.{KeepsName, ends_with_feed, first_line, last_quoted};
+
+/// Returns `true` if the last byte is a line feed.
+fn ends_with_feed(bytes: &[u8]) -> bool
+    ensures { result ≡ ends_with_feed bytes.now }
+{
+    bytes.ends_with(b"\n")
+}
 
 /// Returns the first line, with its line feed.
 fn first_line(bytes: &[u8]) -> &[u8]
@@ -156,13 +167,15 @@ fn last_quoted(line: &[u8]) -> &[u8]
     }
 }
 
-/// Appends the file name to its line, unless it stands in the line as it is.
+/// Appends the file name and a NUL to its line, unless the name stands in the line as it is.
 fn keep_name(line: &mut Vec<u8>, name: &[u8]) -> Result<(), AllocError>
     ensures { OnOk result (KeepsName line.old.items name.now line.new.items) }
 {
     if last_quoted(line) == name {
         Ok(())
     } else {
-        line.extend_from_slice(name)
+        line.extend_from_slice(name)?;
+        line.push(0)?;
+        Ok(())
     }
 }

@@ -1,6 +1,7 @@
 //! The records that hold HTTP messages.
 ghost use Rattle.std.specs.Prelude.{◌≡◌, codes, option_map};
 ghost use Rattle.warc_head.specs.Names.{same_name};
+ghost use Rattle.capture_core.specs.FieldValue.{media_type};
 ghost use Rattle.capture_core.specs.Indexed.{field, is_http_record, holds_response, may_have_head};
 
 use crate::field_value::media_type;
@@ -18,9 +19,20 @@ pub(crate) fn is_http_record(head: &Head) -> bool
     ensures { result ≡ is_http_record head.now }
 {
     match content_type(head) {
-        Some(value) => is_http(media_type(value)),
+        Some(value) => has_http_type(value),
         None => false,
     }
+}
+
+/// Returns `true` if the media type of a value is `application/http`. Most have a parameter right behind it, which is the
+/// fastest test.
+fn has_http_type(value: &[u8]) -> bool
+    ensures { result ≡ same_name (media_type value.now) (codes "application/http") }
+{
+    if value.starts_with(b"application/http;") {
+        return true;
+    }
+    is_http(media_type(value))
 }
 
 /// Returns `true` if a media type is `application/http`, ignoring ASCII case. Most records write it in lower case, which

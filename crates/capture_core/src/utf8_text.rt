@@ -1,5 +1,5 @@
 //! The texts of an entry, from bytes that may not be UTF-8.
-ghost use Rattle.std.specs.Prelude.{◌≡◌, IfOk};
+ghost use Rattle.std.specs.Prelude.{◌≡◌, IfOk, IfSome};
 ghost use Rattle.std.specs.Cow.{cow_str_bytes};
 ghost use Rattle.capture_core.specs.Utf8Text.{utf8_text};
 
@@ -15,5 +15,16 @@ pub(crate) fn utf8_text(alloc: Global, value: &[u8]) -> Result<CowStr<'_>, Alloc
     match str::from_utf8(value) {
         Ok(text) => Ok(CowStr::Borrowed(text)),
         Err(_) => percent_encode(value, AsciiSet::EMPTY).into_cow(alloc),
+    }
+}
+
+/// Returns the text of a value in UTF-8.
+#[tactic(auto, unfolding(crate::specs::Utf8Text::utf8_text))]
+pub(crate) fn plain_text(value: &[u8]) -> Option<&str>
+    ensures { IfSome result (λ text. text.now ≡ utf8_text value.now) }
+{
+    match str::from_utf8(value) {
+        Ok(text) => Some(text),
+        Err(_) => None,
     }
 }

@@ -6,3 +6,4 @@ pub mod PlainHosts
 pub mod PlainLaws
 pub mod PlainTails
 pub mod PlainKeys
+pub mod UsualUrls

@@ -1,5 +1,5 @@
 -- Web URLs that the URL parser leaves as they are.
-use Rattle.std.specs.Prelude.{◌≡◌, ℕ, ◌&&◌, ◌||◌, ◌==◌, ◌<◌, ◌⊎◌, Bool, true, not, List, ◌∷◌, ◌++◌, codes, drop}
+use Rattle.std.specs.Prelude.{◌≡◌, ℕ, ◌+◌, ◌&&◌, ◌||◌, ◌==◌, ◌<◌, ◌⊎◌, Bool, true, not, List, ◌∷◌, ◌++◌, codes, drop}
 use Rattle.std.specs.Prelude.{length, slice_index, zip, Option, IfSome}
 use Rattle.std.specs.List.{list_all, list_any}
 use Rattle.std.specs.Char.{is_ascii_lowercase, is_ascii_digit}
@@ -19,6 +19,15 @@ is_plain_byte b = is_graphic b && not (list_any (λ c. c == b) (codes "\"#'<>\\^
 -- such a byte, but not the one that ends a path
 abbrev pub is_path_byte : ℕ → Bool
 is_path_byte b = is_plain_byte b && not (b == question_mark)
+
+-- a byte of a domain, or `/`
+abbrev pub is_usual_byte : ℕ → Bool
+is_usual_byte b = is_domain_byte b || b == slash
+
+-- among the first bytes of a path, no `.` follows a `/`
+abbrev pub HasInnerDots : List ℕ → ℕ → Type 0
+HasInnerDots path size = (k : ℕ) → k + 1 < size → slice_index path (k + 1) ≡ full_stop
+    → slice_index path k ≡ slash → ⊥
 
 -- a segment that begins with `.` or an escape may not be left as it is
 abbrev pub begins_plain : ℕ → ℕ → Bool

@@ -1,9 +1,9 @@
 //! Web URLs that the URL parser leaves as they are.
-ghost use Rattle.std.specs.Prelude.{◌≡◌, ◌<◌, drop, length, slice_index, true, zip, IfSome};
+ghost use Rattle.std.specs.Prelude.{◌≡◌, ◌<◌, ◌+◌, ◌++◌, ℕ, drop, false, length, slice_index, true, zip, IfSome};
 ghost use Rattle.std.specs.Char.{is_ascii_lowercase};
 ghost use Rattle.std.specs.List.{list_all};
 ghost use Rattle.url.specs.Ipv4.{last_label};
-ghost use Rattle.cdxj_keys.specs.PlainUrls.{begins_plain, is_domain_byte, is_path_byte, is_plain_byte, IsBehindScheme, IsPlainHost, IsPlainPath, IsPlainQuery, IsPlainTail, IsPlainUrl};
+ghost use Rattle.cdxj_keys.specs.PlainUrls.{begins_plain, is_domain_byte, is_path_byte, is_plain_byte, is_usual_byte, HasInnerDots, IsBehindScheme, IsPlainHost, IsPlainPath, IsPlainQuery, IsPlainTail, IsPlainUrl};
 
 use memchr::{memchr, memrchr};
 
@@ -46,10 +46,16 @@ fn begins_with_letter(label: &[u8]) -> bool
     }
 }
 
+fn has_plain_label(host: &[u8]) -> bool
+    ensures { result ≡ true → is_ascii_lowercase (slice_index (last_label host.now) 0) ≡ true }
+{
+    begins_with_letter(last_label(host))
+}
+
 fn is_plain_host(host: &[u8]) -> bool
     ensures { result ≡ true → IsPlainHost host.now }
 {
-    has_domain_bytes(host) && begins_with_letter(last_label(host))
+    has_domain_bytes(host) && has_plain_label(host)
 }
 
 /// Returns `true` if the byte stays as it is in a query. Most bytes are in one of two ranges, which is the faster test.
@@ -136,6 +142,59 @@ fn is_plain_tail(tail: &[u8]) -> bool
     }
 }
 
+fn is_usual_byte(byte: u8) -> bool
+    ensures { result ≡ is_usual_byte byte }
+{
+    matches!(byte, b'a'..=b'z' | b'-'..=b'9')
+}
+
+/// Returns `true` if each byte is usual. It is one pass without an early exit, which compiles to vector tests.
+fn has_usual_bytes(text: &[u8]) -> bool
+    ensures { result ≡ list_all is_usual_byte text.now }
+{
+    let mut good = true;
+    for byte in text {
+        good &= is_usual_byte(*byte);
+    }
+    good
+}
+
+/// Returns `true` if the byte before this one is `/`.
+fn follows_slash(path: &[u8], at: usize) -> bool
+    requires { at < length path.now }
+    ensures { result ≡ false → (k : ℕ) → k + 1 ≡ at → slice_index path.now k ≡ 47 → ⊥ }
+{
+    at > 0 && path[at - 1] == b'/'
+}
+
+/// Returns `true` if no `.` follows a `/`.
+fn has_inner_dots(path: &[u8]) -> bool
+    ensures { result ≡ true → HasInnerDots path.now (length path.now) }
+{
+    let mut at = 0;
+    'dots: while let Some(dot) = memchr(b'.', &path[at..]) {
+        if follows_slash(path, at + dot) {
+            return false;
+        }
+        at += dot + 1;
+    }
+    true
+}
+
+/// Returns `true` for most texts that are a host and a path, if the URL parser leaves them as they are.
+fn is_usual(rest: &[u8], host: &[u8], tail: &[u8]) -> bool
+    requires whole { rest.now ≡ host.now ++ tail.now }
+    requires host { (k : ℕ) → k < length host.now → slice_index host.now k ≡ 47 → ⊥ }
+    requires tail { slice_index tail.now 0 ≡ 47 }
+    ensures host { result ≡ true → IsPlainHost host.now }
+    ensures tail { result ≡ true → IsPlainTail tail.now }
+{
+    if !has_usual_bytes(rest) {
+        return false;
+    }
+    has_plain_label(host) && has_inner_dots(tail)
+}
+
 /// Returns the text behind the scheme and `://`, if the target is a web URL.
 fn without_scheme(target: &str) -> Option<&str>
     ensures { IfSome result (λ rest. IsBehindScheme target.now rest.now) }
@@ -154,7 +213,9 @@ pub(crate) fn plain_url(target: &str) -> Option<PlainUrl<'_>>
     let rest = without_scheme(target)?;
     let slash = memchr(b'/', rest.as_bytes())?;
     let (host, tail) = rest.split_at_checked(slash)?;
-    if is_plain_host(host.as_bytes()) && is_plain_tail(tail.as_bytes()) {
+    if is_usual(rest.as_bytes(), host.as_bytes(), tail.as_bytes())
+        || is_plain_host(host.as_bytes()) && is_plain_tail(tail.as_bytes())
+    {
         Some(PlainUrl { host, tail })
     } else {
         None

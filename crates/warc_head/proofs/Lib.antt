@@ -8,7 +8,6 @@ pub mod DateLemmas
 pub mod SpellingLemmas
 pub mod FoldingLemmas
 pub mod TrimLemmas
-pub mod FirstPlace
 pub mod MandatoryLemmas
 pub mod LaneLemmas
 pub mod ReadLemmas

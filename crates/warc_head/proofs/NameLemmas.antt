@@ -1,12 +1,18 @@
 -- Tokens of HTTP are the names of fields: both are of the visible ASCII characters but the separators.
-use Rattle.std.proofs.Common.{◌≡◌, ℕ, zero, suc, ◌<◌, Bool, true, ◌&&◌, List, [], ◌∷◌, get_or, refl}
-use Rattle.std.proofs.Common.{arith}
+use Rattle.std.proofs.Common.{◌≡◌, ℕ, zero, suc, ◌<◌, ◌≤◌, Bool, true, false, ◌&&◌, List, [], ◌∷◌, get_or, length, take}
+use Rattle.std.proofs.Common.{Ok, arith, length-take-le, refl}
 use Rattle.std.specs.Bool.{beq}
 use Rattle.std.specs.List.{list_all}
 use Rattle.std.specs.Prelude.{◌==◌, not, nat_lt}
 use Rattle.std.proofs.lemmas.Bool.Decides.{nat_tests}
+use Rattle.std.specs.Prelude.{slice_index}
 use Rattle.httparse.specs.Grammar.{is_token_byte, is_token}
+use Rattle.httparse.specs.Pieces.{AllPassBetween}
+use Rattle.warc_head.specs.Fields.{Field, at_colon, field_in}
+use Rattle.warc_head.specs.Lines.{continues}
 use Rattle.warc_head.specs.Names.{is_name_byte, is_name}
+use Rattle.warc_head.specs.Spans.{EndsName}
+use Rattle.warc_head.proofs.LineLemmas.{colon_at}
 
 -- the two tests agree below n
 agree_below : (ℕ → Bool) → (ℕ → Bool) → ℕ → Bool
@@ -33,3 +39,32 @@ some_byte n = grind (arith, nat_tests)
 
 pub token_is_name : (name : List ℕ) → ((k : ℕ) → get_or name k 0 < 256) → is_token name ≡ is_name name
 token_is_name name h = grind (arith, some_byte, token_bytes)
+
+-- the first bytes of a line, which a name may contain
+name_bytes : (line : List ℕ) (end : ℕ) → AllPassBetween is_name_byte line 0 end → end ≤ length line
+    → list_all is_name_byte (take end line) ≡ true
+name_bytes (b ∷ bs) (suc end) pass l =
+    let first = pass 0 (omega arith) (omega arith) in
+    let ih = name_bytes bs end (λ k m n. pass (suc k) (omega arith) (omega arith)) (omega arith) in
+    grind arith
+name_bytes line end pass l = grind arith
+
+-- no colon is among them
+no_colon : (b : ℕ) → is_name_byte b ≡ true → (b == 58) ≡ true → ⊥
+no_colon b h e = grind arith
+
+-- where a colon follows them, they are a name
+pub name_before : (line : List ℕ) (end : ℕ) → 0 < end → end < length line → AllPassBetween is_name_byte line 0 end
+    → slice_index line end ≡ 58 → EndsName line end
+unfolding field_in
+name_before line end some within pass mark =
+    let bytes = name_bytes line end pass (omega arith) in
+    let long = length-take-le end line (omega arith) in
+    let colon = colon_at line end within (grind arith) (λ k l. no_colon (get_or line k 0) (pass k (omega arith) l)) in
+    (within, grind (arith, some_byte, nat_tests))
+
+-- a line that begins a field doesn't go on with the field before
+pub not_continued : (line : List ℕ) (f : Field) → field_in line ≡ Ok f → continues line ≡ false
+unfolding field_in at_colon
+not_continued [] f h = refl
+not_continued (b ∷ bs) f h = grind arith

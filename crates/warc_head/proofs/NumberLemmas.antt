@@ -1,9 +1,7 @@
 -- Numbers of few digits.
 use Rattle.std.proofs.Math.Nat.{pow-le-pow_right, one-le-pow}
 use Rattle.std.proofs.lemmas.Grind.{pow_more}
-use Rattle.std.proofs.Common.{◌≡◌, ℕ, ◌+◌, ◌-◌, ◌*◌, ◌^◌, ◌<◌, ◌≤◌, arith, lit<, List, ◌∷◌, length, true}
-use Rattle.std.proofs.lemmas.Bool.Decides.{nat_tests}
-use Rattle.warc_head.specs.Length.{all_digits}
+use Rattle.std.proofs.Common.{◌≡◌, ℕ, ◌+◌, ◌-◌, ◌*◌, ◌^◌, ◌<◌, ◌≤◌, arith, lit<, List, ◌∷◌, length}
 
 -- one digit more
 pub digit-more : (n d k : ℕ) → n < 10 ^ k → d ≤ 9 → 10 * n + d < 10 ^ (k + 1)
@@ -17,10 +15,9 @@ pub start-small : (k : ℕ) → 0 < 10 ^ k
 start-small k = one-le-pow k 10 (lit< tt)
 
 -- the next digit keeps the number small
-pub step-small : (n : ℕ) (rest : List ℕ) (d : ℕ) (later : List ℕ) → rest ≡ d ∷ later → all_digits rest ≡ true
-    → length rest ≤ 19 → n < 10 ^ (19 - length rest)
+pub step-small : (n : ℕ) (rest : List ℕ) (d : ℕ) (later : List ℕ) → rest ≡ d ∷ later → d ≤ 57 → length rest ≤ 19
+    → n < 10 ^ (19 - length rest)
     → (10 * n + (d - 48) < 10000000000000000000) × (10 * n + (d - 48) < 10 ^ (19 - length later))
-    × (all_digits later ≡ true)
 step-small n rest d later e a l h =
     let more = digit-more n (d - 48) (19 - length rest) in
-    grind (arith, nat_tests, few-digits (10 * n + (d - 48)) (19 - length later))
+    grind (arith, few-digits (10 * n + (d - 48)) (19 - length later))

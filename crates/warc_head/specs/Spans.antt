@@ -1,8 +1,8 @@
 -- Where fields stand in a text.
-use Rattle.std.specs.Prelude.{◌≡◌, ℕ, ◌+◌, ◌-◌, ◌≤◌, List, [], ◌∷◌, ◌++◌, take, drop, map}
+use Rattle.std.specs.Prelude.{◌≡◌, ℕ, ◌+◌, ◌-◌, ◌<◌, ◌≤◌, List, [], ◌∷◌, ◌++◌, length, take, drop, map, Ok}
 use Rattle.warc_head.specs.Bytes.{space}
 use Rattle.warc_head.specs.declared.spans.FieldSpan.{FieldSpan}
-use Rattle.warc_head.specs.Fields.{Field}
+use Rattle.warc_head.specs.Fields.{Field, field_in}
 use Rattle.warc_head.specs.Lines.{trim}
 
 -- a span in a text of this length
@@ -50,3 +50,8 @@ abbrev pub joint : List ℕ → List ℕ → List ℕ
 joint [] piece = piece
 joint (b ∷ bs) [] = []
 joint (b ∷ bs) (c ∷ cs) = space ∷ c ∷ cs
+
+-- the line begins a field whose name ends at this offset
+abbrev pub EndsName : List ℕ → ℕ → Type 0
+EndsName line end = (end < length line)
+    × (field_in line ≡ Ok (record { name = take end line; value = trim (drop (end + 1) line) }))

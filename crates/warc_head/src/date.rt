@@ -107,6 +107,9 @@ fn full_date(text: &[u8], size: usize) -> [u8; 19]
     requires whole { size ≤ 19 }
     ensures { result ≡ full_date text.now size }
 {
+    if let Ok(whole) = <&[u8; 19]>::try_from(&text[..size]) {
+        return *whole;
+    }
     let mut whole = *b"0000-01-01T00:00:00";
     whole[..size].copy_from_slice(&text[..size]);
     whole

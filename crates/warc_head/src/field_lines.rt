@@ -1,21 +1,22 @@
 //! The lines of a head's fields.
-ghost use Rattle.std.specs.Prelude.{◌≡◌, length, All, MatchOption, Some, IfOk, IfSome, OnOk, Ok, Err};
-ghost use Rattle.memchr.specs.Find.{IsFirstByte, is_byte};
+ghost use Rattle.std.specs.Prelude.{◌≡◌, ◌≤◌, length, All, MatchOption, Some, IfOk, IfSome, OnOk, Ok, Err};
+ghost use Rattle.httparse.specs.Pieces.{AllPassBetween};
 ghost use Rattle.warc_head.specs.Answers.{AgreesWith};
 ghost use Rattle.warc_head.specs.declared.fault.HeadFault.TheVariants.{FieldLine};
 ghost use Rattle.warc_head.specs.Fields.{field_in, fields_of};
 ghost use Rattle.warc_head.specs.Lines.{EndsLine};
+ghost use Rattle.warc_head.specs.Names.{is_name_byte};
 ghost use Rattle.warc_head.specs.Parts.{field_lines_in};
-ghost use Rattle.warc_head.specs.Spans.{Continues, IsWithin, field_at, fields_at};
+ghost use Rattle.warc_head.specs.Spans.{Continues, EndsName, IsWithin, field_at, fields_at};
 ghost use Rattle.warc_head.specs.Usual.{BeginsWithHead};
 
 use crate::continuing::continue_field;
 use crate::fault::HeadFault;
-use crate::lanes::{HALF_LANES, LANES, run_to_colon, run_to_colon_half};
+use crate::lanes::{HALF_LANES, run_of_letters};
 use crate::lines::{continues, line_end, trimmed};
 use crate::names::is_name;
 use crate::spans::FieldSpan;
-use memchr::memchr_iter;
+use memchr::memchr;
 use std::alloc::{AllocError, Global};
 
 /// The length of a version line in bytes: `WARC/1.1` or `WARC/1.0`, and CR LF.
@@ -81,9 +82,6 @@ pub fn usual_fields(alloc: Global, text: &[u8]) -> Result<Option<UsualFields>, A
                 size: at + 2,
             }));
         }
-        if continues(&text[at..stop]) {
-            return Ok(None);
-        }
         let Some(span) = field_in(&text[at..stop]) else {
             return Ok(None);
         };
@@ -95,16 +93,12 @@ pub fn usual_fields(alloc: Global, text: &[u8]) -> Result<Option<UsualFields>, A
 
 /// Returns the span of the field that begins on a line.
 #[inline(always)]
-#[tactic(auto, unfolding(crate::specs::Fields::field_in))]
 fn field_in(line: &[u8]) -> Option<FieldSpan>
     ensures { MatchOption result
         (field_in line.now ≡ Err FieldLine)
         (λ p. IsWithin (length line.now) p × (field_in line.now ≡ Ok (field_at line.now p))) }
 {
-    let name_end = colon(line)?;
-    if !is_name(&line[..name_end]) {
-        return None;
-    }
+    let name_end = name_end(line)?;
     let (value_start, value_end) = trimmed(line, name_end + 1, line.len());
     Some(FieldSpan {
         name_start: 0,
@@ -114,20 +108,44 @@ fn field_in(line: &[u8]) -> Option<FieldSpan>
     })
 }
 
-/// Returns the offset of the first colon. Most stand among the first bytes.
-fn colon(line: &[u8]) -> Option<usize>
-    ensures { IsFirstByte (is_byte 58) line.now result }
+/// Returns the offset of the first colon, if a name stands before it. Most names are letters and hyphens.
+#[inline(always)]
+fn name_end(line: &[u8]) -> Option<usize>
+    ensures { MatchOption result (field_in line.now ≡ Err FieldLine) (EndsName line.now) }
 {
-    if line.len() >= LANES {
-        let run = run_to_colon(line, 0);
-        if run < LANES {
-            return Some(run);
-        }
-    } else if line.len() >= HALF_LANES {
-        let run = run_to_colon_half(line, 0);
+    let end = letters_end(line);
+    match line.get(end) {
+        Some(b':') if end > 0 => Some(end),
+        _ => any_name_end(line),
+    }
+}
+
+/// Returns the offset up to which the first bytes are letters and hyphens, or a lower one.
+#[inline(always)]
+fn letters_end(line: &[u8]) -> usize
+    ensures within { result ≤ length line.now }
+    ensures name { AllPassBetween is_name_byte line.now 0 result }
+{
+    let mut at = 0;
+    'steps: while line.len() - at >= HALF_LANES {
+        let run = run_of_letters(line, at);
+        at += run;
         if run < HALF_LANES {
-            return Some(run);
+            return at;
         }
     }
-    memchr_iter(b':', line).next()
+    at
+}
+
+/// Like `name_end`, for any name.
+#[cold]
+fn any_name_end(line: &[u8]) -> Option<usize>
+    ensures { MatchOption result (field_in line.now ≡ Err FieldLine) (EndsName line.now) }
+{
+    let end = memchr(b':', line)?;
+    if is_name(&line[..end]) {
+        Some(end)
+    } else {
+        None
+    }
 }

@@ -1,9 +1,9 @@
 //! The bytes of a head's text, 32 at a time.
 ghost use Rattle.std.specs.Prelude.{◌≡◌, ◌+◌, ◌<◌, ◌≤◌, ℕ, length, slice_index};
-ghost use Rattle.httparse.specs.Pieces.{IsRunIn, first_set};
+ghost use Rattle.httparse.specs.Pieces.{IsRunIn, PassesIn, first_set};
 ghost use Rattle.warc_head.specs.Bytes.{lf};
 ghost use Rattle.warc_head.specs.Lines.{is_content};
-ghost use Rattle.warc_head.specs.Fields.{is_no_colon};
+ghost use Rattle.warc_head.specs.Names.{is_name_byte};
 
 use std::simd::prelude::*;
 
@@ -47,24 +47,16 @@ pub(crate) fn run_to_break_half(text: &[u8], at: usize) -> usize
     first_set(breaks.to_bitmask(), HALF_LANES)
 }
 
-/// Returns how many of the 32 bytes from `at` on precede the first colon, or 32 if there is none.
+/// Returns how many of the 16 bytes from `at` on precede the first that is neither a letter nor `-`, or 16 if there is none.
 #[inline(always)]
-pub(crate) fn run_to_colon(text: &[u8], at: usize) -> usize
-    requires { at + LANES ≤ length text.now }
-    ensures { IsRunIn is_no_colon text.now at LANES result }
-{
-    let colons = u8x32::from_slice(&text[at..]).simd_eq(u8x32::splat(b':'));
-    first_set(colons.to_bitmask(), LANES)
-}
-
-/// Returns how many of the 16 bytes from `at` on precede the first colon, or 16 if there is none.
-#[inline(always)]
-pub(crate) fn run_to_colon_half(text: &[u8], at: usize) -> usize
+pub(crate) fn run_of_letters(text: &[u8], at: usize) -> usize
     requires { at + HALF_LANES ≤ length text.now }
-    ensures { IsRunIn is_no_colon text.now at HALF_LANES result }
+    ensures { PassesIn is_name_byte text.now at HALF_LANES result }
 {
-    let colons = u8x16::from_slice(&text[at..]).simd_eq(u8x16::splat(b':'));
-    first_set(colons.to_bitmask(), HALF_LANES)
+    let bytes = u8x16::from_slice(&text[at..]);
+    let from_a = (bytes | u8x16::splat(0x20)) - u8x16::splat(b'a');
+    let stops = from_a.simd_ge(u8x16::splat(26)) & bytes.simd_ne(u8x16::splat(b'-'));
+    first_set(stops.to_bitmask(), HALF_LANES)
 }
 
 /// Returns how many of the 32 offsets from `at` on precede the first that has an LF one byte and three bytes after it, as

@@ -1,5 +1,5 @@
 //! The length of a block.
-ghost use Rattle.std.specs.Prelude.{◌≡◌, ◌≤◌, ◌^◌, ◌-◌, length, true, IfOk};
+ghost use Rattle.std.specs.Prelude.{◌≡◌, ◌≤◌, ◌^◌, ◌-◌, length, true, false, IfOk, MatchOption};
 ghost use Rattle.warc_head.specs.Answers.{AgreesWith};
 ghost use Rattle.warc_head.specs.Length.{all_digits, number_of, length_of};
 
@@ -11,14 +11,13 @@ pub fn length_of(value: &[u8]) -> Result<u64, HeadFault>
     ensures answer { AgreesWith (λ n. n) result (length_of value.now) }
     ensures bound { IfOk result (λ n. n ≤ 2 ^ 63 - 1) }
 {
-    if value.is_empty() || value.len() > 19 || !all_digits(value) {
+    if value.is_empty() || value.len() > 19 {
         return Err(HeadFault::BadLength);
     }
-    let number = number_of(value);
-    if number > i64::MAX as u64 {
-        return Err(HeadFault::BadLength);
+    match number_of(value) {
+        Some(number) if number <= i64::MAX as u64 => Ok(number),
+        _ => Err(HeadFault::BadLength),
     }
-    Ok(number)
 }
 
 /// Returns `true` if each byte is an ASCII digit.
@@ -28,17 +27,20 @@ pub fn all_digits(text: &[u8]) -> bool
     text.iter().all(|byte| *byte >= b'0' && *byte <= b'9')
 }
 
-/// Returns the number that at most 19 digits spell.
-fn number_of(digits: &[u8]) -> u64
-    requires digits { all_digits digits.now ≡ true }
-    requires few { length digits.now ≤ 19 }
-    ensures { result ≡ number_of digits.now }
+/// Returns the number that a text of at most 19 bytes spells, if each byte is a digit.
+fn number_of(text: &[u8]) -> Option<u64>
+    requires { length text.now ≤ 19 }
+    ensures { MatchOption result (all_digits text.now ≡ false)
+        (λ n. (all_digits text.now ≡ true) × (n ≡ number_of text.now)) }
 {
     let mut number: u64 = 0;
-    let mut rest = digits;
+    let mut rest = text;
     while let Some((first, later)) = rest.split_first() {
+        if !first.is_ascii_digit() {
+            return None;
+        }
         number = 10 * number + u64::from(*first - b'0');
         rest = later;
     }
-    number
+    Some(number)
 }

@@ -1,5 +1,5 @@
 //! The lines of a head.
-ghost use Rattle.std.specs.Prelude.{◌≡◌, ◌≤◌, ℕ, List, MatchOption, length, drop};
+ghost use Rattle.std.specs.Prelude.{◌≡◌, ◌<◌, ◌≤◌, ℕ, List, MatchOption, length, drop, true};
 ghost use Rattle.httparse.specs.Pieces.{IsRunAt};
 ghost use Rattle.warc_head.specs.Lines.{BeginsWithLine, EndsLine, continues, is_content, is_white_space, trim_front, trim_end, trim};
 ghost use Rattle.warc_head.specs.Spans.{IsTrimmed};
@@ -83,9 +83,23 @@ pub fn trimmed(text: &[u8], from: usize, to: usize) -> (usize, usize)
     requires within { to ≤ length text.now }
     ensures { IsTrimmed text.now from to result.0 result.1 }
 {
+    if has_one_space(&text[from..to]) {
+        return (from + 1, to);
+    }
     let front = trim_front(&text[from..to]);
     let start = to - front.len();
     (start, start + trim_end(front).len())
+}
+
+/// Returns `true` for most texts that begin with one space and have no other white space at their ends.
+fn has_one_space(text: &[u8]) -> bool
+    ensures some { result ≡ true → 0 < length text.now }
+    ensures trimmed { result ≡ true → trim text.now ≡ drop 1 text.now }
+{
+    match text {
+        [b' ', first, .., last] => *first > b' ' && *last > b' ',
+        _ => false,
+    }
 }
 
 /// Returns the text without the white space at its start.

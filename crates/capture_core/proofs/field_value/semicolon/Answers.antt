@@ -1,7 +1,7 @@
 use Rattle.std.proofs.Common.{arith, ◌<◌, length, Option, IfSome, ℕ, List}
 use Rattle.memchr.specs.Find.{IsFirstByte, is_byte}
 use Rattle.cdxj_places.proofs.Found.{IsFirstByte_position}
-use Rattle.warc_head.proofs.FirstPlace.{first_place}
+use Rattle.capture_core.proofs.FirstPlace.{first_place}
 use Rattle.capture_core.specs.FieldValue.{semicolon}
 use Rattle.capture_core.proofs.field_value.semicolon.Goals as goal
 

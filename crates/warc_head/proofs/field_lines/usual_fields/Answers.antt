@@ -1,9 +1,11 @@
-use Rattle.std.proofs.Common.{◌≡◌, ◌+◌, length, arith}
+use Rattle.std.proofs.Common.{◌≡◌, ◌+◌, Ok, length, arith}
 use Rattle.std.proofs.lemmas.List.Elements.{All-nil}
+use Rattle.warc_head.specs.Fields.{field_in}
 use Rattle.warc_head.specs.Lines.{EndsLine}
 use Rattle.warc_head.specs.Spans.{IsWithin, between, field_at, fields_at, moved}
 use Rattle.warc_head.proofs.UsualLemmas.{seen-more, none-more, ended-more, within-more, closes, gives, start-none, start-seen}
 use Rattle.warc_head.proofs.UsualLemmas.{span-more, field-more}
+use Rattle.warc_head.proofs.NameLemmas.{not_continued}
 use Rattle.warc_head.proofs.field_lines.usual_fields.Goals as goal
 
 pub lines-init : goal.lines-init
@@ -40,13 +42,14 @@ lines-preserved c =
     let line = between at stop text in
     let inside : IsWithin (length line) span = grind arith in
     let moved_is : c.moved.result ≡ moved at span = grind arith in
+    let begins : field_in line ≡ Ok (field_at line span) = grind arith in
     let added = field-more text at stop ends c.lines.spans.items span inside in
     rw (c.in_ok-push.ensures.items, moved_is) (record {
       low = omega (arith, kept.low, ends.order);
       high = ends.within;
       before = ended-more text at stop ends;
       seen = rw added (seen-more text at stop ends kept.low (fields_at text c.lines.spans.items) (field_at line span) kept.seen
-          (grind arith) (grind arith));
+          (not_continued line (field_at line span) begins) begins);
       within = span-more text at stop ends c.lines.spans.items span inside kept.within;
       none = none-more text at stop ends (omega (arith, ends.order, c.if-stop-at.false)) kept.none;
     })

@@ -1,0 +1,10 @@
+use Rattle.std.proofs.Common.{◌-◌, ◌≤◌, length}
+use Rattle.httparse.specs.Pieces.{AllPassBetween}
+use Rattle.warc_head.specs.Names.{is_name_byte}
+use Rattle.warc_head.proofs.field_lines.letters_end.Given as goal
+
+abbrev pub invariant-steps : goal.invariant-steps
+invariant-steps l = (l.at ≤ length l.line) × AllPassBetween is_name_byte l.line 0 l.at
+
+abbrev pub decreases-steps : goal.decreases-steps
+decreases-steps l = length l.line - l.at
