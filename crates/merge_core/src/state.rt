@@ -37,6 +37,7 @@ impl MergeState {
     ghost use Rattle.merge_core.specs.Merging.{HaltedGroup};
     ghost use Rattle.merge_core.specs.Spending.{ReadUpto};
 
+    #[inline(always)]
     pub(crate) fn enqueue(
         &mut self,
         line: Option<Box<Line>>,
