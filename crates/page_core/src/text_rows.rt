@@ -1,13 +1,12 @@
-//! Rows of text pages and of pages of lines.
+//! Rows of text pages.
 ghost use Rattle.std.specs.Prelude.{◌≡◌, ◌++◌, codes, Option, IfOk, option_map};
 ghost use Rattle.std.specs.List.{join_by};
-ghost use Rattle.cdxj_core.specs.Members.{line_row};
 ghost use Rattle.page_core.specs.Rows.{row_value, escaped, text_row};
 ghost use Rattle.page_core.specs.PageText.{key_lines};
 
 use crate::escaping::push_escaped;
 use crate::hidden::count_hidden;
-use cdxj_core::{Field, Line, LineRef};
+use cdxj_core::{Field, LineRef};
 use std::alloc::AllocError;
 
 fn push_later_escaped(text: &mut Vec<u8>, value: &str) -> Result<(), AllocError>
@@ -71,15 +70,6 @@ pub(crate) fn push_text_row(
         text.truncate(start);
         push_text_values(text, fields, line)?;
     }
-    text.extend_from_slice(b"\n")?;
-    Ok(())
-}
-
-/// Appends the line to the text as it stands in its index, with a line feed.
-pub(crate) fn push_line_row(text: &mut Vec<u8>, line: &Line) -> Result<(), AllocError>
-    ensures { IfOk result (λ _. text.new.items ≡ text.old.items ++ line_row line.now) }
-{
-    text.extend_from_slice(line.line())?;
     text.extend_from_slice(b"\n")?;
     Ok(())
 }
