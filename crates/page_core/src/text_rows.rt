@@ -66,7 +66,7 @@ pub(crate) fn push_text_row(
 {
     let start = text.len();
     push_plain_values(text, fields, line)?;
-    if count_hidden(&text[start..]) >= fields.len() {
+    if count_hidden(text, start)? >= fields.len() {
         text.truncate(start);
         push_text_values(text, fields, line)?;
     }
