@@ -6,7 +6,7 @@ ghost use Rattle.page_core.specs.PageText.{key_lines};
 
 use crate::escaping::push_escaped;
 use crate::hidden::count_hidden;
-use cdxj_core::{Field, LineRef};
+use cdxj_core::{Field, Line, LineRef};
 use std::alloc::AllocError;
 
 fn push_later_escaped(text: &mut Vec<u8>, value: &str) -> Result<(), AllocError>
@@ -54,15 +54,11 @@ fn push_plain_values(
     Ok(())
 }
 
-/// Appends the values of the fields to the text, separated by one space, and a line feed. The
-/// values are escaped if they have hidden bytes, so that the row has more of these than the spaces
-/// between its values.
-pub(crate) fn push_text_row(
-    text: &mut Vec<u8>,
-    fields: &[Field],
-    line: &LineRef<'_>,
-) -> Result<(), AllocError>
-    ensures { IfOk result (λ _. text.new.items ≡ text.old.items ++ text_row fields.now line.now) }
+/// Appends the values of the fields to the text, separated by one space. The values are escaped if
+/// they have hidden bytes, so that the row has more of these than the spaces between its values.
+fn push_values(text: &mut Vec<u8>, fields: &[Field], line: &LineRef<'_>) -> Result<(), AllocError>
+    ensures { IfOk result (λ _. text.new.items ≡ text.old.items
+        ++ join_by (λ f. escaped (row_value line.now f)) (codes " ") fields.now) }
 {
     let start = text.len();
     push_plain_values(text, fields, line)?;
@@ -70,6 +66,18 @@ pub(crate) fn push_text_row(
         text.truncate(start);
         push_text_values(text, fields, line)?;
     }
+    Ok(())
+}
+
+/// Appends the values of the fields to the text, separated by one space, and a line feed.
+pub(crate) fn push_text_row(
+    text: &mut Vec<u8>,
+    fields: &[Field],
+    line: &Line,
+) -> Result<(), AllocError>
+    ensures { IfOk result (λ _. text.new.items ≡ text.old.items ++ text_row fields.now line.now) }
+{
+    push_values(text, fields, &line.values())?;
     text.extend_from_slice(b"\n")?;
     Ok(())
 }
