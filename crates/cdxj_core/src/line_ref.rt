@@ -6,9 +6,7 @@ use crate::body::{ascii_text, body_of, unescaped_text};
 use crate::field::Field;
 use crate::limit::LINE_LIMIT;
 use crate::spans::{Spans, TO_OBJECT, TO_STAMP, TO_STAMP_END};
-use cdxj_objects::{
-    Members, has_stamp, is_plain_text, or_missing, place_of_either, plain_members, texts_at,
-};
+use cdxj_objects::{Members, has_stamp, or_missing, place_of_either, plain_members, texts_at};
 use cdxj_places::{HasPlace, Pair, Place};
 use std::cmp::Ordering;
 use std::marker::Model;
@@ -175,7 +173,8 @@ impl<'a> LineRef<'a> {
         ensures { result ≡ true → (field : Field)
             → list_all is_plain (field_value field self.now.values) ≡ true }
     {
-        self.spans.size == self.text.len() && is_plain_text(self.key().as_bytes())
+        self.spans.size == self.text.len()
+            && place_of_either(self.text.as_bytes(), 0, b'"', b'\\') >= self.spans.key
     }
 }
 

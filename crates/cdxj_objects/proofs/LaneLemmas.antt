@@ -27,6 +27,25 @@ pub front_behind : (p : ℕ → Bool) (k : ℕ) (xs : List ℕ) → k ≤ prefix
 front_behind p (suc k) (x ∷ xs) h = grind (arith, front_behind p k xs)
 front_behind p k xs h = grind arith
 
+-- ---- masks
+
+-- a mask of n lanes, whose first bit that is set stands behind this many
+abbrev pub Stops : ℕ → ℕ → ℕ → Type 0
+Stops mask n run = (cond (eqb mask 0) n (trailing_zeros w64 mask) ≡ run)
+    × (0 < mask → trailing_zeros w64 mask < n)
+
+-- a mask is empty if no lane stops the run
+empty_mask : (p : ℕ → Bool) (v : List ℕ) → prefix_len (λ x. not (p x)) v ≡ length v → mask_l (map p v) ≡ 0
+empty_mask p [] h = refl
+empty_mask p (x ∷ xs) h = grind (arith, empty_mask p xs)
+
+mask_stops : (p : ℕ → Bool) (v : List ℕ) (n : ℕ) → length v ≡ n → n ≤ 64
+    → Stops (mask_l (map p v)) n (prefix_len (λ x. not (p x)) v)
+mask_stops p v n long few =
+    let first = first_set_mask_l p v n long few in
+    let most = prefix_len-le-length (λ x. not (p x)) v in
+    (first, grind (arith, empty_mask p v))
+
 -- ---- either of two bytes
 
 abbrev pub is_either : ℕ → ℕ → ℕ → Bool
@@ -40,7 +59,7 @@ either_tops : (first second : ℕ) (v : List ℕ) → map (λ x. top 7 (either_l
     (is_either first second) v
 either_tops first second v = grind arith
 
-pub either_masks : (first second : ℕ) (v z : List ℕ) → length v ≡ 16 → z ≡ map (either_lane first second) v
+either_masks : (first second : ℕ) (v z : List ℕ) → length v ≡ 16 → z ≡ map (either_lane first second) v
     → mask_l (map (top 7) z) % 2 ^ 64 ≡ mask_l (map (is_either first second) v)
 either_masks first second v z long e =
     grind (
@@ -53,9 +72,15 @@ either_masks first second v z long e =
 neither : (first second x : ℕ) → not (is_either first second x) ≡ is_neither first second x
 neither first second x = grind arith
 
-pub either_runs : (first second : ℕ) (v : List ℕ) → prefix_len (λ x. not (is_either first second x)) v ≡ prefix_len
+either_runs : (first second : ℕ) (v : List ℕ) → prefix_len (λ x. not (is_either first second x)) v ≡ prefix_len
     (is_neither first second) v
 either_runs first second v = λ i. prefix_len (λ x. neither first second x i) v
+
+pub either_first : (first second : ℕ) (v z : List ℕ) → length v ≡ 16 → z ≡ map (either_lane first second) v
+    → Stops (mask_l (map (top 7) z) % 2 ^ 64) 16 (prefix_len (is_neither first second) v)
+either_first first second v z long e =
+    rw (either_masks first second v z long e, ← either_runs first second v)
+    (mask_stops (is_either first second) v 16 long (omega arith))
 
 -- ---- digits
 
@@ -103,20 +128,10 @@ unescaped x = grind (arith, nat_tests)
 pub unescaped_runs : (v : List ℕ) → prefix_len (λ x. not (is_escaped x)) v ≡ prefix_len is_unescaped_ascii v
 unescaped_runs v = λ i. prefix_len (λ x. unescaped x i) v
 
--- a mask is empty if no lane stops the run
-pub empty_mask : (p : ℕ → Bool) (v : List ℕ) → prefix_len (λ x. not (p x)) v ≡ length v → mask_l (map p v) ≡ 0
-empty_mask p [] h = refl
-empty_mask p (x ∷ xs) h = grind (arith, empty_mask p xs)
-
 pub escaped_first : (v z : List ℕ) → length v ≡ 32 → z ≡ map escaped_lane v
-    → (cond (eqb (mask_l (map (top 7) z) % 2 ^ 64) 0) 32 (trailing_zeros w64 (mask_l (map (top 7) z) % 2 ^ 64))
-    ≡ prefix_len is_unescaped_ascii v)
-    × (0 < mask_l (map (top 7) z) % 2 ^ 64 → trailing_zeros w64 (mask_l (map (top 7) z) % 2 ^ 64) < 32)
+    → Stops (mask_l (map (top 7) z) % 2 ^ 64) 32 (prefix_len is_unescaped_ascii v)
 escaped_first v z long e =
-    let mask = escaped_masks v z long e in
-    let first = first_set_mask_l is_escaped v 32 long (omega arith) in
-    let most = prefix_len-le-length (λ x. not (is_escaped x)) v in
-    (rw mask (first ∙ unescaped_runs v), rw mask (grind (arith, empty_mask is_escaped v)))
+    rw (escaped_masks v z long e, ← unescaped_runs v) (mask_stops is_escaped v 32 long (omega arith))
 
 -- ---- the run of bytes that pass a test, cut behind a vector
 

@@ -31,15 +31,17 @@ pub(crate) fn holds_lanes(text: &[u8], at: usize) -> bool
     text.len() >= LANES && at <= text.len() - LANES
 }
 
-/// Returns how many of the 16 bytes from `at` on precede the first that is one of these two.
+/// Returns a mask of the 16 bytes from `at` on, in which the bits of these two are set.
 #[inline(always)]
-fn run_before(text: &[u8], at: usize, first: u8, second: u8) -> usize
+fn found_at(text: &[u8], at: usize, first: u8, second: u8) -> u64
     requires { at + LANES ≤ length text.now }
-    ensures { result ≡ prefix_len (is_neither first second) (take LANES (drop at text.now)) }
+    ensures first { (if result == 0 then LANES else trailing_zeros w64 result)
+        ≡ prefix_len (is_neither first second) (take LANES (drop at text.now)) }
+    ensures some { 0 < result → trailing_zeros w64 result < LANES }
 {
     let bytes = u8x16::from_slice(&text[at..]);
     let found = bytes.simd_eq(u8x16::splat(first)) | bytes.simd_eq(u8x16::splat(second));
-    first_set(found.to_bitmask())
+    found.to_bitmask()
 }
 
 /// Returns the place of the first byte from `at` on that is one of these two, or the length of the
@@ -53,13 +55,13 @@ pub fn place_of_either(text: &[u8], at: usize, first: u8, second: u8) -> usize
     if holds_lanes(text, at) {
         let last = text.len() - LANES;
         'by_lanes: while place < last {
-            let run = run_before(text, place, first, second);
-            if run < LANES {
-                return place + run;
+            let found = found_at(text, place, first, second);
+            if found != 0 {
+                return place + found.trailing_zeros() as usize;
             }
             place += LANES;
         }
-        return last + run_before(text, last, first, second);
+        return last + first_set(found_at(text, last, first, second));
     }
     'by_bytes: while place < text.len() && text[place] != first && text[place] != second {
         place += 1;

@@ -44,7 +44,7 @@ fn number_of(digits: &[u8]) -> u64
 {
     let mut number: u64 = 0;
     for byte in digits {
-        number = number * 10 + u64::from(*byte - b'0');
+        number = number * 10 + u64::from(*byte) - u64::from(b'0');
     }
     number
 }

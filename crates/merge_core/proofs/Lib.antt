@@ -2,7 +2,7 @@ pub mod Words
 pub mod PairOrder
 pub mod HeapLemmas
 pub mod TurnLemmas
-pub mod KeyStarts
+pub mod PairStarts
 pub mod Filters
 pub mod FeedLemmas
 pub mod StateLemmas

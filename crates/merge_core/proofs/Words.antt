@@ -6,7 +6,7 @@ pub use Rattle.cdxj_core.specs.declared.line.Line.{Line}
 pub use Rattle.cdxj_places.proofs.PairLemmas.{pair_cmp_total}
 pub use Rattle.cdxj_places.proofs.PlaceOrder.{place_cmp_total}
 pub use Rattle.cdxj_places.proofs.RisingLaws.{each_join, each_rising, each_weaker, rising_split}
-pub use Rattle.cdxj_places.specs.Abbreviated.{AreBytes, start_words}
+pub use Rattle.cdxj_places.specs.Abbreviated.{AreBytes}
 pub use Rattle.cdxj_places.specs.Pairs.{IsLeast, Pair, pair_cmp}
 pub use Rattle.cdxj_places.specs.Places.{place_cmp}
 pub use Rattle.cdxj_places.specs.Rising.{IsLower, NeverFalls, rising}

@@ -2,6 +2,7 @@ pub mod BoxedLines
 pub mod WaitingLines
 pub mod PairOrders
 pub mod TurnOrder
+pub mod PairStarts
 pub mod Feeds
 pub mod Gathering
 pub mod Failures

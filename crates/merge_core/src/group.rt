@@ -12,8 +12,8 @@ ghost use Rattle.merge_core.specs.LineFaults.{NamesLine};
 ghost use Rattle.merge_core.specs.Spending.{ReadTo};
 
 use crate::fault::FeedFault;
+use crate::keyed_line::KeyedLine;
 use crate::line_buffers::LineBuffers;
-use crate::pair::compare_pairs;
 use crate::range::Range;
 use cdxj_core::Line;
 use source_core::{Cursor, Source};
@@ -27,7 +27,7 @@ impl LineBuffers {
         &mut self,
         source: &mut S,
         cursor: &mut Cursor,
-        first: &Line,
+        first: &KeyedLine<'_>,
         range: &R,
         rest: &mut Vec<Box<Line>>,
     ) -> Result<Option<Box<Line>>, FeedFault>
@@ -50,7 +50,7 @@ impl LineBuffers {
     {
         let mut begin = cursor.at();
         while let Some(line) = self.next_line(source, cursor)? {
-            match compare_pairs(&line, first) {
+            match KeyedLine::new(&line).compare_pair(first) {
                 Ordering::Less => return Err(FeedFault::OutOfOrder(begin)),
                 Ordering::Greater => return Ok(self.within(Some(line), range)),
                 Ordering::Equal => rest.push(line)?,

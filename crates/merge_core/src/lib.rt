@@ -6,7 +6,6 @@
 mod fault;
 mod group;
 mod indexes;
-mod key_start;
 mod keyed_line;
 mod line_buffers;
 mod line_queue;
@@ -14,6 +13,7 @@ mod line_writer;
 mod merging;
 mod opening;
 mod pair;
+mod pair_start;
 mod queued_line;
 mod range;
 mod sink;

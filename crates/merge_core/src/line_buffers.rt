@@ -109,6 +109,7 @@ impl LineBuffers {
 
     /// Reads the next line of a source, if there is one.
     /// Errors are `Memory`, `Read` and `BadLine`.
+    #[inline(always)]
     pub fn next_line<S: Source>(
         &mut self,
         source: &mut S,

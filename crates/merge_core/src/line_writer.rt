@@ -34,7 +34,7 @@ impl LineWriter {
         ensures failures { CountsWriteFault result (O.failures out.old) (O.failures out.new) }
     {
         put(out, line.line())?;
-        put(out, b"\n")?;
+        out.write(b"\n")?;
         self.count = self.count.saturating_add(1);
         Ok(())
     }

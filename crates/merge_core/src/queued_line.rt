@@ -7,8 +7,8 @@ ghost use Rattle.std.proofs.lemmas.Cmp.{eq_by_cmp_equiv};
 ghost use Rattle.merge_core.specs.WaitingLines.{WaitingLine, waiting_cmp};
 ghost use Rattle.merge_core.specs.TurnOrder.{waiting_cmp_total};
 
-use crate::key_start::{KeyStart, key_start};
 use crate::keyed_line::KeyedLine;
+use crate::pair_start::{PairStart, pair_start};
 use cdxj_core::Line;
 use std::cmp::Ordering;
 use std::marker::Model;
@@ -18,22 +18,21 @@ use std::marker::Model;
 #[derive(Debug, Drop)]
 pub struct QueuedLine {
     /// Decides most comparisons without access to the line.
-    pub key_start: KeyStart,
+    pub pair_start: PairStart,
     pub line: Box<Line>,
     pub source: usize,
 }
 
 impl Model for QueuedLine {
-    ghost use Rattle.std.specs.Prelude.{◌≡◌};
-    ghost use Rattle.cdxj_places.specs.Abbreviated.{AreBytes, start_words};
+    ghost use Rattle.cdxj_core.specs.Members.{member_pair};
+    ghost use Rattle.merge_core.specs.PairStarts.{IsStart};
     ghost use Rattle.merge_core.specs.WaitingLines.{WaitingLine};
 
     ghost Value = { WaitingLine };
 
     ghost view = { λ w. record { member = w.line.value; source = w.source } };
 
-    ghost invariant = { λ w. (w.key_start ≡ start_words 16 w.line.value.values.key)
-        × AreBytes w.line.value.values.key };
+    ghost invariant = { λ w. IsStart w.pair_start (member_pair w.line.value) };
 }
 
 impl QueuedLine {
@@ -42,20 +41,17 @@ impl QueuedLine {
         ensures { result ≡ record { member = line.value; source = source } }
     {
         QueuedLine {
-            key_start: key_start(line.pair().key.as_bytes()),
+            pair_start: pair_start(&line),
             line,
             source,
         }
     }
 
-    /// Returns the line with the start of its key.
+    /// Returns the line with the start of its pair.
     pub fn keyed(&self) -> KeyedLine<'_>
         ensures { result ≡ self.now.member }
     {
-        KeyedLine {
-            key_start: self.key_start,
-            line: &self.line,
-        }
+        KeyedLine::with_start(self.pair_start, &self.line)
     }
 }
 

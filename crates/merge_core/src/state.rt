@@ -37,6 +37,7 @@ impl MergeState {
     ghost use Rattle.merge_core.specs.Merging.{HaltedGroup};
     ghost use Rattle.merge_core.specs.Spending.{ReadUpto};
 
+    #[inline(always)]
     pub(crate) fn enqueue(
         &mut self,
         line: Option<Box<Line>>,
@@ -59,7 +60,7 @@ impl MergeState {
         &mut self,
         sources: &mut [S],
         i: usize,
-        first: &Line,
+        first: &KeyedLine<'_>,
         range: &R,
         rest: &mut Vec<Box<Line>>,
     ) -> Result<(), MergeFault>
@@ -115,12 +116,12 @@ impl MergeState {
         let Some(next) = self.queue.pop() else {
             return Ok(None);
         };
-        let key_start = next.key_start;
+        let pair_start = next.pair_start;
         let mut i = next.source;
         let first = next.line;
-        let keyed = KeyedLine::new(key_start, &first);
+        let keyed = KeyedLine::with_start(pair_start, &first);
         'sources: loop {
-            self.read_on(sources, i, &first, range, rest)?;
+            self.read_on(sources, i, &keyed, range, rest)?;
             let Some(next) = self.queue.pop_at(&keyed) else {
                 return Ok(Some(first));
             };

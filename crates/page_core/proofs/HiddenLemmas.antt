@@ -1,9 +1,9 @@
 -- Hidden bytes, counted by vectors.
-use Rattle.std.proofs.Common.{◌≡◌, ◌∙◌, ℕ, ◌+◌, ◌-◌, ◌≤◌, ◌<◌, ◌%◌, ◌^◌, Bool, false, cond, List, [], ◌∷◌, ◌++◌}
-use Rattle.std.proofs.Common.{map, length, take, drop, eqb, leb, bit_or, count_ones, flat_map, refl, ap, length-append}
+use Rattle.std.proofs.Common.{◌≡◌, ◌∙◌, ℕ, ◌+◌, ◌≤◌, ◌<◌, ◌%◌, ◌^◌, Bool, false, cond, List, [], ◌∷◌, ◌++◌}
+use Rattle.std.proofs.Common.{map, length, take, drop, eqb, leb, bit_or, count_ones, flat_map, refl, ap}
 use Rattle.std.proofs.Common.{arith}
 use Rattle.std.specs.List.{count_by, join_by}
-use Rattle.std.proofs.lemmas.List.{length-map, take_all}
+use Rattle.std.proofs.lemmas.List.{length-map, take-append-drop}
 use Rattle.std.proofs.lemmas.List.Sums.{sum_by-append, sum_by-cons}
 use Rattle.std.proofs.Math.Seq.{drop-append_seam}
 use Rattle.std.proofs.lemmas.Simd.{map-map, mask_l-mod, ones-mask_l}
@@ -24,12 +24,17 @@ lanes_counted v z long e =
     ∙ ap count_ones (mask_l-mod (map is_hidden v) 64 (omega (arith, length-map v is_hidden, long)))
     ∙ ones-mask_l is_hidden v
 
+-- of no special bytes, none follows the first n
+pub none_left : (p : ℕ → Bool) (n : ℕ) (xs : List ℕ) → count_by p xs ≡ 0 → count_by p (drop n xs) ≡ 0
+none_left p n xs h =
+    let cut = ap (count_by p) (take-append-drop n xs) in
+    omega (arith, h, cut, sum_by-append (λ b. cond (p b) 1 0) (take n xs) (drop n xs))
+
 -- ---- rows that are written as their values stand
 
--- what was appended after this many bytes, as a part of the text
-pub appended : (old row text : List ℕ) (n : ℕ) → n ≡ length old → text ≡ old ++ row → take (length text - n)
-    (drop n text) ≡ row
-appended old row text n e is = grind (arith, length-append, drop-append_seam, take_all)
+-- what was appended after this many bytes
+pub appended : (old row text : List ℕ) (n : ℕ) → n ≡ length old → text ≡ old ++ row → drop n text ≡ row
+appended old row text n e is = grind (arith, drop-append_seam)
 
 -- Texts with one hidden byte between them. If there are no more in all, the texts are as they would be escaped.
 module _ {X : Type 0} (p : ℕ → Bool) (plain escaped : X → List ℕ) (between : List ℕ)

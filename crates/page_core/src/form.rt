@@ -1,11 +1,11 @@
 //! The form in which a page is written.
 ghost use Rattle.std.specs.Prelude.{◌≡◌, ◌++◌, IfOk, option_map};
-ghost use Rattle.page_core.specs.PageText.{page_start, row_text, page_end};
+ghost use Rattle.page_core.specs.PageText.{page_start, page_end};
 ghost use Rattle.page_core.specs.FormView.{form_view};
 
-use crate::json_rows::{push_json_end, push_json_row, push_json_start};
-use crate::text_rows::{push_key_lines, push_line_row, push_text_row};
-use cdxj_core::{Field, Line};
+use crate::json_rows::{push_json_end, push_json_start};
+use crate::text_rows::push_key_lines;
+use cdxj_core::Field;
 use std::alloc::{AllocError, Global};
 
 /// The output of a query, with the fields that it prints.
@@ -28,23 +28,6 @@ impl PageForm<'_> {
         match self {
             PageForm::Text(_) | PageForm::Cdxj => Ok(()),
             PageForm::Json(fields) => push_json_start(text, alloc, fields),
-        }
-    }
-
-    /// Appends to the text what a capture adds to a page.
-    pub(crate) fn push_row(
-        self,
-        text: &mut Vec<u8>,
-        alloc: Global,
-        line: &Line,
-    ) -> Result<(), AllocError>
-        ensures { IfOk result (λ _. text.new.items
-            ≡ text.old.items ++ row_text (form_view self.entry) line.now) }
-    {
-        match self {
-            PageForm::Text(fields) => { push_text_row(text, fields, &line.values()) }
-            PageForm::Cdxj => push_line_row(text, line),
-            PageForm::Json(fields) => { push_json_row(text, alloc, fields, &line.values()) }
         }
     }
 

@@ -1,11 +1,15 @@
 //! Hidden bytes: spaces, control characters and DEL, which text pages escape.
-ghost use Rattle.std.specs.Prelude.{◌≡◌, ◌+◌, ◌≤◌, length, take, drop};
+ghost use Rattle.std.specs.Prelude.{◌≡◌, ◌+◌, ◌≤◌, length, take, drop, IfOk};
 ghost use Rattle.std.specs.List.{count_by};
 ghost use Rattle.page_core.specs.Rows.{is_hidden};
 
+use std::alloc::AllocError;
 use std::simd::prelude::*;
 
 const LANES: usize = 16;
+
+/// Bytes that aren't hidden.
+const FILLER: [u8; LANES] = [b'-'; LANES];
 
 const DELETE: u8 = 0x7f;
 
@@ -27,19 +31,32 @@ fn count_lanes(bytes: &[u8], at: usize) -> usize
     found.to_bitmask().count_ones() as usize
 }
 
-/// Returns how many of the bytes are hidden.
-pub(crate) fn count_hidden(bytes: &[u8]) -> usize
+/// Returns how many of the bytes are hidden. Those behind the first `size` are a filler that isn't,
+/// so that whole lanes hold the others.
+fn count_before_filler(bytes: &[u8], size: usize) -> usize
+    requires long { size + LANES ≤ length bytes.now }
+    requires filler { count_by is_hidden (drop size bytes.now) ≡ 0 }
     ensures { result ≡ count_by is_hidden bytes.now }
 {
     let mut count = 0;
     let mut end = 0;
-    'by_lanes: while bytes.len() - end >= LANES {
+    'by_lanes: while end < size {
         count += count_lanes(bytes, end);
         end += LANES;
     }
-    'by_bytes: while end < bytes.len() {
-        count += usize::from(is_hidden(bytes[end]));
-        end += 1;
-    }
     count
+}
+
+/// Returns how many of the bytes from `start` on are hidden. The text is as before.
+/// The only error is refused memory.
+pub(crate) fn count_hidden(text: &mut Vec<u8>, start: usize) -> Result<usize, AllocError>
+    requires { start ≤ length text.old.items }
+    ensures text { text.new.items ≡ text.old.items }
+    ensures count { IfOk result (λ n. n ≡ count_by is_hidden (drop start text.old.items)) }
+{
+    let end = text.len();
+    text.extend_from_slice(&FILLER)?;
+    let count = count_before_filler(&text[start..], end - start);
+    text.truncate(end);
+    Ok(count)
 }

@@ -1,15 +1,28 @@
 //! The text of a page, written piece by piece.
 ghost use Rattle.std.specs.Prelude.{◌≡◌, option_map};
+ghost use Rattle.cdxj_core.specs.Members.{line_row};
 ghost use Rattle.devices.specs.Writing.{WritesText};
 ghost use Rattle.devices.specs.WriteFaults.{CountsWriteFault};
 ghost use Rattle.page_core.specs.FormView.{form_view};
 ghost use Rattle.page_core.specs.PageText.{page_start, row_text, page_end};
 
 use crate::form::PageForm;
+use crate::json_rows::push_json_row;
+use crate::text_rows::push_text_row;
 use cdxj_core::Line;
 use devices::{Output, WriteFault, put};
 use std::alloc::Global;
 use std::marker::Model;
+
+/// Writes a line as it stands in its index, with a line feed.
+fn put_line<O: Output>(line: &Line, out: &mut O) -> Result<(), WriteFault>
+    ensures text { WritesText result (O.written out.old) (O.written out.new) (line_row line.now) }
+    ensures failures { CountsWriteFault result (O.failures out.old) (O.failures out.new) }
+{
+    put(out, line.line())?;
+    out.write(b"\n")?;
+    Ok(())
+}
 
 /// Writes a page in one form: its start, a row for each capture, and its end. Each piece is built
 /// in one buffer, which is reused, and written whole.
@@ -64,7 +77,13 @@ impl<'f> PageOutput<'f> {
         ensures failures { CountsWriteFault result (O.failures out.old) (O.failures out.new) }
     {
         self.text.clear();
-        self.form.push_row(&mut self.text, self.alloc, line)?;
+        match self.form {
+            PageForm::Text(fields) => push_text_row(&mut self.text, fields, line)?,
+            PageForm::Json(fields) => {
+                push_json_row(&mut self.text, self.alloc, fields, &line.values())?
+            }
+            PageForm::Cdxj => return put_line(line, out),
+        }
         put(out, &self.text)?;
         Ok(())
     }

@@ -1,7 +1,6 @@
-//! Rows of text pages and of pages of lines.
+//! Rows of text pages.
 ghost use Rattle.std.specs.Prelude.{◌≡◌, ◌++◌, codes, Option, IfOk, option_map};
 ghost use Rattle.std.specs.List.{join_by};
-ghost use Rattle.cdxj_core.specs.Members.{line_row};
 ghost use Rattle.page_core.specs.Rows.{row_value, escaped, text_row};
 ghost use Rattle.page_core.specs.PageText.{key_lines};
 
@@ -55,31 +54,30 @@ fn push_plain_values(
     Ok(())
 }
 
-/// Appends the values of the fields to the text, separated by one space, and a line feed. The
-/// values are escaped if they have hidden bytes, so that the row has more of these than the spaces
-/// between its values.
-pub(crate) fn push_text_row(
-    text: &mut Vec<u8>,
-    fields: &[Field],
-    line: &LineRef<'_>,
-) -> Result<(), AllocError>
-    ensures { IfOk result (λ _. text.new.items ≡ text.old.items ++ text_row fields.now line.now) }
+/// Appends the values of the fields to the text, separated by one space. The values are escaped if
+/// they have hidden bytes, so that the row has more of these than the spaces between its values.
+fn push_values(text: &mut Vec<u8>, fields: &[Field], line: &LineRef<'_>) -> Result<(), AllocError>
+    ensures { IfOk result (λ _. text.new.items ≡ text.old.items
+        ++ join_by (λ f. escaped (row_value line.now f)) (codes " ") fields.now) }
 {
     let start = text.len();
     push_plain_values(text, fields, line)?;
-    if count_hidden(&text[start..]) >= fields.len() {
+    if count_hidden(text, start)? >= fields.len() {
         text.truncate(start);
         push_text_values(text, fields, line)?;
     }
-    text.extend_from_slice(b"\n")?;
     Ok(())
 }
 
-/// Appends the line to the text as it stands in its index, with a line feed.
-pub(crate) fn push_line_row(text: &mut Vec<u8>, line: &Line) -> Result<(), AllocError>
-    ensures { IfOk result (λ _. text.new.items ≡ text.old.items ++ line_row line.now) }
+/// Appends the values of the fields to the text, separated by one space, and a line feed.
+pub(crate) fn push_text_row(
+    text: &mut Vec<u8>,
+    fields: &[Field],
+    line: &Line,
+) -> Result<(), AllocError>
+    ensures { IfOk result (λ _. text.new.items ≡ text.old.items ++ text_row fields.now line.now) }
 {
-    text.extend_from_slice(line.line())?;
+    push_values(text, fields, &line.values())?;
     text.extend_from_slice(b"\n")?;
     Ok(())
 }

@@ -1,4 +1,5 @@
-use Rattle.std.proofs.Common.{◌≤◌, length, take, length-take, arith}
+use Rattle.std.proofs.Common.{◌≡◌, ◌≤◌, ℕ, true, get_or, length, take, length-take, arith}
+use Rattle.std.proofs.lemmas.Bool.Decides.{nat_tests}
 use Rattle.std.specs.Char.{is_ascii_digit}
 use Rattle.std.proofs.lemmas.List.Sums.{AllPass-from_list_all}
 use Rattle.std.proofs.lemmas.Str.Parse.{digits_value_short}
@@ -6,12 +7,18 @@ use Rattle.cdxj_places.proofs.Offsets.{OneMore, one_more, own}
 use Rattle.cdxj_objects.proofs.plain.number_of.Goals as goal
 use Rattle.cdxj_objects.proofs.plain.number_of.Goals.{In-loop-byte}
 
+digit_least : (b : ℕ) → is_ascii_digit b ≡ true → 48 ≤ b
+digit_least b h = grind (arith, nat_tests)
+
+digit : (c : In-loop-byte) → is_ascii_digit (get_or c.args.digits.now c.loop-byte.byte-index 0) ≡ true
+digit c =
+    AllPass-from_list_all is_ascii_digit c.args.digits.now c.requires.digits c.loop-byte.byte-index 0
+    c.loop-byte-test.true
+
 with_this : (c : In-loop-byte) → OneMore c.args.digits.now c.loop-byte.byte-index
 with_this c =
     one_more c.args.digits.now c.loop-byte.byte-index c.loop-byte-test.true (omega arith)
-    c.loop-byte.invariant.digits
-    (AllPass-from_list_all is_ascii_digit c.args.digits.now c.requires.digits c.loop-byte.byte-index 0
-    c.loop-byte-test.true)
+    c.loop-byte.invariant.digits (digit c)
 
 pub overflow_mul-number : goal.overflow_mul-number
 overflow_mul-number c =
@@ -25,7 +32,9 @@ overflow_add-number c =
 
 pub loop-byte-preserved : goal.loop-byte-preserved
 loop-byte-preserved c =
-    let more = with_this (goal.at.loop-byte-preserved c).In-loop-byte in
+    let here = (goal.at.loop-byte-preserved c).In-loop-byte in
+    let more = with_this here in
+    let least = digit_least (get_or c.args.digits.now c.loop-byte.byte-index 0) (digit here) in
     grind arith
 
 pub returns-clause-small : goal.returns-clause-small

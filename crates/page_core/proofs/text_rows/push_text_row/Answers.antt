@@ -1,7 +1,8 @@
-use Rattle.std.proofs.Common.{append_assoc, arith}
-use Rattle.page_core.proofs.HiddenLemmas.{appended, text_same}
+use Rattle.std.proofs.Common.{◌≡◌, ◌++◌, append_assoc, arith, subst}
+use Rattle.page_core.specs.Rows.{text_row}
 use Rattle.page_core.proofs.text_rows.push_text_row.Goals as goal
-use Rattle.std.proofs.Math.Seq.{take-append_seam}
 
 pub returns : goal.returns
-returns c = grind (arith, take-append_seam, appended, text_same, append_assoc)
+returns c =
+    subst (λ m. c.extend_from_slice.new.self.items ≡ c.args.text.now.items ++ text_row c.args.fields.now m)
+    c.values.ensures (grind (arith, append_assoc))

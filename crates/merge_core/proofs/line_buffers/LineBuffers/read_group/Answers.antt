@@ -8,7 +8,7 @@ use Rattle.merge_core.proofs.FeedLemmas.{order_named, same_stays, settled_more}
 use Rattle.merge_core.proofs.FailLemmas.{if_err}
 use Rattle.merge_core.proofs.PairOrder.{from_not_below, upto_upto}
 use Rattle.merge_core.proofs.line_buffers.LineBuffers.read_group.Given.{Over}
-use Rattle.merge_core.proofs.line_buffers.LineBuffers.read_group.Goals.{After-compare_pairs, After-next_line}
+use Rattle.merge_core.proofs.line_buffers.LineBuffers.read_group.Goals.{After-compare_pair, After-next_line}
 use Rattle.merge_core.proofs.line_buffers.LineBuffers.read_group.Goals as goal
 
 -- a line above the pair
@@ -20,7 +20,7 @@ length_waits : (past : List ℕ → Bool) (m : Member) → length (filter (stays
 length_waits past m = grind arith
 
 -- a line was read that isn't below the first one
-was_read : (g : Over) (c : After-compare_pairs g) → is_lt c.compare_pairs.result ≡ false
+was_read : (g : Over) (c : After-compare_pair g) → is_lt c.compare_pair.result ≡ false
     → LineRead LINE_LIMIT (g.R.Range.past c.args.range.now) (g.S.Source.text c.next_line.new.source)
     (g.S.Source.extent c.next_line.new.source) c.loop-line.cursor c.next_line.new.cursor c.in-Some.line.value
 was_read g c not_less =
@@ -53,7 +53,7 @@ returns-in-Greater-clause-read g c =
     let inv = c.loop-line.invariant in
     let turned = pair_cmp_total.antisymm (member_pair c.args.first.now) (member_pair c.in-Some.line.value) in
     let here = goal.at.returns-in-Greater-clause-read g c in
-    let read = was_read g here.After-compare_pairs (grind arith) in
+    let read = was_read g here.After-compare_pair (grind arith) in
     let past = g.R.Range.past c.args.range.now in
     let is = c.within.ensures in
     let above : Below (member_pair c.args.first.now) (member_pair c.in-Some.line.value) = grind arith in
@@ -121,7 +121,7 @@ loop-line-preserved g c =
     let alike : Alike (member_pair m) first = grind arith in
     let pushed : boxed_lines c.push.new.self.items ≡ boxed_lines c.loop-line.rest.items ++ m ∷ [] =
     grind (arith, map-append) in
-    let read = was_read g (goal.at.loop-line-preserved g c).After-compare_pairs (grind arith) in
+    let read = was_read g (goal.at.loop-line-preserved g c).After-compare_pair (grind arith) in
     let last = λ (t : List ℕ) (e : g.S.Source.text c.args.source.now ≡ Some t). same_stays past first m (given LINE_LIMIT t c.loop-line.cursor) (inv.last t e) alike in
     record {
       text = cc;

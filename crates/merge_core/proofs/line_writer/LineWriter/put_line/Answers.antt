@@ -1,20 +1,20 @@
-use Rattle.merge_core.proofs.Words.{[], ◌∷◌, arith, grows_on, prefix_after, prefix_longer}
-use Rattle.devices.specs.declared.write_fault.WriteFault.TheVariants.{Write}
+use Rattle.merge_core.proofs.Words.{Appends, List, Option, arith, grows_on, prefix_longer, ℕ}
+use Rattle.devices.proofs.DeviceLemmas.{grows_by}
+use Rattle.std.specs.Io.KnownBytes.{Keeps}
 use Rattle.merge_core.proofs.MergeLemmas.{on_fault}
 use Rattle.merge_core.proofs.line_writer.LineWriter.put_line.Goals as goal
+
+still_appends : (old mid new : Option (List ℕ)) (text : List ℕ) → Appends old mid text → Keeps mid new
+    → Appends old new text
+still_appends old mid new text h k = grind arith
 
 pub returns-in_err-put-clause-text : goal.returns-in_err-put-clause-text
 returns-in_err-put-clause-text g c = grind (arith, on_fault, prefix_longer)
 
-pub returns-in_err-put-2-clause-text : goal.returns-in_err-put-2-clause-text
-returns-in_err-put-2-clause-text g c =
-    on_fault c.from_residual-in_err-put-2.result Write _ _ c.from_residual-in_err-put-2.ensures.1
-    (prefix_after _ (g.O.Output.written c.put.new.out) _ c.args.line.now.line (10 ∷ []) (grind arith)
-    c.in_err-put-2.ensures.prefix)
-
-pub returns-in_err-put-2-clause-grows : goal.returns-in_err-put-2-clause-grows
-returns-in_err-put-2-clause-grows g c =
-    grows_on _ (g.O.Output.written c.put.new.out) _ (grind arith) (grind arith)
+pub returns-in_err-write-clause-grows : goal.returns-in_err-write-clause-grows
+returns-in_err-write-clause-grows g c =
+    grows_by _ _ c.args.line.now.line (still_appends _ (g.O.Output.written c.put.new.out) _ _ (grind arith)
+    c.in_err-write.ensures.bytes)
 
 pub returns-clause-grows : goal.returns-clause-grows
 returns-clause-grows g c =

@@ -17,20 +17,16 @@ use Rattle.merge_core.proofs.state.MergeState.gather.Given.{Over}
 use Rattle.merge_core.proofs.state.MergeState.gather.Goals.{After-read_on, After-push, In_ok-read_on}
 use Rattle.merge_core.proofs.state.MergeState.gather.Goals as goal
 
--- the source is read on at the pair of the group
-same : (g : Over) (c : In_ok-read_on g) → member_pair c.deref-in-sources.result.now ≡ member_pair c.new-keyed.result
-same g c = cc
-
 -- what a source's further lines make of the group
 drained : (g : Over) (c : In_ok-read_on g)
     → Gathers LINE_LIMIT (g.R.Range.past c.args.range.now) g.S.Source.text g.S.Source.extent g.S.Source.gave
-    c.args.sources.now c.args.self.now (member_pair c.new-keyed.result) (c.sources.i + 1)
-    c.read_on.new.sources c.read_on.new.self (c.new-keyed.result ∷ boxed_lines c.read_on.new.rest.items)
+    c.args.sources.now c.args.self.now (member_pair c.with_start-keyed.result) (c.sources.i + 1)
+    c.read_on.new.sources c.read_on.new.self (c.with_start-keyed.result ∷ boxed_lines c.read_on.new.rest.items)
 drained g c =
     let inv = c.sources.invariant in
-    let read = rw (same g c) at c.in_ok-read_on.ensures.read in
-    let pair = member_pair c.new-keyed.result in
-    gathers_on inv.gathers {m' = c.read_on.new.self} (c.new-keyed.result ∷ []) refl read.took (omega arith) inv.inside
+    let read = c.in_ok-read_on.ensures.read in
+    let pair = member_pair c.with_start-keyed.result in
+    gathers_on inv.gathers {m' = c.read_on.new.self} (c.with_start-keyed.result ∷ []) refl read.took (omega arith) inv.inside
     read.aligned c.read_on.ensures.moved
     (from_waited pair (c.sources.i + 1) c.sources.i read.took.feed.waits _ _ read.later read.queue_is inv.gathers.from)
 
@@ -53,8 +49,8 @@ popped_merge g c = record c.read_on.new.self { queue = c.pop_at.new.self }
 -- what it makes of the group
 taken : (g : Over) (c : After-push g)
     (h : Gathers LINE_LIMIT (g.R.Range.past c.args.range.now) g.S.Source.text g.S.Source.extent g.S.Source.gave
-    c.args.sources.now c.args.self.now (member_pair c.new-keyed.result) (c.sources.i + 1)
-    c.read_on.new.sources c.read_on.new.self (c.new-keyed.result ∷ boxed_lines c.read_on.new.rest.items))
+    c.args.sources.now c.args.self.now (member_pair c.with_start-keyed.result) (c.sources.i + 1)
+    c.read_on.new.sources c.read_on.new.self (c.with_start-keyed.result ∷ boxed_lines c.read_on.new.rest.items))
     → TakenNext h (taken_line g c) (popped_merge g c)
 taken g c h =
     let took = c.in-Some-pop_at.ensures in
@@ -77,8 +73,8 @@ sources-init g c =
     let now : MergeState = record c.args.self.now { queue = c.pop.new.self } in
     let left = c.pop.new.self in
     let from : Member → WaitingLine = λ m. record { member = m; source = c.next.inside.source } in
-    let w = from c.new-keyed.result in
-    let is = sym c.next.view_is ∙ ap from (sym (c.new-keyed.ensures ∙ c.deref.ensures)) in
+    let w = from c.with_start-keyed.result in
+    let is = sym c.next.view_is ∙ ap from (sym (c.with_start-keyed.ensures ∙ c.deref.ensures)) in
     let pair = waiting_pair w in
     let out = rw is at c.in-Some.ensures.out in
     let later = rw is at c.in-Some.ensures.first in
@@ -134,13 +130,12 @@ sources-preserved g c =
 
 -- the sources were read up to the pair
 read_to : (g : Over) (c : After-read_on g) → AreTold g.S.Source.text c.args.sources.now
-    → AreBelow (member_pair c.new-keyed.result) (all_done LINE_LIMIT (g.R.Range.past c.args.range.now) g.S.Source.text
+    → AreBelow (member_pair c.with_start-keyed.result) (all_done LINE_LIMIT (g.R.Range.past c.args.range.now) g.S.Source.text
     c.args.sources.now (feeds c.args.self.now))
-    → AreReadTo LINE_LIMIT (g.R.Range.past c.args.range.now) g.S.Source.text (Some (member_pair c.new-keyed.result))
+    → AreReadTo LINE_LIMIT (g.R.Range.past c.args.range.now) g.S.Source.text (Some (member_pair c.with_start-keyed.result))
     c.read_on.new.sources (feeds c.read_on.new.self)
 read_to g c told low =
-    (rw (c.deref-in-sources.ensures ∙ sym (c.new-keyed.ensures ∙ c.deref.ensures)) at c.read_on.ensures.most)
-    (c.sources.invariant.gathers.gathered told low).0.upto
+    c.read_on.ensures.most (c.sources.invariant.gathers.gathered told low).0.upto
 
 pub returns-in_default-pop_at : goal.returns-in_default-pop_at
 returns-in_default-pop_at g c =
@@ -154,7 +149,7 @@ returns-in_default-pop_at g c =
       failures = grind arith;
       fault = grind arith;
       ready = rw took.out.0 (record { aligned = now.aligned; settled = drained_settled g here });
-      gathered = rw (← (c.new-keyed.ensures ∙ c.deref.ensures), took.out.0) (record {
+      gathered = rw (← (c.with_start-keyed.ensures ∙ c.deref.ensures), took.out.0) (record {
         above = inv.above;
         least = inv.least;
         later = rw took.out.0 at took.out.1;
@@ -180,7 +175,7 @@ returns-in_err-read_on-clause-fault g c =
 pub returns-in_err-read_on-clause-gathered : goal.returns-in_err-read_on-clause-gathered
 returns-in_err-read_on-clause-gathered g c =
     on_fault _ _ _ _ c.from_residual.ensures.1 (record {
-      pair = member_pair c.new-keyed.result;
+      pair = member_pair c.with_start-keyed.result;
       above = c.sources.invariant.above;
       least = c.sources.invariant.least;
       read = read_to g (goal.at.returns-in_err-read_on-clause-gathered g c).After-read_on;
@@ -202,7 +197,7 @@ returns-in_err-push g c =
       fault = grind arith;
       ready = grind arith;
       gathered = on_fault _ _ _ _ c.from_residual-in_err-push.ensures.1 (record {
-        pair = member_pair c.new-keyed.result;
+        pair = member_pair c.with_start-keyed.result;
         above = c.sources.invariant.above;
         least = c.sources.invariant.least;
         read = λ told low. rw feeds_now (idle_read LINE_LIMIT _ g.S.Source.text g.S.Source.extent _ _ _ _ f
