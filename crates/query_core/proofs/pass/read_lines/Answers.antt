@@ -1,7 +1,7 @@
-use Rattle.query_core.proofs.AskedLemmas.{captures}
 use Rattle.query_core.proofs.Words.{[], ◌++◌, ◌∙◌, ◌≡◌, Bool, KeepsSources, LINE_LIMIT, List, Member, ReadFor, Some}
-use Rattle.query_core.proofs.Words.{all_kept, ap, append-nil, arith, err_from_is_err_and, false, feeds, grows_not, inl}
-use Rattle.query_core.proofs.Words.{length-map, map, refl, sym, true}
+use Rattle.query_core.proofs.Words.{all_kept, ap, append-nil, arith, err_from_is_err_and, false, feeds, grows_not}
+use Rattle.query_core.proofs.Words.{inl, length-map, lines, map, refl, sym, true}
+use Rattle.query_core.proofs.AskedLemmas.{captures}
 use Rattle.query_core.proofs.ConversionLemmas.{merge_line}
 use Rattle.query_core.proofs.CaptureLemmas.{captures_append}
 use Rattle.query_core.proofs.PageOfIndexes.{Opened, reading, told, wanted_whole}
@@ -28,12 +28,6 @@ returns-in_err-all-clause-kept g c = kept g (goal.at.returns-in_err-all-clause-k
 
 pub returns-clause-kept : goal.returns-clause-kept
 returns-clause-kept g c = kept g (goal.at.returns-clause-kept g c).After-merge
-
-pub returns-in_err-opened-clause-fault : goal.returns-in_err-opened-clause-fault
-returns-in_err-opened-clause-fault g c = grind (arith, err_from_is_err_and, merge_line)
-
-pub returns-in_err-all-clause-fault : goal.returns-in_err-all-clause-fault
-returns-in_err-all-clause-fault g c = grind (arith, err_from_is_err_and, merge_line)
 
 pub returns-clause-held : goal.returns-clause-held
 returns-clause-held g c = λ texts indexes known are most share.

@@ -15,9 +15,3 @@ pub returns-in_err-reply_to_line-clause-lines : goal.returns-in_err-reply_to_lin
 returns-in_err-reply_to_line-clause-lines g c =
     let u = unmarked_reply _ (IsTextReply (map _ _)) _ _ _ c.in_err-reply_to_line.ensures.lines in
     grind (arith, err_from_is_err_and)
-
-pub returns-clause-text : goal.returns-clause-text
-returns-clause-text g c = grind (arith, marked_reply)
-
-pub returns-clause-lines : goal.returns-clause-lines
-returns-clause-lines g c = grind (arith, marked_reply)
