@@ -1,5 +1,5 @@
 -- One page of a query, by what was taken of its sources, and by what a writer has written.
-use Rattle.query_core.proofs.Words.{[], ℕ, ◌++◌, ◌∙◌, ◌≡◌, ◌⊎◌, Appends, AppendsPrefix, Bool, Broke, IsWriterOf, List}
+use Rattle.query_core.proofs.Words.{[], ℕ, ◌++◌, ◌≡◌, ◌⊎◌, Appends, AppendsPrefix, Bool, Broke, IsWriterOf, List}
 use Rattle.query_core.proofs.Words.{Member, Option, Page, PageStands, PageWriter, PlaceValue, QueryValue, Wrote}
 use Rattle.query_core.proofs.Words.{answer_text, arith, begun, begun_is_front, captures_over, false, form_of}
 use Rattle.query_core.proofs.Words.{from_view, inl, inr, is_some, lines, next_of, page_end, page_over, page_text}
@@ -47,10 +47,7 @@ module _ {q : QueryValue} {start mid : Option (List ℕ)} {taken : List Member}
   taken_page = page_over q q.resume q.limit taken
 
   pub stood : PageStands (form_of q) q.limit (captures q taken) start mid w.writer.given w.writer.more w.writer.last
-  stood =
-      let one = w.wrote.one w.is.sizes_are in
-      let limit_same : w.writer.limit ≡ q.limit = one.limit ∙ w.is.limit_is in
-      rw (query_is w, from_same w, limit_same) at one.stands
+  stood = grind (arith, query_is, from_same)
 
   abbrev key_of : QueryValue → Option (List ℕ)
   key_of r = shown_key r.show_resume_key (next_of w.writer.more w.writer.last)

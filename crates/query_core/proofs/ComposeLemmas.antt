@@ -1,6 +1,6 @@
 -- Merges of merges, and of indexes in another order.
 use Rattle.query_core.proofs.Words.{[], ◌++◌, ◌↔◌, ◌∷◌, ◌≡◌, IsFirst, IsIn, List, Member, all_lines, append_assoc}
-use Rattle.query_core.proofs.Words.{arith, collection, inr, member_place, place_cmp, place_cmp_total, refl}
+use Rattle.query_core.proofs.Words.{arith, collection, inr, lines, member_place, place_cmp, place_cmp_total, refl}
 use Rattle.query_core.proofs.Words.{rises_rising, rising_members, rising_same}
 use Rattle.query_core.specs.MergeLaws.{HaveOneLine}
 use Rattle.query_core.proofs.RisingParts.{in_list, rising_left, rising_right}
@@ -11,14 +11,7 @@ lines_join (i ∷ some) others = grind (arith, append_assoc, lines_join some oth
 
 pub merges_group : (before some after : List (List Member))
     → collection (before ++ collection some ∷ after) ≡ collection (before ++ (some ++ after))
-merges_group before some after =
-    grind (
-      arith,
-      lines_join,
-      rising_left member_place place_cmp place_cmp_total (all_lines some) (all_lines after),
-      rising_right member_place place_cmp place_cmp_total (all_lines before)
-          (collection some ++ all_lines after) (all_lines some ++ all_lines after),
-    )
+merges_group before some after = grind (arith, lines_join, rising_left, place_cmp_total, rising_right)
 
 -- with one line at each place, each is the first at its place
 is_first : (m : Member) (lines : List Member) → HaveOneLine lines → IsIn m lines

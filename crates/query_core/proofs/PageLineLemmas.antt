@@ -3,12 +3,10 @@ use Rattle.query_core.proofs.Words.{[], ℕ, ⊤, ◌&&◌, ◌++◌, ◌+◌, �
 use Rattle.query_core.proofs.Words.{BeginsWithBracket, Bool, Field, HasEntry, HaveEntries, IsIn, LINE_LIMIT, List}
 use Rattle.query_core.proofs.Words.{Member, None, Option, PlaceValue, QueryValue, Some, ap, append-nil, append_assoc}
 use Rattle.query_core.proofs.Words.{arith, begins_with_pair, cases_lt, codes, cond, drop, each_at, each_filter}
-use Rattle.query_core.proofs.Words.{each_join, each_kept, each_weaker, entry_pair_is, false, filter, flat_map, inl}
-use Rattle.query_core.proofs.Words.{inr, is_above, is_key, is_stamp, key_part, length, length-append, length-drop}
-use Rattle.query_core.proofs.Words.{line_row, lines, map, matches, member_pair, member_place, nat_tests, page_text}
-use Rattle.query_core.proofs.Words.{place_cmp, place_cmp_total, query_captures, query_page, refl, row_value}
-use Rattle.query_core.proofs.Words.{same_part, selected, shown_key, stamp_part, suc, sym, text_row, true, true≢false}
-use Rattle.query_core.proofs.Words.{zero}
+use Rattle.query_core.proofs.Words.{each_join, each_kept, each_weaker, entry_pair_is, false, flat_map, inl, inr}
+use Rattle.query_core.proofs.Words.{is_key, is_stamp, key_part, length, length-append, length-drop, line_row, lines}
+use Rattle.query_core.proofs.Words.{map, member_pair, nat_tests, page_text, place_cmp_total, query_page, refl}
+use Rattle.query_core.proofs.Words.{row_value, shown_key, stamp_part, suc, sym, text_row, true, true≢false, zero}
 use Rattle.std.specs.List.{after_first, position_or_len}
 use Rattle.cdxj_places.specs.Pair.{begins_with_space, is_space, tail_part}
 use Rattle.query_text.specs.declared.output.OutputFormat.{OutputFormat}
@@ -29,12 +27,7 @@ use Rattle.query_core.proofs.PageRows.{escaped_some, above_line, spaces_join, te
 
 pub page_each : (A : Member → Type 0) (q : QueryValue) (found : List Member) → AllByRecursion A found
     → AllByRecursion A (query_page q found).members
-page_each A q found h =
-    each_at_most A q.limit (query_captures q found)
-    (each_kept member_place place_cmp (same_part q.collapse) place_cmp_total A q.resume
-    (filter (is_above member_place place_cmp q.resume) (selected q found))
-    (each_filter A (is_above member_place place_cmp q.resume) (selected q found)
-    (each_filter A (λ m. matches q m.values) found h)))
+page_each A q found h = grind (arith, each_at_most, each_kept, place_cmp_total, each_filter)
 
 -- ---- a key
 
@@ -300,16 +293,10 @@ module _ (fields : List Field) (ms : List Member) (key : Option (List ℕ)) (ent
     text_fault (inl more) e =
         key_no_fault key name index offset after
         (text_empty (λ none. omega (arith, more, ap length none)) before (fault_row name index offset ∷ after) e)
-    text_fault (inr few) e =
-        let spaceless_there = each_at (λ line. has_no_space line ≡ true) (fault_row name index offset) faulted
-        (rw e at (spaceless few)) fault_there in
-        absurd (grind arith)
+    text_fault (inr few) e = grind (arith, each_at, spaceless, fault_there)
 
     pub fault_of : (o : OutputFormat) → shown o ≡ faulted → ⊥
     fault_of output.Text e = text_fault (cases_lt 1 (length fields)) e
     fault_of output.Cdxj e =
         key_no_fault key name index offset after (cdxj_empty before (fault_row name index offset ∷ after) e)
-    fault_of output.Json e =
-        let b = each_at BeginsWithBracket (fault_row name index offset) faulted (rw e at (json_lines fields ms key))
-        fault_there in
-        absurd (grind arith)
+    fault_of output.Json e = grind (arith, each_at, json_lines, fault_there)

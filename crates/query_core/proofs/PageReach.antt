@@ -95,14 +95,4 @@ pub page_fewer : (q : QueryValue) (parts : List (List Member)) (given lines : �
     ≡ min (length (query_page q (collection parts)).members) (2 ^ 64 - 1)
     → lines ≡ min (sum (map (λ (ms : List Member). length ms) parts)) (2 ^ 64 - 1) → given ≤ lines
 page_fewer q parts given lines g l =
-    grind (
-      arith,
-      asked_is,
-      kept_fewer,
-      length-filter,
-      count_by-le-length,
-      length-take,
-      rising_fewer,
-      length-flat_map,
-      sum-map,
-    )
+    grind (arith, asked_is, kept_fewer, length-filter, count_by-le-length, length-take, rising_fewer, length-flat_map, sum-map)

@@ -93,10 +93,8 @@ pub spent_none : {S : Type 0} (text : S → Option (List ℕ)) (extent gave : S 
     (indexes : List (List Member)) (input : Option (List ℕ)) (buffer : List ℕ) (old : Option (List ℕ))
     (sources : List S) → Known (map text sources) texts → AllZip (IsIndex LINE_LIMIT) texts indexes → buffer ≡ []
     → Spent extent gave limit input (prepend_known buffer input) 0 texts indexes old old sources sources
-spent_none text extent gave limit texts indexes input buffer old sources known are e = record {
-  so_far = replied_none limit (IsOneReply (reply_of limit (collection indexes))) input buffer old e;
-  within = gave_none text extent gave (lines_most limit (collection indexes) []) texts indexes sources known are;
-}
+spent_none text extent gave limit texts indexes input buffer old sources known are e =
+    grind (arith, replied_none, gave_none)
 
 module _ {S : Type 0} {extent gave : S → ℕ} {limit : ℕ} {input now : Option (List ℕ)} {count : ℕ}
     {texts : List (List ℕ)} {indexes : List (List Member)} {old new : Option (List ℕ)} {olds mids : List S}
@@ -113,14 +111,7 @@ module _ {S : Type 0} {extent gave : S → ℕ} {limit : ℕ} {input now : Optio
 
   -- no line was read
   pub spent_stop : GaveForLines extent gave limit input texts indexes old new olds mids
-  spent_stop = record {
-    answered = s.so_far.done;
-    next = [];
-    one = omega arith;
-    first = rw append-nil (taken_first input now s.so_far.done s.so_far.taken);
-    wrote = record { middle = new; front = wrote; grows = grows_not new };
-    within = rw append-nil s.within;
-  }
+  spent_stop = grind (arith, next, append-nil, taken_first, wrote, grows_not)
 
   -- a line was read, and what the sources gave then
   module _ (after last : Option (List ℕ)) (line : List ℕ) (news : List S)
@@ -149,11 +140,4 @@ module _ {S : Type 0} {extent gave : S → ℕ} {limit : ℕ} {input now : Optio
       pub spent_within : (text : List ℕ)
           × IsMarkedReply limit (IsOneReply (reply_of limit all)) (without_carriage_return line) text
           × AppendsPrefix new last text → GaveForLines extent gave limit input texts indexes old last olds news
-      spent_within (text, is, written) = record {
-        answered = s.so_far.done;
-        next = more.0 ∷ [];
-        one = omega arith;
-        first = taken_first input after (s.so_far.done ++ more.0 ∷ []) more.1;
-        wrote = record { middle = new; front = wrote; grows = grows_part new last text written };
-        within = more_within;
-      }
+      spent_within (text, is, written) = grind (arith, next, taken_first, wrote, grows_part, more_within)

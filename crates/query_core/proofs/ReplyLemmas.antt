@@ -9,7 +9,6 @@ use Rattle.query_core.proofs.Words.{take, take_all, true, without_carriage_retur
 use Rattle.std.proofs.Common.{Result}
 use Rattle.std.specs.Prelude.{IsErrAnd, flat_map}
 use Rattle.std.proofs.lemmas.List.Elements.{AllZip-push}
-use Rattle.devices.specs.LineCuts.{input_lines}
 use Rattle.devices.specs.LineReading.{IsInputLineFault, IsTooLong, StopsInLine}
 use Rattle.devices.specs.declared.input_lines.InputLineFault.{InputLineFault}
 use Rattle.devices.specs.declared.input_lines.InputLineFault.TheVariants as input
@@ -38,11 +37,7 @@ shorter t l = grind (arith, length-take)
 
 alike : (limit : ℕ) (seen : List ℕ)
     → AreAlike limit (without_carriage_return (take (limit + 2) seen)) (without_carriage_return seen)
-alike limit seen = elim (cases_lt (limit + 2) (length seen)) as (λ _.
-    AreAlike limit (without_carriage_return (take (limit + 2) seen)) (without_carriage_return seen)) [
-      | inl long ↦ inr (grind (arith, length-take, shorter), grind (arith, length-take, shorter))
-      | inr short ↦ inl (ap without_carriage_return (take_all (limit + 2) seen short))
-    ]
+alike limit seen = grind (arith, cases_lt, length-take, shorter, take_all)
 
 -- ---- the lines so far
 
@@ -141,10 +136,7 @@ module _ (limit : ℕ) (IsReply : List ℕ → List ℕ → Type 0) where
   line_none (Some input) None after count before taken old new line found s t none n k small = absurd s.taken
   line_none (Some input) (Some now) None count before taken old new line found s t none n k small = absurd k
   line_none (Some input) (Some now) (Some rest) count before taken old new line found s t none n k small =
-      let end = rw none at t in
-      let cut = s.taken.1 ∙ (ap (λ l. s.taken.0 ++ cut_lines l) end.0 ∙ append-nil s.taken.0) in
-      let all : s.done ≡ input_lines input = s.taken.2 ∙ ap (map without_carriage_return) (sym cut) in
-      (omega (arith, n, k, small, ap length end.1), s.counted ∙ ap length all, s.texts, rw all at s.each, s.written)
+      grind (arith, append-nil)
 
   -- the input failed in a line, or is too long
   pub replied_taken : (input now left : Option (List ℕ)) (count taken : ℕ) (old new : Option (List ℕ))

@@ -7,7 +7,7 @@ use devices::{InputLineFault, WriteFault};
 use merge_core::{FeedFault, MergeFault};
 
 /// Returns the fault of a call whose index of this number has this fault.
-fn fault_of_index(index: usize, fault: FeedFault) -> AnswerFault
+pub(crate) fn fault_of_index(index: usize, fault: FeedFault) -> AnswerFault
     ensures { result ≡ fault_of_index index fault }
 {
     match fault {

@@ -1,5 +1,5 @@
 //! A conversation: a reply to each line of an input.
-ghost use Rattle.std.specs.Prelude.{◌≡◌, ◌+◌, ◌-◌, ◌^◌, ◌<◌, length, map, Result, Err, IfOk};
+ghost use Rattle.std.specs.Prelude.{◌≡◌, ◌+◌, [], length, map, Err, IfOk};
 ghost use Rattle.cdxj_core.specs.declared.limit.TheConstants.{LINE_LIMIT};
 ghost use Rattle.devices.specs.Writing.{WritesText};
 ghost use Rattle.query_text.specs.declared.query.TheConstants.{QUERY_LIMIT};
@@ -21,14 +21,14 @@ use crate::reply_texts::{put_fault_line, put_refusal, put_text};
 use devices::{Input, InputLines, Output};
 use query_text::{QUERY_LIMIT, Query, QueryFault};
 use source_core::Source;
-use std::alloc::Global;
+use std::alloc::{AllocError, Global};
 
 /// The number of bytes of a line that are held. They show that a line exceeds the limit of a query, whether or not it
 /// ends with a carriage return.
 const LINE_HELD: usize = QUERY_LIMIT + 2;
 
 /// Writes the page of a query. A fault of an index is written after what was written of the page.
-#[tactic(auto, using(crate::proofs::LineReplies::fault_reply))]
+#[tactic(auto, using(crate::proofs::LineReplies::fault_reply, crate::proofs::ReplyBytes::gave_page))]
 fn reply_to_query<S: Source, O: Output>(
     alloc: Global,
     sources: &mut [S],
@@ -59,6 +59,7 @@ fn reply_to_query<S: Source, O: Output>(
 }
 
 /// Writes the reply to a text.
+#[tactic(auto, using(crate::proofs::ReplyBytes::gave_asked, crate::proofs::ReplyBytes::gave_none, devices::proofs::WritingLemmas::wrote_nothing))]
 fn reply_to_text<S: Source, O: Output>(
     alloc: Global,
     sources: &mut [S],
@@ -85,6 +86,7 @@ fn reply_to_text<S: Source, O: Output>(
 }
 
 /// Writes the reply to a line, of which at least the first `LINE_HELD` bytes are given.
+#[tactic(auto, using(crate::proofs::LineReplies::line_tests, crate::proofs::LineReplies::text_reply, crate::proofs::LineReplies::writes_some, crate::proofs::ReplyBytes::gave_line, crate::proofs::ReplyBytes::gave_none))]
 fn reply_to_line<S: Source, O: Output>(
     alloc: Global,
     sources: &mut [S],
@@ -136,6 +138,14 @@ fn reply_and_mark<S: Source, O: Output>(
     put_text(b".\n", out)
 }
 
+/// Creates a reader of lines, which holds of each line only what shows that it is too long.
+fn line_reader(alloc: Global) -> Result<InputLines, AllocError>
+    ensures { IfOk result (λ lines. (lines.buffer ≡ []) × (lines.taken ≡ 0)
+        × (lines.most ≡ QUERY_LIMIT + 2)) }
+{
+    InputLines::new(alloc, LINE_HELD)
+}
+
 /// Answers the queries of an input, one on each line, and returns the number of lines.
 ///
 /// A line ends with a line feed, which the last line may lack. A carriage return before it is dropped. The reply to a
@@ -149,7 +159,7 @@ fn reply_and_mark<S: Source, O: Output>(
 /// Returns `TooManySources` for more than `SOURCES_LIMIT` indexes, before it reads. `Memory`, `Read` of an index, `Write`
 /// and `Input` end the conversation. `Input` comes if the input failed, and for an input of 2^63 - 1 bytes. Then each line
 /// that was taken whole has its reply.
-#[tactic(auto, using(crate::proofs::ReplyLemmas::one_reply_part, crate::proofs::ReplyLemmas::nothing_replied, std::proofs::lemmas::Result::err_from_is_err_and))]
+#[tactic(auto, using(crate::proofs::ReplyLemmas::one_reply_part, crate::proofs::ReplyLemmas::nothing_replied, crate::proofs::ReplyBytes::spent_part, crate::proofs::ReplyBytes::spent_stop, std::proofs::lemmas::Result::err_from_is_err_and))]
 pub fn serve<S: Source, I: Input, O: Output>(
     alloc: Global,
     sources: &mut [S],
@@ -187,7 +197,7 @@ pub fn serve<S: Source, I: Input, O: Output>(
     if sources.len() > SOURCES_LIMIT {
         return Err(AnswerFault::TooManySources);
     }
-    let mut lines = InputLines::new(alloc, LINE_HELD)?;
+    let mut lines = line_reader(alloc)?;
     let mut count = 0u64;
     while lines.next(input)? {
         reply_and_mark(alloc, sources, lines.line(), out)?;

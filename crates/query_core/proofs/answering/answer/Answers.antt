@@ -4,7 +4,7 @@ use Rattle.query_core.proofs.Words.{length-map, lines, map, page_over, query_pag
 use Rattle.query_core.proofs.AskedLemmas.{Writing, captures, asked_is, end_front, page_broke, page_ended}
 use Rattle.query_core.proofs.AskedLemmas.{passed, settles, stood}
 use Rattle.page_core.proofs.PageLemmas.{front-start}
-use Rattle.query_core.proofs.PageReach.{page_fewer, page_not_reached, page_reached, within}
+use Rattle.query_core.proofs.PageReach.{page_fewer, page_reached, within}
 use Rattle.query_core.proofs.answering.answer.Given.{Over}
 use Rattle.query_core.proofs.answering.answer.Goals.{In_ok-writer, In_ok-pass}
 use Rattle.query_core.proofs.answering.answer.Goals as goal

@@ -1,6 +1,5 @@
 use Rattle.query_core.proofs.Words.{[], arith, wrote_nothing}
 use Rattle.merge_core.proofs.OnceLemmas.{once_none}
-use Rattle.query_core.proofs.ConversionLemmas.{merge_line}
 use Rattle.query_core.proofs.merging.merge.Goals as goal
 
 pub returns-then-sources-gt-SOURCES_LIMIT-clause-bytes : goal.returns-then-sources-gt-SOURCES_LIMIT-clause-bytes

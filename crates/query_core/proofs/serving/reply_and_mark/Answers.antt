@@ -1,6 +1,6 @@
 use Rattle.query_core.proofs.Words.{ℕ, IsOneReply, IsTextReply, List, Member, QUERY_LIMIT, arith, collection}
 use Rattle.query_core.proofs.Words.{err_from_is_err_and, map, reply_of}
-use Rattle.query_core.proofs.LineReplies.{marked_reply, unmarked_reply}
+use Rattle.query_core.proofs.LineReplies.{unmarked_reply}
 use Rattle.query_core.proofs.serving.reply_and_mark.Goals as goal
 
 abbrev Is : List (List Member) → List ℕ → List ℕ → Type 0

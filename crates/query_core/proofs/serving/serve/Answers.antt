@@ -1,8 +1,8 @@
 use Rattle.query_core.proofs.Words.{[], ◌+◌, QUERY_LIMIT, TakesLine, arith, err_from_is_err_and, kept, prepend_known}
 use Rattle.query_core.proofs.Words.{refl, true}
 use Rattle.devices.proofs.Takings.{taken-join}
-use Rattle.query_core.proofs.ReplyBytes.{spent_none, spent_part, spent_stop, spent_more, spent_within}
-use Rattle.query_core.proofs.ReplyLemmas.{input_stops, line_more, line_none, line_within, nothing_replied, one_reply}
+use Rattle.query_core.proofs.ReplyBytes.{spent_none, spent_stop, spent_more, spent_within}
+use Rattle.query_core.proofs.ReplyLemmas.{input_stops, line_more, line_none, line_within, one_reply}
 use Rattle.query_core.proofs.ReplyLemmas.{one_reply_part, replied_front, replied_none, replied_taken}
 use Rattle.query_core.proofs.serving.serve.Given.{Over}
 use Rattle.query_core.proofs.serving.serve.Goals.{After-reply_and_mark}
@@ -20,10 +20,6 @@ returns-in_err-lines-clause-bytes g c = λ texts indexes known are.
 
 -- ---- a line isn't read
 
-pub returns-in_err-next-clause-part : goal.returns-in_err-next-clause-part
-returns-in_err-next-clause-part g c = λ texts indexes known are.
-    spent_part (c.loop-lines.invariant.told texts indexes known are)
-
 pub returns-in_err-next-clause-lines : goal.returns-in_err-next-clause-lines
 returns-in_err-next-clause-lines g c =
     rw (err_from_is_err_and c.from_residual-in_err-next.result c.from_residual-in_err-next.ensures.1).1
@@ -37,14 +33,7 @@ returns-in_err-next-clause-taken g c = λ texts indexes known are e.
     (input_stops _ _ _ _ _ _ _ c.from_residual-in_err-next.ensures.1 e failed.stopped failed.failures)
 
 pub returns-in_err-next-clause-taken_lines : goal.returns-in_err-next-clause-taken_lines
-returns-in_err-next-clause-taken_lines g c = λ e.
-    let failed = c.in_err-next.ensures in
-    replied_taken _ _ _ _ _ _ _ _ _ c.loop-lines.invariant.any c.loop-lines.invariant.taken
-    (input_stops _ _ _ _ _ _ _ c.from_residual-in_err-next.ensures.1 e failed.stopped failed.failures)
-
-pub returns-in_err-next-clause-bytes : goal.returns-in_err-next-clause-bytes
-returns-in_err-next-clause-bytes g c = λ texts indexes known are.
-    spent_stop (c.loop-lines.invariant.told texts indexes known are)
+returns-in_err-next-clause-taken_lines g c = grind (arith, replied_taken, input_stops)
 
 -- ---- a reply ends in a fault
 
@@ -131,9 +120,3 @@ returns-clause-lines g c =
     let read = c.in_ok-next.ensures in
     line_none _ _ _ _ _ _ _ _ _ _ _ _ inv.any (rw inv.most at read.line) c.if-branch.false inv.taken read.count
     read.within
-
-pub returns-clause-part : goal.returns-clause-part
-returns-clause-part g c = λ texts indexes known are. spent_part (c.loop-lines.invariant.told texts indexes known are)
-
-pub returns-clause-bytes : goal.returns-clause-bytes
-returns-clause-bytes g c = λ texts indexes known are. spent_stop (c.loop-lines.invariant.told texts indexes known are)
