@@ -2,7 +2,7 @@
 use Rattle.query_core.proofs.Words.{[], ℕ, ◌++◌, ◌≡◌, ◌⊎◌, Appends, AppendsPrefix, Bool, Broke, IsWriterOf, List}
 use Rattle.query_core.proofs.Words.{Member, Option, Page, PageStands, PageWriter, PlaceValue, QueryValue, Wrote}
 use Rattle.query_core.proofs.Words.{answer_text, arith, begun, begun_is_front, captures_over, false, form_of}
-use Rattle.query_core.proofs.Words.{from_view, inl, inr, is_some, lines, next_of, page_end, page_over, page_text}
+use Rattle.query_core.proofs.Words.{from_view, inl, inr, is_some, next_of, page_end, page_over, page_text}
 use Rattle.query_core.proofs.Words.{prefix_longer, query_page, shown_key, true}
 use Rattle.page_core.proofs.PageLemmas.{written-whole, front-end}
 use Rattle.query_core.specs.declared.page_writer.PageEnd.{PageEnd}

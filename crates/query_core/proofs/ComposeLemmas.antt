@@ -1,6 +1,6 @@
 -- Merges of merges, and of indexes in another order.
 use Rattle.query_core.proofs.Words.{[], ◌++◌, ◌↔◌, ◌∷◌, ◌≡◌, IsFirst, IsIn, List, Member, all_lines, append_assoc}
-use Rattle.query_core.proofs.Words.{arith, collection, inr, lines, member_place, place_cmp, place_cmp_total, refl}
+use Rattle.query_core.proofs.Words.{arith, collection, inr, member_place, place_cmp, place_cmp_total, refl}
 use Rattle.query_core.proofs.Words.{rises_rising, rising_members, rising_same}
 use Rattle.query_core.specs.MergeLaws.{HaveOneLine}
 use Rattle.query_core.proofs.RisingParts.{in_list, rising_left, rising_right}

@@ -1,5 +1,5 @@
 -- The faults of merges and of texts, as faults of the calls on indexes.
-use Rattle.query_core.proofs.Words.{ℕ, IsAnswerFaultOf, List, Option, lines}
+use Rattle.query_core.proofs.Words.{ℕ, IsAnswerFaultOf, List, Option}
 use Rattle.merge_core.specs.declared.fault.FeedFault.TheVariants as feed
 use Rattle.merge_core.specs.declared.fault.MergeFault.{MergeFault}
 use Rattle.merge_core.specs.declared.fault.MergeFault.TheVariants as merge

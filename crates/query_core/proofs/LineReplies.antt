@@ -2,8 +2,8 @@
 use Rattle.query_core.proofs.Words.{[], ℕ, ◌++◌, ◌≡◌, ◌≤◌, AnswerFault, Appends, Appends-join, AppendsPrefix}
 use Rattle.query_core.proofs.Words.{AreLinesOf, Err, IsAnswerFaultOf, IsMarkedReply, LINE_LIMIT, List, Member, Ok}
 use Rattle.query_core.proofs.Words.{Option, QueryFault, QueryValue, Some, answer_text, arith, codes}
-use Rattle.query_core.proofs.Words.{false_from_ne_true, is_utf8, is_utf8-from_IsUtf8, le-ltb, length, lines}
-use Rattle.query_core.proofs.Words.{prefix_after, prefix_longer, query_page, refl, true}
+use Rattle.query_core.proofs.Words.{false_from_ne_true, is_utf8, is_utf8-from_IsUtf8, le-ltb, length, prefix_after}
+use Rattle.query_core.proofs.Words.{prefix_longer, query_page, refl, true}
 use Rattle.std.proofs.Common.{Result}
 use Rattle.std.proofs.lemmas.Str.{IsUtf8-from_is_utf8}
 use Rattle.devices.specs.Writing.{WritesText}

@@ -1,5 +1,5 @@
 use Rattle.query_core.proofs.Words.{[], ◌∷◌, ◌≡◌, AllByRecursion, Bool, List, Member, Option, PlaceValue, QueryValue}
-use Rattle.query_core.proofs.Words.{arith, captures_over, each_kept, filter, is_wanted, lines, place_cmp_total, true}
+use Rattle.query_core.proofs.Words.{arith, captures_over, each_kept, filter, is_wanted, place_cmp_total, true}
 
 -- The captures of a query are wanted.
 

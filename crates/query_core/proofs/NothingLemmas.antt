@@ -1,8 +1,7 @@
 -- The query that selects nothing, and is refused as another.
 use Rattle.query_core.proofs.Words.{[], ℕ, ◌++◌, ◌<◌, ◌∙◌, ◌∷◌, ◌≡◌, ◌≤◌, Err, LineValue, List, Member, Ok}
 use Rattle.query_core.proofs.Words.{QUERY_LIMIT, QueryValue, TargetValue, ap, arith, false, le-ltb, length}
-use Rattle.query_core.proofs.Words.{length-append, lines, list_all, list_all-append, nat_lt, query_of, refl, selected}
-use Rattle.query_core.proofs.Words.{true}
+use Rattle.query_core.proofs.Words.{length-append, list_all, list_all-append, nat_lt, query_of, refl, selected, true}
 use Rattle.std.proofs.Common.{codes}
 use Rattle.std.proofs.Common.{◌==◌}
 use Rattle.std.specs.Prelude.{MatchResult}

@@ -1,6 +1,6 @@
 -- Over known indexes and a known output, a call that succeeds writes one text.
 use Rattle.query_core.proofs.Words.{ℕ, ◌∷◌, ◌≡◌, AllZip, Appends, IsIndex, LINE_LIMIT, List, Member, Option}
-use Rattle.query_core.proofs.Words.{QueryValue, Some, WrotePages, arith, collection, lines, place_cmp_total}
+use Rattle.query_core.proofs.Words.{QueryValue, Some, WrotePages, arith, collection, place_cmp_total}
 use Rattle.cdxj_core.proofs.IndexLemmas.{one_index}
 use Rattle.page_core.proofs.PageLaws.{chain_one}
 use Rattle.query_core.specs.OneText.{AnswerIsOne, MergeIsOne, PagesAreOne}

@@ -2,9 +2,9 @@
 use Rattle.query_core.proofs.Words.{ℕ, ◌++◌, ◌∙◌, ◌∷◌, ◌≡◌, AllPositive, AreCut, Bool, IsChain, IsFront, List, Member}
 use Rattle.query_core.proofs.Words.{None, Option, Page, PlaceValue, QueryValue, Rises, Some, WrotePages}
 use Rattle.query_core.proofs.Words.{WrotePagesInPart, ap, arith, captures_over, chain_law, collapsed, drop, end_place}
-use Rattle.query_core.proofs.Words.{first_size, later_sizes, lines, member_place, next_after, place_cmp}
-use Rattle.query_core.proofs.Words.{place_cmp_total, rises_collapsed, rises_filter, same_part, selected, sym, take}
-use Rattle.query_core.proofs.Words.{take_all, wrote_nothing}
+use Rattle.query_core.proofs.Words.{first_size, later_sizes, member_place, next_after, place_cmp, place_cmp_total}
+use Rattle.query_core.proofs.Words.{rises_collapsed, rises_filter, same_part, selected, sym, take, take_all}
+use Rattle.query_core.proofs.Words.{wrote_nothing}
 use Rattle.page_core.proofs.PageLaws.{split_there, collapse_resumes}
 use Rattle.query_core.specs.QueryPages.{IsQueryChain}
 use Rattle.query_core.proofs.PageKeys.{keys_but_last, one_empty}

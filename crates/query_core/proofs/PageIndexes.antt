@@ -1,10 +1,9 @@
 -- A page in cdxj is an index.
 use Rattle.query_core.proofs.Words.{ℕ, ◌∷◌, ◌≡◌, AllByRecursion, AllZip, IsIndex, List, Member, None, Option}
 use Rattle.query_core.proofs.Words.{QueryValue, Rises, all_lines, answer_text, append-nil, arith, at_most, collection}
-use Rattle.query_core.proofs.Words.{each_filter, each_kept, filter, is_above, lines, lines_text, matches}
-use Rattle.query_core.proofs.Words.{member_place, place_cmp, place_cmp_total, query_captures, query_page}
-use Rattle.query_core.proofs.Words.{rises_collapsed, rises_filter, rises_rising, same_part, selected, shown_key, suc}
-use Rattle.query_core.proofs.Words.{take}
+use Rattle.query_core.proofs.Words.{each_filter, each_kept, filter, is_above, lines_text, matches, member_place}
+use Rattle.query_core.proofs.Words.{place_cmp, place_cmp_total, query_captures, query_page, rises_collapsed}
+use Rattle.query_core.proofs.Words.{rises_filter, rises_rising, same_part, selected, shown_key, suc, take}
 use Rattle.query_text.specs.declared.output.OutputFormat.TheVariants.{Cdxj}
 use Rattle.merge_core.proofs.Filters.{each_take}
 use Rattle.query_core.proofs.MergedLemmas.{IsRow, collection_rows, rows_index}

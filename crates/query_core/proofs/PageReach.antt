@@ -4,9 +4,9 @@ use Rattle.query_core.proofs.Words.{AreFirst, Bool, FormValue, GaveFor, GaveInRe
 use Rattle.query_core.proofs.Words.{LINE_LIMIT, List, Member, None, Option, OverIndexes, PageWriter, PlaceValue}
 use Rattle.query_core.proofs.Words.{QueryValue, Some, Wrote, WroteFirst, arith, begun, captures_text, collection}
 use Rattle.query_core.proofs.Words.{false, false_from_ne_true, form_of, grows_by, grows_on, is_some, kept, length}
-use Rattle.query_core.proofs.Words.{length-append, length-take, lines, map, member_place, min, page_over, place_cmp}
-use Rattle.query_core.proofs.Words.{put, query_page, refl, rising, suc, sum, take-append_seam, true, true≢false}
-use Rattle.query_core.proofs.Words.{two_same, zero}
+use Rattle.query_core.proofs.Words.{length-append, length-take, map, member_place, min, page_over, place_cmp, put}
+use Rattle.query_core.proofs.Words.{query_page, refl, rising, suc, sum, take-append_seam, true, true≢false, two_same}
+use Rattle.query_core.proofs.Words.{zero}
 use Rattle.query_core.proofs.AskedLemmas.{Writing, captures, asked_is, passed, stood}
 use Rattle.query_core.proofs.ReachLemmas.{within_opening}
 use Rattle.query_core.proofs.WriterLemmas.{page, next_none, page_front}

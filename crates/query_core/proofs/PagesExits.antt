@@ -2,7 +2,7 @@
 use Rattle.query_core.proofs.Words.{[], ℕ, ◌++◌, ◌+◌, ◌-◌, ◌^◌, ◌≡◌, ◌⊎◌, AllPositive, Appends, AppendsPrefix, Bool}
 use Rattle.query_core.proofs.Words.{Broke, Grows, IsFront, List, Member, None, Option, PageWriter, QueryValue, Rises}
 use Rattle.query_core.proofs.Words.{Some, Wrote, WroteInPages, WrotePages, WrotePagesInPart, false, first_size}
-use Rattle.query_core.proofs.Words.{form_of, inl, inr, lines, member_place, min, next_of, page_end, place_cmp, refl}
+use Rattle.query_core.proofs.Words.{form_of, inl, inr, member_place, min, next_of, page_end, place_cmp, refl}
 use Rattle.query_core.proofs.Words.{shown_key, true}
 use Rattle.query_core.proofs.AskedLemmas.{Writing, captures, from_same, query_is}
 use Rattle.query_core.proofs.PageChains.{wrote_front, wrote_most, wrote_whole}

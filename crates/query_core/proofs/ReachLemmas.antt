@@ -4,11 +4,10 @@ use Rattle.query_core.proofs.Words.{AreAtMost, Bool, GaveFor, IsAbove, IsIndex, 
 use Rattle.query_core.proofs.Words.{Option, OverIndexes, Pair, PlaceValue, QueryValue, ReadFor, Some, TargetValue}
 use Rattle.query_core.proofs.Words.{Upto, all_kept, ap, append-nil, append_assoc, arith, bytes_eq-Decides, collection}
 use Rattle.query_core.proofs.Words.{each_join, each_kept, each_weaker, false, false_from_ne_true, feeds, filter}
-use Rattle.query_core.proofs.Words.{in_reach, is_gt, is_low, is_past, is_wanted, later_pair, length, lines, map}
-use Rattle.query_core.proofs.Words.{member_pair, member_place, min, nat_cmp, not, pair_cmp, pair_cmp_total}
-use Rattle.query_core.proofs.Words.{past_upward, place_before, place_cmp, place_cmp_total, refl, same_part, slice_cmp}
-use Rattle.query_core.proofs.Words.{start_pair, suc, sum, sym, taken_first, taken_whole, true, upto_upto}
-use Rattle.query_core.proofs.Words.{waiting_pair, zero, zip}
+use Rattle.query_core.proofs.Words.{in_reach, is_gt, is_low, is_past, is_wanted, later_pair, length, map, member_pair}
+use Rattle.query_core.proofs.Words.{member_place, min, nat_cmp, not, pair_cmp, pair_cmp_total, past_upward}
+use Rattle.query_core.proofs.Words.{place_before, place_cmp, place_cmp_total, refl, same_part, slice_cmp, start_pair}
+use Rattle.query_core.proofs.Words.{suc, sum, sym, taken_first, taken_whole, true, upto_upto, waiting_pair, zero, zip}
 use Rattle.std.proofs.Common.{is_lt}
 use Rattle.std.specs.FinMap.{slice_cmp-IsAntisymmetric}
 use Rattle.std.proofs.lemmas.Slice.Zip.{AllZip-long}

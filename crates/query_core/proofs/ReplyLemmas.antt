@@ -3,7 +3,7 @@ use Rattle.query_core.proofs.Words.{[], ℕ, ⊤, ◌++◌, ◌+◌, ◌-◌, �
 use Rattle.query_core.proofs.Words.{Appends, Appends-join, Appends-none, AppendsPrefix, Bool, CountsTaken, Err}
 use Rattle.query_core.proofs.Words.{IsMarkedReply, IsOneReply, List, None, Option, Some, TakesLine, ap, append-nil}
 use Rattle.query_core.proofs.Words.{append_assoc, arith, cases_lt, cond, cut_lines, err_from_is_err_and, false}
-use Rattle.query_core.proofs.Words.{flat_map-append, inl, inr, length, length-append, length-take, lines, lt-ltb, map}
+use Rattle.query_core.proofs.Words.{flat_map-append, inl, inr, length, length-append, length-take, lt-ltb, map}
 use Rattle.query_core.proofs.Words.{map-append, nat_lt, prefix_after, prefix_longer, prepend_known, refl, subst, sym}
 use Rattle.query_core.proofs.Words.{take, take_all, true, without_carriage_return}
 use Rattle.std.proofs.Common.{Result}

@@ -173,8 +173,7 @@ pub fn serve<S: Source, I: Input, O: Output>(
         (map S.failures sources.new) (O.failures out.old) (O.failures out.new)
         (I.failures input.old) (I.failures input.new) (I.remaining input.old) }
     ensures replies { OverIndexes LINE_LIMIT (map S.text sources.old) (λ texts indexes.
-        IfOk result (λ count.
-        Replied QUERY_LIMIT (reply_of QUERY_LIMIT (collection indexes))
+        IfOk result (λ count. Replied QUERY_LIMIT (reply_of QUERY_LIMIT (collection indexes))
         (I.remaining input.old) count (O.written out.old) (O.written out.new))) }
     ensures part { OverIndexes LINE_LIMIT (map S.text sources.old) (λ texts indexes.
         RepliedInPart QUERY_LIMIT (reply_of QUERY_LIMIT (collection indexes))

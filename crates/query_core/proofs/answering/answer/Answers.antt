@@ -1,6 +1,6 @@
 use Rattle.query_core.proofs.Words.{[], ℕ, ◌≡◌, AreAtMost, GaveInReach, Grows, LINE_LIMIT, List, Option, OverIndexes}
 use Rattle.query_core.proofs.Words.{append-nil, arith, collection, err_from_is_err_and, grows_by, grows_part}
-use Rattle.query_core.proofs.Words.{length-map, lines, map, page_over, query_page, refl, sym, wrote_nothing}
+use Rattle.query_core.proofs.Words.{length-map, map, page_over, query_page, refl, sym, wrote_nothing}
 use Rattle.query_core.proofs.AskedLemmas.{Writing, captures, asked_is, end_front, page_broke, page_ended}
 use Rattle.query_core.proofs.AskedLemmas.{passed, settles, stood}
 use Rattle.page_core.proofs.PageLemmas.{front-start}

@@ -1,5 +1,5 @@
-use Rattle.query_core.proofs.Words.{chain_law, lines, matches, member_place, place_cmp, place_cmp_total}
-use Rattle.query_core.proofs.Words.{rises_collapsed, rises_filter, same_part, selected}
+use Rattle.query_core.proofs.Words.{chain_law, matches, member_place, place_cmp, place_cmp_total, rises_collapsed}
+use Rattle.query_core.proofs.Words.{rises_filter, same_part, selected}
 use Rattle.query_core.proofs.NextPlaces.{captures_wanted}
 use Rattle.query_core.proofs.PageChains.{captures_are}
 use Rattle.query_core.proofs.laws.pages_rise.Goals as goal

@@ -1,6 +1,6 @@
 use Rattle.query_core.proofs.Words.{[], ℕ, ◌∙◌, ◌≡◌, AllPositive, GaveInPages, Grows, LINE_LIMIT, List, Member, None}
 use Rattle.query_core.proofs.Words.{Option, OverIndexes, Rises, Some, WrotePagesInPart, ap, append-nil, arith}
-use Rattle.query_core.proofs.Words.{collection, err_from_is_err_and, first_size, grows_by, grows_part, lines, map}
+use Rattle.query_core.proofs.Words.{collection, err_from_is_err_and, first_size, grows_by, grows_part, map}
 use Rattle.query_core.proofs.Words.{member_place, place_cmp, place_cmp_total, refl, rises_rising, rules, sym, true}
 use Rattle.query_core.proofs.Words.{true≢false}
 use Rattle.std.proofs.lemmas.Bool.{true_from_ne_false}

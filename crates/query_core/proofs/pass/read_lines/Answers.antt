@@ -1,6 +1,6 @@
 use Rattle.query_core.proofs.Words.{[], ◌++◌, ◌∙◌, ◌≡◌, Bool, KeepsSources, LINE_LIMIT, List, Member, ReadFor, Some}
 use Rattle.query_core.proofs.Words.{all_kept, ap, append-nil, arith, err_from_is_err_and, false, feeds, grows_not}
-use Rattle.query_core.proofs.Words.{inl, length-map, lines, map, refl, sym, true}
+use Rattle.query_core.proofs.Words.{inl, length-map, map, refl, sym, true}
 use Rattle.query_core.proofs.AskedLemmas.{captures}
 use Rattle.query_core.proofs.CaptureLemmas.{captures_append}
 use Rattle.query_core.proofs.PageOfIndexes.{Opened, reading, told, wanted_whole}

@@ -1,5 +1,5 @@
-use Rattle.query_core.proofs.Words.{[], ◌+◌, QUERY_LIMIT, TakesLine, arith, err_from_is_err_and, kept, prepend_known}
-use Rattle.query_core.proofs.Words.{refl, true}
+use Rattle.query_core.proofs.Words.{[], ◌+◌, QUERY_LIMIT, TakesLine, arith, err_from_is_err_and, prepend_known, refl}
+use Rattle.query_core.proofs.Words.{true}
 use Rattle.devices.proofs.Takings.{taken-join}
 use Rattle.query_core.proofs.ReplyBytes.{spent_none, spent_stop, spent_more, spent_within}
 use Rattle.query_core.proofs.ReplyLemmas.{input_stops, line_more, line_none, line_within, one_reply}
