@@ -1,9 +1,9 @@
 -- One page of a query, by what was taken of its sources, and by what a writer has written.
-use Rattle.query_core.proofs.Words.{[], ℕ, ◌++◌, ◌∙◌, ◌≡◌, ◌⊎◌, Appends, AppendsPrefix, Bool, Broke, IsWriterOf, List}
-use Rattle.query_core.proofs.Words.{Member, Option, Page, PageStands, PageWriter, PlaceValue, QueryValue, Some, Wrote}
-use Rattle.query_core.proofs.Words.{answer_text, arith, begun, begun_is_front, captures_over, false, form_of, from_view}
-use Rattle.query_core.proofs.Words.{inl, inr, is_some, next_of, page_end, page_over, page_text, prefix_longer}
-use Rattle.query_core.proofs.Words.{query_page, shown_key, true}
+use Rattle.query_core.proofs.Words.{[], ℕ, ◌++◌, ◌≡◌, ◌⊎◌, Appends, AppendsPrefix, Bool, Broke, IsWriterOf, List}
+use Rattle.query_core.proofs.Words.{Member, Option, Page, PageStands, PageWriter, PlaceValue, QueryValue, Wrote}
+use Rattle.query_core.proofs.Words.{answer_text, arith, begun, begun_is_front, captures_over, false, form_of}
+use Rattle.query_core.proofs.Words.{from_view, inl, inr, is_some, next_of, page_end, page_over, page_text}
+use Rattle.query_core.proofs.Words.{prefix_longer, query_page, shown_key, true}
 use Rattle.page_core.proofs.PageLemmas.{written-whole, front-end}
 use Rattle.query_core.specs.declared.page_writer.PageEnd.{PageEnd}
 use Rattle.query_core.proofs.CaptureLemmas.{filter_and}
@@ -19,28 +19,35 @@ captures q lines = captures_over q q.resume lines
 pub asked_is : (q : QueryValue) (lines : List Member) → query_page q lines ≡ page_over q q.resume q.limit lines
 asked_is q lines = grind (arith, page, filter_and)
 
--- a writer that began with this query wrote the page of these lines
-pub record Writing (q : QueryValue) (start now : Option (List ℕ)) (taken : List Member) : Type 0 where
+-- a writer that began with this query, this limit and these sizes wrote what stands of these lines
+pub record Writing (q : QueryValue) (limit : Option ℕ) (sizes : List ℕ) (start now : Option (List ℕ))
+    (taken : List Member) : Type 0 where
   pub first : PageWriter
-  pub is : IsWriterOf q q.limit [] first
+  pub is : IsWriterOf q limit sizes first
   pub writer : PageWriter
   pub wrote : Wrote first writer taken start now
 
-module _ {q : QueryValue} {start mid : Option (List ℕ)} {taken : List Member} (w : Writing q start mid taken) where
+module _ {q : QueryValue} {limit : Option ℕ} {sizes : List ℕ} {start mid : Option (List ℕ)} {taken : List Member}
+    (w : Writing q limit sizes start mid taken) where
+  pub query_is : w.writer.selection.query.now ≡ q
+  query_is = cc
+
+  pub from_same : from_view w.writer.selection.from ≡ q.resume
+  from_same = cc
+
+  -- it took more lines
+  abbrev pub passed : (more : List Member) (now : Option (List ℕ)) (writer : PageWriter) → ((first : PageWriter)
+      → (start : Option (List ℕ)) → Wrote first w.writer taken start mid → Wrote first writer more start now)
+      → Writing q limit sizes start now more
+  passed more now writer came = record { first = w.first; is = w.is; writer = writer; wrote = came w.first start w.wrote }
+
+module _ {q : QueryValue} {start mid : Option (List ℕ)} {taken : List Member}
+    (w : Writing q q.limit [] start mid taken) where
   abbrev taken_page : Page Member PlaceValue
   taken_page = page_over q q.resume q.limit taken
 
-  query_is : w.writer.selection.query.now ≡ q
-  query_is = cc
-
-  from_same : from_view w.writer.selection.from ≡ q.resume
-  from_same = cc
-
   pub stood : PageStands (form_of q) q.limit (captures q taken) start mid w.writer.given w.writer.more w.writer.last
-  stood =
-      let one = w.wrote.one w.is.sizes_are in
-      let limit_same : w.writer.limit ≡ q.limit = one.limit ∙ w.is.limit_is in
-      rw (query_is, from_same, limit_same) at one.stands
+  stood = grind (arith, query_is, from_same)
 
   abbrev key_of : QueryValue → Option (List ℕ)
   key_of r = shown_key r.show_resume_key (next_of w.writer.more w.writer.last)
@@ -62,32 +69,19 @@ module _ {q : QueryValue} {start mid : Option (List ℕ)} {taken : List Member} 
           → (end.given ≡ w.writer.given) × (end.next ≡ next_of w.writer.more w.writer.last)
           → report.given ≡ end.given → report.more ≡ is_some end.next → Answered q all start new report
       page_ended end report a of_end given more =
-          let b = rw query_is at a in
+          let b = rw (query_is w) at a in
           grind (arith, text_same, written-whole, next_is, stood)
 
       pub end_front : AppendsPrefix mid new
           (page_end (form_of w.writer.selection.query.now) (key_of w.writer.selection.query.now))
           → AppendsPrefix start new (answer_text q (query_page q all))
       end_front p = rw (← text_same)
-          (front-end start mid new (form_of q) taken_page.members (key_of q) stood.text (rw query_is at p))
+          (front-end start mid new (form_of q) taken_page.members (key_of q) stood.text (rw (query_is w) at p))
 
--- a writer that begins with this query, and what was written then
-pub record Beginning (q : QueryValue) (start mid : Option (List ℕ)) : Type 0 where
-  pub first : PageWriter
-  pub is : IsWriterOf q q.limit [] first
-  pub began : Wrote first first [] start mid
-  pub some : q.limit ≡ Some 0 → ⊥
-
-module _ {q : QueryValue} {start mid : Option (List ℕ)} (b : Beginning q start mid) (taken : List Member)
+module _ {q : QueryValue} {start mid : Option (List ℕ)} (b : Writing q q.limit [] start mid []) (taken : List Member)
     (now : Option (List ℕ)) where
-  -- it took these lines
-  abbrev pub passed : (writer : PageWriter) → ((first : PageWriter) → (start : Option (List ℕ))
-      → Wrote first b.first [] start mid → Wrote first writer taken start now)
-      → Writing q start now taken
-  passed writer came = record { first = b.first; is = b.is; writer = writer; wrote = came b.first start b.began }
-
   -- are a front of the page of lines of which these come first
-  pub page_broke : ((first : PageWriter) → (start : Option (List ℕ)) → Wrote first b.first [] start mid
+  pub page_broke : ((first : PageWriter) → (start : Option (List ℕ)) → Wrote first b.writer [] start mid
       → ((k : PageWriter) × Wrote first k taken start now) ⊎ Broke first taken start now)
       → (all rest : List Member) → captures q all ≡ captures q taken ++ rest
       → AppendsPrefix start now (answer_text q (query_page q all))
@@ -98,9 +92,10 @@ module _ {q : QueryValue} {start mid : Option (List ℕ)} (b : Beginning q start
       let same : (query_page q all).members ≡ members ++ r.0 = grind (arith, asked_is, page) in
       let f = begun_is_front (form_of q) members r.0 key in
       let rows : AppendsPrefix start now (begun (form_of q) members) =
-      elim (came b.first start b.began) as (λ _. AppendsPrefix start now (begun (form_of q) members)) [
+      elim (came b.first start b.wrote) as (λ _. AppendsPrefix start now (begun (form_of q) members)) [
         | inl k ↦ (
-            let w : Writing q start now taken = record { first = b.first; is = b.is; writer = k.0; wrote = k.1 } in
+            let w : Writing q q.limit [] start now taken =
+            record { first = b.first; is = b.is; writer = k.0; wrote = k.1 } in
             whole_prefix _ _ _ (stood w).text)
         | inr p ↦ rw (b.is.query_is, b.is.from_is, b.is.limit_is) at (p.one b.is.sizes_are)
       ] in

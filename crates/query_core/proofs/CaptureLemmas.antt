@@ -1,8 +1,8 @@
 -- The captures of lines, which are collapsed, and what the next line is compared with.
-use Rattle.query_core.proofs.Words.{[], ◌&&◌, ◌++◌, ◌∷◌, ◌≡◌, Bool, List, Member, Option, PlaceValue, QueryValue, Some}
-use Rattle.query_core.proofs.Words.{append-nil, arith, bytes_eq-Decides, captures_over, end_place, false, filter}
-use Rattle.query_core.proofs.Words.{is_wanted, kept, member_place, place_before, place_cmp_total, refl, same_part, true}
-use Rattle.query_core.proofs.Words.{true≢false}
+use Rattle.query_core.proofs.Words.{[], ◌&&◌, ◌++◌, ◌∷◌, ◌≡◌, Bool, List, Member, Option, PlaceValue, QueryValue}
+use Rattle.query_core.proofs.Words.{Some, append-nil, arith, bytes_eq-Decides, captures_over, end_place, false}
+use Rattle.query_core.proofs.Words.{filter, is_wanted, kept, member_place, place_before, place_cmp_total, refl}
+use Rattle.query_core.proofs.Words.{same_part, true, true≢false}
 use Rattle.std.proofs.lemmas.Bool.{cond-true}
 use Rattle.std.proofs.lemmas.List.Elements.{filter-append}
 use Rattle.page_core.specs.Pages.{repeats}
@@ -44,7 +44,7 @@ module _ (q : QueryValue) (from : Option PlaceValue) where
 
     pub captures_repeated : is_wanted q from m ≡ true
         → repeats member_place (same_part q.collapse) (place_before q from taken) m ≡ true
-        → captures_over q from (taken ++ m ∷ []) ≡ captures_over q from taken
+        → captures_over q from (taken ++ m ∷ []) ≡ captures_over q from taken ++ []
     captures_repeated h r =
         let split = captures_split (taken ++ m ∷ []) taken (m ∷ []) (joined h) in grind (arith, append-nil)
 

@@ -1,8 +1,8 @@
 -- How far a check has come.
-use Rattle.query_core.proofs.Words.{[], ℕ, ◌++◌, ◌+◌, ◌∙◌, ◌∷◌, ◌≡◌, ◌≤◌, AllByRecursion, AnswerFault, IsIndex, List}
-use Rattle.query_core.proofs.Words.{Member, NeverFalls, None, Option, Some, Upto, ap, arith, drop, each_join}
-use Rattle.query_core.proofs.Words.{each_weaker, length, length-append, length-drop, line_entry, map-append}
-use Rattle.query_core.proofs.Words.{member_pair, pair_cmp, refl, sym, take, take-append-drop, take_all, upto_upto}
+use Rattle.query_core.proofs.Words.{[], ℕ, ◌++◌, ◌+◌, ◌∙◌, ◌∷◌, ◌≡◌, ◌≤◌, AllByRecursion, IsIndex, List, Member}
+use Rattle.query_core.proofs.Words.{NeverFalls, None, Option, Some, Upto, ap, arith, drop, each_join, each_weaker}
+use Rattle.query_core.proofs.Words.{length, length-append, length-drop, line_entry, map-append, member_pair, pair_cmp}
+use Rattle.query_core.proofs.Words.{refl, sym, take, take-append-drop, take_all, upto_upto}
 use Rattle.std.specs.Prelude.{Err, MatchOption}
 use Rattle.std.proofs.lemmas.List.{drop-drop}
 use Rattle.cdxj_core.specs.Indexes.{IsRun}
@@ -10,7 +10,10 @@ use Rattle.source_core.specs.IndexLines.{lines}
 use Rattle.source_core.specs.LinesAtFault.{LineBeginsAt}
 use Rattle.source_core.proofs.SortedCuts.{begins_at}
 use Rattle.merge_core.specs.NextLine.{IsNextLine}
-use Rattle.query_core.specs.Checking.{IsLineFaultAt, IsLastOf, FallsAfter, EndsOutOfOrder, IsChecked}
+use Rattle.merge_core.specs.LineFaults.{IsFeedFaultAt}
+use Rattle.merge_core.specs.declared.fault.FeedFault.{FeedFault}
+use Rattle.query_core.specs.Conversions.{fault_of_index}
+use Rattle.query_core.specs.Checking.{IsLastOf, FallsAfter, EndsOutOfOrder, IsChecked}
 use Rattle.merge_core.proofs.FeedLemmas.{falls_push, take_next}
 use Rattle.merge_core.proofs.FeedLemmas.{falls_last}
 
@@ -85,5 +88,6 @@ module _ (limit : ℕ) (t : List ℕ) where
         falls = falls;
       }
 
-      pub checked_fault : (f : AnswerFault) → IsLineFaultAt limit t at f → IsChecked limit t (Err f)
-      checked_fault f known = grind (arith, begins)
+      pub checked_fault : (e : FeedFault) → IsFeedFaultAt limit (lines (drop at t)) at e
+          → IsChecked limit t (Err (fault_of_index 0 e))
+      checked_fault e known = grind (arith, begins)

@@ -11,14 +11,7 @@ lines_join (i ∷ some) others = grind (arith, append_assoc, lines_join some oth
 
 pub merges_group : (before some after : List (List Member))
     → collection (before ++ collection some ∷ after) ≡ collection (before ++ (some ++ after))
-merges_group before some after =
-    grind (
-      arith,
-      lines_join,
-      rising_left member_place place_cmp place_cmp_total (all_lines some) (all_lines after),
-      rising_right member_place place_cmp place_cmp_total (all_lines before)
-          (collection some ++ all_lines after) (all_lines some ++ all_lines after),
-    )
+merges_group before some after = grind (arith, lines_join, rising_left, place_cmp_total, rising_right)
 
 -- with one line at each place, each is the first at its place
 is_first : (m : Member) (lines : List Member) → HaveOneLine lines → IsIn m lines

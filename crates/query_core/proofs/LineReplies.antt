@@ -1,9 +1,11 @@
 -- The reply to a line, by what the line is.
 use Rattle.query_core.proofs.Words.{[], ℕ, ◌++◌, ◌≡◌, ◌≤◌, AnswerFault, Appends, Appends-join, AppendsPrefix}
 use Rattle.query_core.proofs.Words.{AreLinesOf, Err, IsAnswerFaultOf, IsMarkedReply, LINE_LIMIT, List, Member, Ok}
-use Rattle.query_core.proofs.Words.{Option, QueryFault, QueryValue, Some, answer_text, arith, codes, is_utf8, le-ltb}
-use Rattle.query_core.proofs.Words.{length, prefix_after, prefix_longer, query_page, refl, true}
+use Rattle.query_core.proofs.Words.{Option, QueryFault, QueryValue, Some, answer_text, arith, codes}
+use Rattle.query_core.proofs.Words.{false_from_ne_true, is_utf8, is_utf8-from_IsUtf8, le-ltb, length, prefix_after}
+use Rattle.query_core.proofs.Words.{prefix_longer, query_page, refl, true}
 use Rattle.std.proofs.Common.{Result}
+use Rattle.std.proofs.lemmas.Str.{IsUtf8-from_is_utf8}
 use Rattle.devices.specs.Writing.{WritesText}
 use Rattle.query_core.specs.AnyReplies.{IsPageReply, IsQueryReply, fault_text}
 use Rattle.query_core.specs.Conversations.{IsLineReply, WritesSome}
@@ -44,6 +46,9 @@ pub text_reply : {A E : Type 0} (limit : ℕ) (IsReply : List ℕ → List ℕ �
     (old new : Option (List ℕ)) → length line ≤ limit → is_utf8 line ≡ true → WritesSome r old new (IsReply line)
     → WritesSome r old new (IsLineReply limit IsReply line)
 text_reply limit IsReply line r old new short utf8 h = rw (le-ltb limit (length line) short, utf8) h
+
+-- whether a line is a text within the limit
+pub ruleset line_tests = (le-ltb, false_from_ne_true, IsUtf8-from_is_utf8, is_utf8-from_IsUtf8)
 
 -- with the line `.`
 module _ (limit : ℕ) (IsReply : List ℕ → List ℕ → Type 0) (line : List ℕ) (old mid : Option (List ℕ)) where

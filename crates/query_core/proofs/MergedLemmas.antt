@@ -4,7 +4,7 @@ use Rattle.query_core.proofs.Words.{Ordering, Rises, Some, all_lines, append_ass
 use Rattle.query_core.proofs.Words.{each_rising, each_weaker, false, has_no_feed, is_gt, is_utf8-from_IsUtf8}
 use Rattle.query_core.proofs.Words.{line_entry, line_row, lines, lines_front, lines_text, map, member_pair}
 use Rattle.query_core.proofs.Words.{member_place, pair_cmp, place_cmp, place_cmp_total, refl, rises_rising, true}
-use Rattle.cdxj_core.specs.Lines.{line_in, body_of}
+use Rattle.cdxj_core.specs.Lines.{line_in}
 use Rattle.cdxj_core.proofs.EntryRead.{body_of-feed}
 use Rattle.cdxj_core.proofs.MemberLemmas.{entered}
 
@@ -17,10 +17,7 @@ unfolding line_in
 in_no_feed limit body m h = grind arith
 
 pub is_row : (limit : ℕ) (line : List ℕ) (m : Member) → line_entry limit line ≡ Some m → IsRow limit m
-is_row limit line m h =
-    let e = entered limit line m h in
-    let whole : has_no_feed (body_of line) ≡ true = in_no_feed limit (body_of line) m e.values in
-    grind (arith, body_of-feed, is_utf8-from_IsUtf8)
+is_row limit line m h = grind (arith, entered, in_no_feed, body_of-feed, is_utf8-from_IsUtf8)
 
 rows_of : (limit : ℕ) (these : List (List ℕ)) (ms : List Member) → map (line_entry limit) these ≡ map Some ms
     → AllByRecursion (IsRow limit) ms
@@ -55,10 +52,7 @@ falls_never (m ∷ ms) h = grind (arith, each_weaker, not_above, falls_never ms 
 -- rows that rise are an index
 pub rows_index : (limit : ℕ) (ms : List Member) → AllByRecursion (IsRow limit) ms → Rises member_place place_cmp ms
     → IsIndex limit (lines_text ms) ms
-rows_index limit ms rows rise = record {
-  entries = grind (arith, lines_rows limit ms rows, entries_rows limit ms rows);
-  ordered = falls_never ms rise;
-}
+rows_index limit ms rows rise = grind (arith, lines_rows, entries_rows, falls_never)
 
 pub collection_rows : (limit : ℕ) (texts : List (List ℕ)) (indexes : List (List Member))
     → AllZip (IsIndex limit) texts indexes → AllByRecursion (IsRow limit) (collection indexes)

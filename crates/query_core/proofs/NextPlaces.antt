@@ -1,6 +1,7 @@
--- The captures of a query are wanted.
 use Rattle.query_core.proofs.Words.{[], ◌∷◌, ◌≡◌, AllByRecursion, Bool, List, Member, Option, PlaceValue, QueryValue}
 use Rattle.query_core.proofs.Words.{arith, captures_over, each_kept, filter, is_wanted, place_cmp_total, true}
+
+-- The captures of a query are wanted.
 
 filter_holds : {X : Type 0} (f : X → Bool) (xs : List X) → AllByRecursion (λ x. f x ≡ true) (filter f xs)
 filter_holds f [] = tt

@@ -1,7 +1,7 @@
 -- The query that selects nothing, and is refused as another.
-use Rattle.query_core.proofs.Words.{[], ℕ, ◌++◌, ◌<◌, ◌∙◌, ◌∷◌, ◌≡◌, ◌≤◌, Err, LineValue, List, Member, Ok, QUERY_LIMIT}
-use Rattle.query_core.proofs.Words.{QueryValue, TargetValue, ap, arith, false, le-ltb, length, length-append, list_all}
-use Rattle.query_core.proofs.Words.{list_all-append, nat_lt, query_of, refl, selected, true}
+use Rattle.query_core.proofs.Words.{[], ℕ, ◌++◌, ◌<◌, ◌∙◌, ◌∷◌, ◌≡◌, ◌≤◌, Err, LineValue, List, Member, Ok}
+use Rattle.query_core.proofs.Words.{QUERY_LIMIT, QueryValue, TargetValue, ap, arith, false, le-ltb, length}
+use Rattle.query_core.proofs.Words.{length-append, list_all, list_all-append, nat_lt, query_of, refl, selected, true}
 use Rattle.std.proofs.Common.{codes}
 use Rattle.std.proofs.Common.{◌==◌}
 use Rattle.std.specs.Prelude.{MatchResult}
@@ -101,11 +101,7 @@ carried a b c d e k h = rw (e, k) h
 
 of_target : (w : ParameterValues) (t : Read TargetValue) → Follows (and_then t (λ x. Ok (with_target w x)))
     (and_then t (λ x. Ok (with_target (with_filter w no_key) x)))
-of_target w (Ok x) = (
-  with_target (with_filter w no_key) x,
-  refl,
-  none_selected (with_target (with_filter w no_key) x) w.filters refl,
-)
+of_target w (Ok x) = grind (arith, none_selected)
 of_target w (Err e) = refl
 
 of_values : (m : Read ParameterValues) → Follows (and_then m query_with)

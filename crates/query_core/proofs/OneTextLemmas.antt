@@ -1,7 +1,6 @@
 -- Over known indexes and a known output, a call that succeeds writes one text.
-use Rattle.query_core.proofs.Words.{ℕ, ◌∷◌, ◌≡◌, AllZip, Appends, IsIndex, LINE_LIMIT, List, Member, Option, QueryValue}
-use Rattle.query_core.proofs.Words.{Some, WrotePages, arith, collection, member_place, place_cmp, place_cmp_total}
-use Rattle.query_core.proofs.Words.{same_part, selected}
+use Rattle.query_core.proofs.Words.{ℕ, ◌∷◌, ◌≡◌, AllZip, Appends, IsIndex, LINE_LIMIT, List, Member, Option}
+use Rattle.query_core.proofs.Words.{QueryValue, Some, WrotePages, arith, collection, place_cmp_total}
 use Rattle.cdxj_core.proofs.IndexLemmas.{one_index}
 use Rattle.page_core.proofs.PageLaws.{chain_one}
 use Rattle.query_core.specs.OneText.{AnswerIsOne, MergeIsOne, PagesAreOne}
@@ -25,11 +24,7 @@ answer_one texts these those q old new new' report report' are a b =
 pub wrote_one : (q : QueryValue) (lines : List Member) (sizes old : List ℕ) (new new' : Option (List ℕ))
     (number number' : ℕ) → WrotePages q lines sizes (Some old) new number
     → WrotePages q lines sizes (Some old) new' number' → (new ≡ new') × (number ≡ number')
-wrote_one q lines sizes old new new' number number' a b =
-    let same : a.pages ≡ b.pages =
-    chain_one member_place place_cmp (same_part q.collapse) place_cmp_total (selected q lines) q.resume sizes a.pages
-    b.pages a.chain b.chain in
-    grind (arith, one_written)
+wrote_one q lines sizes old new new' number number' a b = grind (arith, chain_one, place_cmp_total, one_written)
 
 pub pages_one : PagesAreOne
 pages_one texts these those q sizes old new new' number number' are a b =

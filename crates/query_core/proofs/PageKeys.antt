@@ -1,7 +1,8 @@
 -- The resume keys of pages.
-use Rattle.query_core.proofs.Words.{[], ℕ, ◌∙◌, ◌∷◌, ◌≡◌, AllByRecursion, Bool, HasReadKey, IsChain, List, Member, None}
-use Rattle.query_core.proofs.Words.{Option, Page, PlaceValue, Some, ap, arith, at_most, collapsed, first_size, is_some}
-use Rattle.query_core.proofs.Words.{later_sizes, member_place, next_after, place_cmp, refl, suc, take_all, zero}
+use Rattle.query_core.proofs.Words.{[], ℕ, ◌∙◌, ◌∷◌, ◌≡◌, AllByRecursion, Bool, HasReadKey, IsChain, List, Member}
+use Rattle.query_core.proofs.Words.{None, Option, Page, PlaceValue, Some, ap, arith, at_most, collapsed, first_size}
+use Rattle.query_core.proofs.Words.{is_some, later_sizes, member_place, next_after, place_cmp, refl, suc, take_all}
+use Rattle.query_core.proofs.Words.{zero}
 use Rattle.std.proofs.Common.{MatchOption}
 use Rattle.query_core.proofs.WriterLemmas.{ends_at, next_place, next_short, next_some}
 use Rattle.query_core.specs.WrittenPages.{EndsWithKey, KeysButLast, empty_page}

@@ -3,11 +3,10 @@ use Rattle.query_core.proofs.Words.{[], ℕ, ⊤, ◌&&◌, ◌++◌, ◌+◌, �
 use Rattle.query_core.proofs.Words.{BeginsWithBracket, Bool, Field, HasEntry, HaveEntries, IsIn, LINE_LIMIT, List}
 use Rattle.query_core.proofs.Words.{Member, None, Option, PlaceValue, QueryValue, Some, ap, append-nil, append_assoc}
 use Rattle.query_core.proofs.Words.{arith, begins_with_pair, cases_lt, codes, cond, drop, each_at, each_filter}
-use Rattle.query_core.proofs.Words.{each_join, each_kept, each_weaker, entry_pair_is, escaped, false, filter, flat_map}
-use Rattle.query_core.proofs.Words.{inl, inr, is_above, is_key, is_stamp, key_part, length, length-append, length-drop}
-use Rattle.query_core.proofs.Words.{line_row, lines, map, matches, member_pair, member_place, nat_tests, page_text}
-use Rattle.query_core.proofs.Words.{place_cmp, place_cmp_total, query_captures, query_page, refl, row_value, same_part}
-use Rattle.query_core.proofs.Words.{selected, shown_key, stamp_part, suc, sym, text_row, true, true≢false, zero}
+use Rattle.query_core.proofs.Words.{each_join, each_kept, each_weaker, entry_pair_is, false, flat_map, inl, inr}
+use Rattle.query_core.proofs.Words.{is_key, is_stamp, key_part, length, length-append, length-drop, line_row, lines}
+use Rattle.query_core.proofs.Words.{map, member_pair, nat_tests, page_text, place_cmp_total, query_page, refl}
+use Rattle.query_core.proofs.Words.{row_value, shown_key, stamp_part, suc, sym, text_row, true, true≢false, zero}
 use Rattle.std.specs.List.{after_first, position_or_len}
 use Rattle.cdxj_places.specs.Pair.{begins_with_space, is_space, tail_part}
 use Rattle.query_text.specs.declared.output.OutputFormat.{OutputFormat}
@@ -16,6 +15,7 @@ use Rattle.page_core.specs.PageText.{key_lines}
 use Rattle.query_core.specs.QueryPages.{output_form}
 use Rattle.query_core.specs.PageLines.{fault_row, has_no_space}
 use Rattle.query_core.specs.Replies.{refusal_text}
+use Rattle.std.proofs.lemmas.List.{append_cancel_right}
 use Rattle.query_core.proofs.MergedLemmas.{is_row}
 use Rattle.query_core.proofs.PageIndexes.{each_at_most}
 use Rattle.query_core.proofs.PageArrays.{json_lines}
@@ -27,12 +27,7 @@ use Rattle.query_core.proofs.PageRows.{escaped_some, above_line, spaces_join, te
 
 pub page_each : (A : Member → Type 0) (q : QueryValue) (found : List Member) → AllByRecursion A found
     → AllByRecursion A (query_page q found).members
-page_each A q found h =
-    each_at_most A q.limit (query_captures q found)
-    (each_kept member_place place_cmp (same_part q.collapse) place_cmp_total A q.resume
-    (filter (is_above member_place place_cmp q.resume) (selected q found))
-    (each_filter A (is_above member_place place_cmp q.resume) (selected q found)
-    (each_filter A (λ m. matches q m.values) found h)))
+page_each A q found h = grind (arith, each_at_most, each_kept, place_cmp_total, each_filter)
 
 -- ---- a key
 
@@ -74,63 +69,23 @@ module _ (row : Member → List ℕ) (ms : List Member) (key : Option (List ℕ)
   rows_lines h = rw (← rows_text row ms key)
       (lines_joined rows (each_join IsLine (map row ms) (key_rows key) (each_mapped IsLine row ms h) (key_line key above)))
 
-  -- ---- a line `.`
+  -- which row is like this one
+  pub of_row : (F : List ℕ) (X : Type 0) → AllByRecursion (λ m. row m ≡ F → X) ms
+      → AllByRecursion (λ r. r ≡ F → X) (key_rows key) → IsIn F rows → X
+  of_row F X of_member of_key i =
+      each_at (λ r. r ≡ F → X) F rows
+      (each_join (λ r. r ≡ F → X) (map row ms) (key_rows key) (each_mapped (λ r. r ≡ F → X) row ms of_member) of_key) i
+      refl
 
-  key_no_mark : (X : Type 0) (k : Option (List ℕ)) → KeyIsAbove k
-      → AllByRecursion (λ r. r ≡ codes ".\n" → X) (key_rows k)
-  key_no_mark X None h = tt
-  key_no_mark X (Some k) h = (
-    (λ e. absurd (omega (arith, ap length e))),
-    ((λ e. absurd (omega (arith, ap length e, length-append k (10 ∷ []), h.1))), tt),
-  )
+-- ---- the rows of a key
 
-  pub marked_row : (X : Type 0) → AllByRecursion (λ m. row m ≡ codes ".\n" → X) ms → IsIn (codes ".\n") rows → X
-  marked_row X h i =
-      each_at (λ r. r ≡ codes ".\n" → X) (codes ".\n") rows
-      (each_join (λ r. r ≡ codes ".\n" → X) (map row ms) (key_rows key)
-      (each_mapped (λ r. r ≡ codes ".\n" → X) row ms h) (key_no_mark X key above)) i refl
-
--- ---- the name of a refusal
-
-refused_rows : (row : Member → List ℕ) (ms : List Member) (key : Option (List ℕ)) (name : List ℕ)
-    (rest : List (List ℕ)) (X : Type 0) → AllByRecursion (λ m. row m ≡ refusal_text name → X) ms
-    → map row ms ++ key_rows key ≡ refusal_text name ∷ rest → X
-refused_rows row [] None name rest X h e = absurd (omega (arith, ap length e))
-refused_rows row [] (Some key) name rest X h e =
-    let first : 10 ∷ [] ≡ refusal_text name = grind arith in
-    absurd (omega (arith, ap length first))
-refused_rows row (m ∷ ms) key name rest X h e =
-    let first : row m ≡ refusal_text name = grind arith in
-    h.0 first
-
--- ---- the line of a fault after an empty line
-
-key_no_fault : (key : Option (List ℕ)) (F : List ℕ) (before after : List (List ℕ)) → KeyIsAbove key → 0 < spaces F
-    → key_rows key ≡ before ++ (10 ∷ []) ∷ F ∷ after → ⊥
-unfolding spaces
-key_no_fault None F before after h s e =
-    omega (arith, ap length e, length-append before ((10 ∷ []) ∷ F ∷ after))
-key_no_fault (Some key) F [] after h s e =
-    let same : key ++ 10 ∷ [] ≡ F = grind arith in
-    omega (arith, s, ap spaces same, spaces_join key (10 ∷ []), above_spaces key h.0)
-key_no_fault (Some key) F (b ∷ before) after h s e =
-    omega (arith, ap length e, length-append before ((10 ∷ []) ∷ F ∷ after))
-
-pub is_there : (before : List (List ℕ)) (E : List ℕ) (after : List (List ℕ)) → IsIn E (before ++ E ∷ after)
-is_there [] E after = inl refl
-is_there (b ∷ before) E after = inr (is_there before E after)
-
--- where no row is an empty line
-no_empty_row : (row : Member → List ℕ) (ms : List Member) (key : Option (List ℕ)) (F : List ℕ)
-    (before after : List (List ℕ)) → KeyIsAbove key → 0 < spaces F
-    → AllByRecursion (λ m. row m ≡ 10 ∷ [] → ⊥) ms
-    → map row ms ++ key_rows key ≡ before ++ (10 ∷ []) ∷ F ∷ after → ⊥
-no_empty_row row [] key F before after k s h e = key_no_fault key F before after k s e
-no_empty_row row (m ∷ ms) key F [] after k s h e =
-    let first : row m ≡ 10 ∷ [] = grind arith in
-    h.0 first
-no_empty_row row (m ∷ ms) key F (b ∷ before) after k s h e =
-    no_empty_row row ms key F before after k s h.1 (grind arith)
+-- none is a line `.`
+key_no_mark : (X : Type 0) (k : Option (List ℕ)) → KeyIsAbove k → AllByRecursion (λ r. r ≡ codes ".\n" → X) (key_rows k)
+key_no_mark X None h = tt
+key_no_mark X (Some k) h = (
+  (λ e. absurd (omega (arith, ap length e))),
+  ((λ e. absurd (omega (arith, ap length e, length-append k (10 ∷ []), h.1))), tt),
+)
 
 is_second : (before after : List (List ℕ)) (E F : List ℕ) → IsIn F (before ++ E ∷ F ∷ after)
 is_second [] after E F = inr (inl refl)
@@ -146,27 +101,35 @@ unfolding spaces
 unspaced [] h = refl
 unspaced (b ∷ text) h = grind (arith, nat_tests, unspaced text)
 
--- where no row has a space
-no_spaced_row : (row : Member → List ℕ) (ms : List Member) (key : Option (List ℕ)) (F : List ℕ)
-    (before after : List (List ℕ)) → KeyIsAbove key → 0 < spaces F
-    → AllByRecursion (λ m. spaces (row m) ≡ 0) ms
-    → map row ms ++ key_rows key ≡ before ++ (10 ∷ []) ∷ F ∷ after → ⊥
-no_spaced_row row ms key F before after k s h e =
-    let all = each_join (λ r. spaces r ≡ 0) (map row ms) (key_rows key) (each_mapped (λ r. spaces r ≡ 0) row ms h)
-    (key_unspaced key k) in
-    let none = each_at (λ r. spaces r ≡ 0) F (before ++ (10 ∷ []) ∷ F ∷ after) (rw (← e) all)
-    (is_second before after (10 ∷ []) F) in
-    omega (arith, s, none)
-
-fault_spaces : (name : List ℕ) (index offset : ℕ) → 0 < spaces (fault_row name index offset)
+no_spaces : (name : List ℕ) → has_no_space name ≡ true → spaces name ≡ 0
 unfolding spaces
-fault_spaces name index offset = omega arith
+no_spaces [] h = refl
+no_spaces (b ∷ name) h = grind (arith, nat_tests, no_spaces name)
+
+-- none is the name of a refusal
+key_not_refused : (X : Type 0) (k : Option (List ℕ)) → KeyIsAbove k → (name : List ℕ)
+    → AllByRecursion (λ r. r ≡ refusal_text name → X) (key_rows k)
+unfolding spaces
+key_not_refused X k h name =
+    each_weaker (λ r none e. absurd (omega (arith, none, ap spaces e))) (key_rows k) (key_unspaced k h)
+
+-- the key ends the page
+abbrev EndsInKey : Option (List ℕ) → List (List ℕ) → Type 0
+EndsInKey key after =
+    (k : List ℕ) × (key ≡ Some k) × (has_no_space k ≡ true) × (after ≡ (k ++ 10 ∷ []) ∷ [])
+
+-- it is no line of a fault
+key_no_fault : (key : Option (List ℕ)) (name : List ℕ) (index offset : ℕ) (after : List (List ℕ))
+    → EndsInKey key (fault_row name index offset ∷ after) → ⊥
+unfolding spaces
+key_no_fault key name index offset after h =
+    let same : fault_row name index offset ≡ h.0 ++ 10 ∷ [] = grind arith in
+    omega (arith, ap spaces same, spaces_join h.0 (10 ∷ []), no_spaces h.0 h.2)
 
 -- where no row is an empty line, one stands before a key
 empty_is_key : (row : Member → List ℕ) (ms : List Member) (key : Option (List ℕ)) (before after : List (List ℕ))
     → KeyIsAbove key → AllByRecursion (λ m. row m ≡ 10 ∷ [] → ⊥) ms
-    → map row ms ++ key_rows key ≡ before ++ (10 ∷ []) ∷ after
-    → (k : List ℕ) × (key ≡ Some k) × (has_no_space k ≡ true) × (after ≡ (k ++ 10 ∷ []) ∷ [])
+    → map row ms ++ key_rows key ≡ before ++ (10 ∷ []) ∷ after → EndsInKey key after
 empty_is_key row [] None before after above h e =
     absurd (omega (arith, ap length e, length-append before ((10 ∷ []) ∷ after)))
 empty_is_key row [] (Some k) [] after above h e = (k, refl, unspaced k (above_spaces k above.0), grind arith)
@@ -189,34 +152,17 @@ text_marked [] m e = absurd (omega (arith, ap length e))
 text_marked (f ∷ []) m e = refl
 text_marked (f ∷ g ∷ fields) m e = absurd (omega (arith, text_spaces (f ∷ g ∷ fields) m, ap spaces e))
 
-no_spaces : (name : List ℕ) → has_no_space name ≡ true → spaces name ≡ 0
-unfolding spaces
-no_spaces [] h = refl
-no_spaces (b ∷ name) h = grind (arith, nat_tests, no_spaces name)
-
 text_refused : (fields : List Field) (m : Member) (name : List ℕ) → has_no_space name ≡ true
     → text_row fields m ≡ refusal_text name → length fields ≡ 2
 unfolding spaces
 text_refused fields m name none e =
     omega (arith, text_spaces fields m, ap spaces e, spaces_join name (10 ∷ []), no_spaces name none)
 
-text_some : (fields : List Field) → (fields ≡ [] → ⊥) → (m : Member)
-    → ((f : Field) → 0 < length (row_value m f)) → text_row fields m ≡ 10 ∷ [] → ⊥
-text_some [] some m full e = some refl
-text_some (f ∷ fields) some m full e =
-    let v = escaped (row_value m f) in
-    let rest = flat_map (λ g. codes " " ++ escaped (row_value m g)) fields in
-    omega (
-      arith,
-      ap length e,
-      length-append (v ++ rest) (10 ∷ []),
-      length-append v rest,
-      escaped_some (row_value m f) (full f),
-    )
-
-text_empty : (fields : List Field) (m : Member) → 1 < length fields → text_row fields m ≡ 10 ∷ [] → ⊥
-unfolding spaces
-text_empty fields m more e = omega (arith, more, text_spaces fields m, ap spaces e)
+text_some : (fields : List Field) → (fields ≡ [] → ⊥) → (m : Member) → HasEntry LINE_LIMIT m
+    → text_row fields m ≡ 10 ∷ [] → ⊥
+text_some [] some m h e = some refl
+text_some (f ∷ fields) some m h e =
+    omega (arith, ap length e, length-append {A = ℕ}, escaped_some (row_value m f) (value_some m h f))
 
 -- ---- rows in cdxj
 
@@ -246,12 +192,6 @@ cdxj_long m h =
 cdxj_short : (m : Member) (row : List ℕ) → HasEntry LINE_LIMIT m → length row ≤ 2 → line_row m ≡ row → ⊥
 cdxj_short m row h short e = omega (arith, cdxj_long m h, short, ap length e, length-append m.line (10 ∷ []))
 
-same_front : (us vs : List ℕ) (b : ℕ) → us ++ b ∷ [] ≡ vs ++ b ∷ [] → us ≡ vs
-same_front [] [] b e = refl
-same_front (u ∷ us) (v ∷ vs) b e = grind (arith, same_front us vs b)
-same_front [] (v ∷ vs) b e = absurd (omega (arith, ap length e, length-append vs (b ∷ [])))
-same_front (u ∷ us) [] b e = absurd (omega (arith, ap length e, length-append us (b ∷ [])))
-
 no_space_later : (n : ℕ) (name : List ℕ) → has_no_space name ≡ true → begins_with_space (drop n name) ≡ false
 no_space_later zero [] h = refl
 no_space_later (suc n) [] h = refl
@@ -262,7 +202,7 @@ no_space_later (suc n) (b ∷ name) h = no_space_later n name (grind arith)
 cdxj_refused : (m : Member) (name : List ℕ) → HasEntry LINE_LIMIT m → has_no_space name ≡ true
     → line_row m ≡ refusal_text name → ⊥
 cdxj_refused m name h none e =
-    let line : m.line ≡ codes "refused " ++ name = same_front m.line (codes "refused " ++ name) 10 e in
+    let line : m.line ≡ codes "refused " ++ name = append_cancel_right m.line (codes "refused " ++ name) (10 ∷ []) e in
     let tail : begins_with_space (drop 14 name) ≡ true = rw line at (spaced_tail m h) in
     true≢false (sym tail ∙ no_space_later 14 name none)
 
@@ -289,11 +229,13 @@ module _ (fields : List Field) (ms : List Member) (key : Option (List ℕ)) (ent
   pub mark_of : (o : OutputFormat) → IsIn (codes ".\n") (shown o) → (o ≡ output.Text) × (length fields ≡ 1)
   mark_of output.Text i = (
     refl,
-    marked_row (text_row fields) ms key above (length fields ≡ 1) (every (text_marked fields) ms) (rw text_lines at i),
+    of_row (text_row fields) ms key above (codes ".\n") (length fields ≡ 1) (every (text_marked fields) ms)
+        (key_no_mark (length fields ≡ 1) key above) (rw text_lines at i),
   )
   mark_of output.Cdxj i =
-      absurd (marked_row line_row ms key above ⊥
-      (each_weaker (λ m h. cdxj_short m (codes ".\n") h (omega arith)) ms entries) (rw cdxj_lines at i))
+      absurd (of_row line_row ms key above (codes ".\n") ⊥
+      (each_weaker (λ m h. cdxj_short m (codes ".\n") h (omega arith)) ms entries) (key_no_mark ⊥ key above)
+      (rw cdxj_lines at i))
   mark_of output.Json i =
       let b = each_at BeginsWithBracket (codes ".\n") (shown output.Json) (json_lines fields ms key) i in
       absurd (grind arith)
@@ -302,54 +244,59 @@ module _ (fields : List Field) (ms : List Member) (key : Option (List ℕ)) (ent
       → shown o ≡ refusal_text name ∷ rest → (o ≡ output.Text) × (length fields ≡ 2)
   refusal_of output.Text name rest none e = (
     refl,
-    refused_rows (text_row fields) ms key name rest (length fields ≡ 2)
-        (every (λ m. text_refused fields m name none) ms) (rw text_lines at e),
+    of_row (text_row fields) ms key above (refusal_text name) (length fields ≡ 2)
+        (every (λ m. text_refused fields m name none) ms) (key_not_refused (length fields ≡ 2) key above name)
+        (rw (rw text_lines at e) (inl refl)),
   )
   refusal_of output.Cdxj name rest none e =
-      absurd (refused_rows line_row ms key name rest ⊥
-      (each_weaker (λ m h. cdxj_refused m name h none) ms entries) (rw cdxj_lines at e))
+      absurd (of_row line_row ms key above (refusal_text name) ⊥
+      (each_weaker (λ m h. cdxj_refused m name h none) ms entries) (key_not_refused ⊥ key above name)
+      (rw (rw cdxj_lines at e) (inl refl)))
   refusal_of output.Json name rest none e =
       let all = rw e at (json_lines fields ms key) in
       absurd (grind arith)
 
-  text_fault : (F : List ℕ) (before after : List (List ℕ)) → 0 < spaces F → (1 < length fields) ⊎ (length fields ≤ 1)
-      → rows (text_row fields) ms key above ≡ before ++ (10 ∷ []) ∷ F ∷ after → ⊥
-  text_fault F before after s (inl more) e =
-      no_empty_row (text_row fields) ms key F before after above s (every (λ m. text_empty fields m more) ms) e
-  text_fault F before after s (inr few) e =
-      no_spaced_row (text_row fields) ms key F before after above s
-      (every (λ m. omega (arith, text_spaces fields m, few)) ms) e
+  -- ---- an empty line, and what follows it
 
-  pub fault_of : (o : OutputFormat) (name : List ℕ) (index offset : ℕ) (before after : List (List ℕ))
-      → shown o ≡ before ++ (10 ∷ []) ∷ fault_row name index offset ∷ after → ⊥
-  fault_of output.Text name index offset before after e =
-      text_fault (fault_row name index offset) before after (fault_spaces name index offset)
-      (cases_lt 1 (length fields)) (rw text_lines at e)
-  fault_of output.Cdxj name index offset before after e =
-      no_empty_row line_row ms key (fault_row name index offset) before after above (fault_spaces name index offset)
-      (each_weaker (λ m h. cdxj_short m (10 ∷ []) h (omega arith)) ms entries) (rw cdxj_lines at e)
-  fault_of output.Json name index offset before after e =
-      let b = each_at BeginsWithBracket (10 ∷ []) (before ++ (10 ∷ []) ∷ fault_row name index offset ∷ after)
-      (rw e at (json_lines fields ms key)) (is_there before (10 ∷ []) (fault_row name index offset ∷ after)) in
-      absurd (grind arith)
-
-  text_full : (fields ≡ [] → ⊥) → (m : Member) → HasEntry LINE_LIMIT m → text_row fields m ≡ 10 ∷ [] → ⊥
-  text_full some m h = text_some fields some m (value_some m h)
-
-  pub empty_of : (o : OutputFormat) → (o ≡ output.Json → ⊥) → (fields ≡ [] → ⊥) → (before after : List (List ℕ))
-      → shown o ≡ before ++ (10 ∷ []) ∷ after
-      → (k : List ℕ) × (key ≡ Some k) × (has_no_space k ≡ true) × (after ≡ (k ++ 10 ∷ []) ∷ [])
-  empty_of output.Text other some before after e =
-      empty_is_key (text_row fields) ms key before after above (each_weaker (text_full some) ms entries)
+  text_empty : (fields ≡ [] → ⊥) → (before after : List (List ℕ)) → shown output.Text ≡ before ++ (10 ∷ []) ∷ after
+      → EndsInKey key after
+  text_empty some before after e =
+      empty_is_key (text_row fields) ms key before after above (each_weaker (text_some fields some) ms entries)
       (rw text_lines at e)
-  empty_of output.Cdxj other some before after e =
+
+  cdxj_empty : (before after : List (List ℕ)) → shown output.Cdxj ≡ before ++ (10 ∷ []) ∷ after → EndsInKey key after
+  cdxj_empty before after e =
       empty_is_key line_row ms key before after above
       (each_weaker (λ m h. cdxj_short m (10 ∷ []) h (omega arith)) ms entries) (rw cdxj_lines at e)
+
+  pub empty_of : (o : OutputFormat) → (o ≡ output.Json → ⊥) → (fields ≡ [] → ⊥) → (before after : List (List ℕ))
+      → shown o ≡ before ++ (10 ∷ []) ∷ after → EndsInKey key after
+  empty_of output.Text other some before after e = text_empty some before after e
+  empty_of output.Cdxj other some before after e = cdxj_empty before after e
   empty_of output.Json other some before after e = absurd (other refl)
 
-  pub spaceless : length fields ≡ 1 → AllByRecursion (λ line. has_no_space line ≡ true) (shown output.Text)
-  spaceless one =
+  pub spaceless : length fields ≤ 1 → AllByRecursion (λ line. has_no_space line ≡ true) (shown output.Text)
+  spaceless few =
       rw text_lines (each_weaker unspaced (rows (text_row fields) ms key above)
       (each_join (λ r. spaces r ≡ 0) (map (text_row fields) ms) (key_rows key)
       (each_mapped (λ r. spaces r ≡ 0) (text_row fields) ms
-      (every (λ m. omega (arith, text_spaces fields m, one)) ms)) (key_unspaced key above)))
+      (every (λ m. omega (arith, text_spaces fields m, few)) ms)) (key_unspaced key above)))
+
+  module _ (name : List ℕ) (index offset : ℕ) (before after : List (List ℕ)) where
+    abbrev faulted : List (List ℕ)
+    faulted = before ++ (10 ∷ []) ∷ fault_row name index offset ∷ after
+
+    fault_there : IsIn (fault_row name index offset) faulted
+    fault_there = is_second before after (10 ∷ []) (fault_row name index offset)
+
+    text_fault : (1 < length fields) ⊎ (length fields ≤ 1) → shown output.Text ≡ faulted → ⊥
+    text_fault (inl more) e =
+        key_no_fault key name index offset after
+        (text_empty (λ none. omega (arith, more, ap length none)) before (fault_row name index offset ∷ after) e)
+    text_fault (inr few) e = grind (arith, each_at, spaceless, fault_there)
+
+    pub fault_of : (o : OutputFormat) → shown o ≡ faulted → ⊥
+    fault_of output.Text e = text_fault (cases_lt 1 (length fields)) e
+    fault_of output.Cdxj e =
+        key_no_fault key name index offset after (cdxj_empty before (fault_row name index offset ∷ after) e)
+    fault_of output.Json e = grind (arith, each_at, json_lines, fault_there)

@@ -1,14 +1,14 @@
 -- What was taken of indexes, beside all that is wanted of their collection.
-use Rattle.query_core.proofs.AskedLemmas.{captures}
 use Rattle.query_core.proofs.Words.{[], ℕ, ◌&&◌, ◌++◌, ◌∷◌, ◌≡◌, ◌≤◌, All, All-head, All-tail, AllByRecursion, AllZip}
 use Rattle.query_core.proofs.Words.{AreLinesOf, Bool, IsAbove, IsIndex, Known, LINE_LIMIT, List, Member, None, Option}
 use Rattle.query_core.proofs.Words.{Ordering, Pair, PlaceValue, QueryValue, Some, Upto, all_lines, and_parts, arith}
-use Rattle.query_core.proofs.Words.{begins_with_pair, collection, cond, each_join, each_kept, each_rising, each_weaker}
-use Rattle.query_core.proofs.Words.{entry_pair_is, eqb-true, false, feeds, filter, inl, inr, is_above, is_gt, is_low}
-use Rattle.query_core.proofs.Words.{is_past, is_stamp, is_wanted, key_part, later_pair, length, lines, map, member_pair}
-use Rattle.query_core.proofs.Words.{member_place, nat_cmp, nat_tests, not, pair_cmp, pair_cmp_total, past_upward}
-use Rattle.query_core.proofs.Words.{place_before, place_cmp, place_cmp_total, refl, slice_cmp, stamp_part, start_pair}
-use Rattle.query_core.proofs.Words.{suc, taken_first, taken_whole, true, waiting_pair, zip}
+use Rattle.query_core.proofs.Words.{begins_with_pair, collection, cond, each_join, each_kept, each_rising}
+use Rattle.query_core.proofs.Words.{each_weaker, entry_pair_is, eqb-true, false, feeds, filter, inl, inr, is_above}
+use Rattle.query_core.proofs.Words.{is_gt, is_low, is_past, is_stamp, is_wanted, key_part, later_pair, length, lines}
+use Rattle.query_core.proofs.Words.{map, member_pair, member_place, nat_cmp, nat_tests, not, pair_cmp, pair_cmp_total}
+use Rattle.query_core.proofs.Words.{past_upward, place_before, place_cmp, place_cmp_total, refl, slice_cmp}
+use Rattle.query_core.proofs.Words.{stamp_part, start_pair, suc, taken_first, taken_whole, true, waiting_pair, zip}
+use Rattle.query_core.proofs.AskedLemmas.{captures}
 use Rattle.std.proofs.Common.{replicate}
 use Rattle.query_text.proofs.RangeLaw.{match_not_below}
 use Rattle.merge_core.specs.declared.state.MergeState.{MergeState}

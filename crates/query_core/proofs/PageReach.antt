@@ -1,13 +1,13 @@
 -- What was read for a page, beside its reach.
 use Rattle.query_core.proofs.Words.{[], ℕ, ◌++◌, ◌-◌, ◌^◌, ◌∷◌, ◌≡◌, ◌≤◌, AllZip, Appends, Appends-none, AreAtMost}
-use Rattle.query_core.proofs.Words.{AreFirst, Bool, FormValue, GaveFor, GaveInReach, Grows, IsIndex, Known, LINE_LIMIT}
-use Rattle.query_core.proofs.Words.{List, Member, None, Option, OverIndexes, PageWriter, PlaceValue, QueryValue, Some}
-use Rattle.query_core.proofs.Words.{Wrote, WroteFirst, arith, begun, captures_text, collection, false}
-use Rattle.query_core.proofs.Words.{false_from_ne_true, form_of, grows_by, grows_on, is_some, kept, length}
+use Rattle.query_core.proofs.Words.{AreFirst, Bool, FormValue, GaveFor, GaveInReach, Grows, IsIndex, Known}
+use Rattle.query_core.proofs.Words.{LINE_LIMIT, List, Member, None, Option, OverIndexes, PageWriter, PlaceValue}
+use Rattle.query_core.proofs.Words.{QueryValue, Some, Wrote, WroteFirst, arith, begun, captures_text, collection}
+use Rattle.query_core.proofs.Words.{false, false_from_ne_true, form_of, grows_by, grows_on, is_some, kept, length}
 use Rattle.query_core.proofs.Words.{length-append, length-take, map, member_place, min, page_over, place_cmp, put}
 use Rattle.query_core.proofs.Words.{query_page, refl, rising, suc, sum, take-append_seam, true, true≢false, two_same}
 use Rattle.query_core.proofs.Words.{zero}
-use Rattle.query_core.proofs.AskedLemmas.{Beginning, Writing, captures, asked_is, passed, stood}
+use Rattle.query_core.proofs.AskedLemmas.{Writing, captures, asked_is, passed, stood}
 use Rattle.query_core.proofs.ReachLemmas.{within_opening}
 use Rattle.query_core.proofs.WriterLemmas.{page, next_none, page_front}
 use Rattle.std.proofs.lemmas.List.Concat.{length-flat_map}
@@ -20,14 +20,13 @@ none_follows (Some zero) = refl
 none_follows (Some (suc n)) = refl
 
 -- where it wanted more, the captures of what was passed on don't pass the page
-pub within : {q : QueryValue} {start mid : Option (List ℕ)} (b : Beginning q start mid) (taken : List Member)
-    (now : Option (List ℕ)) (writer : PageWriter) → ((first : PageWriter) → (start : Option (List ℕ))
-    → Wrote first b.first [] start mid → Wrote first writer taken start now)
-    → ((b.first.more ≡ true → ⊥) → writer.more ≡ true → ⊥) → AreAtMost q.limit (captures q taken)
-within {q} {start} {mid} b taken now writer came more =
-    let begun : Writing q start mid [] =
-    record { first = b.first; is = b.is; writer = b.first; wrote = b.began } in
-    let none = (stood begun).more_is in
+pub within : {q : QueryValue} {start mid : Option (List ℕ)} (b : Writing q q.limit [] start mid [])
+    → (q.limit ≡ Some 0 → ⊥) → (taken : List Member) (now : Option (List ℕ)) (writer : PageWriter)
+    → ((first : PageWriter) → (start : Option (List ℕ)) → Wrote first b.writer [] start mid
+    → Wrote first writer taken start now)
+    → ((b.writer.more ≡ true → ⊥) → writer.more ≡ true → ⊥) → AreAtMost q.limit (captures q taken)
+within b some taken now writer came more =
+    let none = (stood b).more_is in
     let last = stood (passed b taken now writer came) in
     grind (arith, true≢false, none_follows, next_none, false_from_ne_true)
 
@@ -48,7 +47,7 @@ front_written form (m ∷ ms) old middle new a g = grind arith
 -- of them
 pub page_reached : {S : Type 0} (text : S → Option (List ℕ)) (extent gave : S → ℕ) {q : QueryValue}
     {old middle : Option (List ℕ)} (new : Option (List ℕ)) (olds news : List S) {taken : List Member}
-    (earlier tail : List Member) → Writing q old middle taken → Grows middle new
+    (earlier tail : List Member) → Writing q q.limit [] old middle taken → Grows middle new
     → OverIndexes LINE_LIMIT (map text olds) (λ texts indexes. AreFirst q (collection indexes) taken)
     → captures q taken ≡ captures q earlier ++ tail → AreAtMost q.limit (captures q earlier)
     → GaveFor q (map text olds) extent gave earlier olds news → OverIndexes LINE_LIMIT (map text olds)
@@ -96,14 +95,4 @@ pub page_fewer : (q : QueryValue) (parts : List (List Member)) (given lines : �
     ≡ min (length (query_page q (collection parts)).members) (2 ^ 64 - 1)
     → lines ≡ min (sum (map (λ (ms : List Member). length ms) parts)) (2 ^ 64 - 1) → given ≤ lines
 page_fewer q parts given lines g l =
-    grind (
-      arith,
-      asked_is,
-      kept_fewer,
-      length-filter,
-      count_by-le-length,
-      length-take,
-      rising_fewer,
-      length-flat_map,
-      sum-map,
-    )
+    grind (arith, asked_is, kept_fewer, length-filter, count_by-le-length, length-take, rising_fewer, length-flat_map, sum-map)

@@ -1,11 +1,10 @@
 -- The rows of a page in text and cdxj, and its lines.
 use Rattle.query_core.proofs.Words.{[], ℕ, ◌++◌, ◌+◌, ◌-◌, ◌<◌, ◌∷◌, ◌≡◌, All, All-head, All-tail, AllByRecursion}
-use Rattle.query_core.proofs.Words.{Field, List, Member, PlaceValue, ap, append_assoc, arith, codes, cond, each_join}
+use Rattle.query_core.proofs.Words.{Field, List, Member, PlaceValue, append_assoc, arith, codes, cond, each_join}
 use Rattle.query_core.proofs.Words.{escaped, flat_map, has_no_feed, length, length-append, lines, lines_front}
 use Rattle.query_core.proofs.Words.{nat_tests, refl, resume_text, row_value, suc, text_row, true}
-use Rattle.std.specs.Prelude.{decimal, ◌==◌}
+use Rattle.std.specs.Prelude.{◌==◌}
 use Rattle.form_urlencoded.proofs.FormLemmas.{IsSerializedByte, All-byte_serialize, byte_serialize-append, byte_serialize-cons}
-use Rattle.form_urlencoded.specs.Form.{byte_serialize}
 use Rattle.cdxj_places.specs.Places.{place_text}
 use Rattle.page_core.specs.Rows.{escaped_byte, hex_digit}
 
@@ -121,19 +120,4 @@ pub key_above : (place : PlaceValue) → AllAbove (resume_text place)
 key_above place = each_of (resume_text place) (All-byte_serialize (place_text place))
 
 pub key_long : (place : PlaceValue) → 1 < length (resume_text place)
-key_long place =
-    let rest = place.filename ++ 32 ∷ decimal place.offset in
-    let text : resume_text place
-    ≡ byte_serialize place.key ++ 43 ∷ (byte_serialize place.stamp ++ 43 ∷ byte_serialize rest) =
-    rw (
-      byte_serialize-append place.key (32 ∷ (place.stamp ++ 32 ∷ rest)),
-      byte_serialize-cons 32 (place.stamp ++ 32 ∷ rest),
-      byte_serialize-append place.stamp (32 ∷ rest),
-      byte_serialize-cons 32 rest,
-    ) refl in
-    omega (
-      arith,
-      ap length text,
-      length-append (byte_serialize place.key) (43 ∷ (byte_serialize place.stamp ++ 43 ∷ byte_serialize rest)),
-      length-append (byte_serialize place.stamp) (43 ∷ byte_serialize rest),
-    )
+key_long place = grind (arith, byte_serialize-append, byte_serialize-cons, length-append)

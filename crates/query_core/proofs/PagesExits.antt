@@ -1,52 +1,27 @@
 -- What a writer has written of pages, where it ends and where it fails.
-use Rattle.query_core.proofs.AskedLemmas.{captures}
 use Rattle.query_core.proofs.Words.{[], ℕ, ◌++◌, ◌+◌, ◌-◌, ◌^◌, ◌≡◌, ◌⊎◌, AllPositive, Appends, AppendsPrefix, Bool}
-use Rattle.query_core.proofs.Words.{Broke, Grows, IsFront, IsWriterOf, List, Member, None, Option, PageWriter}
-use Rattle.query_core.proofs.Words.{QueryValue, Rises, Some, Wrote, WroteInPages, WrotePages, WrotePagesInPart, false}
-use Rattle.query_core.proofs.Words.{first_size, form_of, from_view, inl, inr, member_place, min, next_of, page_end}
-use Rattle.query_core.proofs.Words.{place_cmp, refl, shown_key, true}
+use Rattle.query_core.proofs.Words.{Broke, Grows, IsFront, List, Member, None, Option, PageWriter, QueryValue, Rises}
+use Rattle.query_core.proofs.Words.{Some, Wrote, WroteInPages, WrotePages, WrotePagesInPart, false, first_size}
+use Rattle.query_core.proofs.Words.{form_of, inl, inr, member_place, min, next_of, page_end, place_cmp, refl}
+use Rattle.query_core.proofs.Words.{shown_key, true}
+use Rattle.query_core.proofs.AskedLemmas.{Writing, captures, from_same, query_is}
 use Rattle.query_core.proofs.PageChains.{wrote_front, wrote_most, wrote_whole}
 use Rattle.query_core.specs.WriterView.{WroteAll}
 use Rattle.query_core.proofs.PagesReach.{in_pages}
 use Rattle.query_core.proofs.PagesLemmas.{ended_stands, ending_front, stands_front}
 
--- a writer that begins with this query and these sizes, and what was written then
-pub record BeginningPages (q : QueryValue) (sizes : List ℕ) (start mid : Option (List ℕ)) : Type 0 where
-  pub first : PageWriter
-  pub is : IsWriterOf q (Some (first_size sizes)) sizes first
-  pub positive : AllPositive sizes
-  pub began : Wrote first first [] start mid
-
--- it wrote pages of the captures of these lines
-pub record WritingPages {q : QueryValue} {sizes : List ℕ} {start mid : Option (List ℕ)}
-    (b : BeginningPages q sizes start mid) (now : Option (List ℕ)) (taken : List Member) : Type 0 where
-  pub writer : PageWriter
-  pub wrote : Wrote b.first writer taken start now
-
--- it took these lines
-abbrev pub stopped : {q : QueryValue} {sizes : List ℕ} {start mid : Option (List ℕ)} (b : BeginningPages q sizes start mid)
-    (now : Option (List ℕ)) (taken : List Member) (writer : PageWriter) → ((first : PageWriter)
-    → (start : Option (List ℕ)) → Wrote first b.first [] start mid → Wrote first writer taken start now)
-    → WritingPages b now taken
-stopped {start = start} b now taken writer came = record { writer = writer; wrote = came b.first start b.began }
-
-module _ {q : QueryValue} {sizes : List ℕ} {start mid now : Option (List ℕ)} {taken : List Member}
-    {b : BeginningPages q sizes start mid} (w : WritingPages b now taken) where
-  query_same : w.writer.selection.query.now ≡ q
-  query_same = cc
-
-  from_same : from_view w.writer.selection.from ≡ q.resume
-  from_same = cc
-
-  pub all : WroteAll b.first w.writer taken start now
-  all = w.wrote.all (rw b.is.sizes_are b.positive)
+-- pages of all sizes
+module _ {q : QueryValue} {sizes : List ℕ} {start now : Option (List ℕ)} {taken : List Member}
+    (positive : AllPositive sizes) (w : Writing q (Some (first_size sizes)) sizes start now taken) where
+  pub all : WroteAll w.first w.writer taken start now
+  all = w.wrote.all (rw w.is.sizes_are positive)
 
   between : IsFront q sizes (captures q taken) start now
-  between = rw (query_same, from_same, b.is.sizes_are) at (stands_front _ _ _ _ _ _ _ _ _ all.stands.0 all.stands.1)
+  between = rw (query_is w, from_same w, w.is.sizes_are) at (stands_front _ _ _ _ _ _ _ _ _ all.stands.0 all.stands.1)
 
   -- they stand written in pages
   pub stood_pages : (new : Option (List ℕ)) → Grows now new → WroteInPages q sizes (captures q taken) start new
-  stood_pages new grows = rw (query_same, from_same, b.is.sizes_are) at
+  stood_pages new grows = rw (query_is w, from_same w, w.is.sizes_are) at
       (in_pages _ _ _ _ _ _ _ _ _ all.stands.0 all.stands.1 new grows)
 
   -- no resume key ends them
@@ -63,25 +38,25 @@ module _ {q : QueryValue} {sizes : List ℕ} {start mid now : Option (List ℕ)}
 
     pub all_ended : (number : ℕ) → Appends now new end → number ≡ min (w.writer.count + 1) (2 ^ 64 - 1)
         → WrotePages q lines sizes start new number
-    all_ended number a n = wrote_whole _ _ b.positive lines rise _ _ _ same number
-        (rw (query_same, from_same, b.is.sizes_are) at (ended_stands _ _ _ _ _ _ _ _ _ all.stands.0 all.stands.1 new
+    all_ended number a n = wrote_whole _ _ positive lines rise _ _ _ same number
+        (rw (query_is w, from_same w, w.is.sizes_are) at (ended_stands _ _ _ _ _ _ _ _ _ all.stands.0 all.stands.1 new
         number (rw (no_key w.writer.selection.query.now.show_resume_key) at a) n))
 
     pub at_end : AppendsPrefix now new end → WrotePagesInPart q lines sizes start new
-    at_end p = wrote_most q sizes b.positive lines rise (captures q taken) start new same
-        (rw (query_same, from_same, b.is.sizes_are) at (ending_front _ _ _ _ _ _ _ _ _ all.stands.0 all.stands.1 new
+    at_end p = wrote_most q sizes positive lines rise (captures q taken) start new same
+        (rw (query_is w, from_same w, w.is.sizes_are) at (ending_front _ _ _ _ _ _ _ _ _ all.stands.0 all.stands.1 new
         (rw (no_key w.writer.selection.query.now.show_resume_key) at p)))
 
 -- the captures of the lines that were taken come first
-pub any_front : {q : QueryValue} {sizes : List ℕ} {start mid : Option (List ℕ)} (b : BeginningPages q sizes start mid)
-    (now : Option (List ℕ)) (lines taken rest : List Member) → ((first : PageWriter) → (start : Option (List ℕ))
-    → Wrote first b.first [] start mid
+pub any_front : {q : QueryValue} {sizes : List ℕ} {start mid : Option (List ℕ)} (positive : AllPositive sizes)
+    (b : Writing q (Some (first_size sizes)) sizes start mid []) (now : Option (List ℕ)) (lines taken rest : List Member)
+    → ((first : PageWriter) → (start : Option (List ℕ)) → Wrote first b.writer [] start mid
     → ((k : PageWriter) × Wrote first k taken start now) ⊎ Broke first taken start now)
     → Rises member_place place_cmp lines → captures q lines ≡ captures q taken ++ rest
     → WrotePagesInPart q lines sizes start now
-any_front {q} {sizes} {start} b now lines taken rest came rise split =
-    wrote_front q sizes b.positive lines rise (captures q taken) start now rest split
-    (elim (came b.first start b.began) [
-      | inl k ↦ between {b = b} (record { writer = k.0; wrote = k.1 })
-      | inr p ↦ rw (b.is.query_is, b.is.from_is, b.is.sizes_are) at (p.all (rw b.is.sizes_are b.positive))
+any_front {q} {sizes} {start} positive b now lines taken rest came rise split =
+    wrote_front q sizes positive lines rise (captures q taken) start now rest split
+    (elim (came b.first start b.wrote) [
+      | inl k ↦ between positive (record { first = b.first; is = b.is; writer = k.0; wrote = k.1 })
+      | inr p ↦ rw (b.is.query_is, b.is.from_is, b.is.sizes_are) at (p.all (rw b.is.sizes_are positive))
     ])

@@ -1,8 +1,8 @@
 -- Captures that are cut into pages, as they come.
 use Rattle.query_core.proofs.Words.{[], ℕ, ◌++◌, ◌+◌, ◌-◌, ◌<◌, ◌^◌, ◌∙◌, ◌∷◌, ◌≡◌, ◌≤◌, AllByRecursion, AllPositive}
 use Rattle.query_core.proofs.Words.{Appends, Appends-join, AppendsPrefix, AreCut, FormValue, HasNext, HasReadKey}
-use Rattle.query_core.proofs.Words.{IsFront, List, Member, None, Option, Page, PagesStand, PlaceValue, QueryValue, Some}
-use Rattle.query_core.proofs.Words.{ap, append-nil, append_assoc, arith, begun, begun-more, begun_is_front}
+use Rattle.query_core.proofs.Words.{IsFront, List, Member, None, Option, Page, PagesStand, PlaceValue, QueryValue}
+use Rattle.query_core.proofs.Words.{Some, ap, append-nil, append_assoc, arith, begun, begun-more, begun_is_front}
 use Rattle.query_core.proofs.Words.{captures_over, cases_lt, drop, each_join, filter, first_size, flat_map-append}
 use Rattle.query_core.proofs.Words.{form_of, inl, inr, is_wanted, later_sizes, length, length-append, length-drop}
 use Rattle.query_core.proofs.Words.{length-take, member_place, min, option_map, page_end, page_start, pages_text}
@@ -235,13 +235,7 @@ module _ (q : QueryValue) (sizes : List ℕ) (c : List Member) (start now : Opti
     pub ended_stands : (new : Option (List ℕ)) (number : ℕ) → Appends now new (page_end form None) → number
         ≡ min (count + 1) (2 ^ 64 - 1)
         → Ended q sizes c start new number
-    ended_stands new number a n = (
-      s.whole ++ last_page ∷ [],
-      all_cut,
-      rw ended (Appends-join _ _ _ _ _ s.text a),
-      omega (arith, n, s.count_is, length-append s.whole (last_page ∷ [])),
-      grind (arith, each_join),
-    )
+    ended_stands new number a n = grind (arith, all_cut, ended, Appends-join, length-append, each_join)
 
     pub ending_front : (new : Option (List ℕ)) → AppendsPrefix now new (page_end form None)
         → EndedInPart q sizes c start new

@@ -1,7 +1,7 @@
 -- What was read for pages, beside what stands written of them.
 use Rattle.query_core.proofs.Words.{[], ℕ, ◌++◌, ◌∷◌, ◌≡◌, AllZip, Appends, Appends-none, AreFirst, GaveFor}
-use Rattle.query_core.proofs.Words.{GaveInPages, Grows, HasNext, IsIndex, Known, LINE_LIMIT, List, Member, None, Option}
-use Rattle.query_core.proofs.Words.{OverIndexes, Page, PagesStand, PlaceValue, QueryValue, Some, WroteFirst}
+use Rattle.query_core.proofs.Words.{GaveInPages, Grows, HasNext, IsIndex, Known, LINE_LIMIT, List, Member, None}
+use Rattle.query_core.proofs.Words.{Option, OverIndexes, Page, PagesStand, PlaceValue, QueryValue, Some, WroteFirst}
 use Rattle.query_core.proofs.Words.{WroteInPages, append-nil, arith, begun, captures_text, collection, form_of}
 use Rattle.query_core.proofs.Words.{grows_by, grows_on, inl, inr, length, length-append, map, pages_text}
 use Rattle.query_core.proofs.Words.{query_captures, refl, take-append_seam, two_same}

@@ -1,8 +1,8 @@
 -- What was read of indexes, beside the reach of a page.
 use Rattle.query_core.proofs.Words.{[], ℕ, ◌++◌, ◌-◌, ◌^◌, ◌∙◌, ◌∷◌, ◌≡◌, ◌≤◌, AllByRecursion, AllGaveWithin, AllZip}
-use Rattle.query_core.proofs.Words.{AreAtMost, Bool, GaveFor, IsAbove, IsIndex, Known, LINE_LIMIT, List, Member, Option}
-use Rattle.query_core.proofs.Words.{OverIndexes, Pair, PlaceValue, QueryValue, ReadFor, Some, TargetValue, Upto}
-use Rattle.query_core.proofs.Words.{all_kept, ap, append-nil, append_assoc, arith, bytes_eq-Decides, collection}
+use Rattle.query_core.proofs.Words.{AreAtMost, Bool, GaveFor, IsAbove, IsIndex, Known, LINE_LIMIT, List, Member}
+use Rattle.query_core.proofs.Words.{Option, OverIndexes, Pair, PlaceValue, QueryValue, ReadFor, Some, TargetValue}
+use Rattle.query_core.proofs.Words.{Upto, all_kept, ap, append-nil, append_assoc, arith, bytes_eq-Decides, collection}
 use Rattle.query_core.proofs.Words.{each_join, each_kept, each_weaker, false, false_from_ne_true, feeds, filter}
 use Rattle.query_core.proofs.Words.{in_reach, is_gt, is_low, is_past, is_wanted, later_pair, length, map, member_pair}
 use Rattle.query_core.proofs.Words.{member_place, min, nat_cmp, not, pair_cmp, pair_cmp_total, past_upward}
@@ -144,11 +144,7 @@ module _ {S : Type 0} {text : S → Option (List ℕ)} {extent gave : S → ℕ}
   long_now = long_of r.reached.ready.aligned
 
   as_long : length r.sources ≡ length r.opened
-  as_long =
-      let all = AllZip-long (Move text extent gave) _ _ r.reached.moved in
-      let before = long_before in
-      let now = long_now in
-      grind (arith, length_zip)
+  as_long = grind (arith, AllZip-long, Move, long_before, long_now, length_zip)
 
   kept_now : map text r.sources ≡ map text olds
   kept_now =

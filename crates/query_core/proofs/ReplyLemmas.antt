@@ -1,37 +1,75 @@
 -- The replies to the lines of an input, so far and at its end.
-use Rattle.query_core.proofs.Words.{[], ℕ, ◌++◌, ◌+◌, ◌-◌, ◌<◌, ◌^◌, ◌∙◌, ◌∷◌, ◌≡◌, ◌≤◌, ◌⊎◌, AllZip, Appends}
-use Rattle.query_core.proofs.Words.{Appends-join, Appends-none, AppendsPrefix, Bool, CountsTaken, IsMarkedReply}
-use Rattle.query_core.proofs.Words.{IsOneReply, List, None, Option, RepliedSoFar, Some, TakesLine, ap, append-nil}
-use Rattle.query_core.proofs.Words.{append_assoc, arith, cond, cut_lines, false, flat_map-append, length, length-append}
-use Rattle.query_core.proofs.Words.{length-map, length-take, lt-ltb, map, map-append, nat_lt, prefix_after}
-use Rattle.query_core.proofs.Words.{prefix_longer, prepend_known, refl, subst, sym, take, take_all, true}
-use Rattle.query_core.proofs.Words.{without_carriage_return}
-use Rattle.std.proofs.Common.{ltb-false, slice_index, ltb-true}
-use Rattle.std.specs.Prelude.{flat_map}
+use Rattle.query_core.proofs.Words.{[], ℕ, ⊤, ◌++◌, ◌+◌, ◌-◌, ◌<◌, ◌^◌, ◌∙◌, ◌∷◌, ◌≡◌, ◌≤◌, ◌⊎◌, AllZip, AnswerFault}
+use Rattle.query_core.proofs.Words.{Appends, Appends-join, Appends-none, AppendsPrefix, Bool, CountsTaken, Err}
+use Rattle.query_core.proofs.Words.{IsMarkedReply, IsOneReply, List, None, Option, Some, TakesLine, ap, append-nil}
+use Rattle.query_core.proofs.Words.{append_assoc, arith, cases_lt, cond, cut_lines, err_from_is_err_and, false}
+use Rattle.query_core.proofs.Words.{flat_map-append, inl, inr, length, length-append, length-take, lt-ltb, map}
+use Rattle.query_core.proofs.Words.{map-append, nat_lt, prefix_after, prefix_longer, prepend_known, refl, subst, sym}
+use Rattle.query_core.proofs.Words.{take, take_all, true, without_carriage_return}
+use Rattle.std.proofs.Common.{Result}
+use Rattle.std.specs.Prelude.{IsErrAnd, flat_map}
 use Rattle.std.proofs.lemmas.List.Elements.{AllZip-push}
-use Rattle.devices.proofs.WritingLemmas.{prefix_whole}
-use Rattle.devices.specs.LineReading.{IsTooLong, StopsInLine}
+use Rattle.devices.specs.LineReading.{IsInputLineFault, IsTooLong, StopsInLine}
+use Rattle.devices.specs.declared.input_lines.InputLineFault.{InputLineFault}
+use Rattle.devices.specs.declared.input_lines.InputLineFault.TheVariants as input
+use Rattle.query_core.specs.declared.fault.AnswerFault.TheVariants as fault
+use Rattle.query_core.specs.Conversions.{fault_of_line}
 use Rattle.query_core.specs.Replies.{marked_reply}
+use Rattle.query_core.specs.ReplyReach.{AreFirstLines}
 use Rattle.query_core.specs.Conversations.{AreLeft, Replied, RepliedInPart}
 use Rattle.query_core.specs.Conversations.{RepliedToAll, RepliedToFirst, RepliedToTaken}
-
--- ---- lists of lines and of their replies
-
-zip_map : {X Y Z : Type 0} (P : Y → Z → Type 0) (f : X → Y) (xs : List X) (zs : List Z)
-    → AllZip (λ x z. P (f x) z) xs zs → AllZip P (map f xs) zs
-zip_map P f [] zs each = grind arith
-zip_map P f (x ∷ xs) zs each = grind (arith, zip_map P f xs)
+use Rattle.query_core.proofs.WriterLemmas.{whole_prefix}
 
 abbrev joined : List (List ℕ) → List ℕ
 joined texts = flat_map (λ text. text) texts
 
-joined-more : (texts : List (List ℕ)) (text : List ℕ) → joined (texts ++ text ∷ []) ≡ joined texts ++ text
-joined-more texts text = grind (arith, flat_map-append, append-nil)
+pub joined_more : (texts : List (List ℕ)) (text : List ℕ) → joined (texts ++ text ∷ []) ≡ joined texts ++ text
+joined_more texts text = grind (arith, flat_map-append, append-nil)
 
--- ---- what is held of a line is enough
+-- ---- a line, of which the first bytes are held
+
+-- the same line, or both too long
+abbrev pub AreAlike : ℕ → List ℕ → List ℕ → Type 0
+AreAlike limit line shown = (line ≡ shown) ⊎ ((limit < length line) × (limit < length shown))
 
 shorter : (t : Bool) (l : List ℕ) → length l ≤ length (cond t (take (length l - 1) l) l) + 1
 shorter t l = grind (arith, length-take)
+
+alike : (limit : ℕ) (seen : List ℕ)
+    → AreAlike limit (without_carriage_return (take (limit + 2) seen)) (without_carriage_return seen)
+alike limit seen = grind (arith, cases_lt, length-take, shorter, take_all)
+
+-- ---- the lines so far
+
+-- these lines were taken of an input, of which these bytes are left
+abbrev pub AreTaken : Option (List ℕ) → Option (List ℕ) → List (List ℕ) → Type 0
+AreTaken None now done = ⊤
+AreTaken (Some input) None done = ⊥
+AreTaken (Some input) (Some rest) done =
+    (seen : List (List ℕ)) × (cut_lines input ≡ seen ++ cut_lines rest) × (done ≡ map without_carriage_return seen)
+
+pub taken_none : (left : Option (List ℕ)) (buffer : List ℕ) → buffer ≡ [] → AreTaken left (prepend_known buffer left) []
+taken_none None buffer e = tt
+taken_none (Some input) buffer e = ([], ap (λ b. cut_lines (b ++ input)) (sym e), refl)
+
+pub taken_more : (limit : ℕ) (input now after : Option (List ℕ)) (done : List (List ℕ)) (line : List ℕ)
+    → AreTaken input now done → TakesLine (limit + 2) true now after line
+    → (shown : List ℕ) × AreTaken input after (done ++ shown ∷ []) × AreAlike limit (without_carriage_return line) shown
+taken_more limit None now after done line a t = (without_carriage_return line, tt, inl refl)
+taken_more limit (Some input) None after done line a t = absurd a
+taken_more limit (Some input) (Some now) None done line a t = absurd t
+taken_more limit (Some input) (Some now) (Some rest) done line (seen, cut, is) (next, first, held) = (
+  without_carriage_return next,
+  (seen ++ next ∷ [], grind (arith, append_assoc), grind (arith, map-append)),
+  rw held (alike limit next),
+)
+
+pub taken_first : (input now : Option (List ℕ)) (done : List (List ℕ)) → AreTaken input now done
+    → AreFirstLines input done
+taken_first None now done a = tt
+taken_first (Some input) None done a = absurd a
+taken_first (Some input) (Some now) done (seen, cut, is) =
+    (map without_carriage_return (cut_lines now), grind (arith, map-append))
 
 -- what is left of an input that isn't too long
 left_behind : (now : List ℕ) (left : Option (List ℕ)) (whole taken : ℕ) → 0 + whole ≡ taken + length now
@@ -39,133 +77,111 @@ left_behind : (now : List ℕ) (left : Option (List ℕ)) (whole taken : ℕ) �
 left_behind now None whole taken k stopped short = absurd (grind arith)
 left_behind now (Some left) whole taken k stopped short = grind arith
 
+-- the input failed in a line, or is too long
+pub input_stops : {A : Type 0} (r : Result A AnswerFault) (e : InputLineFault) (now left : Option (List ℕ))
+    (old new taken : ℕ) → IsErrAnd r (λ f. f ≡ fault_of_line e) → r ≡ Err fault.Input
+    → (◌≡◌ {A = Result Bool InputLineFault} (Err e) (Err input.Read) → StopsInLine now left)
+    → IsInputLineFault e old new now taken → StopsInLine now left ⊎ IsTooLong now taken
+input_stops r input.Memory now left old new taken from is stops counts =
+    let f = err_from_is_err_and r from in absurd (grind arith)
+input_stops r input.Read now left old new taken from is stops counts = inl (stops refl)
+input_stops r input.TooLong now left old new taken from is stops counts = inr counts.1
+
+-- ---- their replies
+
 module _ (limit : ℕ) (IsReply : List ℕ → List ℕ → Type 0) where
-  abbrev Marked : List ℕ → List ℕ → Type 0
-  Marked line text = IsMarkedReply limit IsReply (without_carriage_return line) text
+  -- so many lines were answered, and these bytes of the input are left
+  pub record RepliedSoFar (input now : Option (List ℕ)) (count : ℕ) (old new : Option (List ℕ)) : Type 0 where
+    pub done : List (List ℕ)
+    pub texts : List (List ℕ)
+    pub taken : AreTaken input now done
+    pub counted : count ≡ length done
+    pub each : AllZip (IsMarkedReply limit IsReply) done texts
+    pub written : Appends old new (joined texts)
 
-  held : (line seen text : List ℕ) → line ≡ take (limit + 2) seen → Marked line text → Marked seen text
-  held line seen text is marked =
-      grind (arith, ltb-true, length-take, shorter, slice_index, lt-ltb, take_all, ltb-false, nat_lt)
+  abbrev pub replied_none : (left : Option (List ℕ)) (buffer : List ℕ) (old : Option (List ℕ)) → buffer ≡ []
+      → RepliedSoFar left (prepend_known buffer left) 0 old old
+  replied_none left buffer old e = record {
+    done = [];
+    texts = [];
+    taken = taken_none left buffer e;
+    counted = refl;
+    each = tt;
+    written = Appends-none old;
+  }
 
-  -- ---- the conversation
+  first_replied : (input : Option (List ℕ)) (done texts : List (List ℕ)) (old new : Option (List ℕ))
+      → AreFirstLines input done → AllZip (IsMarkedReply limit IsReply) done texts
+      → AppendsPrefix old new (joined texts) → RepliedToFirst limit IsReply input old new
+  first_replied None done texts old new first each p = (done, texts, each, p)
+  first_replied (Some input) done texts old new first each p = (done, first.0, texts, first.1, each, p)
 
-  pub replied-none : (left : Option (List ℕ)) (buffer : List ℕ) (old : Option (List ℕ)) → buffer ≡ []
-      → RepliedSoFar limit IsReply left (prepend_known buffer left) 0 old old
-  replied-none None buffer old e = ([], [], refl, tt, Appends-none old)
-  replied-none (Some input) buffer old e =
-      ([], [], ap (λ b. cut_lines (b ++ input)) (sym e), refl, tt, Appends-none old)
+  pub replied_front : (input now : Option (List ℕ)) (count : ℕ) (old new : Option (List ℕ))
+      → RepliedSoFar input now count old new → RepliedToFirst limit IsReply input old new
+  replied_front input now count old new s =
+      first_replied input s.done s.texts old new (taken_first input now s.done s.taken) s.each
+      (whole_prefix old new (joined s.texts) s.written)
 
-  pub replied-front : (input now : Option (List ℕ)) (count : ℕ) (old new : Option (List ℕ))
-      → RepliedSoFar limit IsReply input now count old new → RepliedToFirst limit IsReply input old new
-  replied-front None now count old new (done, texts, counted, each, written) =
-      (done, texts, each, grind (arith, append-nil, prefix_whole))
-  replied-front (Some input) None count old new s = absurd s
-  replied-front (Some input) (Some now) count old new (done, texts, cut, counted, each, written) = (
-    map without_carriage_return done,
-    map without_carriage_return (cut_lines now),
-    texts,
-    grind (arith, map-append),
-    grind (arith, zip_map),
-    grind (arith, append-nil, prefix_whole),
-  )
-
-  -- a line that was read, and what was written then
-  replied : (input now after : Option (List ℕ)) (count : ℕ) (old new last : Option (List ℕ)) (line text : List ℕ)
-      → RepliedSoFar limit IsReply input now count old new → TakesLine (limit + 2) true now after line
-      → Marked line text
-      → (Appends new last text → RepliedSoFar limit IsReply input after (count + 1) old last)
-      × (AppendsPrefix new last text → RepliedToFirst limit IsReply input old last)
-  replied None now after count old new last line text (done, texts, counted, each, written) t m =
-      let shown = without_carriage_return line in
-      let lines = done ++ shown ∷ [] in
-      let all = texts ++ text ∷ [] in
-      let e = joined-more texts text in
-      let more = AllZip-push (IsMarkedReply limit IsReply) done texts shown text each m in (
-        λ a. (lines, all, grind (arith, length-append), more, rw e (Appends-join old new last (joined texts) text written a)),
-        λ p. (lines, all, more, rw e (prefix_after old new last (joined texts) text written p)),
-      )
-  replied (Some input) None after count old new last line text s t m = absurd s
-  replied (Some input) (Some now) None count old new last line text s t m = absurd t
-  replied (Some input) (Some now) (Some rest) count old new last line text
-      (done, texts, cut, counted, each, written) (seen, first, is) m =
-      let lines = done ++ seen ∷ [] in
-      let more = AllZip-push Marked done texts seen text each (held line seen text is m) in
-      let whole = joined-more texts text in (
-        λ a. (
-          lines,
-          texts ++ text ∷ [],
-          grind (arith, append_assoc),
-          grind (arith, length-append),
-          more,
-          rw whole (Appends-join old new last (joined texts) text written a),
-        ),
-        λ p. (
-          map without_carriage_return lines,
-          map without_carriage_return (cut_lines rest),
-          texts ++ text ∷ [],
-          grind (arith, map-append, append_assoc),
-          zip_map (IsMarkedReply limit IsReply) without_carriage_return lines (texts ++ text ∷ []) more,
-          rw whole (prefix_after old new last (joined texts) text written p),
-        ),
-      )
+  marked_alike : (line shown text : List ℕ) → AreAlike limit line shown → IsMarkedReply limit IsReply line text
+      → IsMarkedReply limit IsReply shown text
+  marked_alike line shown text same marked = grind (arith, lt-ltb, nat_lt)
 
   -- no line is left
-  pub line-none : (input now after : Option (List ℕ)) (count before taken : ℕ) (old new : Option (List ℕ))
-      (line : List ℕ) (found : Bool) → RepliedSoFar limit IsReply input now count old new
+  pub line_none : (input now after : Option (List ℕ)) (count before taken : ℕ) (old new : Option (List ℕ))
+      (line : List ℕ) (found : Bool) → RepliedSoFar input now count old new
       → TakesLine (limit + 2) found now after line → found ≡ false → CountsTaken input now 0 before
       → CountsTaken now after before taken → taken < 2 ^ 63 - 1 → RepliedToAll limit IsReply input count old new
-  line-none None now after count before taken old new line found s t none n k small = s
-  line-none (Some input) None after count before taken old new line found s t none n k small = absurd s
-  line-none (Some input) (Some now) None count before taken old new line found s t none n k small = absurd k
-  line-none (Some input) (Some now) (Some rest) count before taken old new line found
-      (done, texts, cut, counted, each, written) t none n k small =
-      let end = rw none at t in
-      let all : cut_lines input ≡ done = cut ∙ (ap (λ l. done ++ cut_lines l) end.0 ∙ append-nil done) in (
-        omega (arith, n, k, small, ap length end.1),
-        grind (arith, length-map),
-        texts,
-        zip_map (IsMarkedReply limit IsReply) without_carriage_return (cut_lines input) texts
-            (rw all each),
-        written,
-      )
+  line_none None now after count before taken old new line found s t none n k small =
+      (s.done, s.texts, s.counted, s.each, s.written)
+  line_none (Some input) None after count before taken old new line found s t none n k small = absurd s.taken
+  line_none (Some input) (Some now) None count before taken old new line found s t none n k small = absurd k
+  line_none (Some input) (Some now) (Some rest) count before taken old new line found s t none n k small =
+      grind (arith, append-nil)
 
   -- the input failed in a line, or is too long
-  pub replied-taken : (input now left : Option (List ℕ)) (count taken : ℕ) (old new : Option (List ℕ))
-      → RepliedSoFar limit IsReply input now count old new → CountsTaken input now 0 taken
+  pub replied_taken : (input now left : Option (List ℕ)) (count taken : ℕ) (old new : Option (List ℕ))
+      → RepliedSoFar input now count old new → CountsTaken input now 0 taken
       → StopsInLine now left ⊎ IsTooLong now taken → RepliedToTaken limit IsReply input left old new
-  replied-taken None now left count taken old new (done, texts, counted, each, written) k stopped =
-      (done, texts, each, written)
-  replied-taken (Some input) None left count taken old new s k stopped = absurd s
-  replied-taken (Some input) (Some now) left count taken old new (done, texts, cut, counted, each, written) k stopped =
-      (done, cut_lines now, texts, cut, grind (arith, left_behind), grind (arith, zip_map), written)
+  replied_taken None now left count taken old new s k stopped = (s.done, s.texts, s.each, s.written)
+  replied_taken (Some input) None left count taken old new s k stopped = absurd s.taken
+  replied_taken (Some input) (Some now) left count taken old new s k stopped =
+      (s.taken.0, cut_lines now, s.texts, s.taken.1, grind (arith, left_behind), rw s.taken.2 at s.each, s.written)
 
   pub nothing_replied : (input old : Option (List ℕ)) → RepliedToFirst limit IsReply input old old
   nothing_replied input old =
-      replied-front input (prepend_known [] input) 0 old old (replied-none input [] old refl)
+      replied_front input (prepend_known [] input) 0 old old (replied_none input [] old refl)
 
--- ---- the same, in the words of the calls
+-- a line more was read, and then more was written
+module _ {limit : ℕ} {IsReply : List ℕ → List ℕ → Type 0} {input now : Option (List ℕ)} {count : ℕ}
+    {old new : Option (List ℕ)} (s : RepliedSoFar limit IsReply input now count old new)
+    (after last : Option (List ℕ)) (line : List ℕ) (takes : TakesLine (limit + 2) true now after line) where
+  abbrev pub next : (shown : List ℕ) × AreTaken input after (s.done ++ shown ∷ [])
+      × AreAlike limit (without_carriage_return line) shown
+  next = taken_more limit input now after s.done line s.taken takes
 
--- after so many lines this one was read, and then more was written
-pub record Turn (limit : ℕ) : Type 0 where
-  pub input : Option (List ℕ)
-  pub now : Option (List ℕ)
-  pub after : Option (List ℕ)
-  pub count : ℕ
-  pub old : Option (List ℕ)
-  pub new : Option (List ℕ)
-  pub last : Option (List ℕ)
-  pub line : List ℕ
-  pub takes : TakesLine (limit + 2) true now after line
+  pub each_more : (text : List ℕ) → IsMarkedReply limit IsReply (without_carriage_return line) text
+      → AllZip (IsMarkedReply limit IsReply) (s.done ++ next.0 ∷ []) (s.texts ++ text ∷ [])
+  each_more text m =
+      AllZip-push (IsMarkedReply limit IsReply) s.done s.texts next.0 text s.each
+      (marked_alike limit IsReply (without_carriage_return line) next.0 text next.2 m)
 
-module _ {limit : ℕ} (t : Turn limit) (IsReply : List ℕ → List ℕ → Type 0)
-    (so_far : RepliedSoFar limit IsReply t.input t.now t.count t.old t.new) where
-  pub line-more : (reply : List ℕ) × IsMarkedReply limit IsReply (without_carriage_return t.line) reply
-      × Appends t.new t.last reply → RepliedSoFar limit IsReply t.input t.after (t.count + 1) t.old t.last
-  line-more h = grind (arith, replied)
+  abbrev pub line_more : (text : List ℕ) × IsMarkedReply limit IsReply (without_carriage_return line) text
+      × Appends new last text → RepliedSoFar limit IsReply input after (count + 1) old last
+  line_more h = record {
+    done = s.done ++ next.0 ∷ [];
+    texts = s.texts ++ h.0 ∷ [];
+    taken = next.1;
+    counted = grind (arith, length-append);
+    each = each_more h.0 h.1;
+    written = rw (joined_more s.texts h.0) (Appends-join old new last (joined s.texts) h.0 s.written h.2);
+  }
 
-  pub line-within : (reply : List ℕ) × IsMarkedReply limit IsReply (without_carriage_return t.line) reply
-      × AppendsPrefix t.new t.last reply → RepliedToFirst limit IsReply t.input t.old t.last
-  line-within (reply, m, p) = (replied limit IsReply _ _ _ _ _ _ _ _ reply so_far t.takes m).1 p
+  pub line_within : (text : List ℕ) × IsMarkedReply limit IsReply (without_carriage_return line) text
+      × AppendsPrefix new last text → RepliedToFirst limit IsReply input old last
+  line_within h =
+      first_replied limit IsReply input (s.done ++ next.0 ∷ []) (s.texts ++ h.0 ∷ []) old last
+      (taken_first input after (s.done ++ next.0 ∷ []) next.1) (each_more h.0 h.1)
+      (rw (joined_more s.texts h.0) (prefix_after old new last (joined s.texts) h.0 s.written h.2))
 
 -- ---- where each text has one reply
 
@@ -173,7 +189,7 @@ module _ (limit : ℕ) (reply : List ℕ → List ℕ) where
   abbrev Is : List ℕ → List ℕ → Type 0
   Is = IsOneReply reply
 
-  texts_are : (lines texts : List (List ℕ)) → AllZip (IsMarkedReply limit Is) lines texts → joined texts
+  pub texts_are : (lines texts : List (List ℕ)) → AllZip (IsMarkedReply limit Is) lines texts → joined texts
       ≡ flat_map (marked_reply limit reply) lines
   texts_are [] texts each = grind arith
   texts_are (line ∷ lines) texts each = grind (arith, texts_are lines)

@@ -1,7 +1,7 @@
 -- Of an index no line is at fault.
-use Rattle.query_core.proofs.Words.{[], ℕ, ◌++◌, ◌<◌, ◌∙◌, ◌∷◌, ◌≡◌, AllByRecursion, AllZip, IsIndex, Known, LINE_LIMIT}
-use Rattle.query_core.proofs.Words.{List, Member, None, Option, Some, Upto, append_assoc, arith, get_or, length}
-use Rattle.query_core.proofs.Words.{line_entry, map, member_pair, refl}
+use Rattle.query_core.proofs.Words.{[], ℕ, ◌++◌, ◌<◌, ◌∙◌, ◌∷◌, ◌≡◌, AllByRecursion, AllZip, IsIndex, Known}
+use Rattle.query_core.proofs.Words.{LINE_LIMIT, List, Member, None, Option, Some, Upto, append_assoc, arith, get_or}
+use Rattle.query_core.proofs.Words.{length, line_entry, map, member_pair, refl}
 use Rattle.source_core.specs.LinesAtFault.{IsBadLine, IsOutOfOrder}
 use Rattle.merge_core.proofs.ReadLines.{falls_after}
 use Rattle.query_core.specs.declared.fault.AnswerFault.TheVariants as fault

@@ -39,7 +39,7 @@ pub use Rattle.page_core.specs.Pages.{AllPositive, IsChain, Page, at_most, colla
 pub use Rattle.page_core.specs.Pages.{kept, later_sizes, next_after}
 pub use Rattle.page_core.specs.Rows.{escaped, row_value, text_row}
 pub use Rattle.query_core.specs.AnyReplies.{IsTextReply}
-pub use Rattle.query_core.specs.Conversations.{IsMarkedReply, IsOneReply, RepliedSoFar}
+pub use Rattle.query_core.specs.Conversations.{IsMarkedReply, IsOneReply}
 pub use Rattle.query_core.specs.IndexFaults.{IsAnswerFaultOf}
 pub use Rattle.query_core.specs.PageLines.{BeginsWithBracket, HaveEntries}
 pub use Rattle.query_core.specs.PageWriting.{FitsWord, PageStands, captures_over, is_full, is_wanted, last_after}

@@ -1,11 +1,11 @@
 -- A page by the lines that were taken for it.
 use Rattle.query_core.proofs.Words.{[], ℕ, ◌++◌, ◌+◌, ◌-◌, ◌<◌, ◌^◌, ◌∙◌, ◌∷◌, ◌≡◌, ◌≤◌, ◌⊎◌, Appends, AppendsPrefix}
-use Rattle.query_core.proofs.Words.{Bool, FitsWord, FormValue, List, Member, None, Option, Page, PageStands, PlaceValue}
-use Rattle.query_core.proofs.Words.{QueryValue, Some, ap, append-nil, arith, at_most, begun, begun-more, captures_over}
-use Rattle.query_core.proofs.Words.{cases_lt, eqb-false, false, filter, form_of, inl, inr, is_full, is_some, is_wanted}
-use Rattle.query_core.proofs.Words.{last_after, length, length-append, length-take, member_place, min, next_after}
-use Rattle.query_core.proofs.Words.{next_of, page_over, page_start, place_before, prefix_after, prefix_longer, refl}
-use Rattle.query_core.proofs.Words.{row_text, suc, sym, take, take_all, true, true≢false, zero}
+use Rattle.query_core.proofs.Words.{Bool, FitsWord, FormValue, List, Member, None, Option, Page, PageStands}
+use Rattle.query_core.proofs.Words.{PlaceValue, QueryValue, Some, ap, append-nil, arith, at_most, begun, begun-more}
+use Rattle.query_core.proofs.Words.{captures_over, cases_lt, eqb-false, false, filter, form_of, inl, inr, is_full}
+use Rattle.query_core.proofs.Words.{is_some, is_wanted, last_after, length, length-append, length-take, member_place}
+use Rattle.query_core.proofs.Words.{min, next_after, next_of, page_over, page_start, place_before, prefix_after}
+use Rattle.query_core.proofs.Words.{prefix_longer, refl, row_text, suc, sym, take, take_all, true, true≢false, zero}
 use Rattle.std.proofs.lemmas.List.{take-append-le}
 use Rattle.page_core.proofs.PageLemmas.{written-start, written-more, begun-append}
 use Rattle.query_core.specs.PageWriting.{place_at, last_place}

@@ -1,7 +1,6 @@
 -- Which device failed, by the answer of a call on sources.
-use Rattle.std.specs.Prelude.{◌≡◌, ℕ, List, Option, Result, Err, MatchResult}
+use Rattle.std.specs.Prelude.{◌≡◌, ℕ, List, Result, Err, MatchResult}
 use Rattle.devices.specs.Device.{next_count}
-use Rattle.source_core.specs.Device.{KeepsSource}
 use Rattle.merge_core.specs.Failures.{RaisedAt}
 use Rattle.query_core.specs.declared.fault.AnswerFault.{AnswerFault}
 use Rattle.query_core.specs.declared.fault.AnswerFault.TheVariants as fault
@@ -23,9 +22,3 @@ CountsAnswer result sources sources' out out' =
 abbrev pub CountsSource : {A : Type 0} → Result A AnswerFault → ℕ → ℕ → Type 0
 CountsSource (Err (fault.Read i)) old new = new ≡ next_count old
 CountsSource answer old new = new ≡ old
-
--- a call that reads one source keeps it, and counts its failure
-abbrev pub ReadsIndex : {S A : Type 0} → (S → Option (List ℕ)) → (S → ℕ) → (S → ℕ) → Result A AnswerFault → S → S
-    → Type 0
-ReadsIndex text extent failures result old new =
-    KeepsSource text extent old new × CountsSource result (failures old) (failures new)

@@ -1,12 +1,10 @@
 -- What the checking of an index owes.
-use Rattle.std.specs.Prelude.{◌≡◌, ℕ, ⊤, List, [], ◌∷◌, ◌++◌, length, true, drop, Option, None, Some, Result, Ok, Err}
+use Rattle.std.specs.Prelude.{◌≡◌, ℕ, ⊤, List, [], ◌∷◌, ◌++◌, length, true, Option, None, Some, Result, Ok, Err}
 use Rattle.std.specs.Ordering.{is_gt}
 use Rattle.cdxj_places.specs.Pairs.{pair_cmp}
 use Rattle.cdxj_core.specs.Members.{Member, member_pair, line_entry}
 use Rattle.cdxj_core.specs.Indexes.{IsRun, IsIndex}
-use Rattle.source_core.specs.IndexLines.{lines}
 use Rattle.source_core.specs.LinesAtFault.{LineBeginsAt}
-use Rattle.merge_core.specs.LineFaults.{IsBadFirst}
 use Rattle.query_core.specs.declared.fault.AnswerFault.{AnswerFault}
 use Rattle.query_core.specs.declared.fault.AnswerFault.TheVariants as fault
 
@@ -59,10 +57,3 @@ IsCheckFault (fault.Read i) = i ≡ 0
 IsCheckFault (fault.BadLine i offset) = i ≡ 0
 IsCheckFault (fault.OutOfOrder i offset) = i ≡ 0
 IsCheckFault other = ⊥
-
--- a fault of the reading of the line that begins at this offset: where the line is called bad, it has no entry
-abbrev pub IsLineFaultAt : ℕ → List ℕ → ℕ → AnswerFault → Type 0
-IsLineFaultAt limit text at fault.Memory = ⊤
-IsLineFaultAt limit text at (fault.Read i) = i ≡ 0
-IsLineFaultAt limit text at (fault.BadLine i offset) = (i ≡ 0) × (offset ≡ at) × IsBadFirst limit (lines (drop at text))
-IsLineFaultAt limit text at other = ⊥

@@ -75,17 +75,6 @@ module _ (limit : ℕ) (IsReply : List ℕ → List ℕ → Type 0) where
   Converses result input old new = MatchResult result (λ count. RepliedToAll input count old new)
       (λ _. RepliedToFirst input old new)
 
-  -- so many lines were answered, and these bytes of the input are left
-  abbrev pub RepliedSoFar : Option (List ℕ) → Option (List ℕ) → ℕ → Option (List ℕ) → Option (List ℕ) → Type 0
-  RepliedSoFar None now count old new = (done : List (List ℕ)) × (texts : List (List ℕ)) × (count ≡ length done)
-      × AllZip IsMarkedReply done texts × Appends old new (flat_map (λ text. text) texts)
-  RepliedSoFar (Some input) None count old new = ⊥
-  RepliedSoFar (Some input) (Some rest) count old new =
-      (done : List (List ℕ)) × (texts : List (List ℕ)) × (cut_lines input ≡ done ++ cut_lines rest)
-      × (count ≡ length done)
-      × AllZip (λ line text. IsMarkedReply (without_carriage_return line) text) done texts
-      × Appends old new (flat_map (λ text. text) texts)
-
 -- ---- the writing of a text that satisfies a fact
 
 -- such a text was written, or after a fault a front of one

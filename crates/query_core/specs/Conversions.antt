@@ -4,6 +4,8 @@ use Rattle.merge_core.specs.declared.fault.FeedFault.{FeedFault}
 use Rattle.merge_core.specs.declared.fault.FeedFault.TheVariants as feed
 use Rattle.merge_core.specs.declared.fault.MergeFault.{MergeFault}
 use Rattle.merge_core.specs.declared.fault.MergeFault.TheVariants as merge
+use Rattle.devices.specs.declared.input_lines.InputLineFault.{InputLineFault}
+use Rattle.devices.specs.declared.input_lines.InputLineFault.TheVariants as input
 use Rattle.devices.specs.declared.write_fault.WriteFault.{WriteFault}
 use Rattle.devices.specs.declared.write_fault.WriteFault.TheVariants as text
 use Rattle.query_core.specs.declared.fault.AnswerFault.{AnswerFault}
@@ -26,3 +28,8 @@ fault_of_merge (merge.Feed i e) = fault_of_index i e
 abbrev pub fault_of_text : WriteFault → AnswerFault
 fault_of_text text.Memory = fault.Memory
 fault_of_text text.Write = fault.Write
+
+-- the fault of the reading of a line of an input
+abbrev pub fault_of_line : InputLineFault → AnswerFault
+fault_of_line input.Memory = fault.Memory
+fault_of_line other = fault.Input

@@ -1,11 +1,12 @@
 -- Which device failed, by the answer of a call.
-use Rattle.std.specs.Prelude.{◌≡◌, ◌⊎◌, ℕ, List, map, Option, Result, Ok, Err}
+use Rattle.std.specs.Prelude.{◌≡◌, ◌<◌, ◌⊎◌, ℕ, List, length, map, Option, Result, Ok, Err}
 use Rattle.devices.specs.Device.{next_count}
 use Rattle.devices.specs.LineReading.{IsTooLong}
 use Rattle.merge_core.specs.Collections.{KeepsSources}
 use Rattle.merge_core.specs.Failures.{RaisedAt}
 use Rattle.query_core.specs.declared.fault.AnswerFault.{AnswerFault}
 use Rattle.query_core.specs.declared.fault.AnswerFault.TheVariants as fault
+use Rattle.query_core.specs.declared.merging.TheConstants.{SOURCES_LIMIT}
 
 -- the output's count of failures: Write exactly where it failed
 abbrev pub CountsReply : {A : Type 0} → Result A AnswerFault → ℕ → ℕ → Type 0
@@ -14,10 +15,13 @@ CountsReply (Err fault.Memory) old new = new ≡ old
 CountsReply (Err fault.Write) old new = new ≡ next_count old
 CountsReply (Err other) old new = ⊥
 
--- the counts of failures of the sources and of the output, which alone end a reply, with Memory
+-- the counts of failures of the sources and of the output, which alone end a reply, with Memory, unless there are too
+-- many sources
 abbrev pub CountsReplying : {A : Type 0} → Result A AnswerFault → List ℕ → List ℕ → ℕ → ℕ → Type 0
 CountsReplying (Err (fault.Read i)) sources sources' out out' = RaisedAt i sources sources' × (out' ≡ out)
 CountsReplying (Err fault.Write) sources sources' out out' = (sources' ≡ sources) × (out' ≡ next_count out)
+CountsReplying (Err fault.TooManySources) sources sources' out out' =
+    (SOURCES_LIMIT < length sources) × (sources' ≡ sources) × (out' ≡ out)
 CountsReplying (Err fault.Input) sources sources' out out' = ⊥
 CountsReplying (Err fault.BadSizes) sources sources' out out' = ⊥
 CountsReplying (Err (fault.BadLine i offset)) sources sources' out out' = ⊥
@@ -38,10 +42,3 @@ CountsServing (Err fault.Input) sources sources' out out' input input' text =
     (sources' ≡ sources) × (out' ≡ out) × ((input' ≡ next_count input) ⊎ ((input' ≡ input) × IsTooLong text 0))
 CountsServing result sources sources' out out' input input' text = CountsReplying result sources sources' out out'
     × (input' ≡ input)
-
--- the count of an input of which a line was read, after so many bytes, while these were left
-abbrev pub CountsLine : {A : Type 0} → Result A AnswerFault → ℕ → ℕ → Option (List ℕ) → ℕ → Type 0
-CountsLine (Ok x) old new text taken = new ≡ old
-CountsLine (Err fault.Memory) old new text taken = new ≡ old
-CountsLine (Err fault.Input) old new text taken = (new ≡ next_count old) ⊎ ((new ≡ old) × IsTooLong text taken)
-CountsLine (Err other) old new text taken = ⊥

@@ -33,6 +33,7 @@ use std::alloc::Global;
 /// A binary search finds where the page begins in each index. From there on, lines of the target's range are read, up
 /// to the key and stamp of the first capture after the page, and at most one more line of each index. Each capture is
 /// written before a line is read that stands behind the next key and stamp of its index.
+#[tactic(auto, using(crate::proofs::PageReach::page_not_reached, devices::proofs::DeviceLemmas::grows_not, devices::proofs::DeviceLemmas::grows_part, std::proofs::lemmas::Result::err_from_is_err_and, devices::proofs::WritingLemmas::wrote_nothing))]
 pub fn answer<S: Source, O: Output>(
     alloc: Global,
     sources: &mut [S],

@@ -1,12 +1,12 @@
 //! The checking of an index.
-ghost use Rattle.std.specs.Prelude.{◌≡◌, ◌+◌, ◌≤◌, ⊤, ℕ, List, true, false, option_map, IfErr, MatchBool, Some};
+ghost use Rattle.std.specs.Prelude.{◌≡◌, ◌+◌, ◌≤◌, ℕ, List, true, false, option_map, IfErr, Some};
 ghost use Rattle.cdxj_core.specs.declared.limit.TheConstants.{LINE_LIMIT};
 ghost use Rattle.source_core.specs.Device.{KeepsSource};
 ghost use Rattle.query_core.specs.AnswerCounts.{CountsSource};
 ghost use Rattle.query_core.specs.Checking.{FallsAfter, IsChecked, IsCheckFault};
 
+use crate::conversions::fault_of_index;
 use crate::fault::AnswerFault;
-use crate::line_reading::{falls, next_line};
 use cdxj_core::Line;
 use merge_core::LineBuffers;
 use source_core::{Cursor, Source};
@@ -18,7 +18,7 @@ fn falls_after(previous: &Option<Box<Line>>, line: &Line) -> bool
         → ⊥ }
 {
     match previous {
-        Some(previous) => falls(previous, line),
+        Some(previous) => previous.pair().cmp(&line.pair()).is_gt(),
         None => false,
     }
 }
@@ -44,7 +44,14 @@ pub fn check<S: Source>(alloc: Global, source: &mut S) -> Result<u64, AnswerFaul
     let mut buffers = LineBuffers::new(alloc);
     let mut previous: Option<Box<Line>> = None;
     let mut offset = 0;
-    while let Some(line) = next_line(&mut buffers, source, &mut cursor)? {
+    'lines: loop {
+        let found = match buffers.next_line(source, &mut cursor) {
+            Ok(found) => found,
+            Err(fault) => return Err(fault_of_index(0, fault)),
+        };
+        let Some(line) = found else {
+            return Ok(cursor.count());
+        };
         if falls_after(&previous, &line) {
             return Err(AnswerFault::OutOfOrder(0, offset));
         }
@@ -53,5 +60,4 @@ pub fn check<S: Source>(alloc: Global, source: &mut S) -> Result<u64, AnswerFaul
         }
         offset = cursor.at();
     }
-    Ok(cursor.count())
 }

@@ -33,12 +33,14 @@ pub fn cdxj_pages_are_indexes()
 {}
 
 /// The lines that a merge of indexes writes are an index, with these lines.
+#[tactic(auto, using(crate::proofs::MergedLemmas::merged_index))]
 pub fn merged_lines_are_an_index()
     ensures { MergedIsIndex }
 {}
 
 /// A merge may take the merge of some indexes in their stead. If the indexes have one line at each place, their order is
 /// of no account either.
+#[tactic(auto, using(crate::proofs::ComposeLemmas::merges_commute, crate::proofs::ComposeLemmas::merges_group))]
 pub fn merges_compose()
     ensures group { MergesGroup }
     ensures order { MergesCommute }
@@ -59,6 +61,7 @@ pub fn resume_keys_continue()
 }
 
 /// Over indexes, no call returns the fault of a line.
+#[tactic(auto, using(crate::proofs::SoundIndexes::no_line_at_fault))]
 pub fn indexes_have_no_line_at_fault()
     ensures { NoLineIsAtFault }
 {}
@@ -78,6 +81,7 @@ pub fn replies_are_told_from_pages()
 
 /// A query with `&hasnot=urlkey:` after it, within the limit, selects nothing, and is refused as the query is. An empty text
 /// is refused as `NoUrl`. So either may follow a query, to end its reply.
+#[tactic(auto, using(crate::proofs::NothingLemmas::appended))]
 pub fn appended_condition_selects_nothing()
     ensures nothing { AppendedSelectsNothing }
     ensures empty { EmptyIsRefused }
@@ -102,6 +106,7 @@ pub fn merge_writes_one_text()
 {}
 
 /// The name of a field, as pages write it, names the field in a query.
+#[tactic(auto, unfolding(cdxj_core::specs::Fields::field_named))]
 pub fn names_name_fields()
     ensures { NamesNameFields }
 {}

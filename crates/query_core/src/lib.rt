@@ -11,7 +11,6 @@ mod collapsing;
 mod conversions;
 mod fault;
 mod laws;
-mod line_reading;
 mod merging;
 mod page_writer;
 mod paging;

@@ -34,6 +34,7 @@ pub struct Pass {
 
 /// Passes the lines of the query's range to the sink, in the order of places, from its resume key on, until it wants no
 /// more.
+#[tactic(auto, using(crate::proofs::ConversionLemmas::merge_line, std::proofs::lemmas::Result::err_from_is_err_and))]
 pub(crate) fn read_lines<S: Source, K: Sink, O: Output>(
     alloc: Global,
     sources: &mut [S],

@@ -31,6 +31,7 @@ fn refusal(alloc: Global, name: &str) -> Result<Vec<u8>, AllocError>
 }
 
 /// Writes that a line was refused, with the name of the refusal.
+#[tactic(auto, using(devices::proofs::WritingLemmas::wrote_nothing))]
 pub(crate) fn put_refusal<O: Output>(
     alloc: Global,
     name: &str,
@@ -61,6 +62,7 @@ fn fault_line(alloc: Global, name: &str, index: usize, offset: u64) -> Result<Ve
 }
 
 /// Writes, after what was written of a page, the name of a fault, the number of the index, and the offset of the line.
+#[tactic(auto, using(devices::proofs::WritingLemmas::wrote_nothing))]
 pub(crate) fn put_fault_line<O: Output>(
     alloc: Global,
     name: &str,

@@ -80,6 +80,7 @@ impl<'q> Selection<'q> {
 
     /// Takes the next line. Returns `true` if it is a capture of the query.
     /// The only error is refused memory.
+    #[tactic(auto, using(crate::proofs::CaptureLemmas::captures_repeated, crate::proofs::CaptureLemmas::capture_compares, crate::proofs::CaptureLemmas::capture_is_one, crate::proofs::CaptureLemmas::repeated_compares))]
     pub fn takes(&mut self, line: &Line) -> Result<bool, AllocError>
         ensures selects { (taken : List Member) → Selects self.old taken
             → OnOk result (Selects self.new (taken ++ line.now ∷ [])) }

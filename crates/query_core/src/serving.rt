@@ -1,37 +1,34 @@
 //! A conversation: a reply to each line of an input.
-ghost use Rattle.std.specs.Prelude.{◌≡◌, ◌≢◌, ◌⊎◌, ◌+◌, ◌-◌, ◌^◌, ◌<◌, ◌≤◌, ℕ, List, length, map, true, Option, Result, Err, IfOk, IfErr, OnOk};
-ghost use Rattle.std.specs.Io.KnownBytes.{prepend_known};
+ghost use Rattle.std.specs.Prelude.{◌≡◌, ◌+◌, [], length, map, Err, IfOk};
 ghost use Rattle.cdxj_core.specs.declared.limit.TheConstants.{LINE_LIMIT};
-ghost use Rattle.devices.specs.LineReading.{CountsTaken, IsTooLong, StopsInLine, TakesLine};
 ghost use Rattle.devices.specs.Writing.{WritesText};
-ghost use Rattle.cdxj_core.specs.Members.{Member};
 ghost use Rattle.query_text.specs.declared.query.TheConstants.{QUERY_LIMIT};
 ghost use Rattle.query_text.specs.declared.fault.QueryFault.{QueryFault};
-ghost use Rattle.query_text.specs.Queries.{QueryValue, query_of};
+ghost use Rattle.query_text.specs.Queries.{query_of};
 ghost use Rattle.merge_core.specs.Collections.{KeepsSources, OverIndexes, collection};
-ghost use Rattle.query_core.specs.declared.merging.TheConstants.{SOURCES_LIMIT};
 ghost use Rattle.query_core.specs.QueryPages.{query_page, answer_text};
-ghost use Rattle.query_core.specs.Refusals.{IsBeforeReading, Refuses, too_many};
-ghost use Rattle.query_core.specs.Replies.{reply_of, reply_to};
+ghost use Rattle.query_core.specs.Refusals.{Refuses, too_many};
+ghost use Rattle.query_core.specs.Replies.{reply_of};
 ghost use Rattle.query_core.specs.ReplyReach.{AllGaveAtMost, GaveForLines, asked_most, line_most, query_most};
-ghost use Rattle.query_core.specs.AnyReplies.{IsPageReply, IsQueryReply, IsTextReply};
+ghost use Rattle.query_core.specs.AnyReplies.{IsPageReply, IsTextReply};
 ghost use Rattle.query_core.specs.Conversations.{Converses, IsLineReply, IsMarkedReply, IsOneReply, Replied, RepliedInPart, RepliedToTaken, WritesSome};
-ghost use Rattle.query_core.specs.ReplyFaults.{CountsReply, CountsLine, CountsServing, RepliesFrom};
+ghost use Rattle.query_core.specs.ReplyFaults.{CountsServing, RepliesFrom};
 
 use crate::answering::answer;
 use crate::fault::AnswerFault;
 use crate::merging::SOURCES_LIMIT;
 use crate::reply_texts::{put_fault_line, put_refusal, put_text};
-use devices::{Input, InputLineFault, InputLines, Output};
+use devices::{Input, InputLines, Output};
 use query_text::{QUERY_LIMIT, Query, QueryFault};
 use source_core::Source;
-use std::alloc::Global;
+use std::alloc::{AllocError, Global};
 
 /// The number of bytes of a line that are held. They show that a line exceeds the limit of a query, whether or not it
 /// ends with a carriage return.
 const LINE_HELD: usize = QUERY_LIMIT + 2;
 
 /// Writes the page of a query. A fault of an index is written after what was written of the page.
+#[tactic(auto, using(crate::proofs::LineReplies::fault_reply, crate::proofs::ReplyBytes::gave_page))]
 fn reply_to_query<S: Source, O: Output>(
     alloc: Global,
     sources: &mut [S],
@@ -40,7 +37,6 @@ fn reply_to_query<S: Source, O: Output>(
 ) -> Result<(), AnswerFault>
     ensures sources { RepliesFrom S.text S.extent S.failures result sources.old sources.new
         (O.failures out.old) (O.failures out.new) }
-    ensures late { length sources.old ≤ SOURCES_LIMIT → IfErr result (λ e. IsBeforeReading e → ⊥) }
     ensures text { OverIndexes LINE_LIMIT (map S.text sources.old) (λ texts indexes.
         WritesText result (O.written out.old) (O.written out.new)
         (answer_text query.now (query_page query.now (collection indexes)))) }
@@ -62,27 +58,8 @@ fn reply_to_query<S: Source, O: Output>(
     }
 }
 
-/// Writes the name of the refusal of a query. For lack of memory nothing is written.
-fn put_query_refusal<O: Output>(
-    alloc: Global,
-    fault: QueryFault,
-    out: &mut O,
-) -> Result<(), AnswerFault>
-    ensures text { (lines : List Member) → (read : Result QueryValue QueryFault)
-        → (fault ≢ QueryFault.Memory → read ≡ Err fault)
-        → WritesText result (O.written out.old) (O.written out.new) (reply_to lines read) }
-    ensures lines { (told : List (Option (List ℕ))) → (read : Result QueryValue QueryFault)
-        → (fault ≢ QueryFault.Memory → read ≡ Err fault)
-        → WritesSome result (O.written out.old) (O.written out.new) (IsQueryReply told read) }
-    ensures failures { CountsReply result (O.failures out.old) (O.failures out.new) }
-{
-    match fault {
-        QueryFault::Memory => Err(AnswerFault::Memory),
-        _ => put_refusal(alloc, fault.name(), out),
-    }
-}
-
 /// Writes the reply to a text.
+#[tactic(auto, using(crate::proofs::ReplyBytes::gave_asked, crate::proofs::ReplyBytes::gave_none, devices::proofs::WritingLemmas::wrote_nothing))]
 fn reply_to_text<S: Source, O: Output>(
     alloc: Global,
     sources: &mut [S],
@@ -91,7 +68,6 @@ fn reply_to_text<S: Source, O: Output>(
 ) -> Result<(), AnswerFault>
     ensures sources { RepliesFrom S.text S.extent S.failures result sources.old sources.new
         (O.failures out.old) (O.failures out.new) }
-    ensures late { length sources.old ≤ SOURCES_LIMIT → IfErr result (λ e. IsBeforeReading e → ⊥) }
     ensures text { OverIndexes LINE_LIMIT (map S.text sources.old) (λ texts indexes.
         WritesText result (O.written out.old) (O.written out.new)
         (reply_of QUERY_LIMIT (collection indexes) text.now)) }
@@ -104,11 +80,13 @@ fn reply_to_text<S: Source, O: Output>(
 {
     match Query::read(alloc, text) {
         Ok(query) => reply_to_query(alloc, sources, &query, out),
-        Err(fault) => put_query_refusal(alloc, fault, out),
+        Err(QueryFault::Memory) => Err(AnswerFault::Memory),
+        Err(fault) => put_refusal(alloc, fault.name(), out),
     }
 }
 
 /// Writes the reply to a line, of which at least the first `LINE_HELD` bytes are given.
+#[tactic(auto, using(crate::proofs::LineReplies::line_tests, crate::proofs::LineReplies::text_reply, crate::proofs::LineReplies::writes_some, crate::proofs::ReplyBytes::gave_line, crate::proofs::ReplyBytes::gave_none))]
 fn reply_to_line<S: Source, O: Output>(
     alloc: Global,
     sources: &mut [S],
@@ -117,7 +95,6 @@ fn reply_to_line<S: Source, O: Output>(
 ) -> Result<(), AnswerFault>
     ensures sources { RepliesFrom S.text S.extent S.failures result sources.old sources.new
         (O.failures out.old) (O.failures out.new) }
-    ensures late { length sources.old ≤ SOURCES_LIMIT → IfErr result (λ e. IsBeforeReading e → ⊥) }
     ensures text { OverIndexes LINE_LIMIT (map S.text sources.old) (λ texts indexes.
         WritesSome result (O.written out.old) (O.written out.new)
         (IsLineReply QUERY_LIMIT (IsOneReply (reply_of QUERY_LIMIT (collection indexes)))
@@ -138,6 +115,7 @@ fn reply_to_line<S: Source, O: Output>(
 }
 
 /// Writes the reply to a line, followed by the line `.`.
+#[tactic(auto, using(crate::proofs::LineReplies::marked_reply))]
 fn reply_and_mark<S: Source, O: Output>(
     alloc: Global,
     sources: &mut [S],
@@ -146,7 +124,6 @@ fn reply_and_mark<S: Source, O: Output>(
 ) -> Result<(), AnswerFault>
     ensures sources { RepliesFrom S.text S.extent S.failures result sources.old sources.new
         (O.failures out.old) (O.failures out.new) }
-    ensures late { length sources.old ≤ SOURCES_LIMIT → IfErr result (λ e. IsBeforeReading e → ⊥) }
     ensures text { OverIndexes LINE_LIMIT (map S.text sources.old) (λ texts indexes.
         WritesSome result (O.written out.old) (O.written out.new)
         (IsMarkedReply QUERY_LIMIT (IsOneReply (reply_of QUERY_LIMIT (collection indexes)))
@@ -161,32 +138,12 @@ fn reply_and_mark<S: Source, O: Output>(
     put_text(b".\n", out)
 }
 
-/// Reads a further line of the input, and holds it. Returns `true` if there was one.
-fn read_line<I: Input>(lines: &mut InputLines, input: &mut I) -> Result<bool, AnswerFault>
-    // No more is held of a line than shows that it is too long.
-    requires held { lines.old.most ≤ QUERY_LIMIT + 2 }
-    ensures most { lines.new.most ≡ lines.old.most }
-    ensures line { IfOk result (λ found.
-        TakesLine lines.old.most found (prepend_known lines.old.buffer (I.remaining input.old))
-        (prepend_known lines.new.buffer (I.remaining input.new)) lines.new.line) }
-    ensures count { OnOk result
-        (CountsTaken (prepend_known lines.old.buffer (I.remaining input.old))
-        (prepend_known lines.new.buffer (I.remaining input.new)) lines.old.taken lines.new.taken) }
-    ensures some { IfOk result (λ found. found ≡ true → lines.old.taken < lines.new.taken) }
-    ensures within { OnOk result (lines.new.taken < 2 ^ 63 - 1) }
-    ensures late { IfErr result (λ e. IsBeforeReading e → ⊥) }
-    ensures stopped { result ≡ Err AnswerFault.Input →
-        StopsInLine (prepend_known lines.old.buffer (I.remaining input.old)) (I.remaining input.new)
-        ⊎ IsTooLong (prepend_known lines.old.buffer (I.remaining input.old)) lines.old.taken }
-    ensures failures { CountsLine result (I.failures input.old) (I.failures input.new)
-        (prepend_known lines.old.buffer (I.remaining input.old)) lines.old.taken }
+/// Creates a reader of lines, which holds of each line only what shows that it is too long.
+fn line_reader(alloc: Global) -> Result<InputLines, AllocError>
+    ensures { IfOk result (λ lines. (lines.buffer ≡ []) × (lines.taken ≡ 0)
+        × (lines.most ≡ QUERY_LIMIT + 2)) }
 {
-    match lines.next(input) {
-        Ok(found) => Ok(found),
-        Err(InputLineFault::Memory) => Err(AnswerFault::Memory),
-        Err(InputLineFault::Read) => Err(AnswerFault::Input),
-        Err(InputLineFault::TooLong) => Err(AnswerFault::Input),
-    }
+    InputLines::new(alloc, LINE_HELD)
 }
 
 /// Answers the queries of an input, one on each line, and returns the number of lines.
@@ -202,6 +159,7 @@ fn read_line<I: Input>(lines: &mut InputLines, input: &mut I) -> Result<bool, An
 /// Returns `TooManySources` for more than `SOURCES_LIMIT` indexes, before it reads. `Memory`, `Read` of an index, `Write`
 /// and `Input` end the conversation. `Input` comes if the input failed, and for an input of 2^63 - 1 bytes. Then each line
 /// that was taken whole has its reply.
+#[tactic(auto, using(crate::proofs::ReplyLemmas::one_reply_part, crate::proofs::ReplyLemmas::nothing_replied, crate::proofs::ReplyBytes::spent_part, crate::proofs::ReplyBytes::spent_stop, std::proofs::lemmas::Result::err_from_is_err_and))]
 pub fn serve<S: Source, I: Input, O: Output>(
     alloc: Global,
     sources: &mut [S],
@@ -215,8 +173,7 @@ pub fn serve<S: Source, I: Input, O: Output>(
         (map S.failures sources.new) (O.failures out.old) (O.failures out.new)
         (I.failures input.old) (I.failures input.new) (I.remaining input.old) }
     ensures replies { OverIndexes LINE_LIMIT (map S.text sources.old) (λ texts indexes.
-        IfOk result (λ count.
-        Replied QUERY_LIMIT (reply_of QUERY_LIMIT (collection indexes))
+        IfOk result (λ count. Replied QUERY_LIMIT (reply_of QUERY_LIMIT (collection indexes))
         (I.remaining input.old) count (O.written out.old) (O.written out.new))) }
     ensures part { OverIndexes LINE_LIMIT (map S.text sources.old) (λ texts indexes.
         RepliedInPart QUERY_LIMIT (reply_of QUERY_LIMIT (collection indexes))
@@ -239,9 +196,9 @@ pub fn serve<S: Source, I: Input, O: Output>(
     if sources.len() > SOURCES_LIMIT {
         return Err(AnswerFault::TooManySources);
     }
-    let mut lines = InputLines::new(alloc, LINE_HELD)?;
+    let mut lines = line_reader(alloc)?;
     let mut count = 0u64;
-    while read_line(&mut lines, input)? {
+    while lines.next(input)? {
         reply_and_mark(alloc, sources, lines.line(), out)?;
         count += 1;
     }

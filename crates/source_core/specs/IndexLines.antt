@@ -1,5 +1,5 @@
 -- The lines of a text, cut after each line feed.
-use Rattle.std.specs.Prelude.{◌≡◌, ℕ, zero, suc, List, [], ◌∷◌, ◌++◌, length, flat_map, max, cond, drop, nat_eq, Bool}
+use Rattle.std.specs.Prelude.{◌≡◌, ◌<◌, ◌≤◌, ℕ, zero, suc, List, [], ◌∷◌, ◌++◌, length, flat_map, max, cond, drop, nat_eq, Bool}
 use Rattle.std.specs.Prelude.{true, false, Option, Some, None}
 pub use Rattle.cdxj_places.specs.TextLines.{lines}
 
@@ -13,6 +13,10 @@ abbrev pub from_line : ℕ → List ℕ → List ℕ
 from_line zero text = text
 from_line (suc m) text = after_line (drop m text)
 
+-- the first line that begins at `from` or after it begins at the offset
+abbrev pub BeginsFrom : ℕ → List ℕ → ℕ → Type 0
+BeginsFrom from text offset = (drop offset text ≡ from_line from text) × (drop offset text ≡ from_line offset text)
+
 -- the line, where one was found
 abbrev pub line_found : Bool → List ℕ → Option (List ℕ)
 line_found true line = Some line
@@ -22,6 +26,10 @@ line_found false line = None
 abbrev pub first_then : Option (List ℕ) → List (List ℕ) → List (List ℕ)
 first_then None ls = []
 first_then (Some l) ls = l ∷ ls
+
+-- the offset is one of those from `from` on and before `until`
+abbrev pub IsAmong : ℕ → ℕ → ℕ → Type 0
+IsAmong from until offset = (from ≤ offset) × (offset < until)
 
 -- the length of the first line, in bytes; 0 where there is none
 abbrev pub first_length : List (List ℕ) → ℕ

@@ -10,6 +10,7 @@ use Rattle.devices.specs.Device.{next_count}
 use Rattle.source_core.specs.Device.{KeepsSource}
 use Rattle.source_core.specs.Halving.{stops_lines}
 use Rattle.source_core.specs.IndexLines.{BeginsAfter, first_length}
+use Rattle.source_core.specs.Windows.{HeldBytes, Holds}
 use Rattle.source_core.specs.declared.fault.SearchFault.{SearchFault}
 use Rattle.source_core.specs.declared.fault.SearchFault.TheVariants as fault
 
@@ -50,3 +51,9 @@ abbrev pub SearchesSource : {S A : Type 0} → (S → Option (List ℕ)) → (S 
     → Type 0
 SearchesSource text extent failures result old new =
     KeepsSource text extent old new × CountsSearch result (failures old) (failures new)
+
+-- the same, and afterwards its window holds bytes of the source
+abbrev pub SearchesOver : {S A : Type 0} → (S → Option (List ℕ)) → (S → ℕ) → (S → ℕ) → Result A SearchFault → S → S
+    → HeldBytes → Type 0
+SearchesOver text extent failures result old new window =
+    SearchesSource text extent failures result old new × Holds (text new) (extent new) window

@@ -1,7 +1,7 @@
 //! Where lines begin.
 ghost use Rattle.std.specs.Prelude.{◌≡◌, ◌+◌, ◌<◌, ◌≤◌, drop, IfOk, IfSome, IfNone, Some};
 ghost use Rattle.source_core.specs.Device.{OverText, ReadsSource};
-ghost use Rattle.source_core.specs.IndexLines.{lines, from_line, longest};
+ghost use Rattle.source_core.specs.IndexLines.{lines, from_line, longest, BeginsFrom, IsAmong};
 ghost use Rattle.source_core.specs.Windows.{Holds};
 
 use crate::source::{Source, SourceFault};
@@ -22,13 +22,10 @@ pub(crate) fn next_line_start<S: Source>(
     requires inside { until ≤ S.extent source.old }
     ensures source { ReadsSource S.text S.extent S.failures result source.old source.new }
     ensures holds { Holds (S.text source.new) (S.extent source.new) window.new }
-    ensures after { IfOk result (λ found. IfSome found (λ offset. from ≤ offset)) }
-    ensures within { IfOk result (λ found. IfSome found (λ offset. offset < until)) }
+    ensures among { IfOk result (λ found. IfSome found (IsAmong from until)) }
     ensures later { IfOk result (λ found. IfNone found (0 < from)) }
     ensures line { OverText (S.text source.old) (λ t.
-        IfOk result (λ found. IfSome found (λ offset. drop offset t ≡ from_line from t))) }
-    ensures begins { OverText (S.text source.old) (λ t.
-        IfOk result (λ found. IfSome found (λ offset. drop offset t ≡ from_line offset t))) }
+        IfOk result (λ found. IfSome found (BeginsFrom from t))) }
     ensures none { OverText (S.text source.old) (λ t.
         IfOk result (λ found. IfNone found (from_line until t ≡ from_line from t))) }
     ensures gave { OverText (S.text source.old) (λ t.

@@ -1,28 +1,28 @@
 use Rattle.query_core.proofs.Words.{[], ℕ, ◌≡◌, AreAtMost, GaveInReach, Grows, LINE_LIMIT, List, Option, OverIndexes}
-use Rattle.query_core.proofs.Words.{append-nil, arith, collection, err_from_is_err_and, grows_by, grows_not, grows_part}
+use Rattle.query_core.proofs.Words.{append-nil, arith, collection, err_from_is_err_and, grows_by, grows_part}
 use Rattle.query_core.proofs.Words.{length-map, map, page_over, query_page, refl, sym, wrote_nothing}
-use Rattle.query_core.proofs.AskedLemmas.{Beginning, Writing, captures, asked_is, end_front, page_broke, page_ended}
+use Rattle.query_core.proofs.AskedLemmas.{Writing, captures, asked_is, end_front, page_broke, page_ended}
 use Rattle.query_core.proofs.AskedLemmas.{passed, settles, stood}
 use Rattle.page_core.proofs.PageLemmas.{front-start}
-use Rattle.query_core.proofs.PageReach.{page_fewer, page_not_reached, page_reached, within}
+use Rattle.query_core.proofs.PageReach.{page_fewer, page_reached, within}
 use Rattle.query_core.proofs.answering.answer.Given.{Over}
 use Rattle.query_core.proofs.answering.answer.Goals.{In_ok-writer, In_ok-pass}
 use Rattle.query_core.proofs.answering.answer.Goals as goal
 
 -- ---- the writer
 
-abbrev begin : (g : Over) (c : In_ok-writer g) → Beginning c.args.query.now (g.O.Output.written c.args.out.now)
-    (g.O.Output.written c.begin.new.out)
+abbrev begin : (g : Over) (c : In_ok-writer g) → Writing c.args.query.now c.args.query.now.limit []
+    (g.O.Output.written c.args.out.now) (g.O.Output.written c.begin.new.out) []
 begin g c = record {
   first = c.in_ok-writer.writer;
   is = rw c.limit.ensures.value at c.in_ok-writer.ensures.begins;
-  began = c.in_ok-writer.ensures.wrote (λ none. absurd none);
-  some = grind arith;
+  writer = c.in_ok-writer.writer;
+  wrote = c.in_ok-writer.ensures.wrote (λ none. absurd none);
 }
 
 -- after all lines that were taken
-abbrev writing : (g : Over) (c : In_ok-pass g) → Writing c.args.query.now (g.O.Output.written c.args.out.now)
-    (g.O.Output.written c.read_lines.new.out) c.in_ok-pass.ensures.ended.lines
+abbrev writing : (g : Over) (c : In_ok-pass g) → Writing c.args.query.now c.args.query.now.limit []
+    (g.O.Output.written c.args.out.now) (g.O.Output.written c.read_lines.new.out) c.in_ok-pass.ensures.ended.lines
 writing g c =
     let took = c.in_ok-pass.ensures.ended in
     passed (begin g (goal.at.In_ok-pass g c).In_ok-writer) took.lines (g.O.Output.written c.read_lines.new.out)
@@ -71,9 +71,6 @@ returns-clause-lines g c =
 
 -- ---- the page of the indexes' collection
 
-pub returns-then-sources-gt-SOURCES_LIMIT-clause-page : goal.returns-then-sources-gt-SOURCES_LIMIT-clause-page
-returns-then-sources-gt-SOURCES_LIMIT-clause-page g c = grind (arith, wrote_nothing)
-
 pub returns-in_err-writer-clause-page : goal.returns-in_err-writer-clause-page
 returns-in_err-writer-clause-page g c = grind (arith, err_from_is_err_and, front-start)
 
@@ -119,19 +116,13 @@ returns-clause-parts g c = λ texts known.
 
 -- ---- what was read
 
-pub returns-then-sources-gt-SOURCES_LIMIT-clause-reads : goal.returns-then-sources-gt-SOURCES_LIMIT-clause-reads
-returns-then-sources-gt-SOURCES_LIMIT-clause-reads g c = grind (arith, page_not_reached, grows_not)
-
-pub returns-in_err-writer-clause-reads : goal.returns-in_err-writer-clause-reads
-returns-in_err-writer-clause-reads g c = grind (arith, err_from_is_err_and, page_not_reached, grows_part)
-
 pub returns-in_err-pass-clause-reads : goal.returns-in_err-pass-clause-reads
 returns-in_err-pass-clause-reads g c =
     let halted = c.in_err-pass.ensures.ended.1 in
     let before = halted.before in
     let here = begin g (goal.at.returns-in_err-pass-clause-reads g c).In_ok-writer in
     let bytes = page_reached _ _ _ _ _ _ halted.earlier [] (passed here _ _ before.state before.came) halted.grows
-    halted.first (sym (append-nil _)) (within here _ _ before.state before.came before.more) before.within in
+    halted.first (sym (append-nil _)) (within here (grind arith) _ _ before.state before.came before.more) before.within in
     grind (arith, err_from_is_err_and)
 
 -- the captures of the earlier of the lines that were taken don't pass the page
@@ -139,7 +130,7 @@ few : (g : Over) (c : In_ok-pass g)
     → AreAtMost c.args.query.now.limit (captures c.args.query.now c.in_ok-pass.ensures.ended.earlier)
 few g c =
     let before = c.in_ok-pass.ensures.ended.before in
-    within (begin g (goal.at.In_ok-pass g c).In_ok-writer) _ _ before.state before.came before.more
+    within (begin g (goal.at.In_ok-pass g c).In_ok-writer) (grind arith) _ _ before.state before.came before.more
 
 -- what was written so far reaches what the sources gave, whatever is written then
 reached : (g : Over) (c : In_ok-pass g) (new : Option (List ℕ)) → Grows (g.O.Output.written c.read_lines.new.out) new

@@ -3,8 +3,8 @@ use Rattle.source_core.specs.Cursors.{Stands, reach}
 use Rattle.query_core.proofs.CheckLemmas.{CheckedTo}
 use Rattle.query_core.proofs.checking.check.Given as goal
 
-abbrev pub invariant-loop-previous : goal.invariant-loop-previous
-invariant-loop-previous g l = record {
+abbrev pub invariant-lines : goal.invariant-lines
+invariant-lines g l = record {
   text : g.S.Source.text l.source ≡ g.S.Source.text l.fn.source;
   extent : g.S.Source.extent l.source ≡ g.S.Source.extent l.fn.source;
   failures : g.S.Source.failures l.source ≡ g.S.Source.failures l.fn.source;
@@ -18,5 +18,5 @@ invariant-loop-previous g l = record {
       → CheckedTo LINE_LIMIT t l.cursor.at l.cursor.count (option_map (λ b. b.value) l.previous);
 }
 
-abbrev pub decreases-loop-previous : goal.decreases-loop-previous
-decreases-loop-previous g l = g.S.Source.extent l.fn.source - l.cursor.at
+abbrev pub decreases-lines : goal.decreases-lines
+decreases-lines g l = g.S.Source.extent l.fn.source - l.cursor.at

@@ -1,5 +1,5 @@
-use Rattle.query_core.proofs.Words.{ℕ, HasEntry, HaveEntries, LINE_LIMIT, List, Member, Option, QueryValue, query_page}
-use Rattle.query_core.proofs.Words.{shown_key}
+use Rattle.query_core.proofs.Words.{ℕ, HasEntry, HaveEntries, LINE_LIMIT, List, Member, Option, QueryValue, arith}
+use Rattle.query_core.proofs.Words.{query_page, shown_key}
 use Rattle.query_core.proofs.PageArrays.{json_lines}
 use Rattle.query_core.proofs.PageLineLemmas.{empty_of, fault_of, mark_of, page_each, refusal_of, shown_is_above, spaceless}
 use Rattle.query_core.proofs.laws.replies_are_told_from_pages.Goals as goal
@@ -23,7 +23,7 @@ returns-clause-refused c = λ q found name rest entries none e.
 pub returns-clause-fault : goal.returns-clause-fault
 returns-clause-fault c = λ q found name index offset before after entries e.
     fault_of q.fields (query_page q found).members (key q found) (members q found entries)
-    (shown_is_above q.show_resume_key (query_page q found).next) q.output name index offset before after e
+    (shown_is_above q.show_resume_key (query_page q found).next) name index offset before after q.output e
 
 pub returns-clause-json : goal.returns-clause-json
 returns-clause-json c = λ q found is. rw is (json_lines q.fields (query_page q found).members (key q found))
@@ -36,4 +36,4 @@ returns-clause-empty c = λ q found before after entries other some e.
 pub returns-clause-one : goal.returns-clause-one
 returns-clause-one c = λ q found entries is one.
     rw is (spaceless q.fields (query_page q found).members (key q found) (members q found entries)
-    (shown_is_above q.show_resume_key (query_page q found).next) one)
+    (shown_is_above q.show_resume_key (query_page q found).next) (omega arith))

@@ -1,13 +1,6 @@
-use Rattle.query_core.proofs.Words.{[], arith, err_from_is_err_and, wrote_nothing}
+use Rattle.query_core.proofs.Words.{[], arith, wrote_nothing}
 use Rattle.merge_core.proofs.OnceLemmas.{once_none}
-use Rattle.query_core.proofs.ConversionLemmas.{merge_line}
 use Rattle.query_core.proofs.merging.merge.Goals as goal
-
-pub returns-in_err-merged-clause-fault : goal.returns-in_err-merged-clause-fault
-returns-in_err-merged-clause-fault g c = grind (arith, err_from_is_err_and, merge_line)
-
-pub returns-then-sources-gt-SOURCES_LIMIT-clause-part : goal.returns-then-sources-gt-SOURCES_LIMIT-clause-part
-returns-then-sources-gt-SOURCES_LIMIT-clause-part g c = grind (arith, wrote_nothing)
 
 pub returns-then-sources-gt-SOURCES_LIMIT-clause-bytes : goal.returns-then-sources-gt-SOURCES_LIMIT-clause-bytes
 returns-then-sources-gt-SOURCES_LIMIT-clause-bytes g c =

@@ -1,10 +1,12 @@
-use Rattle.query_core.proofs.Words.{[], ℕ, ◌∙◌, ◌≡◌, GaveInPages, Grows, LINE_LIMIT, List, Member, None, Option}
-use Rattle.query_core.proofs.Words.{OverIndexes, Rises, Some, WrotePagesInPart, ap, append-nil, arith, collection}
-use Rattle.query_core.proofs.Words.{err_from_is_err_and, grows_by, grows_not, grows_part, map, member_place, place_cmp}
-use Rattle.query_core.proofs.Words.{place_cmp_total, refl, rises_rising, rules, sym, true, true≢false, two_same}
+use Rattle.query_core.proofs.Words.{[], ℕ, ◌∙◌, ◌≡◌, AllPositive, GaveInPages, Grows, LINE_LIMIT, List, Member, None}
+use Rattle.query_core.proofs.Words.{Option, OverIndexes, Rises, Some, WrotePagesInPart, ap, append-nil, arith}
+use Rattle.query_core.proofs.Words.{collection, err_from_is_err_and, first_size, grows_by, grows_part, map}
+use Rattle.query_core.proofs.Words.{member_place, place_cmp, place_cmp_total, refl, rises_rising, rules, sym, true}
+use Rattle.query_core.proofs.Words.{true≢false}
 use Rattle.std.proofs.lemmas.Bool.{true_from_ne_false}
 use Rattle.query_core.proofs.PageChains.{wrote_front, wrote_none}
-use Rattle.query_core.proofs.PagesExits.{BeginningPages, WritingPages, all, all_ended, any_front, at_end, stood_pages, stopped}
+use Rattle.query_core.proofs.AskedLemmas.{Writing, passed}
+use Rattle.query_core.proofs.PagesExits.{all, all_ended, any_front, at_end, stood_pages}
 use Rattle.query_core.proofs.PagesLemmas.{start_front}
 use Rattle.query_core.proofs.SizeLemmas.{all_positive}
 use Rattle.query_core.proofs.ReachLemmas.{within_opening}
@@ -17,15 +19,6 @@ collection_rises : (indexes : List (List Member)) → Rises member_place place_c
 collection_rises indexes = grind (arith, rises_rising, place_cmp_total)
 
 -- ---- how much was read
-
-pub returns-then-not-are_sizes-clause-bytes : goal.returns-then-not-are_sizes-clause-bytes
-returns-then-not-are_sizes-clause-bytes g c = grind (arith, within_opening, two_same)
-
-pub returns-then-sources-gt-SOURCES_LIMIT-clause-bytes : goal.returns-then-sources-gt-SOURCES_LIMIT-clause-bytes
-returns-then-sources-gt-SOURCES_LIMIT-clause-bytes g c = grind (arith, within_opening, two_same)
-
-pub returns-in_err-writer-clause-bytes : goal.returns-in_err-writer-clause-bytes
-returns-in_err-writer-clause-bytes g c = grind (arith, within_opening, two_same)
 
 pub returns-in_err-read_lines-clause-bytes : goal.returns-in_err-read_lines-clause-bytes
 returns-in_err-read_lines-clause-bytes g c = λ texts indexes known are.
@@ -41,15 +34,6 @@ returns-in_err-end-clause-bytes g c = λ texts indexes known are.
 
 -- ---- what stands written beside it
 
-pub returns-then-not-are_sizes-clause-reach : goal.returns-then-not-are_sizes-clause-reach
-returns-then-not-are_sizes-clause-reach g c = grind (arith, no_pages_reached, grows_not)
-
-pub returns-then-sources-gt-SOURCES_LIMIT-clause-reach : goal.returns-then-sources-gt-SOURCES_LIMIT-clause-reach
-returns-then-sources-gt-SOURCES_LIMIT-clause-reach g c = grind (arith, no_pages_reached, grows_not)
-
-pub returns-in_err-writer-clause-reach : goal.returns-in_err-writer-clause-reach
-returns-in_err-writer-clause-reach g c = grind (arith, no_pages_reached, grows_part)
-
 -- ---- the pages of lines that rise by place, of which those that were read come first
 
 before : (g : Over) (c : In_err-writer g) → (lines : List Member) → Rises member_place place_cmp lines
@@ -60,30 +44,28 @@ before g c lines rise =
     wrote_front c.args.query.now c.args.sizes.now positive lines rise [] _ _ _ refl
     (start_front c.args.query.now c.args.sizes.now _ _ positive c.in_err-writer.ensures.begins)
 
-abbrev begin : (g : Over) (c : In_ok-writer g) → BeginningPages c.args.query.now c.args.sizes.now
-    (g.O.Output.written c.args.out.now) (g.O.Output.written c.begin.new.out)
-begin g c =
-    let positive = all_positive c.args.sizes.now (search rules) in
-    record {
-      first = c.in_ok-writer.writer;
-      is = rw c.first_size.ensures at c.in_ok-writer.ensures.begins;
-      positive = positive;
-      began = c.in_ok-writer.ensures.wrote (λ p. ap Some c.first_size.ensures);
-    }
-
-abbrev writing : (g : Over) (c : In_ok-read_lines g)
-    → WritingPages (begin g (goal.at.In_ok-read_lines g c).In_ok-writer) (g.O.Output.written c.read_lines.new.out)
-    c.in_ok-read_lines.ensures.ended.lines
-writing g c = record {
-  writer = c.read_lines.new.sink;
-  wrote = c.in_ok-read_lines.ensures.ended.came c.in_ok-writer.writer
-      (g.O.Output.written c.args.out.now) (begin g (goal.at.In_ok-read_lines g c).In_ok-writer).began;
+abbrev begin : (g : Over) (c : In_ok-writer g) → Writing c.args.query.now (Some (first_size c.args.sizes.now))
+    c.args.sizes.now (g.O.Output.written c.args.out.now) (g.O.Output.written c.begin.new.out) []
+begin g c = record {
+  first = c.in_ok-writer.writer;
+  is = rw c.first_size.ensures at c.in_ok-writer.ensures.begins;
+  writer = c.in_ok-writer.writer;
+  wrote = c.in_ok-writer.ensures.wrote (λ p. ap Some c.first_size.ensures);
 }
+
+abbrev writing : (g : Over) (c : In_ok-read_lines g) → Writing c.args.query.now (Some (first_size c.args.sizes.now))
+    c.args.sizes.now (g.O.Output.written c.args.out.now) (g.O.Output.written c.read_lines.new.out)
+    c.in_ok-read_lines.ensures.ended.lines
+writing g c = passed (begin g (goal.at.In_ok-read_lines g c).In_ok-writer) _ _ c.read_lines.new.sink
+    c.in_ok-read_lines.ensures.ended.came
+
+positive : (g : Over) (c : In_ok-read_lines g) → AllPositive c.args.sizes.now
+positive g c = all_positive c.args.sizes.now (search rules)
 
 -- it never has enough
 all_read : (g : Over) (c : In_ok-read_lines g) → c.in_ok-read_lines.field-0.all ≡ true
 all_read g c = true_from_ne_false c.in_ok-read_lines.field-0.all
-    (λ e. true≢false (sym (c.in_ok-read_lines.ensures.enough e) ∙ (all (writing g c)).more))
+    (λ e. true≢false (sym (c.in_ok-read_lines.ensures.enough e) ∙ (all (positive g c) (writing g c)).more))
 
 -- ---- how far it was read for the captures that were written
 
@@ -91,9 +73,9 @@ pub returns-in_err-read_lines-clause-reach : goal.returns-in_err-read_lines-clau
 returns-in_err-read_lines-clause-reach g c =
     let halted = c.in_err-read_lines.ensures.ended.1 in
     let before = halted.before in
-    let b = begin g (goal.at.returns-in_err-read_lines-clause-reach g c).In_ok-writer in
-    let w = stopped b before.middle halted.earlier before.state before.came in
-    pages_reached _ _ _ _ _ _ _ _ halted.earlier halted.earlier [] (stood_pages w _ halted.grows) halted.first
+    let w = passed (begin g (goal.at.returns-in_err-read_lines-clause-reach g c).In_ok-writer) halted.earlier
+    before.middle before.state before.came in
+    pages_reached _ _ _ _ _ _ _ _ halted.earlier halted.earlier [] (stood_pages (all_positive c.args.sizes.now (search rules)) w _ halted.grows) halted.first
     (sym (append-nil _)) before.within
 
 -- what was written of the lines that were taken, whatever is written then
@@ -104,7 +86,7 @@ reached : (g : Over) (c : In_ok-read_lines g) (new : Option (List ℕ))
     c.args.sources.now c.read_lines.new.sources)
 reached g c new grows =
     let took = c.in_ok-read_lines.ensures.ended in
-    pages_reached _ _ _ _ _ new _ _ took.lines took.earlier took.later (stood_pages (writing g c) new grows)
+    pages_reached _ _ _ _ _ new _ _ took.lines took.earlier took.later (stood_pages (positive g c) (writing g c) new grows)
     took.took.first took.split took.before.within
 
 pub returns-in_err-end-clause-reach : goal.returns-in_err-end-clause-reach
@@ -136,22 +118,24 @@ returns-in_err-writer-clause-lines g c =
 pub returns-in_err-read_lines-clause-lines : goal.returns-in_err-read_lines-clause-lines
 returns-in_err-read_lines-clause-lines g c =
     let broke = c.in_err-read_lines.ensures.ended.0 in
-    let b = any_front (begin g (goal.at.returns-in_err-read_lines-clause-lines g c).In_ok-writer) _ broke.lines
+    let b = any_front (all_positive c.args.sizes.now (search rules))
+    (begin g (goal.at.returns-in_err-read_lines-clause-lines g c).In_ok-writer) _ broke.lines
     broke.lines [] broke.wrote broke.took.lines.rise (sym (append-nil _)) in
     (broke.lines, broke.took.lines, grind (arith, err_from_is_err_and))
 
 pub returns-in_err-end-clause-lines : goal.returns-in_err-end-clause-lines
 returns-in_err-end-clause-lines g c =
     let took = c.in_ok-read_lines.ensures.ended in
-    let b = at_end (writing g (goal.at.returns-in_err-end-clause-lines g c).In_ok-read_lines) took.lines
+    let here = (goal.at.returns-in_err-end-clause-lines g c).In_ok-read_lines in
+    let b = at_end (positive g here) (writing g here) took.lines
     took.took.lines.rise refl _ c.in_err-end.ensures.text in
     (took.lines, took.took.lines, grind (arith, err_from_is_err_and))
 
 pub returns-clause-lines : goal.returns-clause-lines
 returns-clause-lines g c =
     let took = c.in_ok-read_lines.ensures.ended in
-    let w = writing g (goal.at.returns-clause-lines g c).In_ok-read_lines in
-    (took.lines, took.took.lines, grind (arith, all_ended w))
+    let here = (goal.at.returns-clause-lines g c).In_ok-read_lines in
+    (took.lines, took.took.lines, grind (arith, all_ended (positive g here) (writing g here)))
 
 -- ---- the lines of indexes
 
@@ -167,33 +151,37 @@ pub returns-in_err-read_lines-clause-pages : goal.returns-in_err-read_lines-clau
 returns-in_err-read_lines-clause-pages g c = λ texts indexes known are.
     let broke = c.in_err-read_lines.ensures.ended.0 in
     let first = broke.took.first texts indexes known are in
-    let b = any_front (begin g (goal.at.returns-in_err-read_lines-clause-pages g c).In_ok-writer) _
+    let b = any_front (all_positive c.args.sizes.now (search rules))
+    (begin g (goal.at.returns-in_err-read_lines-clause-pages g c).In_ok-writer) _
     (collection indexes) broke.lines first.0 broke.wrote (collection_rises indexes) first.1 in
     grind (arith, err_from_is_err_and)
 
 pub returns-in_err-end-clause-pages : goal.returns-in_err-end-clause-pages
 returns-in_err-end-clause-pages g c = λ texts indexes known are.
-    let whole = all_read g (goal.at.returns-in_err-end-clause-pages g c).In_ok-read_lines in
-    let b = at_end (writing g (goal.at.returns-in_err-end-clause-pages g c).In_ok-read_lines) (collection indexes)
-    (collection_rises indexes) (c.in_ok-read_lines.ensures.ended.whole whole texts indexes known are) _
+    let here = (goal.at.returns-in_err-end-clause-pages g c).In_ok-read_lines in
+    let b = at_end (positive g here) (writing g here) (collection indexes) (collection_rises indexes)
+    (c.in_ok-read_lines.ensures.ended.whole (all_read g here) texts indexes known are) _
     c.in_err-end.ensures.text in
     grind (arith, err_from_is_err_and)
 
 pub returns-clause-pages : goal.returns-clause-pages
 returns-clause-pages g c = λ texts indexes known are.
-    let whole = all_read g (goal.at.returns-clause-pages g c).In_ok-read_lines in
-    let all = c.in_ok-read_lines.ensures.ended.whole whole texts indexes known are in
-    let w = writing g (goal.at.returns-clause-pages g c).In_ok-read_lines in
-    grind (arith, all_ended w (collection indexes) (collection_rises indexes))
+    let here = (goal.at.returns-clause-pages g c).In_ok-read_lines in
+    let all = c.in_ok-read_lines.ensures.ended.whole (all_read g here) texts indexes known are in
+    grind (arith, all_ended (positive g here) (writing g here) (collection indexes) (collection_rises indexes))
 
 pub returns-clause-parts : goal.returns-clause-parts
 returns-clause-parts g c = λ texts known.
-    let whole = all_read g (goal.at.returns-clause-parts g c).In_ok-read_lines in
+    let here = (goal.at.returns-clause-parts g c).In_ok-read_lines in
+    let whole = all_read g here in
     let read = c.in_ok-read_lines.ensures.ended.parts texts known in
-    let w = writing g (goal.at.returns-clause-parts g c).In_ok-read_lines in
     let all = read.ended whole in
     record {
       parts = read.parts;
       each = read.each true (λ e. whole);
-      wrote = grind (arith, all_ended w (collection read.parts) (collection_rises read.parts));
+      wrote = grind (
+        arith,
+        all_ended (positive g here) (writing g here) (collection read.parts)
+            (collection_rises read.parts),
+      );
     }

@@ -1,8 +1,7 @@
-use Rattle.query_core.proofs.AskedLemmas.{captures}
 use Rattle.query_core.proofs.Words.{[], ◌++◌, ◌∙◌, ◌≡◌, Bool, KeepsSources, LINE_LIMIT, List, Member, ReadFor, Some}
-use Rattle.query_core.proofs.Words.{all_kept, ap, append-nil, arith, err_from_is_err_and, false, feeds, grows_not, inl}
-use Rattle.query_core.proofs.Words.{length-map, map, refl, sym, true}
-use Rattle.query_core.proofs.ConversionLemmas.{merge_line}
+use Rattle.query_core.proofs.Words.{all_kept, ap, append-nil, arith, err_from_is_err_and, false, feeds, grows_not}
+use Rattle.query_core.proofs.Words.{inl, length-map, map, refl, sym, true}
+use Rattle.query_core.proofs.AskedLemmas.{captures}
 use Rattle.query_core.proofs.CaptureLemmas.{captures_append}
 use Rattle.query_core.proofs.PageOfIndexes.{Opened, reading, told, wanted_whole}
 use Rattle.query_core.proofs.ReachLemmas.{cut_all, cut_before, cut_last, gave_upto, gave_within, lines_within, of_parts}
@@ -17,23 +16,13 @@ use Rattle.query_core.proofs.pass.read_lines.Goals as goal
 
 kept : (g : Over) (c : After-merge g)
     → KeepsSources g.S.Source.text g.S.Source.extent c.args.sources.now c.merge.new.sources
-kept g c =
-    let all = all_kept g.S.Source.text g.S.Source.extent g.S.Source.gave c.open_at.new.sources
-    c.in_ok-opened.opened.merge c.merge.new.sources c.merge.new.merge c.in_ok-opened.ensures.ready.aligned.same
-    (omega arith) c.merge.ensures.moved in
-    (all.0 ∙ c.open_at.ensures.sources.0.0, all.1 ∙ c.open_at.ensures.sources.0.1)
+kept g c = grind (arith, all_kept)
 
 pub returns-in_err-all-clause-kept : goal.returns-in_err-all-clause-kept
 returns-in_err-all-clause-kept g c = kept g (goal.at.returns-in_err-all-clause-kept g c).After-merge
 
 pub returns-clause-kept : goal.returns-clause-kept
 returns-clause-kept g c = kept g (goal.at.returns-clause-kept g c).After-merge
-
-pub returns-in_err-opened-clause-fault : goal.returns-in_err-opened-clause-fault
-returns-in_err-opened-clause-fault g c = grind (arith, err_from_is_err_and, merge_line)
-
-pub returns-in_err-all-clause-fault : goal.returns-in_err-all-clause-fault
-returns-in_err-all-clause-fault g c = grind (arith, err_from_is_err_and, merge_line)
 
 pub returns-clause-held : goal.returns-clause-held
 returns-clause-held g c = λ texts indexes known are most share.

@@ -1,6 +1,6 @@
 use Rattle.query_core.proofs.Words.{ℕ, IsOneReply, IsTextReply, List, Member, QUERY_LIMIT, arith, collection}
 use Rattle.query_core.proofs.Words.{err_from_is_err_and, map, reply_of}
-use Rattle.query_core.proofs.LineReplies.{marked_reply, unmarked_reply}
+use Rattle.query_core.proofs.LineReplies.{unmarked_reply}
 use Rattle.query_core.proofs.serving.reply_and_mark.Goals as goal
 
 abbrev Is : List (List Member) → List ℕ → List ℕ → Type 0
@@ -15,9 +15,3 @@ pub returns-in_err-reply_to_line-clause-lines : goal.returns-in_err-reply_to_lin
 returns-in_err-reply_to_line-clause-lines g c =
     let u = unmarked_reply _ (IsTextReply (map _ _)) _ _ _ c.in_err-reply_to_line.ensures.lines in
     grind (arith, err_from_is_err_and)
-
-pub returns-clause-text : goal.returns-clause-text
-returns-clause-text g c = grind (arith, marked_reply)
-
-pub returns-clause-lines : goal.returns-clause-lines
-returns-clause-lines g c = grind (arith, marked_reply)

@@ -1,7 +1,5 @@
-use Rattle.query_core.proofs.Words.{arith, collection, map}
+use Rattle.query_core.proofs.Words.{arith, map}
 use Rattle.query_core.specs.declared.fault.AnswerFault.TheVariants as fault
-use Rattle.query_core.proofs.LineReplies.{fault_reply}
-use Rattle.query_core.proofs.ReplyBytes.{gave_page}
 use Rattle.query_core.proofs.SoundIndexes.{no_line_at_fault}
 use Rattle.query_core.proofs.serving.reply_to_query.Goals as goal
 
@@ -10,38 +8,10 @@ returns-in-Err-BadLine-clause-text g c = λ texts indexes known are.
     absurd (no_line_at_fault (map g.S.Source.text c.args.sources.now)
     (fault.BadLine c.in-Err-BadLine.index c.in-Err-BadLine.offset) (grind arith) texts indexes known are)
 
-pub returns-in-Err-BadLine-clause-lines : goal.returns-in-Err-BadLine-clause-lines
-returns-in-Err-BadLine-clause-lines g c = grind (arith, fault_reply)
-
 pub returns-in-Err-OutOfOrder-clause-text : goal.returns-in-Err-OutOfOrder-clause-text
 returns-in-Err-OutOfOrder-clause-text g c = λ texts indexes known are.
     absurd (no_line_at_fault (map g.S.Source.text c.args.sources.now)
     (fault.OutOfOrder c.in-Err-OutOfOrder.index c.in-Err-OutOfOrder.offset) (grind arith) texts indexes known are)
 
-pub returns-in-Err-OutOfOrder-clause-lines : goal.returns-in-Err-OutOfOrder-clause-lines
-returns-in-Err-OutOfOrder-clause-lines g c = grind (arith, fault_reply)
-
 pub returns-in-Err-clause-lines : goal.returns-in-Err-clause-lines
 returns-in-Err-clause-lines g c = grind arith
-
--- ---- what the sources gave
-
-pub returns-in-Ok-clause-bytes : goal.returns-in-Ok-clause-bytes
-returns-in-Ok-clause-bytes g c = λ texts indexes known are.
-    gave_page g.S.Source.extent g.S.Source.gave c.args.query.now (collection indexes) texts indexes c.args.sources.now
-    c.answer.new.sources (c.answer.ensures.reads.bytes texts indexes known are).page
-
-pub returns-in-Err-BadLine-clause-bytes : goal.returns-in-Err-BadLine-clause-bytes
-returns-in-Err-BadLine-clause-bytes g c = λ texts indexes known are.
-    gave_page g.S.Source.extent g.S.Source.gave c.args.query.now (collection indexes) texts indexes c.args.sources.now
-    c.answer.new.sources (c.answer.ensures.reads.bytes texts indexes known are).page
-
-pub returns-in-Err-OutOfOrder-clause-bytes : goal.returns-in-Err-OutOfOrder-clause-bytes
-returns-in-Err-OutOfOrder-clause-bytes g c = λ texts indexes known are.
-    gave_page g.S.Source.extent g.S.Source.gave c.args.query.now (collection indexes) texts indexes c.args.sources.now
-    c.answer.new.sources (c.answer.ensures.reads.bytes texts indexes known are).page
-
-pub returns-in-Err-clause-bytes : goal.returns-in-Err-clause-bytes
-returns-in-Err-clause-bytes g c = λ texts indexes known are.
-    gave_page g.S.Source.extent g.S.Source.gave c.args.query.now (collection indexes) texts indexes c.args.sources.now
-    c.answer.new.sources (c.answer.ensures.reads.bytes texts indexes known are).page

@@ -1,7 +1,7 @@
-use Rattle.query_core.proofs.Words.{◌+◌, ◌-◌, ◌<◌, ◌^◌, ◌≡◌, ◌≤◌, CountsTaken, IsOneReply, IsTextReply, KeepsSources}
-use Rattle.query_core.proofs.Words.{LINE_LIMIT, OverIndexes, QUERY_LIMIT, RepliedSoFar, collection, map, prepend_known}
-use Rattle.query_core.proofs.Words.{reply_of}
+use Rattle.query_core.proofs.Words.{◌+◌, ◌-◌, ◌<◌, ◌^◌, ◌≡◌, ◌≤◌, CountsTaken, IsTextReply, KeepsSources, LINE_LIMIT}
+use Rattle.query_core.proofs.Words.{OverIndexes, QUERY_LIMIT, map, prepend_known}
 use Rattle.query_core.proofs.ReplyBytes.{Spent}
+use Rattle.query_core.proofs.ReplyLemmas.{RepliedSoFar}
 use Rattle.query_core.proofs.serving.serve.Given as goal
 
 abbrev pub invariant-loop-lines : goal.invariant-loop-lines
@@ -15,16 +15,12 @@ invariant-loop-lines g l = record {
       l.lines.taken;
   within : l.lines.taken < 2 ^ 63 - 1;
   fits : l.count ≤ l.lines.taken;
-  told : OverIndexes LINE_LIMIT (map g.S.Source.text l.fn.sources) (λ texts indexes.
-      RepliedSoFar QUERY_LIMIT (IsOneReply (reply_of QUERY_LIMIT (collection indexes))) (g.I.Input.remaining l.fn.input)
-      (prepend_known l.lines.buffer (g.I.Input.remaining l.input)) l.count (g.O.Output.written l.fn.out)
-      (g.O.Output.written l.out));
   any : RepliedSoFar QUERY_LIMIT (IsTextReply (map g.S.Source.text l.fn.sources)) (g.I.Input.remaining l.fn.input)
       (prepend_known l.lines.buffer (g.I.Input.remaining l.input)) l.count (g.O.Output.written l.fn.out)
       (g.O.Output.written l.out);
-  spent : OverIndexes LINE_LIMIT (map g.S.Source.text l.fn.sources) (λ texts indexes.
+  told : OverIndexes LINE_LIMIT (map g.S.Source.text l.fn.sources) (λ texts indexes.
       Spent g.S.Source.extent g.S.Source.gave QUERY_LIMIT (g.I.Input.remaining l.fn.input)
-      (prepend_known l.lines.buffer (g.I.Input.remaining l.input)) texts indexes (g.O.Output.written l.fn.out)
+      (prepend_known l.lines.buffer (g.I.Input.remaining l.input)) l.count texts indexes (g.O.Output.written l.fn.out)
       (g.O.Output.written l.out) l.fn.sources l.sources);
 }
 

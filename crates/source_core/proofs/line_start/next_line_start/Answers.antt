@@ -52,13 +52,10 @@ returns-clause-gave g c = λ t e.
 
 pub returns-in-Some-clause-line : goal.returns-in-Some-clause-line
 returns-in-Some-clause-line g c = λ t e.
-    found_in _ _ _ _ _ _ (piece g (goal.at.returns-in-Some-clause-line g c).After-min-count t e)
-    c.in-Some.feed c.in-Some.ensures.0 c.in-Some.ensures.1
-
-pub returns-in-Some-clause-begins : goal.returns-in-Some-clause-begins
-returns-in-Some-clause-begins g c = λ t e.
-    begins_in _ _ _ _ _ _ (piece g (goal.at.returns-in-Some-clause-begins g c).After-min-count t e)
-    c.in-Some.feed c.in-Some.ensures.0 c.in-Some.ensures.1
+    let there = piece g (goal.at.returns-in-Some-clause-line g c).After-min-count t e in (
+      found_in _ _ _ _ _ _ there c.in-Some.feed c.in-Some.ensures.0 c.in-Some.ensures.1,
+      begins_in _ _ _ _ _ _ there c.in-Some.feed c.in-Some.ensures.0 c.in-Some.ensures.1,
+    )
 
 pub loop-at-preserved : goal.loop-at-preserved
 loop-at-preserved g c = grind (arith, nowhere_in, piece)

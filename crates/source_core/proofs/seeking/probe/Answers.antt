@@ -4,8 +4,5 @@ use Rattle.source_core.proofs.seeking.probe.Goals as goal
 pub returns-in_ok-stops-in-Some-clause-line : goal.returns-in_ok-stops-in-Some-clause-line
 returns-in_ok-stops-in-Some-clause-line g c = λ t e. rw c.in-Some.is at (c.in_ok-offset.ensures.line t e)
 
-pub returns-in_ok-stops-in-Some-clause-begins : goal.returns-in_ok-stops-in-Some-clause-begins
-returns-in_ok-stops-in-Some-clause-begins g c = λ t e. rw c.in-Some.is at (c.in_ok-offset.ensures.begins t e)
-
 pub returns-in_ok-stops-in-Some-clause-stops : goal.returns-in_ok-stops-in-Some-clause-stops
 returns-in_ok-stops-in-Some-clause-stops g c = grind (arith, returns-in_ok-stops-in-Some-clause-line)

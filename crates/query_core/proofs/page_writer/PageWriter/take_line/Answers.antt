@@ -1,5 +1,5 @@
-use Rattle.query_core.proofs.Words.{◌∙◌, ◌≡◌, ap, append-nil, arith, err_from_is_err_and, from_view, grows_by, grows_on}
-use Rattle.query_core.proofs.Words.{grows_part, rules, sym, true≢false}
+use Rattle.query_core.proofs.Words.{◌∙◌, ◌≡◌, ap, append-nil, arith, err_from_is_err_and, from_view, grows_by}
+use Rattle.query_core.proofs.Words.{grows_on, grows_part, rules, sym, true≢false}
 use Rattle.query_core.specs.WriterView.{captures_of}
 use Rattle.query_core.proofs.CaptureLemmas.{captures_append}
 use Rattle.query_core.proofs.PagesLemmas.{stands_front, front_more, capture_stands, capture_front}
