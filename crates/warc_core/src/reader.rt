@@ -110,6 +110,7 @@ impl Reader {
     /// open, it returns 0 and reads nothing.
     ///
     /// Errors are `Read`, `ShortBlock` and `Closing`, at the record's offset.
+    #[inline(always)]
     pub fn finish<I: Input>(&mut self, input: &mut I) -> Result<u64, Fault>
         ensures open { (left len : ℕ) → self.old.phase ≡ Phase.Open left len →
             Finishes left len
