@@ -78,7 +78,7 @@ impl<'f> PageOutput<'f> {
     {
         self.text.clear();
         match self.form {
-            PageForm::Text(fields) => push_text_row(&mut self.text, fields, line)?,
+            PageForm::Text(fields) => push_text_row(&mut self.text, self.alloc, fields, line)?,
             PageForm::Json(fields) => {
                 push_json_row(&mut self.text, self.alloc, fields, &line.values())?
             }

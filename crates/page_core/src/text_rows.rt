@@ -7,7 +7,8 @@ ghost use Rattle.page_core.specs.PageText.{key_lines};
 use crate::escaping::push_escaped;
 use crate::hidden::count_hidden;
 use cdxj_core::{Field, Line, LineRef};
-use std::alloc::AllocError;
+use std::alloc::{AllocError, Global};
+use std::mem;
 
 fn push_later_escaped(text: &mut Vec<u8>, value: &str) -> Result<(), AllocError>
     ensures { IfOk result (λ _. text.new.items
@@ -35,33 +36,41 @@ fn push_text_values(
     Ok(())
 }
 
-// The values of the fields as they stand, with one space between.
-fn push_plain_values(
-    text: &mut Vec<u8>,
+// The text with the values of the fields as they stand, with one space between. It is moved and not
+// borrowed, so that its length need not be written to memory after each value.
+fn with_plain_values(
+    text: Vec<u8>,
     fields: &[Field],
     line: &LineRef<'_>,
-) -> Result<(), AllocError>
-    ensures { IfOk result (λ _. text.new.items
-        ≡ text.old.items ++ join_by (row_value line.now) (codes " ") fields.now) }
+) -> Result<Vec<u8>, AllocError>
+    ensures { IfOk result (λ row.
+        row.items ≡ text.items ++ join_by (row_value line.now) (codes " ") fields.now) }
 {
-    if let Some((first, later)) = fields.split_first() {
-        text.extend_from_slice(line.value(*first).as_bytes())?;
-        for field in later {
-            text.extend_from_slice(b" ")?;
-            text.extend_from_slice(line.value(*field).as_bytes())?;
-        }
+    let mut row = text;
+    let Some((first, later)) = fields.split_first() else {
+        return Ok(row);
+    };
+    row.extend_from_slice(line.value(*first).as_bytes())?;
+    for field in later {
+        row.extend_from_slice(b" ")?;
+        row.extend_from_slice(line.value(*field).as_bytes())?;
     }
-    Ok(())
+    Ok(row)
 }
 
 /// Appends the values of the fields to the text, separated by one space. The values are escaped if
 /// they have hidden bytes, so that the row has more of these than the spaces between its values.
-fn push_values(text: &mut Vec<u8>, fields: &[Field], line: &LineRef<'_>) -> Result<(), AllocError>
+fn push_values(
+    text: &mut Vec<u8>,
+    alloc: Global,
+    fields: &[Field],
+    line: &LineRef<'_>,
+) -> Result<(), AllocError>
     ensures { IfOk result (λ _. text.new.items ≡ text.old.items
         ++ join_by (λ f. escaped (row_value line.now f)) (codes " ") fields.now) }
 {
     let start = text.len();
-    push_plain_values(text, fields, line)?;
+    *text = with_plain_values(mem::replace(text, Vec::new(alloc)), fields, line)?;
     if count_hidden(text, start)? >= fields.len() {
         text.truncate(start);
         push_text_values(text, fields, line)?;
@@ -72,12 +81,13 @@ fn push_values(text: &mut Vec<u8>, fields: &[Field], line: &LineRef<'_>) -> Resu
 /// Appends the values of the fields to the text, separated by one space, and a line feed.
 pub(crate) fn push_text_row(
     text: &mut Vec<u8>,
+    alloc: Global,
     fields: &[Field],
     line: &Line,
 ) -> Result<(), AllocError>
     ensures { IfOk result (λ _. text.new.items ≡ text.old.items ++ text_row fields.now line.now) }
 {
-    push_values(text, fields, &line.values())?;
+    push_values(text, alloc, fields, &line.values())?;
     text.extend_from_slice(b"\n")?;
     Ok(())
 }
