@@ -1,5 +1,5 @@
 //! The line of a record's entry, from texts that are borrowed from its head and its block.
-ghost use Rattle.std.specs.Prelude.{◌≡◌, ◌<◌, ◌≤◌, length, Err, IfOk, IfSome, option_map};
+ghost use Rattle.std.specs.Prelude.{◌≡◌, ◌<◌, length, Err, IfOk, IfSome, option_map};
 ghost use Rattle.cdxj_core.specs.declared.limit.TheConstants.{LINE_LIMIT};
 ghost use Rattle.cdxj_core.specs.Entries.{HasLine, line_text};
 ghost use Rattle.capture_core.specs.Capture.{entry_of, entry_with};

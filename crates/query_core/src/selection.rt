@@ -22,7 +22,6 @@ pub(crate) struct Selection<'q> {
 
 impl<'q> Selection<'q> {
     ghost use Rattle.query_core.specs.Collapsings.{collapsing_after, repeats_part};
-    ghost use Rattle.query_core.specs.PageWriting.{captures_over};
     ghost use Rattle.query_core.specs.WriterView.{Selects, IsSame, captures_of, from_view};
 
     /// Begins after the place of the query's resume key, if it has one.

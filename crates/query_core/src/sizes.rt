@@ -1,5 +1,5 @@
 //! The sizes of pages.
-ghost use Rattle.std.specs.Prelude.{◌≡◌, ◌<◌, nat_lt, true};
+ghost use Rattle.std.specs.Prelude.{◌≡◌, nat_lt, true};
 ghost use Rattle.std.specs.List.{list_all};
 ghost use Rattle.page_core.specs.Pages.{AllPositive, first_size, later_sizes};
 ghost use Rattle.query_core.specs.WrittenPages.{are_sizes};

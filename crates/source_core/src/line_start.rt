@@ -1,5 +1,5 @@
 //! Where lines begin.
-ghost use Rattle.std.specs.Prelude.{◌≡◌, ◌+◌, ◌<◌, ◌≤◌, drop, IfOk, IfSome, IfNone, Some};
+ghost use Rattle.std.specs.Prelude.{◌≡◌, ◌+◌, ◌<◌, ◌≤◌, IfOk, IfSome, IfNone, Some};
 ghost use Rattle.source_core.specs.Device.{OverText, ReadsSource};
 ghost use Rattle.source_core.specs.IndexLines.{lines, from_line, longest, BeginsFrom, IsAmong};
 ghost use Rattle.source_core.specs.Windows.{Holds};

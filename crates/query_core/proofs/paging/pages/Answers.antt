@@ -9,8 +9,7 @@ use Rattle.query_core.proofs.AskedLemmas.{Writing, passed}
 use Rattle.query_core.proofs.PagesExits.{all, all_ended, any_front, at_end, stood_pages}
 use Rattle.query_core.proofs.PagesLemmas.{start_front}
 use Rattle.query_core.proofs.SizeLemmas.{all_positive}
-use Rattle.query_core.proofs.ReachLemmas.{within_opening}
-use Rattle.query_core.proofs.PagesReach.{no_pages_reached, pages_reached}
+use Rattle.query_core.proofs.PagesReach.{pages_reached}
 use Rattle.query_core.proofs.paging.pages.Given.{Over}
 use Rattle.query_core.proofs.paging.pages.Goals.{In_err-writer, In_ok-writer, In_ok-read_lines}
 use Rattle.query_core.proofs.paging.pages.Goals as goal
