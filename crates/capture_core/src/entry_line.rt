@@ -1,7 +1,9 @@
 //! The line of a record's entry, from texts that are borrowed from its head and its block.
-ghost use Rattle.std.specs.Prelude.{◌≡◌, ◌<◌, length, Err, IfOk, IfSome, option_map};
+ghost use Rattle.std.specs.Prelude.{◌≡◌, ◌<◌, length, true, Ok, Err, IfOk, IfSome, option_map};
+ghost use Rattle.std.specs.List.{list_all};
+ghost use Rattle.json.specs.Run.{is_plain};
 ghost use Rattle.cdxj_core.specs.declared.limit.TheConstants.{LINE_LIMIT};
-ghost use Rattle.cdxj_core.specs.Entries.{HasLine, line_text};
+ghost use Rattle.cdxj_core.specs.Entries.{HasLine, HasPlainTexts, line_text};
 ghost use Rattle.capture_core.specs.Capture.{entry_of, entry_with};
 ghost use Rattle.capture_core.specs.ResponseView.{response_view};
 ghost use Rattle.capture_core.specs.Utf8Text.{utf8_text};
@@ -12,7 +14,9 @@ use crate::indexed::IndexedRecord;
 use crate::mime::mime;
 use crate::status::status;
 use crate::utf8_text::{plain_text, utf8_text};
-use cdxj_core::{EntryRef, KeyFault, LineFault, url_key};
+use cdxj_core::{
+    EntryRef, KeyFault, KeylessEntry, LineFault, plain_ascii, url_key, url_key_with_room,
+};
 use std::alloc::{AllocError, Global};
 
 /// Why the line of an entry could not be written.
@@ -70,8 +74,8 @@ pub(crate) fn entry_line(
 {
     let media = mime(indexed.head, response);
     let status = status(response);
-    match plain_texts(indexed.url, media, status.as_str(), digest) {
-        Some(texts) => line_of_texts(alloc, indexed, texts),
+    match plain_texts(indexed, media, status.as_str(), digest) {
+        Some(texts) => plain_line(alloc, indexed, texts),
         None => {
             let url = utf8_text(alloc, indexed.url)?;
             let mime = utf8_text(alloc, media)?;
@@ -96,24 +100,68 @@ struct EntryTexts<'a> {
     digest: &'a str,
 }
 
-/// Returns the texts of an entry, if each value is UTF-8, as in most entries.
+/// Returns the texts of an entry if none of them needs an escape, nor does the archive's name, as in
+/// most entries.
 fn plain_texts<'a>(
-    url: &'a [u8],
+    indexed: IndexedRecord<'a>,
     mime: &'a [u8],
     status: &'a str,
     digest: &'a [u8],
 ) -> Option<EntryTexts<'a>>
-    ensures url { IfSome result (λ t. t.url.now ≡ utf8_text url.now) }
+    requires { list_all is_plain status.now ≡ true }
+    ensures url { IfSome result (λ t. t.url.now ≡ utf8_text indexed.entry.url.now) }
     ensures mime { IfSome result (λ t. t.mime.now ≡ utf8_text mime.now) }
     ensures status { IfSome result (λ t. t.status.now ≡ status.now) }
     ensures digest { IfSome result (λ t. t.digest.now ≡ utf8_text digest.now) }
+    ensures plain { IfSome result (λ t. HasPlainTexts (entry_with indexed.entry.head.now
+        indexed.entry.name.now t.url.now t.mime.now t.status.now t.digest.now)) }
 {
+    let _name = plain_ascii(indexed.name.as_bytes())?;
     Some(EntryTexts {
-        url: plain_text(url)?,
+        url: plain_text(indexed.url)?,
         mime: plain_text(mime)?,
         status,
         digest: plain_text(digest)?,
     })
+}
+
+/// Like `line_of_texts`, from texts that need no escapes.
+fn plain_line(
+    alloc: Global,
+    indexed: IndexedRecord<'_>,
+    texts: EntryTexts<'_>,
+) -> Result<HeldLine, LineRefused>
+    requires named { 0 < length indexed.name.now }
+    requires url { 0 < length texts.url.now }
+    requires mime { 0 < length texts.mime.now }
+    requires status { 0 < length texts.status.now }
+    requires digest { 0 < length texts.digest.now }
+    requires plain { HasPlainTexts (entry_with indexed.head.now indexed.name.now texts.url.now
+        texts.mime.now texts.status.now texts.digest.now) }
+    ensures value { IfOk result (λ held. held
+        ≡ entry_with indexed.entry.head.now indexed.entry.name.now texts.entry.url.now
+        texts.entry.mime.now texts.entry.status.now texts.entry.digest.now) }
+    ensures line { IfOk result (HasLine LINE_LIMIT) }
+    ensures long { result ≡ Err LineRefused.LineTooLong → LINE_LIMIT < length (line_text
+        (entry_with indexed.entry.head.now indexed.entry.name.now texts.entry.url.now
+        texts.entry.mime.now texts.entry.status.now texts.entry.digest.now)) }
+{
+    let entry = KeylessEntry {
+        stamp: indexed.head.stamp(),
+        url: texts.url,
+        mime: texts.mime,
+        status: texts.status,
+        digest: texts.digest,
+        length: indexed.head.record_length(),
+        offset: indexed.head.start(),
+        filename: indexed.name(),
+    };
+    // A plain URL is longer than its key.
+    let room = entry.room().saturating_add(texts.url.len());
+    let key = url_key_with_room(alloc, texts.url, room)?;
+    // For the proof alone: a key is UTF-8.
+    let _text = key.as_str();
+    held(HeldLine::plain(key, entry))
 }
 
 /// Writes the line of the record with this head, from its texts and the archive's name.
@@ -147,7 +195,15 @@ fn line_of_texts(
         offset: indexed.head.start(),
         filename: indexed.name(),
     };
-    match HeldLine::new(alloc, entry) {
+    held(HeldLine::new(alloc, entry))
+}
+
+/// Returns a line, or why it could not be written.
+fn held(written: Result<HeldLine, LineFault>) -> Result<HeldLine, LineRefused>
+    ensures value { IfOk result (λ line. written ≡ Ok line) }
+    ensures long { result ≡ Err LineRefused.LineTooLong → written ≡ Err LineFault.LineTooLong }
+{
+    match written {
         Ok(line) => Ok(line),
         Err(LineFault::LineTooLong) => Err(LineRefused::LineTooLong),
         Err(_) => Err(LineRefused::Memory),

@@ -1,5 +1,8 @@
 //! Captures, held as their lines.
-use cdxj_core::{Entry, EntryRef, HasPlace, Line, LineFault, write_entry, written_line_is_read};
+use cdxj_core::{
+    Entry, EntryRef, HasPlace, KeylessEntry, Line, LineFault, write_entry, write_plain_entry,
+    written_line_is_read,
+};
 use memchr::{memchr, memrchr};
 use std::alloc::{AllocError, Global};
 use std::cmp::Ordering;
@@ -29,9 +32,9 @@ impl Model for HeldLine {
 }
 
 impl HeldLine {
-    ghost use Rattle.std.specs.Prelude.{◌≡◌, ◌<◌, length, Err, IfOk};
+    ghost use Rattle.std.specs.Prelude.{◌≡◌, ◌<◌, length, string_bytes, Err, IfOk};
     ghost use Rattle.cdxj_core.specs.declared.limit.TheConstants.{LINE_LIMIT};
-    ghost use Rattle.cdxj_core.specs.Entries.{IsGood, HasLine, entry_view, line_text};
+    ghost use Rattle.cdxj_core.specs.Entries.{IsGood, HasLine, HasPlainTexts, entry_view, keyed_view, line_text};
 
     /// Writes the line of a good entry.
     ///
@@ -44,6 +47,23 @@ impl HeldLine {
             → LINE_LIMIT < length (line_text (entry_view entry.entry)) }
     {
         let mut bytes = write_entry(alloc, entry)?;
+        keep_name(&mut bytes, entry.filename.as_bytes())?;
+        Ok(HeldLine {
+            bytes,
+            offset: entry.offset,
+        })
+    }
+
+    /// Like `new`, in the memory of the entry's key. No text of the entry needs an escape.
+    pub(crate) fn plain(key: String, entry: KeylessEntry<'_>) -> Result<HeldLine, LineFault>
+        requires good { IsGood (keyed_view (string_bytes key) entry) }
+        requires plain { HasPlainTexts (keyed_view (string_bytes key) entry) }
+        ensures value { IfOk result (λ held. held ≡ keyed_view (string_bytes key) entry.entry) }
+        ensures line { IfOk result (HasLine LINE_LIMIT) }
+        ensures long { result ≡ Err LineFault.LineTooLong
+            → LINE_LIMIT < length (line_text (keyed_view (string_bytes key) entry.entry)) }
+    {
+        let mut bytes = write_plain_entry(key, entry)?;
         keep_name(&mut bytes, entry.filename.as_bytes())?;
         Ok(HeldLine {
             bytes,

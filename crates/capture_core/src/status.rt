@@ -1,5 +1,7 @@
 //! The status of a capture.
-ghost use Rattle.std.specs.Prelude.{◌≡◌, ◌+◌, ◌<◌, IfSome, option_map};
+ghost use Rattle.std.specs.Prelude.{◌≡◌, ◌+◌, ◌<◌, true, IfSome, option_map};
+ghost use Rattle.std.specs.List.{list_all};
+ghost use Rattle.json.specs.Run.{is_plain};
 ghost use Rattle.capture_core.specs.Capture.{status_of, three_digits};
 ghost use Rattle.capture_core.specs.ResponseView.{response_view};
 
@@ -19,7 +21,8 @@ fn digit(value: u16) -> char
 
 fn three_digits(code: u16) -> Status
     requires { code < 1000 }
-    ensures { result.bytes ≡ three_digits code }
+    ensures digits { result.bytes ≡ three_digits code }
+    ensures plain { list_all is_plain result.bytes ≡ true }
 {
     let mut text = Status::new();
     text.push(digit(code / 100));
@@ -31,7 +34,8 @@ fn three_digits(code: u16) -> Status
 /// Returns the HTTP head's status code in three digits, or `-` if there is no HTTP head.
 pub(crate) fn status(response: Option<HttpHead<'_>>) -> Status
     requires { IfSome response (λ r. r.code < 1000) }
-    ensures { result.bytes ≡ status_of (option_map response_view response.entry) }
+    ensures value { result.bytes ≡ status_of (option_map response_view response.entry) }
+    ensures plain { list_all is_plain result.bytes ≡ true }
 {
     match response {
         Some(response) => three_digits(response.code),

@@ -1,8 +1,11 @@
 //! The texts of an entry, from bytes that may not be UTF-8.
-ghost use Rattle.std.specs.Prelude.{◌≡◌, IfOk, IfSome};
+ghost use Rattle.std.specs.Prelude.{◌≡◌, true, IfOk, IfSome};
+ghost use Rattle.std.specs.List.{list_all};
 ghost use Rattle.std.specs.Cow.{cow_str_bytes};
+ghost use Rattle.json.specs.Run.{is_plain};
 ghost use Rattle.capture_core.specs.Utf8Text.{utf8_text};
 
+use cdxj_core::plain_ascii;
 use percent_encoding::{AsciiSet, percent_encode};
 use std::alloc::{AllocError, Global};
 use std::borrow::CowStr;
@@ -18,13 +21,11 @@ pub(crate) fn utf8_text(alloc: Global, value: &[u8]) -> Result<CowStr<'_>, Alloc
     }
 }
 
-/// Returns the text of a value in UTF-8.
+/// Returns the text of a value, if it is ASCII and needs no escapes in a line.
 #[tactic(auto, unfolding(crate::specs::Utf8Text::utf8_text))]
 pub(crate) fn plain_text(value: &[u8]) -> Option<&str>
-    ensures { IfSome result (λ text. text.now ≡ utf8_text value.now) }
+    ensures value { IfSome result (λ text. text.now ≡ utf8_text value.now) }
+    ensures plain { IfSome result (λ text. list_all is_plain text.now ≡ true) }
 {
-    match str::from_utf8(value) {
-        Ok(text) => Some(text),
-        Err(_) => None,
-    }
+    plain_ascii(value)
 }

@@ -1,6 +1,8 @@
 -- Entries, and the line that an index has of one.
 use Rattle.std.specs.Prelude.{◌≡◌, ℕ, ◌^◌, ◌<◌, ◌≤◌, true, List, [], ◌∷◌, ◌++◌, length, decimal}
+use Rattle.std.specs.List.{list_all}
 use Rattle.std.specs.Str.{IsUtf8}
+use Rattle.json.specs.Run.{is_plain}
 use Rattle.cdxj_places.specs.Bytes.{line_feed, space}
 use Rattle.cdxj_places.specs.Pair.{is_key, is_stamp}
 use Rattle.cdxj_places.specs.Pairs.{Pair}
@@ -8,6 +10,7 @@ use Rattle.cdxj_places.specs.Places.{PlaceValue}
 use Rattle.cdxj_objects.specs.Objects.{object_text}
 use Rattle.cdxj_objects.specs.Texts.{TextsValue, text_members}
 use Rattle.cdxj_core.specs.declared.entry.EntryRef.{EntryRef}
+use Rattle.cdxj_core.specs.declared.keyless.KeylessEntry.{KeylessEntry}
 
 -- what an index says of a capture: texts as the lists of their bytes, length and offset in bytes
 pub record EntryValue : Type 0 where
@@ -25,6 +28,20 @@ pub record EntryValue : Type 0 where
 abbrev pub entry_view : EntryRef → EntryValue
 entry_view e = record {
   key = e.key.now;
+  stamp = e.stamp;
+  url = e.url.now;
+  mime = e.mime.now;
+  status = e.status.now;
+  digest = e.digest.now;
+  length = e.length;
+  offset = e.offset;
+  filename = e.filename.now;
+}
+
+-- what contracts see of a key, and of an entry without one
+abbrev pub keyed_view : List ℕ → KeylessEntry → EntryValue
+keyed_view key e = record {
+  key = key;
   stamp = e.stamp;
   url = e.url.now;
   mime = e.mime.now;
@@ -61,6 +78,14 @@ pub record IsGood (e : EntryValue) : Type 0 where
   pub offset : e.offset < 2 ^ 63
   pub filename : 0 < length e.filename
   pub utf8_filename : IsUtf8 e.filename
+
+-- an entry whose texts need no escapes in its line
+pub record HasPlainTexts (e : EntryValue) : Type 0 where
+  pub url : list_all is_plain e.url ≡ true
+  pub mime : list_all is_plain e.mime ≡ true
+  pub status : list_all is_plain e.status ≡ true
+  pub digest : list_all is_plain e.digest ≡ true
+  pub filename : list_all is_plain e.filename ≡ true
 
 abbrev pub entry_place : EntryValue → PlaceValue
 entry_place e = record { key = e.key; stamp = e.stamp; filename = e.filename; offset = e.offset }

@@ -1,7 +1,7 @@
 //! The entry of a capture in an index, with its own texts or borrowed ones.
 use crate::field::Field;
 use crate::line_ref::LineRef;
-use cdxj_objects::{Members, is_plain_text};
+use cdxj_objects::Members;
 use cdxj_places::{HasPlace, Pair, Place, is_key, is_stamp};
 use std::alloc::{AllocError, Global};
 use std::cmp::Ordering;
@@ -174,7 +174,6 @@ pub struct EntryRef<'a> {
 
 impl<'a> EntryRef<'a> {
     ghost use Rattle.std.specs.Prelude.{◌≡◌, ◌↔◌, IsTrue};
-    ghost use Rattle.cdxj_objects.specs.Plain.{ArePlain};
     ghost use Rattle.cdxj_objects.specs.Texts.{borrowed_view};
     ghost use Rattle.cdxj_core.specs.Entries.{IsGood, entry_texts, entry_view};
 
@@ -195,19 +194,5 @@ impl<'a> EntryRef<'a> {
             offset,
             filename: self.filename,
         }
-    }
-
-    /// Returns `true` if no text of the entry's line needs an escape. Numbers are digits, which
-    /// never need one.
-    #[tactic(auto, using(cdxj_objects::proofs::PlainBytes::plain_decimal))]
-    pub(crate) fn has_plain_texts(self) -> bool
-        requires { IsGood (entry_view self) }
-        ensures { IsTrue result ↔ ArePlain (entry_texts (entry_view self.entry)) }
-    {
-        is_plain_text(self.url.as_bytes())
-            && is_plain_text(self.mime.as_bytes())
-            && is_plain_text(self.status.as_bytes())
-            && is_plain_text(self.digest.as_bytes())
-            && is_plain_text(self.filename.as_bytes())
     }
 }

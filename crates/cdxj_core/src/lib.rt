@@ -8,6 +8,7 @@ mod body;
 mod entry;
 mod fault;
 mod field;
+mod keyless;
 mod laws;
 mod limit;
 mod line;
@@ -19,6 +20,7 @@ mod writing;
 pub use crate::entry::{Entry, EntryRef};
 pub use crate::fault::LineFault;
 pub use crate::field::{Field, field_name, field_named};
+pub use crate::keyless::KeylessEntry;
 pub use crate::laws::{
     index_has_one_list_of_members, key_and_file_name_are_no_longer_than_their_line,
     line_begins_with_its_pair, line_stays_under_higher_limit, long_line_has_no_entry,
@@ -27,9 +29,11 @@ pub use crate::laws::{
 pub use crate::limit::LINE_LIMIT;
 pub use crate::line::Line;
 pub use crate::line_ref::LineRef;
-pub use crate::writing::{write_entry, write_line};
-pub use cdxj_keys::{KeyFault, host_key, host_key_begins_key, parsed_url_key, url_key};
-pub use cdxj_objects::{push_quoted, unescaped_length};
+pub use crate::writing::{write_entry, write_line, write_plain_entry};
+pub use cdxj_keys::{
+    KeyFault, host_key, host_key_begins_key, parsed_url_key, url_key, url_key_with_room,
+};
+pub use cdxj_objects::{plain_ascii, push_quoted, unescaped_length};
 pub use cdxj_places::{
     HasPlace, LEAST_PAIR, OwnedPlace, Pair, Place, PlaceFault, in_order, is_key, is_stamp,
     longer_text_has_the_pair, pairs_are_ordered, place_is_good, places_are_ordered, read_offset,

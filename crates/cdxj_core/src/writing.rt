@@ -1,38 +1,36 @@
 //! The writing of an entry's line.
-ghost use Rattle.std.specs.Prelude.{◌≡◌, ◌≢◌, ◌<◌, ◌≤◌, ◌++◌, [], ◌∷◌, length, IfOk, MatchResult};
-ghost use Rattle.cdxj_core.specs.Entries.{IsGood, entry_view, line_text};
+ghost use Rattle.std.specs.Prelude.{◌≡◌, ◌≢◌, ◌<◌, ◌≤◌, ◌++◌, [], ◌∷◌, length, string_bytes, IfOk, MatchResult};
+ghost use Rattle.cdxj_core.specs.Entries.{HasPlainTexts, IsGood, entry_view, keyed_view, line_text};
 
 use crate::entry::{Entry, EntryRef};
 use crate::fault::LineFault;
+use crate::keyless::{KeylessEntry, LINE_FRAME};
 use crate::limit::LINE_LIMIT;
-use crate::spans::TO_OBJECT;
-use cdxj_objects::{FRAME, Members, push_object};
+use cdxj_objects::{Members, push_object, push_plain_object};
 use itoa::Buffer;
 use std::alloc::{AllocError, Global};
 
-fn push_pair(line: &mut Vec<u8>, key: &str, stamp: &[u8; 14]) -> Result<(), AllocError>
-    ensures { IfOk result (λ _. line.new.items
-        ≡ line.old.items ++ (key.now ++ 32 ∷ (stamp.now ++ 32 ∷ []))) }
+/// Appends the stamp of a line to its key, with a space on both sides.
+fn push_stamp(line: &mut Vec<u8>, stamp: &[u8; 14]) -> Result<(), AllocError>
+    ensures { IfOk result (λ _. line.new.items ≡ line.old.items ++ 32 ∷ (stamp.now ++ 32 ∷ [])) }
 {
-    line.extend_from_slice(key.as_bytes())?;
     line.push(b' ')?;
     line.extend_from_slice(stamp)?;
     line.push(b' ')?;
     Ok(())
 }
 
-/// The length of what a line has beside its key and its texts, in bytes.
-const LINE_FRAME: usize = TO_OBJECT + FRAME + 1;
-
-// An empty line with room for one of this key and these texts, where none needs an escape.
-fn room(alloc: Global, key: &str, texts: &Members<&str>) -> Result<Vec<u8>, AllocError>
-    ensures { IfOk result (λ line. line.items ≡ []) }
+// The key, with room for the line of these texts, where none needs an escape.
+fn key_with_room(alloc: Global, key: &str, texts: &Members<&str>) -> Result<Vec<u8>, AllocError>
+    ensures { IfOk result (λ line. line.items ≡ key.now) }
 {
     let length = texts
         .total_length()
         .saturating_add(key.len())
         .saturating_add(LINE_FRAME);
-    Ok(Vec::with_capacity(alloc, length.min(LINE_LIMIT))?)
+    let mut line = Vec::with_capacity(alloc, length.min(LINE_LIMIT))?;
+    line.extend_from_slice(key.as_bytes())?;
+    Ok(line)
 }
 
 fn line_bytes(alloc: Global, entry: EntryRef<'_>) -> Result<Vec<u8>, AllocError>
@@ -42,10 +40,53 @@ fn line_bytes(alloc: Global, entry: EntryRef<'_>) -> Result<Vec<u8>, AllocError>
     let mut length = Buffer::new();
     let mut offset = Buffer::new();
     let texts = entry.members(length.format(entry.length), offset.format(entry.offset));
-    let mut line = room(alloc, entry.key, &texts)?;
-    push_pair(&mut line, entry.key, &entry.stamp)?;
-    push_object(&mut line, alloc, texts, entry.has_plain_texts())?;
+    let mut line = key_with_room(alloc, entry.key, &texts)?;
+    push_stamp(&mut line, &entry.stamp)?;
+    push_object(&mut line, alloc, texts)?;
     line.push(b'\n')?;
+    Ok(line)
+}
+
+fn plain_line_bytes(key: String, entry: KeylessEntry<'_>) -> Result<Vec<u8>, AllocError>
+    requires good { IsGood (keyed_view (string_bytes key) entry) }
+    requires plain { HasPlainTexts (keyed_view (string_bytes key) entry) }
+    ensures { IfOk result (λ line. line.items
+        ≡ line_text (keyed_view (string_bytes key) entry.entry)) }
+{
+    let mut length = Buffer::new();
+    let mut offset = Buffer::new();
+    let texts = entry.members(length.format(entry.length), offset.format(entry.offset));
+    let mut line = key.into_bytes();
+    push_stamp(&mut line, &entry.stamp)?;
+    push_plain_object(&mut line, texts)?;
+    line.push(b'\n')?;
+    Ok(line)
+}
+
+/// Writes the line of a good entry behind its key, in the key's memory. No text of the entry needs an
+/// escape. Errors are those of `write_line`.
+pub fn write_plain_entry(key: String, entry: KeylessEntry<'_>) -> Result<Vec<u8>, LineFault>
+    requires good { IsGood (keyed_view (string_bytes key) entry) }
+    requires plain { HasPlainTexts (keyed_view (string_bytes key) entry) }
+    ensures { MatchResult result
+        (λ line. (line.items ≡ line_text (keyed_view (string_bytes key) entry.entry))
+        × (length line.items ≤ LINE_LIMIT))
+        (λ fault. (fault ≡ LineFault.LineTooLong
+        → LINE_LIMIT < length (line_text (keyed_view (string_bytes key) entry.entry)))
+        × (fault ≢ LineFault.BadLine)) }
+{
+    within_limit(plain_line_bytes(key, entry)?)
+}
+
+/// Returns a line, if it isn't longer than `LINE_LIMIT`.
+fn within_limit(line: Vec<u8>) -> Result<Vec<u8>, LineFault>
+    ensures { MatchResult result
+        (λ kept. (kept ≡ line) × (length kept.items ≤ LINE_LIMIT))
+        (λ fault. (fault ≡ LineFault.LineTooLong) × (LINE_LIMIT < length line.items)) }
+{
+    if line.len() > LINE_LIMIT {
+        return Err(LineFault::LineTooLong);
+    }
     Ok(line)
 }
 
@@ -60,11 +101,7 @@ pub fn write_entry(alloc: Global, entry: EntryRef<'_>) -> Result<Vec<u8>, LineFa
         → LINE_LIMIT < length (line_text (entry_view entry.entry)))
         × (fault ≢ LineFault.BadLine)) }
 {
-    let line = line_bytes(alloc, entry)?;
-    if line.len() > LINE_LIMIT {
-        return Err(LineFault::LineTooLong);
-    }
-    Ok(line)
+    within_limit(line_bytes(alloc, entry)?)
 }
 
 /// Writes the line of a good entry, with its line feed: the key, the stamp and a JSON object with

@@ -11,7 +11,7 @@ use std::alloc::{AllocError, Global};
 use url::Url;
 
 // Room for most keys before they are folded: a key's text goes on after its host.
-const ROOM: usize = 192;
+pub(crate) const ROOM: usize = 192;
 
 fn is_www(label: &[u8]) -> bool
     ensures { result ≡ is_www label.now }
@@ -65,11 +65,11 @@ fn push_domain(text: &mut Vec<u8>, domain: &[u8]) -> Result<(), AllocError>
     push_reversed(text, without_www(without_last_dot(domain)))
 }
 
-/// Returns the text of a domain, with room for a key.
-pub(crate) fn domain_text(alloc: Global, domain: &[u8]) -> Result<Vec<u8>, AllocError>
+/// Returns the text of a domain, in memory of this many bytes if it has no more.
+pub(crate) fn domain_text(alloc: Global, domain: &[u8], room: usize) -> Result<Vec<u8>, AllocError>
     ensures { IfOk result (λ text. text.items ≡ domain_text domain.now) }
 {
-    let mut text = Vec::with_capacity(alloc, ROOM)?;
+    let mut text = Vec::with_capacity(alloc, room)?;
     push_domain(&mut text, domain)?;
     Ok(text)
 }

@@ -9,7 +9,7 @@ ghost use Rattle.cdxj_keys.specs.PlainUrls.{plain_key_text};
 ghost use Rattle.cdxj_keys.specs.Key.{port_text, query_text, is_web, web_text, key_text, is_graphic, key_byte, folded, key_of, host_key_of};
 
 use crate::fault::KeyFault;
-use crate::host::{domain_text, host_text};
+use crate::host::{ROOM, domain_text, host_text};
 use crate::plain_url::{PlainUrl, plain_url};
 use itoa::Buffer;
 use std::alloc::{AllocError, Global};
@@ -99,12 +99,12 @@ fn target_key(alloc: Global, target: &str) -> Result<String, AllocError>
 }
 
 /// Returns the key of a URL that the parser leaves as it is.
-fn plain_key(alloc: Global, url: PlainUrl<'_>) -> Result<String, AllocError>
+fn plain_key(alloc: Global, url: PlainUrl<'_>, room: usize) -> Result<String, AllocError>
     ensures value { IfOk result (λ key. string_bytes key
         ≡ folded (plain_key_text url.entry.host.now url.entry.tail.now)) }
     ensures key { IfOk result (λ key. is_key (string_bytes key) ≡ true) }
 {
-    let mut text = domain_text(alloc, url.host.as_bytes())?;
+    let mut text = domain_text(alloc, url.host.as_bytes(), room)?;
     text.push(b')')?;
     text.extend_from_slice(url.tail.as_bytes())?;
     key_from(alloc, text)
@@ -178,8 +178,16 @@ pub fn url_key(alloc: Global, target: &str) -> Result<String, KeyFault>
     ensures value { IfOk result (λ key. string_bytes key ≡ key_of target.now) }
     ensures key { IfOk result (λ key. 0 < length target.now → is_key (string_bytes key) ≡ true) }
 {
+    url_key_with_room(alloc, target, ROOM)
+}
+
+/// Like `url_key`. In most cases, the key's memory is this many bytes.
+pub fn url_key_with_room(alloc: Global, target: &str, room: usize) -> Result<String, KeyFault>
+    ensures value { IfOk result (λ key. string_bytes key ≡ key_of target.now) }
+    ensures key { IfOk result (λ key. 0 < length target.now → is_key (string_bytes key) ≡ true) }
+{
     match plain_url(target) {
-        Some(url) => Ok(plain_key(alloc, url)?),
+        Some(url) => Ok(plain_key(alloc, url, room)?),
         None => any_url_key(alloc, target),
     }
 }

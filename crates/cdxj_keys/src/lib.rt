@@ -10,5 +10,5 @@ mod laws;
 mod plain_url;
 
 pub use crate::fault::KeyFault;
-pub use crate::key::{host_key, parsed_url_key, url_key};
+pub use crate::key::{host_key, parsed_url_key, url_key, url_key_with_room};
 pub use crate::laws::host_key_begins_key;

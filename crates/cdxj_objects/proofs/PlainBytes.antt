@@ -1,14 +1,15 @@
 -- Plain bytes are those that are no quote, no backslash and no control.
 use Rattle.std.proofs.lemmas.Grind.{common_steps}
 use Rattle.std.proofs.Common.{◌≡◌, ℕ, ◌<◌, ◌^◌, decimal, Bool, true, ◌&&◌, List}
-use Rattle.std.proofs.Common.{[], ◌∷◌, refl, arith}
+use Rattle.std.proofs.Common.{[], ◌∷◌, nat_lt, refl, arith, IsUtf8}
 use Rattle.std.specs.List.{list_all}
 use Rattle.std.specs.Char.{is_ascii_digit}
 use Rattle.std.proofs.lemmas.Bool.Decides.{nat_tests}
 use Rattle.std.proofs.lemmas.Fmt.{digits_decimal}
 use Rattle.json.specs.Run.{is_plain}
+use Rattle.json.proofs.Printed.Utf8.{IsUtf8-are_ascii}
 use Rattle.cdxj_objects.specs.Texts.{TextsValue}
-use Rattle.cdxj_objects.specs.Plain.{is_open, is_unescaped, AreOpen, ArePlain, plain_text}
+use Rattle.cdxj_objects.specs.Plain.{is_open, is_plain_ascii, is_unescaped, AreOpen, ArePlain, plain_text}
 use Rattle.cdxj_places.proofs.Offsets.{own}
 
 -- what passes a test passes a weaker one
@@ -31,6 +32,20 @@ plain_from xs h k = grind (arith, list_all_plain)
 
 pub plain_where_unescaped : (t : TextsValue) → AreOpen t → list_all is_unescaped (plain_text t) ≡ true → ArePlain t
 plain_where_unescaped t h k = grind (arith, common_steps, plain_from)
+
+-- ---- plain ASCII
+
+plain_ascii_byte : (b : ℕ) → is_plain_ascii b ≡ true → is_plain b ≡ true
+plain_ascii_byte b h = grind arith
+
+ascii_byte : (b : ℕ) → is_plain_ascii b ≡ true → nat_lt b 128 ≡ true
+ascii_byte b h = grind arith
+
+pub ascii_is_plain : (xs : List ℕ) → list_all is_plain_ascii xs ≡ true → list_all is_plain xs ≡ true
+ascii_is_plain = weaker is_plain_ascii is_plain plain_ascii_byte
+
+pub ascii_is_utf8 : (xs : List ℕ) → list_all is_plain_ascii xs ≡ true → IsUtf8 xs
+ascii_is_utf8 xs h = grind (arith, IsUtf8-are_ascii, weaker is_plain_ascii (λ b. nat_lt b 128) ascii_byte)
 
 -- ---- numbers
 

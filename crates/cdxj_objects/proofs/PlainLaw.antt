@@ -1,6 +1,6 @@
 -- What a plain object is read as.
 use Rattle.std.proofs.Common.{◌≡◌, ℕ, true, List, [], ◌∷◌, ◌++◌}
-use Rattle.std.proofs.Common.{Some, append_assoc, flat_map, codes, refl, ap, subst, ◌∙◌, arith}
+use Rattle.std.proofs.Common.{Some, append_assoc, flat_map, codes, refl, sym, ap, subst, ◌∙◌, arith}
 use Rattle.std.specs.List.{list_all}
 use Rattle.json.specs.Print.{quoted, escape}
 use Rattle.json.specs.Run.{is_plain}
@@ -53,6 +53,9 @@ object_is m ms h = grind (arith, append_assoc, rest_is, escape_plain, regroup)
 
 pub escaped_text_is : (t : TextsValue) → plain_text (map_members escape t) ≡ object_text (text_members t)
 escaped_text_is t = grind (arith, object_is (first_of t) (later_of t))
+
+pub plain_text_is : (t : TextsValue) → ArePlain t → plain_text t ≡ object_text (text_members t)
+plain_text_is t h = ap plain_text (sym (escape_texts t h)) ∙ escaped_text_is t
 
 pub read_plain : (t : TextsValue) → ArePlain t → read (plain_text t) ≡ Some (data_of t)
 read_plain t h = subst (λ s. read (plain_text s) ≡ Some (data_of t)) (escape_texts t h)

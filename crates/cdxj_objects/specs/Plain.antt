@@ -24,6 +24,10 @@ is_unescaped b = nat_le space b && not (b == backslash)
 abbrev pub is_unescaped_ascii : ℕ → Bool
 is_unescaped_ascii b = is_unescaped b && nat_lt b 128
 
+-- the same, without a quote
+abbrev pub is_plain_ascii : ℕ → Bool
+is_plain_ascii b = is_plain b && nat_lt b 128
+
 -- no text has a quote
 abbrev pub AreOpen : TextsValue → Type 0
 AreOpen = AllMembers (λ s. list_all is_open s ≡ true)

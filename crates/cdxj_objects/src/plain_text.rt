@@ -1,7 +1,8 @@
 //! Texts that need no escapes between their quotes: no quote, no backslash, no control.
-ghost use Rattle.std.specs.Prelude.{◌≡◌};
+ghost use Rattle.std.specs.Prelude.{◌≡◌, true, IfSome};
 ghost use Rattle.std.specs.List.{list_all};
 ghost use Rattle.json.specs.Run.{is_plain};
+ghost use Rattle.cdxj_objects.specs.Plain.{is_plain_ascii};
 
 /// Returns `true` if JSON writes the text between quotes without escapes. It is one pass without an
 /// early exit, which compiles to vector tests.
@@ -13,4 +14,27 @@ pub fn is_plain_text(text: &[u8]) -> bool
         good &= !(*byte == b'"' || *byte == b'\\' || *byte < b' ');
     }
     good
+}
+
+/// Returns `true` if the text is ASCII and plain, in one pass like that of `is_plain_text`.
+fn is_plain_ascii(text: &[u8]) -> bool
+    ensures { result ≡ list_all is_plain_ascii text.now }
+{
+    let mut good = true;
+    for byte in text {
+        good &= *byte < 0x80 && !(*byte == b'"' || *byte == b'\\' || *byte < b' ');
+    }
+    good
+}
+
+/// Returns the text, if it is ASCII and JSON writes it between quotes without escapes.
+pub fn plain_ascii(text: &[u8]) -> Option<&str>
+    ensures value { IfSome result (λ t. t.now ≡ text.now) }
+    ensures plain { IfSome result (λ t. list_all is_plain t.now ≡ true) }
+{
+    if is_plain_ascii(text) {
+        Some(unsafe { str::from_utf8_unchecked(text) })
+    } else {
+        None
+    }
 }

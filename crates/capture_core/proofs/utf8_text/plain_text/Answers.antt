@@ -3,6 +3,6 @@ use Rattle.std.proofs.Common.{arith}
 use Rattle.capture_core.specs.Utf8Text.{utf8_text}
 use Rattle.capture_core.proofs.utf8_text.plain_text.Goals as goal
 
-pub returns-in-Ok : goal.returns-in-Ok
+pub returns-clause-value : goal.returns-clause-value
 unfolding utf8_text
-returns-in-Ok c = grind (arith, is_utf8-from_IsUtf8)
+returns-clause-value c = grind (arith, is_utf8-from_IsUtf8)

@@ -9,5 +9,5 @@ pub returns : goal.returns
 returns c =
     let e = entry_view c.args.entry in
     let same : borrowed_view c.members-texts.result ≡ entry_texts e = grind arith in
-    joined_line e.key e.stamp _ _ _ _ _ c.in_ok-line.ensures c.in_ok-push_pair.ensures c.in_ok-push_object.ensures
+    joined_line e.key e.stamp _ _ _ _ _ c.in_ok-line.ensures c.in_ok-push_stamp.ensures c.in_ok-push_object.ensures
     c.in_ok-push.ensures.items ∙ ap (λ t. line_with e.key e.stamp (object_text (text_members t))) same

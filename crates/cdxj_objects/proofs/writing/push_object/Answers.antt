@@ -4,7 +4,7 @@ use Rattle.cdxj_objects.specs.ObjectMembers.{map_members}
 use Rattle.cdxj_objects.specs.Plain.{plain_pieces}
 use Rattle.cdxj_objects.specs.Texts.{borrowed_view}
 use Rattle.cdxj_objects.proofs.PlainLaw.{escaped_text_is, in_one}
-use Rattle.cdxj_objects.proofs.writing.push_members.Goals as goal
+use Rattle.cdxj_objects.proofs.writing.push_object.Goals as goal
 
 pub returns : goal.returns
 returns c =
