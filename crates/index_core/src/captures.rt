@@ -82,7 +82,7 @@ pub fn add_captures<I: Input>(
         match next_capture(alloc, front, &mut reader, input, name, types) {
             Ok(None) => return Ok((captures.len() - held) as u64),
             Ok(Some((head, captured))) => match keep(captures, captured) {
-                Ok(()) => {}
+                Ok(()) => reader.recycle(head),
                 Err(_) => {
                     return Err(CaptureFault::Archive(Fault {
                         offset: head.start(),

@@ -38,6 +38,7 @@ pub fn list<I: Input, O: Output>(
             Ok(Some(head)) => {
                 put_line(out, &record_line(&head))?;
                 count += 1;
+                reader.recycle(head);
             }
             Err(damage) => return Err(put_fault(out, damage)),
         }

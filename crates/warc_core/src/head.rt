@@ -2,7 +2,7 @@
 ghost use Rattle.std.specs.Prelude.{◌≡◌};
 
 use std::marker::Model;
-use warc_head::{Kind, Parts};
+use warc_head::{HeadMemory, Kind, Parts};
 
 /// A record's head, with the record's offset in its archive.
 #[derive(Debug, Drop)]
@@ -36,6 +36,10 @@ impl Head {
         ensures { result ≡ head_view start parts }
     {
         Head { start, parts }
+    }
+
+    pub(crate) fn into_memory(self) -> HeadMemory {
+        self.parts.into_memory()
     }
 
     /// Returns the offset of the record, in bytes from the archive's start.

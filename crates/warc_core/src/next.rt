@@ -15,15 +15,26 @@ use crate::head::Head;
 use crate::head_text::{begins_with_version, read_head_text};
 use devices::{Buffer, Input};
 use std::alloc::{AllocError, Global};
-use warc_head::{Parts, read_parts, read_usual_parts};
+use warc_head::{HeadMemory, Parts, read_parts, read_usual_parts};
 
 /// The maximum length of a head in bytes.
 pub const HEAD_LIMIT: usize = 1_048_576;
 
 const GREATEST_OFFSET: u128 = i64::MAX as u128;
 
+fn memory_for_head(alloc: Global, spare: Option<HeadMemory>) -> Result<HeadMemory, AllocError> {
+    match spare {
+        Some(memory) => Ok(memory),
+        None => HeadMemory::new(alloc),
+    }
+}
+
 /// Takes the next head from the buffer, if it stands there whole and is a usual one. The only error is refused memory.
-fn held_parts(alloc: Global, buffer: &mut Buffer) -> Result<Option<Parts>, AllocError>
+fn held_parts(
+    alloc: Global,
+    spare: Option<HeadMemory>,
+    buffer: &mut Buffer,
+) -> Result<Option<Parts>, AllocError>
     ensures taken { IfOk result (λ found. IfSome found (λ p. buffer.old ≡ p.raw ++ buffer.new)) }
     ensures head { IfOk result (λ found. IfSome found (λ p. IsFoundHead HEAD_LIMIT p.raw)) }
     ensures says { IfOk result (λ found. IfSome found (λ p. parts_or_cause p.raw ≡ Ok p.parts)) }
@@ -34,7 +45,7 @@ fn held_parts(alloc: Global, buffer: &mut Buffer) -> Result<Option<Parts>, Alloc
     if !begins_with_version(held) {
         return Ok(None);
     }
-    match read_usual_parts(alloc, held)? {
+    match read_usual_parts(memory_for_head(alloc, spare)?, held)? {
         Some(parts) if parts.raw().len() <= HEAD_LIMIT => {
             buffer.consume(parts.raw().len());
             Ok(Some(parts))
@@ -44,7 +55,12 @@ fn held_parts(alloc: Global, buffer: &mut Buffer) -> Result<Option<Parts>, Alloc
 }
 
 /// Reads the next head. The errors are those of the head, `Memory` and `Read`.
-fn next_parts<I: Input>(alloc: Global, buffer: &mut Buffer, input: &mut I) -> Result<Parts, Cause>
+fn next_parts<I: Input>(
+    alloc: Global,
+    spare: Option<HeadMemory>,
+    buffer: &mut Buffer,
+    input: &mut I,
+) -> Result<Parts, Cause>
     ensures bytes { IfOk result (λ p. Reads (head_text HEAD_LIMIT) (Ok p.raw)
         (prepend_known buffer.old (I.remaining input.old))
         (prepend_known buffer.new (I.remaining input.new))) }
@@ -57,7 +73,7 @@ fn next_parts<I: Input>(alloc: Global, buffer: &mut Buffer, input: &mut I) -> Re
     ensures cause { IfErr result StopsHead }
     ensures failures { CountsRead result (I.failures input.old) (I.failures input.new) }
 {
-    match held_parts(alloc, buffer)? {
+    match held_parts(alloc, spare, buffer)? {
         Some(parts) => Ok(parts),
         None => {
             let raw = read_head_text(alloc, buffer, input, HEAD_LIMIT)?;
@@ -69,6 +85,7 @@ fn next_parts<I: Input>(alloc: Global, buffer: &mut Buffer, input: &mut I) -> Re
 /// Reads the head of the record that starts at this offset.
 fn read_head<I: Input>(
     alloc: Global,
+    spare: Option<HeadMemory>,
     buffer: &mut Buffer,
     input: &mut I,
     start: u64,
@@ -81,7 +98,7 @@ fn read_head<I: Input>(
     ensures begins { IfOk result (RecordBeginsAt start) }
     ensures failures { CountsRead result (I.failures input.old) (I.failures input.new) }
 {
-    let parts = next_parts(alloc, buffer, input)?;
+    let parts = next_parts(alloc, spare, buffer, input)?;
     let end = u128::from(start) + parts.raw().len() as u128 + u128::from(parts.length()) + 4;
     if end > GREATEST_OFFSET {
         return Err(Cause::TooFar);
@@ -90,9 +107,10 @@ fn read_head<I: Input>(
 }
 
 /// Reads the head of the record that starts at this offset, if a byte follows. The errors are those of the head, `Memory`,
-/// `Read` and `TooFar`.
+/// `Read` and `TooFar`. A usual head takes the spare memory, if there is some.
 pub fn read_next<I: Input>(
     alloc: Global,
+    spare: Option<HeadMemory>,
     buffer: &mut Buffer,
     input: &mut I,
     start: u64,
@@ -109,5 +127,5 @@ pub fn read_next<I: Input>(
     if buffer.as_slice().is_empty() {
         return Ok(None);
     }
-    Ok(Some(read_head(alloc, buffer, input, start)?))
+    Ok(Some(read_head(alloc, spare, buffer, input, start)?))
 }

@@ -10,6 +10,7 @@ use crate::phase::Phase;
 use devices::{Buffer, Input};
 use std::alloc::Global;
 use std::marker::Model;
+use warc_head::HeadMemory;
 
 /// Reads an archive's records in turn. It does not hold the input; each call takes it.
 ///
@@ -21,6 +22,8 @@ pub struct Reader {
     offset: u64,
     phase: Phase,
     buffer: Buffer,
+    /// The memory of an earlier head, for the next one.
+    spare: Option<HeadMemory>,
 }
 
 impl Model for Reader {
@@ -56,6 +59,7 @@ impl Reader {
                 offset: 0,
                 phase: Phase::Between,
                 buffer,
+                spare: None,
             }),
             Err(_) => Err(Fault {
                 offset: 0,
@@ -89,6 +93,7 @@ impl Reader {
                 offset,
                 phase: Phase::Between,
                 buffer,
+                spare: None,
             }),
             Err(cause) => Err(Fault { offset, cause }),
         }
@@ -193,6 +198,13 @@ impl Reader {
         Ok(())
     }
 
+    /// Keeps the memory of a head that isn't needed any more, for the next one.
+    pub fn recycle(&mut self, head: Head)
+        ensures { self.new ≡ self.old }
+    {
+        self.spare = Some(head.into_memory());
+    }
+
     /// Reads the next head when no record is open.
     fn next_between<I: Input>(&mut self, input: &mut I) -> Result<Option<Head>, Fault>
         requires { self.old.phase ≡ Phase.Between }
@@ -202,7 +214,13 @@ impl Reader {
         ensures stays { self.new.offset ≡ self.old.offset }
         ensures within { self.new.offset ≤ 2 ^ 63 - 1 }
     {
-        match read_next(self.alloc, &mut self.buffer, input, self.offset) {
+        match read_next(
+            self.alloc,
+            self.spare.take(),
+            &mut self.buffer,
+            input,
+            self.offset,
+        ) {
             Ok(None) => Ok(None),
             Ok(Some(head)) => {
                 self.phase = Phase::Open {

@@ -1,5 +1,5 @@
 //! The lines of a head's fields.
-ghost use Rattle.std.specs.Prelude.{◌≡◌, ◌≤◌, length, All, MatchOption, Some, IfOk, IfSome, OnOk, Ok, Err};
+ghost use Rattle.std.specs.Prelude.{◌≡◌, ◌≤◌, [], length, All, MatchOption, Some, IfOk, IfSome, OnOk, Ok, Err};
 ghost use Rattle.httparse.specs.Pieces.{AllPassBetween};
 ghost use Rattle.warc_head.specs.Answers.{AgreesWith};
 ghost use Rattle.warc_head.specs.declared.fault.HeadFault.TheVariants.{FieldLine};
@@ -26,7 +26,7 @@ const VERSION_LINE: usize = 10;
 const EMPTY_LINE: usize = 2;
 
 /// The initial capacity of a list of fields, enough for most heads.
-const USUAL_FIELDS: usize = 16;
+pub(crate) const USUAL_FIELDS: usize = 16;
 
 /// Returns the spans of the fields on the lines between the version line and the empty line of a head's text. The value
 /// of a field that takes several lines is appended to the text. The errors are `FieldLine` and `Memory`.
@@ -63,14 +63,14 @@ pub struct UsualFields {
 }
 
 /// Returns the spans of the fields of the head that a text begins with. It may decline any text, and declines a head in
-/// which a field takes several lines. The only error is refused memory.
-pub fn usual_fields(alloc: Global, text: &[u8]) -> Result<Option<UsualFields>, AllocError>
+/// which a field takes several lines. The spans take this memory. The only error is refused memory.
+pub fn usual_fields(memory: Vec<FieldSpan>, text: &[u8]) -> Result<Option<UsualFields>, AllocError>
     requires { EndsLine text.now 0 8 }
     ensures { IfOk result (λ found. IfSome found (λ f.
         BeginsWithHead text.now f.size (fields_at text.now f.spans.items)
         × All (IsWithin f.size) f.spans.items)) }
 {
-    let mut spans = Vec::with_capacity(alloc, USUAL_FIELDS)?;
+    let mut spans = emptied(memory);
     let mut at = VERSION_LINE;
     'lines: while at < text.len() {
         let Some(stop) = line_end(text, at) else {
@@ -89,6 +89,14 @@ pub fn usual_fields(alloc: Global, text: &[u8]) -> Result<Option<UsualFields>, A
         at = stop + 2;
     }
     Ok(None)
+}
+
+fn emptied(memory: Vec<FieldSpan>) -> Vec<FieldSpan>
+    ensures { result.items ≡ [] }
+{
+    let mut spans = memory;
+    spans.clear();
+    spans
 }
 
 /// Returns the span of the field that begins on a line.

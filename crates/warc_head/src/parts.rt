@@ -14,6 +14,7 @@ use crate::field_lines::{UsualFields, read_fields, usual_fields};
 use crate::kind::{Kind, kind_of};
 use crate::length::length_of;
 use crate::mandatory::mandatory_values;
+use crate::memory::{HeadMemory, copied};
 use crate::spans::{FieldSpan, value_of};
 use std::alloc::{AllocError, Global};
 use std::marker::Model;
@@ -89,6 +90,14 @@ impl Parts {
         self.said.length
     }
 
+    /// Returns the memory, for another head.
+    pub fn into_memory(self) -> HeadMemory {
+        HeadMemory {
+            text: self.text,
+            spans: self.spans,
+        }
+    }
+
     /// Returns the value of the first field of this name, ignoring ASCII case.
     pub fn field(&self, name: &[u8]) -> Option<&[u8]>
         ensures { MatchOption result
@@ -123,16 +132,17 @@ pub fn read_parts(alloc: Global, raw: Vec<u8>) -> Result<Parts, HeadFault>
 }
 
 /// Reads the head that a text begins with, if its first line has eight bytes. It may decline any text, and
-/// declines what isn't the usual head: faults, and fields that take several lines. The only error is refused memory.
-pub fn read_usual_parts(alloc: Global, text: &[u8]) -> Result<Option<Parts>, AllocError>
+/// declines what isn't the usual head: faults, and fields that take several lines. The head takes this memory. The only
+/// error is refused memory.
+pub fn read_usual_parts(memory: HeadMemory, text: &[u8]) -> Result<Option<Parts>, AllocError>
     requires { EndsLine text.now 0 8 }
     ensures head { IfOk result (λ found. IfSome found (IsHeadOf text.now)) }
     ensures bound { IfOk result (λ found. IfSome found (λ p. p.parts.block_length ≤ 2 ^ 63 - 1)) }
 {
-    let Some(UsualFields { spans, size }) = usual_fields(alloc, text)? else {
+    let Some(UsualFields { spans, size }) = usual_fields(memory.spans, text)? else {
         return Ok(None);
     };
-    let raw = Vec::from_slice(alloc, &text[..size])?;
+    let raw = copied(memory.text, &text[..size])?;
     match said_in(&raw, &spans) {
         Ok(said) => Ok(Some(Parts {
             text: raw,

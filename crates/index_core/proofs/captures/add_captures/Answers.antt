@@ -37,7 +37,7 @@ loop-captures-preserved g c =
     let t = e.takes in
     let more = option_to_list c.in-Ok-Some.captured in
     let o = c.loop-captures.reader.offset in
-    record {
+    rw c.recycle.ensures (record {
       held = i.held;
       phase = t.stands.phase_is;
       within = grind arith;
@@ -53,4 +53,4 @@ loop-captures-preserved g c =
       sound = λ names used s. rw c.in-Ok.ensures.ok (sound_step LINE_LIMIT names c.args.name.now o c.in-Ok-Some.head _
           c.in-Ok-Some.captured used t.begins.start_is t.entry i.before (i.sound names used s));
       reads = e.failures ∙ i.reads;
-    }
+    })

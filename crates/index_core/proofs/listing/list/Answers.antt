@@ -46,7 +46,7 @@ loop-reader-preserved g c =
     let e = rw c.in-Ok-Some.field-0-is at c.in-Ok-Some.ensures in
     let i = c.loop-reader.invariant in
     let line = rw c.record_line.ensures at c.in_ok-put_line-in-Ok-Some.ensures.line in
-    record {
+    rw c.recycle.ensures (record {
       phase = e.state.phase_is;
       within = rw e.state.offset_is e.begins.fits;
       fewer = rw e.state.offset_is (omega arith);
@@ -60,7 +60,7 @@ loop-reader-preserved g c =
           (λ items k. omega (arith, k, length-append items (c.in-Ok-Some.head ∷ []))) line);
       reads = e.failures ∙ i.reads;
       writes = c.in_ok-put_line-in-Ok-Some.ensures.failures ∙ i.writes;
-    }
+    })
 
 pub returns-in-Err-next_record-clause-lists : goal.returns-in-Err-next_record-clause-lists
 returns-in-Err-next_record-clause-lists g c =

@@ -10,7 +10,7 @@ use Rattle.warc_head.proofs.field_lines.usual_fields.Goals as goal
 
 pub lines-init : goal.lines-init
 lines-init c =
-    rw c.in_ok-spans.ensures.items (record {
+    rw c.emptied-spans.ensures (record {
       low = omega arith;
       high = c.requires.within;
       before = ended-more c.args.text.now 0 8 c.requires;
