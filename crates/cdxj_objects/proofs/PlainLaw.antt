@@ -66,11 +66,12 @@ read_plain t h = subst (λ s. read (plain_text s) ≡ Some (data_of t)) (escape_
 pub quoted_steps : (old s : List ℕ) → ((old ++ 34 ∷ []) ++ escape s) ++ 34 ∷ [] ≡ old ++ quoted s
 quoted_steps old s = grind (arith, append_assoc)
 
--- a text to which pieces were added one after another, and then the end of the object
+-- a text to which pieces were added one after another
 abbrev pub Pushed : List (List ℕ × List ℕ) → List ℕ → List ℕ → Type 0
-Pushed [] old new = new ≡ old ++ codes "\"}"
+Pushed [] old new = new ≡ old
 Pushed ((front, text) ∷ rest) old new = (next : List ℕ) × (next ≡ old ++ (front ++ text)) × Pushed rest next new
 
-pub in_one : (ms : List (List ℕ × List ℕ)) (old new : List ℕ) → Pushed ms old new → new ≡ old ++ pieces ms
-in_one [] old new h = h
-in_one ((front, text) ∷ rest) old new h = grind (arith, append_assoc, in_one rest h.0 new h.2)
+pub in_one : (ms more : List (List ℕ × List ℕ)) (old new : List ℕ) → Pushed ms old new → new ++ pieces more
+    ≡ old ++ pieces (ms ++ more)
+in_one [] more old new h = ap (λ s. s ++ pieces more) h
+in_one ((front, text) ∷ rest) more old new h = grind (arith, append_assoc, in_one rest more h.0 new h.2)

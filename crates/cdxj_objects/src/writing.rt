@@ -1,8 +1,8 @@
 //! The writing of texts between quotes, and of an object that has any texts.
-ghost use Rattle.std.specs.Prelude.{◌≡◌, ◌++◌, IfOk};
+ghost use Rattle.std.specs.Prelude.{◌≡◌, ◌++◌, drop, IfOk};
 ghost use Rattle.json.specs.Print.{escape, quoted};
 ghost use Rattle.cdxj_objects.specs.Objects.{object_text};
-ghost use Rattle.cdxj_objects.specs.Plain.{plain_text};
+ghost use Rattle.cdxj_objects.specs.Plain.{pieces, plain_pieces, plain_text};
 ghost use Rattle.cdxj_objects.specs.Texts.{borrowed_view, text_members};
 
 use crate::members::{AFTER, BEFORE, Members};
@@ -81,18 +81,39 @@ fn push_plain_member(line: &mut Vec<u8>, front: &str, text: &str) -> Result<(), 
     line.extend_from_slice(text.as_bytes())
 }
 
-/// Appends the plain object of these texts to the line. The only error is refused memory.
-pub fn push_plain_object(line: &mut Vec<u8>, texts: Members<&str>) -> Result<(), AllocError>
+// The members up to the digest. They are apart from the others since the compiler inlines a few
+// calls alone.
+#[inline(never)]
+fn push_first_members(line: &mut Vec<u8>, texts: &Members<&str>) -> Result<(), AllocError>
     ensures { IfOk result (λ _. line.new.items
-        ≡ line.old.items ++ plain_text (borrowed_view texts.entry)) }
+        ++ pieces (drop 4 (plain_pieces (borrowed_view texts.now)))
+        ≡ line.old.items ++ plain_text (borrowed_view texts.now)) }
 {
     push_plain_member(line, BEFORE.url, texts.url)?;
     push_plain_member(line, BEFORE.mime, texts.mime)?;
     push_plain_member(line, BEFORE.status, texts.status)?;
     push_plain_member(line, BEFORE.digest, texts.digest)?;
+    Ok(())
+}
+
+// The members behind the digest, and the end of the object.
+#[inline(never)]
+fn push_last_members(line: &mut Vec<u8>, texts: &Members<&str>) -> Result<(), AllocError>
+    ensures { IfOk result (λ _. line.new.items
+        ≡ line.old.items ++ pieces (drop 4 (plain_pieces (borrowed_view texts.now)))) }
+{
     push_plain_member(line, BEFORE.length, texts.length)?;
     push_plain_member(line, BEFORE.offset, texts.offset)?;
     push_plain_member(line, BEFORE.filename, texts.filename)?;
     line.extend_from_slice(AFTER.as_bytes())?;
     Ok(())
+}
+
+/// Appends the plain object of these texts to the line. The only error is refused memory.
+pub fn push_plain_object(line: &mut Vec<u8>, texts: Members<&str>) -> Result<(), AllocError>
+    ensures { IfOk result (λ _. line.new.items
+        ≡ line.old.items ++ plain_text (borrowed_view texts.entry)) }
+{
+    push_first_members(line, &texts)?;
+    push_last_members(line, &texts)
 }

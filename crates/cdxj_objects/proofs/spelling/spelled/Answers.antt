@@ -1,4 +1,4 @@
-use Rattle.std.proofs.Common.{◌≡◌, ℕ, List, ◌++◌, ap, ◌∙◌, arith, codes, length, length-append, string_bytes}
+use Rattle.std.proofs.Common.{◌≡◌, ℕ, List, [], ◌++◌, ap, refl, ◌∙◌, arith, codes, length, length-append, string_bytes}
 use Rattle.cdxj_objects.specs.declared.members.Members.{Members}
 use Rattle.cdxj_objects.specs.FoundViews.{found_view}
 use Rattle.cdxj_objects.specs.Plain.{fronts, plain_pieces, plain_text}
@@ -20,7 +20,7 @@ is_written : (t : TextsValue) (at : Members ℕ) (s0 s1 s2 s3 s4 s5 s6 s7 s8 : L
     → s7 ≡ s6 ++ (fronts.filename ++ t.filename) → s8 ≡ s7 ++ codes "\"}"
     → (s8 ≡ s0 ++ plain_text t) × AreFrontsOf s8 t at
 is_written t at s0 s1 s2 s3 s4 s5 s6 s7 s8 object url mime status digest size offset filename closed = (
-  in_one (plain_pieces t) s0 s8 (
+  closed ∙ in_one (plain_pieces t) [] s0 s7 (
     s1,
     url.0,
     (
@@ -38,7 +38,7 @@ is_written t at s0 s1 s2 s3 s4 s5 s6 s7 s8 object url mime status digest size of
             (
               s6,
               offset.0,
-              (s7, filename, closed),
+              (s7, filename, refl),
             ),
           ),
         ),

@@ -1,4 +1,4 @@
-use Rattle.std.proofs.Common.{◌++◌, ap, ◌∙◌}
+use Rattle.std.proofs.Common.{[], ◌++◌, ap, refl, ◌∙◌}
 use Rattle.json.specs.Print.{escape}
 use Rattle.cdxj_objects.specs.ObjectMembers.{map_members}
 use Rattle.cdxj_objects.specs.Plain.{plain_pieces}
@@ -9,7 +9,9 @@ use Rattle.cdxj_objects.proofs.writing.push_object.Goals as goal
 pub returns : goal.returns
 returns c =
     let t = borrowed_view c.args.texts in
-    in_one (plain_pieces (map_members escape t)) c.args.line.now.items _ (
+    c.in_ok-extend_from_slice.ensures.items
+    ∙ ap (λ s. c.push_member-7.new.line.items ++ s) c.as_bytes.ensures.value
+    ∙ in_one (plain_pieces (map_members escape t)) [] c.args.line.now.items _ (
       _,
       c.in_ok-push_member.ensures,
       (
@@ -27,15 +29,11 @@ returns c =
               (
                 _,
                 c.in_ok-push_member-6.ensures,
-                (
-                  _,
-                  c.in_ok-push_member-7.ensures,
-                  c.in_ok-extend_from_slice.ensures.items ∙ ap (λ s. c.push_member-7.new.line.items ++ s)
-                      c.as_bytes.ensures.value,
-                ),
+                (_, c.in_ok-push_member-7.ensures, refl),
               ),
             ),
           ),
         ),
       ),
-    ) ∙ ap (λ s. c.args.line.now.items ++ s) (escaped_text_is t)
+    )
+    ∙ ap (λ s. c.args.line.now.items ++ s) (escaped_text_is t)
