@@ -2,6 +2,7 @@ pub mod TypeNames
 pub mod HeadLemmas
 pub mod SpellingLemmas
 pub mod HeldLines
+pub mod PlainNames
 pub mod GoodEntries
 pub mod Captures
 pub mod CaptureLemmas

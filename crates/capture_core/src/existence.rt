@@ -2,7 +2,7 @@
 ghost use Rattle.capture_core.specs.Capture.{HasCapture};
 ghost use Rattle.capture_core.specs.Types.{includes};
 
-use crate::http_head::{HTTP_FIELD_LIMIT, HTTP_HEAD_LIMIT};
+use crate::http_head::{EMPTY_SPANS, HTTP_FIELD_LIMIT, HTTP_HEAD_LIMIT};
 use crate::payload::part;
 use crate::types::Types;
 use warc_core::Head;
@@ -17,5 +17,5 @@ pub fn record_has_a_capture(head: &Head, block: &[u8], name: &str, types: Types)
     let _head = head;
     let _name = name;
     let _types = types;
-    let _parted = part(block);
+    let _parted = part(block, &mut EMPTY_SPANS);
 }

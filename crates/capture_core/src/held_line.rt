@@ -63,8 +63,7 @@ impl HeldLine {
         ensures long { result ≡ Err LineFault.LineTooLong
             → LINE_LIMIT < length (line_text (keyed_view (string_bytes key) entry.entry)) }
     {
-        let mut bytes = write_plain_entry(key, entry)?;
-        keep_name(&mut bytes, entry.filename.as_bytes())?;
+        let bytes = write_plain_entry(key, entry)?;
         Ok(HeldLine {
             bytes,
             offset: entry.offset,

@@ -17,6 +17,11 @@ pub(crate) const HTTP_FIELD_LIMIT: usize = 256;
 /// The maximum number of fields of an HTTP head that is parsed once.
 const USUAL_FIELDS: usize = 32;
 
+/// Spans for the fields of an HTTP head that is parsed once. They serve one head after another.
+pub(crate) type UsualSpans = [HeaderSpan; USUAL_FIELDS];
+
+pub(crate) const EMPTY_SPANS: UsualSpans = [EMPTY_HEADER_SPAN; USUAL_FIELDS];
+
 /// The parts of an HTTP head that a capture uses.
 #[derive(Clone, Copy)]
 pub(crate) struct HttpHead<'a> {
@@ -33,7 +38,7 @@ pub(crate) struct HttpHead<'a> {
 struct TooManyFields;
 
 /// Reads the HTTP head at the start of a block, if there is one. The first 65,536 bytes of the block are enough.
-pub(crate) fn http_head(block: &[u8]) -> Option<HttpHead<'_>>
+pub(crate) fn http_head<'a>(block: &'a [u8], spans: &mut UsualSpans) -> Option<HttpHead<'a>>
     ensures found { IfSome result (IsHeadAt block.now) }
     ensures three_digits { IfSome result (λ r. r.code < 1000) }
     ensures within { IfSome result (λ r. r.len ≤ length block.now) }
@@ -43,7 +48,7 @@ pub(crate) fn http_head(block: &[u8]) -> Option<HttpHead<'_>>
     if block.is_empty() {
         return None;
     }
-    match head_within(block, &mut [EMPTY_HEADER_SPAN; USUAL_FIELDS]) {
+    match head_within(block, spans) {
         Ok(head) => head,
         Err(TooManyFields) => head_of_many_fields(block),
     }

@@ -7,7 +7,7 @@ ghost use Rattle.capture_core.specs.HttpHead.{HasNoHead, IsHeadOf};
 ghost use Rattle.capture_core.specs.ResponseView.{response_view};
 ghost use Rattle.capture_core.specs.CaptureAnswer.{PartsBlock, usual_limits};
 
-use crate::http_head::{HTTP_FIELD_LIMIT, HTTP_HEAD_LIMIT, HttpHead, http_head};
+use crate::http_head::{HTTP_FIELD_LIMIT, HTTP_HEAD_LIMIT, HttpHead, UsualSpans, http_head};
 use crate::http_record::may_have_head;
 use warc_core::Head;
 
@@ -42,7 +42,12 @@ pub(crate) fn front_length(head: &Head) -> usize
 
 /// Splits the first bytes of a record's block, or returns `None` if no HTTP head ends in them and more bytes, up to
 /// `whole` in all, may hold one.
-pub(crate) fn part_decided<'a>(head: &Head, front: &'a [u8], whole: usize) -> Option<SplitBlock<'a>>
+pub(crate) fn part_decided<'a>(
+    head: &Head,
+    front: &'a [u8],
+    whole: usize,
+    spans: &mut UsualSpans,
+) -> Option<SplitBlock<'a>>
     requires whole { whole ≡ front_length HTTP_HEAD_LIMIT head.now }
     requires front { length front.now ≤ whole }
     ensures parts { IfSome result (λ p. PartsBlock usual_limits head.now p.bytes.now
@@ -53,7 +58,7 @@ pub(crate) fn part_decided<'a>(head: &Head, front: &'a [u8], whole: usize) -> Op
 {
     // For the proof alone: what the type says of the head.
     let _head = head;
-    let parted = part(front);
+    let parted = part(front, spans);
     if parted.response.is_some() || front.len() == whole {
         Some(parted)
     } else {
@@ -62,7 +67,7 @@ pub(crate) fn part_decided<'a>(head: &Head, front: &'a [u8], whole: usize) -> Op
 }
 
 /// Splits the first bytes of a record's block.
-pub(crate) fn part(front: &[u8]) -> SplitBlock<'_>
+pub(crate) fn part<'a>(front: &'a [u8], spans: &mut UsualSpans) -> SplitBlock<'a>
     ensures parts { (found : Option (ResponseHead × List ℕ))
         × IsHeadOf HTTP_HEAD_LIMIT HTTP_FIELD_LIMIT front.now found
         × (option_map response_view result.response ≡ option_map (λ f. response_of f.0) found)
@@ -70,7 +75,7 @@ pub(crate) fn part(front: &[u8]) -> SplitBlock<'_>
     ensures bytes { result.bytes.now ≡ front.now }
     ensures code { IfSome result.response (λ r. r.code < 1000) }
 {
-    match http_head(front) {
+    match http_head(front, spans) {
         Some(head) => SplitBlock {
             bytes: front,
             response: Some(head),

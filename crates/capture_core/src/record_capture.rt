@@ -15,7 +15,7 @@ use crate::capture_line::memory;
 use crate::closing::capture_closed;
 use crate::fault::CaptureFault;
 use crate::held_line::HeldLine;
-use crate::http_head::HTTP_HEAD_LIMIT;
+use crate::http_head::{EMPTY_SPANS, HTTP_HEAD_LIMIT, UsualSpans};
 use crate::indexed::IndexedRecord;
 use crate::payload::{SplitBlock, front_length, part_decided};
 use crate::payload_digest::known_digest;
@@ -35,6 +35,8 @@ const SECOND_STEP: usize = 8192;
 #[derive(Debug, Drop)]
 pub struct BlockStart {
     bytes: Vec<u8>,
+    /// For the fields of an HTTP head in it.
+    spans: UsualSpans,
 }
 
 impl BlockStart {
@@ -42,6 +44,7 @@ impl BlockStart {
     pub fn new(alloc: Global) -> BlockStart {
         BlockStart {
             bytes: Vec::new(alloc),
+            spans: EMPTY_SPANS,
         }
     }
 }
@@ -105,7 +108,14 @@ pub fn held_capture<I: Input>(
     match url(head, types) {
         Some(url) => {
             let indexed = IndexedRecord { head, name, url };
-            capture_indexed(alloc, &mut front.bytes, reader, input, indexed)
+            capture_indexed(
+                alloc,
+                &mut front.bytes,
+                &mut front.spans,
+                reader,
+                input,
+                indexed,
+            )
         }
         None => {
             reader.finish(input)?;
@@ -120,6 +130,7 @@ pub fn held_capture<I: Input>(
 fn capture_indexed<I: Input>(
     alloc: Global,
     front: &mut Vec<u8>,
+    spans: &mut UsualSpans,
     reader: &mut Reader,
     input: &mut I,
     indexed: IndexedRecord<'_>,
@@ -137,7 +148,7 @@ fn capture_indexed<I: Input>(
     }
     let mut filled = read_first(reader, input, front, first)?;
     'steps: loop {
-        match part_decided(indexed.head, &front[..filled], whole) {
+        match part_decided(indexed.head, &front[..filled], whole, spans) {
             Some(parted) => return finish_capture(alloc, reader, input, indexed, parted),
             None => {}
         }

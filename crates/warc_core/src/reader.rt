@@ -12,6 +12,9 @@ use std::alloc::Global;
 use std::marker::Model;
 use warc_head::HeadMemory;
 
+/// The maximum length of a head whose memory serves the next one, in bytes.
+const MOST_KEPT: usize = 8192;
+
 /// Reads an archive's records in turn. It does not hold the input; each call takes it.
 ///
 /// A record is open from its head until its closing is read. After a call has failed, each further call returns the
@@ -198,11 +201,14 @@ impl Reader {
         Ok(())
     }
 
-    /// Keeps the memory of a head that isn't needed any more, for the next one.
+    /// Keeps the memory of a head that isn't needed any more, for the next one. The memory of a head of over 8,192 bytes
+    /// is freed.
     pub fn recycle(&mut self, head: Head)
         ensures { self.new ≡ self.old }
     {
-        self.spare = Some(head.into_memory());
+        if head.raw().len() <= MOST_KEPT {
+            self.spare = Some(head.into_memory());
+        }
     }
 
     /// Reads the next head when no record is open.
