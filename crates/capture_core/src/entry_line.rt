@@ -156,9 +156,11 @@ fn plain_line(
         offset: indexed.head.start(),
         filename: indexed.name(),
     };
-    // A plain URL is longer than its key.
-    let room = entry.room().saturating_add(texts.url.len());
-    let key = url_key_with_room(alloc, texts.url, room)?;
+    let room = entry.room();
+    // Most URLs are longer than their keys.
+    let most = room.saturating_add(texts.url.len());
+    let mut key = url_key_with_room(alloc, texts.url, most)?;
+    key.reserve_exact(room)?;
     // For the proof alone: a key is UTF-8.
     let _text = key.as_str();
     held(HeldLine::plain(key, entry))
