@@ -15,7 +15,7 @@ use crate::mime::mime;
 use crate::status::status;
 use crate::utf8_text::{plain_text, utf8_text};
 use cdxj_core::{
-    EntryRef, KeyFault, KeylessEntry, LineFault, plain_ascii, url_key, url_key_with_room,
+    EntryRef, KeyFault, KeylessEntry, LineFault, plain_utf8, url_key, url_key_with_room,
 };
 use std::alloc::{AllocError, Global};
 
@@ -116,7 +116,7 @@ fn plain_texts<'a>(
     ensures plain { IfSome result (λ t. HasPlainTexts (entry_with indexed.entry.head.now
         indexed.entry.name.now t.url.now t.mime.now t.status.now t.digest.now)) }
 {
-    let _name = plain_ascii(indexed.name.as_bytes())?;
+    let _name = plain_utf8(indexed.name.as_bytes())?;
     Some(EntryTexts {
         url: plain_text(indexed.url)?,
         mime: plain_text(mime)?,

@@ -5,7 +5,7 @@ ghost use Rattle.std.specs.Cow.{cow_str_bytes};
 ghost use Rattle.json.specs.Run.{is_plain};
 ghost use Rattle.capture_core.specs.Utf8Text.{utf8_text};
 
-use cdxj_core::plain_ascii;
+use cdxj_core::plain_utf8;
 use percent_encoding::{AsciiSet, percent_encode};
 use std::alloc::{AllocError, Global};
 use std::borrow::CowStr;
@@ -21,11 +21,11 @@ pub(crate) fn utf8_text(alloc: Global, value: &[u8]) -> Result<CowStr<'_>, Alloc
     }
 }
 
-/// Returns the text of a value, if it is ASCII and needs no escapes in a line.
+/// Returns the text of a value, if it is UTF-8 and needs no escapes in a line.
 #[tactic(auto, unfolding(crate::specs::Utf8Text::utf8_text))]
 pub(crate) fn plain_text(value: &[u8]) -> Option<&str>
     ensures value { IfSome result (λ text. text.now ≡ utf8_text value.now) }
     ensures plain { IfSome result (λ text. list_all is_plain text.now ≡ true) }
 {
-    plain_ascii(value)
+    plain_utf8(value)
 }

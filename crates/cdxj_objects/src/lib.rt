@@ -23,7 +23,7 @@ pub use crate::lanes::{has_stamp, place_of_either};
 pub use crate::members::{FRAME, Members};
 pub use crate::missing::or_missing;
 pub use crate::plain::{PlainMembers, plain_members, texts_at};
-pub use crate::plain_text::plain_ascii;
+pub use crate::plain_text::plain_utf8;
 pub use crate::spelling::spelled;
 pub use crate::unescaped::unescaped_length;
 pub use crate::writing::{push_object, push_plain_object, push_quoted};

@@ -27,13 +27,27 @@ fn is_plain_ascii(text: &[u8]) -> bool
     good
 }
 
-/// Returns the text, if it is ASCII and JSON writes it between quotes without escapes.
-pub fn plain_ascii(text: &[u8]) -> Option<&str>
+/// Returns the text, if it is UTF-8 and JSON writes it between quotes without escapes. Most are
+/// ASCII, which is the faster test.
+pub fn plain_utf8(text: &[u8]) -> Option<&str>
     ensures value { IfSome result (λ t. t.now ≡ text.now) }
     ensures plain { IfSome result (λ t. list_all is_plain t.now ≡ true) }
 {
     if is_plain_ascii(text) {
         Some(unsafe { str::from_utf8_unchecked(text) })
+    } else {
+        plain_beyond_ascii(text)
+    }
+}
+
+/// Like `plain_utf8`, for a text that isn't ASCII.
+#[cold]
+fn plain_beyond_ascii(text: &[u8]) -> Option<&str>
+    ensures value { IfSome result (λ t. t.now ≡ text.now) }
+    ensures plain { IfSome result (λ t. list_all is_plain t.now ≡ true) }
+{
+    if is_plain_text(text) {
+        str::from_utf8(text).ok()
     } else {
         None
     }
