@@ -91,7 +91,7 @@ module _ (before after : List ℕ) where
     count = refl;
   }
 
-  merge_written : Merged LINE_LIMIT (a_line ∷ a_line ∷ []) (Some before) (Some (before ++ a_line)) 1
+  merge_written : Merged (a_line ∷ a_line ∷ []) (Some before) (Some (before ++ a_line)) 1
   unfolding digits escape_byte
   merge_written = record {
     indexes = (member ∷ []) ∷ (member ∷ []) ∷ [];
@@ -113,7 +113,7 @@ module _ (before after : List ℕ) where
   paged one (Err f) is pages = grind arith
 
   merged : MergeIsOne → (answer : Result ℕ AnswerFault) → outcomes.Done ≡ answered_outcome answer
-      → IfOk answer (Merged LINE_LIMIT (a_line ∷ a_line ∷ []) (Some before) (Some after)) → after ≡ before ++ a_line
+      → IfOk answer (Merged (a_line ∷ a_line ∷ []) (Some before) (Some after)) → after ≡ before ++ a_line
   merged one (Ok n) is merge = same_bytes _ _ (one (a_line ∷ a_line ∷ []) before (Some after) (Some _) n 1 merge
       merge_written).0
   merged one (Err f) is merge = grind arith
@@ -131,7 +131,7 @@ module _ (before after : List ℕ) where
       (Some a_archive ∷ []) (1 ∷ []) orgs_text before (Some after) (Some _) n 1 (refl, tt) scan (one_is_scanned before)).0
   scanned one (Err f) is scan = grind arith
 
-  counted : HasOneList → (answer : Result ℕ AnswerFault) → IsChecked LINE_LIMIT a_line answer
+  counted : HasOneList → (answer : Result ℕ AnswerFault) → IsChecked a_line answer
       → MatchResult answer (λ count. WritesCount index_name count outcomes.Done (Some before) (Some after))
       (λ fault. (outcomes.Done ≡ outcomes.Answer fault) × (Some after ≡ Some before))
       → after ≡ before ++ codes "a.cdxj 1\n"

@@ -26,7 +26,7 @@ pub fn page<S: Source, O: Output>(
     query: &Query,
     out: &mut O,
 ) -> Result<Report, AnswerFault>
-    ensures page { OverIndexes LINE_LIMIT (map S.text sources.old) (λ texts indexes.
+    ensures page { OverIndexes (map S.text sources.old) (λ texts indexes.
         WritesAnswer query.now (collection indexes) result (O.written out.old)
         (O.written out.new)) }
 {

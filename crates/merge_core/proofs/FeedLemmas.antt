@@ -1,12 +1,12 @@
 -- What one line more makes of a feed.
 use Rattle.merge_core.proofs.Words.{[], ℕ, ◌++◌, ◌+◌, ◌-◌, ◌<◌, ◌∙◌, ◌∷◌, ◌≡◌, ◌≤◌, ◌⊎◌, Alike, AllByRecursion, Below}
-use Rattle.merge_core.proofs.Words.{Bool, CursorState, EndsAt, Fed, Feed, FeedFault, IsNextLine, IsSettled, List}
-use Rattle.merge_core.proofs.Words.{Member, NeverFalls, None, Option, Pair, Some, Stands, Upto, ap, append-nil}
+use Rattle.merge_core.proofs.Words.{Bool, CursorState, EndsAt, Fed, Feed, FeedFault, IsNextLine, IsSettled, LINE_LIMIT}
+use Rattle.merge_core.proofs.Words.{List, Member, NeverFalls, None, Option, Pair, Some, Stands, Upto, ap, append-nil}
 use Rattle.merge_core.proofs.Words.{append_assoc, arith, done, drop, drop_all, each_join, each_weaker, false, feed_of}
 use Rattle.merge_core.proofs.Words.{filter, filter-append, first_length, flat_map-append, given, inl, inr, length}
 use Rattle.merge_core.proofs.Words.{length-append, length-map, length-take, line_entry, lines, map, map-append}
-use Rattle.merge_core.proofs.Words.{member_pair, not-false, not-true, pair_cmp, pair_cmp_total, read_lines, refl, stays}
-use Rattle.merge_core.proofs.Words.{suc, sym, take, take-append-drop, tied_back, true, true≢false}
+use Rattle.merge_core.proofs.Words.{member_pair, not-false, not-true, pair_cmp, pair_cmp_total, read_lines, refl}
+use Rattle.merge_core.proofs.Words.{stays, suc, sym, take, take-append-drop, tied_back, true, true≢false}
 use Rattle.std.proofs.Common.{take_all, take_at}
 use Rattle.std.specs.FinMap.{nat_cmp-IsAntisymmetric, slice_cmp-IsAntisymmetric}
 use Rattle.cdxj_core.specs.Lines.{body_of}
@@ -18,9 +18,9 @@ use Rattle.source_core.proofs.SortedCuts.{begins_at}
 use Rattle.merge_core.proofs.GroupLemmas.{filter_all}
 use Rattle.merge_core.specs.LineFaults.{IsBadFirst, IsFeedFaultAt, NamesLine}
 
-pub no_entry : (limit : ℕ) (line : List ℕ) (o : Option Member) → o ≡ line_entry limit line
-    → limit ≤ length (body_of line) → o ≡ None
-no_entry limit line o e h = grind (arith, entry_is_short)
+pub no_entry : (line : List ℕ) (o : Option Member) → o ≡ line_entry LINE_LIMIT line
+    → LINE_LIMIT ≤ length (body_of line) → o ≡ None
+no_entry line o e h = grind (arith, entry_is_short)
 
 pub take_next : {X : Type 0} (n : ℕ) (all : List X) (x : X) (rest : List X) → drop n all ≡ x ∷ rest → take (n + 1) all
     ≡ take n all ++ x ∷ []
@@ -74,65 +74,65 @@ pub filter_passes : {X : Type 0} (test : X → Bool) (xs : List X) → AllByRecu
 filter_passes test [] = tt
 filter_passes test (x ∷ xs) = grind (arith, filter_passes test xs)
 
--- the limit of a line, in bytes, and which keys lie past the range
-module _ (limit : ℕ) (past : List ℕ → Bool) where
+-- which keys lie past the range
+module _ (past : List ℕ → Bool) where
   pub done_within : (t : List ℕ) (f : Feed)
-      → AllByRecursion (λ (m : Member). past m.values.key ≡ false) (done limit past t f)
+      → AllByRecursion (λ (m : Member). past m.values.key ≡ false) (done past t f)
   done_within t f = each_weaker (λ (m : Member) (e : stays past m ≡ true). not-true _ e) _ (filter_passes (stays past) _)
 
   -- where all lines lie within the range and none waits, all were taken
   pub done_all : (t : List ℕ) (c : CursorState) → length (read_lines t c) ≡ c.count
-      → AllByRecursion (λ m. stays past m ≡ true) (given limit t c) → done limit past t (feed_of c []) ≡ given limit t c
+      → AllByRecursion (λ m. stays past m ≡ true) (given t c) → done past t (feed_of c []) ≡ given t c
   done_all t c long each =
-      let whole = take_all c.count (given limit t c) (grind (arith, length-map)) in
+      let whole = take_all c.count (given t c) (grind (arith, length-map)) in
       grind (arith, filter_all)
 
   -- the next line of a source was read, which is this one
   pub record LineRead (text : Option (List ℕ)) (extent : ℕ) (old c : CursorState) (m : Member) : Type 0 where
-    pub was : Fed limit past text extent (feed_of old [])
-    pub inside : (t : List ℕ) → text ≡ Some t → AllByRecursion (λ m. stays past m ≡ true) (given limit t old)
+    pub was : Fed past text extent (feed_of old [])
+    pub inside : (t : List ℕ) → text ≡ Some t → AllByRecursion (λ m. stays past m ≡ true) (given t old)
     pub stands : Stands text extent c
     pub start : c.start ≡ old.start
     pub count : c.count ≡ old.count + 1
     pub near : (t : List ℕ) → text ≡ Some t → c.at ≤ old.at + first_length (lines (drop old.at t))
-    pub next : (t : List ℕ) → text ≡ Some t → IsNextLine limit t old.at c.at (Some m)
+    pub next : (t : List ℕ) → text ≡ Some t → IsNextLine t old.at c.at (Some m)
     pub low : (t : List ℕ) → text ≡ Some t
-        → AllByRecursion (λ k. Upto (member_pair k) (member_pair m)) (given limit t old)
+        → AllByRecursion (λ k. Upto (member_pair k) (member_pair m)) (given t old)
 
-pub done_cut : {limit : ℕ} {past : List ℕ → Bool} {text : Option (List ℕ)} {extent : ℕ} {f : Feed}
-    → Fed limit past text extent f → (t : List ℕ) → text ≡ Some t
-    → Cut f.cursor.count (done limit past t f) (given limit t f.cursor)
-done_cut {limit = limit} {f = f} fed t e =
+pub done_cut : {past : List ℕ → Bool} {text : Option (List ℕ)} {extent : ℕ} {f : Feed}
+    → Fed past text extent f → (t : List ℕ) → text ≡ Some t
+    → Cut f.cursor.count (done past t f) (given t f.cursor)
+done_cut {f = f} fed t e =
     let told = fed.told t e in
-    let long : length (given limit t f.cursor) ≡ f.cursor.count = grind (arith, length-map) in
+    let long : length (given t f.cursor) ≡ f.cursor.count = grind (arith, length-map) in
     elim told.last [
       | inl k ↦ cut_of f.cursor.count _ f.waits _ long fed.few k.0
       | inr k ↦ cut_of f.cursor.count _ (k.1 ∷ []) _ long (omega arith) k.2
     ]
 
-module _ {limit : ℕ} {past : List ℕ → Bool} {text : Option (List ℕ)} {extent : ℕ} {old c : CursorState} {m : Member}
-    (r : LineRead limit past text extent old c m) where
+module _ {past : List ℕ → Bool} {text : Option (List ℕ)} {extent : ℕ} {old c : CursorState} {m : Member}
+    (r : LineRead past text extent old c m) where
   read_more : (t : List ℕ) (e : text ≡ Some t) → read_lines t c ≡ read_lines t old ++ (r.next t e).0 ∷ []
   read_more t e = one_more t old c _ (r.was.stands.rest t e) r.count r.start (r.next t e).1
 
-  pub given_next : (t : List ℕ) → text ≡ Some t → given limit t c ≡ given limit t old ++ m ∷ []
+  pub given_next : (t : List ℕ) → text ≡ Some t → given t c ≡ given t old ++ m ∷ []
   given_next t e = let more = read_more t e in grind (arith, map-append)
 
   -- how many were read before
-  as_many : (t : List ℕ) → text ≡ Some t → length (given limit t old) ≡ old.count
+  as_many : (t : List ℕ) → text ≡ Some t → length (given t old) ≡ old.count
   as_many t e = let was = (r.was.told t e).as_many in grind (arith, length-map)
 
-  front : (t : List ℕ) → text ≡ Some t → take (c.count - 1) (given limit t c) ≡ given limit t old
+  front : (t : List ℕ) → text ≡ Some t → take (c.count - 1) (given t c) ≡ given t old
   front t e =
       let n = as_many t e in
-      let long : length (given limit t old) ≡ c.count - 1 = omega (arith, n, r.count) in
-      rw (given_next t e) (take_at (given limit t old) (m ∷ []) (c.count - 1) long)
+      let long : length (given t old) ≡ c.count - 1 = omega (arith, n, r.count) in
+      rw (given_next t e) (take_at (given t old) (m ∷ []) (c.count - 1) long)
 
-  whole : (t : List ℕ) → text ≡ Some t → take c.count (given limit t c) ≡ given limit t c
+  whole : (t : List ℕ) → text ≡ Some t → take c.count (given t c) ≡ given t c
   whole t e =
       let n = as_many t e in
       let more = given_next t e in
-      take_all c.count (given limit t c) (grind (arith, length-append))
+      take_all c.count (given t c) (grind (arith, length-append))
 
   -- it waits unless it lies past the range, or it was taken
   abbrev pub Goes : List Member → Type 0
@@ -140,11 +140,11 @@ module _ {limit : ℕ} {past : List ℕ → Bool} {text : Option (List ℕ)} {ex
       ⊎ ((ws ≡ []) × ((t : List ℕ) → text ≡ Some t → stays past m ≡ true))
 
   pub settled_more : (ws : List Member) → ws ≡ filter (stays past) (m ∷ [])
-      → IsSettled limit past text (feed_of c ws)
-  settled_more ws is t e none = inr (given limit t old, m, given_next t e, grind arith)
+      → IsSettled past text (feed_of c ws)
+  settled_more ws is t e none = inr (given t old, m, given_next t e, grind arith)
 
   pub done_next : (ws : List Member) → ws ≡ filter (stays past) (m ∷ []) → (t : List ℕ) → text ≡ Some t
-      → done limit past t (feed_of c ws) ≡ given limit t old
+      → done past t (feed_of c ws) ≡ given t old
   done_next ws is t e =
       let next = given_next t e in
       let front = front t e in
@@ -153,19 +153,19 @@ module _ {limit : ℕ} {past : List ℕ → Bool} {text : Option (List ℕ)} {ex
       grind (arith, filter_all, filter-append, append-nil)
 
   last_of : (ws : List Member) → ws ≡ filter (stays past) (m ∷ []) → (t : List ℕ) → text ≡ Some t
-      → ((given limit t c ≡ done limit past t (feed_of c ws) ++ ws) × AllByRecursion (λ m. stays past m ≡ true) ws)
-      ⊎ ((ws ≡ []) × (k : Member) × (given limit t c ≡ done limit past t (feed_of c ws) ++ k ∷ [])
+      → ((given t c ≡ done past t (feed_of c ws) ++ ws) × AllByRecursion (λ m. stays past m ≡ true) ws)
+      ⊎ ((ws ≡ []) × (k : Member) × (given t c ≡ done past t (feed_of c ws) ++ k ∷ [])
       × (past k.values.key ≡ true))
   last_of ws is t e =
       rw (done_next ws is t e) (go ws is (stays past m) refl)
     where
       go : (ws : List Member) → ws ≡ filter (stays past) (m ∷ []) → (b : Bool) → stays past m ≡ b
-          → ((given limit t c ≡ given limit t old ++ ws) × AllByRecursion (λ m. stays past m ≡ true) ws)
-          ⊎ ((ws ≡ []) × (k : Member) × (given limit t c ≡ given limit t old ++ k ∷ []) × (past k.values.key ≡ true))
+          → ((given t c ≡ given t old ++ ws) × AllByRecursion (λ m. stays past m ≡ true) ws)
+          ⊎ ((ws ≡ []) × (k : Member) × (given t c ≡ given t old ++ k ∷ []) × (past k.values.key ≡ true))
       go ws is true s = let one : ws ≡ m ∷ [] = grind arith in rw one (inl (given_next t e, (s, tt)))
       go ws is false s = inr (grind arith, m, given_next t e, not-false _ s)
 
-  pub fed_more : (ws : List Member) → Goes ws → Fed limit past text extent (feed_of c ws)
+  pub fed_more : (ws : List Member) → Goes ws → Fed past text extent (feed_of c ws)
   fed_more ws cases = record {
     stands = r.stands;
     few = grind arith;
@@ -187,7 +187,7 @@ module _ {limit : ℕ} {past : List ℕ → Bool} {text : Option (List ℕ)} {ex
           last = elim cases [
             | inl is ↦ last_of ws is t e
             | inr k ↦
-                let all = done_all limit past t c (grind (arith, length-append)) (grind (arith, each_join)) in
+                let all = done_all past t c (grind (arith, length-append)) (grind (arith, each_join)) in
                 rw k.0 (inl (rw all (sym (append-nil _)), tt))
           ];
         };
@@ -213,27 +213,27 @@ low_of past pair ms falls end =
     pair h up) end.0 (falls_last end.0 last (rw end.2 at falls))) (up, tt))
 
 -- where the last line has the pair and lies within the range, all lines were taken
-module _ {limit : ℕ} {past : List ℕ → Bool} {text : Option (List ℕ)} {extent : ℕ} {c : CursorState} {pair : Pair}
-    (fed : Fed limit past text extent (feed_of c [])) (t : List ℕ) (e : text ≡ Some t)
-    (end : EndsAt past pair (given limit t c)) where
-  pub all_upto : AllByRecursion (λ k. Upto (member_pair k) pair) (given limit t c)
-  all_upto = low_of past pair (given limit t c) (fed.told t e).run.ordered end
+module _ {past : List ℕ → Bool} {text : Option (List ℕ)} {extent : ℕ} {c : CursorState} {pair : Pair}
+    (fed : Fed past text extent (feed_of c [])) (t : List ℕ) (e : text ≡ Some t)
+    (end : EndsAt past pair (given t c)) where
+  pub all_upto : AllByRecursion (λ k. Upto (member_pair k) pair) (given t c)
+  all_upto = low_of past pair (given t c) (fed.told t e).run.ordered end
 
-  pub all_taken : done limit past t (feed_of c []) ≡ given limit t c
+  pub all_taken : done past t (feed_of c []) ≡ given t c
   all_taken = elim (fed.told t e).last [
     | inl k ↦ sym (k.0 ∙ append-nil _)
     | inr k ↦ absurd (true≢false (sym k.3 ∙ ap (λ (m : Member). past m.values.key) (last_same _ _ k.1 end.1 (sym k.2 ∙ end.2))
         ∙ end.4))
   ]
 
-  pub all_inside : AllByRecursion (λ m. stays past m ≡ true) (given limit t c)
+  pub all_inside : AllByRecursion (λ m. stays past m ≡ true) (given t c)
   all_inside = rw (← all_taken) (filter_passes (stays past) _)
 
 -- a source ended
-pub fed_end : {limit : ℕ} {past : List ℕ → Bool} {text : Option (List ℕ)} {extent : ℕ} {old : CursorState}
-    → Fed limit past text extent (feed_of old []) → (c : CursorState) → Stands text extent c → c.start ≡ old.start
+pub fed_end : {past : List ℕ → Bool} {text : Option (List ℕ)} {extent : ℕ} {old : CursorState}
+    → Fed past text extent (feed_of old []) → (c : CursorState) → Stands text extent c → c.start ≡ old.start
     → c.count ≡ old.count → ((t : List ℕ) → text ≡ Some t → c.at ≤ old.at + first_length (lines (drop old.at t)))
-    → ((t : List ℕ) → text ≡ Some t → lines (drop old.at t) ≡ []) → Fed limit past text extent (feed_of c [])
+    → ((t : List ℕ) → text ≡ Some t → lines (drop old.at t) ≡ []) → Fed past text extent (feed_of c [])
 fed_end fed c stands start count near none = record {
   stands = stands;
   few = omega arith;
@@ -252,21 +252,21 @@ fed_end fed c stands start count near none = record {
 
 -- ---- lines at fault, by where the cursor stands
 
-pub first_long : (limit : ℕ) (ls : List (List ℕ)) → limit < first_length ls → IsBadFirst limit ls
-first_long limit ls long = grind (arith, length-take, long_line_none)
+pub first_long : (ls : List (List ℕ)) → LINE_LIMIT < first_length ls → IsBadFirst ls
+first_long ls long = grind (arith, length-take, long_line_none)
 
 -- the last of these lines has the last of these entries
-last_line : (limit : ℕ) (ls : List (List ℕ)) (before : List Member) (last : Member) → map (line_entry limit) ls
+last_line : (ls : List (List ℕ)) (before : List Member) (last : Member) → map (line_entry LINE_LIMIT) ls
     ≡ map Some (before ++ last ∷ [])
-    → (us : List (List ℕ)) × (line : List ℕ) × (ls ≡ us ++ line ∷ []) × (line_entry limit line ≡ Some last)
-last_line limit [] [] last e = absurd (cc)
-last_line limit (l ∷ ls) (m ∷ before) last e =
-    let rest = last_line limit ls before last (grind arith) in (l ∷ rest.0, rest.1, cc, rest.3)
-last_line limit (l ∷ []) [] last e = ([], l, refl, grind arith)
-last_line limit ls before last e = absurd (cc)
+    → (us : List (List ℕ)) × (line : List ℕ) × (ls ≡ us ++ line ∷ []) × (line_entry LINE_LIMIT line ≡ Some last)
+last_line [] [] last e = absurd (cc)
+last_line (l ∷ ls) (m ∷ before) last e =
+    let rest = last_line ls before last (grind arith) in (l ∷ rest.0, rest.1, cc, rest.3)
+last_line (l ∷ []) [] last e = ([], l, refl, grind arith)
+last_line ls before last e = absurd (cc)
 
-module _ {limit : ℕ} {past : List ℕ → Bool} {t : List ℕ} {extent : ℕ} {f : Feed}
-    (fed : Fed limit past (Some t) extent f) where
+module _ {past : List ℕ → Bool} {t : List ℕ} {extent : ℕ} {f : Feed}
+    (fed : Fed past (Some t) extent f) where
   -- the line at which the cursor stands, after those before it
   begins_here : (line : List ℕ) (after : List (List ℕ)) → lines (drop f.cursor.at t) ≡ line ∷ after
       → LineBeginsAt t f.cursor.at ((fed.told t refl).begins.0 ++ read_lines t f.cursor) line
@@ -280,15 +280,15 @@ module _ {limit : ℕ} {past : List ℕ → Bool} {t : List ℕ} {extent : ℕ} 
         offset_is = begins_at t f.cursor.at _ cut (grind (arith, cases_lt, drop_all));
       }
 
-  pub bad_named : (e : FeedFault) → IsFeedFaultAt limit (lines (drop f.cursor.at t)) f.cursor.at e → NamesLine limit t e
+  pub bad_named : (e : FeedFault) → IsFeedFaultAt (lines (drop f.cursor.at t)) f.cursor.at e → NamesLine t e
   bad_named e h = grind (arith, begins_here)
 
   -- the next line has a pair below that of the last line before it
-  pub order_named : (pair : Pair) (new : CursorState) (m : Member) → EndsAt past pair (given limit t f.cursor)
-      → IsNextLine limit t f.cursor.at new.at (Some m) → Below (member_pair m) pair → IsOutOfOrder limit t f.cursor.at
+  pub order_named : (pair : Pair) (new : CursorState) (m : Member) → EndsAt past pair (given t f.cursor)
+      → IsNextLine t f.cursor.at new.at (Some m) → Below (member_pair m) pair → IsOutOfOrder LINE_LIMIT t f.cursor.at
   order_named pair new m end next below =
       let told = fed.told t refl in
-      let last = last_line limit (read_lines t f.cursor) end.0 end.1 (grind arith) in
+      let last = last_line (read_lines t f.cursor) end.0 end.1 (grind arith) in
       let turned = pair_cmp_total.antisymm (member_pair end.1) (member_pair m) in
       let lower = below_then (member_pair m) pair (member_pair end.1) below (same_from (member_pair end.1) pair end.3) in
       let here = begins_here next.0 (lines (drop new.at t)) next.1 in

@@ -1,11 +1,11 @@
 -- The lines of one pair, taken of one source after another.
 use Rattle.merge_core.proofs.Words.{[], ℕ, ◌++◌, ◌+◌, ◌-◌, ◌<◌, ◌∙◌, ◌∷◌, ◌≡◌, ◌≢◌, ◌≤◌, Alike, AllByRecursion, Below}
-use Rattle.merge_core.proofs.Words.{Bool, Gathered, IsFrom, IsPermutation, List, Member, Pair, Upto, WaitingLine, ap}
-use Rattle.merge_core.proofs.Words.{append-nil, append_assoc, arith, cond-false, cond-true, drop, drop-set-lt}
-use Rattle.merge_core.proofs.Words.{each_join, each_weaker, false, filter, filter-append, flat_map, flat_map-append}
-use Rattle.merge_core.proofs.Words.{get_or, is_lt, length, member_pair, pair_cmp_total, queued, refl, set, sym, take}
-use Rattle.merge_core.proofs.Words.{take-append-drop, take_more, take_more_set, tied_back, true, turn_cmp, waiting_pair}
-use Rattle.merge_core.proofs.Words.{waits_of}
+use Rattle.merge_core.proofs.Words.{Bool, Gathered, IsFrom, IsPermutation, List, Member, NoneBefore, Pair, Upto}
+use Rattle.merge_core.proofs.Words.{WaitingLine, ap, append-nil, append_assoc, arith, cond-false, cond-true, drop}
+use Rattle.merge_core.proofs.Words.{drop-set-lt, each_join, each_weaker, false, filter, filter-append, flat_map}
+use Rattle.merge_core.proofs.Words.{flat_map-append, get_or, is_lt, length, member_pair, pair_cmp_total, queued, refl}
+use Rattle.merge_core.proofs.Words.{set, sym, take, take-append-drop, take_more, take_more_set, tied_back, true}
+use Rattle.merge_core.proofs.Words.{turn_cmp, waiting_pair, waits_of}
 use Rattle.std.proofs.Common.{drop-drop}
 use Rattle.merge_core.proofs.Filters.{each_both}
 use Rattle.merge_core.proofs.PairOrder.{below_upto, same_upto, same_from, upto_upto, not_below_itself}
@@ -81,7 +81,7 @@ module _ (pair : Pair) where
 
 -- none of the others has the pair, save those of later sources
 pub from_popped : (pair : Pair) (w : WaitingLine) (ws : List WaitingLine) → Alike (waiting_pair w) pair
-    → AllByRecursion (λ v. is_lt (turn_cmp v w) ≡ false) ws → waits_of w.source ws ≡ []
+    → NoneBefore w ws → waits_of w.source ws ≡ []
     → AllByRecursion (IsFrom pair (w.source + 1)) ws
 from_popped pair w ws e first none =
     each_weaker (λ (v : WaitingLine) (h : (is_lt (turn_cmp v w) ≡ false) × (v.source ≢ w.source)). (

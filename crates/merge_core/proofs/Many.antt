@@ -1,7 +1,7 @@
 -- Lists of sources and feeds, seen as one list of pairs.
-use Rattle.merge_core.proofs.Words.{[], ℕ, ◌+◌, ◌-◌, ◌<◌, ◌∷◌, ◌≡◌, AllByRecursion, AllZip, Feed, List, Option, Some}
-use Rattle.merge_core.proofs.Words.{ap, arith, get_or, get_or-map, is_some, length, map, map-set, set, set-get_or, suc}
-use Rattle.merge_core.proofs.Words.{sum-map, text_or, true, unread, zip}
+use Rattle.merge_core.proofs.Words.{[], ℕ, ◌+◌, ◌-◌, ◌<◌, ◌∷◌, ◌≡◌, AllByRecursion, AllZip, Feed, Ghosts, List, Option}
+use Rattle.merge_core.proofs.Words.{Some, ap, arith, get_or, get_or-map, is_some, length, map, map-set, set}
+use Rattle.merge_core.proofs.Words.{set-get_or, suc, sum-map, text_or, true, unread, zip}
 use Rattle.std.proofs.lemmas.List.Sums.{sum_by-set}
 use Rattle.std.proofs.lemmas.Slice.Zip.{get_or-zip, length-zip}
 use Rattle.merge_core.specs.Feeds.{Moved}
@@ -40,9 +40,9 @@ two_trans R t (x ∷ xs) (y ∷ ys) (z ∷ zs) h k = (t x y z h.0 k.0, two_trans
 two_trans R t xs ys zs h k = grind arith
 
 -- One source and its feed change
-module _ {S : Type 0} (text : S → Option (List ℕ)) (extent gave : S → ℕ) where
+module _ {S : Type 0} (device : Ghosts S) where
   abbrev pub Move : S × Feed → S × Feed → Type 0
-  Move x y = Moved (text x.0) (text y.0) (extent x.0) (extent y.0) (gave x.0) (gave y.0) x.1.cursor y.1.cursor
+  Move x y = Moved device x.0 y.0 x.1.cursor y.1.cursor
 
   move_then : (x y z : S × Feed) → Move x y → Move y z → Move x z
   move_then x y z a b = grind arith
@@ -57,8 +57,8 @@ module _ {S : Type 0} (text : S → Option (List ℕ)) (extent gave : S → ℕ)
   moved_still = two_same Move move_not
 
   pub told_moved : (ss ss' : List S) (fs fs' : List Feed) → length ss' ≡ length fs'
-      → AllZip Move (zip ss fs) (zip ss' fs') → AllByRecursion (λ s. is_some (text s) ≡ true) ss
-      → AllByRecursion (λ s. is_some (text s) ≡ true) ss'
+      → AllZip Move (zip ss fs) (zip ss' fs') → AllByRecursion (λ s. is_some (device.text s) ≡ true) ss
+      → AllByRecursion (λ s. is_some (device.text s) ≡ true) ss'
   told_moved (s ∷ ss) (s' ∷ ss') (f ∷ fs) (f' ∷ fs') e m h =
       (rw m.0.text_kept h.0, told_moved ss ss' fs fs' (omega arith) m.1 h.1)
   told_moved ss [] fs fs' e m h = tt
@@ -72,10 +72,10 @@ module _ {S : Type 0} (text : S → Option (List ℕ)) (extent gave : S → ℕ)
         (grind (arith, zip_at)))
 
     -- how many bytes weren't read
-    pub unread_set : unread extent (set ss i s) (set fs i f) + (extent (get_or ss i a) - (get_or fs i b).cursor.at)
-        ≡ unread extent ss fs + (extent s - f.cursor.at)
+    pub unread_set : unread device.extent (set ss i s) (set fs i f) + (device.extent (get_or ss i a) - (get_or fs i b).cursor.at)
+        ≡ unread device.extent ss fs + (device.extent s - f.cursor.at)
     unread_set =
-        let sums = sum_by-set (λ (x : S × Feed). extent x.0 - x.1.cursor.at) (zip ss fs) i (s, f) (a, b) in
+        let sums = sum_by-set (λ (x : S × Feed). device.extent x.0 - x.1.cursor.at) (zip ss fs) i (s, f) (a, b) in
         grind (arith, zip_set, zip_at, length_zip, sum-map, sums)
 
 -- ---- one of a list is replaced

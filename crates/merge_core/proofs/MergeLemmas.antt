@@ -1,14 +1,15 @@
 -- One group more of a merge.
 use Rattle.merge_core.proofs.Words.{[], ℕ, ◌++◌, ◌∷◌, ◌≡◌, Alike, AllByRecursion, AllMoved, AreTold, Below, Bool}
-use Rattle.merge_core.proofs.Words.{Gathered, Grouped, Grows, HasEntry, IsAbove, IsErrAnd, IsLower, IsUpto, Less, List}
-use Rattle.merge_core.proofs.Words.{Member, MergeState, None, Option, Ordering, Pair, Reached, Ready, Result, SoFar}
-use Rattle.merge_core.proofs.Words.{Some, WaitingLine, all_done, arith, each_join, each_rising, each_weaker, feeds, inl}
-use Rattle.merge_core.proofs.Words.{is_gt, is_low, is_lt, member_pair, member_place, place_cmp, place_cmp_total, rising}
-use Rattle.merge_core.proofs.Words.{rising_split, true, waiting_pair}
+use Rattle.merge_core.proofs.Words.{Gathered, Ghosts, Grouped, Grows, HasEntry, IsAbove, IsErrAnd, IsLower, IsUpto}
+use Rattle.merge_core.proofs.Words.{Less, List, Member, MergeState, None, Option, Ordering, Pair, Reached, Ready}
+use Rattle.merge_core.proofs.Words.{Result, SoFar, Some, WaitingLine, all_done, arith, each_join, each_rising}
+use Rattle.merge_core.proofs.Words.{each_weaker, feeds, inl, is_gt, is_low, is_lt, member_pair, member_place}
+use Rattle.merge_core.proofs.Words.{place_cmp, place_cmp_total, rising, rising_split, true, waiting_pair}
 use Rattle.std.proofs.Common.{MatchResult}
 use Rattle.cdxj_places.specs.Rising.{Rises}
 use Rattle.cdxj_places.proofs.RisingLaws.{rises_rising}
 use Rattle.merge_core.specs.Merging.{BrokenMerge, HaltedGroup, HaltedMerge}
+use Rattle.merge_core.specs.declared.sink.Sink.{Ghosts as SinkGhosts}
 use Rattle.merge_core.proofs.StateLemmas.{long_of}
 use Rattle.merge_core.proofs.Many.{told_moved, moved_trans}
 use Rattle.merge_core.proofs.PairOrder.{from_not_below, below_then, then_below, below_upto, same_upto, same_from}
@@ -55,28 +56,28 @@ place_above pair u v h k =
     let below = place_below u v (below_then (member_pair u) pair (member_pair v) h (same_from _ pair k)) in
     cc
 
-module _ {S : Type 0} {limit : ℕ} {text : S → Option (List ℕ)} {past : List ℕ → Bool} {extent gave : S → ℕ}
+module _ {S : Type 0} {device : Ghosts S} {past : List ℕ → Bool}
     {old ss0 ss : List S} {begun m0 m : MergeState} {b : Option Pair} {pair : Pair} {taken group : List Member}
-    (was : Reached limit text past extent gave old begun ss0 m0 b taken)
-    (grouped : Grouped limit past text extent ss0 m0 ss m pair group) where
+    (was : Reached past device old begun ss0 m0 b taken)
+    (grouped : Grouped past device ss0 m0 ss m pair group) where
   low : AreBelow pair taken
   low = below_next b pair (grouped.above b was.above) taken was.handed.upto
 
   at : AreAt pair (rising member_place place_cmp group)
   at = grind (arith, each_rising, place_cmp_total)
 
-  pub told_here : AreTold text old → AreTold text ss0
-  told_here = told_moved text extent gave old ss0 (feeds begun) (feeds m0) (long_of was.ready.aligned) was.moved
+  pub told_here : AreTold device.text old → AreTold device.text ss0
+  told_here = told_moved device old ss0 (feeds begun) (feeds m0) (long_of was.ready.aligned) was.moved
 
-  pub gathered_now : AreTold text old
-      → Gathered pair (all_done limit past text ss0 (feeds m0)) (all_done limit past text ss (feeds m)) [] group
+  pub gathered_now : AreTold device.text old
+      → Gathered pair (all_done past device.text ss0 (feeds m0)) (all_done past device.text ss (feeds m)) [] group
   gathered_now told =
       let above = grouped.above b was.above in
       grouped.gathered (told_here told) (below_next b pair above _ (was.handed.told told).1)
 
-  pub reached_next : Ready limit past text extent ss m → AllMoved text extent gave ss0 m0 ss m
-      → AllByRecursion (HasEntry limit) group
-      → Reached limit text past extent gave old begun ss m (Some pair) (taken ++ rising member_place place_cmp group)
+  pub reached_next : Ready past device ss m → AllMoved device ss0 m0 ss m
+      → AllByRecursion HasEntry group
+      → Reached past device old begun ss m (Some pair) (taken ++ rising member_place place_cmp group)
   reached_next ready moved entries = record {
     ready = ready;
     moved = grind (arith, moved_trans);
@@ -90,11 +91,11 @@ module _ {S : Type 0} {limit : ℕ} {text : S → Option (List ℕ)} {past : Lis
   }
 
 -- a merge that differs in its buffers alone
-pub reached_same : {S : Type 0} {limit : ℕ} {text : S → Option (List ℕ)} {past : List ℕ → Bool} {extent gave : S → ℕ}
+pub reached_same : {S : Type 0} {device : Ghosts S} {past : List ℕ → Bool}
     {old ss : List S} {begun m : MergeState} {b : Option Pair} {taken : List Member} (m' : MergeState)
     → m'.cursors.items ≡ m.cursors.items → m'.queue ≡ m.queue
-    → Reached limit text past extent gave old begun ss m b taken
-    → Reached limit text past extent gave old begun ss m' b taken
+    → Reached past device old begun ss m b taken
+    → Reached past device old begun ss m' b taken
 reached_same m' cursors queue was =
     let ready = was.ready in
     let aligned = ready.aligned in
@@ -113,12 +114,11 @@ reached_same m' cursors queue was =
     }
 
 -- these lines were passed on, when a fault came
-module _ {K S : Type 0} {Wrote : K → K → List Member → Option (List ℕ) → Option (List ℕ) → Type 0}
-    {Enough : K → Type 0} {past : List ℕ → Bool} {text : S → Option (List ℕ)} {extent gave : S → ℕ}
+module _ {K S : Type 0} {consumer : SinkGhosts K} {past : List ℕ → Bool} {device : Ghosts S}
     {olds sources : List S} {begun stood : MergeState} {sink state : K} {old middle now : Option (List ℕ)}
-    (so_far : SoFar Wrote Enough past text extent gave olds begun sink old sources stood state middle) where
-  pub broken_there : {Broke : K → List Member → Option (List ℕ) → Option (List ℕ) → Type 0} → now ≡ middle
-      → BrokenMerge Wrote Enough past text extent gave olds begun sink old Broke now
+    (so_far : SoFar consumer past device olds begun sink old sources stood state middle) where
+  pub broken_there : now ≡ middle
+      → BrokenMerge consumer past device olds begun sink old now
   broken_there same = record {
     sources = sources;
     merge = stood;
@@ -128,9 +128,9 @@ module _ {K S : Type 0} {Wrote : K → K → List Member → Option (List ℕ) �
     wrote = λ begin start w. inl (state, rw same (so_far.came begin start w));
   }
 
-  pub halted_there : {news : List S} {merge : MergeState} → ((Enough sink → ⊥) → Enough state → ⊥)
-      → HaltedGroup past text sources stood news merge
-      → Grows middle now → HaltedMerge Wrote Enough past text extent gave olds begun sink old news merge now
+  pub halted_there : {news : List S} {merge : MergeState} → ((consumer.Enough sink → ⊥) → consumer.Enough state → ⊥)
+      → HaltedGroup past device.text sources stood news merge
+      → Grows middle now → HaltedMerge consumer past device olds begun sink old news merge now
   halted_there more halted grows =
       let above = halted.above so_far.bound so_far.reached.above in record {
         sources = sources;
@@ -145,7 +145,7 @@ module _ {K S : Type 0} {Wrote : K → K → List Member → Option (List ℕ) �
         least = halted.least;
         read = λ told.
             let reached = so_far.reached in
-            halted.read (told_moved text extent gave olds sources (feeds begun) (feeds stood)
+            halted.read (told_moved device olds sources (feeds begun) (feeds stood)
             (long_of reached.ready.aligned) reached.moved told)
             (below_next so_far.bound halted.pair above _ (reached.handed.told told).1);
       }

@@ -1,14 +1,14 @@
 -- The opening of sources, one after another.
 use Rattle.merge_core.proofs.Words.{[], ℕ, ◌++◌, ◌+◌, ◌<◌, ◌∙◌, ◌∷◌, ◌≡◌, ◌≤◌, AllByRecursion, AllZip, Bool, CameOnce}
-use Rattle.merge_core.proofs.Words.{CameWithin, CursorState, Fed, Feed, IsCutAt, IsLeast, IsNextLine, IsSettled, List}
-use Rattle.merge_core.proofs.Words.{MatchOption, Member, MergeState, None, Option, Pair, Ready, Some, Stands}
-use Rattle.merge_core.proofs.Words.{WaitingLine, arith, done, drop, drop_all, each_weaker, feed_of, feeds, filter}
-use Rattle.merge_core.proofs.Words.{first_length, given, inl, length, length-append, lines, map, option_list, refl, set}
-use Rattle.merge_core.proofs.Words.{stays, suc, sum, sum-map, take, take_more_set, text_or, waits_of, zip}
+use Rattle.merge_core.proofs.Words.{CameWithin, CursorState, Fed, Feed, Ghosts, IsCutAt, IsLeast, IsNextLine}
+use Rattle.merge_core.proofs.Words.{IsSettled, List, MatchOption, Member, MergeState, None, Option, Pair, Ready, Some}
+use Rattle.merge_core.proofs.Words.{Stands, WaitingLine, arith, done, drop, drop_all, each_weaker, feed_of, feeds}
+use Rattle.merge_core.proofs.Words.{filter, first_length, given, inl, length, length-append, lines, map, option_list}
+use Rattle.merge_core.proofs.Words.{refl, set, stays, suc, sum, sum-map, take, take_more_set, text_or, waits_of, zip}
 use Rattle.std.proofs.lemmas.List.Sums.{sum_by_push}
 use Rattle.merge_core.specs.Openings.{AddedSource, AreOpened}
 use Rattle.merge_core.proofs.FeedLemmas.{LineRead, done_next, fed_end, fed_more, settled_more}
-use Rattle.source_core.specs.IndexLines.{BeginsAfter}
+use Rattle.source_core.specs.IndexLines.{IsLineStart}
 use Rattle.merge_core.proofs.HeapLemmas.{waits_other}
 use Rattle.merge_core.proofs.StateLemmas.{feeds_added, few_of_fed, placed_queued}
 
@@ -24,9 +24,9 @@ zip_push_each R (a ∷ xs) (b ∷ ys) x y h r = (h.0, zip_push_each R xs ys x y 
 zip_push_each R xs ys x y h r = grind arith
 
 -- a source was added to those that are read
-module _ {limit : ℕ} {past : List ℕ → Bool} {S : Type 0} {text : S → Option (List ℕ)} {extent : S → ℕ} {ss : List S}
-    {m m' : MergeState} (was : Ready limit past text extent ss m) {s : S} {IsCursor : CursorState → Type 0}
-    (added : AddedSource limit past (text s) (extent s) IsCursor m m') where
+module _ {past : List ℕ → Bool} {S : Type 0} {device : Ghosts S} {ss : List S}
+    {m m' : MergeState} (was : Ready past device ss m) {s : S} {IsCursor : CursorState → Type 0}
+    (added : AddedSource past device s IsCursor m m') where
   abbrev pub its_feed : Feed
   its_feed = feed_of added.cursor added.first
 
@@ -34,9 +34,9 @@ module _ {limit : ℕ} {past : List ℕ → Bool} {S : Type 0} {text : S → Opt
   added_feeds =
       let none = waits_none (length m.cursors.items) m.queue was.aligned.placed in
       rw added.cursors_are (feeds_added m.cursors.items m.queue m'.queue added.cursor added.first none added.fed.few
-      added.queue_is (few_of_fed limit past text extent ss (feeds m) was.aligned.fed))
+      added.queue_is (few_of_fed past device ss (feeds m) was.aligned.fed))
 
-  pub ready_added : Ready limit past text extent (ss ++ s ∷ []) m'
+  pub ready_added : Ready past device (ss ++ s ∷ []) m'
   ready_added =
       let same = was.aligned.same in
       let n = length m.cursors.items in
@@ -46,40 +46,40 @@ module _ {limit : ℕ} {past : List ℕ → Bool} {S : Type 0} {text : S → Opt
           same = grind (arith, length-append);
           placed = rw long (placed_queued (n + 1) n m.queue m'.queue added.first (omega arith)
               (each_weaker (λ v h. omega arith) m.queue was.aligned.placed) added.queue_is);
-          fed = rw added_feeds (zip_push_each (λ s f. Fed limit past (text s) (extent s) f) ss (feeds m) s its_feed
+          fed = rw added_feeds (zip_push_each (λ s f. Fed past (device.text s) (device.extent s) f) ss (feeds m) s its_feed
               was.aligned.fed added.fed);
         };
-        settled = rw added_feeds (zip_push_each (λ s f. IsSettled limit past (text s) f) ss (feeds m) s its_feed
+        settled = rw added_feeds (zip_push_each (λ s f. IsSettled past (device.text s) f) ss (feeds m) s its_feed
             was.settled added.settled);
       }
 
-module _ {S : Type 0} (text : S → Option (List ℕ)) (extent gave : S → ℕ) (limit : ℕ) (start : Pair) where
-  pub cuts_of : (olds ss : List S) (fs : List Feed) → map text ss ≡ map text olds → AreOpened text extent gave limit start olds (zip ss fs)
-      → AllByRecursion (λ x. IsCutAt limit start (text x.0) x.1.cursor) (zip ss fs)
+module _ {S : Type 0} (device : Ghosts S) (start : Pair) where
+  pub cuts_of : (olds ss : List S) (fs : List Feed) → map device.text ss ≡ map device.text olds → AreOpened device start olds (zip ss fs)
+      → AllByRecursion (λ x. IsCutAt start (device.text x.0) x.1.cursor) (zip ss fs)
   cuts_of (x ∷ olds) (s ∷ ss) (f ∷ fs) same h =
-      let here : text s ≡ text x = cc in (rw here h.0.cut, cuts_of olds ss fs (cc) h.1)
+      let here : device.text s ≡ device.text x = cc in (rw here h.0.cut, cuts_of olds ss fs (cc) h.1)
   cuts_of olds ss fs same h = grind arith
 
   pub begun_of : (olds ss : List S) (fs : List Feed) → length ss ≡ length fs → IsLeast start
-      → AreOpened text extent gave limit start olds (zip ss fs) → AllByRecursion (λ f. f.cursor.start ≡ 0) fs
+      → AreOpened device start olds (zip ss fs) → AllByRecursion (λ f. f.cursor.start ≡ 0) fs
   begun_of (x ∷ olds) (s ∷ ss) (f ∷ fs) long least h = (h.0.first least, begun_of olds ss fs (omega arith) least h.1)
   begun_of [] (s ∷ ss) (f ∷ fs) long least h = absurd h
   begun_of olds [] (f ∷ fs) long least h = absurd (omega arith)
   begun_of olds ss [] long least h = tt
 
-  pub came_of : (olds : List S) (ys : List (S × Feed)) → AreOpened text extent gave limit start olds ys
-      → AllZip (λ x y. CameWithin (text x) (extent x) (gave x) (gave y.0) y.1.cursor) olds ys
+  pub came_of : (olds : List S) (ys : List (S × Feed)) → AreOpened device start olds ys
+      → AllZip (λ x y. CameWithin device x y.0 y.1.cursor) olds ys
   came_of (x ∷ olds) (y ∷ ys) h = (h.0.came, came_of olds ys h.1)
   came_of olds ys h = grind arith
 
-  pub came_once_of : (olds : List S) (ys : List (S × Feed)) → IsLeast start → AreOpened text extent gave limit start olds ys
-      → AllZip (λ x y. CameOnce (gave x) (gave y.0) y.1.cursor) olds ys
+  pub came_once_of : (olds : List S) (ys : List (S × Feed)) → IsLeast start → AreOpened device start olds ys
+      → AllZip (λ x y. CameOnce device x y.0 y.1.cursor) olds ys
   came_once_of (x ∷ olds) (y ∷ ys) least h = (h.0.once least, came_once_of olds ys least h.1)
   came_once_of olds ys least h = grind arith
 
-pub added_by : {limit : ℕ} {past : List ℕ → Bool} {text : Option (List ℕ)} {extent : ℕ} {m m' : MergeState}
-    {A B : CursorState → Type 0} → (added : AddedSource limit past text extent A m m') → B added.cursor
-    → AddedSource limit past text extent B m m'
+pub added_by : {past : List ℕ → Bool} {S : Type 0} {device : Ghosts S} {s : S} {m m' : MergeState}
+    {A B : CursorState → Type 0} → (added : AddedSource past device s A m m') → B added.cursor
+    → AddedSource past device s B m m'
 added_by added is = record {
   cursor = added.cursor;
   first = added.first;
@@ -94,26 +94,26 @@ added_by added is = record {
 -- ---- the first line of a source
 
 -- what is known of a source of which no line was read yet
-pub fed_fresh : (limit : ℕ) (past : List ℕ → Bool) (text : Option (List ℕ)) (extent : ℕ) (c : CursorState)
+pub fed_fresh : (past : List ℕ → Bool) (text : Option (List ℕ)) (extent : ℕ) (c : CursorState)
     → Stands text extent c → c.count ≡ 0 → c.at ≡ c.start
-    → ((t : List ℕ) → text ≡ Some t → (before : List (List ℕ)) × BeginsAfter t c.start before)
-    → Fed limit past text extent (feed_of c [])
-fed_fresh limit past text extent c stands none at begins = grind arith
+    → ((t : List ℕ) → text ≡ Some t → IsLineStart t c.start)
+    → Fed past text extent (feed_of c [])
+fed_fresh past text extent c stands none at begins = grind arith
 
 -- its first line was read, if it has one
-pub record FirstRead (limit : ℕ) (past : List ℕ → Bool) (text : Option (List ℕ)) (extent : ℕ) (f : Feed) : Type 0 where
-  pub fed : Fed limit past text extent f
-  pub settled : IsSettled limit past text f
-  pub fresh : (t : List ℕ) → text ≡ Some t → done limit past t f ≡ []
+pub record FirstRead (past : List ℕ → Bool) (text : Option (List ℕ)) (extent : ℕ) (f : Feed) : Type 0 where
+  pub fed : Fed past text extent f
+  pub settled : IsSettled past text f
+  pub fresh : (t : List ℕ) → text ≡ Some t → done past t f ≡ []
 
-pub first_read : {limit : ℕ} {past : List ℕ → Bool} {text : Option (List ℕ)} {extent : ℕ} {old : CursorState}
-    → Fed limit past text extent (feed_of old []) → old.count ≡ 0 → (c : CursorState) (o : Option Member) (ws : List Member)
+pub first_read : {past : List ℕ → Bool} {text : Option (List ℕ)} {extent : ℕ} {old : CursorState}
+    → Fed past text extent (feed_of old []) → old.count ≡ 0 → (c : CursorState) (o : Option Member) (ws : List Member)
     → Stands text extent c → c.start ≡ old.start
     → MatchOption o (c.count ≡ old.count) (λ m. c.count ≡ old.count + 1)
     → ((t : List ℕ) → text ≡ Some t → c.at ≤ old.at + first_length (lines (drop old.at t)))
-    → ((t : List ℕ) → text ≡ Some t → IsNextLine limit t old.at c.at o) → ws ≡ filter (stays past) (option_list o)
-    → FirstRead limit past text extent (feed_of c ws)
-first_read {limit = limit} {past = past} {text = text} {extent = extent} {old = old} fed fresh c None ws stands start
+    → ((t : List ℕ) → text ≡ Some t → IsNextLine t old.at c.at o) → ws ≡ filter (stays past) (option_list o)
+    → FirstRead past text extent (feed_of c ws)
+first_read {past = past} {text = text} {extent = extent} {old = old} fed fresh c None ws stands start
     count near next is =
     let zero_count : c.count ≡ 0 = count ∙ fresh in
     rw is (record {
@@ -125,10 +125,10 @@ first_read {limit = limit} {past = past} {text = text} {extent = extent} {old = 
           inl (grind arith);
       fresh = λ t e. rw zero_count refl;
     })
-first_read {limit = limit} {past = past} {text = text} {extent = extent} {old = old} fed fresh c (Some m) ws stands start
+first_read {past = past} {text = text} {extent = extent} {old = old} fed fresh c (Some m) ws stands start
     count near next is =
-    let none : (t : List ℕ) → given limit t old ≡ [] = λ t. rw fresh refl in
-    let read : LineRead limit past text extent old c m = record {
+    let none : (t : List ℕ) → given t old ≡ [] = λ t. rw fresh refl in
+    let read : LineRead past text extent old c m = record {
       was = fed;
       inside = λ t e. rw (none t) tt;
       stands = stands;
@@ -154,9 +154,9 @@ pub zip_push : {A B : Type 0} (xs : List A) (ys : List B) (i : ℕ) (x : A) (y :
 zip_push (a ∷ xs) (b ∷ ys) (suc i) x y e l = grind (arith, zip_push xs ys i x y)
 zip_push xs ys i x y e l = grind (arith, zip_none)
 
-pub fresh_of : (limit : ℕ) (past : List ℕ → Bool) (text : Option (List ℕ)) (f : Feed)
-    → ((t : List ℕ) → text ≡ Some t → done limit past t f ≡ []) → done limit past (text_or text) f ≡ []
-fresh_of limit past text f h = grind (arith, drop_all)
+pub fresh_of : (past : List ℕ → Bool) (text : Option (List ℕ)) (f : Feed)
+    → ((t : List ℕ) → text ≡ Some t → done past t f ≡ []) → done past (text_or text) f ≡ []
+fresh_of past text f h = grind (arith, drop_all)
 
 -- one more of those that are summed
 pub sum_turn : {X : Type 0} (n : X → ℕ) (xs : List X) (i : ℕ) (y : X) → i < length xs

@@ -1,10 +1,10 @@
 -- The lines of one source that were come to, among all that it has from its start on.
 use Rattle.merge_core.proofs.Words.{[], ℕ, ◌++◌, ◌∙◌, ◌∷◌, ◌≡◌, AllByRecursion, Bool, Fed, Feed, IsLower, IsRun}
-use Rattle.merge_core.proofs.Words.{IsSettled, List, Member, NeverFalls, Some, Upto, ap, append-nil, append_assoc}
-use Rattle.merge_core.proofs.Words.{arith, done, drop, each_rising, each_weaker, false, filter, filter-append, given}
-use Rattle.merge_core.proofs.Words.{inl, inr, is_gt, line_entry, lines, map, member_of, member_pair, member_place, not}
-use Rattle.merge_core.proofs.Words.{pair_cmp, place_cmp, place_cmp_total, refl, rising, rising_split, stays, sym, take}
-use Rattle.merge_core.proofs.Words.{take-append-drop, take-map, true}
+use Rattle.merge_core.proofs.Words.{IsSettled, LINE_LIMIT, List, Member, NeverFalls, Some, Upto, ap, append-nil}
+use Rattle.merge_core.proofs.Words.{append_assoc, arith, done, drop, each_rising, each_weaker, false, filter}
+use Rattle.merge_core.proofs.Words.{filter-append, given, inl, inr, is_gt, line_entry, lines, map, member_of}
+use Rattle.merge_core.proofs.Words.{member_pair, member_place, not, pair_cmp, place_cmp, place_cmp_total, refl, rising}
+use Rattle.merge_core.proofs.Words.{rising_split, stays, sym, take, take-append-drop, take-map, true}
 use Rattle.std.proofs.Common.{◌&&◌}
 use Rattle.std.proofs.lemmas.List.{drop-map}
 use Rattle.merge_core.proofs.Filters.{each_both}
@@ -52,11 +52,11 @@ wanted_high wanted low lower passes xs =
 
 -- ---- one source
 
-pub members_are : (limit : ℕ) (ls : List (List ℕ)) (ms : List Member) → map (line_entry limit) ls ≡ map Some ms
-    → map (member_of limit) ls ≡ ms
-members_are limit (l ∷ ls) (m ∷ ms) e = grind (arith, members_are limit ls ms)
-members_are limit [] [] e = refl
-members_are limit ls ms e = cc
+pub members_are : (ls : List (List ℕ)) (ms : List Member) → map (line_entry LINE_LIMIT) ls ≡ map Some ms
+    → map member_of ls ≡ ms
+members_are (l ∷ ls) (m ∷ ms) e = grind (arith, members_are ls ms)
+members_are [] [] e = refl
+members_are ls ms e = cc
 
 pub stays_lower : (past : List ℕ → Bool) → IsUpward past → IsLower member_place place_cmp (stays past)
 stays_lower past upward x y h k =
@@ -85,29 +85,29 @@ module _ (past : List ℕ → Bool) (upto : Member → Bool) where
   rest_unread before m rest ms e falls f =
       (f m (upto_itself (member_pair m)), grind (arith, each_weaker, falls_after))
 
-module _ {limit : ℕ} {past : List ℕ → Bool} (upward : IsUpward past) (upto : Member → Bool) {t : List ℕ} {extent : ℕ}
-    {f : Feed} (fed : Fed limit past (Some t) extent f) (settled : IsSettled limit past (Some t) f)
-    (late : AllByRecursion (IsLate upto) f.waits) (each : AllByRecursion (λ m. upto m ≡ true) (done limit past t f)) where
+module _ {past : List ℕ → Bool} (upward : IsUpward past) (upto : Member → Bool) {t : List ℕ} {extent : ℕ}
+    {f : Feed} (fed : Fed past (Some t) extent f) (settled : IsSettled past (Some t) f)
+    (late : AllByRecursion (IsLate upto) f.waits) (each : AllByRecursion (λ m. upto m ≡ true) (done past t f)) where
   -- a line at which the range has ended, and those after it
   unread_past : (last k : Member) → past last.values.key ≡ true → Upto (member_pair last) (member_pair k)
       → is_read past upto k ≡ false
   unread_past last k e u = let up = upward last.values.key k.values.key e in grind arith
 
-  done_read : AllByRecursion (λ m. is_read past upto m ≡ true) (done limit past t f)
+  done_read : AllByRecursion (λ m. is_read past upto m ≡ true) (done past t f)
   done_read =
       each_weaker (λ m (h : (upto m ≡ true) × (stays past m ≡ true)). grind arith) _ (each_both _ _ _ each
       (filter_passes (stays past) _))
 
-  module _ (ms rest : List Member) (is : ms ≡ given limit t f.cursor ++ rest) (falls : NeverFalls member_pair pair_cmp ms)
+  module _ (ms rest : List Member) (is : ms ≡ given t f.cursor ++ rest) (falls : NeverFalls member_pair pair_cmp ms)
       (end : lines (drop f.cursor.at t) ≡ [] → rest ≡ []) where
     -- where the last line that was read lies past the range, none after it was come to
-    past_unread : (before : List Member) (last : Member) → given limit t f.cursor ≡ before ++ last ∷ []
+    past_unread : (before : List Member) (last : Member) → given t f.cursor ≡ before ++ last ∷ []
         → past last.values.key ≡ true → AllByRecursion (λ m. is_read past upto m ≡ false) (last ∷ rest)
     past_unread before last cut e =
         rest_unread past upto before last rest ms (grind (arith, append_assoc)) falls (λ k u. unread_past last k e u)
 
     -- the lines that wait, and those after them
-    tail_unread : (ws : List Member) → ws ≡ f.waits → given limit t f.cursor ≡ done limit past t f ++ ws
+    tail_unread : (ws : List Member) → ws ≡ f.waits → given t f.cursor ≡ done past t f ++ ws
         → AllByRecursion (λ m. is_read past upto m ≡ false) (ws ++ rest)
     tail_unread [] e cut = elim (settled t refl (sym e)) [
       | inl none ↦ rw (end none) tt
@@ -115,29 +115,29 @@ module _ {limit : ℕ} {past : List ℕ → Bool} (upward : IsUpward past) (upto
     ]
     tail_unread (w ∷ []) e cut =
         let here = rw (← e) at late in
-        rest_unread past upto (done limit past t f) w rest ms (grind (arith, append_assoc)) falls
+        rest_unread past upto (done past t f) w rest ms (grind (arith, append_assoc)) falls
         (λ k u. let no = here.0 k u in grind arith)
     tail_unread (w ∷ v ∷ ws) e cut = let few = rw (← e) at fed.few in absurd (omega arith)
 
-    read_of : filter (is_read past upto) ms ≡ done limit past t f
+    read_of : filter (is_read past upto) ms ≡ done past t f
     read_of = elim (fed.told t refl).last [
-      | inl k ↦ read_is past upto (done limit past t f) (f.waits ++ rest) ms (grind (arith, append_assoc)) done_read
+      | inl k ↦ read_is past upto (done past t f) (f.waits ++ rest) ms (grind (arith, append_assoc)) done_read
           (tail_unread f.waits refl k.0)
-      | inr k ↦ read_is past upto (done limit past t f) (k.1 ∷ rest) ms (grind (arith, append_assoc)) done_read
-          (past_unread (done limit past t f) k.1 k.2 k.3)
+      | inr k ↦ read_is past upto (done past t f) (k.1 ∷ rest) ms (grind (arith, append_assoc)) done_read
+          (past_unread (done past t f) k.1 k.2 k.3)
     ]
 
   -- Of the lines from the start on, those that were come to are those that were taken
-  pub fed_read : (ms : List Member) → IsRun limit (lines (drop f.cursor.start t)) ms
-      → filter (is_read past upto) ms ≡ done limit past t f
+  pub fed_read : (ms : List Member) → IsRun LINE_LIMIT (lines (drop f.cursor.start t)) ms
+      → filter (is_read past upto) ms ≡ done past t f
   fed_read ms run =
       let n = f.cursor.count in
-      let whole : map (member_of limit) (lines (drop f.cursor.start t)) ≡ ms = members_are limit _ ms run.entries in
-      let read : given limit t f.cursor ≡ take n ms = grind (arith, take-map) in
+      let whole : map member_of (lines (drop f.cursor.start t)) ≡ ms = members_are _ ms run.entries in
+      let read : given t f.cursor ≡ take n ms = grind (arith, take-map) in
       let stood = fed.stands.rest t refl in
-      let rest : drop n ms ≡ map (member_of limit) (lines (drop f.cursor.at t)) = grind (arith, drop-map) in
+      let rest : drop n ms ≡ map member_of (lines (drop f.cursor.at t)) = grind (arith, drop-map) in
       read_of ms (drop n ms) (grind (arith, take-append-drop)) run.ordered (grind arith)
 
   -- the same of the lines that were read
-  pub given_read : filter (is_read past upto) (given limit t f.cursor) ≡ done limit past t f
+  pub given_read : filter (is_read past upto) (given t f.cursor) ≡ done past t f
   given_read = read_of _ [] (sym (append-nil _)) (fed.told t refl).run.ordered (λ e. refl)

@@ -1,11 +1,11 @@
 -- How far sources were read.
-use Rattle.merge_core.proofs.Words.{[], ℕ, ◌*◌, ◌++◌, ◌+◌, ◌∙◌, ◌∷◌, ◌≡◌, ◌≤◌, AllByRecursion, AreFed}
-use Rattle.merge_core.proofs.Words.{AreReadTo, Bool, CursorState, EndsAt, Fed, Feed, IsUpto, List, Member, None}
-use Rattle.merge_core.proofs.Words.{Option, Pair, ReadTo, Some, all_done, ap, append-nil, append_assoc}
-use Rattle.merge_core.proofs.Words.{arith, bytes_of, done, drop, drop-set-lt, false, feed_of, first_length}
-use Rattle.merge_core.proofs.Words.{flat_map-append, get_or, given, length, length-append, length-drop, line_entry}
-use Rattle.merge_core.proofs.Words.{lines, longest, map, member_pair, reach, read_lines, refl, set, suc, sym, take}
-use Rattle.merge_core.proofs.Words.{take-append-drop, take-map, text_or}
+use Rattle.merge_core.proofs.Words.{[], ℕ, ◌*◌, ◌++◌, ◌+◌, ◌∙◌, ◌∷◌, ◌≡◌, ◌≤◌, AllByRecursion, AreFed, AreReadTo, Bool}
+use Rattle.merge_core.proofs.Words.{CursorState, EndsAt, Fed, Feed, Ghosts, IsUpto, LINE_LIMIT, List, Member, None}
+use Rattle.merge_core.proofs.Words.{Option, Pair, ReadTo, Some, all_done, ap, append-nil, append_assoc, arith}
+use Rattle.merge_core.proofs.Words.{bytes_of, done, drop, drop-set-lt, false, feed_of, first_length, flat_map-append}
+use Rattle.merge_core.proofs.Words.{get_or, given, length, length-append, length-drop, line_entry, lines, longest, map}
+use Rattle.merge_core.proofs.Words.{member_pair, reach, read_lines, refl, set, suc, sym, take, take-append-drop}
+use Rattle.merge_core.proofs.Words.{take-map, text_or}
 use Rattle.std.proofs.lemmas.Grind.{drop_more_same}
 use Rattle.std.proofs.Common.{get_or-drop}
 use Rattle.source_core.proofs.LongestLines.{first_most, longest_drop}
@@ -29,13 +29,13 @@ one_line : (ls : List (List ℕ)) → length ls ≤ 1 → bytes_of ls ≤ longes
 one_line (l ∷ []) h = omega (arith, ap length (append-nil l))
 one_line ls h = omega arith
 
-module _ {limit : ℕ} {past : List ℕ → Bool} {text : Option (List ℕ)} {extent : ℕ} {f : Feed}
-    (fed : Fed limit past text extent f) where
+module _ {past : List ℕ → Bool} {text : Option (List ℕ)} {extent : ℕ} {f : Feed}
+    (fed : Fed past text extent f) where
   -- a cursor that passed one line more at most than those that were read
   pub read_to : (b : Option Pair) (t : List ℕ) (new : CursorState) → text ≡ Some t
-      → AllByRecursion (λ m. IsUpto b (member_pair m)) (done limit past t f) → new.start ≡ f.cursor.start
+      → AllByRecursion (λ m. IsUpto b (member_pair m)) (done past t f) → new.start ≡ f.cursor.start
       → new.at ≤ f.cursor.at + first_length (lines (drop f.cursor.at t)) → length new.ahead ≤ 8192
-      → ReadTo limit past b t new
+      → ReadTo past b t new
   read_to b t new is upto start near ahead =
       let told = fed.told t is in
       let from = lines (drop f.cursor.start t) in
@@ -45,75 +45,75 @@ module _ {limit : ℕ} {past : List ℕ → Bool} {text : Option (List ℕ)} {ex
       let stood = fed.stands.rest t is in
       let last = one_line (drop k all) (grind (arith, length-drop)) in
       let whole = ap bytes_of (take-append-drop k all) in
-      let within = done_within limit past t f in
+      let within = done_within past t f in
       record {
         read = take k all;
         rest = drop k all ++ drop f.cursor.count from;
         cut = rw (start, ← append_assoc, take-append-drop, take-append-drop);
-        members = done limit past t f;
-        entries = rw cut.3 (sym (take-map (line_entry limit) k all) ∙ ap (take k) told.run.entries
-            ∙ take-map Some k (given limit t f.cursor));
+        members = done past t f;
+        entries = rw cut.3 (sym (take-map (line_entry LINE_LIMIT) k all) ∙ ap (take k) told.run.entries
+            ∙ take-map Some k (given t f.cursor));
         within = each_both _ _ _ within upto;
         most = grind (arith, flat_map-append, length-append, longest_later, longest_front, longest_drop, first_most);
       }
 
 -- where nothing may be read, little was
-pub read_none : (limit : ℕ) (past : List ℕ → Bool) (t : List ℕ) (c : CursorState) → ReadTo limit past None t c
+pub read_none : (past : List ℕ → Bool) (t : List ℕ) (c : CursorState) → ReadTo past None t c
     → reach c ≤ c.start + 2 * longest (lines t) + 8192
-read_none limit past t c h =
+read_none past t c h =
     let none = no_bytes h.read h.members h.entries h.within in let most = h.most in omega arith
   where
-    no_bytes : (ls : List (List ℕ)) (ms : List Member) → map (line_entry limit) ls ≡ map Some ms
+    no_bytes : (ls : List (List ℕ)) (ms : List Member) → map (line_entry LINE_LIMIT) ls ≡ map Some ms
         → AllByRecursion (λ m. (past m.values.key ≡ false) × IsUpto None (member_pair m)) ms → bytes_of ls ≡ 0
     no_bytes (l ∷ ls) (m ∷ ms) e within = absurd within.0.1
     no_bytes ls ms e within = grind arith
 
 -- the same where the last line that was read has the pair
-pub group_most : {limit : ℕ} {past : List ℕ → Bool} {text : Option (List ℕ)} {extent : ℕ} {c : CursorState} {pair : Pair}
-    → Fed limit past text extent (feed_of c []) → (t : List ℕ) → text ≡ Some t → EndsAt past pair (given limit t c)
+pub group_most : {past : List ℕ → Bool} {text : Option (List ℕ)} {extent : ℕ} {c : CursorState} {pair : Pair}
+    → Fed past text extent (feed_of c []) → (t : List ℕ) → text ≡ Some t → EndsAt past pair (given t c)
     → (new : CursorState) → new.start ≡ c.start → new.at ≤ c.at + first_length (lines (drop c.at t))
-    → length new.ahead ≤ 8192 → ReadTo limit past (Some pair) t new
+    → length new.ahead ≤ 8192 → ReadTo past (Some pair) t new
 group_most {pair = pair} fed t is end new start near ahead =
     read_to fed (Some pair) t new is (rw (all_taken fed t is end) (all_upto fed t is end)) start near ahead
 
 -- the same where no line was read before
-pub opening_most : {limit : ℕ} {past : List ℕ → Bool} {text : Option (List ℕ)} {extent : ℕ} {c : CursorState}
-    → Fed limit past text extent (feed_of c []) → c.count ≡ 0 → (t : List ℕ) → text ≡ Some t → (new : CursorState)
+pub opening_most : {past : List ℕ → Bool} {text : Option (List ℕ)} {extent : ℕ} {c : CursorState}
+    → Fed past text extent (feed_of c []) → c.count ≡ 0 → (t : List ℕ) → text ≡ Some t → (new : CursorState)
     → new.start ≡ c.start → new.at ≤ c.at + first_length (lines (drop c.at t)) → length new.ahead ≤ 8192
     → reach new ≤ new.start + 2 * longest (lines t) + 8192
-opening_most {limit = limit} {past = past} fed none t is new start near ahead =
-    read_none limit past t new (read_to fed None t new is (rw none tt) start near ahead)
+opening_most {past = past} fed none t is new start near ahead =
+    read_none past t new (read_to fed None t new is (rw none tt) start near ahead)
 
-module _ (limit : ℕ) (past : List ℕ → Bool) where
-  module _ {S : Type 0} (text : S → Option (List ℕ)) (extent : S → ℕ) (b : Option Pair) where
+module _ (past : List ℕ → Bool) where
+  module _ {S : Type 0} (device : Ghosts S) (b : Option Pair) where
     -- sources of which no line above the bound was taken
-    pub are_read_to : (ss : List S) (fs : List Feed) → AreFed limit past text extent ss fs
-        → AllByRecursion (λ m. IsUpto b (member_pair m)) (all_done limit past text ss fs)
-        → AreReadTo limit past text b ss fs
+    pub are_read_to : (ss : List S) (fs : List Feed) → AreFed past device ss fs
+        → AllByRecursion (λ m. IsUpto b (member_pair m)) (all_done past device.text ss fs)
+        → AreReadTo past device.text b ss fs
     are_read_to (s ∷ ss) (f ∷ fs) fed upto =
-        let cut = each_cut (λ m. IsUpto b (member_pair m)) (done limit past (text_or (text s)) f) _ upto in (
+        let cut = each_cut (λ m. IsUpto b (member_pair m)) (done past (text_or (device.text s)) f) _ upto in (
           (λ t e. read_to fed.0 b t f.cursor e (grind arith) refl (omega arith) fed.0.stands.filled.most),
           are_read_to ss fs fed.1 cut.1,
         )
     are_read_to ss fs fed upto = grind arith
 
     -- one of them was read on
-    pub read_on : (ss : List S) (fs : List Feed) (i : ℕ) (s : S) (f : Feed) → AreReadTo limit past text b ss fs
-        → ((t : List ℕ) → text s ≡ Some t → ReadTo limit past b t f.cursor)
-        → AreReadTo limit past text b (set ss i s) (set fs i f)
+    pub read_on : (ss : List S) (fs : List Feed) (i : ℕ) (s : S) (f : Feed) → AreReadTo past device.text b ss fs
+        → ((t : List ℕ) → device.text s ≡ Some t → ReadTo past b t f.cursor)
+        → AreReadTo past device.text b (set ss i s) (set fs i f)
     read_on ss fs i s f h k = grind (arith, zip_set, each_replaced)
 
     -- a line of one of them is taken
-    pub idle_read : (ss : List S) (fs : List Feed) (i : ℕ) (d : Feed) → AreReadTo limit past text b ss fs
-        → AreReadTo limit past text b ss (set fs i (idle (get_or fs i d)))
+    pub idle_read : (ss : List S) (fs : List Feed) (i : ℕ) (d : Feed) → AreReadTo past device.text b ss fs
+        → AreReadTo past device.text b ss (set fs i (idle (get_or fs i d)))
     idle_read (s ∷ ss) (f ∷ fs) (suc i) d h = (h.0, idle_read ss fs i d h.1)
     idle_read ss fs i d h = grind arith
 
 -- ---- the opening of sources
 
-pub opened_none : {S : Type 0} (text : S → Option (List ℕ)) (extent gave : S → ℕ) (ss : List S)
-    → AllOpenedWithin text extent gave ss ss
-opened_none text extent gave = grind (arith, two_same)
+pub opened_none : {S : Type 0} (device : Ghosts S) (ss : List S)
+    → AllOpenedWithin device ss ss
+opened_none device = grind (arith, two_same)
 
 -- what is left of a list that was gone over up to an index
 pub left_here : {X : Type 0} (old xs : List X) (i : ℕ) (d : X) → drop i xs ≡ drop i old → get_or xs i d ≡ get_or old i d

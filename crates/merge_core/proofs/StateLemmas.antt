@@ -1,11 +1,11 @@
 -- Sources and the feeds of a merge, while lines wait.
 use Rattle.merge_core.proofs.Words.{[], ℕ, ◌++◌, ◌+◌, ◌<◌, ◌∙◌, ◌∷◌, ◌≡◌, ◌≢◌, ◌≤◌, Aligned, Alike, AllByRecursion}
-use Rattle.merge_core.proofs.Words.{AllZip, AreFed, Bool, CursorState, Fed, Feed, IsDue, IsPermutation, List, Member}
-use Rattle.merge_core.proofs.Words.{MergeState, Option, Pair, Some, TookOf, WaitingLine, ap, append-nil, arith, done}
-use Rattle.merge_core.proofs.Words.{each_join, feed_of, feeds, feeds_from, filter-append, get_or, get_or_default, given}
-use Rattle.merge_core.proofs.Words.{inl, inr, length, length-append, length-map, length-set, length_permutation, map}
-use Rattle.merge_core.proofs.Words.{nil_from_length, not-true, queued, refl, set, set-get_or, stays, suc, sym, true}
-use Rattle.merge_core.proofs.Words.{waiting_pair, waits_of, zero}
+use Rattle.merge_core.proofs.Words.{AllZip, AreFed, Bool, CursorState, Fed, Feed, Ghosts, IsDue, IsPermutation, List}
+use Rattle.merge_core.proofs.Words.{Member, MergeState, Option, Pair, Some, TookOf, WaitingLine, ap, append-nil, arith}
+use Rattle.merge_core.proofs.Words.{done, each_join, feed_of, feeds, feeds_from, filter-append, get_or, get_or_default}
+use Rattle.merge_core.proofs.Words.{given, inl, inr, length, length-append, length-map, length-set, length_permutation}
+use Rattle.merge_core.proofs.Words.{map, nil_from_length, not-true, queued, refl, set, set-get_or, stays, suc, sym}
+use Rattle.merge_core.proofs.Words.{true, waiting_pair, waits_of, zero}
 use Rattle.std.proofs.Common.{take_all}
 use Rattle.merge_core.proofs.FeedLemmas.{filter_passes}
 use Rattle.merge_core.proofs.GroupLemmas.{filter_all}
@@ -87,10 +87,10 @@ feeds_permuted n (c ∷ cs) ws ws' p few =
     let rest = feeds_permuted (n + 1) cs ws ws' p few.1 in
     grind arith
 
-pub few_of_fed : (limit : ℕ) (past : List ℕ → Bool) {S : Type 0} (text : S → Option (List ℕ)) (extent : S → ℕ) (ss : List S)
-    (fs : List Feed) → AreFed limit past text extent ss fs → AreFew fs
-few_of_fed limit past text extent (s ∷ ss) (f ∷ fs) h = (h.0.few, few_of_fed limit past text extent ss fs h.1)
-few_of_fed limit past text extent ss fs h = grind arith
+pub few_of_fed : (past : List ℕ → Bool) {S : Type 0} (device : Ghosts S) (ss : List S)
+    (fs : List Feed) → AreFed past device ss fs → AreFew fs
+few_of_fed past device (s ∷ ss) (f ∷ fs) h = (h.0.few, few_of_fed past device ss fs h.1)
+few_of_fed past device ss fs h = grind arith
 
 -- a source's cursor moves, and these lines of it wait, where none did
 module _ (i : ℕ) (cs : List CursorState) (ws ws' : List WaitingLine) (c : CursorState) (new : List Member)
@@ -136,25 +136,25 @@ placed_queued n i ws ws' new l placed p =
 abbrev pub idle : Feed → Feed
 idle f = feed_of f.cursor []
 
-module _ {limit : ℕ} {past : List ℕ → Bool} {text : Option (List ℕ)} {extent : ℕ} {f : Feed} {m : Member}
-    (fed : Fed limit past text extent f) (one : f.waits ≡ m ∷ []) where
+module _ {past : List ℕ → Bool} {text : Option (List ℕ)} {extent : ℕ} {f : Feed} {m : Member}
+    (fed : Fed past text extent f) (one : f.waits ≡ m ∷ []) where
   module _ (t : List ℕ) (e : text ≡ Some t) where
-    its_last : (given limit t f.cursor ≡ done limit past t f ++ m ∷ []) × (stays past m ≡ true)
+    its_last : (given t f.cursor ≡ done past t f ++ m ∷ []) × (stays past m ≡ true)
     its_last = elim (fed.told t e).last [
-      | inl k ↦ (k.0 ∙ ap (λ l. done limit past t f ++ l) one, (rw one at k.1).0)
+      | inl k ↦ (k.0 ∙ ap (λ l. done past t f ++ l) one, (rw one at k.1).0)
       | inr k ↦ let none = k.0 in absurd (cc)
     ]
 
     -- then it counts as taken
-    done_idle : done limit past t (idle f) ≡ done limit past t f ++ m ∷ []
+    done_idle : done past t (idle f) ≡ done past t f ++ m ∷ []
     done_idle =
         let its = its_last in
-        let front = filter_all (stays past) (done limit past t f) (filter_passes (stays past) _) in
-        let whole = take_all f.cursor.count (given limit t f.cursor)
+        let front = filter_all (stays past) (done past t f) (filter_passes (stays past) _) in
+        let whole = take_all f.cursor.count (given t f.cursor)
         (let long = (fed.told t e).as_many in grind (arith, length-map)) in
         grind (arith, filter-append)
 
-  fed_idle : Fed limit past text extent (idle f)
+  fed_idle : Fed past text extent (idle f)
   fed_idle = record {
     stands = fed.stands;
     few = omega arith;
@@ -172,17 +172,17 @@ module _ {limit : ℕ} {past : List ℕ → Bool} {text : Option (List ℕ)} {ex
 
 -- ---- all sources
 
-module _ {limit : ℕ} {past : List ℕ → Bool} {S : Type 0} {text : S → Option (List ℕ)} {extent : S → ℕ} {ss : List S}
-    {m : MergeState} (was : Aligned limit past text extent ss m) where
+module _ {past : List ℕ → Bool} {S : Type 0} {device : Ghosts S} {ss : List S}
+    {m : MergeState} (was : Aligned past device ss m) where
   pub long_of : length ss ≡ length (feeds m)
   long_of = let same = was.same in grind (arith, feeds_long)
 
   few : AreFew (feeds m)
-  few = few_of_fed limit past text extent ss (feeds m) was.fed
+  few = few_of_fed past device ss (feeds m) was.fed
 
   pub fed_at : (i : ℕ) (a : S) (b : Feed) → i < length ss
-      → Fed limit past (text (get_or ss i a)) (extent (get_or ss i a)) (get_or (feeds m) i b)
-  fed_at i a b l = zip_get (λ s f. Fed limit past (text s) (extent s) f) ss (feeds m) i a b was.fed l
+      → Fed past (device.text (get_or ss i a)) (device.extent (get_or ss i a)) (get_or (feeds m) i b)
+  fed_at i a b l = zip_get (λ s f. Fed past (device.text s) (device.extent s) f) ss (feeds m) i a b was.fed l
 
   pub waits_at : (i : ℕ) (b : Feed) → i < length ss → (get_or (feeds m) i b).waits ≡ waits_of i m.queue
   waits_at i b l =
@@ -198,16 +198,16 @@ module _ {limit : ℕ} {past : List ℕ → Bool} {S : Type 0} {text : S → Opt
   pub aligned_set : (i : ℕ) (s : S) (f : Feed) (m' : MergeState) → feeds m' ≡ set (feeds m) i f
       → length m'.cursors.items ≡ length m.cursors.items
       → AllByRecursion (λ (v : WaitingLine). v.source < length m.cursors.items) m'.queue
-      → Fed limit past (text s) (extent s) f → Aligned limit past text extent (set ss i s) m'
+      → Fed past (device.text s) (device.extent s) f → Aligned past device (set ss i s) m'
   aligned_set i s f m' is long placed fed = record {
     same = grind (arith, length-set, was.same);
     placed = rw long placed;
-    fed = rw is (zip_put (λ s f. Fed limit past (text s) (extent s) f) ss (feeds m) i s f was.fed fed);
+    fed = rw is (zip_put (λ s f. Fed past (device.text s) (device.extent s) f) ss (feeds m) i s f was.fed fed);
   }
 
 -- the first in turn is taken out
-module _ {limit : ℕ} {past : List ℕ → Bool} {S : Type 0} {text : S → Option (List ℕ)} {extent : S → ℕ} {ss : List S}
-    {m : MergeState} (m' : MergeState) {w : WaitingLine} (was : Aligned limit past text extent ss m)
+module _ {past : List ℕ → Bool} {S : Type 0} {device : Ghosts S} {ss : List S}
+    {m : MergeState} (m' : MergeState) {w : WaitingLine} (was : Aligned past device ss m)
     (same : m'.cursors.items ≡ m.cursors.items) (p : IsPermutation m.queue (w ∷ m'.queue)) where
   placed : AllByRecursion (λ (v : WaitingLine). v.source < length m.cursors.items) (w ∷ m'.queue)
   placed = each_permuted (λ (v : WaitingLine). v.source < length m.cursors.items) m.queue (w ∷ m'.queue) p was.placed
@@ -241,7 +241,7 @@ module _ {limit : ℕ} {past : List ℕ → Bool} {S : Type 0} {text : S → Opt
       let none = none_left in
       grind arith
 
-  pub popped_aligned : Aligned limit past text extent ss m'
+  pub popped_aligned : Aligned past device ss m'
   popped_aligned =
       let i = w.source in
       let a : S = any_of ss i inside_sources in
@@ -250,7 +250,7 @@ module _ {limit : ℕ} {past : List ℕ → Bool} {S : Type 0} {text : S → Opt
       (ap length same) placed.1 (fed_idle (fed_at was i a b inside_sources) (its_one b)))
 
   pub popped : {pair : Pair} {group : List Member} (b : Feed) → Alike (waiting_pair w) pair
-      → TookOf limit past text pair w.source ss ss (feeds m) (feeds m') group (group ++ w.member ∷ [])
+      → TookOf past device.text pair w.source ss ss (feeds m) (feeds m') group (group ++ w.member ∷ [])
   popped b at =
       let i = w.source in
       let a : S = any_of ss i inside_sources in
@@ -260,7 +260,7 @@ module _ {limit : ℕ} {past : List ℕ → Bool} {S : Type 0} {text : S → Opt
         feed = idle (get_or (feeds m) i b);
         source_is = sym (set-get_or ss i a);
         feeds_are = popped_feeds b;
-        text_is = λ x. ap text (get_or_default ss i a x inside_sources);
+        text_is = λ x. ap device.text (get_or_default ss i a x inside_sources);
         taken = w.member ∷ [];
         rest_is = refl;
         alike = (at, tt);
@@ -270,7 +270,7 @@ module _ {limit : ℕ} {past : List ℕ → Bool} {S : Type 0} {text : S → Opt
       }
 
   pub popped_due : {pair : Pair} (a : S) (b : Feed) → Alike (waiting_pair w) pair
-      → IsDue limit past pair (text (get_or ss w.source a)) (idle (get_or (feeds m) w.source b))
+      → IsDue past pair (device.text (get_or ss w.source a)) (idle (get_or (feeds m) w.source b))
   popped_due a b at = record {
     none = refl;
     last = λ t e.
@@ -280,8 +280,8 @@ module _ {limit : ℕ} {past : List ℕ → Bool} {S : Type 0} {text : S → Opt
   }
 
 -- the lines of a source with the pair of a group were taken, and the next one waits
-module _ {limit : ℕ} {past : List ℕ → Bool} {S : Type 0} {text : S → Option (List ℕ)} {extent : S → ℕ} {ss : List S}
-    {m : MergeState} {i : ℕ} (was : Aligned limit past text extent ss m) (inside : i < length ss) (b : Feed)
+module _ {past : List ℕ → Bool} {S : Type 0} {device : Ghosts S} {ss : List S}
+    {m : MergeState} {i : ℕ} (was : Aligned past device ss m) (inside : i < length ss) (b : Feed)
     (none : (get_or (feeds m) i b).waits ≡ []) where
   none_waits_here : waits_of i m.queue ≡ []
   none_waits_here = sym (waits_at was i b inside) ∙ none
@@ -307,8 +307,8 @@ module _ {limit : ℕ} {past : List ℕ → Bool} {S : Type 0} {text : S → Opt
     pub waited_feeds : length new ≤ 1 → feeds m' ≡ set (feeds m) i (feed_of c new)
     waited_feeds most = rw cursors (feeds_queued i m.cursors.items m.queue m'.queue c new none_waits_here most p (few was))
 
-    pub waited_aligned : (s : S) → Fed limit past (text s) (extent s) (feed_of c new)
-        → Aligned limit past text extent (set ss i s) m'
+    pub waited_aligned : (s : S) → Fed past (device.text s) (device.extent s) (feed_of c new)
+        → Aligned past device (set ss i s) m'
     waited_aligned s fed =
         let same = was.same in
         aligned_set was i s _ m' (waited_feeds fed.few) (rw cursors (length-set m.cursors.items i c))

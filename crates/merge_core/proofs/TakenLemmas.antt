@@ -1,10 +1,10 @@
 -- What was taken of lines, beside all that is wanted of them.
 use Rattle.merge_core.proofs.Words.{[], ℕ, ◌++◌, ◌∙◌, ◌∷◌, ◌≡◌, AllByRecursion, Below, Bool, IsAbove, IsLower, IsUpto}
-use Rattle.merge_core.proofs.Words.{List, Member, None, Option, Pair, Some, Upto, WaitingLine, ap, append-nil, arith}
-use Rattle.merge_core.proofs.Words.{each_rising, each_weaker, false, filter, is_gt, is_low, is_lt, member_pair}
-use Rattle.merge_core.proofs.Words.{member_place, not, not-false, not-true, ordering_reverse, pair_cmp, pair_cmp_total}
-use Rattle.merge_core.proofs.Words.{place_cmp, place_cmp_total, refl, rising, stays, sym, true, true≢false}
-use Rattle.merge_core.proofs.Words.{waiting_pair}
+use Rattle.merge_core.proofs.Words.{List, Member, None, NoneBelow, Option, Pair, Some, Upto, WaitingLine, ap}
+use Rattle.merge_core.proofs.Words.{append-nil, arith, each_rising, each_weaker, false, filter, is_gt, is_low, is_lt}
+use Rattle.merge_core.proofs.Words.{member_pair, member_place, not, not-false, not-true, ordering_reverse, pair_cmp}
+use Rattle.merge_core.proofs.Words.{pair_cmp_total, place_cmp, place_cmp_total, refl, rising, stays, sym, true}
+use Rattle.merge_core.proofs.Words.{true≢false, waiting_pair}
 use Rattle.std.proofs.lemmas.Bool.{and_cases}
 use Rattle.merge_core.proofs.Filters.{filter_out, each_filter}
 use Rattle.merge_core.proofs.PairOrder.{below_then, then_below, from_not_below, upto_upto}
@@ -103,7 +103,7 @@ module _ {past : List ℕ → Bool} {wanted : Member → Bool} {b : Option Pair}
       none_left (m ∷ ms) h = absurd (true≢false (sym (r.within m h.0.1) ∙ h.0.0))
 
   -- what was taken stands below this pair, and the lines that wait don't
-  module _ (next : Pair) (later : IsAbove b next) (least : AllByRecursion (λ w. Upto next (waiting_pair w)) ws) where
+  module _ (next : Pair) (later : IsAbove b next) (least : NoneBelow next ws) where
     not_low : (k : Member) → Upto next (member_pair k) → is_low next k ≡ false
     not_low k u = grind (arith, pair_cmp_total.antisymm (member_pair k) next)
 

@@ -1,8 +1,8 @@
 -- Whose turn comes first.
-use Rattle.merge_core.proofs.Words.{[], ◌<◌, ◌∷◌, ◌≡◌, ◌≤◌, Alike, AllByRecursion, Below, Equal, IsAbove, IsPermutation}
-use Rattle.merge_core.proofs.Words.{List, MatchOption, Option, Pair, Upto, WaitingLine, arith, each_weaker, false}
-use Rattle.merge_core.proofs.Words.{get_or, is_eq, is_lt, length, length_permutation, pair_cmp, pair_cmp_total}
-use Rattle.merge_core.proofs.Words.{turn_cmp, waiting_pair}
+use Rattle.merge_core.proofs.Words.{[], ◌<◌, ◌∷◌, ◌≡◌, ◌≤◌, Alike, AllBeyond, AllByRecursion, Below, Equal, IsAbove}
+use Rattle.merge_core.proofs.Words.{IsPermutation, List, MatchOption, NoneBefore, NoneBelow, Option, Pair, Upto}
+use Rattle.merge_core.proofs.Words.{WaitingLine, arith, each_weaker, false, get_or, is_eq, is_lt, length}
+use Rattle.merge_core.proofs.Words.{length_permutation, pair_cmp, pair_cmp_total, turn_cmp, waiting_pair}
 use Rattle.std.proofs.Common.{IfSome}
 use Rattle.merge_core.proofs.HeapLemmas.{each_permuted}
 use Rattle.merge_core.proofs.PairOrder.{from_not_below, below_then}
@@ -17,7 +17,7 @@ source_after v w h e = grind arith
 
 -- where the first in turn is above, all are
 pub all_later : (p : Pair) (w : WaitingLine) (ws : List WaitingLine) → Below p (waiting_pair w)
-    → AllByRecursion (λ v. is_lt (turn_cmp v w) ≡ false) ws → AllByRecursion (λ v. Below p (waiting_pair v)) ws
+    → NoneBefore w ws → AllBeyond p ws
 all_later p w ws b h = each_weaker
     (λ (v : WaitingLine) (q : is_lt (turn_cmp v w) ≡ false). below_then p (waiting_pair w) (waiting_pair v) b
     (not_before v w q)) ws h
@@ -29,8 +29,8 @@ below_unless p q h e = grind (arith, pair_cmp_total)
 -- where the first in turn doesn't have the pair, all are above it
 pub all_later_unless : (p : Pair) (w : WaitingLine) (ws : List WaitingLine) → w ≡ get_or ws 0 w
     → is_eq (pair_cmp (waiting_pair w) p) ≡ false
-    → AllByRecursion (λ v. Upto p (waiting_pair v)) ws → AllByRecursion (λ v. is_lt (turn_cmp v w) ≡ false) ws
-    → AllByRecursion (λ v. Below p (waiting_pair v)) ws
+    → NoneBelow p ws → NoneBefore w ws
+    → AllBeyond p ws
 all_later_unless p w [] e n u h = tt
 all_later_unless p w (v ∷ ws) e n u h = all_later p w (v ∷ ws)
     (below_unless p (waiting_pair w) (grind arith) n) h

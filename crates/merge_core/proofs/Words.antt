@@ -29,7 +29,8 @@ pub use Rattle.merge_core.specs.PairOrders.{Alike, Below, IsAbove, IsUpto, Upto,
 pub use Rattle.merge_core.specs.Reached.{Reached}
 pub use Rattle.merge_core.specs.SourceLines.{AreLinesOf, HasEntry}
 pub use Rattle.merge_core.specs.Spending.{AllGaveOnce, AreReadTo, CameOnce, CameWithin, OpenedWithin, ReadTo}
-pub use Rattle.merge_core.specs.WaitingLines.{WaitingLine, is_of, queued, turn_cmp, waiting_pair, waits_of}
+pub use Rattle.merge_core.specs.WaitingLines.{AllBeyond, NoneBefore, NoneBelow, WaitingLine, is_of, queued, turn_cmp}
+pub use Rattle.merge_core.specs.WaitingLines.{waiting_pair, waits_of}
 pub use Rattle.merge_core.specs.Written.{lines_text}
 pub use Rattle.merge_core.specs.declared.fault.FeedFault.{FeedFault}
 pub use Rattle.merge_core.specs.declared.state.MergeState.{MergeState}
@@ -37,6 +38,7 @@ pub use Rattle.source_core.specs.Cursors.{CursorState, Stands, reach}
 pub use Rattle.source_core.specs.Halving.{digits}
 pub use Rattle.source_core.specs.IndexLines.{first_length, longest}
 pub use Rattle.source_core.specs.Search.{IsCut}
+pub use Rattle.source_core.specs.declared.source.Source.{Ghosts}
 pub use Rattle.std.proofs.Common.{Bool, Bor, Equal, IsErrAnd, Less, List, MatchOption, None, Option, Ordering, Result}
 pub use Rattle.std.proofs.Common.{Some, [], ap, append-nil, append_assoc, arith, drop, drop-set-lt, false, filter}
 pub use Rattle.std.proofs.Common.{flat_map, get_or, inl, inr, is_eq, is_gt, is_lt, length, length-append, length-drop}

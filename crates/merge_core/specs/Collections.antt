@@ -2,10 +2,12 @@
 use Rattle.std.specs.List.{AllZip}
 use Rattle.std.specs.Prelude.{◌≡◌, ℕ, ◌-◌, ◌^◌, List, length, flat_map, map, min, Option, Some}
 use Rattle.std.specs.Io.KnownBytes.{Appends}
+use Rattle.cdxj_core.specs.declared.limit.TheConstants.{LINE_LIMIT}
 use Rattle.cdxj_places.specs.Places.{place_cmp}
 use Rattle.cdxj_places.specs.Rising.{rising}
 use Rattle.cdxj_core.specs.Indexes.{IsIndex}
 use Rattle.cdxj_core.specs.Members.{Member, member_place}
+use Rattle.source_core.specs.declared.source.Source.{Ghosts}
 use Rattle.merge_core.specs.Written.{lines_text}
 
 -- each text is told, and is this one
@@ -13,18 +15,19 @@ abbrev pub Known : List (Option (List ℕ)) → List (List ℕ) → Type 0
 Known = AllZip (λ told text. told ≡ Some text)
 
 -- the bytes of the sources, if they are known, and their sizes are what they were
-abbrev pub KeepsSources : {S : Type 0} → (S → Option (List ℕ)) → (S → ℕ) → List S → List S → Type 0
-KeepsSources text extent old new = (map text new ≡ map text old) × (map extent new ≡ map extent old)
+abbrev pub KeepsSources : {S : Type 0} → Ghosts S → List S → List S → Type 0
+KeepsSources device old new =
+    (map device.text new ≡ map device.text old) × (map device.extent new ≡ map device.extent old)
 
 -- a fact of the sources' texts, if all are known
 abbrev pub OverTexts : List (Option (List ℕ)) → (List (List ℕ) → Type 0) → Type 0
 OverTexts told P = (texts : List (List ℕ)) → Known told texts → P texts
 
 -- a fact of the sources' texts and of their lines, if all texts are known, and are indexes
-abbrev pub OverIndexes : ℕ → List (Option (List ℕ)) → (List (List ℕ) → List (List Member) → Type 0) → Type 0
-OverIndexes limit told P =
-    (texts : List (List ℕ)) → (indexes : List (List Member)) → Known told texts → AllZip (IsIndex limit) texts indexes
-    → P texts indexes
+abbrev pub OverIndexes : List (Option (List ℕ)) → (List (List ℕ) → List (List Member) → Type 0) → Type 0
+OverIndexes told P =
+    (texts : List (List ℕ)) → (indexes : List (List Member)) → Known told texts
+    → AllZip (IsIndex LINE_LIMIT) texts indexes → P texts indexes
 
 -- all lines, in the order of indexes and then of lines
 abbrev pub all_lines : List (List Member) → List Member
@@ -39,8 +42,8 @@ abbrev pub collection : List (List Member) → List Member
 collection indexes = in_places (all_lines indexes)
 
 -- the texts are indexes, and their collection was written, which has so many lines
-pub record Merged (limit : ℕ) (texts : List (List ℕ)) (old new : Option (List ℕ)) (number : ℕ) : Type 0 where
+pub record Merged (texts : List (List ℕ)) (old new : Option (List ℕ)) (number : ℕ) : Type 0 where
   pub indexes : List (List Member)
-  pub are : AllZip (IsIndex limit) texts indexes
+  pub are : AllZip (IsIndex LINE_LIMIT) texts indexes
   pub text : Appends old new (lines_text (collection indexes))
   pub count : number ≡ min (length (collection indexes)) (2 ^ 64 - 1)

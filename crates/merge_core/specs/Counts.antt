@@ -15,6 +15,10 @@ abbrev pub ShareAtMost : ℕ → List Member → Type 0
 ShareAtMost most ms = (pair : Pair) → length (filter (is_at pair) ms) ≤ most
 
 -- a fact of how many lines of the sources share a pair at most, if all texts are known, and are indexes
-abbrev pub OverShares : ℕ → List (Option (List ℕ)) → (ℕ → Type 0) → Type 0
-OverShares limit told P =
-    OverIndexes limit told (λ texts indexes. (most : ℕ) → ShareAtMost most (all_lines indexes) → P most)
+abbrev pub OverShares : List (Option (List ℕ)) → (ℕ → Type 0) → Type 0
+OverShares told P =
+    OverIndexes told (λ texts indexes. (most : ℕ) → ShareAtMost most (all_lines indexes) → P most)
+
+-- a number that was at most so many still is
+abbrev pub StaysWithin : ℕ → ℕ → ℕ → Type 0
+StaysWithin most old new = old ≤ most → new ≤ most

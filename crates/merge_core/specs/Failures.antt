@@ -1,9 +1,11 @@
 -- Which device failed in a call.
-use Rattle.std.specs.Prelude.{◌≡◌, ℕ, ◌<◌, List, length, get_or, set, map, Option, Result, MatchResult}
+use Rattle.std.specs.Prelude.{◌≡◌, ℕ, ◌<◌, List, length, get_or, set, map, Result, MatchResult}
 use Rattle.devices.specs.Device.{next_count}
-use Rattle.source_core.specs.Device.{KeepsSource}
+use Rattle.devices.specs.declared.device.Output.{Ghosts as OutputGhosts}
+use Rattle.source_core.specs.Reads.{KeepsSource}
 use Rattle.source_core.specs.declared.fault.SearchFault.{SearchFault}
 use Rattle.source_core.specs.declared.fault.SearchFault.TheVariants as search
+use Rattle.source_core.specs.declared.source.Source.{Ghosts}
 use Rattle.merge_core.specs.Collections.{KeepsSources}
 use Rattle.merge_core.specs.declared.fault.FeedFault.{FeedFault}
 use Rattle.merge_core.specs.declared.fault.FeedFault.TheVariants as feed
@@ -51,26 +53,31 @@ RaisedBy other sources sources' out out' = (sources' ≡ sources) × (out' ≡ o
 
 -- the same of a call: without a fault no count changes
 
-abbrev pub CountsFeed : {A : Type 0} → Result A FeedFault → ℕ → ℕ → Type 0
-CountsFeed result old new = MatchResult result (λ _. new ≡ old) (λ fault. RaisedByFeed fault old new)
+abbrev pub CountsFeed : {S A : Type 0} → Ghosts S → Result A FeedFault → S → S → Type 0
+CountsFeed device result old new = MatchResult result (λ _. device.failures new ≡ device.failures old)
+    (λ fault. RaisedByFeed fault (device.failures old) (device.failures new))
 
 -- a call that reads lines of a source keeps it, and counts its failure
-abbrev pub FeedsFrom : {S A : Type 0} → (S → Option (List ℕ)) → (S → ℕ) → (S → ℕ) → Result A FeedFault → S → S → Type 0
-FeedsFrom text extent failures result old new =
-    KeepsSource text extent old new × CountsFeed result (failures old) (failures new)
+abbrev pub FeedsFrom : {S A : Type 0} → Ghosts S → Result A FeedFault → S → S → Type 0
+FeedsFrom device result old new =
+    KeepsSource device old new × CountsFeed device result old new
 
-abbrev pub CountsReads : {A : Type 0} → Result A MergeFault → List ℕ → List ℕ → Type 0
-CountsReads result old new = MatchResult result (λ _. new ≡ old) (λ fault. RaisedByRead fault old new)
+abbrev pub CountsReads : {S A : Type 0} → Ghosts S → Result A MergeFault → List S → List S → Type 0
+CountsReads device result olds news = MatchResult result (λ _. map device.failures news ≡ map device.failures olds)
+    (λ fault. RaisedByRead fault (map device.failures olds) (map device.failures news))
 
 -- a call that reads lines of all sources keeps them, and counts the failure
-abbrev pub ReadsSources : {S A : Type 0} → (S → Option (List ℕ)) → (S → ℕ) → (S → ℕ) → Result A MergeFault → List S
-    → List S → Type 0
-ReadsSources text extent failures result olds news =
-    KeepsSources text extent olds news × CountsReads result (map failures olds) (map failures news)
+abbrev pub ReadsSources : {S A : Type 0} → Ghosts S → Result A MergeFault → List S → List S → Type 0
+ReadsSources device result olds news =
+    KeepsSources device olds news × CountsReads device result olds news
 
 abbrev pub CountsHanding : {A : Type 0} → Result A MergeFault → ℕ → ℕ → Type 0
 CountsHanding result old new = MatchResult result (λ _. new ≡ old) (λ fault. RaisedByWrite fault old new)
 
-abbrev pub CountsMerge : {A : Type 0} → Result A MergeFault → List ℕ → List ℕ → ℕ → ℕ → Type 0
-CountsMerge result sources sources' out out' =
-    MatchResult result (λ _. (sources' ≡ sources) × (out' ≡ out)) (λ fault. RaisedBy fault sources sources' out out')
+abbrev pub CountsMerge : {S O A : Type 0} → Ghosts S → OutputGhosts O → Result A MergeFault → List S → List S → O → O
+    → Type 0
+CountsMerge device output result olds news old new =
+    MatchResult result
+    (λ _. (map device.failures news ≡ map device.failures olds) × (output.failures new ≡ output.failures old))
+    (λ fault. RaisedBy fault (map device.failures olds) (map device.failures news) (output.failures old)
+    (output.failures new))

@@ -1,15 +1,18 @@
 -- What was read of a source.
 use Rattle.std.specs.Prelude.{◌≡◌, ◌⊎◌, ℕ, ◌+◌, ◌-◌, ◌≤◌, ◌<◌, List, [], ◌∷◌, ◌++◌, flat_map, length, take, drop, map, Bool, not}
-use Rattle.std.specs.Prelude.{true, Option, Some, None}
+use Rattle.std.specs.Prelude.{true, Option, Some}
 use Rattle.std.specs.List.{AllByRecursion, AllZip, filter, zip}
+use Rattle.cdxj_core.specs.declared.limit.TheConstants.{LINE_LIMIT}
 use Rattle.cdxj_places.specs.TextLines.{lines}
 use Rattle.cdxj_core.specs.Members.{Member}
 use Rattle.cdxj_core.specs.Indexes.{IsRun}
 pub use Rattle.cdxj_core.specs.KeptLine.{no_member}
 use Rattle.cdxj_core.specs.KeptLine.{member_in}
 use Rattle.source_core.specs.Cursors.{CursorState, Stands, reach}
-use Rattle.source_core.specs.IndexLines.{BeginsAfter}
+use Rattle.source_core.specs.IndexLines.{IsLineStart}
+use Rattle.source_core.specs.declared.source.Source.{Ghosts}
 use Rattle.merge_core.specs.declared.state.MergeState.{MergeState}
+pub use Rattle.merge_core.specs.BoxedLines.{option_list}
 use Rattle.merge_core.specs.WaitingLines.{WaitingLine, waits_of}
 
 -- a source that is read: its cursor, and those of its lines that wait
@@ -28,10 +31,6 @@ feeds_from n (c ∷ cs) ws = feed_of c (waits_of n ws) ∷ feeds_from (n + 1) cs
 abbrev pub feeds : MergeState → List Feed
 feeds m = feeds_from 0 m.cursors.items m.queue
 
-abbrev pub option_list : {X : Type 0} → Option X → List X
-option_list None = []
-option_list (Some x) = x ∷ []
-
 -- the lines that were read, of a source with this text
 abbrev pub read_lines : List ℕ → CursorState → List (List ℕ)
 read_lines text c = take c.count (lines (drop c.start text))
@@ -49,74 +48,70 @@ abbrev pub EndsPast : (List ℕ → Bool) → List Member → Type 0
 EndsPast past ms = (before : List Member) × (last : Member) × (ms ≡ before ++ last ∷ [])
     × (past last.values.key ≡ true)
 
--- the limit of a line, in bytes
-module _ (limit : ℕ) where
-  -- what a line says that has an entry
-  abbrev pub member_of : List ℕ → Member
-  member_of line = member_in limit line
+-- what a line says that has an entry
+abbrev pub member_of : List ℕ → Member
+member_of line = member_in LINE_LIMIT line
 
-  -- what the lines say that were read
-  abbrev pub given : List ℕ → CursorState → List Member
-  given text c = map member_of (read_lines text c)
+-- what the lines say that were read
+abbrev pub given : List ℕ → CursorState → List Member
+given text c = map member_of (read_lines text c)
 
-  -- which keys lie past the range that is read
-  module _ (past : List ℕ → Bool) where
-    -- those of them that were taken: they lie within the range and don't wait
-    abbrev pub done : List ℕ → Feed → List Member
-    done text f = filter (stays past) (take (f.cursor.count - length f.waits) (given text f.cursor))
+-- which keys lie past the range that is read
+module _ (past : List ℕ → Bool) where
+  -- those of them that were taken: they lie within the range and don't wait
+  abbrev pub done : List ℕ → Feed → List Member
+  done text f = filter (stays past) (take (f.cursor.count - length f.waits) (given text f.cursor))
 
-    -- What is known of a source with this text: its lines that were read are those that were taken and those that wait,
-    -- or the last of them lies past the range.
-    pub record FedOf (text : List ℕ) (f : Feed) : Type 0 where
-      pub begins : (before : List (List ℕ)) × BeginsAfter text f.cursor.start before
-      pub stood : f.cursor.at ≤ f.cursor.start + bytes_of (read_lines text f.cursor)
-      pub as_many : length (read_lines text f.cursor) ≡ f.cursor.count
-      pub run : IsRun limit (read_lines text f.cursor) (given text f.cursor)
-      pub last : ((given text f.cursor ≡ done text f ++ f.waits) × AllByRecursion (λ m. stays past m ≡ true) f.waits)
-          ⊎ ((f.waits ≡ []) × (m : Member) × (given text f.cursor ≡ done text f ++ m ∷ [])
-          × (past m.values.key ≡ true))
+  -- What is known of a source with this text: its lines that were read are those that were taken and those that wait,
+  -- or the last of them lies past the range.
+  pub record FedOf (text : List ℕ) (f : Feed) : Type 0 where
+    pub begins : IsLineStart text f.cursor.start
+    pub stood : f.cursor.at ≤ f.cursor.start + bytes_of (read_lines text f.cursor)
+    pub as_many : length (read_lines text f.cursor) ≡ f.cursor.count
+    pub run : IsRun LINE_LIMIT (read_lines text f.cursor) (given text f.cursor)
+    pub last : ((given text f.cursor ≡ done text f ++ f.waits) × AllByRecursion (λ m. stays past m ≡ true) f.waits)
+        ⊎ ((f.waits ≡ []) × (m : Member) × (given text f.cursor ≡ done text f ++ m ∷ [])
+        × (past m.values.key ≡ true))
 
-    -- what holds of a feed beside its source
-    pub record Fed (text : Option (List ℕ)) (extent : ℕ) (f : Feed) : Type 0 where
-      pub stands : Stands text extent f.cursor
-      pub few : length f.waits ≤ 1
-      pub counted : length f.waits ≤ f.cursor.count
-      pub told : (t : List ℕ) → text ≡ Some t → FedOf t f
+  -- what holds of a feed beside its source
+  pub record Fed (text : Option (List ℕ)) (extent : ℕ) (f : Feed) : Type 0 where
+    pub stands : Stands text extent f.cursor
+    pub few : length f.waits ≤ 1
+    pub counted : length f.waits ≤ f.cursor.count
+    pub told : (t : List ℕ) → text ≡ Some t → FedOf t f
 
-    -- a line of the source waits, or its lines were read to the end of the range
-    abbrev pub IsSettled : Option (List ℕ) → Feed → Type 0
-    IsSettled text f = (t : List ℕ) → text ≡ Some t → f.waits ≡ []
-        → (lines (drop f.cursor.at t) ≡ []) ⊎ EndsPast past (given t f.cursor)
+  -- a line of the source waits, or its lines were read to the end of the range
+  abbrev pub IsSettled : Option (List ℕ) → Feed → Type 0
+  IsSettled text f = (t : List ℕ) → text ≡ Some t → f.waits ≡ []
+      → (lines (drop f.cursor.at t) ≡ []) ⊎ EndsPast past (given t f.cursor)
 
-    module _ {S : Type 0} (text : S → Option (List ℕ)) (extent : S → ℕ) where
-      abbrev pub AreFed : List S → List Feed → Type 0
-      AreFed = AllZip (λ s f. Fed (text s) (extent s) f)
+  module _ {S : Type 0} (device : Ghosts S) where
+    abbrev pub AreFed : List S → List Feed → Type 0
+    AreFed = AllZip (λ s f. Fed (device.text s) (device.extent s) f)
 
-      abbrev pub AreSettled : List S → List Feed → Type 0
-      AreSettled = AllZip (λ s f. IsSettled (text s) f)
+    abbrev pub AreSettled : List S → List Feed → Type 0
+    AreSettled = AllZip (λ s f. IsSettled (device.text s) f)
 
-      -- a cursor for each source, and each line that waits is of one of them
-      pub record Aligned (ss : List S) (m : MergeState) : Type 0 where
-        pub same : length ss ≡ length m.cursors.items
-        pub placed : AllByRecursion (λ (w : WaitingLine). w.source < length m.cursors.items) m.queue
-        pub fed : AreFed ss (feeds m)
+    -- a cursor for each source, and each line that waits is of one of them
+    pub record Aligned (ss : List S) (m : MergeState) : Type 0 where
+      pub same : length ss ≡ length m.cursors.items
+      pub placed : AllByRecursion (λ (w : WaitingLine). w.source < length m.cursors.items) m.queue
+      pub fed : AreFed ss (feeds m)
 
-      -- and a line of each source waits whose range has more lines
-      pub record Ready (ss : List S) (m : MergeState) : Type 0 where
-        pub aligned : Aligned ss m
-        pub settled : AreSettled ss (feeds m)
+    -- and a line of each source waits whose range has more lines
+    pub record Ready (ss : List S) (m : MergeState) : Type 0 where
+      pub aligned : Aligned ss m
+      pub settled : AreSettled ss (feeds m)
 
 -- what may change of a source and its cursor in a call, whatever it answers
-pub record Moved (old_text text : Option (List ℕ)) (old_extent extent old_gave gave : ℕ) (old now : CursorState) : Type
-    0 where
-  pub text_kept : text ≡ old_text
-  pub extent_kept : extent ≡ old_extent
-  pub spent : gave + reach old ≤ old_gave + reach now
-  pub start_kept : now.start ≡ old.start
-  pub inside : reach old ≤ old_extent → reach now ≤ extent
+pub record Moved {S : Type 0} (device : Ghosts S) (old new : S) (before now : CursorState) : Type 0 where
+  pub text_kept : device.text new ≡ device.text old
+  pub extent_kept : device.extent new ≡ device.extent old
+  pub spent : device.gave new + reach before ≤ device.gave old + reach now
+  pub start_kept : now.start ≡ before.start
+  pub inside : reach before ≤ device.extent old → reach now ≤ device.extent new
 
 -- the same of each source and its cursor
-abbrev pub AllMoved : {S : Type 0} → (S → Option (List ℕ)) → (S → ℕ) → (S → ℕ) → List S → MergeState → List S → MergeState
-    → Type 0
-AllMoved text extent gave olds old news new = AllZip (λ x y. Moved (text x.0) (text y.0) (extent x.0) (extent y.0)
-    (gave x.0) (gave y.0) x.1.cursor y.1.cursor) (zip olds (feeds old)) (zip news (feeds new))
+abbrev pub AllMoved : {S : Type 0} → Ghosts S → List S → MergeState → List S → MergeState → Type 0
+AllMoved device olds old news new =
+    AllZip (λ x y. Moved device x.0 y.0 x.1.cursor y.1.cursor) (zip olds (feeds old)) (zip news (feeds new))

@@ -5,6 +5,7 @@ use Rattle.cdxj_places.specs.Pairs.{Pair}
 use Rattle.cdxj_places.specs.Places.{place_cmp}
 use Rattle.cdxj_places.specs.Rising.{rising, Rises}
 use Rattle.cdxj_core.specs.Members.{Member, member_pair, member_place}
+use Rattle.source_core.specs.declared.source.Source.{Ghosts}
 use Rattle.merge_core.specs.declared.state.MergeState.{MergeState}
 use Rattle.merge_core.specs.PairOrders.{IsAbove, IsUpto}
 use Rattle.merge_core.specs.SourceLines.{HasEntry}
@@ -12,20 +13,20 @@ use Rattle.merge_core.specs.WaitingLines.{waiting_pair}
 use Rattle.merge_core.specs.Feeds.{AllMoved, Feed, Ready, feeds}
 use Rattle.merge_core.specs.Gathering.{AreTold, all_done}
 
-module _ {S : Type 0} (limit : ℕ) (text : S → Option (List ℕ)) (past : List ℕ → Bool) where
+module _ {S : Type 0} (past : List ℕ → Bool) (device : Ghosts S) where
   -- These lines were handed on: each was read as an entry, they rise, and none is above the bound. If the bytes of all
   -- sources are known, they are all that are done
   pub record Handed (old ss : List S) (fs : List Feed) (bound : Option Pair) (taken : List Member) : Type 0 where
-    pub entries : AllByRecursion (HasEntry limit) taken
+    pub entries : AllByRecursion HasEntry taken
     pub upto : AllByRecursion (λ m. IsUpto bound (member_pair m)) taken
     pub rises : Rises member_place place_cmp taken
-    pub told : AreTold text old → (taken ≡ rising member_place place_cmp (all_done limit past text ss fs))
-        × AllByRecursion (λ m. IsUpto bound (member_pair m)) (all_done limit past text ss fs)
+    pub told : AreTold device.text old → (taken ≡ rising member_place place_cmp (all_done past device.text ss fs))
+        × AllByRecursion (λ m. IsUpto bound (member_pair m)) (all_done past device.text ss fs)
 
   -- from these sources and this merge it came to those: the lines that wait stand above the bound
-  pub record Reached (extent gave : S → ℕ) (old : List S) (begun : MergeState) (ss : List S) (m : MergeState)
-      (bound : Option Pair) (taken : List Member) : Type 0 where
-    pub ready : Ready limit past text extent ss m
-    pub moved : AllMoved text extent gave old begun ss m
+  pub record Reached (old : List S) (begun : MergeState) (ss : List S) (m : MergeState) (bound : Option Pair)
+      (taken : List Member) : Type 0 where
+    pub ready : Ready past device ss m
+    pub moved : AllMoved device old begun ss m
     pub above : AllByRecursion (λ w. IsAbove bound (waiting_pair w)) m.queue
     pub handed : Handed old ss (feeds m) bound taken

@@ -1,6 +1,10 @@
 -- What a sink makes of lines, by what it wrote of lines.
-use Rattle.std.specs.Prelude.{ℕ, List, ◌++◌, ◌⊎◌, Option, Result, MatchResult}
+use Rattle.std.specs.Prelude.{ℕ, List, ◌++◌, ◌⊎◌, Bool, Option, Result, MatchBool, MatchResult}
 use Rattle.cdxj_core.specs.Members.{Member}
+
+-- whether more lines are wanted, where this says that none are
+abbrev pub TellsMore : Bool → Type 0 → Type 0
+TellsMore more enough = MatchBool more (enough → ⊥) enough
 
 module _ {K : Type 0} (Wrote : K → K → List Member → Option (List ℕ) → Option (List ℕ) → Type 0) where
   -- whatever it had taken, it took these lines after that

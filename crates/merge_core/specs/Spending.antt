@@ -1,12 +1,14 @@
 -- How far sources were read.
 use Rattle.std.specs.Prelude.{◌≡◌, ℕ, ◌+◌, ◌*◌, ◌≤◌, List, [], ◌∷◌, ◌++◌, length, map, drop, Bool, false, Option, Some}
-use Rattle.std.specs.List.{AllByRecursion, AllZip, filter, zip}
+use Rattle.std.specs.List.{AllByRecursion, AllZip, filter, sum, zip}
+use Rattle.cdxj_core.specs.declared.limit.TheConstants.{LINE_LIMIT}
 use Rattle.cdxj_places.specs.Pairs.{Pair}
 use Rattle.cdxj_places.specs.TextLines.{lines}
 use Rattle.cdxj_core.specs.Members.{Member, member_pair, line_entry}
 use Rattle.source_core.specs.Cursors.{CursorState, reach}
 use Rattle.source_core.specs.Halving.{digits}
 use Rattle.source_core.specs.IndexLines.{longest}
+use Rattle.source_core.specs.declared.source.Source.{Ghosts}
 use Rattle.merge_core.specs.declared.state.MergeState.{MergeState}
 use Rattle.merge_core.specs.Feeds.{Feed, bytes_of, feeds}
 use Rattle.merge_core.specs.Gathering.{all_done}
@@ -15,65 +17,70 @@ use Rattle.merge_core.specs.Written.{lines_text}
 
 -- Of a source with this text, lines were read that lie within the range and aren't above the bound; beyond them, two
 -- lines and a piece of 8,192 bytes at most
-pub record ReadTo (limit : ℕ) (past : List ℕ → Bool) (b : Option Pair) (text : List ℕ) (c : CursorState) : Type 0 where
+pub record ReadTo (past : List ℕ → Bool) (b : Option Pair) (text : List ℕ) (c : CursorState) : Type 0 where
   pub read : List (List ℕ)
   pub rest : List (List ℕ)
   pub cut : lines (drop c.start text) ≡ read ++ rest
   pub members : List Member
-  pub entries : map (line_entry limit) read ≡ map Some members
+  pub entries : map (line_entry LINE_LIMIT) read ≡ map Some members
   pub within : AllByRecursion (λ m. (past m.values.key ≡ false) × IsUpto b (member_pair m)) members
   pub most : reach c ≤ c.start + bytes_of read + 2 * longest (lines text) + 8192
 
 -- the same of each source that tells its bytes
-abbrev pub AreReadTo : {S : Type 0} → ℕ → (List ℕ → Bool) → (S → Option (List ℕ)) → Option Pair → List S → List Feed
+abbrev pub AreReadTo : {S : Type 0} → (List ℕ → Bool) → (S → Option (List ℕ)) → Option Pair → List S → List Feed
     → Type 0
-AreReadTo limit past text b ss fs = AllByRecursion (λ x. (t : List ℕ) → text x.0 ≡ Some t
-    → ReadTo limit past b t x.1.cursor) (zip ss fs)
+AreReadTo past text b ss fs = AllByRecursion (λ x. (t : List ℕ) → text x.0 ≡ Some t
+    → ReadTo past b t x.1.cursor) (zip ss fs)
 
 -- the sources were read no further than this pair, if no line above it was taken before
-abbrev pub ReadUpto : {S : Type 0} → ℕ → (List ℕ → Bool) → (S → Option (List ℕ)) → Pair → List S → MergeState → List S
+abbrev pub ReadUpto : {S : Type 0} → (List ℕ → Bool) → (S → Option (List ℕ)) → Pair → List S → MergeState → List S
     → MergeState → Type 0
-ReadUpto limit past text pair olds old news new =
-    AllByRecursion (λ m. Upto (member_pair m) pair) (all_done limit past text olds (feeds old))
-    → AreReadTo limit past text (Some pair) news (feeds new)
+ReadUpto past text pair olds old news new =
+    AllByRecursion (λ m. Upto (member_pair m) pair) (all_done past text olds (feeds old))
+    → AreReadTo past text (Some pair) news (feeds new)
 
 -- what a search in a source of so many bytes, with this text, takes at most
 abbrev pub search_most : ℕ → List ℕ → ℕ
 search_most extent text = digits extent * (2 * longest (lines text) + 2048)
 
+-- how many steps the searches in these sources take at most
+abbrev pub search_steps : {S : Type 0} → Ghosts S → List S → ℕ
+search_steps device ss = sum (map (λ s. digits (device.extent s)) ss)
+
 -- a source gave no more than a search takes, two lines and a piece
-abbrev pub OpenedWithin : Option (List ℕ) → ℕ → ℕ → ℕ → Type 0
-OpenedWithin text extent old new = (t : List ℕ) → text ≡ Some t
-    → new ≤ old + search_most extent t + 2 * longest (lines t) + 8192
+abbrev pub OpenedWithin : {S : Type 0} → Ghosts S → S → S → Type 0
+OpenedWithin device old new = (t : List ℕ) → device.text old ≡ Some t
+    → device.gave new ≤ device.gave old + search_most (device.extent old) t + 2 * longest (lines t) + 8192
 
 -- the same of each source
-abbrev pub AllOpenedWithin : {S : Type 0} → (S → Option (List ℕ)) → (S → ℕ) → (S → ℕ) → List S → List S → Type 0
-AllOpenedWithin text extent gave = AllZip (λ x y. OpenedWithin (text x) (extent x) (gave x) (gave y))
+abbrev pub AllOpenedWithin : {S : Type 0} → Ghosts S → List S → List S → Type 0
+AllOpenedWithin device = AllZip (OpenedWithin device)
 
 -- a source gave no more than a search takes, and what lies between the cursor's start and the offset up to which it was
 -- read
-abbrev pub CameWithin : Option (List ℕ) → ℕ → ℕ → ℕ → CursorState → Type 0
-CameWithin text extent old new c = (t : List ℕ) → text ≡ Some t → new + c.start ≤ old + search_most extent t + reach c
+abbrev pub CameWithin : {S : Type 0} → Ghosts S → S → S → CursorState → Type 0
+CameWithin device old new c = (t : List ℕ) → device.text old ≡ Some t
+    → device.gave new + c.start ≤ device.gave old + search_most (device.extent old) t + reach c
 
 -- a source gave each of its bytes at most once
-abbrev pub GaveOnce : ℕ → ℕ → ℕ → Type 0
-GaveOnce extent old new = new ≤ old + extent
+abbrev pub GaveOnce : {S : Type 0} → Ghosts S → S → S → Type 0
+GaveOnce device old new = device.gave new ≤ device.gave old + device.extent old
 
 -- each of its bytes up to the offset up to which it was read
-abbrev pub CameOnce : ℕ → ℕ → CursorState → Type 0
-CameOnce old new c = new ≤ old + reach c
+abbrev pub CameOnce : {S : Type 0} → Ghosts S → S → S → CursorState → Type 0
+CameOnce device old new c = device.gave new ≤ device.gave old + reach c
 
 -- each of the sources gave each of its bytes at most once
-abbrev pub AllGaveOnce : {S : Type 0} → (S → ℕ) → (S → ℕ) → List S → List S → Type 0
-AllGaveOnce extent gave = AllZip (λ old new. GaveOnce (extent old) (gave old) (gave new))
+abbrev pub AllGaveOnce : {S : Type 0} → Ghosts S → List S → List S → Type 0
+AllGaveOnce device = AllZip (GaveOnce device)
 
 -- Sources gave no more than the bytes of those of their lines that pass, what a search takes, two lines and a piece: by
 -- their texts, their indexes, and the sources before and after
-abbrev pub AllGaveWithin : {S : Type 0} → (S → ℕ) → (S → ℕ) → (Member → Bool) → List (List ℕ) → List (List Member)
-    → List S → List S → Type 0
-AllGaveWithin extent gave test [] [] [] [] = Unit {0}
-AllGaveWithin extent gave test (t ∷ ts) (i ∷ is) (old ∷ olds) (new ∷ news) =
-    (gave new ≤ gave old + length (lines_text (filter test i)) + search_most (extent old) t + 2 * longest (lines t) +
-    8192)
-    × AllGaveWithin extent gave test ts is olds news
-AllGaveWithin extent gave test ts is olds news = ⊥
+abbrev pub AllGaveWithin : {S : Type 0} → Ghosts S → (Member → Bool) → List (List ℕ) → List (List Member) → List S
+    → List S → Type 0
+AllGaveWithin device test [] [] [] [] = Unit {0}
+AllGaveWithin device test (t ∷ ts) (i ∷ is) (old ∷ olds) (new ∷ news) =
+    (device.gave new ≤ device.gave old + length (lines_text (filter test i)) + search_most (device.extent old) t
+    + 2 * longest (lines t) + 8192)
+    × AllGaveWithin device test ts is olds news
+AllGaveWithin device test ts is olds news = ⊥

@@ -1,6 +1,5 @@
 //! The merging of whole indexes.
 ghost use Rattle.std.specs.Prelude.{◌≤◌, ◌+◌, ℕ, length, map, IfOk, IfErr};
-ghost use Rattle.cdxj_core.specs.declared.limit.TheConstants.{LINE_LIMIT};
 ghost use Rattle.devices.specs.Device.{AppendsPrefix};
 ghost use Rattle.merge_core.specs.Collections.{KeepsSources, Merged, OverIndexes, OverTexts, collection};
 ghost use Rattle.merge_core.specs.Counts.{OverShares};
@@ -39,19 +38,17 @@ pub fn merge_indexes<S: Source, O: Output>(
     sources: &mut [S],
     out: &mut O,
 ) -> Result<MergedLines, MergeFault>
-    ensures kept { KeepsSources S.text S.extent sources.old sources.new }
-    ensures failures { CountsMerge result (map S.failures sources.old) (map S.failures sources.new)
-        (O.failures out.old) (O.failures out.new) }
-    ensures fault { IfErr result (IsMergeFaultOf LINE_LIMIT (map S.text sources.old)) }
+    ensures kept { KeepsSources S.Source sources.old sources.new }
+    ensures failures { CountsMerge S.Source O.Output result sources.old sources.new out.old out.new }
+    ensures fault { IfErr result (IsMergeFaultOf (map S.text sources.old)) }
     ensures merged { OverTexts (map S.text sources.old) (λ texts.
-        IfOk result (λ merged.
-        Merged LINE_LIMIT texts (O.written out.old) (O.written out.new) merged.count)) }
-    ensures part { OverIndexes LINE_LIMIT (map S.text sources.old) (λ texts indexes.
+        IfOk result (λ merged. Merged texts (O.written out.old) (O.written out.new) merged.count)) }
+    ensures part { OverIndexes (map S.text sources.old) (λ texts indexes.
         AppendsPrefix (O.written out.old) (O.written out.new) (lines_text (collection indexes))) }
-    ensures lines { WritesLinesOf LINE_LIMIT (λ merged. merged.count) (map S.text sources.old)
-        result (O.written out.old) (O.written out.new) }
-    ensures bytes { AllGaveOnce S.extent S.gave sources.old sources.new }
-    ensures most_lines { OverShares LINE_LIMIT (map S.text sources.old) (λ most.
+    ensures lines { WritesLinesOf (λ merged. merged.count) (map S.text sources.old) result
+        (O.written out.old) (O.written out.new) }
+    ensures bytes { AllGaveOnce S.Source sources.old sources.new }
+    ensures most_lines { OverShares (map S.text sources.old) (λ most.
         IfOk result (λ merged. merged.most_lines ≤ length sources.old + most)) }
 {
     let mut opened = MergeState::open_at(alloc, sources, LEAST_PAIR, &All)?;

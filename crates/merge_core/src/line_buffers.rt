@@ -7,14 +7,14 @@ ghost use Rattle.cdxj_core.specs.Plain.{is_unescaped_ascii};
 ghost use Rattle.cdxj_core.specs.Lines.{body_of};
 ghost use Rattle.cdxj_core.specs.Members.{line_entry};
 ghost use Rattle.cdxj_places.specs.TextLines.{lines};
-ghost use Rattle.merge_core.specs.Failures.{FeedsFrom};
-ghost use Rattle.source_core.specs.Cursors.{Stands, reach};
+ghost use Rattle.merge_core.specs.Failures.{CountsFeed};
 ghost use Rattle.source_core.specs.IndexLines.{first_length};
-ghost use Rattle.merge_core.specs.Feeds.{option_list, stays};
+ghost use Rattle.source_core.specs.Reads.{StandsIn};
+ghost use Rattle.merge_core.specs.Feeds.{Moved, stays};
 ghost use Rattle.std.specs.List.{filter};
 ghost use Rattle.merge_core.specs.LineFaults.{IsFeedFaultAt, line_fault};
-ghost use Rattle.merge_core.specs.NextLine.{GivesLine, IsNextLine, MovesOn};
-ghost use Rattle.merge_core.specs.BoxedLines.{boxed_line};
+ghost use Rattle.merge_core.specs.NextLine.{IsNextLine, MovesOn};
+ghost use Rattle.merge_core.specs.BoxedLines.{boxed_option, boxed_line};
 
 use crate::fault::FeedFault;
 use crate::range::Range;
@@ -95,8 +95,7 @@ impl LineBuffers {
         line: Option<Box<Line>>,
         range: &R,
     ) -> Option<Box<Line>>
-        ensures { option_list (boxed_line result)
-            ≡ filter (stays (R.past range.now)) (option_list (boxed_line line)) }
+        ensures { boxed_option result ≡ filter (stays (R.past range.now)) (boxed_option line) }
     {
         let line = line?;
         if range.is_past(line.pair().key) {
@@ -115,23 +114,19 @@ impl LineBuffers {
         source: &mut S,
         cursor: &mut Cursor,
     ) -> Result<Option<Box<Line>>, FeedFault>
-        requires stands { Stands (S.text source.old) (S.extent source.old) cursor.old }
-        ensures source { FeedsFrom S.text S.extent S.failures result source.old source.new }
-        ensures gave { S.gave source.new + reach cursor.old ≤ S.gave source.old + reach cursor.new }
-        ensures stands { OnOk result (Stands (S.text source.new) (S.extent source.new) cursor.new) }
-        ensures start { cursor.new.start ≡ cursor.old.start }
+        requires stands { StandsIn S.Source source.old cursor.old }
+        ensures moved { Moved S.Source source.old source.new cursor.old cursor.new }
+        ensures failures { CountsFeed S.Source result source.old source.new }
+        ensures stands { OnOk result (StandsIn S.Source source.new cursor.new) }
         ensures moves { IfOk result (λ o.
             MovesOn (S.extent source.old) cursor.old cursor.new (boxed_line o)) }
-        ensures given { OverText (S.text source.old) (λ t.
-            IfOk result (λ o. GivesLine LINE_LIMIT t cursor.old cursor.new (boxed_line o))) }
         ensures next { OverText (S.text source.old) (λ t.
-            IfOk result (λ o. IsNextLine LINE_LIMIT t cursor.old.at cursor.new.at (boxed_line o))) }
+            IfOk result (λ o. IsNextLine t cursor.old.at cursor.new.at (boxed_line o))) }
         ensures most { OverText (S.text source.old) (λ t.
             cursor.new.at ≤ cursor.old.at + first_length (lines (drop cursor.old.at t))) }
         ensures ahead { length cursor.new.ahead ≤ 8192 }
-        ensures inside { reach cursor.new ≤ S.extent source.old }
         ensures fault { OverText (S.text source.old) (λ t.
-            IfErr result (IsFeedFaultAt LINE_LIMIT (lines (drop cursor.old.at t)) cursor.old.at)) }
+            IfErr result (IsFeedFaultAt (lines (drop cursor.old.at t)) cursor.old.at)) }
     {
         let begin = cursor.at();
         if let Some((bytes, kind)) = cursor.held_line() {

@@ -1,11 +1,9 @@
 //! The queue of the lines that wait to be merged.
-ghost use Rattle.std.specs.Prelude.{◌≡◌, ◌<◌, true, false, [], ◌∷◌, length, slice_index_or, MatchOption, MatchResult, IfSome};
-ghost use Rattle.std.specs.List.{AllByRecursion};
+ghost use Rattle.std.specs.Prelude.{◌≡◌, ◌<◌, true, false, [], ◌∷◌, length, slice_index_or, MatchOption, IfSome};
 ghost use Rattle.std.specs.List.Sorted.{IsPermutation};
-ghost use Rattle.std.specs.Ordering.{is_lt};
 ghost use Rattle.cdxj_core.specs.Members.{member_pair};
-ghost use Rattle.merge_core.specs.PairOrders.{Alike, Below, Upto};
-ghost use Rattle.merge_core.specs.WaitingLines.{WaitingLine, waiting_pair, turn_cmp};
+ghost use Rattle.merge_core.specs.PairOrders.{Alike};
+ghost use Rattle.merge_core.specs.WaitingLines.{AllBeyond, Enqueues, NoneBefore, NoneBelow, WaitingLine, waiting_pair};
 
 use crate::keyed_line::KeyedLine;
 use crate::queued_line::QueuedLine;
@@ -51,8 +49,7 @@ impl LineQueue {
     /// Adds a line. If memory can't be allocated, the line is lost.
     /// The only error is refused memory.
     pub fn push(&mut self, waiting: QueuedLine) -> Result<(), AllocError>
-        ensures { MatchResult result (λ _. IsPermutation (waiting ∷ self.old) self.new)
-            (λ _. self.new ≡ self.old) }
+        ensures { Enqueues result (waiting ∷ []) self.old self.new }
     {
         match self.heap.push(waiting) {
             Ok(()) => Ok(()),
@@ -64,8 +61,7 @@ impl LineQueue {
     pub fn pop(&mut self) -> Option<QueuedLine>
         ensures out { MatchOption result ((self.old ≡ []) × (self.new ≡ [])) (λ w.
             IsPermutation self.old (w ∷ self.new)) }
-        ensures first { IfSome result (λ w.
-            AllByRecursion (λ v. is_lt (turn_cmp v w) ≡ false) self.new) }
+        ensures first { IfSome result (λ w. NoneBefore w self.new) }
         ensures top { IfSome result (λ w. w ≡ slice_index_or self.old 0 w) }
     {
         self.heap.pop()
@@ -75,9 +71,8 @@ impl LineQueue {
     fn is_next_at(&self, line: &KeyedLine<'_>) -> bool
         ensures alike { (d : WaitingLine) → 0 < length self.now → result ≡ true
             → Alike (waiting_pair (slice_index_or self.now 0 d)) (member_pair line.now) }
-        ensures later { AllByRecursion (λ v. Upto (member_pair line.now) (waiting_pair v)) self.now
-            → result ≡ false → AllByRecursion (λ v.
-            Below (member_pair line.now) (waiting_pair v)) self.now }
+        ensures later { NoneBelow (member_pair line.now) self.now → result ≡ false
+            → AllBeyond (member_pair line.now) self.now }
     {
         match self.heap.peek() {
             Some(waiting) => waiting.keyed().compare_pair(line).is_eq(),
@@ -87,13 +82,11 @@ impl LineQueue {
 
     /// Removes and returns the first line, if it has the pair of this one.
     pub fn pop_at(&mut self, line: &KeyedLine<'_>) -> Option<QueuedLine>
-        requires { AllByRecursion (λ v. Upto (member_pair line.now) (waiting_pair v)) self.old }
-        ensures out { MatchOption result
-            ((self.new ≡ self.old)
-            × AllByRecursion (λ v. Below (member_pair line.now) (waiting_pair v)) self.new)
-            (λ w. IsPermutation self.old (w ∷ self.new)) }
-        ensures first { IfSome result (λ w.
-            AllByRecursion (λ v. is_lt (turn_cmp v w) ≡ false) self.new) }
+        requires { NoneBelow (member_pair line.now) self.old }
+        ensures out { MatchOption result ((self.new ≡ self.old)
+            × AllBeyond (member_pair line.now) self.new) (λ w.
+            IsPermutation self.old (w ∷ self.new)) }
+        ensures first { IfSome result (λ w. NoneBefore w self.new) }
         ensures alike { IfSome result (λ w. Alike (waiting_pair w) (member_pair line.now)) }
     {
         if self.is_next_at(line) {

@@ -1,7 +1,6 @@
 //! The merging of several sources.
-ghost use Rattle.std.specs.Prelude.{◌≡◌, ◌+◌, ◌≤◌, [], length, map, IfErr};
-ghost use Rattle.cdxj_core.specs.declared.limit.TheConstants.{LINE_LIMIT};
-ghost use Rattle.merge_core.specs.Counts.{OverShares};
+ghost use Rattle.std.specs.Prelude.{◌≡◌, ◌+◌, [], length, map, IfErr};
+ghost use Rattle.merge_core.specs.Counts.{OverShares, StaysWithin};
 ghost use Rattle.merge_core.specs.Failures.{CountsMerge};
 ghost use Rattle.merge_core.specs.LineFaults.{IsMergeFaultOf};
 ghost use Rattle.merge_core.specs.Feeds.{AllMoved, Ready, feeds};
@@ -27,19 +26,15 @@ pub fn merge<S: Source, R: Range, K: Sink, O: Output>(
     sink: &mut K,
     out: &mut O,
 ) -> Result<bool, MergeFault>
-    requires ready { Ready LINE_LIMIT (R.past range.now) S.text S.extent sources.old merge.old }
-    requires fresh { all_done LINE_LIMIT (R.past range.now) S.text sources.old (feeds merge.old)
-        ≡ [] }
-    ensures moved { AllMoved S.text S.extent S.gave sources.old merge.old sources.new merge.new }
-    ensures failures { CountsMerge result (map S.failures sources.old) (map S.failures sources.new)
-        (O.failures out.old) (O.failures out.new) }
-    ensures fault { IfErr result (IsMergeFaultOf LINE_LIMIT (map S.text sources.old)) }
-    ensures most_lines { OverShares LINE_LIMIT (map S.text sources.old) (λ most.
-        merge.old.most_lines ≤ length sources.old + most
-        → merge.new.most_lines ≤ length sources.old + most) }
-    ensures ended { EndedMerge K.Wrote K.Enough (R.past range.now) S.text S.extent S.gave
-        sources.old merge.old sink.old (O.written out.old) K.Broke result
-        sources.new merge.new sink.new (O.written out.new) }
+    requires ready { Ready (R.past range.now) S.Source sources.old merge.old }
+    requires fresh { all_done (R.past range.now) S.text sources.old (feeds merge.old) ≡ [] }
+    ensures moved { AllMoved S.Source sources.old merge.old sources.new merge.new }
+    ensures failures { CountsMerge S.Source O.Output result sources.old sources.new out.old out.new }
+    ensures fault { IfErr result (IsMergeFaultOf (map S.text sources.old)) }
+    ensures most_lines { OverShares (map S.text sources.old) (λ most.
+        StaysWithin (length sources.old + most) merge.old.most_lines merge.new.most_lines) }
+    ensures ended { EndedMerge K.Sink (R.past range.now) S.Source sources.old merge.old sink.old
+        (O.written out.old) result sources.new merge.new sink.new (O.written out.new) }
 {
     let mut rest = Vec::new(alloc);
     while let Some(first) = merge.gather(sources, range, &mut rest)? {

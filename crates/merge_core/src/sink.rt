@@ -1,13 +1,12 @@
 //! The consumers of the lines of a merge.
 ghost use Rattle.std.specs.List.{AllByRecursion};
-ghost use Rattle.std.specs.Prelude.{◌≡◌, ◌∷◌, ℕ, Option, List, [], map, IfOk, MatchBool};
+ghost use Rattle.std.specs.Prelude.{◌≡◌, ◌∷◌, ℕ, Option, List, [], map, IfOk};
 ghost use Rattle.cdxj_core.specs.Members.{Member};
-ghost use Rattle.cdxj_core.specs.declared.limit.TheConstants.{LINE_LIMIT};
 ghost use Rattle.devices.specs.Device.{Grows};
 ghost use Rattle.merge_core.specs.BoxedLines.{boxed_lines};
 ghost use Rattle.merge_core.specs.Collections.{in_places};
 ghost use Rattle.merge_core.specs.Failures.{CountsHanding};
-ghost use Rattle.merge_core.specs.Sinks.{PassesOrBreaks, TakesOrBreaks};
+ghost use Rattle.merge_core.specs.Sinks.{PassesOrBreaks, TakesOrBreaks, TellsMore};
 ghost use Rattle.devices.specs.WriteFaults.{CountsWriteFault};
 ghost use Rattle.merge_core.specs.SourceLines.{HasEntry};
 
@@ -42,8 +41,7 @@ pub trait Sink {
     ) -> Result<bool, WriteFault>
         ensures wrote { TakesOrBreaks Wrote Broke result (map (λ l. l.now) lines.now)
             self.old self.new (O.written out.old) (O.written out.new) }
-        ensures more { IfOk result (λ more.
-            MatchBool more (Enough self.new → ⊥) (Enough self.new)) }
+        ensures more { IfOk result (λ more. TellsMore more (Enough self.new)) }
         ensures grows { Grows (O.written out.old) (O.written out.new) }
         ensures failures { CountsWriteFault result (O.failures out.old) (O.failures out.new) };
 }
@@ -80,7 +78,7 @@ fn in_places<'a>(
 
 /// Shows that each of the lines has an entry, which is what was read of it. Nothing else is done.
 fn have_entries(lines: &[Box<Line>])
-    ensures { AllByRecursion (HasEntry LINE_LIMIT) (boxed_lines lines.now) }
+    ensures { AllByRecursion HasEntry (boxed_lines lines.now) }
 {
     for line in lines {
         // For the proof alone, as below.
@@ -98,8 +96,7 @@ fn take_two<K: Sink, O: Output>(
 ) -> Result<bool, WriteFault>
     ensures wrote { TakesOrBreaks K.Wrote K.Broke result (in_places (first.now ∷ second.now ∷ []))
         sink.old sink.new (O.written out.old) (O.written out.new) }
-    ensures more { IfOk result (λ more.
-        MatchBool more (K.Enough sink.new → ⊥) (K.Enough sink.new)) }
+    ensures more { IfOk result (λ more. TellsMore more (K.Enough sink.new)) }
     ensures grows { Grows (O.written out.old) (O.written out.new) }
     ensures failures { CountsWriteFault result (O.failures out.old) (O.failures out.new) }
 {
@@ -124,10 +121,9 @@ pub fn pass_group<K: Sink, O: Output>(
     ensures passed { PassesOrBreaks K.Wrote K.Broke ((sink.new ≡ sink.old) × (out.new ≡ out.old))
         result (in_places (first.now ∷ boxed_lines rest.now)) sink.old sink.new
         (O.written out.old) (O.written out.new) }
-    ensures more { IfOk result (λ more.
-        MatchBool more (K.Enough sink.new → ⊥) (K.Enough sink.new)) }
+    ensures more { IfOk result (λ more. TellsMore more (K.Enough sink.new)) }
     ensures grows { Grows (O.written out.old) (O.written out.new) }
-    ensures entries { AllByRecursion (HasEntry LINE_LIMIT) (first.now ∷ boxed_lines rest.now) }
+    ensures entries { AllByRecursion HasEntry (first.now ∷ boxed_lines rest.now) }
     ensures failures { CountsHanding result (O.failures out.old) (O.failures out.new) }
 {
     // For the proof alone: the bytes of each line have it as their entry.

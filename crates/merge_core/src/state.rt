@@ -1,11 +1,9 @@
 //! The state of a merge.
-ghost use Rattle.std.specs.Prelude.{◌≡◌, ◌+◌, ◌-◌, ◌^◌, ◌<◌, ◌++◌, [], length, map, max, min, Option, Some, IfErr, OnOk, MatchResult};
+ghost use Rattle.std.specs.Prelude.{◌≡◌, ◌+◌, ◌-◌, ◌^◌, ◌<◌, [], length, map, max, min, Option, Some, IfErr, OnOk};
 ghost use Rattle.std.specs.List.{sum};
-ghost use Rattle.std.specs.List.Sorted.{IsPermutation};
-ghost use Rattle.cdxj_core.specs.declared.limit.TheConstants.{LINE_LIMIT};
 ghost use Rattle.cdxj_core.specs.Members.{member_pair};
-ghost use Rattle.merge_core.specs.BoxedLines.{boxed_line, boxed_lines};
-ghost use Rattle.merge_core.specs.WaitingLines.{queued};
+ghost use Rattle.merge_core.specs.BoxedLines.{boxed_option, boxed_lines};
+ghost use Rattle.merge_core.specs.WaitingLines.{Enqueues, queued};
 ghost use Rattle.merge_core.specs.Failures.{CountsReads};
 ghost use Rattle.merge_core.specs.LineFaults.{IsMergeFaultOf};
 
@@ -32,9 +30,9 @@ pub struct MergeState {
 }
 
 impl MergeState {
-    ghost use Rattle.merge_core.specs.Feeds.{Aligned, AllMoved, Feed, Ready, option_list};
-    ghost use Rattle.merge_core.specs.Gathering.{IsDueAt, IsGroup, ReadOn};
-    ghost use Rattle.merge_core.specs.Merging.{HaltedGroup};
+    ghost use Rattle.merge_core.specs.Feeds.{Aligned, AllMoved, Feed, Ready};
+    ghost use Rattle.merge_core.specs.Gathering.{IsDueAt, ReadOn};
+    ghost use Rattle.merge_core.specs.Merging.{EndedGroup};
     ghost use Rattle.merge_core.specs.Spending.{ReadUpto};
 
     #[inline(always)]
@@ -44,9 +42,8 @@ impl MergeState {
         source: usize,
     ) -> Result<(), AllocError>
         ensures cursors { self.new.cursors.items ≡ self.old.cursors.items }
-        ensures queue { MatchResult result (λ _. IsPermutation
-            (queued source (option_list (boxed_line line)) ++ self.old.queue) self.new.queue)
-            (λ _. self.new.queue ≡ self.old.queue) }
+        ensures queue { Enqueues result (queued source (boxed_option line)) self.old.queue
+            self.new.queue }
         ensures most_lines { self.new.most_lines ≡ self.old.most_lines }
     {
         match line {
@@ -64,20 +61,18 @@ impl MergeState {
         range: &R,
         rest: &mut Vec<Box<Line>>,
     ) -> Result<(), MergeFault>
-        requires aligned { Aligned LINE_LIMIT (R.past range.now) S.text S.extent
-            sources.old self.old }
+        requires aligned { Aligned (R.past range.now) S.Source sources.old self.old }
         requires inside { i < length sources.old }
-        requires due { IsDueAt LINE_LIMIT (R.past range.now) S.text (member_pair first.now) i
-            sources.old self.old }
-        ensures moved { AllMoved S.text S.extent S.gave sources.old self.old sources.new self.new }
-        ensures failures { CountsReads result (map S.failures sources.old)
-            (map S.failures sources.new) }
-        ensures fault { IfErr result (IsMergeFaultOf LINE_LIMIT (map S.text sources.old)) }
-        ensures read { OnOk result (ReadOn LINE_LIMIT (R.past range.now) S.text S.extent
-            (member_pair first.now) i sources.old self.old sources.new self.new
-            (boxed_lines rest.old.items) (boxed_lines rest.new.items)) }
-        ensures most { ReadUpto LINE_LIMIT (R.past range.now) S.text (member_pair first.now)
-            sources.old self.old sources.new self.new }
+        requires due { IsDueAt (R.past range.now) S.text (member_pair first.now) i sources.old
+            self.old }
+        ensures moved { AllMoved S.Source sources.old self.old sources.new self.new }
+        ensures failures { CountsReads S.Source result sources.old sources.new }
+        ensures fault { IfErr result (IsMergeFaultOf (map S.text sources.old)) }
+        ensures read { OnOk result (ReadOn (R.past range.now) S.Source (member_pair first.now) i
+            sources.old self.old sources.new self.new (boxed_lines rest.old.items)
+            (boxed_lines rest.new.items)) }
+        ensures most { ReadUpto (R.past range.now) S.text (member_pair first.now) sources.old
+            self.old sources.new self.new }
         ensures most_lines { self.new.most_lines ≡ self.old.most_lines }
     {
         let next = match self
@@ -99,18 +94,14 @@ impl MergeState {
         range: &R,
         rest: &mut Vec<Box<Line>>,
     ) -> Result<Option<Box<Line>>, MergeFault>
-        requires ready { Ready LINE_LIMIT (R.past range.now) S.text S.extent sources.old self.old }
+        requires ready { Ready (R.past range.now) S.Source sources.old self.old }
         requires empty { rest.old.items ≡ [] }
-        ensures moved { AllMoved S.text S.extent S.gave sources.old self.old sources.new self.new }
-        ensures failures { CountsReads result (map S.failures sources.old)
-            (map S.failures sources.new) }
-        ensures fault { IfErr result (IsMergeFaultOf LINE_LIMIT (map S.text sources.old)) }
-        ensures ready { OnOk result
-            (Ready LINE_LIMIT (R.past range.now) S.text S.extent sources.new self.new) }
-        ensures gathered { MatchResult result (λ first.
-            IsGroup LINE_LIMIT (R.past range.now) S.text S.extent sources.old self.old
-            sources.new self.new (boxed_line first) (boxed_lines rest.new.items)) (λ _.
-            HaltedGroup (R.past range.now) S.text sources.old self.old sources.new self.new) }
+        ensures moved { AllMoved S.Source sources.old self.old sources.new self.new }
+        ensures failures { CountsReads S.Source result sources.old sources.new }
+        ensures fault { IfErr result (IsMergeFaultOf (map S.text sources.old)) }
+        ensures ready { OnOk result (Ready (R.past range.now) S.Source sources.new self.new) }
+        ensures gathered { EndedGroup (R.past range.now) S.Source sources.old self.old result
+            sources.new self.new (boxed_lines rest.new.items) }
         ensures most_lines { self.new.most_lines ≡ self.old.most_lines }
     {
         let Some(next) = self.queue.pop() else {

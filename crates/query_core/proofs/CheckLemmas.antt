@@ -1,8 +1,8 @@
 -- How far a check has come.
-use Rattle.query_core.proofs.Words.{[], ℕ, ◌++◌, ◌+◌, ◌∙◌, ◌∷◌, ◌≡◌, ◌≤◌, AllByRecursion, IsIndex, List, Member}
-use Rattle.query_core.proofs.Words.{NeverFalls, None, Option, Some, Upto, ap, arith, drop, each_join, each_weaker}
-use Rattle.query_core.proofs.Words.{length, length-append, length-drop, line_entry, map-append, member_pair, pair_cmp}
-use Rattle.query_core.proofs.Words.{refl, sym, take, take-append-drop, take_all, upto_upto}
+use Rattle.query_core.proofs.Words.{[], ℕ, ◌++◌, ◌+◌, ◌∙◌, ◌∷◌, ◌≡◌, ◌≤◌, AllByRecursion, IsIndex, LINE_LIMIT, List}
+use Rattle.query_core.proofs.Words.{Member, NeverFalls, None, Option, Some, Upto, ap, arith, drop, each_join}
+use Rattle.query_core.proofs.Words.{each_weaker, length, length-append, length-drop, line_entry, map-append}
+use Rattle.query_core.proofs.Words.{member_pair, pair_cmp, refl, sym, take, take-append-drop, take_all, upto_upto}
 use Rattle.std.specs.Prelude.{Err, MatchOption}
 use Rattle.std.proofs.lemmas.List.{drop-drop}
 use Rattle.cdxj_core.specs.Indexes.{IsRun}
@@ -28,36 +28,36 @@ all_upto members (Some last) m is stays ordered =
     (each_weaker (λ (k : Member) (h : Upto (member_pair k) (member_pair last)). upto_upto (member_pair k)
     (member_pair last) (member_pair m) h step) is.0 last_of) (step, tt))
 
-run_push : (limit : ℕ) (ls : List (List ℕ)) (members : List Member) (previous : Option Member) (l : List ℕ)
-    (m : Member) → IsRun limit ls members → IsLastOf members previous
-    → line_entry limit l ≡ Some m → (FallsAfter previous m → ⊥) → IsRun limit (ls ++ l ∷ []) (members ++ m ∷ [])
-run_push limit ls members previous l m run is entry stays = grind (arith, map-append, falls_push, all_upto)
+run_push : (ls : List (List ℕ)) (members : List Member) (previous : Option Member) (l : List ℕ)
+    (m : Member) → IsRun LINE_LIMIT ls members → IsLastOf members previous
+    → line_entry LINE_LIMIT l ≡ Some m → (FallsAfter previous m → ⊥) → IsRun LINE_LIMIT (ls ++ l ∷ []) (members ++ m ∷ [])
+run_push ls members previous l m run is entry stays = grind (arith, map-append, falls_push, all_upto)
 
-module _ (limit : ℕ) (t : List ℕ) where
+module _ (t : List ℕ) where
   -- so many lines, up to an offset, are an index by themselves, of which this is the last
   pub record CheckedTo (at count : ℕ) (previous : Option Member) : Type 0 where
     pub members : List Member
-    pub run : IsRun limit (take count (lines t)) members
+    pub run : IsRun LINE_LIMIT (take count (lines t)) members
     pub last : IsLastOf members previous
     pub as_many : count ≡ length members
     pub rest : lines (drop at t) ≡ drop count (lines t)
 
   module _ {at count : ℕ} {previous : Option Member} (checked : CheckedTo at count previous) where
-    pub checked_more : (to : ℕ) (m : Member) → IsNextLine limit t at to (Some m) → (FallsAfter previous m → ⊥)
+    pub checked_more : (to : ℕ) (m : Member) → IsNextLine t at to (Some m) → (FallsAfter previous m → ⊥)
         → CheckedTo to (count + 1) (Some m)
     checked_more to m next stays =
         let grown = take_next count (lines t) next.0 (lines (drop to t)) (sym checked.rest ∙ next.1) in
         record {
           members = checked.members ++ m ∷ [];
-          run = rw grown (run_push limit _ checked.members previous next.0 m checked.run checked.last next.2 stays);
+          run = rw grown (run_push _ checked.members previous next.0 m checked.run checked.last next.2 stays);
           last = (checked.members, refl);
           as_many = grind (arith, length-append);
           rest = sym (ap (drop 1) (sym checked.rest ∙ next.1)) ∙ drop-drop 1 count (lines t);
         }
 
-    pub checked_whole : (to number : ℕ) (found : Option Member) → IsNextLine limit t at to found
+    pub checked_whole : (to number : ℕ) (found : Option Member) → IsNextLine t at to found
         → MatchOption found (number ≡ count) (λ _. number ≡ count + 1)
-        → ((m : Member) → found ≡ Some m → ⊥) → (members : List Member) × IsIndex limit t members
+        → ((m : Member) → found ≡ Some m → ⊥) → (members : List Member) × IsIndex LINE_LIMIT t members
         × (number ≡ length members)
     checked_whole to number None none counted end =
         let e = sym checked.rest ∙ none in
@@ -73,8 +73,8 @@ module _ (limit : ℕ) (t : List ℕ) where
           → LineBeginsAt t at (take count (lines t)) line
       begins line after e = grind (arith, cut, begins_at)
 
-      pub checked_falls : (to : ℕ) (m : Member) → IsNextLine limit t at to (Some m) → FallsAfter previous m
-          → EndsOutOfOrder limit t at
+      pub checked_falls : (to : ℕ) (m : Member) → IsNextLine t at to (Some m) → FallsAfter previous m
+          → EndsOutOfOrder t at
       checked_falls to m next falls = record {
         before = _;
         line = _;
@@ -88,6 +88,6 @@ module _ (limit : ℕ) (t : List ℕ) where
         falls = falls;
       }
 
-      pub checked_fault : (e : FeedFault) → IsFeedFaultAt limit (lines (drop at t)) at e
-          → IsChecked limit t (Err (fault_of_index 0 e))
+      pub checked_fault : (e : FeedFault) → IsFeedFaultAt (lines (drop at t)) at e
+          → IsChecked t (Err (fault_of_index 0 e))
       checked_fault e known = grind (arith, begins)

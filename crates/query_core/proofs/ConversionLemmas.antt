@@ -6,8 +6,8 @@ use Rattle.merge_core.specs.declared.fault.MergeFault.TheVariants as merge
 use Rattle.merge_core.specs.LineFaults as lines
 use Rattle.query_core.specs.Conversions.{fault_of_merge}
 
-pub merge_line : (limit : ℕ) (texts : List (Option (List ℕ))) (e : MergeFault) → lines.IsMergeFaultOf limit texts e
-    → IsAnswerFaultOf limit texts (fault_of_merge e)
-merge_line limit texts (merge.Feed i feed.Memory) h = tt
-merge_line limit texts (merge.Feed i feed.Read) h = tt
-merge_line limit texts other h = h
+pub merge_line : (texts : List (Option (List ℕ))) (e : MergeFault) → lines.IsMergeFaultOf texts e
+    → IsAnswerFaultOf texts (fault_of_merge e)
+merge_line texts (merge.Feed i feed.Memory) h = tt
+merge_line texts (merge.Feed i feed.Read) h = tt
+merge_line texts other h = h

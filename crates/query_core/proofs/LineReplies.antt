@@ -1,9 +1,9 @@
 -- The reply to a line, by what the line is.
 use Rattle.query_core.proofs.Words.{[], ℕ, ◌++◌, ◌≡◌, ◌≤◌, AnswerFault, Appends, Appends-join, AppendsPrefix}
-use Rattle.query_core.proofs.Words.{AreLinesOf, Err, IsAnswerFaultOf, IsMarkedReply, LINE_LIMIT, List, Member, Ok}
-use Rattle.query_core.proofs.Words.{Option, QueryFault, QueryValue, Some, answer_text, arith, codes}
-use Rattle.query_core.proofs.Words.{false_from_ne_true, is_utf8, is_utf8-from_IsUtf8, le-ltb, length, prefix_after}
-use Rattle.query_core.proofs.Words.{prefix_longer, query_page, refl, true}
+use Rattle.query_core.proofs.Words.{AreLinesOf, Err, IsAnswerFaultOf, IsMarkedReply, List, Member, Ok, Option}
+use Rattle.query_core.proofs.Words.{QueryFault, QueryValue, Some, answer_text, arith, codes, false_from_ne_true}
+use Rattle.query_core.proofs.Words.{is_utf8, is_utf8-from_IsUtf8, le-ltb, length, prefix_after, prefix_longer}
+use Rattle.query_core.proofs.Words.{query_page, refl, true}
 use Rattle.std.proofs.Common.{Result}
 use Rattle.std.proofs.lemmas.Str.{IsUtf8-from_is_utf8}
 use Rattle.devices.specs.Writing.{WritesText}
@@ -26,8 +26,8 @@ marked (Err e) old mid new text mark a w = prefix_after old mid new text mark a 
 
 -- the fault of a line after a front of the page
 pub fault_reply : {A E : Type 0} (told : List (Option (List ℕ))) (q : QueryValue) (lines : List Member) (r : Result A E)
-    (old mid new : Option (List ℕ)) (fault : AnswerFault) (line : List ℕ) → AreLinesOf LINE_LIMIT told lines
-    → AppendsPrefix old mid (answer_text q (query_page q lines)) → IsAnswerFaultOf LINE_LIMIT told fault
+    (old mid new : Option (List ℕ)) (fault : AnswerFault) (line : List ℕ) → AreLinesOf told lines
+    → AppendsPrefix old mid (answer_text q (query_page q lines)) → IsAnswerFaultOf told fault
     → fault_text fault ≡ Some line → WritesText r mid new line → WritesSome r old new (IsPageReply told q)
 fault_reply told q lines r old mid new fault line are (rest, wrote) named is w =
     let m = marked r old mid new wrote.front line wrote.grown w in

@@ -158,7 +158,7 @@ unfolding spaces
 text_refused fields m name none e =
     omega (arith, text_spaces fields m, ap spaces e, spaces_join name (10 ∷ []), no_spaces name none)
 
-text_some : (fields : List Field) → (fields ≡ [] → ⊥) → (m : Member) → HasEntry LINE_LIMIT m
+text_some : (fields : List Field) → (fields ≡ [] → ⊥) → (m : Member) → HasEntry m
     → text_row fields m ≡ 10 ∷ [] → ⊥
 text_some [] some m h e = some refl
 text_some (f ∷ fields) some m h e =
@@ -173,7 +173,7 @@ last_of_three : (a b c : Bool) → (a && b && c) ≡ true → c ≡ true
 last_of_three a b c e = grind arith
 
 -- the line has a space after its stamp
-spaced_tail : (m : Member) → HasEntry LINE_LIMIT m → begins_with_space (tail_part m.line) ≡ true
+spaced_tail : (m : Member) → HasEntry m → begins_with_space (tail_part m.line) ≡ true
 spaced_tail m h =
     last_of_three (is_key (key_part m.line)) (is_stamp (stamp_part m.line)) (begins_with_space (tail_part m.line))
     (if_some (begins_with_pair m.line) (key_part m.line, stamp_part m.line) (member_pair m)
@@ -183,13 +183,13 @@ some_left : (text : List ℕ) → begins_with_space text ≡ true → 0 < length
 some_left [] h = absurd (grind arith)
 some_left (b ∷ text) h = omega arith
 
-cdxj_long : (m : Member) → HasEntry LINE_LIMIT m → 14 < length m.line
+cdxj_long : (m : Member) → HasEntry m → 14 < length m.line
 cdxj_long m h =
     let some = some_left (tail_part m.line) (spaced_tail m h) in
     let after = after_first is_space m.line in
     omega (arith, some, length-drop 14 after, length-drop (position_or_len is_space m.line + 1) m.line)
 
-cdxj_short : (m : Member) (row : List ℕ) → HasEntry LINE_LIMIT m → length row ≤ 2 → line_row m ≡ row → ⊥
+cdxj_short : (m : Member) (row : List ℕ) → HasEntry m → length row ≤ 2 → line_row m ≡ row → ⊥
 cdxj_short m row h short e = omega (arith, cdxj_long m h, short, ap length e, length-append m.line (10 ∷ []))
 
 no_space_later : (n : ℕ) (name : List ℕ) → has_no_space name ≡ true → begins_with_space (drop n name) ≡ false
@@ -199,14 +199,14 @@ no_space_later zero (b ∷ name) h = grind arith
 no_space_later (suc n) (b ∷ name) h = no_space_later n name (grind arith)
 
 -- the name of a refusal holds no stamp
-cdxj_refused : (m : Member) (name : List ℕ) → HasEntry LINE_LIMIT m → has_no_space name ≡ true
+cdxj_refused : (m : Member) (name : List ℕ) → HasEntry m → has_no_space name ≡ true
     → line_row m ≡ refusal_text name → ⊥
 cdxj_refused m name h none e =
     let line : m.line ≡ codes "refused " ++ name = append_cancel_right m.line (codes "refused " ++ name) (10 ∷ []) e in
     let tail : begins_with_space (drop 14 name) ≡ true = rw line at (spaced_tail m h) in
     true≢false (sym tail ∙ no_space_later 14 name none)
 
-cdxj_line : (m : Member) → HasEntry LINE_LIMIT m → IsLine (line_row m)
+cdxj_line : (m : Member) → HasEntry m → IsLine (line_row m)
 cdxj_line m h = (m.line, refl, (is_row LINE_LIMIT m.line m h).0)
 
 -- ---- the lines of a page, by its output

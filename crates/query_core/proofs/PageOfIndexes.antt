@@ -1,13 +1,14 @@
 -- What was taken of indexes, beside all that is wanted of their collection.
 use Rattle.query_core.proofs.Words.{[], ℕ, ◌&&◌, ◌++◌, ◌∷◌, ◌≡◌, ◌≤◌, All, All-head, All-tail, AllByRecursion, AllZip}
-use Rattle.query_core.proofs.Words.{AreLinesOf, Bool, IsAbove, IsIndex, Known, LINE_LIMIT, List, Member, None, Option}
-use Rattle.query_core.proofs.Words.{Ordering, Pair, PlaceValue, QueryValue, Some, Upto, all_lines, and_parts, arith}
-use Rattle.query_core.proofs.Words.{begins_with_pair, collection, cond, each_join, each_kept, each_rising}
-use Rattle.query_core.proofs.Words.{each_weaker, entry_pair_is, eqb-true, false, feeds, filter, inl, inr, is_above}
-use Rattle.query_core.proofs.Words.{is_gt, is_low, is_past, is_stamp, is_wanted, key_part, later_pair, length, lines}
-use Rattle.query_core.proofs.Words.{map, member_pair, member_place, nat_cmp, nat_tests, not, pair_cmp, pair_cmp_total}
-use Rattle.query_core.proofs.Words.{past_upward, place_before, place_cmp, place_cmp_total, refl, slice_cmp}
-use Rattle.query_core.proofs.Words.{stamp_part, start_pair, suc, taken_first, taken_whole, true, waiting_pair, zip}
+use Rattle.query_core.proofs.Words.{AreLinesOf, Bool, Ghosts, IsAbove, IsIndex, Known, LINE_LIMIT, List, Member, None}
+use Rattle.query_core.proofs.Words.{NoneBelow, Option, Ordering, Pair, PlaceValue, QueryValue, Some, Upto, all_lines}
+use Rattle.query_core.proofs.Words.{and_parts, arith, begins_with_pair, collection, cond, each_join, each_kept}
+use Rattle.query_core.proofs.Words.{each_rising, each_weaker, entry_pair_is, eqb-true, false, feeds, filter, inl, inr}
+use Rattle.query_core.proofs.Words.{is_above, is_gt, is_low, is_past, is_stamp, is_wanted, key_part, later_pair}
+use Rattle.query_core.proofs.Words.{length, lines, map, member_pair, member_place, nat_cmp, nat_tests, not, pair_cmp}
+use Rattle.query_core.proofs.Words.{pair_cmp_total, past_upward, place_before, place_cmp, place_cmp_total, refl}
+use Rattle.query_core.proofs.Words.{slice_cmp, stamp_part, start_pair, suc, taken_first, taken_whole, true}
+use Rattle.query_core.proofs.Words.{zip}
 use Rattle.query_core.proofs.AskedLemmas.{captures}
 use Rattle.std.proofs.Common.{replicate}
 use Rattle.query_text.proofs.RangeLaw.{match_not_below}
@@ -62,10 +63,10 @@ start_not_above q from m s h =
 -- ---- every line of an index has a stamp
 
 -- a line has a stamp
-line_stamp : (limit : ℕ) (t : List ℕ) (m : Member) → IsLineIn limit t m → is_stamp m.values.stamp ≡ true
-line_stamp limit t m h =
+line_stamp : (t : List ℕ) (m : Member) → IsLineIn t m → is_stamp m.values.stamp ≡ true
+line_stamp t m h =
     let found = some_pair (begins_with_pair h.0) (key_part h.0) (stamp_part h.0) (member_pair m)
-    (entry_pair_is limit h.0 m h.2) in
+    (entry_pair_is LINE_LIMIT h.0 m h.2) in
     grind (arith, and_parts)
   where
     some_pair : (b : Bool) (key stamp : List ℕ) (pair : Pair) → cond b (Some (key, stamp)) None ≡ Some pair → (b ≡ true)
@@ -81,16 +82,16 @@ stamped f (x ∷ xs) h = grind (arith, stamped f xs)
 index_stamps : (texts : List (List ℕ)) (indexes : List (List Member)) → AllZip (IsIndex LINE_LIMIT) texts indexes
     → AllByRecursion (λ m. is_stamp m.values.stamp ≡ true) (all_lines indexes)
 index_stamps (t ∷ ts) (i ∷ is) are =
-    let entries = each_entry LINE_LIMIT (lines t) (lines t) i are.0.entries (λ l h. h) in
-    let here = each_weaker (λ (m : Member). line_stamp LINE_LIMIT t m) i entries in
+    let entries = each_entry (lines t) (lines t) i are.0.entries (λ l h. h) in
+    let here = each_weaker (λ (m : Member). line_stamp t m) i entries in
     grind (arith, each_join, index_stamps ts is)
 index_stamps texts indexes are = grind arith
 
 -- a line of sources that tell their bytes has one
 known_stamp : (told : List (Option (List ℕ))) (texts : List (List ℕ)) (m : Member) → Known told texts
-    → IsLineOf LINE_LIMIT told m → is_stamp m.values.stamp ≡ true
+    → IsLineOf told m → is_stamp m.values.stamp ≡ true
 known_stamp (o ∷ os) (t ∷ ts) m k h = elim (rw k.0 at h) [
-  | inl here ↦ line_stamp LINE_LIMIT t m here
+  | inl here ↦ line_stamp t m here
   | inr later ↦ known_stamp os ts m k.1 later
 ]
 known_stamp told texts m k h = grind arith
@@ -98,14 +99,14 @@ known_stamp told texts m k h = grind arith
 -- ---- what was taken
 
 -- Of these sources lines are taken, from where the search for the page's start ended
-module _ {S : Type 0} (text : S → Option (List ℕ)) (extent gave : S → ℕ) (q : QueryValue) (olds : List S) where
+module _ {S : Type 0} (device : Ghosts S) (q : QueryValue) (olds : List S) where
   -- they were opened
   pub record Opened (opened : List S) (begun : MergeState) : Type 0 where
-    pub kept : map text opened ≡ map text olds
+    pub kept : map device.text opened ≡ map device.text olds
     pub same : length opened ≡ length begun.cursors.items
-    pub came : AllZip (λ x y. CameWithin (text x) (extent x) (gave x) (gave y.0) y.1.cursor) olds
+    pub came : AllZip (λ x y. CameWithin device x y.0 y.1.cursor) olds
         (zip opened (feeds begun))
-    pub cut : AllByRecursion (λ x. IsCutAt LINE_LIMIT (start_pair q q.resume) (text x.0) x.1.cursor)
+    pub cut : AllByRecursion (λ x. IsCutAt (start_pair q q.resume) (device.text x.0) x.1.cursor)
         (zip opened (feeds begun))
 
   -- these lines were taken
@@ -117,12 +118,12 @@ module _ {S : Type 0} (text : S → Option (List ℕ)) (extent gave : S → ℕ)
     pub bound : Option Pair
     pub taken : List Member
     pub start : Opened opened begun
-    pub reached : Reached LINE_LIMIT text (is_past q.target) extent gave opened begun sources merge bound taken
+    pub reached : Reached (is_past q.target) device opened begun sources merge bound taken
 
-abbrev pub reading : {S : Type 0} {text : S → Option (List ℕ)} {extent gave : S → ℕ} {q : QueryValue} {olds : List S}
-    {opened : List S} {begun : MergeState} {sources : List S} {merge : MergeState} {bound : Option Pair} {taken : List Member} → Opened text extent gave q olds opened begun
-    → Reached LINE_LIMIT text (is_past q.target) extent gave opened begun sources merge bound taken
-    → Reading text extent gave q olds
+abbrev pub reading : {S : Type 0} {device : Ghosts S} {q : QueryValue} {olds : List S}
+    {opened : List S} {begun : MergeState} {sources : List S} {merge : MergeState} {bound : Option Pair} {taken : List Member} → Opened device q olds opened begun
+    → Reached (is_past q.target) device opened begun sources merge bound taken
+    → Reading device q olds
 reading start reached = record {
   opened = _;
   begun = _;
@@ -144,17 +145,17 @@ module _ (q : QueryValue) where
   beyond : (m : Member) → sought m ≡ true → is_low (start_pair q q.resume) m ≡ false
   beyond m h = grind (arith, start_not_above, and_parts)
 
-module _ {S : Type 0} {text : S → Option (List ℕ)} {extent gave : S → ℕ} {q : QueryValue} {olds : List S}
-    (r : Reading text extent gave q olds) where
-  pub lines_taken : AreLinesOf LINE_LIMIT (map text olds) r.taken
-  lines_taken = rw (← r.start.kept) (taken_lines LINE_LIMIT text extent (is_past q.target) gave r.opened r.begun r.sources
+module _ {S : Type 0} {device : Ghosts S} {q : QueryValue} {olds : List S}
+    (r : Reading device q olds) where
+  pub lines_taken : AreLinesOf (map device.text olds) r.taken
+  lines_taken = rw (← r.start.kept) (taken_lines device (is_past q.target) r.opened r.begun r.sources
       r.merge r.bound r.taken r.start.same r.reached)
 
-  module _ (texts : List (List ℕ)) (known : Known (map text olds) texts) where
-    pub known_opened : Known (map text r.opened) texts
+  module _ (texts : List (List ℕ)) (known : Known (map device.text olds) texts) where
+    pub known_opened : Known (map device.text r.opened) texts
     known_opened = rw r.start.kept known
 
-    pub told : AreTold text r.opened
+    pub told : AreTold device.text r.opened
     told = grind (arith, told_known, known_opened)
 
     module _ (indexes : List (List Member)) (are : AllZip (IsIndex LINE_LIMIT) texts indexes) where
@@ -185,7 +186,7 @@ module _ {S : Type 0} {text : S → Option (List ℕ)} {extent gave : S → ℕ}
 
       -- where the lines that wait don't stand below a pair, the rest doesn't either
       pub wanted_before : (next : Pair) → IsAbove r.bound next
-          → AllByRecursion (λ w. Upto next (waiting_pair w)) r.merge.queue
+          → NoneBelow next r.merge.queue
           → (rest : List Member) × (captures q (collection indexes) ≡ captures q r.taken ++ rest)
           × AllByRecursion (λ m. Upto next (member_pair m)) rest
       wanted_before next above least =

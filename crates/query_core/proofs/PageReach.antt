@@ -1,6 +1,6 @@
 -- What was read for a page, beside its reach.
 use Rattle.query_core.proofs.Words.{[], ℕ, ◌++◌, ◌-◌, ◌^◌, ◌∷◌, ◌≡◌, ◌≤◌, AllZip, Appends, Appends-none, AreAtMost}
-use Rattle.query_core.proofs.Words.{AreFirst, Bool, FormValue, GaveFor, GaveInReach, Grows, IsIndex, Known}
+use Rattle.query_core.proofs.Words.{AreFirst, Bool, FormValue, GaveFor, GaveInReach, Ghosts, Grows, IsIndex, Known}
 use Rattle.query_core.proofs.Words.{LINE_LIMIT, List, Member, None, Option, OverIndexes, PageWriter, PlaceValue}
 use Rattle.query_core.proofs.Words.{QueryValue, Some, Wrote, WroteFirst, arith, begun, captures_text, collection}
 use Rattle.query_core.proofs.Words.{false, false_from_ne_true, form_of, grows_by, grows_on, is_some, kept, length}
@@ -45,14 +45,14 @@ front_written form (m ∷ ms) old middle new a g = grind arith
 
 -- What was written of the page of these lines, which come first, and what sources gave for the captures of the earlier
 -- of them
-pub page_reached : {S : Type 0} (text : S → Option (List ℕ)) (extent gave : S → ℕ) {q : QueryValue}
+pub page_reached : {S : Type 0} (device : Ghosts S) {q : QueryValue}
     {old middle : Option (List ℕ)} (new : Option (List ℕ)) (olds news : List S) {taken : List Member}
     (earlier tail : List Member) → Writing q q.limit [] old middle taken → Grows middle new
-    → OverIndexes LINE_LIMIT (map text olds) (λ texts indexes. AreFirst q (collection indexes) taken)
+    → OverIndexes (map device.text olds) (λ texts indexes. AreFirst q (collection indexes) taken)
     → captures q taken ≡ captures q earlier ++ tail → AreAtMost q.limit (captures q earlier)
-    → GaveFor q (map text olds) extent gave earlier olds news → OverIndexes LINE_LIMIT (map text olds)
-    (λ texts indexes. GaveInReach extent gave q texts indexes old new olds news)
-page_reached text extent gave {q} {old} {middle} new olds news {taken} earlier tail w grows first split most within =
+    → GaveFor q (map device.text olds) device earlier olds news → OverIndexes (map device.text olds)
+    (λ texts indexes. GaveInReach device q texts indexes old new olds news)
+page_reached device {q} {old} {middle} new olds news {taken} earlier tail w grows first split most within =
     λ texts indexes known are.
     let front = first texts indexes known are in
     let mine = (page_over q q.resume q.limit taken).members in
@@ -69,11 +69,11 @@ page_reached text extent gave {q} {old} {middle} new olds news {taken} earlier t
     }
 
 -- nothing was read at all, and no capture was written
-pub page_not_reached : {S : Type 0} (text : S → Option (List ℕ)) (extent gave : S → ℕ) (q : QueryValue)
+pub page_not_reached : {S : Type 0} (device : Ghosts S) (q : QueryValue)
     (texts : List (List ℕ)) (indexes : List (List Member)) (old new : Option (List ℕ)) (sources : List S)
-    → Known (map text sources) texts → AllZip (IsIndex LINE_LIMIT) texts indexes → Grows old new
-    → GaveInReach extent gave q texts indexes old new sources sources
-page_not_reached text extent gave q texts indexes old new sources known are grows =
+    → Known (map device.text sources) texts → AllZip (IsIndex LINE_LIMIT) texts indexes → Grows old new
+    → GaveInReach device q texts indexes old new sources sources
+page_not_reached device q texts indexes old new sources known are grows =
     grind (arith, Appends-none, within_opening, two_same)
 
 -- ---- a page has no more captures than lines were read

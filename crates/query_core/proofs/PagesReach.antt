@@ -1,9 +1,9 @@
 -- What was read for pages, beside what stands written of them.
 use Rattle.query_core.proofs.Words.{[], ℕ, ◌++◌, ◌∷◌, ◌≡◌, AllZip, Appends, Appends-none, AreFirst, GaveFor}
-use Rattle.query_core.proofs.Words.{GaveInPages, Grows, HasNext, IsIndex, Known, LINE_LIMIT, List, Member, None}
-use Rattle.query_core.proofs.Words.{Option, OverIndexes, Page, PagesStand, PlaceValue, QueryValue, Some, WroteFirst}
-use Rattle.query_core.proofs.Words.{WroteInPages, append-nil, arith, begun, captures_text, collection, form_of}
-use Rattle.query_core.proofs.Words.{grows_by, grows_on, inl, inr, length, length-append, map, pages_text}
+use Rattle.query_core.proofs.Words.{GaveInPages, Ghosts, Grows, HasNext, IsIndex, Known, LINE_LIMIT, List, Member}
+use Rattle.query_core.proofs.Words.{None, Option, OverIndexes, Page, PagesStand, PlaceValue, QueryValue, Some}
+use Rattle.query_core.proofs.Words.{WroteFirst, WroteInPages, append-nil, arith, begun, captures_text, collection}
+use Rattle.query_core.proofs.Words.{form_of, grows_by, grows_on, inl, inr, length, length-append, map, pages_text}
 use Rattle.query_core.proofs.Words.{query_captures, refl, take-append_seam, two_same}
 use Rattle.query_core.proofs.CaptureLemmas.{filter_and}
 use Rattle.query_core.proofs.AskedLemmas.{captures}
@@ -37,11 +37,11 @@ in_pages q sizes c start now left given last count s more new grows = record {
 captures_are : (q : QueryValue) (lines : List Member) → query_captures q lines ≡ captures q lines
 captures_are q lines = grind (arith, filter_and)
 
-module _ {S : Type 0} (text : S → Option (List ℕ)) (extent gave : S → ℕ) (q : QueryValue) (sizes : List ℕ) where
+module _ {S : Type 0} (device : Ghosts S) (q : QueryValue) (sizes : List ℕ) where
   -- nothing was read at all, and no capture was written
   pub no_pages_reached : (texts : List (List ℕ)) (indexes : List (List Member)) (old new : Option (List ℕ))
-      (sources : List S) → Known (map text sources) texts → AllZip (IsIndex LINE_LIMIT) texts indexes → Grows old new
-      → GaveInPages extent gave q sizes texts indexes old new sources sources
+      (sources : List S) → Known (map device.text sources) texts → AllZip (IsIndex LINE_LIMIT) texts indexes → Grows old new
+      → GaveInPages device q sizes texts indexes old new sources sources
   no_pages_reached texts indexes old new sources known are grows = record {
     whole = 0;
     most = omega arith;
@@ -58,10 +58,10 @@ module _ {S : Type 0} (text : S → Option (List ℕ)) (extent gave : S → ℕ)
   -- reach of the earlier of them.
   pub pages_reached : {old : Option (List ℕ)} (new : Option (List ℕ)) (olds news : List S)
       (taken earlier tail : List Member) → WroteInPages q sizes (captures q taken) old new
-      → OverIndexes LINE_LIMIT (map text olds) (λ texts indexes. AreFirst q (collection indexes) taken)
-      → captures q taken ≡ captures q earlier ++ tail → GaveFor q (map text olds) extent gave earlier olds news
-      → OverIndexes LINE_LIMIT (map text olds)
-      (λ texts indexes. GaveInPages extent gave q sizes texts indexes old new olds news)
+      → OverIndexes (map device.text olds) (λ texts indexes. AreFirst q (collection indexes) taken)
+      → captures q taken ≡ captures q earlier ++ tail → GaveFor q (map device.text olds) device earlier olds news
+      → OverIndexes (map device.text olds)
+      (λ texts indexes. GaveInPages device q sizes texts indexes old new olds news)
   pages_reached new olds news taken earlier tail wrote first split within = λ texts indexes known are.
       let front = first texts indexes known are in
       let all : query_captures q (collection indexes) ≡ captures q taken ++ front.0 =

@@ -1,13 +1,14 @@
 -- What was read of indexes, beside the reach of a page.
 use Rattle.query_core.proofs.Words.{[], ℕ, ◌++◌, ◌-◌, ◌^◌, ◌∙◌, ◌∷◌, ◌≡◌, ◌≤◌, AllByRecursion, AllGaveWithin, AllZip}
-use Rattle.query_core.proofs.Words.{AreAtMost, Bool, GaveFor, IsAbove, IsIndex, Known, LINE_LIMIT, List, Member}
-use Rattle.query_core.proofs.Words.{Option, OverIndexes, Pair, PlaceValue, QueryValue, ReadFor, Some, TargetValue}
-use Rattle.query_core.proofs.Words.{Upto, all_kept, ap, append-nil, append_assoc, arith, bytes_eq-Decides, collection}
-use Rattle.query_core.proofs.Words.{each_join, each_kept, each_weaker, false, false_from_ne_true, feeds, filter}
-use Rattle.query_core.proofs.Words.{in_reach, is_gt, is_low, is_past, is_wanted, later_pair, length, map, member_pair}
-use Rattle.query_core.proofs.Words.{member_place, min, nat_cmp, not, pair_cmp, pair_cmp_total, past_upward}
-use Rattle.query_core.proofs.Words.{place_before, place_cmp, place_cmp_total, refl, same_part, slice_cmp, start_pair}
-use Rattle.query_core.proofs.Words.{suc, sum, sym, taken_first, taken_whole, true, upto_upto, waiting_pair, zero, zip}
+use Rattle.query_core.proofs.Words.{AreAtMost, Bool, GaveFor, Ghosts, IsAbove, IsIndex, Known, LINE_LIMIT, List}
+use Rattle.query_core.proofs.Words.{Member, NoneBelow, Option, OverIndexes, Pair, PlaceValue, QueryValue, ReadFor}
+use Rattle.query_core.proofs.Words.{Some, TargetValue, Upto, all_kept, ap, append-nil, append_assoc, arith}
+use Rattle.query_core.proofs.Words.{bytes_eq-Decides, collection, each_join, each_kept, each_weaker, false}
+use Rattle.query_core.proofs.Words.{false_from_ne_true, feeds, filter, in_reach, is_gt, is_low, is_past, is_wanted}
+use Rattle.query_core.proofs.Words.{later_pair, length, map, member_pair, member_place, min, nat_cmp, not, pair_cmp}
+use Rattle.query_core.proofs.Words.{pair_cmp_total, past_upward, place_before, place_cmp, place_cmp_total, refl}
+use Rattle.query_core.proofs.Words.{same_part, slice_cmp, start_pair, suc, sum, sym, taken_first, taken_whole, true}
+use Rattle.query_core.proofs.Words.{upto_upto, zero, zip}
 use Rattle.std.proofs.Common.{is_lt}
 use Rattle.std.specs.FinMap.{slice_cmp-IsAntisymmetric}
 use Rattle.std.proofs.lemmas.Slice.Zip.{AllZip-long}
@@ -94,11 +95,11 @@ module _ (q : QueryValue) (indexes : List (List Member)) where
     passes : Passes (is_past q.target) (start_pair q q.resume) bound (in_reach q q.resume limit (collection indexes))
     passes = grind (arith, both, covered_from_start, past_front)
 
-module _ {S : Type 0} {text : S → Option (List ℕ)} {extent gave : S → ℕ} {q : QueryValue} {olds : List S}
-    (r : Reading text extent gave q olds) where
+module _ {S : Type 0} {device : Ghosts S} {q : QueryValue} {olds : List S}
+    (r : Reading device q olds) where
   -- the same over indexes
   abbrev Cuts : Option Pair → List Member → Type 0
-  Cuts bound earlier = OverIndexes LINE_LIMIT (map text olds) (λ texts indexes. Cut q indexes bound earlier)
+  Cuts bound earlier = OverIndexes (map device.text olds) (λ texts indexes. Cut q indexes bound earlier)
 
   -- all was read
   pub cut_all : r.merge.queue ≡ [] → Cuts r.bound r.taken
@@ -127,7 +128,7 @@ module _ {S : Type 0} {text : S → Option (List ℕ)} {extent gave : S → ℕ}
       }
 
   -- before a pair whose lines couldn't be had or handed on
-  pub cut_before : (next : Pair) → IsAbove r.bound next → AllByRecursion (λ w. Upto next (waiting_pair w)) r.merge.queue
+  pub cut_before : (next : Pair) → IsAbove r.bound next → NoneBelow next r.merge.queue
       → Cuts (Some next) r.taken
   cut_before next above least = λ texts indexes known are.
       let before = wanted_before r texts known indexes are next above least in
@@ -146,28 +147,28 @@ module _ {S : Type 0} {text : S → Option (List ℕ)} {extent gave : S → ℕ}
   as_long : length r.sources ≡ length r.opened
   as_long = grind (arith, AllZip-long, Move, long_before, long_now, length_zip)
 
-  kept_now : map text r.sources ≡ map text olds
+  kept_now : map device.text r.sources ≡ map device.text olds
   kept_now =
-      (all_kept text extent gave r.opened r.begun r.sources r.merge r.start.same as_long r.reached.moved).0 ∙ r.start.kept
+      (all_kept device r.opened r.begun r.sources r.merge r.start.same as_long r.reached.moved).0 ∙ r.start.kept
 
   -- what sources gave that were read up to the bound
   pub gave_upto : (bound : Option Pair) (earlier : List Member) (news : List S) (fs : List Feed) → Cuts bound earlier
-      → AllZip (Move text extent gave) (zip r.opened (feeds r.begun)) (zip news fs) → length news ≡ length r.opened
-      → OverTexts (map text olds) (λ texts. AreReadTo LINE_LIMIT (is_past q.target) text bound news fs)
-      → GaveFor q (map text olds) extent gave earlier olds news
+      → AllZip (Move device) (zip r.opened (feeds r.begun)) (zip news fs) → length news ≡ length r.opened
+      → OverTexts (map device.text olds) (λ texts. AreReadTo (is_past q.target) device.text bound news fs)
+      → GaveFor q (map device.text olds) device earlier olds news
   gave_upto bound earlier news fs cuts moved long reads = λ texts indexes known are limit most.
-      let all = AllZip-long (Move text extent gave) (zip r.opened (feeds r.begun)) (zip news fs) moved in
+      let all = AllZip-long (Move device) (zip r.opened (feeds r.begun)) (zip news fs) moved in
       let pass = passes q indexes bound earlier (cuts texts indexes known are) limit most in
-      let tells = tell_both text r.opened (feeds r.begun) texts long_before (known_opened r texts known) in
+      let tells = tell_both device.text r.opened (feeds r.begun) texts long_before (known_opened r texts known) in
       rw (firsts news fs (omega (arith, all, long, length_zip r.opened (feeds r.begun) long_before))) at
-      (gave_most LINE_LIMIT pass text extent gave olds _ (zip news fs) _ _ known tells are r.start.came moved
+      (gave_most pass device olds _ (zip news fs) _ _ known tells are r.start.came moved
       r.start.cut (reads texts known))
 
   -- what they gave of which these lines were taken
   pub gave_within : (earlier : List Member) → Cuts r.bound earlier
-      → GaveFor q (map text olds) extent gave earlier olds r.sources
+      → GaveFor q (map device.text olds) device earlier olds r.sources
   gave_within earlier cuts = gave_upto r.bound earlier r.sources (feeds r.merge) cuts r.reached.moved as_long
-      (λ texts known. are_read_to _ _ _ _ _ _ _ r.reached.ready.aligned.fed
+      (λ texts known. are_read_to _ device _ _ _ r.reached.ready.aligned.fed
       (r.reached.handed.told (told r texts known)).1)
 
   module _ (lines : ℕ) (counted : lines ≡ min (sum (map (λ (c : CursorState). c.count) r.merge.cursors.items)) (2 ^ 64 - 1)) where
@@ -177,31 +178,31 @@ module _ {S : Type 0} {text : S → Option (List ℕ)} {extent gave : S → ℕ}
     many = ap sum (sym (counts_of 0 r.merge.cursors.items r.merge.queue))
 
     -- no more lines were read than are in reach, and one of each index
-    pub lines_within : (earlier : List Member) → Cuts r.bound earlier → ReadFor q (map text olds) earlier lines
+    pub lines_within : (earlier : List Member) → Cuts r.bound earlier → ReadFor q (map device.text olds) earlier lines
     lines_within earlier cuts = λ texts indexes known are limit most.
-        let h = lines_most (passes q indexes r.bound earlier (cuts texts indexes known are) limit most) _ text _
+        let h = lines_most (passes q indexes r.bound earlier (cuts texts indexes known are) limit most) device
         r.sources (feeds r.merge) texts indexes (rw kept_now known) are
-        (cuts_kept LINE_LIMIT text _ extent gave _ _ r.reached.moved r.start.cut) r.reached.ready.aligned.fed
+        (cuts_kept device _ _ _ r.reached.moved r.start.cut) r.reached.ready.aligned.fed
         (r.reached.handed.told (told r texts known)).1 in
         let same = many in
         grind (arith, AllZip-long)
 
     -- of each source consecutive lines were read
     pub of_parts : (all : Bool) → (all ≡ true → r.merge.queue ≡ [])
-        → OverTexts (map text olds) (λ texts. IsOfParts q texts r.taken all lines)
+        → OverTexts (map device.text olds) (λ texts. IsOfParts q texts r.taken all lines)
     of_parts all ended = λ texts known.
-        let read = parts LINE_LIMIT text r.sources (feeds r.merge) in
+        let read = parts device.text r.sources (feeds r.merge) in
         let told_all = told r texts known in
         let all_took = took_of_parts r.reached told_all (past_upward q.target) (is_wanted q q.resume)
         (λ m h. grind arith) in
         let found = taken_first all_took in
         let same = many in
-        let count = parts_count _ _ _ extent r.sources (feeds r.merge)
-        (told_moved text extent gave r.opened r.sources (feeds r.begun) (feeds r.merge) long_now r.reached.moved told_all)
+        let count = parts_count _ device r.sources (feeds r.merge)
+        (told_moved device r.opened r.sources (feeds r.begun) (feeds r.merge) long_now r.reached.moved told_all)
         r.reached.ready.aligned.fed in
         record {
           parts = read;
-          each = λ whole is. parts_are _ _ _ extent _ _ _ _ (rw kept_now known) r.reached.ready.aligned.fed
+          each = λ whole is. parts_are _ device _ _ _ _ (rw kept_now known) r.reached.ready.aligned.fed
               r.reached.ready.settled (λ e. rw (ended (is e)) (none_wait 0 r.merge.cursors.items));
           count = cc;
           first = (_, captures_split q q.resume (collection read) r.taken found.0 found.1);
@@ -209,17 +210,17 @@ module _ {S : Type 0} {text : S → Option (List ℕ)} {extent gave : S → ℕ}
         }
 
   -- they are lines of the sources, which over indexes come first
-  pub took : Took q (map text olds) r.taken
+  pub took : Took q (map device.text olds) r.taken
   took = record {
     lines = lines_taken r;
     first = λ texts indexes known are. let f = wanted_first r texts known indexes are in (f.0, f.1);
   }
 
-pub within_opening : {S : Type 0} (text : S → Option (List ℕ)) (extent gave : S → ℕ) (test : Member → Bool)
-    (texts : List (List ℕ)) (indexes : List (List Member)) (olds news : List S) → Known (map text olds) texts
+pub within_opening : {S : Type 0} (device : Ghosts S) (test : Member → Bool)
+    (texts : List (List ℕ)) (indexes : List (List Member)) (olds news : List S) → Known (map device.text olds) texts
     → AllZip (IsIndex LINE_LIMIT) texts indexes
-    → AllZip (λ x y. OpenedWithin (text x) (extent x) (gave x) (gave y)) olds news
-    → AllGaveWithin extent gave test texts indexes olds news
-within_opening text extent gave test [] indexes xs ys known are opened = grind arith
-within_opening text extent gave test (t ∷ ts) indexes xs ys known are opened =
-    grind (arith, within_opening text extent gave test ts)
+    → AllZip (OpenedWithin device) olds news
+    → AllGaveWithin device test texts indexes olds news
+within_opening device test [] indexes xs ys known are opened = grind arith
+within_opening device test (t ∷ ts) indexes xs ys known are opened =
+    grind (arith, within_opening device test ts)

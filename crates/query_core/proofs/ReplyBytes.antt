@@ -1,10 +1,10 @@
 -- What sources give for the lines of an input, one after another.
 use Rattle.query_core.proofs.Words.{[], ℕ, ◌++◌, ◌+◌, ◌∷◌, ◌≡◌, ◌≤◌, AllGaveWithin, AllZip, Appends, AppendsPrefix}
-use Rattle.query_core.proofs.Words.{IsIndex, IsMarkedReply, IsOneReply, Known, LINE_LIMIT, List, Member, Option}
-use Rattle.query_core.proofs.Words.{QueryFault, QueryValue, TakesLine, ap, append-nil, arith, asked_most, collection}
-use Rattle.query_core.proofs.Words.{flat_map, grows_not, grows_part, in_reach, is_utf8, le-ltb, length, line_most}
-use Rattle.query_core.proofs.Words.{lt-ltb, map, map-append, nat_lt, prepend_known, query_of, reply_of, sum, true}
-use Rattle.query_core.proofs.Words.{without_carriage_return}
+use Rattle.query_core.proofs.Words.{Ghosts, IsIndex, IsMarkedReply, IsOneReply, Known, LINE_LIMIT, List, Member}
+use Rattle.query_core.proofs.Words.{Option, QueryFault, QueryValue, TakesLine, ap, append-nil, arith, asked_most}
+use Rattle.query_core.proofs.Words.{collection, flat_map, grows_not, grows_part, in_reach, is_utf8, le-ltb, length}
+use Rattle.query_core.proofs.Words.{line_most, lt-ltb, map, map-append, nat_lt, prepend_known, query_of, reply_of, sum}
+use Rattle.query_core.proofs.Words.{true, without_carriage_return}
 use Rattle.std.specs.Prelude.{Result, Ok}
 use Rattle.std.proofs.lemmas.List.Sums.{sum_by_push}
 use Rattle.query_core.specs.Conversations.{RepliedInPart}
@@ -15,59 +15,59 @@ use Rattle.query_core.proofs.ReplyLemmas.{replied_front, replied_none, taken_fir
 
 -- ---- amounts
 
-pub gave_none : {S : Type 0} (text : S → Option (List ℕ)) (extent gave : S → ℕ) (most : Amount) (texts : List (List ℕ))
-    (indexes : List (List Member)) (sources : List S) → Known (map text sources) texts
-    → AllZip (IsIndex LINE_LIMIT) texts indexes → AllGaveAtMost extent gave most texts indexes sources sources
-gave_none text extent gave most (t ∷ ts) (i ∷ is) (s ∷ ss) known are =
-    (omega arith, gave_none text extent gave most ts is ss known.1 are.1)
-gave_none text extent gave most texts indexes sources known are = grind arith
+pub gave_none : {S : Type 0} (device : Ghosts S) (most : Amount) (texts : List (List ℕ))
+    (indexes : List (List Member)) (sources : List S) → Known (map device.text sources) texts
+    → AllZip (IsIndex LINE_LIMIT) texts indexes → AllGaveAtMost device most texts indexes sources sources
+gave_none device most (t ∷ ts) (i ∷ is) (s ∷ ss) known are =
+    (omega arith, gave_none device most ts is ss known.1 are.1)
+gave_none device most texts indexes sources known are = grind arith
 
-pub gave_page : {S : Type 0} (extent gave : S → ℕ) (q : QueryValue) (all : List Member) (texts : List (List ℕ))
+pub gave_page : {S : Type 0} (device : Ghosts S) (q : QueryValue) (all : List Member) (texts : List (List ℕ))
     (indexes : List (List Member)) (olds news : List S)
-    → AllGaveWithin extent gave (in_reach q q.resume q.limit all) texts indexes olds news
-    → AllGaveAtMost extent gave (query_most q all) texts indexes olds news
-gave_page extent gave q all (t ∷ ts) (i ∷ is) (o ∷ os) (n ∷ ns) h =
-    (omega (arith, h.0), gave_page extent gave q all ts is os ns h.1)
-gave_page extent gave q all texts indexes olds news h = grind arith
+    → AllGaveWithin device (in_reach q q.resume q.limit all) texts indexes olds news
+    → AllGaveAtMost device (query_most q all) texts indexes olds news
+gave_page device q all (t ∷ ts) (i ∷ is) (o ∷ os) (n ∷ ns) h =
+    (omega (arith, h.0), gave_page device q all ts is os ns h.1)
+gave_page device q all texts indexes olds news h = grind arith
 
-gave_more : {S : Type 0} (extent gave : S → ℕ) (f h : Amount)
+gave_more : {S : Type 0} (device : Ghosts S) (f h : Amount)
     → ((e : ℕ) (t : List ℕ) (i : List Member) → f e t i ≤ h e t i)
     → (texts : List (List ℕ)) (indexes : List (List Member)) (olds news : List S)
-    → AllGaveAtMost extent gave f texts indexes olds news → AllGaveAtMost extent gave h texts indexes olds news
-gave_more extent gave f h fits (t ∷ ts) (i ∷ is) (o ∷ os) (n ∷ ns) a =
-    (omega (arith, a.0, fits (extent o) t i), gave_more extent gave f h fits ts is os ns a.1)
-gave_more extent gave f h fits texts indexes olds news a = grind arith
+    → AllGaveAtMost device f texts indexes olds news → AllGaveAtMost device h texts indexes olds news
+gave_more device f h fits (t ∷ ts) (i ∷ is) (o ∷ os) (n ∷ ns) a =
+    (omega (arith, a.0, fits (device.extent o) t i), gave_more device f h fits ts is os ns a.1)
+gave_more device f h fits texts indexes olds news a = grind arith
 
 -- a text that means a query
-pub gave_asked : {S : Type 0} (extent gave : S → ℕ) (q : QueryValue) (read : Result QueryValue QueryFault)
+pub gave_asked : {S : Type 0} (device : Ghosts S) (q : QueryValue) (read : Result QueryValue QueryFault)
     (all : List Member) → read ≡ Ok q → (texts : List (List ℕ)) (indexes : List (List Member)) (olds news : List S)
-    → AllGaveAtMost extent gave (query_most q all) texts indexes olds news
-    → AllGaveAtMost extent gave (asked_most read all) texts indexes olds news
-gave_asked extent gave q read all is = gave_more extent gave (query_most q all) (asked_most read all)
+    → AllGaveAtMost device (query_most q all) texts indexes olds news
+    → AllGaveAtMost device (asked_most read all) texts indexes olds news
+gave_asked device q read all is = gave_more device (query_most q all) (asked_most read all)
     (λ e t i. rw is (omega arith))
 
 -- a line that is a text within the limit
-pub gave_line : {S : Type 0} (extent gave : S → ℕ) (limit : ℕ) (line : List ℕ) (all : List Member)
+pub gave_line : {S : Type 0} (device : Ghosts S) (limit : ℕ) (line : List ℕ) (all : List Member)
     → length line ≤ limit → is_utf8 line ≡ true → (texts : List (List ℕ)) (indexes : List (List Member))
-    (olds news : List S) → AllGaveAtMost extent gave (asked_most (query_of limit line) all) texts indexes olds news
-    → AllGaveAtMost extent gave (line_most limit all line) texts indexes olds news
-gave_line extent gave limit line all short utf8 =
-    gave_more extent gave (asked_most (query_of limit line) all) (line_most limit all line)
+    (olds news : List S) → AllGaveAtMost device (asked_most (query_of limit line) all) texts indexes olds news
+    → AllGaveAtMost device (line_most limit all line) texts indexes olds news
+gave_line device limit line all short utf8 =
+    gave_more device (asked_most (query_of limit line) all) (line_most limit all line)
     (λ e t i. rw (le-ltb limit (length line) short, utf8) (omega arith))
 
-gave_join : {S : Type 0} (extent gave : S → ℕ) (f g h : Amount)
+gave_join : {S : Type 0} (device : Ghosts S) (f g h : Amount)
     → ((e : ℕ) (t : List ℕ) (i : List Member) → f e t i + g e t i ≤ h e t i)
     → (texts : List (List ℕ)) (indexes : List (List Member)) (olds mids news : List S)
-    → map extent mids ≡ map extent olds → AllGaveAtMost extent gave f texts indexes olds mids
-    → AllGaveAtMost extent gave g texts indexes mids news → AllGaveAtMost extent gave h texts indexes olds news
-gave_join extent gave f g h fits [] [] [] [] [] same a b = tt
-gave_join extent gave f g h fits (t ∷ ts) (i ∷ is) (o ∷ os) (m ∷ ms) (n ∷ ns) same a b =
-    let here : extent m ≡ extent o = grind arith in
-    let next : gave n ≤ gave m + g (extent o) t i = rw here at b.0 in (
-      omega (arith, a.0, next, fits (extent o) t i),
-      gave_join extent gave f g h fits ts is os ms ns (grind arith) a.1 b.1,
+    → map device.extent mids ≡ map device.extent olds → AllGaveAtMost device f texts indexes olds mids
+    → AllGaveAtMost device g texts indexes mids news → AllGaveAtMost device h texts indexes olds news
+gave_join device f g h fits [] [] [] [] [] same a b = tt
+gave_join device f g h fits (t ∷ ts) (i ∷ is) (o ∷ os) (m ∷ ms) (n ∷ ns) same a b =
+    let here : device.extent m ≡ device.extent o = grind arith in
+    let next : device.gave n ≤ device.gave m + g (device.extent o) t i = rw here at b.0 in (
+      omega (arith, a.0, next, fits (device.extent o) t i),
+      gave_join device f g h fits ts is os ms ns (grind arith) a.1 b.1,
     )
-gave_join extent gave f g h fits texts indexes olds mids news same a b = grind arith
+gave_join device f g h fits texts indexes olds mids news same a b = grind arith
 
 -- one line more
 more_sum : (f : List ℕ → ℕ) (done : List (List ℕ)) (line shown : List ℕ) → f line ≡ f shown
@@ -83,22 +83,22 @@ module _ (limit : ℕ) (line shown : List ℕ) (same : AreAlike limit line shown
 -- ---- the lines so far
 
 -- The lines that were answered, what was written of their replies, and what the sources gave
-pub record Spent {S : Type 0} (extent gave : S → ℕ) (limit : ℕ) (input now : Option (List ℕ)) (count : ℕ)
+pub record Spent {S : Type 0} (device : Ghosts S) (limit : ℕ) (input now : Option (List ℕ)) (count : ℕ)
     (texts : List (List ℕ)) (indexes : List (List Member)) (old new : Option (List ℕ)) (olds news : List S) : Type 0
   where
     pub so_far : RepliedSoFar limit (IsOneReply (reply_of limit (collection indexes))) input now count old new
-    pub within : AllGaveAtMost extent gave (lines_most limit (collection indexes) so_far.done) texts indexes olds news
+    pub within : AllGaveAtMost device (lines_most limit (collection indexes) so_far.done) texts indexes olds news
 
-pub spent_none : {S : Type 0} (text : S → Option (List ℕ)) (extent gave : S → ℕ) (limit : ℕ) (texts : List (List ℕ))
+pub spent_none : {S : Type 0} (device : Ghosts S) (limit : ℕ) (texts : List (List ℕ))
     (indexes : List (List Member)) (input : Option (List ℕ)) (buffer : List ℕ) (old : Option (List ℕ))
-    (sources : List S) → Known (map text sources) texts → AllZip (IsIndex LINE_LIMIT) texts indexes → buffer ≡ []
-    → Spent extent gave limit input (prepend_known buffer input) 0 texts indexes old old sources sources
-spent_none text extent gave limit texts indexes input buffer old sources known are e =
+    (sources : List S) → Known (map device.text sources) texts → AllZip (IsIndex LINE_LIMIT) texts indexes → buffer ≡ []
+    → Spent device limit input (prepend_known buffer input) 0 texts indexes old old sources sources
+spent_none device limit texts indexes input buffer old sources known are e =
     grind (arith, replied_none, gave_none)
 
-module _ {S : Type 0} {extent gave : S → ℕ} {limit : ℕ} {input now : Option (List ℕ)} {count : ℕ}
+module _ {S : Type 0} {device : Ghosts S} {limit : ℕ} {input now : Option (List ℕ)} {count : ℕ}
     {texts : List (List ℕ)} {indexes : List (List Member)} {old new : Option (List ℕ)} {olds mids : List S}
-    (s : Spent extent gave limit input now count texts indexes old new olds mids) where
+    (s : Spent device limit input now count texts indexes old new olds mids) where
   abbrev all : List Member
   all = collection indexes
 
@@ -110,21 +110,21 @@ module _ {S : Type 0} {extent gave : S → ℕ} {limit : ℕ} {input now : Optio
       (replied_front limit (IsOneReply (reply_of limit all)) input now count old new s.so_far)
 
   -- no line was read
-  pub spent_stop : GaveForLines extent gave limit input texts indexes old new olds mids
+  pub spent_stop : GaveForLines device limit input texts indexes old new olds mids
   spent_stop = grind (arith, next, append-nil, taken_first, wrote, grows_not)
 
   -- a line was read, and what the sources gave then
   module _ (after last : Option (List ℕ)) (line : List ℕ) (news : List S)
-      (takes : TakesLine (limit + 2) true now after line) (same : map extent mids ≡ map extent olds)
-      (gives : AllGaveAtMost extent gave (line_most limit all (without_carriage_return line)) texts indexes mids news)
+      (takes : TakesLine (limit + 2) true now after line) (same : map device.extent mids ≡ map device.extent olds)
+      (gives : AllGaveAtMost device (line_most limit all (without_carriage_return line)) texts indexes mids news)
     where
       abbrev more : (shown : List ℕ) × AreTaken input after (s.so_far.done ++ shown ∷ [])
           × AreAlike limit (without_carriage_return line) shown
       more = next s.so_far after last line takes
 
-      more_within : AllGaveAtMost extent gave (lines_most limit all (s.so_far.done ++ more.0 ∷ [])) texts indexes olds
+      more_within : AllGaveAtMost device (lines_most limit all (s.so_far.done ++ more.0 ∷ [])) texts indexes olds
           news
-      more_within = gave_join extent gave (lines_most limit all s.so_far.done)
+      more_within = gave_join device (lines_most limit all s.so_far.done)
           (line_most limit all (without_carriage_return line)) (lines_most limit all (s.so_far.done ++ more.0 ∷ []))
           (λ e t i. more_sum (λ l. line_most limit all l e t i) s.so_far.done (without_carriage_return line) more.0
           (most_alike limit (without_carriage_return line) more.0 more.2 all e t i)) texts indexes olds mids news same
@@ -133,11 +133,11 @@ module _ {S : Type 0} {extent gave : S → ℕ} {limit : ℕ} {input now : Optio
       -- its reply was written
       pub spent_more : (text : List ℕ)
           × IsMarkedReply limit (IsOneReply (reply_of limit all)) (without_carriage_return line) text
-          × Appends new last text → Spent extent gave limit input after (count + 1) texts indexes old last olds news
+          × Appends new last text → Spent device limit input after (count + 1) texts indexes old last olds news
       spent_more h = record { so_far = line_more s.so_far after last line takes h; within = more_within }
 
       -- its reply ended in a fault
       pub spent_within : (text : List ℕ)
           × IsMarkedReply limit (IsOneReply (reply_of limit all)) (without_carriage_return line) text
-          × AppendsPrefix new last text → GaveForLines extent gave limit input texts indexes old last olds news
+          × AppendsPrefix new last text → GaveForLines device limit input texts indexes old last olds news
       spent_within (text, is, written) = grind (arith, next, taken_first, wrote, grows_part, more_within)

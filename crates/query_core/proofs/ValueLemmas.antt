@@ -57,7 +57,7 @@ of_field : (v : LineValue) (key stamp : List ℕ) (d : Data) (filename : List �
     → (f : Field) → 0 < length (field_value f v)
 of_field v key stamp d filename offset k s n e f = grind (arith, nat_tests, eqb-true, text_some, decimal_some)
 
-pub value_some : (m : Member) → HasEntry LINE_LIMIT m → (f : Field) → 0 < length (field_value f m.values)
+pub value_some : (m : Member) → HasEntry m → (f : Field) → 0 < length (field_value f m.values)
 value_some m h =
     let v = entry_valued LINE_LIMIT m.line m h in
     let o = object_some (read v.object) m.values.key m.values.stamp m.values v.values in

@@ -29,7 +29,7 @@ pub use Rattle.merge_core.specs.Feeds.{feeds}
 pub use Rattle.merge_core.specs.PairOrders.{IsAbove, Upto, is_low}
 pub use Rattle.merge_core.specs.SourceLines.{AreLinesOf, HasEntry}
 pub use Rattle.merge_core.specs.Spending.{AllGaveWithin}
-pub use Rattle.merge_core.specs.WaitingLines.{waiting_pair}
+pub use Rattle.merge_core.specs.WaitingLines.{NoneBelow, waiting_pair}
 pub use Rattle.merge_core.specs.Written.{lines_text}
 pub use Rattle.page_core.proofs.PageLaws.{chain_law, each_filter, each_kept, rises_collapsed, rises_filter}
 pub use Rattle.page_core.proofs.PageLemmas.{begun-more, begun_is_front}
@@ -63,6 +63,7 @@ pub use Rattle.query_text.specs.Queries.{QueryValue, query_of}
 pub use Rattle.query_text.specs.Targets.{TargetValue}
 pub use Rattle.query_text.specs.declared.fault.QueryFault.{QueryFault}
 pub use Rattle.query_text.specs.declared.query.TheConstants.{QUERY_LIMIT}
+pub use Rattle.source_core.specs.declared.source.Source.{Ghosts}
 pub use Rattle.std.proofs.Common.{All, Bool, Err, List, None, Ok, Option, Ordering, Some, [], ap, append-nil}
 pub use Rattle.std.proofs.Common.{append_assoc, arith, cond, drop, eqb-true, false, filter, flat_map, get_or, inl, inr}
 pub use Rattle.std.proofs.Common.{is_gt, le-ltb, length, length-append, length-drop, length-take, lt-ltb, map, min}

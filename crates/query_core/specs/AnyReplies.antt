@@ -1,6 +1,5 @@
 -- The reply to a query over sources of any bytes.
 use Rattle.std.specs.Prelude.{◌≡◌, ◌⊎◌, ℕ, List, ◌++◌, codes, Option, None, Some, Result, Ok, Err}
-use Rattle.cdxj_core.specs.declared.limit.TheConstants.{LINE_LIMIT}
 use Rattle.cdxj_core.specs.Members.{Member}
 use Rattle.query_text.specs.declared.fault.QueryFault.{QueryFault}
 use Rattle.query_text.specs.declared.query.TheConstants.{QUERY_LIMIT}
@@ -27,7 +26,7 @@ module _ (told : List (Option (List ℕ))) where
     pub rest : List ℕ
     pub whole : page ≡ front ++ rest
     pub fault : AnswerFault
-    pub named : IsAnswerFaultOf LINE_LIMIT told fault
+    pub named : IsAnswerFaultOf told fault
     pub line : List ℕ
     pub line_is : fault_text fault ≡ Some line
     pub ends : reply ≡ front ++ line
@@ -35,7 +34,7 @@ module _ (told : List (Option (List ℕ))) where
   -- the page of lines of the sources that rise by place, whole or up to the fault of a line
   pub record IsPageReply (q : QueryValue) (reply : List ℕ) : Type 0 where
     pub lines : List Member
-    pub are : AreLinesOf LINE_LIMIT told lines
+    pub are : AreLinesOf told lines
     pub page : (reply ≡ answer_text q (query_page q lines)) ⊎ EndsInFault (answer_text q (query_page q lines)) reply
 
   -- the same, or the name of the query's refusal

@@ -1,6 +1,7 @@
 -- What the checking of an index owes.
 use Rattle.std.specs.Prelude.{◌≡◌, ℕ, ⊤, List, [], ◌∷◌, ◌++◌, length, true, Option, None, Some, Result, Ok, Err}
 use Rattle.std.specs.Ordering.{is_gt}
+use Rattle.cdxj_core.specs.declared.limit.TheConstants.{LINE_LIMIT}
 use Rattle.cdxj_places.specs.Pairs.{pair_cmp}
 use Rattle.cdxj_core.specs.Members.{Member, member_pair, line_entry}
 use Rattle.cdxj_core.specs.Indexes.{IsRun, IsIndex}
@@ -18,16 +19,15 @@ abbrev pub FallsAfter : Option Member → Member → Type 0
 FallsAfter None m = ⊥
 FallsAfter (Some previous) m = is_gt (pair_cmp (member_pair previous) (member_pair m)) ≡ true
 
--- the limit of a line, in bytes
-module _ (limit : ℕ) (text : List ℕ) (offset : ℕ) where
+module _ (text : List ℕ) (offset : ℕ) where
   -- the lines before the offset are an index by themselves; the line there has no entry
   pub record EndsInBadLine : Type 0 where
     pub before : List (List ℕ)
     pub line : List ℕ
     pub begins : LineBeginsAt text offset before line
     pub members : List Member
-    pub run : IsRun limit before members
-    pub bad : line_entry limit line ≡ None
+    pub run : IsRun LINE_LIMIT before members
+    pub bad : line_entry LINE_LIMIT line ≡ None
 
   -- the lines before the offset are an index by themselves; the pair of the line there is below that of the last of
   -- them
@@ -36,19 +36,19 @@ module _ (limit : ℕ) (text : List ℕ) (offset : ℕ) where
     pub line : List ℕ
     pub begins : LineBeginsAt text offset before line
     pub members : List Member
-    pub run : IsRun limit before members
+    pub run : IsRun LINE_LIMIT before members
     pub previous : Option Member
     pub previous_is : IsLastOf members previous
     pub member : Member
-    pub entry : line_entry limit line ≡ Some member
+    pub entry : line_entry LINE_LIMIT line ≡ Some member
     pub falls : FallsAfter previous member
 
 -- a text is an index of so many lines, or the first of its lines at fault is named
-abbrev pub IsChecked : ℕ → List ℕ → Result ℕ AnswerFault → Type 0
-IsChecked limit text (Ok number) = (members : List Member) × IsIndex limit text members × (number ≡ length members)
-IsChecked limit text (Err (fault.BadLine i offset)) = EndsInBadLine limit text offset
-IsChecked limit text (Err (fault.OutOfOrder i offset)) = EndsOutOfOrder limit text offset
-IsChecked limit text (Err other) = ⊤
+abbrev pub IsChecked : List ℕ → Result ℕ AnswerFault → Type 0
+IsChecked text (Ok number) = (members : List Member) × IsIndex LINE_LIMIT text members × (number ≡ length members)
+IsChecked text (Err (fault.BadLine i offset)) = EndsInBadLine text offset
+IsChecked text (Err (fault.OutOfOrder i offset)) = EndsOutOfOrder text offset
+IsChecked text (Err other) = ⊤
 
 -- the faults of a check, which has one index
 abbrev pub IsCheckFault : AnswerFault → Type 0

@@ -3,6 +3,7 @@ use Rattle.std.specs.Prelude.{◌≡◌, ◌↔◌, ℕ, List, ◌∷◌, ◌++�
 use Rattle.std.specs.List.{AllZip}
 use Rattle.std.specs.Io.KnownBytes.{Appends}
 use Rattle.std.specs.declared.cmp.Ordering.TheVariants.{Equal}
+use Rattle.cdxj_core.specs.declared.limit.TheConstants.{LINE_LIMIT}
 use Rattle.cdxj_places.specs.Places.{place_cmp}
 use Rattle.cdxj_places.specs.Rising.{IsIn}
 use Rattle.cdxj_core.specs.Indexes.{IsIndex}
@@ -11,8 +12,8 @@ use Rattle.merge_core.specs.Collections.{all_lines, collection}
 use Rattle.merge_core.specs.Written.{lines_text}
 
 -- an index of these lines was written
-abbrev pub WroteIndex : ℕ → List Member → Option (List ℕ) → Option (List ℕ) → Type 0
-WroteIndex limit lines old new = IsIndex limit (lines_text lines) lines × Appends old new (lines_text lines)
+abbrev pub WroteIndex : List Member → Option (List ℕ) → Option (List ℕ) → Type 0
+WroteIndex lines old new = IsIndex LINE_LIMIT (lines_text lines) lines × Appends old new (lines_text lines)
 
 -- the lines of a merge of indexes are an index with these lines
 abbrev pub MergedIsIndex : Type 0

@@ -29,5 +29,5 @@ PagesAreOne = (texts : List (List ℕ)) (these those : List (List Member)) (q : 
 
 abbrev pub MergeIsOne : Type 0
 MergeIsOne = (texts : List (List ℕ)) (old : List ℕ) (new new' : Option (List ℕ)) (number number' : ℕ)
-    → Merged LINE_LIMIT texts (Some old) new number → Merged LINE_LIMIT texts (Some old) new' number'
+    → Merged texts (Some old) new number → Merged texts (Some old) new' number'
     → (new ≡ new') × (number ≡ number')

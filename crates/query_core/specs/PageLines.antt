@@ -4,7 +4,6 @@ use Rattle.std.specs.List.{AllByRecursion, list_all}
 use Rattle.cdxj_places.specs.Pair.{is_space}
 use Rattle.cdxj_places.specs.Rising.{IsIn}
 use Rattle.cdxj_places.specs.TextLines.{lines}
-use Rattle.cdxj_core.specs.declared.limit.TheConstants.{LINE_LIMIT}
 use Rattle.cdxj_core.specs.Members.{Member}
 use Rattle.query_text.specs.declared.output.OutputFormat.TheVariants.{Json, Text}
 use Rattle.query_text.specs.Queries.{QueryValue}
@@ -18,7 +17,7 @@ page_lines q found = lines (answer_text q (query_page q found))
 
 -- each line has an entry
 abbrev pub HaveEntries : List Member → Type 0
-HaveEntries found = AllByRecursion (HasEntry LINE_LIMIT) found
+HaveEntries found = AllByRecursion HasEntry found
 
 -- the line of a fault, without the line feed before it
 abbrev pub fault_row : List ℕ → ℕ → ℕ → List ℕ

@@ -2,6 +2,7 @@
 use Rattle.std.specs.Prelude.{ℕ, ◌≤◌, List, [], ◌∷◌, ◌++◌, length, take, Option, None, Some}
 use Rattle.cdxj_places.specs.Places.{PlaceValue}
 use Rattle.cdxj_core.specs.Members.{Member}
+use Rattle.source_core.specs.declared.source.Source.{Ghosts}
 use Rattle.query_text.specs.Queries.{QueryValue}
 use Rattle.page_core.specs.Pages.{Page}
 use Rattle.merge_core.specs.Collections.{collection}
@@ -21,10 +22,9 @@ pub record WroteInPages (q : QueryValue) (sizes : List ℕ) (captures : List Mem
 
 -- So many captures were written whole. Each source gave no more bytes than its lines have that a page of so many
 -- reaches, and what a search takes, two lines and a piece.
-pub record GaveInPages {S : Type 0} (extent gave : S → ℕ) (q : QueryValue) (sizes : List ℕ) (texts : List (List ℕ))
-    (indexes : List (List Member))
-    (old new : Option (List ℕ)) (olds news : List S) : Type 0 where
+pub record GaveInPages {S : Type 0} (device : Ghosts S) (q : QueryValue) (sizes : List ℕ) (texts : List (List ℕ))
+    (indexes : List (List Member)) (old new : Option (List ℕ)) (olds news : List S) : Type 0 where
   pub whole : ℕ
   pub most : whole ≤ length (query_captures q (collection indexes))
   pub wrote : WroteInPages q sizes (take whole (query_captures q (collection indexes))) old new
-  pub within : AllGaveWithin extent gave (in_reach q q.resume (Some whole) (collection indexes)) texts indexes olds news
+  pub within : AllGaveWithin device (in_reach q q.resume (Some whole) (collection indexes)) texts indexes olds news

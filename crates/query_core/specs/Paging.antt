@@ -18,8 +18,8 @@ WritesPages q lines sizes result old new = MatchResult result (WrotePages q line
 
 -- Of each source consecutive lines were read, which are an index by themselves: all of the query's range. The pages are
 -- those of these lines.
-pub record WrotePagesOfParts (limit : ℕ) (q : QueryValue) (texts : List (List ℕ)) (sizes : List ℕ)
+pub record WrotePagesOfParts (q : QueryValue) (texts : List (List ℕ)) (sizes : List ℕ)
     (old new : Option (List ℕ)) (number : ℕ) : Type 0 where
   pub parts : List (List Member)
-  pub each : AllZip (IsPart limit (is_past q.target) true) texts parts
+  pub each : AllZip (IsPart (is_past q.target) true) texts parts
   pub wrote : WrotePages q (collection parts) sizes old new number

@@ -2,8 +2,8 @@
 use Rattle.std.specs.Prelude.{◌≡◌, ◌⊎◌, ℕ, ◌-◌, ◌^◌, ◌+◌, ◌≤◌, ⊤, List, [], ◌++◌, length, map, min, Bool, true, Option}
 use Rattle.std.specs.Prelude.{None, Some, Result, MatchResult}
 use Rattle.std.specs.List.{AllZip, filter, sum}
-use Rattle.cdxj_core.specs.declared.limit.TheConstants.{LINE_LIMIT}
 use Rattle.cdxj_core.specs.Members.{Member}
+use Rattle.source_core.specs.declared.source.Source.{Ghosts}
 use Rattle.query_text.specs.Queries.{QueryValue}
 use Rattle.query_text.specs.Matching.{is_past}
 use Rattle.merge_core.specs.Collections.{OverIndexes, OverTexts, all_lines, collection}
@@ -12,6 +12,7 @@ use Rattle.devices.specs.Device.{Grows}
 use Rattle.merge_core.specs.Runs.{IsPart}
 use Rattle.merge_core.specs.SourceLines.{AreLinesOf}
 use Rattle.merge_core.specs.Spending.{AllGaveWithin}
+use Rattle.merge_core.specs.declared.sink.Sink.{Ghosts as SinkGhosts}
 use Rattle.query_core.specs.declared.pass.Pass.{Pass}
 use Rattle.query_core.specs.PageWriting.{captures_over}
 use Rattle.query_core.specs.Reach.{in_reach}
@@ -31,7 +32,7 @@ module _ (q : QueryValue) where
   pub record IsOfParts (texts : List (List ℕ)) (taken : List Member) (all : Bool) (lines : ℕ) : Type 0 where
     pub parts : List (List Member)
     pub each : (whole : Bool) → (whole ≡ true → all ≡ true)
-        → AllZip (IsPart LINE_LIMIT (is_past q.target) whole) texts parts
+        → AllZip (IsPart (is_past q.target) whole) texts parts
     pub count : lines ≡ min (sum (map length parts)) (2 ^ 64 - 1)
     pub first : AreFirst (collection parts) taken
     pub ended : all ≡ true → captures_over q q.resume (collection parts) ≡ captures_over q q.resume taken
@@ -39,60 +40,58 @@ module _ (q : QueryValue) where
 module _ (q : QueryValue) (told : List (Option (List ℕ))) where
   -- lines of the sources, which over indexes come first
   pub record Took (taken : List Member) : Type 0 where
-    pub lines : AreLinesOf LINE_LIMIT told taken
-    pub first : OverIndexes LINE_LIMIT told (λ texts indexes. AreFirst q (collection indexes) taken)
+    pub lines : AreLinesOf told taken
+    pub first : OverIndexes told (λ texts indexes. AreFirst q (collection indexes) taken)
 
   -- what sources gave for so many captures
-  abbrev pub GaveFor : {S : Type 0} → (S → ℕ) → (S → ℕ) → List Member → List S → List S → Type 0
-  GaveFor extent gave earlier olds news = OverIndexes LINE_LIMIT told (λ texts indexes.
+  abbrev pub GaveFor : {S : Type 0} → Ghosts S → List Member → List S → List S → Type 0
+  GaveFor device earlier olds news = OverIndexes told (λ texts indexes.
       (limit : Option ℕ) → AreAtMost limit (captures_over q q.resume earlier)
-      → AllGaveWithin extent gave (in_reach q q.resume limit (collection indexes)) texts indexes olds news)
+      → AllGaveWithin device (in_reach q q.resume limit (collection indexes)) texts indexes olds news)
 
   -- so many lines were read, no more than are in reach of as many captures, and one of each source
   abbrev pub ReadFor : List Member → ℕ → Type 0
-  ReadFor earlier lines = OverIndexes LINE_LIMIT told (λ texts indexes.
+  ReadFor earlier lines = OverIndexes told (λ texts indexes.
       (limit : Option ℕ) → AreAtMost limit (captures_over q q.resume earlier)
       → lines ≤ length (filter (in_reach q q.resume limit (collection indexes)) (all_lines indexes)) + length told)
 
--- A sink: what it wrote of lines, what it wrote if it failed, and that it wants no more. The query; the sources, which
--- are read from one list of states to another; the sink and what was written, before and after.
-module _ {K S : Type 0} (Wrote : K → K → List Member → Option (List ℕ) → Option (List ℕ) → Type 0)
-    (Broke : K → List Member → Option (List ℕ) → Option (List ℕ) → Type 0) (Enough : K → Type 0)
-    (text : S → Option (List ℕ)) (extent gave : S → ℕ) (q : QueryValue) (olds news : List S) (sink : K)
+-- What a sink says of itself, and what sources say. The query; the sources, which are read from one list of states to
+-- another; the sink and what was written, before and after.
+module _ {K S : Type 0} (consumer : SinkGhosts K) (device : Ghosts S) (q : QueryValue) (olds news : List S) (sink : K)
     (old : Option (List ℕ)) where
   -- after these lines the sink wanted more; the sources gave no more than their captures need
   pub record WantedMore (earlier : List Member) : Type 0 where
     pub state : K
     pub middle : Option (List ℕ)
-    pub more : (Enough sink → ⊥) → Enough state → ⊥
-    pub came : CameTo Wrote sink old state middle earlier
-    pub within : GaveFor q (map text olds) extent gave earlier olds news
+    pub more : (consumer.Enough sink → ⊥) → consumer.Enough state → ⊥
+    pub came : CameTo consumer sink old state middle earlier
+    pub within : GaveFor q (map device.text olds) device earlier olds news
 
   -- these lines were taken, all of the range or enough
   pub record TookLines (last : K) (new : Option (List ℕ)) (pass : Pass) : Type 0 where
     pub lines : List Member
-    pub came : CameTo Wrote sink old last new lines
-    pub took : Took q (map text olds) lines
-    pub whole : pass.all ≡ true → OverIndexes LINE_LIMIT (map text olds) (λ texts indexes.
+    pub came : CameTo consumer sink old last new lines
+    pub took : Took q (map device.text olds) lines
+    pub whole : pass.all ≡ true → OverIndexes (map device.text olds) (λ texts indexes.
         captures_over q q.resume (collection indexes) ≡ captures_over q q.resume lines)
-    pub parts : OverTexts (map text olds) (λ texts. IsOfParts q texts lines pass.all pass.lines)
+    pub parts : OverTexts (map device.text olds) (λ texts. IsOfParts q texts lines pass.all pass.lines)
     pub earlier : List Member
     pub later : List Member
     pub split : captures_over q q.resume lines ≡ captures_over q q.resume earlier ++ later
     pub before : WantedMore earlier
-    pub few : ReadFor q (map text olds) earlier pass.lines
+    pub few : ReadFor q (map device.text olds) earlier pass.lines
 
   -- these lines were taken before a fault, or while the sink failed
   pub record BrokeOff (new : Option (List ℕ)) : Type 0 where
     pub lines : List Member
-    pub wrote : (begin : K) → (start : Option (List ℕ)) → Wrote begin sink [] start old
-        → ((k : K) × Wrote begin k lines start new) ⊎ Broke begin lines start new
-    pub took : Took q (map text olds) lines
+    pub wrote : (begin : K) → (start : Option (List ℕ)) → consumer.Wrote begin sink [] start old
+        → ((k : K) × consumer.Wrote begin k lines start new) ⊎ consumer.Broke begin lines start new
+    pub took : Took q (map device.text olds) lines
 
   -- these lines were taken before a fault, after which the output may have grown
   pub record Halted (new : Option (List ℕ)) : Type 0 where
     pub earlier : List Member
-    pub first : OverIndexes LINE_LIMIT (map text olds) (λ texts indexes. AreFirst q (collection indexes) earlier)
+    pub first : OverIndexes (map device.text olds) (λ texts indexes. AreFirst q (collection indexes) earlier)
     pub before : WantedMore earlier
     pub grows : Grows before.middle new
 

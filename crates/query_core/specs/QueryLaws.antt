@@ -4,7 +4,6 @@ use Rattle.std.specs.List.{AllByRecursion, AllZip, filter}
 use Rattle.cdxj_places.specs.Places.{PlaceValue, place_cmp, resume_text}
 use Rattle.cdxj_places.specs.Rising.{IsFirst, IsIn, Rises}
 use Rattle.cdxj_core.specs.declared.field.Field.{Field}
-use Rattle.cdxj_core.specs.declared.limit.TheConstants.{LINE_LIMIT}
 use Rattle.cdxj_core.specs.Indexes.{IsIndex}
 use Rattle.cdxj_core.specs.Members.{Member, member_place}
 use Rattle.query_text.specs.declared.query.TheConstants.{QUERY_LIMIT}
@@ -71,8 +70,8 @@ KeysContinue = (text : List ℕ) (query : QueryValue) (page : Page Member PlaceV
 
 -- over indexes no fault names a line
 abbrev pub NoLineIsAtFault : Type 0
-NoLineIsAtFault = (told : List (Option (List ℕ))) (fault : AnswerFault) → IsAnswerFaultOf LINE_LIMIT told fault
-    → OverIndexes LINE_LIMIT told (λ texts indexes. NamesNoLine fault)
+NoLineIsAtFault = (told : List (Option (List ℕ))) (fault : AnswerFault) → IsAnswerFaultOf told fault
+    → OverIndexes told (λ texts indexes. NamesNoLine fault)
 
 -- a field is named by its name
 abbrev pub NamesNameFields : Type 0

@@ -5,6 +5,7 @@ use Rattle.std.specs.Ordering.{is_gt}
 use Rattle.cdxj_places.specs.Pairs.{Pair, pair_cmp}
 use Rattle.cdxj_places.specs.Places.{PlaceValue}
 use Rattle.cdxj_core.specs.Members.{Member, member_pair}
+use Rattle.source_core.specs.declared.source.Source.{Ghosts}
 use Rattle.query_text.specs.Queries.{QueryValue}
 use Rattle.query_text.specs.Matching.{covers}
 use Rattle.page_core.specs.Form.{FormValue}
@@ -54,11 +55,10 @@ pub record WroteFirst (old new : Option (List ℕ)) (text : List ℕ) : Type 0 w
 
 -- So many captures of the page were written whole. Each source gave no more bytes than its lines have that a page of so
 -- many reaches, and what a search takes, two lines and a piece. So it gave no more than the whole page reaches.
-pub record GaveInReach {S : Type 0} (extent gave : S → ℕ) (q : QueryValue) (texts : List (List ℕ))
-    (indexes : List (List Member))
-    (old new : Option (List ℕ)) (olds news : List S) : Type 0 where
+pub record GaveInReach {S : Type 0} (device : Ghosts S) (q : QueryValue) (texts : List (List ℕ))
+    (indexes : List (List Member)) (old new : Option (List ℕ)) (olds news : List S) : Type 0 where
   pub whole : ℕ
   pub most : whole ≤ length (query_page q (collection indexes)).members
   pub wrote : WroteFirst old new (captures_text (form_of q) (take whole (query_page q (collection indexes)).members))
-  pub within : AllGaveWithin extent gave (in_reach q q.resume (Some whole) (collection indexes)) texts indexes olds news
-  pub page : AllGaveWithin extent gave (in_reach q q.resume q.limit (collection indexes)) texts indexes olds news
+  pub within : AllGaveWithin device (in_reach q q.resume (Some whole) (collection indexes)) texts indexes olds news
+  pub page : AllGaveWithin device (in_reach q q.resume q.limit (collection indexes)) texts indexes olds news

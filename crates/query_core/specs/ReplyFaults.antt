@@ -2,6 +2,7 @@
 use Rattle.std.specs.Prelude.{◌≡◌, ◌<◌, ◌⊎◌, ℕ, List, length, map, Option, Result, Ok, Err}
 use Rattle.devices.specs.Device.{next_count}
 use Rattle.devices.specs.LineReading.{IsTooLong}
+use Rattle.source_core.specs.declared.source.Source.{Ghosts}
 use Rattle.merge_core.specs.Collections.{KeepsSources}
 use Rattle.merge_core.specs.Failures.{RaisedAt}
 use Rattle.query_core.specs.declared.fault.AnswerFault.{AnswerFault}
@@ -29,10 +30,9 @@ CountsReplying (Err (fault.OutOfOrder i offset)) sources sources' out out' = ⊥
 CountsReplying other sources sources' out out' = (sources' ≡ sources) × (out' ≡ out)
 
 -- a reply keeps the sources, and counts the failure that ends it
-abbrev pub RepliesFrom : {S A : Type 0} → (S → Option (List ℕ)) → (S → ℕ) → (S → ℕ) → Result A AnswerFault → List S
-    → List S → ℕ → ℕ → Type 0
-RepliesFrom text extent failures result olds news out out' =
-    KeepsSources text extent olds news × CountsReplying result (map failures olds) (map failures news) out out'
+abbrev pub RepliesFrom : {S A : Type 0} → Ghosts S → Result A AnswerFault → List S → List S → ℕ → ℕ → Type 0
+RepliesFrom device result olds news out out' = KeepsSources device olds news
+    × CountsReplying result (map device.failures olds) (map device.failures news) out out'
 
 -- the same of a conversation, and the count of its input, of which these bytes were left: Input where it failed or is
 -- too long

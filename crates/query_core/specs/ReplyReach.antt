@@ -7,6 +7,7 @@ use Rattle.cdxj_places.specs.TextLines.{lines}
 use Rattle.cdxj_core.specs.Members.{Member}
 use Rattle.devices.specs.LineCuts.{input_lines}
 use Rattle.source_core.specs.IndexLines.{longest}
+use Rattle.source_core.specs.declared.source.Source.{Ghosts}
 use Rattle.query_text.specs.declared.fault.QueryFault.{QueryFault}
 use Rattle.query_text.specs.Queries.{QueryValue, query_of}
 use Rattle.merge_core.specs.Collections.{collection}
@@ -20,12 +21,12 @@ abbrev pub Amount : Type 0
 Amount = ℕ → List ℕ → List Member → ℕ
 
 -- each of the sources gave at most so many bytes
-abbrev pub AllGaveAtMost : {S : Type 0} → (S → ℕ) → (S → ℕ) → Amount → List (List ℕ) → List (List Member) → List S
-    → List S → Type 0
-AllGaveAtMost extent gave most [] [] [] [] = Unit {0}
-AllGaveAtMost extent gave most (t ∷ ts) (i ∷ is) (old ∷ olds) (new ∷ news) =
-    (gave new ≤ gave old + most (extent old) t i) × AllGaveAtMost extent gave most ts is olds news
-AllGaveAtMost extent gave most ts is olds news = ⊥
+abbrev pub AllGaveAtMost : {S : Type 0} → Ghosts S → Amount → List (List ℕ) → List (List Member) → List S → List S
+    → Type 0
+AllGaveAtMost device most [] [] [] [] = Unit {0}
+AllGaveAtMost device most (t ∷ ts) (i ∷ is) (old ∷ olds) (new ∷ news) =
+    (device.gave new ≤ device.gave old + most (device.extent old) t i) × AllGaveAtMost device most ts is olds news
+AllGaveAtMost device most ts is olds news = ⊥
 
 -- a query takes no more than the lines that its page reaches, what a search takes, two lines and a piece
 abbrev pub query_most : QueryValue → List Member → Amount
@@ -55,7 +56,7 @@ AreFirstLines (Some input) asked = (later : List (List ℕ)) × (input_lines inp
 
 -- The replies to the first lines of an input stand written. Each source gave no more bytes than these lines and one more
 -- take.
-pub record GaveForLines {S : Type 0} (extent gave : S → ℕ) (limit : ℕ) (input : Option (List ℕ))
+pub record GaveForLines {S : Type 0} (device : Ghosts S) (limit : ℕ) (input : Option (List ℕ))
     (texts : List (List ℕ)) (indexes : List (List Member)) (old new : Option (List ℕ)) (olds news : List S) : Type 0
   where
     pub answered : List (List ℕ)
@@ -63,5 +64,5 @@ pub record GaveForLines {S : Type 0} (extent gave : S → ℕ) (limit : ℕ) (in
     pub one : length next ≤ 1
     pub first : AreFirstLines input (answered ++ next)
     pub wrote : WroteFirst old new (flat_map (marked_reply limit (reply_of limit (collection indexes))) answered)
-    pub within : AllGaveAtMost extent gave (lines_most limit (collection indexes) (answered ++ next)) texts indexes olds
+    pub within : AllGaveAtMost device (lines_most limit (collection indexes) (answered ++ next)) texts indexes olds
         news

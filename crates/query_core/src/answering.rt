@@ -1,6 +1,5 @@
 //! The answer to a query over indexes.
 ghost use Rattle.std.specs.Prelude.{◌≡◌, length, map, IfOk, IfErr, List};
-ghost use Rattle.cdxj_core.specs.declared.limit.TheConstants.{LINE_LIMIT};
 ghost use Rattle.cdxj_core.specs.Members.{Member};
 ghost use Rattle.merge_core.specs.Collections.{KeepsSources, OverIndexes, OverTexts, collection};
 ghost use Rattle.merge_core.specs.SourceLines.{AreLinesOf};
@@ -42,21 +41,18 @@ pub fn answer<S: Source, O: Output>(
 ) -> Result<Report, AnswerFault>
     ensures refused { Refuses (too_many (length sources.old)) result
         ((sources.new ≡ sources.old) × (out.new ≡ out.old)) }
-    ensures kept { KeepsSources S.text S.extent sources.old sources.new }
+    ensures kept { KeepsSources S.Source sources.old sources.new }
     ensures failures { CountsAnswer result (map S.failures sources.old) (map S.failures sources.new)
         (O.failures out.old) (O.failures out.new) }
-    ensures fault { IfErr result (IsAnswerFaultOf LINE_LIMIT (map S.text sources.old)) }
+    ensures fault { IfErr result (IsAnswerFaultOf (map S.text sources.old)) }
     // Whatever the sources' bytes, these are lines of theirs that rise by place.
-    ensures lines { (lines : List Member) × AreLinesOf LINE_LIMIT (map S.text sources.old) lines
+    ensures lines { (lines : List Member) × AreLinesOf (map S.text sources.old) lines
         × WritesAnswer query.now lines result (O.written out.old) (O.written out.new) }
     ensures parts { OverTexts (map S.text sources.old) (λ texts.
-        IfOk result (AnsweredParts LINE_LIMIT query.now texts (O.written out.old)
-        (O.written out.new))) }
-    ensures page { OverIndexes LINE_LIMIT (map S.text sources.old) (λ texts indexes.
-        WritesAnswer query.now (collection indexes) result (O.written out.old)
-        (O.written out.new)) }
-    ensures reads { ReadsInReach S.text S.extent S.gave query.now (O.written out.old)
-        (O.written out.new)
+        IfOk result (AnsweredParts query.now texts (O.written out.old) (O.written out.new))) }
+    ensures page { OverIndexes (map S.text sources.old) (λ texts indexes.
+        WritesAnswer query.now (collection indexes) result (O.written out.old) (O.written out.new)) }
+    ensures reads { ReadsInReach S.Source query.now (O.written out.old) (O.written out.new)
         sources.old sources.new result }
 {
     if sources.len() > SOURCES_LIMIT {

@@ -1,7 +1,6 @@
 //! The checking of an index.
 ghost use Rattle.std.specs.Prelude.{◌≡◌, ◌+◌, ◌≤◌, ℕ, List, true, false, option_map, IfErr, Some};
-ghost use Rattle.cdxj_core.specs.declared.limit.TheConstants.{LINE_LIMIT};
-ghost use Rattle.source_core.specs.Device.{KeepsSource};
+ghost use Rattle.source_core.specs.Reads.{KeepsSource};
 ghost use Rattle.query_core.specs.AnswerCounts.{CountsSource};
 ghost use Rattle.query_core.specs.Checking.{FallsAfter, IsChecked, IsCheckFault};
 
@@ -30,9 +29,8 @@ fn falls_after(previous: &Option<Box<Line>>, line: &Line) -> bool
 ///
 /// Errors are `Memory`, `Read`, and for the first line at fault `BadLine` or `OutOfOrder`, all of index 0.
 pub fn check<S: Source>(alloc: Global, source: &mut S) -> Result<u64, AnswerFault>
-    ensures kept { KeepsSource S.text S.extent source.old source.new }
-    ensures checked { (text : List ℕ) → S.text source.old ≡ Some text
-        → IsChecked LINE_LIMIT text result }
+    ensures kept { KeepsSource S.Source source.old source.new }
+    ensures checked { (text : List ℕ) → S.text source.old ≡ Some text → IsChecked text result }
     ensures fault { IfErr result IsCheckFault }
     ensures failures { CountsSource result (S.failures source.old) (S.failures source.new) }
     // Each byte of the source is read at most once.

@@ -1,6 +1,5 @@
 //! The merging of indexes.
 ghost use Rattle.std.specs.Prelude.{◌≡◌, List, length, map, IfOk, IfErr};
-ghost use Rattle.cdxj_core.specs.declared.limit.TheConstants.{LINE_LIMIT};
 ghost use Rattle.cdxj_core.specs.Members.{Member};
 ghost use Rattle.devices.specs.Device.{AppendsPrefix};
 ghost use Rattle.merge_core.specs.Collections.{KeepsSources, Merged, OverIndexes, OverTexts, collection};
@@ -39,21 +38,21 @@ pub fn merge<S: Source, O: Output>(
 ) -> Result<u64, AnswerFault>
     ensures refused { Refuses (too_many (length sources.old)) result
         ((sources.new ≡ sources.old) × (out.new ≡ out.old)) }
-    ensures kept { KeepsSources S.text S.extent sources.old sources.new }
+    ensures kept { KeepsSources S.Source sources.old sources.new }
     ensures failures { CountsAnswer result (map S.failures sources.old) (map S.failures sources.new)
         (O.failures out.old) (O.failures out.new) }
-    ensures fault { IfErr result (IsAnswerFaultOf LINE_LIMIT (map S.text sources.old)) }
+    ensures fault { IfErr result (IsAnswerFaultOf (map S.text sources.old)) }
     ensures merged { OverTexts (map S.text sources.old) (λ texts.
-        IfOk result (Merged LINE_LIMIT texts (O.written out.old) (O.written out.new))) }
+        IfOk result (Merged texts (O.written out.old) (O.written out.new))) }
     // What was written of indexes is an index.
-    ensures index { OverTexts (map S.text sources.old) (λ texts. IfOk result (λ _.
-        (lines : List Member)
-        × WroteIndex LINE_LIMIT lines (O.written out.old) (O.written out.new))) }
-    ensures part { OverIndexes LINE_LIMIT (map S.text sources.old) (λ texts indexes.
+    ensures index { OverTexts (map S.text sources.old) (λ texts.
+        IfOk result (λ _. (lines : List Member) × WroteIndex lines (O.written out.old)
+        (O.written out.new))) }
+    ensures part { OverIndexes (map S.text sources.old) (λ texts indexes.
         AppendsPrefix (O.written out.old) (O.written out.new) (lines_text (collection indexes))) }
     // Each byte of a source is read at most once.
-    ensures bytes { AllGaveOnce S.extent S.gave sources.old sources.new }
-    ensures lines { WritesLinesOf LINE_LIMIT (λ number. number) (map S.text sources.old) result
+    ensures bytes { AllGaveOnce S.Source sources.old sources.new }
+    ensures lines { WritesLinesOf (λ number. number) (map S.text sources.old) result
         (O.written out.old) (O.written out.new) }
 {
     if sources.len() > SOURCES_LIMIT {

@@ -1,6 +1,5 @@
 //! The pages of a query over indexes.
 ghost use Rattle.std.specs.Prelude.{◌≡◌, List, None, length, map, IfOk, IfErr};
-ghost use Rattle.cdxj_core.specs.declared.limit.TheConstants.{LINE_LIMIT};
 ghost use Rattle.cdxj_core.specs.Members.{Member};
 ghost use Rattle.merge_core.specs.Collections.{KeepsSources, OverIndexes, OverTexts, collection};
 ghost use Rattle.merge_core.specs.SourceLines.{AreLinesOf};
@@ -43,26 +42,25 @@ pub fn pages<S: Source, O: Output>(
 ) -> Result<u64, AnswerFault>
     ensures refused { Refuses (bad_sizes_or_too_many sizes.now (length sources.old)) result
         ((sources.new ≡ sources.old) × (out.new ≡ out.old)) }
-    ensures kept { KeepsSources S.text S.extent sources.old sources.new }
+    ensures kept { KeepsSources S.Source sources.old sources.new }
     ensures failures { CountsAnswer result (map S.failures sources.old) (map S.failures sources.new)
         (O.failures out.old) (O.failures out.new) }
-    ensures fault { IfErr result (IsAnswerFaultOf LINE_LIMIT (map S.text sources.old)) }
+    ensures fault { IfErr result (IsAnswerFaultOf (map S.text sources.old)) }
     // Whatever the sources' bytes, these are lines of theirs that rise by place.
-    ensures lines { (lines : List Member) × AreLinesOf LINE_LIMIT (map S.text sources.old) lines
+    ensures lines { (lines : List Member) × AreLinesOf (map S.text sources.old) lines
         × WritesPages query.now lines sizes.now result (O.written out.old) (O.written out.new) }
-    ensures parts { OverTexts (map S.text sources.old) (λ texts. IfOk result
-        (WrotePagesOfParts LINE_LIMIT query.now texts sizes.now (O.written out.old)
+    ensures parts { OverTexts (map S.text sources.old) (λ texts.
+        IfOk result (WrotePagesOfParts query.now texts sizes.now (O.written out.old)
         (O.written out.new))) }
-    ensures pages { OverIndexes LINE_LIMIT (map S.text sources.old) (λ texts indexes.
+    ensures pages { OverIndexes (map S.text sources.old) (λ texts indexes.
         WritesPages query.now (collection indexes) sizes.now result (O.written out.old)
         (O.written out.new)) }
-    ensures bytes { OverIndexes LINE_LIMIT (map S.text sources.old) (λ texts indexes.
-        AllGaveWithin S.extent S.gave
-        (in_reach query.now query.now.resume None (collection indexes))
-        texts indexes sources.old sources.new) }
+    ensures bytes { OverIndexes (map S.text sources.old) (λ texts indexes.
+        AllGaveWithin S.Source (in_reach query.now query.now.resume None (collection indexes)) texts
+        indexes sources.old sources.new) }
     // Each capture stands written before a line is read behind the next pair of its index.
-    ensures reach { OverIndexes LINE_LIMIT (map S.text sources.old) (λ texts indexes.
-        GaveInPages S.extent S.gave query.now sizes.now texts indexes (O.written out.old)
+    ensures reach { OverIndexes (map S.text sources.old) (λ texts indexes.
+        GaveInPages S.Source query.now sizes.now texts indexes (O.written out.old)
         (O.written out.new) sources.old sources.new) }
 {
     if !are_sizes(sizes) {

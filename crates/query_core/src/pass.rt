@@ -1,8 +1,6 @@
 //! One pass over sources, from where a query's captures begin.
 ghost use Rattle.std.specs.Prelude.{◌≡◌, ◌+◌, ◌≤◌, length, map, false, IfOk, IfErr};
-ghost use Rattle.std.specs.List.{sum};
-ghost use Rattle.cdxj_core.specs.declared.limit.TheConstants.{LINE_LIMIT};
-ghost use Rattle.source_core.specs.Halving.{digits};
+ghost use Rattle.merge_core.specs.Spending.{search_steps};
 ghost use Rattle.merge_core.specs.Collections.{KeepsSources};
 ghost use Rattle.merge_core.specs.Counts.{OverShares};
 ghost use Rattle.query_core.specs.AnswerCounts.{CountsAnswer};
@@ -42,18 +40,17 @@ pub(crate) fn read_lines<S: Source, K: Sink, O: Output>(
     sink: &mut K,
     out: &mut O,
 ) -> Result<Pass, AnswerFault>
-    ensures kept { KeepsSources S.text S.extent sources.old sources.new }
+    ensures kept { KeepsSources S.Source sources.old sources.new }
     ensures failures { CountsAnswer result (map S.failures sources.old) (map S.failures sources.new)
         (O.failures out.old) (O.failures out.new) }
     ensures late { IfErr result (λ e. IsBeforeReading e → ⊥) }
-    ensures fault { IfErr result (IsAnswerFaultOf LINE_LIMIT (map S.text sources.old)) }
-    ensures probes { IfOk result (λ pass.
-        pass.probes ≤ sum (map (λ s. digits (S.extent s)) sources.old)) }
-    ensures held { OverShares LINE_LIMIT (map S.text sources.old) (λ most.
+    ensures fault { IfErr result (IsAnswerFaultOf (map S.text sources.old)) }
+    ensures probes { IfOk result (λ pass. pass.probes ≤ search_steps S.Source sources.old) }
+    ensures held { OverShares (map S.text sources.old) (λ most.
         IfOk result (λ pass. pass.held ≤ length sources.old + most)) }
     ensures enough { IfOk result (λ pass. pass.all ≡ false → K.Enough sink.new) }
-    ensures ended { EndedPass K.Wrote K.Broke K.Enough S.text S.extent S.gave query.now
-        sources.old sources.new sink.old (O.written out.old) result sink.new (O.written out.new) }
+    ensures ended { EndedPass K.Sink S.Source query.now sources.old sources.new sink.old
+        (O.written out.old) result sink.new (O.written out.new) }
 {
     let range = TargetRange {
         target: query.target(),

@@ -1,6 +1,5 @@
 //! A conversation: a reply to each line of an input.
 ghost use Rattle.std.specs.Prelude.{◌≡◌, ◌+◌, [], length, map, Err, IfOk};
-ghost use Rattle.cdxj_core.specs.declared.limit.TheConstants.{LINE_LIMIT};
 ghost use Rattle.devices.specs.Writing.{WritesText};
 ghost use Rattle.query_text.specs.declared.query.TheConstants.{QUERY_LIMIT};
 ghost use Rattle.query_text.specs.declared.fault.QueryFault.{QueryFault};
@@ -35,16 +34,16 @@ fn reply_to_query<S: Source, O: Output>(
     query: &Query,
     out: &mut O,
 ) -> Result<(), AnswerFault>
-    ensures sources { RepliesFrom S.text S.extent S.failures result sources.old sources.new
-        (O.failures out.old) (O.failures out.new) }
-    ensures text { OverIndexes LINE_LIMIT (map S.text sources.old) (λ texts indexes.
+    ensures sources { RepliesFrom S.Source result sources.old sources.new (O.failures out.old)
+        (O.failures out.new) }
+    ensures text { OverIndexes (map S.text sources.old) (λ texts indexes.
         WritesText result (O.written out.old) (O.written out.new)
         (answer_text query.now (query_page query.now (collection indexes)))) }
     ensures lines { WritesSome result (O.written out.old) (O.written out.new)
         (IsPageReply (map S.text sources.old) query.now) }
-    ensures bytes { OverIndexes LINE_LIMIT (map S.text sources.old) (λ texts indexes.
-        AllGaveAtMost S.extent S.gave (query_most query.now (collection indexes)) texts
-        indexes sources.old sources.new) }
+    ensures bytes { OverIndexes (map S.text sources.old) (λ texts indexes.
+        AllGaveAtMost S.Source (query_most query.now (collection indexes)) texts indexes sources.old
+        sources.new) }
 {
     match answer(alloc, sources, query, out) {
         Ok(_) => Ok(()),
@@ -66,17 +65,16 @@ fn reply_to_text<S: Source, O: Output>(
     text: &str,
     out: &mut O,
 ) -> Result<(), AnswerFault>
-    ensures sources { RepliesFrom S.text S.extent S.failures result sources.old sources.new
-        (O.failures out.old) (O.failures out.new) }
-    ensures text { OverIndexes LINE_LIMIT (map S.text sources.old) (λ texts indexes.
+    ensures sources { RepliesFrom S.Source result sources.old sources.new (O.failures out.old)
+        (O.failures out.new) }
+    ensures text { OverIndexes (map S.text sources.old) (λ texts indexes.
         WritesText result (O.written out.old) (O.written out.new)
         (reply_of QUERY_LIMIT (collection indexes) text.now)) }
     ensures lines { WritesSome result (O.written out.old) (O.written out.new)
         (IsTextReply (map S.text sources.old) text.now) }
-    ensures bytes { OverIndexes LINE_LIMIT (map S.text sources.old) (λ texts indexes.
-        AllGaveAtMost S.extent S.gave
-        (asked_most (query_of QUERY_LIMIT text.now) (collection indexes)) texts
-        indexes sources.old sources.new) }
+    ensures bytes { OverIndexes (map S.text sources.old) (λ texts indexes.
+        AllGaveAtMost S.Source (asked_most (query_of QUERY_LIMIT text.now) (collection indexes))
+        texts indexes sources.old sources.new) }
 {
     match Query::read(alloc, text) {
         Ok(query) => reply_to_query(alloc, sources, &query, out),
@@ -93,17 +91,16 @@ fn reply_to_line<S: Source, O: Output>(
     line: &[u8],
     out: &mut O,
 ) -> Result<(), AnswerFault>
-    ensures sources { RepliesFrom S.text S.extent S.failures result sources.old sources.new
-        (O.failures out.old) (O.failures out.new) }
-    ensures text { OverIndexes LINE_LIMIT (map S.text sources.old) (λ texts indexes.
+    ensures sources { RepliesFrom S.Source result sources.old sources.new (O.failures out.old)
+        (O.failures out.new) }
+    ensures text { OverIndexes (map S.text sources.old) (λ texts indexes.
         WritesSome result (O.written out.old) (O.written out.new)
-        (IsLineReply QUERY_LIMIT (IsOneReply (reply_of QUERY_LIMIT (collection indexes)))
-        line.now)) }
+        (IsLineReply QUERY_LIMIT (IsOneReply (reply_of QUERY_LIMIT (collection indexes))) line.now)) }
     ensures lines { WritesSome result (O.written out.old) (O.written out.new)
         (IsLineReply QUERY_LIMIT (IsTextReply (map S.text sources.old)) line.now) }
-    ensures bytes { OverIndexes LINE_LIMIT (map S.text sources.old) (λ texts indexes.
-        AllGaveAtMost S.extent S.gave (line_most QUERY_LIMIT (collection indexes) line.now) texts
-        indexes sources.old sources.new) }
+    ensures bytes { OverIndexes (map S.text sources.old) (λ texts indexes.
+        AllGaveAtMost S.Source (line_most QUERY_LIMIT (collection indexes) line.now) texts indexes
+        sources.old sources.new) }
 {
     if line.len() > QUERY_LIMIT {
         return put_refusal(alloc, "QueryTooLong", out);
@@ -122,17 +119,17 @@ fn reply_and_mark<S: Source, O: Output>(
     line: &[u8],
     out: &mut O,
 ) -> Result<(), AnswerFault>
-    ensures sources { RepliesFrom S.text S.extent S.failures result sources.old sources.new
-        (O.failures out.old) (O.failures out.new) }
-    ensures text { OverIndexes LINE_LIMIT (map S.text sources.old) (λ texts indexes.
+    ensures sources { RepliesFrom S.Source result sources.old sources.new (O.failures out.old)
+        (O.failures out.new) }
+    ensures text { OverIndexes (map S.text sources.old) (λ texts indexes.
         WritesSome result (O.written out.old) (O.written out.new)
         (IsMarkedReply QUERY_LIMIT (IsOneReply (reply_of QUERY_LIMIT (collection indexes)))
         line.now)) }
     ensures lines { WritesSome result (O.written out.old) (O.written out.new)
         (IsMarkedReply QUERY_LIMIT (IsTextReply (map S.text sources.old)) line.now) }
-    ensures bytes { OverIndexes LINE_LIMIT (map S.text sources.old) (λ texts indexes.
-        AllGaveAtMost S.extent S.gave (line_most QUERY_LIMIT (collection indexes) line.now) texts
-        indexes sources.old sources.new) }
+    ensures bytes { OverIndexes (map S.text sources.old) (λ texts indexes.
+        AllGaveAtMost S.Source (line_most QUERY_LIMIT (collection indexes) line.now) texts indexes
+        sources.old sources.new) }
 {
     reply_to_line(alloc, sources, line, out)?;
     put_text(b".\n", out)
@@ -168,20 +165,20 @@ pub fn serve<S: Source, I: Input, O: Output>(
 ) -> Result<u64, AnswerFault>
     ensures refused { Refuses (too_many (length sources.old)) result
         ((sources.new ≡ sources.old) × (input.new ≡ input.old) × (out.new ≡ out.old)) }
-    ensures kept { KeepsSources S.text S.extent sources.old sources.new }
+    ensures kept { KeepsSources S.Source sources.old sources.new }
     ensures failures { CountsServing result (map S.failures sources.old)
         (map S.failures sources.new) (O.failures out.old) (O.failures out.new)
         (I.failures input.old) (I.failures input.new) (I.remaining input.old) }
-    ensures replies { OverIndexes LINE_LIMIT (map S.text sources.old) (λ texts indexes.
+    ensures replies { OverIndexes (map S.text sources.old) (λ texts indexes.
         IfOk result (λ count. Replied QUERY_LIMIT (reply_of QUERY_LIMIT (collection indexes))
         (I.remaining input.old) count (O.written out.old) (O.written out.new))) }
-    ensures part { OverIndexes LINE_LIMIT (map S.text sources.old) (λ texts indexes.
+    ensures part { OverIndexes (map S.text sources.old) (λ texts indexes.
         RepliedInPart QUERY_LIMIT (reply_of QUERY_LIMIT (collection indexes))
         (I.remaining input.old) (O.written out.old) (O.written out.new)) }
-    ensures taken { OverIndexes LINE_LIMIT (map S.text sources.old) (λ texts indexes.
-        result ≡ Err AnswerFault.Input →
-        RepliedToTaken QUERY_LIMIT (IsOneReply (reply_of QUERY_LIMIT (collection indexes)))
-        (I.remaining input.old) (I.remaining input.new) (O.written out.old) (O.written out.new)) }
+    ensures taken { OverIndexes (map S.text sources.old) (λ texts indexes.
+        result ≡ Err AnswerFault.Input → RepliedToTaken QUERY_LIMIT
+        (IsOneReply (reply_of QUERY_LIMIT (collection indexes))) (I.remaining input.old)
+        (I.remaining input.new) (O.written out.old) (O.written out.new)) }
     // Whatever the sources' bytes, each page is that of lines of theirs that rise by place.
     ensures lines { Converses QUERY_LIMIT (IsTextReply (map S.text sources.old)) result
         (I.remaining input.old) (O.written out.old) (O.written out.new) }
@@ -189,9 +186,9 @@ pub fn serve<S: Source, I: Input, O: Output>(
         RepliedToTaken QUERY_LIMIT (IsTextReply (map S.text sources.old))
         (I.remaining input.old) (I.remaining input.new) (O.written out.old) (O.written out.new) }
     // Each source gives no more than the queries may take of the lines that were answered, and of one more.
-    ensures bytes { OverIndexes LINE_LIMIT (map S.text sources.old) (λ texts indexes.
-        GaveForLines S.extent S.gave QUERY_LIMIT (I.remaining input.old) texts indexes
-        (O.written out.old) (O.written out.new) sources.old sources.new) }
+    ensures bytes { OverIndexes (map S.text sources.old) (λ texts indexes.
+        GaveForLines S.Source QUERY_LIMIT (I.remaining input.old) texts indexes (O.written out.old)
+        (O.written out.new) sources.old sources.new) }
 {
     if sources.len() > SOURCES_LIMIT {
         return Err(AnswerFault::TooManySources);

@@ -45,7 +45,7 @@ pub pages_fault : {S : Type 0} → NoLineIsAtFault
     → (r : Result ℕ AnswerFault) (tolds : List (Option (List ℕ))) (texts : List (List ℕ)) (members : List (List Member))
     (old new : List S) (o o' : ℕ) (sizes : List ℕ) (count : ℕ) (X : Type 0) → Known tolds texts
     → AllZip (IsIndex LINE_LIMIT) texts members
-    → IfErr r (IsAnswerFaultOf LINE_LIMIT tolds) → CountsAnswer r (zeros old) (zeros new) o o'
+    → IfErr r (IsAnswerFaultOf tolds) → CountsAnswer r (zeros old) (zeros new) o o'
     → are_sizes sizes ≡ true → count ≤ SOURCES_LIMIT → Refuses (bad_sizes_or_too_many sizes count) r X
     → IfErr r IsPagesFault
 pages_fault law (Ok n) tolds texts members old new o o' sizes count X known are f counts sized h refused = tt

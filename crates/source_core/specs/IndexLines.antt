@@ -45,3 +45,7 @@ longest (l ∷ ls) = max (length l) (longest ls)
 abbrev pub BeginsAfter : List ℕ → ℕ → List (List ℕ) → Type 0
 BeginsAfter text offset front = (lines text ≡ front ++ lines (drop offset text))
     × (offset ≡ length (flat_map (λ l. l) front))
+
+-- a line begins at the offset, or the text ends there
+abbrev pub IsLineStart : List ℕ → ℕ → Type 0
+IsLineStart text offset = (before : List (List ℕ)) × BeginsAfter text offset before

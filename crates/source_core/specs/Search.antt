@@ -7,12 +7,13 @@ use Rattle.cdxj_core.specs.Members.{Member, member_pair}
 use Rattle.cdxj_places.specs.Pair.{pair_of}
 use Rattle.cdxj_places.specs.Pairs.{Pair, pair_cmp}
 use Rattle.devices.specs.Device.{next_count}
-use Rattle.source_core.specs.Device.{KeepsSource}
 use Rattle.source_core.specs.Halving.{stops_lines}
 use Rattle.source_core.specs.IndexLines.{BeginsAfter, first_length}
+use Rattle.source_core.specs.Reads.{KeepsSource}
 use Rattle.source_core.specs.Windows.{HeldBytes, Holds}
 use Rattle.source_core.specs.declared.fault.SearchFault.{SearchFault}
 use Rattle.source_core.specs.declared.fault.SearchFault.TheVariants as fault
+use Rattle.source_core.specs.declared.source.Source.{Ghosts}
 
 abbrev pub is_below : Pair → Pair → Bool
 is_below start pair = is_lt (pair_cmp pair start)
@@ -47,13 +48,11 @@ CountsSearch (Err fault.Read) old new = new ≡ next_count old
 CountsSearch answer old new = new ≡ old
 
 -- a step of a search keeps the source, and counts its failure
-abbrev pub SearchesSource : {S A : Type 0} → (S → Option (List ℕ)) → (S → ℕ) → (S → ℕ) → Result A SearchFault → S → S
-    → Type 0
-SearchesSource text extent failures result old new =
-    KeepsSource text extent old new × CountsSearch result (failures old) (failures new)
+abbrev pub SearchesSource : {S A : Type 0} → Ghosts S → Result A SearchFault → S → S → Type 0
+SearchesSource device result old new =
+    KeepsSource device old new × CountsSearch result (device.failures old) (device.failures new)
 
 -- the same, and afterwards its window holds bytes of the source
-abbrev pub SearchesOver : {S A : Type 0} → (S → Option (List ℕ)) → (S → ℕ) → (S → ℕ) → Result A SearchFault → S → S
-    → HeldBytes → Type 0
-SearchesOver text extent failures result old new window =
-    SearchesSource text extent failures result old new × Holds (text new) (extent new) window
+abbrev pub SearchesOver : {S A : Type 0} → Ghosts S → Result A SearchFault → S → S → HeldBytes → Type 0
+SearchesOver device result old new window =
+    SearchesSource device result old new × Holds (device.text new) (device.extent new) window

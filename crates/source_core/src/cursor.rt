@@ -1,6 +1,7 @@
 //! The lines of a source, one after another.
 ghost use Rattle.std.specs.Prelude.{◌≡◌, ◌+◌, ◌<◌, ◌≤◌, ◌∷◌, ℕ, Option, List, true, length, take, drop, IfOk, IfErr, OnOk, MatchOption, IfSome, IfNone, Some};
-ghost use Rattle.source_core.specs.Device.{KeepsSource, OverText};
+ghost use Rattle.source_core.specs.Device.{OverText};
+ghost use Rattle.source_core.specs.Reads.{KeepsSource, StandsIn};
 ghost use Rattle.cdxj_core.specs.declared.limit.TheConstants.{LINE_LIMIT};
 
 use crate::fault::LineReadFault;
@@ -125,9 +126,9 @@ impl Cursor {
 
     /// Goes on behind the next line, of `size` bytes, which [`Cursor::held_line`] returned.
     pub fn pass_line<S: Source>(&mut self, source: &S, size: usize)
-        requires stands { Stands (S.text source.now) (S.extent source.now) self.old }
+        requires stands { StandsIn S.Source source.now self.old }
         requires line { IsHeldLine self.old.ahead size }
-        ensures stands { Stands (S.text source.now) (S.extent source.now) self.new }
+        ensures stands { StandsIn S.Source source.now self.new }
         ensures start { self.new.start ≡ self.old.start }
         ensures count { self.new.count ≡ self.old.count + 1 }
         ensures there { self.new.at ≡ self.old.at + size }
@@ -151,9 +152,9 @@ impl Cursor {
         source: &mut S,
         line: &mut Vec<u8>,
     ) -> Result<bool, LineReadFault>
-        requires stands { Stands (S.text source.old) (S.extent source.old) self.old }
-        ensures kept { KeepsSource S.text S.extent source.old source.new }
-        ensures stands { OnOk result (Stands (S.text source.new) (S.extent source.new) self.new) }
+        requires stands { StandsIn S.Source source.old self.old }
+        ensures kept { KeepsSource S.Source source.old source.new }
+        ensures stands { OnOk result (StandsIn S.Source source.new self.new) }
         ensures filled { Filled (S.text source.new) (S.extent source.new) self.new }
         ensures start { self.new.start ≡ self.old.start }
         ensures count { IfOk result (λ found. MatchOption (line_found found line.new.items)

@@ -1,6 +1,7 @@
 //! Where lines begin.
 ghost use Rattle.std.specs.Prelude.{◌≡◌, ◌+◌, ◌<◌, ◌≤◌, IfOk, IfSome, IfNone, Some};
-ghost use Rattle.source_core.specs.Device.{OverText, ReadsSource};
+ghost use Rattle.source_core.specs.Device.{OverText};
+ghost use Rattle.source_core.specs.Reads.{ReadsSource};
 ghost use Rattle.source_core.specs.IndexLines.{lines, from_line, longest, BeginsFrom, IsAmong};
 ghost use Rattle.source_core.specs.Windows.{Holds};
 
@@ -20,7 +21,7 @@ pub(crate) fn next_line_start<S: Source>(
     requires holds { Holds (S.text source.old) (S.extent source.old) window.old }
     requires some { from < until }
     requires inside { until ≤ S.extent source.old }
-    ensures source { ReadsSource S.text S.extent S.failures result source.old source.new }
+    ensures source { ReadsSource S.Source result source.old source.new }
     ensures holds { Holds (S.text source.new) (S.extent source.new) window.new }
     ensures among { IfOk result (λ found. IfSome found (IsAmong from until)) }
     ensures later { IfOk result (λ found. IfNone found (0 < from)) }

@@ -6,13 +6,14 @@ ghost use Rattle.cdxj_core.specs.Indexes.{IsIndex};
 ghost use Rattle.cdxj_core.specs.Members.{Member};
 ghost use Rattle.cdxj_places.specs.Pairs.{IsLeast};
 ghost use Rattle.cdxj_places.specs.PairViews.{pair_view};
-ghost use Rattle.source_core.specs.IndexLines.{lines, from_line, longest, BeginsAfter, BeginsFrom, IsAmong};
+ghost use Rattle.source_core.specs.IndexLines.{IsLineStart, lines, from_line, longest, BeginsFrom, IsAmong};
+ghost use Rattle.source_core.specs.Reads.{StandsIn};
 ghost use Rattle.source_core.specs.Search.{line_below, IsStop, IsCut, SearchesOver, SearchesSource};
 ghost use Rattle.source_core.specs.Halving.{stops, stops_lines, digits};
 ghost use Rattle.source_core.specs.Halved.{Halved};
 ghost use Rattle.source_core.specs.LineParts.{BeginsWith, ReadsOn};
 ghost use Rattle.source_core.specs.Windows.{Holds};
-ghost use Rattle.source_core.specs.Cursors.{IsFresh, Stands};
+ghost use Rattle.source_core.specs.Cursors.{IsFresh};
 
 use crate::cursor::Cursor;
 use crate::fault::SearchFault;
@@ -67,8 +68,7 @@ fn read_on<S: Source>(
     requires some { 0 < most }
     requires room { most ≤ 8192 }
     requires inside { offset + length front.old.items < S.extent source.old }
-    ensures source { SearchesOver S.text S.extent S.failures result source.old source.new
-        window.new }
+    ensures source { SearchesOver S.Source result source.old source.new window.new }
     ensures within { OnOk result (offset + length front.new.items ≤ S.extent source.old) }
     ensures some { OnOk result (length front.old.items < length front.new.items) }
     ensures most { OnOk result (length front.new.items ≤ length front.old.items + most) }
@@ -100,8 +100,7 @@ fn read_to<S: Source>(
     requires holds { Holds (S.text source.old) (S.extent source.old) window.old }
     requires inside { offset + length front.old.items < S.extent source.old }
     requires more { length front.old.items < wanted }
-    ensures source { SearchesOver S.text S.extent S.failures result source.old source.new
-        window.new }
+    ensures source { SearchesOver S.Source result source.old source.new window.new }
     ensures within { OnOk result (offset + length front.new.items ≤ S.extent source.old) }
     ensures some { OnOk result (length front.old.items < length front.new.items) }
     ensures most { OnOk result (length front.new.items ≤ wanted) }
@@ -139,8 +138,7 @@ fn stops_at<S: Source>(
 ) -> Result<bool, SearchFault>
     requires holds { Holds (S.text source.old) (S.extent source.old) window.old }
     requires inside { offset ≤ S.extent source.old }
-    ensures source { SearchesOver S.text S.extent S.failures result source.old source.new
-        window.new }
+    ensures source { SearchesOver S.Source result source.old source.new window.new }
     ensures stops { OverText (S.text source.old) (λ t.
         IfOk result (λ stop.
         stop ≡ stops_lines (line_below LINE_LIMIT (pair_view start.entry))
@@ -188,8 +186,7 @@ fn probe<S: Source>(
     requires holds { Holds (S.text source.old) (S.extent source.old) window.old }
     requires some { middle < until }
     requires inside { until ≤ S.extent source.old }
-    ensures source { SearchesOver S.text S.extent S.failures result source.old source.new
-        window.new }
+    ensures source { SearchesOver S.Source result source.old source.new window.new }
     ensures among { IfOk result (λ found. IfSome found (λ line. IsAmong middle until line.offset)) }
     ensures later { IfOk result (λ found. IfNone found (0 < middle)) }
     ensures line { OverText (S.text source.old) (λ t.
@@ -238,8 +235,7 @@ fn halve<S: Source>(
     requires some { span.low < span.high }
     requires halved { Halved LINE_LIMIT (pair_view start)
         (S.text source.old) (S.extent source.old) span }
-    ensures source { SearchesOver S.text S.extent S.failures result source.old source.new
-        window.new }
+    ensures source { SearchesOver S.Source result source.old source.new window.new }
     ensures halved { IfOk result (λ next. Halved LINE_LIMIT (pair_view start.entry)
         (S.text source.new) (S.extent source.new) next) }
     ensures probes { IfOk result (λ next. next.probes ≡ span.probes + 1) }
@@ -288,8 +284,7 @@ fn halve<S: Source>(
 fn hold_few<S: Source>(source: &mut S, window: &mut Window, span: Span) -> Result<(), SearchFault>
     requires holds { Holds (S.text source.old) (S.extent source.old) window.old }
     requires inside { span.high ≤ S.extent source.old }
-    ensures source { SearchesOver S.text S.extent S.failures result source.old source.new
-        window.new }
+    ensures source { SearchesOver S.Source result source.old source.new window.new }
     ensures gave { S.gave source.new ≤ S.gave source.old + 8192 }
     ensures inside { S.gave source.new ≤ S.gave source.old + S.extent source.old }
     ensures none { span.high ≤ span.low → S.gave source.new ≡ S.gave source.old }
@@ -319,16 +314,15 @@ pub fn search<S: Source>(
     source: &mut S,
     start: Pair<'_>,
 ) -> Result<Found, SearchFault>
-    ensures source { SearchesSource S.text S.extent S.failures result source.old source.new }
-    ensures stands { IfOk result (λ found.
-        Stands (S.text source.new) (S.extent source.new) found.cursor) }
+    ensures source { SearchesSource S.Source result source.old source.new }
+    ensures stands { IfOk result (λ found. StandsIn S.Source source.new found.cursor) }
     ensures fresh { IfOk result (λ found. IsFresh found.cursor found.cursor.start) }
     ensures within { IfOk result (λ found. found.cursor.start ≤ S.extent source.old) }
     ensures first { IsLeast (pair_view start.entry)
         → IfOk result (λ found. found.cursor.start ≡ 0) }
     ensures unread { IsLeast (pair_view start.entry) → source.new ≡ source.old }
-    ensures begins { OverText (S.text source.old) (λ t.
-        IfOk result (λ found. (before : List (List ℕ)) × BeginsAfter t found.cursor.start before)) }
+    ensures begins { OverText (S.text source.old) (λ t. IfOk result (λ found.
+        IsLineStart t found.cursor.start)) }
     ensures stops { OverText (S.text source.old) (λ t.
         IfOk result (λ found.
         IsStop LINE_LIMIT (pair_view start.entry) (lines (drop found.cursor.start t)))) }

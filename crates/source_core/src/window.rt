@@ -1,6 +1,6 @@
 //! Bytes of a source that are read once and used again.
 ghost use Rattle.std.specs.Prelude.{◌≡◌, ◌+◌, ◌-◌, ◌<◌, ◌≤◌, [], length, IfOk, OnOk, MatchResult};
-ghost use Rattle.source_core.specs.Device.{ReadsSource};
+ghost use Rattle.source_core.specs.Reads.{ReadsSource};
 ghost use Rattle.source_core.specs.Device.{HoldsPart};
 ghost use Rattle.source_core.specs.Windows.{AreBytesAt, Holds, held_from};
 
@@ -20,7 +20,7 @@ fn read_part<S: Source>(
     most: usize,
 ) -> Result<usize, SourceFault>
     requires { most ≤ length buffer.old }
-    ensures source { ReadsSource S.text S.extent S.failures result source.old source.new }
+    ensures source { ReadsSource S.Source result source.old source.new }
     ensures room { length buffer.new ≡ length buffer.old }
     ensures most { IfOk result (λ n. n ≤ most) }
     ensures inside { IfOk result (λ n. n ≤ S.extent source.old - at) }
@@ -86,7 +86,7 @@ impl Window {
     ) -> Result<(), SourceFault>
         requires inside { at ≤ S.extent source.old }
         requires room { most ≤ 8192 }
-        ensures source { ReadsSource S.text S.extent S.failures result source.old source.new }
+        ensures source { ReadsSource S.Source result source.old source.new }
         ensures holds { Holds (S.text source.new) (S.extent source.new) self.new }
         ensures at { self.new.at ≡ at }
         ensures most { length self.new.bytes ≤ most }
@@ -112,7 +112,7 @@ impl Window {
         requires inside { at < S.extent source.old }
         requires some { 0 < most }
         requires room { most ≤ 8192 }
-        ensures source { ReadsSource S.text S.extent S.failures result source.old source.new }
+        ensures source { ReadsSource S.Source result source.old source.new }
         ensures holds { Holds (S.text source.old) (S.extent source.old) self.old
             → Holds (S.text source.new) (S.extent source.new) self.new }
         ensures stands { AreBytesAt (S.text source.old) (S.extent source.old) at

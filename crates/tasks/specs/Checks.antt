@@ -2,7 +2,6 @@
 use Rattle.std.specs.Prelude.{◌≡◌, ◌⊎◌, ℕ, List, ◌++◌, Option, Some, Result, MatchResult, IfErr, codes, decimal}
 use Rattle.std.specs.Io.KnownBytes.{Appends}
 use Rattle.devices.specs.Device.{AppendsPrefix}
-use Rattle.cdxj_core.specs.declared.limit.TheConstants.{LINE_LIMIT}
 use Rattle.query_core.specs.declared.fault.AnswerFault.{AnswerFault}
 use Rattle.query_core.specs.declared.fault.AnswerFault.TheVariants as answers
 use Rattle.query_core.specs.Checking.{IsChecked, IsCheckFault}
@@ -28,7 +27,7 @@ WritesCount name count outcome before after =
 pub record ChecksIndex (name : List ℕ) (index : Option (List ℕ)) (outcome : Outcome) (before after : Option (List ℕ)) :
     Type 0 where
   pub answer : Result ℕ AnswerFault
-  pub checked : (text : List ℕ) → index ≡ Some text → IsChecked LINE_LIMIT text answer
+  pub checked : (text : List ℕ) → index ≡ Some text → IsChecked text answer
   pub fault : IfErr answer IsCheckFault
   pub written : MatchResult answer (λ count. WritesCount name count outcome before after)
       (λ fault. (outcome ≡ outcomes.Answer fault) × (after ≡ before))

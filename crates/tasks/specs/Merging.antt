@@ -1,6 +1,5 @@
 -- The merge of indexes that a command writes.
 use Rattle.std.specs.Prelude.{◌≡◌, ℕ, List, length, Option, Result, IfOk, IfErr}
-use Rattle.cdxj_core.specs.declared.limit.TheConstants.{LINE_LIMIT}
 use Rattle.devices.specs.Device.{AppendsPrefix}
 use Rattle.merge_core.specs.Collections.{Merged, OverIndexes, OverTexts, collection}
 use Rattle.merge_core.specs.SourceLines.{WritesLinesOf}
@@ -18,8 +17,8 @@ pub record MergesIndexes (told : List (Option (List ℕ))) (before after : Optio
   pub answer : Result ℕ AnswerFault
   pub outcome_is : outcome ≡ answered_outcome answer
   pub refused : Refuses (too_many (length told)) answer unchanged
-  pub merged : OverTexts told (λ texts. IfOk answer (Merged LINE_LIMIT texts before after))
-  pub part : OverIndexes LINE_LIMIT told
+  pub merged : OverTexts told (λ texts. IfOk answer (Merged texts before after))
+  pub part : OverIndexes told
       (λ texts indexes. AppendsPrefix before after (lines_text (collection indexes)))
-  pub lines : WritesLinesOf LINE_LIMIT (λ number. number) told answer before after
-  pub fault : IfErr answer (IsAnswerFaultOf LINE_LIMIT told)
+  pub lines : WritesLinesOf (λ number. number) told answer before after
+  pub fault : IfErr answer (IsAnswerFaultOf told)

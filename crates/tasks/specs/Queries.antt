@@ -1,6 +1,5 @@
 -- The reading of a query text by a command, the answers that it writes, and the replies to lines of queries.
 use Rattle.std.specs.Prelude.{◌≡◌, ◌≢◌, ◌⊎◌, ℕ, List, length, Option, Result, Ok, Err, IfOk, IfErr}
-use Rattle.cdxj_core.specs.declared.limit.TheConstants.{LINE_LIMIT}
 use Rattle.query_text.specs.declared.fault.QueryFault.TheVariants as queries
 use Rattle.query_text.specs.declared.query.TheConstants.{QUERY_LIMIT}
 use Rattle.query_text.specs.Queries.{QueryValue, query_of}
@@ -44,10 +43,10 @@ pub record AnswersQuery (query : QueryValue) (told : List (Option (List ℕ))) (
   pub answer : Result Report AnswerFault
   pub outcome_is : outcome ≡ answered_outcome answer
   pub refused : Refuses (too_many (length told)) answer unchanged
-  pub lines : (lines : List Member) × AreLinesOf LINE_LIMIT told lines × WritesAnswer query lines answer before after
-  pub parts : OverTexts told (λ texts. IfOk answer (AnsweredParts LINE_LIMIT query texts before after))
-  pub page : OverIndexes LINE_LIMIT told (λ texts indexes. WritesAnswer query (collection indexes) answer before after)
-  pub fault : IfErr answer (IsAnswerFaultOf LINE_LIMIT told)
+  pub lines : (lines : List Member) × AreLinesOf told lines × WritesAnswer query lines answer before after
+  pub parts : OverTexts told (λ texts. IfOk answer (AnsweredParts query texts before after))
+  pub page : OverIndexes told (λ texts indexes. WritesAnswer query (collection indexes) answer before after)
+  pub fault : IfErr answer (IsAnswerFaultOf told)
 
 -- the same of the pages of these sizes
 pub record AnswersPages (query : QueryValue) (sizes : List ℕ) (told : List (Option (List ℕ)))
@@ -55,12 +54,12 @@ pub record AnswersPages (query : QueryValue) (sizes : List ℕ) (told : List (Op
   pub answer : Result ℕ AnswerFault
   pub outcome_is : outcome ≡ answered_outcome answer
   pub refused : Refuses (bad_sizes_or_too_many sizes (length told)) answer unchanged
-  pub lines : (lines : List Member) × AreLinesOf LINE_LIMIT told lines
+  pub lines : (lines : List Member) × AreLinesOf told lines
       × WritesPages query lines sizes answer before after
-  pub parts : OverTexts told (λ texts. IfOk answer (WrotePagesOfParts LINE_LIMIT query texts sizes before after))
-  pub pages : OverIndexes LINE_LIMIT told
+  pub parts : OverTexts told (λ texts. IfOk answer (WrotePagesOfParts query texts sizes before after))
+  pub pages : OverIndexes told
       (λ texts indexes. WritesPages query (collection indexes) sizes answer before after)
-  pub fault : IfErr answer (IsAnswerFaultOf LINE_LIMIT told)
+  pub fault : IfErr answer (IsAnswerFaultOf told)
 
 -- lines of an input were answered over sources: the replies were written, whole or in part, and over indexes those of
 -- their collection
@@ -72,7 +71,7 @@ pub record AnswersLines (told : List (Option (List ℕ))) (lines : Option (List 
   pub converses : Converses QUERY_LIMIT (IsTextReply told) answer lines before after
   pub taken : answer ≡ Err answers.Input
       → (left : Option (List ℕ)) × RepliedToTaken QUERY_LIMIT (IsTextReply told) lines left before after
-  pub replies : OverIndexes LINE_LIMIT told (λ texts indexes. IfOk answer (λ count.
+  pub replies : OverIndexes told (λ texts indexes. IfOk answer (λ count.
       Replied QUERY_LIMIT (reply_of QUERY_LIMIT (collection indexes)) lines count before after))
-  pub part : OverIndexes LINE_LIMIT told (λ texts indexes.
+  pub part : OverIndexes told (λ texts indexes.
       RepliedInPart QUERY_LIMIT (reply_of QUERY_LIMIT (collection indexes)) lines before after)

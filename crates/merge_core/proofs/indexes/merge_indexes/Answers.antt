@@ -1,6 +1,6 @@
 use Rattle.merge_core.proofs.Words.{[], ℕ, ◌++◌, ◌-◌, ◌^◌, ◌∙◌, ◌∷◌, ◌≡◌, AllByRecursion, AllGaveOnce, Appends}
-use Rattle.merge_core.proofs.Words.{AppendsPrefix, AreLinesOf, Bool, Feed, KeepsSources, LINE_LIMIT, List, Member}
-use Rattle.merge_core.proofs.Words.{MergeState, Option, OverIndexes, Pair, Reached, ap, append-nil, arith, collection}
+use Rattle.merge_core.proofs.Words.{AppendsPrefix, AreLinesOf, Bool, Feed, KeepsSources, List, Member, MergeState}
+use Rattle.merge_core.proofs.Words.{Option, OverIndexes, Pair, Reached, ap, append-nil, arith, collection}
 use Rattle.merge_core.proofs.Words.{err_from_is_err_and, false, feeds, filter, flat_map-append, inl, inr, length}
 use Rattle.merge_core.proofs.Words.{length-map, lines_text, map, member_pair, member_place, min, place_cmp}
 use Rattle.merge_core.proofs.Words.{prefix_longer, refl, rising, sym, true, true≢false}
@@ -33,29 +33,29 @@ begun : (g : Over) (c : After-merge g)
     → AllByRecursion (λ (f : Feed). f.cursor.start ≡ 0) (feeds c.in_ok-opened.opened.merge)
 begun g c =
     let opened = c.in_ok-opened.ensures in
-    begun_of g.S.Source.text g.S.Source.extent g.S.Source.gave LINE_LIMIT _
+    begun_of g.S.Source _
     c.args.sources.now c.open_at.new.sources (feeds c.in_ok-opened.opened.merge)
-    (long_of opened.ready.aligned) refl opened.opened
+    (long_of opened.begun.ready.aligned) refl opened.begun.opened
 
 module _ (g : Over) (c : After-merge g) {ss : List g.row.S.Denot} {m : MergeState} {b : Option Pair}
-    {taken : List Member} (reached : Reached LINE_LIMIT g.S.Source.text never g.S.Source.extent g.S.Source.gave
+    {taken : List Member} (reached : Reached never g.S.Source
     c.open_at.new.sources c.in_ok-opened.opened.merge ss m b taken) where
   -- of sources that are indexes, what was taken is a front of their collection
   front : (old new : Option (List ℕ)) → AppendsPrefix old new (lines_text taken)
-      → OverIndexes LINE_LIMIT (map g.S.Source.text c.args.sources.now)
+      → OverIndexes (map g.S.Source.text c.args.sources.now)
       (λ texts indexes. AppendsPrefix old new (lines_text (collection indexes)))
   front old new p texts indexes known are =
       let opened = c.in_ok-opened.ensures in
-      let cut = cut_at_start LINE_LIMIT g.S.Source.text c.open_at.new.sources (feeds c.in_ok-opened.opened.merge)
+      let cut = cut_at_start g.S.Source c.open_at.new.sources (feeds c.in_ok-opened.opened.merge)
       (begun g c) in
-      let first = taken_first (took_of_indexes reached opened.ready.aligned.same ([], []) cut texts indexes
+      let first = taken_first (took_of_indexes reached opened.begun.ready.aligned.same ([], []) cut texts indexes
       (rw (← opened.sources.0.0) at known) are (λ key later e h. absurd (true≢false (sym e))) (λ m. true) (λ m e. refl)
       (λ m e. none_below_empty (member_pair m).0 (member_pair m).1)) in
       let whole : collection indexes ≡ taken ++ first.0 = grind (arith, filter_every) in
       rw (whole, flat_map-append) (prefix_longer old new _ _ p)
 
   -- and of any sources, it is lines of theirs
-  lines : AreLinesOf LINE_LIMIT (map g.S.Source.text c.args.sources.now) taken
+  lines : AreLinesOf (map g.S.Source.text c.args.sources.now) taken
   lines = rw (← c.in_ok-opened.ensures.sources.0.0) (grind (arith, taken_lines))
 
 -- all lines that were taken were written and counted
@@ -98,29 +98,28 @@ returns-in_err-merge-clause-lines g c =
 
 -- as many sources
 long_before : (g : Over) (c : After-merge g) → length c.open_at.new.sources ≡ length (feeds c.in_ok-opened.opened.merge)
-long_before g c = long_of c.in_ok-opened.ensures.ready.aligned
+long_before g c = long_of c.in_ok-opened.ensures.begun.ready.aligned
 
 kept_long : (g : Over) (c : After-merge g) → length c.merge.new.sources ≡ length c.open_at.new.sources
 kept_long g c = grind arith
 
-kept : (g : Over) (c : After-merge g) → KeepsSources g.S.Source.text g.S.Source.extent c.args.sources.now c.merge.new.sources
+kept : (g : Over) (c : After-merge g) → KeepsSources g.S.Source c.args.sources.now c.merge.new.sources
 kept g c =
     let opened = c.in_ok-opened.ensures in
-    let all = all_kept g.S.Source.text g.S.Source.extent g.S.Source.gave c.open_at.new.sources
-    c.in_ok-opened.opened.merge c.merge.new.sources c.merge.new.merge opened.ready.aligned.same (kept_long g c)
+    let all = all_kept g.S.Source c.open_at.new.sources
+    c.in_ok-opened.opened.merge c.merge.new.sources c.merge.new.merge opened.begun.ready.aligned.same (kept_long g c)
     c.merge.ensures.moved in
     (all.0 ∙ opened.sources.0.0, all.1 ∙ opened.sources.0.1)
 
 -- each byte of each source was given at most once
-once : (g : Over) (c : After-merge g) → AllGaveOnce g.S.Source.extent g.S.Source.gave c.args.sources.now
+once : (g : Over) (c : After-merge g) → AllGaveOnce g.S.Source c.args.sources.now
     c.merge.new.sources
 once g c =
     let opened = c.in_ok-opened.ensures in
     let long : length c.merge.new.sources ≡ length c.open_at.new.sources = kept_long g c in
-    gave_once g.S.Source.text g.S.Source.extent g.S.Source.gave c.args.sources.now c.open_at.new.sources
-    (feeds c.in_ok-opened.opened.merge) c.merge.new.sources (feeds c.merge.new.merge) LINE_LIMIT never opened.sources.0.1
-    opened.ready.aligned.fed (came_once_of g.S.Source.text g.S.Source.extent
-    g.S.Source.gave LINE_LIMIT _ c.args.sources.now _ refl opened.opened) c.merge.ensures.moved long
+    gave_once g.S.Source c.args.sources.now c.open_at.new.sources
+    (feeds c.in_ok-opened.opened.merge) c.merge.new.sources (feeds c.merge.new.merge) never opened.sources.0.1
+    opened.begun.ready.aligned.fed (came_once_of g.S.Source _ c.args.sources.now _ refl opened.begun.opened) c.merge.ensures.moved long
 
 pub returns-in_err-opened-clause-bytes : goal.returns-in_err-opened-clause-bytes
 returns-in_err-opened-clause-bytes g c = c.open_at.ensures.once refl
@@ -134,7 +133,7 @@ returns-in_err-merge-clause-kept g c = kept g (goal.at.returns-in_err-merge-clau
 pub returns : goal.returns
 returns g c =
     let at = goal.at.returns g c in
-    let text = g.S.Source.text in let extent = g.S.Source.extent in
+    let device = g.S.Source in
     let sources = c.merge.new.sources in let m = c.merge.new.merge in
     let opened = c.in_ok-opened.ensures in
     let passed = c.in_ok-merge.ensures.ended in
@@ -147,18 +146,18 @@ returns g c =
       failures = grind arith;
       fault = grind arith;
       merged = λ texts known.
-          let lines = its_lines LINE_LIMIT never (λ key. refl) text extent sources (feeds m) in
+          let lines = its_lines never (λ key. refl) device sources (feeds m) in
           let empty : m.queue ≡ [] = grind (arith, cases_Bool) in
           let long_now = long_of reached.ready.aligned in
-          let starts = starts_kept text extent g.S.Source.gave _ _ _ _ (long_before g at.After-merge) long_now
+          let starts = starts_kept device _ _ _ _ (long_before g at.After-merge) long_now
           c.merge.ensures.moved (begun g at.After-merge) in
           let none : AllByRecursion (λ (f : Feed). f.waits ≡ []) (feeds m) = rw empty (none_wait 0 m.cursors.items) in
           let all : taken ≡ collection lines =
           (reached.handed.told (told_known _ _ texts (rw (← opened.sources.0.0) at known))).0
-          ∙ ap (rising member_place place_cmp) (all_lines_are LINE_LIMIT never (λ key. refl) text extent sources (feeds m)) in
+          ∙ ap (rising member_place place_cmp) (all_lines_are never (λ key. refl) device sources (feeds m)) in
           record {
             indexes = lines;
-            are = are_read LINE_LIMIT never (λ key. refl) text extent sources (feeds m) texts (rw (← kept.0) at known)
+            are = are_read never (λ key. refl) device sources (feeds m) texts (rw (← kept.0) at known)
                 starts none reached.ready.settled reached.ready.aligned.fed;
             text = rw (← all) wrote.0;
             count = rw (← all) wrote.1;
@@ -169,6 +168,6 @@ returns g c =
       most_lines = λ texts indexes known are most share.
           let same = ap length opened.sources.0.1 in
           let few = c.merge.ensures.most_lines texts indexes (rw (← opened.sources.0.0) at known) are most share
-          (omega (arith, opened.most_lines)) in
+          (omega (arith, opened.begun.none_held)) in
           grind (arith, length-map);
     }

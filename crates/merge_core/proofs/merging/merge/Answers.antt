@@ -1,7 +1,7 @@
-use Rattle.merge_core.proofs.Words.{[], ℕ, ◌++◌, ◌+◌, ◌-◌, ◌^◌, ◌∷◌, ◌≡◌, ◌≤◌, AllZip-long, Grouped, LINE_LIMIT, List}
-use Rattle.merge_core.proofs.Words.{Member, None, OverIndexes, Reached, ShareAtMost, Some, all_lines, arith}
-use Rattle.merge_core.proofs.Words.{boxed_lines, each_rising, inl, inr, length, length-map, map, member_pair}
-use Rattle.merge_core.proofs.Words.{member_place, min, place_cmp, place_cmp_total, refl, rising}
+use Rattle.merge_core.proofs.Words.{[], ℕ, ◌++◌, ◌+◌, ◌-◌, ◌^◌, ◌∷◌, ◌≡◌, ◌≤◌, AllZip-long, Grouped, List, Member}
+use Rattle.merge_core.proofs.Words.{None, OverIndexes, Reached, ShareAtMost, Some, all_lines, arith, boxed_lines}
+use Rattle.merge_core.proofs.Words.{each_rising, inl, inr, length, length-map, map, member_pair, member_place, min}
+use Rattle.merge_core.proofs.Words.{place_cmp, place_cmp_total, refl, rising}
 use Rattle.std.proofs.Common.{max}
 use Rattle.merge_core.proofs.SpendLemmas.{are_read_to}
 use Rattle.merge_core.proofs.WholeLemmas.{all_kept}
@@ -22,12 +22,12 @@ group g c = c.in-Some.first.value ∷ boxed_lines c.gather.new.rest.items
 abbrev taken : (g : Over) → After-pass_group g → List Member
 taken g c = c.loop-rest.invariant.came.taken ++ rising member_place place_cmp (group g c)
 
-grouped : (g : Over) (c : After-pass_group g) → Grouped LINE_LIMIT (g.R.Range.past c.args.range.now) g.S.Source.text g.S.Source.extent c.loop-rest.sources
+grouped : (g : Over) (c : After-pass_group g) → Grouped (g.R.Range.past c.args.range.now) g.S.Source c.loop-rest.sources
     c.loop-rest.merge c.gather.new.sources c.gather.new.self (member_pair c.in-Some.first.value) (group g c)
 grouped g c = grind arith
 
 reached : (g : Over) (c : After-pass_group g)
-    → Reached LINE_LIMIT g.S.Source.text (g.R.Range.past c.args.range.now) g.S.Source.extent g.S.Source.gave
+    → Reached (g.R.Range.past c.args.range.now) g.S.Source
     c.args.sources.now c.args.merge.now c.gather.new.sources c.gather.new.self (Some (member_pair c.in-Some.first.value)) (taken g c)
 reached g c =
     let ok = c.in_ok-first.ensures in
@@ -38,7 +38,7 @@ reached g c =
 most_lines : (g : Over) (c : After-pass_group g) (now : ℕ)
     → now ≡ max c.gather.new.self.most_lines (min (length c.gather.new.self.queue + 1 + length c.gather.new.rest.items)
     (2 ^ 64 - 1))
-    → OverIndexes LINE_LIMIT (map g.S.Source.text c.args.sources.now) (λ texts indexes. (most : ℕ)
+    → OverIndexes (map g.S.Source.text c.args.sources.now) (λ texts indexes. (most : ℕ)
     → ShareAtMost most (all_lines indexes) → c.args.merge.now.most_lines ≤ length c.args.sources.now + most
     → now ≤ length c.args.sources.now + most)
 most_lines g c now is texts indexes known are most share h =
@@ -64,7 +64,7 @@ loop-rest-init g c = record {
     taken = [];
     reached = record {
       ready = c.requires.ready;
-      moved = moved_still g.S.Source.text g.S.Source.extent g.S.Source.gave _;
+      moved = moved_still g.S.Source _;
       above = above_none _;
       handed = record {
         entries = tt;
@@ -90,14 +90,14 @@ returns-clause-most_lines g c = simp c.gather.ensures.most_lines c.loop-rest.inv
 pub returns-in_err-first : goal.returns-in_err-first
 returns-in_err-first g c =
     let came = c.loop-rest.invariant.came in
-    let text = g.S.Source.text in let extent = g.S.Source.extent in
+    let device = g.S.Source in
     let long : length c.loop-rest.sources ≡ length c.args.sources.now =
-    let all = AllZip-long (Move text extent g.S.Source.gave) _ _ came.reached.moved in
+    let all = AllZip-long (Move device) _ _ came.reached.moved in
     let same = came.reached.ready.aligned.same in grind (arith, length_zip, feeds_long) in
-    let kept = all_kept text extent g.S.Source.gave c.args.sources.now c.args.merge.now c.loop-rest.sources
+    let kept = all_kept device c.args.sources.now c.args.merge.now c.loop-rest.sources
     c.loop-rest.merge c.requires.ready.aligned.same long came.reached.moved in
     record {
-      moved = moved_trans text extent g.S.Source.gave _ _ _ came.reached.moved c.gather.ensures.moved;
+      moved = moved_trans device _ _ _ came.reached.moved c.gather.ensures.moved;
       failures = grind arith;
       fault = let fault = rw kept.0 at c.gather.ensures.fault in grind arith;
       most_lines = rw c.gather.ensures.most_lines c.loop-rest.invariant.most_lines;
@@ -133,7 +133,7 @@ returns-in_err-more g c =
           pair = member_pair c.in-Some.first.value;
           above = gathered.above;
           least = gathered.least;
-          read = λ told low. are_read_to _ _ _ g.S.Source.extent _ _ _ (reached g here).ready.aligned.fed
+          read = λ told low. are_read_to _ g.S.Source _ _ _ (reached g here).ready.aligned.fed
               (gathered.gathered told low).upto;
         }) c.pass_group.ensures.grows,
       );

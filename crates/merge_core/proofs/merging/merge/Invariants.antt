@@ -1,5 +1,5 @@
-use Rattle.merge_core.proofs.Words.{[], ℕ, ◌+◌, ◌≡◌, ◌≤◌, LINE_LIMIT, OverIndexes, ShareAtMost, SoFar, all_lines, feeds}
-use Rattle.merge_core.proofs.Words.{length, map, unread}
+use Rattle.merge_core.proofs.Words.{[], ℕ, ◌+◌, ◌≡◌, ◌≤◌, OverIndexes, ShareAtMost, SoFar, all_lines, feeds, length}
+use Rattle.merge_core.proofs.Words.{map, unread}
 use Rattle.merge_core.proofs.merging.merge.Given as goal
 
 abbrev pub invariant-loop-rest : goal.invariant-loop-rest
@@ -8,11 +8,10 @@ invariant-loop-rest g l = record {
   reads : map g.S.Source.failures l.sources ≡ map g.S.Source.failures l.fn.sources;
   writes : g.O.Output.failures l.out ≡ g.O.Output.failures l.fn.out;
   further : (g.K.Sink.Enough l.fn.sink → ⊥) → g.K.Sink.Enough l.sink → ⊥;
-  most_lines : OverIndexes LINE_LIMIT (map g.S.Source.text l.fn.sources) (λ texts indexes. (most : ℕ)
+  most_lines : OverIndexes (map g.S.Source.text l.fn.sources) (λ texts indexes. (most : ℕ)
       → ShareAtMost most (all_lines indexes)
       → l.fn.merge.most_lines ≤ length l.fn.sources + most → l.merge.most_lines ≤ length l.fn.sources + most);
-  came : SoFar g.K.Sink.Wrote g.K.Sink.Enough (g.R.Range.past l.range) g.S.Source.text g.S.Source.extent
-      g.S.Source.gave l.fn.sources l.fn.merge l.fn.sink (g.O.Output.written l.fn.out) l.sources l.merge l.sink
+  came : SoFar g.K.Sink (g.R.Range.past l.range) g.S.Source l.fn.sources l.fn.merge l.fn.sink (g.O.Output.written l.fn.out) l.sources l.merge l.sink
       (g.O.Output.written l.out);
 }
 

@@ -1,6 +1,6 @@
-use Rattle.query_core.proofs.Words.{[], ℕ, ◌≡◌, AreAtMost, GaveInReach, Grows, LINE_LIMIT, List, Option, OverIndexes}
-use Rattle.query_core.proofs.Words.{append-nil, arith, collection, err_from_is_err_and, grows_by, grows_part}
-use Rattle.query_core.proofs.Words.{length-map, map, page_over, query_page, refl, sym, wrote_nothing}
+use Rattle.query_core.proofs.Words.{[], ℕ, ◌≡◌, AreAtMost, GaveInReach, Grows, List, Option, OverIndexes, append-nil}
+use Rattle.query_core.proofs.Words.{arith, collection, err_from_is_err_and, grows_by, grows_part, length-map, map}
+use Rattle.query_core.proofs.Words.{page_over, query_page, refl, sym, wrote_nothing}
 use Rattle.query_core.proofs.AskedLemmas.{Writing, captures, asked_is, end_front, page_broke, page_ended}
 use Rattle.query_core.proofs.AskedLemmas.{passed, settles, stood}
 use Rattle.page_core.proofs.PageLemmas.{front-start}
@@ -29,7 +29,7 @@ writing g c =
     c.read_lines.new.sink took.came
 
 -- the page of the indexes is that of the lines that were taken
-settled_over : (g : Over) (c : In_ok-pass g) → OverIndexes LINE_LIMIT (map g.S.Source.text c.args.sources.now)
+settled_over : (g : Over) (c : In_ok-pass g) → OverIndexes (map g.S.Source.text c.args.sources.now)
     (λ texts indexes. query_page c.args.query.now (collection indexes)
     ≡ page_over c.args.query.now c.args.query.now.resume c.args.query.now.limit c.in_ok-pass.ensures.ended.lines)
 settled_over g c texts indexes known are =
@@ -121,7 +121,7 @@ returns-in_err-pass-clause-reads g c =
     let halted = c.in_err-pass.ensures.ended.1 in
     let before = halted.before in
     let here = begin g (goal.at.returns-in_err-pass-clause-reads g c).In_ok-writer in
-    let bytes = page_reached _ _ _ _ _ _ halted.earlier [] (passed here _ _ before.state before.came) halted.grows
+    let bytes = page_reached g.S.Source _ _ _ halted.earlier [] (passed here _ _ before.state before.came) halted.grows
     halted.first (sym (append-nil _)) (within here (grind arith) _ _ before.state before.came before.more) before.within in
     grind (arith, err_from_is_err_and)
 
@@ -134,12 +134,11 @@ few g c =
 
 -- what was written so far reaches what the sources gave, whatever is written then
 reached : (g : Over) (c : In_ok-pass g) (new : Option (List ℕ)) → Grows (g.O.Output.written c.read_lines.new.out) new
-    → OverIndexes LINE_LIMIT (map g.S.Source.text c.args.sources.now) (λ texts indexes. GaveInReach g.S.Source.extent
-    g.S.Source.gave c.args.query.now texts indexes (g.O.Output.written c.args.out.now) new c.args.sources.now
+    → OverIndexes (map g.S.Source.text c.args.sources.now) (λ texts indexes. GaveInReach g.S.Source c.args.query.now texts indexes (g.O.Output.written c.args.out.now) new c.args.sources.now
     c.read_lines.new.sources)
 reached g c new grows =
     let took = c.in_ok-pass.ensures.ended in
-    page_reached g.S.Source.text g.S.Source.extent g.S.Source.gave new c.args.sources.now c.read_lines.new.sources
+    page_reached g.S.Source new c.args.sources.now c.read_lines.new.sources
     took.earlier took.later (writing g c) grows took.took.first took.split (few g c) took.before.within
 
 pub returns-in_err-end-clause-reads : goal.returns-in_err-end-clause-reads

@@ -1,4 +1,4 @@
-use Rattle.query_core.proofs.Words.{◌∙◌, LINE_LIMIT, arith}
+use Rattle.query_core.proofs.Words.{◌∙◌, arith}
 use Rattle.query_core.proofs.CheckLemmas.{checked_more, checked_whole, checked_falls, checked_fault}
 use Rattle.query_core.proofs.checking.check.Goals as goal
 
@@ -6,7 +6,7 @@ pub returns-in-Err-clause-checked : goal.returns-in-Err-clause-checked
 returns-in-Err-clause-checked g c = λ t e.
     let inv = c.lines.invariant in
     let long = inv.long t e in
-    rw c.fault_of_index.ensures (checked_fault LINE_LIMIT t (inv.told t e) (grind arith) c.in-Err.fault
+    rw c.fault_of_index.ensures (checked_fault t (inv.told t e) (grind arith) c.in-Err.fault
     (c.in-Err.ensures.fault t (inv.text ∙ e)))
 
 pub returns-then-falls_after-clause-checked : goal.returns-then-falls_after-clause-checked
@@ -14,7 +14,7 @@ returns-then-falls_after-clause-checked g c = λ t e.
     let inv = c.lines.invariant in
     let next = rw c.in-Some.is at (c.in-Ok.ensures.next t (inv.text ∙ e)) in
     let long = inv.long t e in
-    rw inv.offset (checked_falls LINE_LIMIT t (inv.told t e) (grind arith) _ _ next
+    rw inv.offset (checked_falls t (inv.told t e) (grind arith) _ _ next
     (rw c.deref.ensures at (c.falls_after.ensures.falls c.if-falls_after.true)))
 
 pub lines-preserved : goal.lines-preserved
@@ -33,11 +33,11 @@ lines-preserved g c =
       long = inv.long;
       told = λ t e.
           let next = rw c.in-Some.is at (ok.next t (inv.text ∙ e)) in
-          rw ((rw c.in-Some.is at ok.moves).0, c.replace.ensures.after) (checked_more LINE_LIMIT t (inv.told t e) _ _ next
+          rw ((rw c.in-Some.is at ok.moves).0, c.replace.ensures.after) (checked_more t (inv.told t e) _ _ next
           (rw c.deref.ensures at (c.falls_after.ensures.stays c.if-falls_after.false)));
     }
 
 pub returns-in_default-clause-checked : goal.returns-in_default-clause-checked
 returns-in_default-clause-checked g c = λ t e.
     let inv = c.lines.invariant in
-    checked_whole _ t (inv.told t e) _ _ _ (c.in-Ok.ensures.next t (inv.text ∙ e)) (grind arith) (grind arith)
+    checked_whole t (inv.told t e) _ _ _ (c.in-Ok.ensures.next t (inv.text ∙ e)) (grind arith) (grind arith)

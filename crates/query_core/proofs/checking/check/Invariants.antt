@@ -1,4 +1,4 @@
-use Rattle.query_core.proofs.Words.{ℕ, ◌+◌, ◌-◌, ◌≡◌, ◌≤◌, LINE_LIMIT, List, Some, length, option_map}
+use Rattle.query_core.proofs.Words.{ℕ, ◌+◌, ◌-◌, ◌≡◌, ◌≤◌, List, Some, length, option_map}
 use Rattle.source_core.specs.Cursors.{Stands, reach}
 use Rattle.query_core.proofs.CheckLemmas.{CheckedTo}
 use Rattle.query_core.proofs.checking.check.Given as goal
@@ -15,7 +15,7 @@ invariant-lines g l = record {
   offset : l.offset ≡ l.cursor.at;
   long : (t : List ℕ) → g.S.Source.text l.fn.source ≡ Some t → length t ≡ g.S.Source.extent l.fn.source;
   told : (t : List ℕ) → g.S.Source.text l.fn.source ≡ Some t
-      → CheckedTo LINE_LIMIT t l.cursor.at l.cursor.count (option_map (λ b. b.value) l.previous);
+      → CheckedTo t l.cursor.at l.cursor.count (option_map (λ b. b.value) l.previous);
 }
 
 abbrev pub decreases-lines : goal.decreases-lines

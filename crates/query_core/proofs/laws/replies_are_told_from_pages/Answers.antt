@@ -1,5 +1,5 @@
-use Rattle.query_core.proofs.Words.{ℕ, HasEntry, HaveEntries, LINE_LIMIT, List, Member, Option, QueryValue, arith}
-use Rattle.query_core.proofs.Words.{query_page, shown_key}
+use Rattle.query_core.proofs.Words.{ℕ, HasEntry, HaveEntries, List, Member, Option, QueryValue, arith, query_page}
+use Rattle.query_core.proofs.Words.{shown_key}
 use Rattle.query_core.proofs.PageArrays.{json_lines}
 use Rattle.query_core.proofs.PageLineLemmas.{empty_of, fault_of, mark_of, page_each, refusal_of, shown_is_above, spaceless}
 use Rattle.query_core.proofs.laws.replies_are_told_from_pages.Goals as goal
@@ -8,7 +8,7 @@ abbrev key : QueryValue → List Member → Option (List ℕ)
 key q found = shown_key q.show_resume_key (query_page q found).next
 
 members : (q : QueryValue) (found : List Member) → HaveEntries found → HaveEntries (query_page q found).members
-members = page_each (HasEntry LINE_LIMIT)
+members = page_each HasEntry
 
 pub returns-clause-mark : goal.returns-clause-mark
 returns-clause-mark c = λ q found entries i.

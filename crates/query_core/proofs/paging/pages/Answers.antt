@@ -1,8 +1,7 @@
-use Rattle.query_core.proofs.Words.{[], ℕ, ◌∙◌, ◌≡◌, AllPositive, GaveInPages, Grows, LINE_LIMIT, List, Member, None}
-use Rattle.query_core.proofs.Words.{Option, OverIndexes, Rises, Some, WrotePagesInPart, ap, append-nil, arith}
-use Rattle.query_core.proofs.Words.{collection, err_from_is_err_and, first_size, grows_by, grows_part, map}
-use Rattle.query_core.proofs.Words.{member_place, place_cmp, place_cmp_total, refl, rises_rising, rules, sym, true}
-use Rattle.query_core.proofs.Words.{true≢false}
+use Rattle.query_core.proofs.Words.{[], ℕ, ◌∙◌, ◌≡◌, AllPositive, GaveInPages, Grows, List, Member, None, Option}
+use Rattle.query_core.proofs.Words.{OverIndexes, Rises, Some, WrotePagesInPart, ap, append-nil, arith, collection}
+use Rattle.query_core.proofs.Words.{err_from_is_err_and, first_size, grows_by, grows_part, map, member_place}
+use Rattle.query_core.proofs.Words.{place_cmp, place_cmp_total, refl, rises_rising, rules, sym, true, true≢false}
 use Rattle.std.proofs.lemmas.Bool.{true_from_ne_false}
 use Rattle.query_core.proofs.PageChains.{wrote_front, wrote_none}
 use Rattle.query_core.proofs.AskedLemmas.{Writing, passed}
@@ -74,18 +73,17 @@ returns-in_err-read_lines-clause-reach g c =
     let before = halted.before in
     let w = passed (begin g (goal.at.returns-in_err-read_lines-clause-reach g c).In_ok-writer) halted.earlier
     before.middle before.state before.came in
-    pages_reached _ _ _ _ _ _ _ _ halted.earlier halted.earlier [] (stood_pages (all_positive c.args.sizes.now (search rules)) w _ halted.grows) halted.first
+    pages_reached g.S.Source _ _ _ _ _ halted.earlier halted.earlier [] (stood_pages (all_positive c.args.sizes.now (search rules)) w _ halted.grows) halted.first
     (sym (append-nil _)) before.within
 
 -- what was written of the lines that were taken, whatever is written then
 reached : (g : Over) (c : In_ok-read_lines g) (new : Option (List ℕ))
     → Grows (g.O.Output.written c.read_lines.new.out) new
-    → OverIndexes LINE_LIMIT (map g.S.Source.text c.args.sources.now) (λ texts indexes. GaveInPages g.S.Source.extent
-    g.S.Source.gave c.args.query.now c.args.sizes.now texts indexes (g.O.Output.written c.args.out.now) new
+    → OverIndexes (map g.S.Source.text c.args.sources.now) (λ texts indexes. GaveInPages g.S.Source c.args.query.now c.args.sizes.now texts indexes (g.O.Output.written c.args.out.now) new
     c.args.sources.now c.read_lines.new.sources)
 reached g c new grows =
     let took = c.in_ok-read_lines.ensures.ended in
-    pages_reached _ _ _ _ _ new _ _ took.lines took.earlier took.later (stood_pages (positive g c) (writing g c) new grows)
+    pages_reached g.S.Source _ _ new _ _ took.lines took.earlier took.later (stood_pages (positive g c) (writing g c) new grows)
     took.took.first took.split took.before.within
 
 pub returns-in_err-end-clause-reach : goal.returns-in_err-end-clause-reach

@@ -1,6 +1,6 @@
-use Rattle.query_core.proofs.Words.{[], ◌++◌, ◌∙◌, ◌≡◌, Bool, KeepsSources, LINE_LIMIT, List, Member, ReadFor, Some}
-use Rattle.query_core.proofs.Words.{all_kept, ap, append-nil, arith, err_from_is_err_and, false, feeds, grows_not}
-use Rattle.query_core.proofs.Words.{inl, length-map, map, refl, sym, true}
+use Rattle.query_core.proofs.Words.{[], ◌++◌, ◌∙◌, ◌≡◌, Bool, KeepsSources, List, Member, ReadFor, Some, all_kept, ap}
+use Rattle.query_core.proofs.Words.{append-nil, arith, err_from_is_err_and, false, feeds, grows_not, inl, length-map}
+use Rattle.query_core.proofs.Words.{map, refl, sym, true}
 use Rattle.query_core.proofs.AskedLemmas.{captures}
 use Rattle.query_core.proofs.CaptureLemmas.{captures_append}
 use Rattle.query_core.proofs.PageOfIndexes.{Opened, reading, told, wanted_whole}
@@ -15,7 +15,7 @@ use Rattle.query_core.proofs.pass.read_lines.Goals as goal
 -- ---- what is kept, and failures
 
 kept : (g : Over) (c : After-merge g)
-    → KeepsSources g.S.Source.text g.S.Source.extent c.args.sources.now c.merge.new.sources
+    → KeepsSources g.S.Source c.args.sources.now c.merge.new.sources
 kept g c = grind (arith, all_kept)
 
 pub returns-in_err-all-clause-kept : goal.returns-in_err-all-clause-kept
@@ -56,15 +56,15 @@ returns-in_err-opened-clause-ended g c =
 -- ---- a merge that failed
 
 -- sources that were opened
-start : (g : Over) (c : In_ok-opened g) → Opened g.S.Source.text g.S.Source.extent g.S.Source.gave
+start : (g : Over) (c : In_ok-opened g) → Opened g.S.Source
     c.args.query.now c.args.sources.now c.open_at.new.sources c.in_ok-opened.opened.merge
 start g c = record {
   kept = c.open_at.ensures.sources.0.0;
-  same = c.in_ok-opened.ensures.ready.aligned.same;
-  came = came_of _ _ _ _ _ _ _ c.in_ok-opened.ensures.opened;
-  cut = rw c.start_pair.ensures at (cuts_of g.S.Source.text g.S.Source.extent g.S.Source.gave LINE_LIMIT _
+  same = c.in_ok-opened.ensures.begun.ready.aligned.same;
+  came = came_of _ _ _ _ c.in_ok-opened.ensures.begun.opened;
+  cut = rw c.start_pair.ensures at (cuts_of g.S.Source _
       c.args.sources.now c.open_at.new.sources (feeds c.in_ok-opened.opened.merge) c.open_at.ensures.sources.0.0
-      c.in_ok-opened.ensures.opened);
+      c.in_ok-opened.ensures.begun.opened);
 }
 
 pub returns-in_err-all-clause-ended : goal.returns-in_err-all-clause-ended
@@ -109,8 +109,8 @@ returns-clause-ended g c =
     let t = took r in
     let read = of_parts r c.lines.result c.lines.ensures c.in_ok-all.all passed.ended in
     let wanted = by_truth c.in_ok-all.all ((earlier : List Member) × (later : List Member)
-    × (captures q r.taken ≡ captures q earlier ++ later) × WantedMore g.K.Sink.Wrote g.K.Sink.Broke g.K.Sink.Enough
-    g.S.Source.text g.S.Source.extent g.S.Source.gave q c.args.sources.now c.merge.new.sources c.args.sink.now
+    × (captures q r.taken ≡ captures q earlier ++ later) × WantedMore g.K.Sink
+    g.S.Source q c.args.sources.now c.merge.new.sources c.args.sink.now
     (g.O.Output.written c.args.out.now) earlier
     × ReadFor q (map g.S.Source.text c.args.sources.now) earlier c.lines.result) (λ e.
     let cut = cut_all r (passed.ended e) in

@@ -12,11 +12,11 @@ use Rattle.query_core.proofs.serving.serve.Goals as goal
 
 pub returns-then-sources-gt-SOURCES_LIMIT-clause-bytes : goal.returns-then-sources-gt-SOURCES_LIMIT-clause-bytes
 returns-then-sources-gt-SOURCES_LIMIT-clause-bytes g c = λ texts indexes known are.
-    spent_stop (spent_none _ _ _ _ texts indexes (g.I.Input.remaining _) [] (g.O.Output.written _) _ known are refl)
+    spent_stop (spent_none g.S.Source _ texts indexes (g.I.Input.remaining _) [] (g.O.Output.written _) _ known are refl)
 
 pub returns-in_err-lines-clause-bytes : goal.returns-in_err-lines-clause-bytes
 returns-in_err-lines-clause-bytes g c = λ texts indexes known are.
-    spent_stop (spent_none _ _ _ _ texts indexes (g.I.Input.remaining _) [] (g.O.Output.written _) _ known are refl)
+    spent_stop (spent_none g.S.Source _ texts indexes (g.I.Input.remaining _) [] (g.O.Output.written _) _ known are refl)
 
 -- ---- a line isn't read
 
@@ -81,7 +81,7 @@ loop-lines-init g c =
       within = omega (arith, new.1);
       fits = omega arith;
       any = replied_none _ _ _ _ _ new.0;
-      told = λ texts indexes known are. spent_none _ _ _ _ texts indexes _ _ _ _ known are new.0;
+      told = λ texts indexes known are. spent_none g.S.Source _ texts indexes _ _ _ _ known are new.0;
     }
 
 pub loop-lines-preserved : goal.loop-lines-preserved

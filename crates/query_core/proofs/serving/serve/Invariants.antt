@@ -1,12 +1,12 @@
-use Rattle.query_core.proofs.Words.{◌+◌, ◌-◌, ◌<◌, ◌^◌, ◌≡◌, ◌≤◌, CountsTaken, IsTextReply, KeepsSources, LINE_LIMIT}
-use Rattle.query_core.proofs.Words.{OverIndexes, QUERY_LIMIT, map, prepend_known}
+use Rattle.query_core.proofs.Words.{◌+◌, ◌-◌, ◌<◌, ◌^◌, ◌≡◌, ◌≤◌, CountsTaken, IsTextReply, KeepsSources, OverIndexes}
+use Rattle.query_core.proofs.Words.{QUERY_LIMIT, map, prepend_known}
 use Rattle.query_core.proofs.ReplyBytes.{Spent}
 use Rattle.query_core.proofs.ReplyLemmas.{RepliedSoFar}
 use Rattle.query_core.proofs.serving.serve.Given as goal
 
 abbrev pub invariant-loop-lines : goal.invariant-loop-lines
 invariant-loop-lines g l = record {
-  kept : KeepsSources g.S.Source.text g.S.Source.extent l.fn.sources l.sources;
+  kept : KeepsSources g.S.Source l.fn.sources l.sources;
   sources : map g.S.Source.failures l.sources ≡ map g.S.Source.failures l.fn.sources;
   writes : g.O.Output.failures l.out ≡ g.O.Output.failures l.fn.out;
   reads : g.I.Input.failures l.input ≡ g.I.Input.failures l.fn.input;
@@ -18,8 +18,8 @@ invariant-loop-lines g l = record {
   any : RepliedSoFar QUERY_LIMIT (IsTextReply (map g.S.Source.text l.fn.sources)) (g.I.Input.remaining l.fn.input)
       (prepend_known l.lines.buffer (g.I.Input.remaining l.input)) l.count (g.O.Output.written l.fn.out)
       (g.O.Output.written l.out);
-  told : OverIndexes LINE_LIMIT (map g.S.Source.text l.fn.sources) (λ texts indexes.
-      Spent g.S.Source.extent g.S.Source.gave QUERY_LIMIT (g.I.Input.remaining l.fn.input)
+  told : OverIndexes (map g.S.Source.text l.fn.sources) (λ texts indexes.
+      Spent g.S.Source QUERY_LIMIT (g.I.Input.remaining l.fn.input)
       (prepend_known l.lines.buffer (g.I.Input.remaining l.input)) l.count texts indexes (g.O.Output.written l.fn.out)
       (g.O.Output.written l.out) l.fn.sources l.sources);
 }

@@ -1,18 +1,12 @@
 use Rattle.merge_core.proofs.Words.{◌∷◌, ◌≡◌, arith, drop, lines}
-use Rattle.merge_core.proofs.FeedLemmas.{first_long, one_more}
+use Rattle.merge_core.proofs.FeedLemmas.{first_long}
 use Rattle.merge_core.proofs.line_buffers.LineBuffers.next_line.Goals as goal
-
-pub returns-in-Ok-clause-given : goal.returns-in-Ok-clause-given
-returns-in-Ok-clause-given g c = grind (arith, one_more)
 
 pub returns-in-Err-clause-fault : goal.returns-in-Err-clause-fault
 returns-in-Err-clause-fault g c = λ t e.
     let line : lines (drop c.args.cursor.now.at t) ≡ c.in-Some.bytes.now ∷ lines (drop c.pass_line.new.self.at t) =
     grind arith in
     grind arith
-
-pub returns-in-Ok-line_of-clause-given : goal.returns-in-Ok-line_of-clause-given
-returns-in-Ok-line_of-clause-given g c = grind (arith, one_more)
 
 pub returns-in-Err-line_of-clause-fault : goal.returns-in-Err-line_of-clause-fault
 returns-in-Err-line_of-clause-fault g c = λ t e.

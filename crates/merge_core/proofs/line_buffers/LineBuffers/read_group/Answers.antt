@@ -1,7 +1,7 @@
 use Rattle.merge_core.proofs.Words.{[], ℕ, ◌++◌, ◌∙◌, ◌∷◌, ◌≡◌, ◌≤◌, Alike, AllByRecursion, Below, Bool, EndsAt, Fed}
-use Rattle.merge_core.proofs.Words.{LINE_LIMIT, List, Member, Pair, Some, Upto, append_assoc, arith, boxed_lines, done}
-use Rattle.merge_core.proofs.Words.{drop, each_join, each_weaker, false, feed_of, filter, given, inl, inr, is_lt}
-use Rattle.merge_core.proofs.Words.{length, lines, map-append, member_pair, pair_cmp_total, refl, stays, true}
+use Rattle.merge_core.proofs.Words.{List, Member, Pair, Some, Upto, append_assoc, arith, boxed_lines, done, drop}
+use Rattle.merge_core.proofs.Words.{each_join, each_weaker, false, feed_of, filter, given, inl, inr, is_lt, length}
+use Rattle.merge_core.proofs.Words.{lines, map-append, member_pair, pair_cmp_total, refl, stays, true}
 use Rattle.merge_core.proofs.SpendLemmas.{group_most}
 use Rattle.merge_core.proofs.FeedLemmas.{LineRead, all_inside, all_taken, all_upto, bad_named, done_next, fed_end, fed_more, given_next}
 use Rattle.merge_core.proofs.FeedLemmas.{order_named, same_stays, settled_more}
@@ -21,7 +21,7 @@ length_waits past m = grind arith
 
 -- a line was read that isn't below the first one
 was_read : (g : Over) (c : After-compare_pair g) → is_lt c.compare_pair.result ≡ false
-    → LineRead LINE_LIMIT (g.R.Range.past c.args.range.now) (g.S.Source.text c.next_line.new.source)
+    → LineRead (g.R.Range.past c.args.range.now) (g.S.Source.text c.next_line.new.source)
     (g.S.Source.extent c.next_line.new.source) c.loop-line.cursor c.next_line.new.cursor c.in-Some.line.value
 was_read g c not_less =
     let inv = c.loop-line.invariant in
@@ -29,24 +29,24 @@ was_read g c not_less =
     let first = member_pair c.args.first.now in
     let next = member_pair c.in-Some.line.value in
     let up = from_not_below next first (grind arith) in
-    let was : Fed LINE_LIMIT past (g.S.Source.text c.next_line.new.source) (g.S.Source.extent c.next_line.new.source)
+    let was : Fed past (g.S.Source.text c.next_line.new.source) (g.S.Source.extent c.next_line.new.source)
     (feed_of c.loop-line.cursor []) = grind arith in
     let last : (t : List ℕ) → g.S.Source.text c.next_line.new.source ≡ Some t
-    → EndsAt past first (given LINE_LIMIT t c.loop-line.cursor) = λ t e. inv.last t (cc) in
+    → EndsAt past first (given t c.loop-line.cursor) = λ t e. inv.last t (cc) in
     let inside : (t : List ℕ) → g.S.Source.text c.next_line.new.source ≡ Some t
-    → AllByRecursion (λ m. stays past m ≡ true) (given LINE_LIMIT t c.loop-line.cursor) = λ t e.
+    → AllByRecursion (λ m. stays past m ≡ true) (given t c.loop-line.cursor) = λ t e.
     all_inside was t e (last t e) in
     let low : (t : List ℕ) → g.S.Source.text c.next_line.new.source ≡ Some t
-    → AllByRecursion (λ k. Upto (member_pair k) next) (given LINE_LIMIT t c.loop-line.cursor) = λ t e.
+    → AllByRecursion (λ k. Upto (member_pair k) next) (given t c.loop-line.cursor) = λ t e.
     each_weaker (λ (k : Member) (q : Upto (member_pair k) first). upto_upto (member_pair k) first next q up) _
     (all_upto was t e (last t e)) in
     grind arith
 
 -- before the call, all lines that were read had been taken
 taken_before : (g : Over) (c : After-next_line g) (t : List ℕ) → g.S.Source.text c.args.source.now ≡ Some t
-    → done LINE_LIMIT (g.R.Range.past c.args.range.now) t (feed_of c.args.cursor.now [])
-    ≡ given LINE_LIMIT t c.args.cursor.now
-taken_before g c t e = all_taken c.requires.fed t e (c.requires.last t e)
+    → done (g.R.Range.past c.args.range.now) t (feed_of c.args.cursor.now [])
+    ≡ given t c.args.cursor.now
+taken_before g c t e = all_taken c.requires.fed t e (c.requires.due.last t e)
 
 pub returns-in-Greater-clause-read : goal.returns-in-Greater-clause-read
 returns-in-Greater-clause-read g c =
@@ -80,7 +80,7 @@ returns-clause-read g c =
     let inv = c.loop-line.invariant in
     let past = g.R.Range.past c.args.range.now in
     let here = goal.at.returns-clause-read g c in
-    let was : Fed LINE_LIMIT past (g.S.Source.text c.next_line.new.source) (g.S.Source.extent c.next_line.new.source)
+    let was : Fed past (g.S.Source.text c.next_line.new.source) (g.S.Source.extent c.next_line.new.source)
     (feed_of c.loop-line.cursor []) = grind arith in
     let ended : (t : List ℕ) → g.S.Source.text c.next_line.new.source ≡ Some t
     → lines (drop c.loop-line.cursor.at t) ≡ [] = λ t e. grind arith in
@@ -122,7 +122,7 @@ loop-line-preserved g c =
     let pushed : boxed_lines c.push.new.self.items ≡ boxed_lines c.loop-line.rest.items ++ m ∷ [] =
     grind (arith, map-append) in
     let read = was_read g (goal.at.loop-line-preserved g c).After-compare_pair (grind arith) in
-    let last = λ (t : List ℕ) (e : g.S.Source.text c.args.source.now ≡ Some t). same_stays past first m (given LINE_LIMIT t c.loop-line.cursor) (inv.last t e) alike in
+    let last = λ (t : List ℕ) (e : g.S.Source.text c.args.source.now ≡ Some t). same_stays past first m (given t c.loop-line.cursor) (inv.last t e) alike in
     record {
       text = cc;
       extent = cc;
@@ -132,7 +132,7 @@ loop-line-preserved g c =
       there = grind arith;
       fed = fed_more read [] (inr (refl, λ t e. let stays = last t (cc) in grind arith));
       begin = c.at-begin-in-Some.ensures;
-      last = λ t e. (given LINE_LIMIT t c.loop-line.cursor, m, given_next read t (cc), alike, last t e);
+      last = λ t e. (given t c.loop-line.cursor, m, given_next read t (cc), alike, last t e);
       taken = (
         inv.taken.0 ++ m ∷ [],
         grind (arith, append_assoc),

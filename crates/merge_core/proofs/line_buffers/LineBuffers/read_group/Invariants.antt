@@ -1,5 +1,5 @@
-use Rattle.merge_core.proofs.Words.{[], ℕ, ◌++◌, ◌+◌, ◌-◌, ◌≡◌, ◌≤◌, Alike, AllByRecursion, EndsAt, Fed, LINE_LIMIT}
-use Rattle.merge_core.proofs.Words.{List, Member, Some, boxed_lines, feed_of, given, member_pair, reach}
+use Rattle.merge_core.proofs.Words.{[], ℕ, ◌++◌, ◌+◌, ◌-◌, ◌≡◌, ◌≤◌, Alike, AllByRecursion, EndsAt, Fed, List, Member}
+use Rattle.merge_core.proofs.Words.{Some, boxed_lines, feed_of, given, member_pair, reach}
 use Rattle.merge_core.proofs.line_buffers.LineBuffers.read_group.Given as goal
 
 abbrev pub invariant-loop-line : goal.invariant-loop-line
@@ -10,15 +10,15 @@ invariant-loop-line g l = record {
   gave : g.S.Source.gave l.source + reach l.fn.cursor ≤ g.S.Source.gave l.fn.source + reach l.cursor;
   start : l.cursor.start ≡ l.fn.cursor.start;
   there : l.fn.cursor.at ≤ l.cursor.at;
-  fed : Fed LINE_LIMIT (g.R.Range.past l.range) (g.S.Source.text l.source) (g.S.Source.extent l.source)
+  fed : Fed (g.R.Range.past l.range) (g.S.Source.text l.source) (g.S.Source.extent l.source)
       (feed_of l.cursor []);
   begin : l.begin ≡ l.cursor.at;
   last : (t : List ℕ) → g.S.Source.text l.fn.source ≡ Some t
-      → EndsAt (g.R.Range.past l.range) (member_pair l.first) (given LINE_LIMIT t l.cursor);
+      → EndsAt (g.R.Range.past l.range) (member_pair l.first) (given t l.cursor);
   taken : (taken : List Member) × (boxed_lines l.rest.items ≡ boxed_lines l.fn.rest.items ++ taken)
       × AllByRecursion (λ m. Alike (member_pair m) (member_pair l.first)) taken
       × ((t : List ℕ) → g.S.Source.text l.fn.source ≡ Some t
-      → given LINE_LIMIT t l.cursor ≡ given LINE_LIMIT t l.fn.cursor ++ taken);
+      → given t l.cursor ≡ given t l.fn.cursor ++ taken);
 }
 
 abbrev pub decreases-loop-line : goal.decreases-loop-line

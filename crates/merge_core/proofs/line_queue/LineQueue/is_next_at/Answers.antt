@@ -1,5 +1,5 @@
-use Rattle.merge_core.proofs.Words.{◌∙◌, ◌≡◌, AllByRecursion, List, WaitingLine, ap, false, get_or, is_eq, is_lt}
-use Rattle.merge_core.proofs.Words.{member_pair, pair_cmp, subst, sym, turn_cmp, waiting_pair}
+use Rattle.merge_core.proofs.Words.{◌∙◌, ◌≡◌, List, NoneBefore, WaitingLine, ap, false, get_or, is_eq}
+use Rattle.merge_core.proofs.Words.{member_pair, pair_cmp, subst, sym, waiting_pair}
 use Rattle.merge_core.proofs.TurnLemmas.{all_later_unless}
 use Rattle.merge_core.proofs.line_queue.LineQueue.is_next_at.Goals as goal
 
@@ -12,5 +12,5 @@ returns-in-Some-clause-later c = λ upto not_same.
     ∙ sym c.is_eq.ensures ∙ not_same in
     all_later_unless p w c.args.self.now (c.in-Some.ensures.lookup
     ∙ ap (λ (ws : List WaitingLine). get_or ws 0 w) c.self.view_is) differs upto
-    (subst (λ (ws : List WaitingLine). AllByRecursion (λ v. is_lt (turn_cmp v w) ≡ false) ws) c.self.view_is
+    (subst (λ (ws : List WaitingLine). NoneBefore w ws) c.self.view_is
     (c.in-Some.ensures.greatest c.self.invariant))

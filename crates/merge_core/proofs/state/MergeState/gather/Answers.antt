@@ -1,7 +1,6 @@
-use Rattle.merge_core.proofs.Words.{[], ◌+◌, ◌∙◌, ◌∷◌, ◌≡◌, AreReadTo, AreSettled, AreTold, LINE_LIMIT, Member}
-use Rattle.merge_core.proofs.Words.{MergeState, Some, Upto, WaitingLine, all_done, ap, arith, boxed_lines, each_weaker}
-use Rattle.merge_core.proofs.Words.{feeds, map-append, member_pair, pair_cmp_total, refl, sym, tied_itself}
-use Rattle.merge_core.proofs.Words.{waiting_pair}
+use Rattle.merge_core.proofs.Words.{[], ◌+◌, ◌∙◌, ◌∷◌, ◌≡◌, AreReadTo, AreSettled, AreTold, Member, MergeState, Some}
+use Rattle.merge_core.proofs.Words.{Upto, WaitingLine, all_done, ap, arith, boxed_lines, each_weaker, feeds}
+use Rattle.merge_core.proofs.Words.{map-append, member_pair, pair_cmp_total, refl, sym, tied_itself, waiting_pair}
 use Rattle.std.proofs.lemmas.List.Sorted.{IsPermutation-sym}
 use Rattle.merge_core.proofs.PairOrder.{upto_itself}
 use Rattle.merge_core.proofs.MergeLemmas.{on_fault}
@@ -19,7 +18,7 @@ use Rattle.merge_core.proofs.state.MergeState.gather.Goals as goal
 
 -- what a source's further lines make of the group
 drained : (g : Over) (c : In_ok-read_on g)
-    → Gathers LINE_LIMIT (g.R.Range.past c.args.range.now) g.S.Source.text g.S.Source.extent g.S.Source.gave
+    → Gathers (g.R.Range.past c.args.range.now) g.S.Source
     c.args.sources.now c.args.self.now (member_pair c.with_start-keyed.result) (c.sources.i + 1)
     c.read_on.new.sources c.read_on.new.self (c.with_start-keyed.result ∷ boxed_lines c.read_on.new.rest.items)
 drained g c =
@@ -32,7 +31,7 @@ drained g c =
 
 -- and of the feeds
 drained_settled : (g : Over) (c : In_ok-read_on g)
-    → AreSettled LINE_LIMIT (g.R.Range.past c.args.range.now) g.S.Source.text g.S.Source.extent c.read_on.new.sources
+    → AreSettled (g.R.Range.past c.args.range.now) g.S.Source c.read_on.new.sources
     (feeds c.read_on.new.self)
 drained_settled g c =
     let read = c.in_ok-read_on.ensures.read in
@@ -48,7 +47,7 @@ popped_merge g c = record c.read_on.new.self { queue = c.pop_at.new.self }
 
 -- what it makes of the group
 taken : (g : Over) (c : After-push g)
-    (h : Gathers LINE_LIMIT (g.R.Range.past c.args.range.now) g.S.Source.text g.S.Source.extent g.S.Source.gave
+    (h : Gathers (g.R.Range.past c.args.range.now) g.S.Source
     c.args.sources.now c.args.self.now (member_pair c.with_start-keyed.result) (c.sources.i + 1)
     c.read_on.new.sources c.read_on.new.self (c.with_start-keyed.result ∷ boxed_lines c.read_on.new.rest.items))
     → TakenNext h (taken_line g c) (popped_merge g c)
@@ -60,7 +59,7 @@ taken g c h =
 pub returns-in_default-clause-moved : goal.returns-in_default-clause-moved
 returns-in_default-clause-moved g c =
     let e : c.pop.new.self ≡ c.args.self.now.queue = c.in_default.ensures.out.1 ∙ sym c.in_default.ensures.out.0 in
-    rw e (moved_still g.S.Source.text g.S.Source.extent g.S.Source.gave _)
+    rw e (moved_still g.S.Source _)
 
 pub returns-in_default-clause-ready : goal.returns-in_default-clause-ready
 returns-in_default-clause-ready g c =
@@ -80,8 +79,7 @@ sources-init g c =
     let later = rw is at c.in-Some.ensures.first in
     let least = each_permuted (λ (v : WaitingLine). Upto pair (waiting_pair v)) (w ∷ left) old.queue
     (IsPermutation-sym old.queue (w ∷ left) out) (upto_itself pair, each_weaker (λ v. not_before v w) left later) in
-    let t = taken_next (gathers_start LINE_LIMIT (g.R.Range.past c.args.range.now) g.S.Source.text g.S.Source.extent
-    g.S.Source.gave c.args.sources.now old pair c.requires.ready.aligned least) w now refl out later
+    let t = taken_next (gathers_start (g.R.Range.past c.args.range.now) g.S.Source c.args.sources.now old pair c.requires.ready.aligned least) w now refl out later
     (tied_itself pair_cmp_total pair) in
     record {
       gathers = grind arith;
@@ -130,9 +128,9 @@ sources-preserved g c =
 
 -- the sources were read up to the pair
 read_to : (g : Over) (c : After-read_on g) → AreTold g.S.Source.text c.args.sources.now
-    → AreBelow (member_pair c.with_start-keyed.result) (all_done LINE_LIMIT (g.R.Range.past c.args.range.now) g.S.Source.text
+    → AreBelow (member_pair c.with_start-keyed.result) (all_done (g.R.Range.past c.args.range.now) g.S.Source.text
     c.args.sources.now (feeds c.args.self.now))
-    → AreReadTo LINE_LIMIT (g.R.Range.past c.args.range.now) g.S.Source.text (Some (member_pair c.with_start-keyed.result))
+    → AreReadTo (g.R.Range.past c.args.range.now) g.S.Source.text (Some (member_pair c.with_start-keyed.result))
     c.read_on.new.sources (feeds c.read_on.new.self)
 read_to g c told low =
     c.read_on.ensures.most (c.sources.invariant.gathers.gathered told low).0.upto
@@ -162,13 +160,13 @@ returns-in_default-pop_at g c =
 
 pub returns-in_err-read_on-clause-moved : goal.returns-in_err-read_on-clause-moved
 returns-in_err-read_on-clause-moved g c =
-    moved_trans g.S.Source.text g.S.Source.extent g.S.Source.gave _ _ _ c.sources.invariant.gathers.moved
+    moved_trans g.S.Source _ _ _ c.sources.invariant.gathers.moved
     c.read_on.ensures.moved
 
 pub returns-in_err-read_on-clause-fault : goal.returns-in_err-read_on-clause-fault
 returns-in_err-read_on-clause-fault g c =
     let gathers = c.sources.invariant.gathers in
-    let kept = all_kept g.S.Source.text g.S.Source.extent g.S.Source.gave c.args.sources.now c.args.self.now
+    let kept = all_kept g.S.Source c.args.sources.now c.args.self.now
     c.sources.sources c.sources.self c.requires.ready.aligned.same gathers.as_many gathers.moved in
     grind arith
 
@@ -200,7 +198,7 @@ returns-in_err-push g c =
         pair = member_pair c.with_start-keyed.result;
         above = c.sources.invariant.above;
         least = c.sources.invariant.least;
-        read = λ told low. rw feeds_now (idle_read LINE_LIMIT _ g.S.Source.text g.S.Source.extent _ _ _ _ f
+        read = λ told low. rw feeds_now (idle_read _ g.S.Source _ _ _ _ f
             (read_to g here.After-read_on told low));
       });
       most_lines = grind arith;

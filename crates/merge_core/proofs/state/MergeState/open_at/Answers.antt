@@ -1,6 +1,5 @@
-use Rattle.merge_core.proofs.Words.{◌<◌, ◌≡◌, LINE_LIMIT, ap, append-nil, arith, digits, feed_of, feeds}
-use Rattle.merge_core.proofs.Words.{flat_map-append, get_or, length, length-append, map, sum, take, take_all, take_more}
-use Rattle.merge_core.proofs.Words.{take_more_set, zip}
+use Rattle.merge_core.proofs.Words.{◌<◌, ◌≡◌, ap, append-nil, arith, digits, feed_of, feeds, flat_map-append, get_or}
+use Rattle.merge_core.proofs.Words.{length, length-append, map, sum, take, take_all, take_more, take_more_set, zip}
 use Rattle.std.proofs.lemmas.Slice.Zip.{all_zipped_more}
 use Rattle.merge_core.proofs.OnceLemmas.{once_none}
 use Rattle.merge_core.proofs.SpendLemmas.{opened_none, left_here, left_after}
@@ -13,7 +12,7 @@ use Rattle.merge_core.proofs.state.MergeState.open_at.Goals as goal
 
 pub loop-i-init : goal.loop-i-init
 loop-i-init g c =
-    let once = once_none g.S.Source.text g.S.Source.extent g.S.Source.gave c.args.sources.now in
+    let once = once_none g.S.Source c.args.sources.now in
     grind (arith, zip_none, opened_none)
 
 pub loop-i-preserved : goal.loop-i-preserved
@@ -41,7 +40,7 @@ loop-i-preserved g c =
       most_lines = grind arith;
       count = grind (arith, length-append);
       ready = rw front ready;
-      fresh = rw (now, zipped) (let is = fresh_of LINE_LIMIT past (text s) f added.fresh in grind (arith, flat_map-append, append-nil));
+      fresh = rw (now, zipped) (let is = fresh_of past (text s) f added.fresh in grind (arith, flat_map-append, append-nil));
       probes = grind (arith, sum_turn (λ s. digits (extent s)) ss i s inside);
       left = grind (arith, left_after);
       spent = grind (arith, two_put);

@@ -1,8 +1,9 @@
-use Rattle.merge_core.proofs.Words.{[], ◌≡◌, ◌≤◌, AllGaveOnce, IsLeast, LINE_LIMIT}
-use Rattle.merge_core.proofs.Words.{Ready, all_done, digits, drop, feeds, length, map, sum, take, zip}
+use Rattle.merge_core.proofs.Words.{[], ◌≡◌, ◌≤◌, AllGaveOnce, IsLeast, Ready, all_done, drop, feeds, length}
+use Rattle.merge_core.proofs.Words.{map, take, zip}
 use Rattle.cdxj_places.specs.PairViews.{pair_view}
 use Rattle.merge_core.specs.Openings.{AreOpened}
 use Rattle.merge_core.specs.Spending.{AllOpenedWithin}
+use Rattle.merge_core.specs.Spending.{search_steps}
 use Rattle.merge_core.proofs.state.MergeState.open_at.Given as goal
 
 abbrev pub invariant-loop-i : goal.invariant-loop-i
@@ -12,12 +13,12 @@ invariant-loop-i g l = record {
   failures : map g.S.Source.failures l.sources ≡ map g.S.Source.failures l.fn.sources;
   most_lines : l.merge.most_lines ≡ 0;
   count : length l.merge.cursors.items ≡ l.i;
-  ready : Ready LINE_LIMIT (g.R.Range.past l.range) g.S.Source.text g.S.Source.extent (take l.i l.sources) l.merge;
-  fresh : all_done LINE_LIMIT (g.R.Range.past l.range) g.S.Source.text l.sources (feeds l.merge) ≡ [];
-  probes : l.probes ≤ sum (map (λ s. digits (g.S.Source.extent s)) (take l.i l.sources));
+  ready : Ready (g.R.Range.past l.range) g.S.Source (take l.i l.sources) l.merge;
+  fresh : all_done (g.R.Range.past l.range) g.S.Source.text l.sources (feeds l.merge) ≡ [];
+  probes : l.probes ≤ search_steps g.S.Source (take l.i l.sources);
   left : drop l.i l.sources ≡ drop l.i l.fn.sources;
-  spent : AllOpenedWithin g.S.Source.text g.S.Source.extent g.S.Source.gave l.fn.sources l.sources;
-  opened : AreOpened g.S.Source.text g.S.Source.extent g.S.Source.gave LINE_LIMIT (pair_view l.start)
+  spent : AllOpenedWithin g.S.Source l.fn.sources l.sources;
+  opened : AreOpened g.S.Source (pair_view l.start)
       (take l.i l.fn.sources) (zip l.sources (feeds l.merge));
-  once : IsLeast (pair_view l.start) → AllGaveOnce g.S.Source.extent g.S.Source.gave l.fn.sources l.sources;
+  once : IsLeast (pair_view l.start) → AllGaveOnce g.S.Source l.fn.sources l.sources;
 }

@@ -1,6 +1,6 @@
-use Rattle.merge_core.proofs.Words.{[], ◌≡◌, AllByRecursion, AllMoved, AreReadTo, Feed, LINE_LIMIT, List, Member}
-use Rattle.merge_core.proofs.Words.{MergeState, Some, Upto, all_done, arith, boxed_line, feed_of, feeds, get_or}
-use Rattle.merge_core.proofs.Words.{get_or_default, length, member_pair, option_list, refl, set}
+use Rattle.merge_core.proofs.Words.{[], ◌≡◌, AllByRecursion, AllMoved, AreReadTo, Feed, List, Member, MergeState, Some}
+use Rattle.merge_core.proofs.Words.{Upto, all_done, arith, boxed_line, feed_of, feeds, get_or, get_or_default, length}
+use Rattle.merge_core.proofs.Words.{member_pair, option_list, refl, set}
 use Rattle.std.specs.Vec.{with_item}
 use Rattle.merge_core.proofs.SpendLemmas.{are_read_to, read_on}
 use Rattle.merge_core.proofs.FailLemmas.{raised_by_feed}
@@ -18,7 +18,7 @@ read_group-requires g c =
     let here = idle_here c.requires.aligned c.requires.inside was due.none c.index_mut.result.now
     c.index_mut.ensures.value in
     let fed = fed_at c.requires.aligned c.args.i c.index-sources-i.result was c.requires.inside in
-    record { fed = rw here at fed; last = rw here at due.last }
+    record { fed = rw here at fed; due = rw here at due }
 
 -- the source was read on
 module _ (g : Over) (c : After-read_group g) where
@@ -37,24 +37,24 @@ module _ (g : Over) (c : After-read_group g) where
 
   module _ (m : MergeState) (f : Feed) (is : f.cursor ≡ c.read_group.new.cursor)
       (feeds_are : feeds m ≡ set (feeds c.args.self.now) c.args.i f) where
-    moved : AllMoved g.S.Source.text g.S.Source.extent g.S.Source.gave c.args.sources.now c.args.self.now
+    moved : AllMoved g.S.Source c.args.sources.now c.args.self.now
         (set c.args.sources.now c.args.i c.read_group.new.source) m
     moved =
         let here = here in
-        rw feeds_are (moved_set g.S.Source.text g.S.Source.extent g.S.Source.gave c.args.sources.now
+        rw feeds_are (moved_set g.S.Source c.args.sources.now
         (feeds c.args.self.now) c.args.i c.index-sources-i.result c.read_group.new.source was f long c.requires.inside
         (grind arith))
 
     -- no source was read further than the pair
     most : AllByRecursion (λ m. Upto (member_pair m) (member_pair c.args.first.now))
-        (all_done LINE_LIMIT (g.R.Range.past c.args.range.now) g.S.Source.text c.args.sources.now
+        (all_done (g.R.Range.past c.args.range.now) g.S.Source.text c.args.sources.now
         (feeds c.args.self.now))
-        → AreReadTo LINE_LIMIT (g.R.Range.past c.args.range.now) g.S.Source.text (Some (member_pair c.args.first.now))
+        → AreReadTo (g.R.Range.past c.args.range.now) g.S.Source.text (Some (member_pair c.args.first.now))
         (set c.args.sources.now c.args.i c.read_group.new.source) (feeds m)
     most low =
-        rw feeds_are (read_on LINE_LIMIT _ g.S.Source.text g.S.Source.extent _ c.args.sources.now
+        rw feeds_are (read_on _ g.S.Source _ c.args.sources.now
         (feeds c.args.self.now) c.args.i c.read_group.new.source f
-        (are_read_to LINE_LIMIT _ g.S.Source.text g.S.Source.extent _ _ _ c.requires.aligned.fed low) (grind arith))
+        (are_read_to _ g.S.Source _ _ _ c.requires.aligned.fed low) (grind arith))
 
 -- its cursor has moved, and none of its lines waits
 module _ (g : Over) (c : After-read_group g) (m : MergeState)
@@ -63,13 +63,13 @@ module _ (g : Over) (c : After-read_group g) (m : MergeState)
   feeds_now : feeds m ≡ set (feeds c.args.self.now) c.args.i (feed_of c.read_group.new.cursor [])
   feeds_now = moved_feeds c.requires.aligned c.requires.inside (was g c) (none g c) m c.read_group.new.cursor cursors queue
 
-  moved_alone : AllMoved g.S.Source.text g.S.Source.extent g.S.Source.gave c.args.sources.now c.args.self.now
+  moved_alone : AllMoved g.S.Source c.args.sources.now c.args.self.now
       (set c.args.sources.now c.args.i c.read_group.new.source) m
   moved_alone = moved g c m (feed_of c.read_group.new.cursor []) refl feeds_now
 
   most_alone : AllByRecursion (λ m. Upto (member_pair m) (member_pair c.args.first.now))
-      (all_done LINE_LIMIT (g.R.Range.past c.args.range.now) g.S.Source.text c.args.sources.now (feeds c.args.self.now))
-      → AreReadTo LINE_LIMIT (g.R.Range.past c.args.range.now) g.S.Source.text (Some (member_pair c.args.first.now))
+      (all_done (g.R.Range.past c.args.range.now) g.S.Source.text c.args.sources.now (feeds c.args.self.now))
+      → AreReadTo (g.R.Range.past c.args.range.now) g.S.Source.text (Some (member_pair c.args.first.now))
       (set c.args.sources.now c.args.i c.read_group.new.source) (feeds m)
   most_alone = most g c m (feed_of c.read_group.new.cursor []) refl feeds_now
 
@@ -123,7 +123,7 @@ returns g c =
         fewer =
             let longer = waited_length c.requires.aligned c.requires.inside (was g at) (none g at) c.enqueue.new.self now
             cursors waits queue in
-            let left = unread_set g.S.Source.text g.S.Source.extent g.S.Source.gave c.args.sources.now (feeds old) i
+            let left = unread_set g.S.Source c.args.sources.now (feeds old) i
             c.index-sources-i.result c.read_group.new.source (was g at) f (long g at) c.requires.inside in
             rw feeds_now (grind arith);
         took = record {
