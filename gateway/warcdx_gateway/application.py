@@ -3,7 +3,6 @@ import contextlib
 import errno
 import functools
 import importlib
-import itertools
 import json
 import socket
 import struct
@@ -11,6 +10,7 @@ import time
 from collections.abc import Callable, Generator, Iterable, Iterator, Mapping
 from typing import Any, Optional
 from urllib.parse import urlsplit
+from wsgiref.types import StartResponse, WSGIApplication, WSGIEnvironment
 
 from werkzeug.exceptions import HTTPException, MethodNotAllowed, NotFound
 from werkzeug.routing import Map, Rule
@@ -47,10 +47,12 @@ WAYBACK_PATHS = (
 )
 MODULES = ("memento", "clients", "browse")  # each has `rules(gateway)`
 MOST_BODY = 1 << 17  # bytes of a request
+MOST_PATHS = 64  # whose rules are remembered
 HEALTH_SECONDS = 5
 MOST_WHOLE = 1 << 16  # bytes of an answer that is made before it is sent
 
-Handler = Callable[..., Response]  # of the gateway, a request and the values of its path
+Handler = Callable[..., WSGIApplication]  # of the gateway, a request and the values of its path
+Headers = list[tuple[str, str]]
 
 
 class GatewayRequest(Request):
@@ -85,7 +87,8 @@ class Gateway:
         found = list(own_rules())
         for name in MODULES:  # which stand on this one
             found += importlib.import_module(f"{__package__}.{name}").rules(self)
-        self._paths = Map(found, strict_slashes=False, merge_slashes=False)
+        self._paths = Map(found, strict_slashes=False, merge_slashes=False).bind("")
+        self._rule_of = functools.lru_cache(MOST_PATHS)(self._matched)
 
     def collection(self, name: str) -> Collection:
         """Returns the collection of a name in a path. Raises NotFound."""
@@ -131,7 +134,7 @@ class Gateway:
         collection: Collection,
         form: Form,
         query: Optional[str] = None,
-    ) -> Response:
+    ) -> WSGIApplication:
         """Answers a query, by default that of the request, in a form of its parameters."""
         text = translated(request.query_text if query is None else query)
         plan = plan_of(text, form, self.settings.limits)
@@ -144,12 +147,12 @@ class Gateway:
             index.text(plan.plain_query(plan.resume_key, 1))  # a query that is refused has no 304
             return Response(status=304, headers=headers)
 
-        def pieces() -> Iterator[bytes]:
+        def pieces() -> Generator[bytes, None, None]:
             with self.slot(kind):
                 made = self._answers.pieces(plan, index, collection.tag, clock)
                 yield from or_nothing(made) if plan.is_array else made
 
-        return streamed(pieces(), headers, kind_of(plan))
+        return streamed(pieces(), [*headers.items(), ("Content-Type", kind_of(plan))])
 
     def rows(self, collection: Collection, query: str) -> list[list[str]]:
         """Returns the rows of a query in the form of the Internet Archive, which names `fl`."""
@@ -159,37 +162,31 @@ class Gateway:
             made = self._answers.pieces(plan, collection.index, collection.tag, clock)
             return list(json.loads(b"".join(made)))[1:]
 
-    def __call__(self, environ: dict[str, Any], start_response: Any) -> Iterable[bytes]:
+    def __call__(self, environ: WSGIEnvironment, start_response: StartResponse) -> Iterable[bytes]:
         start, request = time.monotonic(), GatewayRequest(environ, populate_request=False)
-        name, response = self._response(request)
-        response.headers.setdefault("X-Content-Type-Options", "nosniff")
-        # What a browser shows, with a policy of its own, is for readers alone.
-        is_shown = "Content-Security-Policy" in response.headers
-        if name and not is_shown and (origin := self._allowed_origin(request)):
-            response.headers["Access-Control-Allow-Origin"] = origin
-            response.headers["Access-Control-Expose-Headers"] = "ETag, Last-Modified, Link"
-            if origin != "*":
-                response.vary.add("Origin")
-        self.metrics.requests.labels(name, str(response.status_code)).inc()
-        if response.status_code != 200:
-            return Sent(self, environ, start, response(environ, start_response))
-        # What Werkzeug does for other statuses costs more than an exact answer.
-        if response.is_sequence and "Content-Length" not in response.headers:
-            response.headers["Content-Length"] = str(sum(map(len, response.response)))
-        start_response(response.status, response.headers.to_wsgi_list())
-        return Sent(self, environ, start, response.get_app_iter(environ))
+        name, answer = self._answer(request)
 
-    def _response(self, request: GatewayRequest) -> tuple[str, Response]:
-        """Returns the name of the collection, if there is one, and the response."""
+        def begin(status: str, headers: Headers, *rest: Any) -> Any:
+            """Begins an answer with what each one has."""
+            self.metrics.requests.labels(name, status[:3]).inc()
+            headers.append(("X-Content-Type-Options", "nosniff"))
+            if name and self.settings.origins:
+                headers += self._sharing(environ.get("HTTP_ORIGIN", ""), headers)
+            return start_response(status, headers, *rest)
+
+        return Sent(self, environ, start, answer(environ, begin))
+
+    def _answer(self, request: GatewayRequest) -> tuple[str, WSGIApplication]:
+        """Returns the name of the collection, if there is one, and what answers."""
         name = ""
         try:
             self._check_host(request)
             for collection in self.collections.values():
                 collection.look()
-            adapter = self._paths.bind("", path_info=request.path, default_method=request.method)
-            if request.method == "OPTIONS" and self.settings.origins:
-                return self.settings.main, preflight(adapter.allowed_methods())
-            found, values = adapter.match(return_rule=True)
+            path, method = request.path, request.method
+            if method == "OPTIONS" and self.settings.origins:
+                return self.settings.main, preflight(self._paths.allowed_methods(path))
+            found, values = self._rule_of(path, method)
             is_main = found.rule in WAYBACK_PATHS or found.rule.startswith("/web/")
             name = values.get("collection", self.settings.main if is_main else "")
             name = name if name in self.collections else ""
@@ -218,6 +215,10 @@ class Gateway:
         text = text_of(error) if isinstance(error, Fault) else "the program has failed"
         return Response(f"{text}\n", 500, content_type=TEXT)
 
+    def _matched(self, path: str, method: str) -> tuple[Rule, Mapping[str, Any]]:
+        """Returns the rule of a path, and the values that it has. Raises HTTPException."""
+        return self._paths.match(path, method, return_rule=True)
+
     def _check_host(self, request: Request) -> None:
         """Refuses a request for another server, as a page of a hostile site may send it.
 
@@ -229,11 +230,33 @@ class Gateway:
         if host not in self.settings.hosts and "*" not in self.settings.hosts:
             raise Refusal("Host", "Host", "this server has another name", host, status=421)
 
-    def _allowed_origin(self, request: Request) -> str:
-        if "*" in self.settings.origins:
-            return "*"
-        origin = request.headers.get("Origin", "")
-        return origin if origin in self.settings.origins else ""
+    def _sharing(self, origin: str, headers: Headers) -> Iterator[tuple[str, str]]:
+        """Yields the headers with which a page of an origin may read an answer, if it may.
+
+        What a browser shows, with a policy of its own, is for readers alone.
+        """
+        allowed = "*" if "*" in self.settings.origins else origin
+        is_shown = any(name == "Content-Security-Policy" for name, _ in headers)
+        if is_shown or allowed not in self.settings.origins:
+            return
+        yield "Access-Control-Allow-Origin", allowed
+        yield "Access-Control-Expose-Headers", "ETag, Last-Modified, Link"
+        if allowed != "*":
+            yield "Vary", "Origin"
+
+
+class Captures:
+    """The answer to a query, as a WSGI application: captures in pieces."""
+
+    def __init__(self, headers: Headers, pieces: Iterable[bytes]) -> None:
+        self._headers = headers
+        self._pieces = pieces
+
+    def __call__(
+        self, environ: WSGIEnvironment, start_response: StartResponse
+    ) -> Iterable[bytes]:
+        start_response("200 OK", self._headers)
+        return () if environ["REQUEST_METHOD"] == "HEAD" else self._pieces
 
 
 class Sent:
@@ -311,26 +334,25 @@ def show_metrics(gateway: Gateway, request: GatewayRequest) -> Response:
     return Response(gateway.metrics.text(), content_type=kind)
 
 
-def streamed(pieces: Iterator[bytes], headers: Mapping[str, str], kind: str) -> Response:
-    """Returns the response of an answer whose pieces are made when they are sent.
+def streamed(pieces: Generator[bytes, None, None], headers: Headers) -> Captures:
+    """Returns an answer whose pieces are made when they are sent.
 
     The first ones are made at once. So what fails until then has a status, and a short answer has
     a length.
     """
-    fields = [*headers.items(), ("Content-Type", kind)]  # one by one they cost more
     begun, size = list[bytes](), 0
     for piece in pieces:
         begun.append(piece)
         size += len(piece)
         if size > MOST_WHOLE:
-            break
-    else:
-        body = b"".join(begun)
-        return Response(body, 200, [*fields, ("Content-Length", str(len(body)))])
-    response = Response(itertools.chain(begun, pieces), 200, fields)
-    if isinstance(pieces, Generator):
-        response.call_on_close(pieces.close)
-    return response
+            return Captures(headers, joined(begun, pieces))
+    return Captures([*headers, ("Content-Length", str(size))], [b"".join(begun)])
+
+
+def joined(begun: list[bytes], pieces: Generator[bytes, None, None]) -> Iterator[bytes]:
+    with contextlib.closing(pieces):
+        yield from begun
+        yield from pieces
 
 
 def is_unchanged(request: Request, headers: Mapping[str, str]) -> bool:
@@ -338,9 +360,9 @@ def is_unchanged(request: Request, headers: Mapping[str, str]) -> bool:
 
     An index of before may have come back. So only the very time that was sent is taken.
     """
-    if "If-None-Match" in request.headers:
+    if "HTTP_IF_NONE_MATCH" in request.environ:
         return request.if_none_match.contains_weak(headers["ETag"].strip('"'))
-    since = request.headers.get("If-Modified-Since")
+    since = request.environ.get("HTTP_IF_MODIFIED_SINCE")
     return since is not None and since == headers.get("Last-Modified")
 
 

@@ -7,6 +7,7 @@ from collections.abc import Mapping
 from datetime import datetime, timezone
 from typing import Optional
 from urllib.parse import parse_qsl, unquote_plus
+from wsgiref.types import WSGIApplication
 from xml.sax.saxutils import escape
 
 from werkzeug.datastructures import MultiDict
@@ -71,7 +72,7 @@ def rules(gateway: Gateway) -> list[Rule]:
     ]
 
 
-def _wayback(gateway: Gateway, request: GatewayRequest) -> Response:
+def _wayback(gateway: Gateway, request: GatewayRequest) -> WSGIApplication:
     query = request.query_text
     if request.path == "/web/timemap/json":
         query = with_output(query, "json")
@@ -80,7 +81,7 @@ def _wayback(gateway: Gateway, request: GatewayRequest) -> Response:
 
 def _answer(
     form: Optional[Form], gateway: Gateway, request: GatewayRequest, collection: str
-) -> Response:
+) -> WSGIApplication:
     """Answers in a form, or else in that of the collection. pywb has a TimeMap as output=link."""
     found = gateway.collection(collection)
     form = form or Form(found.settings.form)
@@ -92,7 +93,7 @@ def _answer(
 
 def _time_map_in_json(
     gateway: Gateway, request: GatewayRequest, url: str, collection: str = ""
-) -> Response:
+) -> WSGIApplication:
     """Lists the captures of a URL, in the form of the collection."""
     found = gateway.collection(collection) if collection else gateway.main
     resource = memento.Resource.of(gateway, request, collection, memento.url_of(request, 3))
@@ -120,7 +121,7 @@ def collinfo(gateway: Gateway, request: Request) -> Response:
     return Response(json.dumps(found, ensure_ascii=False, indent=1) + "\n", content_type=JSON)
 
 
-def outback(gateway: Gateway, request: GatewayRequest, collection: str) -> Response:
+def outback(gateway: Gateway, request: GatewayRequest, collection: str) -> WSGIApplication:
     """Answers as OutbackCDX does: eleven columns, or the XML of OpenWayback with `q`."""
     found = gateway.collection(collection)
     if "q" in request.args:

@@ -67,6 +67,8 @@ SINGLE = {
     "showSkipCount": NEVER,
     "lastSkipTimestamp": NEVER,
 }
+KNOWN = frozenset((*TESTS, *SINGLE, "filter", "collapse"))
+EMPTY = frozenset(("url", "key", *TESTS))  # which mean something without a value
 CLIENT_FLAGS = frozenset(
     "fastLatest gzip lastSkipTimestamp omitSelfRedirects resolveRevisits reverse showDupeCount "
     "showGroupCount showNumPages showPagedIndex showResumeKey showSkipCount showUniqCount".split()
@@ -74,6 +76,7 @@ CLIENT_FLAGS = frozenset(
 # Parameters that change no answer here: a number against caches, the name of a function of a page's
 # script, and what depends on columns that indexes in CDXJ don't have.
 IGNORED = frozenset(("_", "callback", "omitSelfRedirects"))
+TRANSLATED = CLIENT_FLAGS | IGNORED | frozenset("closest collapseTime limit output page sort".split())
 ESCAPED = re.compile("[%+]")
 CHECKS = {name: re.compile(pattern, re.DOTALL) for name, (pattern, _, _) in SINGLE.items()}
 
@@ -141,6 +144,11 @@ def unquoted(name: str, value: str) -> tuple[str, str]:
         raise Refusal("NotText", name, "it isn't UTF-8", value) from None
 
 
+def require_few(name: str, count: int, most: int) -> None:
+    if count > most:
+        raise Refusal("TooMany", name, f"there are at most {most} in a query")
+
+
 def is_number(text: str) -> bool:
     return text.isascii() and text.isdigit()
 
@@ -161,38 +169,34 @@ class Given:
         name, value = unquoted(*piece.partition("=")[::2])
         if name == "fields" and self.form is Form.PYWB:
             name = "fl"
-        if name not in (*TESTS, *SINGLE, "filter", "collapse"):
+        if name not in KNOWN:
             raise Refusal("Unknown", name, "there is no such parameter")
-        if not value and name not in ("url", "key", *TESTS):
+        if not value and name not in EMPTY:
             return  # an empty field of a form
-        if name in TESTS:
-            test, is_negated = TESTS[name]
-            self.conditions.append((condition_of(value, test, is_negated, name), piece))
-        elif name == "filter":
-            self.add_filter(filter_of(value, self.form))
+        if name in SINGLE:
+            self.add_single(name, value, piece)
         elif name == "collapse":
             self.collapses += map(collapse_of, value.split(","))
+            require_few(name, len(self.collapses), self.limits.collapses)
+        elif name == "filter":
+            self.add_filter(filter_of(value, self.form))
         else:
-            self.add_single(name, value, piece)
-        for kind, count, most in (
-            ("filter", len(self.conditions), self.limits.conditions),
-            ("collapse", len(self.collapses), self.limits.collapses),
-            ("fl", value.count(",") + 1 if name == "fl" else 0, self.limits.fields),
-        ):
-            if count > most:
-                raise Refusal("TooMany", kind, f"there are at most {most} in a query")
+            self.add_condition(condition_of(value, *TESTS[name], name), piece)
 
     def add_filter(self, condition: Condition) -> None:
         if condition.is_pattern:
             compiled(condition)
-            self.conditions.append((condition, ""))
+            self.add_condition(condition, "")
         else:
-            name = ("is" if condition.test is Test.EQUALS else "has") + (
-                "not" if condition.is_negated else ""
-            )
-            self.conditions.append(
-                (condition, f"{name}={quote_plus(f'{condition.field}:{condition.text}')}")
-            )
+            name = "is" if condition.test is Test.EQUALS else "has"
+            name += "not" if condition.is_negated else ""
+            value = quote_plus(f"{condition.field}:{condition.text}")
+            self.add_condition(condition, f"{name}={value}")
+
+    def add_condition(self, condition: Condition, piece: str) -> None:
+        """Takes a condition, and the piece by which the program checks it if it does."""
+        self.conditions.append((condition, piece))
+        require_few("filter", len(self.conditions), self.limits.conditions)
 
     def add_single(self, name: str, value: str, piece: str) -> None:
         if name in self.values:
@@ -201,6 +205,8 @@ class Given:
             _, cause, text = SINGLE[name]
             bad = [each for each in value.split(",") if not CHECKS[name].fullmatch(each)]
             raise Refusal(cause, name, text, bad[0] or value if name == "fl" else value)
+        if name == "fl":
+            require_few(name, value.count(",") + 1, self.limits.fields)
         self.values[name] = value
         self.pieces[name] = piece
 
@@ -218,6 +224,8 @@ def translated(query: str) -> str:
     """Returns a query of a client in the words of the gateway. What it doesn't know stays."""
     pieces = []
     pairs = [(piece, *unquoted(*piece.partition("=")[::2])) for piece in query.split("&")]
+    if TRANSLATED.isdisjoint([name for _, name, _ in pairs]):
+        return query
     has_time = all(value for _, name, value in pairs if name == "closest")
     for piece, name, value in pairs:
         if name in CLIENT_FLAGS and value in ("True", "False"):

@@ -1,7 +1,6 @@
 """What a request asks for: a query of the program, and what the gateway does with its captures."""
-from dataclasses import dataclass
 from enum import Enum
-from typing import Optional
+from typing import NamedTuple, Optional
 
 from warcdx import FIELDS
 
@@ -17,6 +16,7 @@ USUAL_SIZE = 5  # blocks of a page
 TARGET = ("url", "key", "matchType", "from", "to")  # parameters that the program gets unchanged
 RESOLVED = ("mimetype", "statuscode")  # fields that a revisit has of its original
 TO_PYWB = {name: other for other, name in PYWB_NAMES.items()}
+USUAL = list(FIELDS[:7])
 Field = tuple[str, str]
 
 
@@ -29,16 +29,14 @@ class Order(Enum):
     CLOSEST = "closest"  # the nearest to a time first
 
 
-@dataclass(frozen=True)
-class PageNumber:
+class PageNumber(NamedTuple):
     """A page of `size` captures, by its number from 0."""
 
     number: int
     size: int
 
 
-@dataclass(frozen=True)
-class Plan:
+class Plan(NamedTuple):
     """What a request asks for.
 
     If `is_plain`, the program does all of it: the answer is the page of the query `text`, with the
@@ -119,7 +117,7 @@ class Planner:
         self.resolves = given.is_true("resolveRevisits")
         self.counts = given.is_true("showDupeCount")
         self.skip = int(given.values.get("offset", "0"))
-        self.groups = False  # until the fields are known
+        self.groups = self.adds_unknown = False  # until the fields are known
 
     def bad(self, name: str, parameter: str, cause: str) -> Refusal:
         """Returns the refusal of a parameter because of other ones or of the settings."""
@@ -137,9 +135,8 @@ class Planner:
         in_program = self.program_collapse(bool(checked))
         collapses = () if in_program else tuple(given.collapses)
         is_renamed = output is Output.JSON and any(column != name for column, name in fields)
-        is_changed = bool(
-            checked or collapses or self.resolves or self.counts or order is not Order.FORWARD
-        ) or bool(self.skip or any(column in UNKNOWN for column, _ in fields))
+        is_changed = bool(checked or collapses or self.resolves or self.counts or self.skip)
+        is_changed = is_changed or order is not Order.FORWARD or self.adds_unknown
         if self.skip and (page is not None or order is not Order.FORWARD):
             cause = "it is for captures in the order of the index, without page"
             raise Refusal("BadPage", "offset", cause, str(self.skip))
@@ -228,24 +225,27 @@ class Planner:
     def fields(self, output: Output) -> tuple[Field, ...]:
         """Returns the columns, each with its name in the answer."""
         is_pywb = self.given.form is Form.PYWB
-        names = self.given.values.get("fl", ",".join(FIELDS if is_pywb else FIELDS[:7])).split(",")
+        text = self.given.values.get("fl")
+        names = text.split(",") if text is not None else [*(FIELDS if is_pywb else USUAL)]
         if self.counts and "dupecount" not in names:
             names.append("dupecount")
-        if self.resolves and is_pywb and "fl" not in self.given.values:
+        if self.resolves and is_pywb and text is None:
             names += ORIGINALS
         for flag, column in (("showGroupCount", "groupcount"), ("showUniqCount", "uniqcount")):
             if self.given.is_true(flag) and column not in names:
                 names.append(column)
-        self.groups = any(name in GROUPED for name in names)
+        asked = set(names)
+        self.groups = not asked.isdisjoint(GROUPED)
+        self.adds_unknown = not asked.isdisjoint(UNKNOWN)
         if self.groups and (len(self.given.collapses) != 1 or output is Output.CDXJ):
             raise Refusal("BadField", "fl", "one collapse is needed", ",".join(names))
-        if not self.counts and "dupecount" in names:
+        if not self.counts and "dupecount" in asked:
             raise Refusal("BadField", "fl", "showDupeCount=true is needed", "dupecount")
-        if not self.resolves and any(name in ORIGINALS for name in names):
+        if not self.resolves and not asked.isdisjoint(ORIGINALS):
             raise Refusal("BadField", "fl", "resolveRevisits=true is needed", ",".join(names))
         columns = [(PYWB_NAMES.get(name, name), name) for name in names]
         if is_pywb and output is Output.LINES:
-            return tuple((column, TO_PYWB.get(column, column)) for column, _ in columns)
+            columns = [(column, TO_PYWB.get(column, column)) for column, _ in columns]
         return tuple(columns)
 
     def conditions(self) -> tuple[list[str], list[Condition]]:
@@ -273,7 +273,7 @@ class Planner:
     def plain_pieces(self, fields: tuple[Field, ...], output: Output) -> list[str]:
         """Returns the pieces for the output, if the program has it."""
         pieces = []
-        if "fl" in self.given.values or fields != tuple((name, name) for name in FIELDS[:7]):
+        if "fl" in self.given.values or [column for column, _ in fields] != USUAL:
             pieces.append("fl=" + ",".join(column for column, _ in fields))
         if output is not Output.TEXT:
             pieces.append(f"output={output.value}")

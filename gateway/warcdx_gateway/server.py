@@ -28,7 +28,7 @@ from warcdx.program import end_with_parent
 from .application import NAME, Gateway, say
 from .collection import Collection
 from .settings import BadSettings, Settings
-from .shared import Metrics, Shares
+from .shared import Beat, Metrics, Shares
 
 BACKLOG = 1024  # connections that wait for a worker
 MOST_LINE = 70_000  # bytes of the line of a request: a query has at most 65,536
@@ -160,6 +160,8 @@ class Server(BaseApplication):
             "worker_exit": self.end_worker,
         }.items():
             self.cfg.set(name, value)
+        # As attributes they are found at once. Each request needs some twenty.
+        self.cfg.__dict__.update((name, each.get()) for name, each in self.cfg.settings.items())
 
     def load(self) -> Gateway:
         return self._gateway
@@ -203,7 +205,7 @@ class Server(BaseApplication):
         resource.setrlimit(resource.RLIMIT_AS, (memory, memory))
         gc.freeze()  # what the master has loaded stays
         self._metrics.sit()
-        self._gateway.beat = worker.notify
+        self._gateway.beat = Beat(worker.notify)
 
     def end_worker(self, server: Master, worker: Any) -> None:
         if os.getpid() == worker.pid:

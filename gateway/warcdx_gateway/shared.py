@@ -4,7 +4,7 @@ import fcntl
 import os
 import pathlib
 import time
-from collections.abc import Iterator
+from collections.abc import Callable, Iterator
 from enum import Enum
 from typing import Optional
 
@@ -15,9 +15,24 @@ from .refusal import Refusal
 
 WAIT = 1.0  # seconds for a slot
 LOOKS = 0.02  # seconds between two looks for a slot
+BEATS = 0.25  # seconds between two beats
 FILE = 1 << 16  # bytes of a file of counts, as prometheus_client makes it
 MOST_SEATS = 4096  # workers that run at a time
 BOUNDS = (0.005, 0.01, 0.025, 0.05, 0.1, 0.25, 0.5, 1.0, 2.5, 5.0, 10.0, 30.0)  # seconds
+
+
+class Beat:
+    """Shows the master that a worker goes on, now and then: it costs as much as a part of an answer."""
+
+    def __init__(self, notify: Callable[[], None]) -> None:
+        self._notify = notify
+        self._last = 0.0
+
+    def __call__(self) -> None:
+        now = time.monotonic()
+        if now - self._last >= BEATS:
+            self._last = now
+            self._notify()
 
 
 class Share(Enum):
@@ -61,12 +76,12 @@ class Shares:
         self._wide = Slots(folder, "wide", wide)
         self._waiting = Slots(folder, "waiting", (workers - wide) // 2)
 
-    @contextlib.contextmanager
-    def slot(self, kind: Share) -> Iterator[None]:
+    def slot(self, kind: Share) -> contextlib.AbstractContextManager[None]:
         """Takes a slot for a block, and waits a second for it. Raises Refusal with status 503."""
-        if kind is Share.EXACT:
-            yield
-            return
+        return contextlib.nullcontext() if kind is Share.EXACT else self._wide_slot()
+
+    @contextlib.contextmanager
+    def _wide_slot(self) -> Iterator[None]:
         taken = self._wide.take() or self._waited()
         if taken is None:
             raise Refusal(

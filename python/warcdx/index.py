@@ -1,5 +1,4 @@
 """Queries over indexes, by runs of `warcdx serve` that are kept."""
-import contextlib
 import os
 import queue
 from collections.abc import Callable, Iterator, Sequence
@@ -66,8 +65,9 @@ class Index:
         self.most = most
         self._processes = processes
         self._is_closed = False
-        # The last one that was used is used next, so that no more are started than are needed.
-        self._idle: queue.LifoQueue[Serve] = queue.LifoQueue()
+        # The last one that was used is used next, so that no more are started than are needed. After
+        # the end it has None in their place.
+        self._idle: queue.LifoQueue[Optional[Serve]] = queue.LifoQueue()
         for _ in range(processes):
             self._idle.put(Serve(found, names))
 
@@ -132,7 +132,7 @@ class Index:
         line = one_line(query)
         asked = Query.of(line, {})
         is_json = asked.has("output", "json")
-        with _naming_parameters(asked), self._serve() as serve:
+        with self._turn(asked) as serve:
             return serve.text(line.encode(errors="surrogateescape"), is_json, self.seconds, self.most)
 
     def pieces(self, query: str) -> Iterator[bytes]:
@@ -153,7 +153,7 @@ class Index:
         """
         line = one_line(query)
         asked = Query.of(line, {})
-        with _naming_parameters(asked), self._serve() as serve:
+        with self._turn(asked) as serve:
             encoded = line.encode(errors="surrogateescape")
             yield from serve.stream(encoded, asked.has("output", "json"), self.seconds)
 
@@ -168,17 +168,17 @@ class Index:
 
     def _text_of(self, asked: str, pieces: Pieces) -> bytes:
         most = self.most if pieces.is_bounded else None
-        with _naming_parameters(Query.of(asked, {})), self._serve() as serve:
+        with self._turn(Query.of(asked, {})) as serve:
             return serve.text(asked.encode(errors="surrogateescape"), pieces.is_json, self.seconds, most)
 
     def close(self) -> None:
         """Ends the processes, after the queries that are being answered. A second call does nothing."""
         if not self._is_closed:
             self._is_closed = True
-            serves = [self._idle.get() for _ in range(self._processes)]
-            for serve in serves:
-                serve.end()
-                self._idle.put(serve)
+            for serve in [self._idle.get() for _ in range(self._processes)]:
+                if serve is not None:
+                    serve.end()
+                self._idle.put(None)
 
     def __enter__(self) -> "Index":
         return self
@@ -191,19 +191,37 @@ class Index:
     def _page(self, query: Query, fields: Sequence[str], size: Optional[int]) -> tuple[list[list[str]], Optional[str]]:
         """Returns the rows of a page of at most `size` captures, and the resume key of the next."""
         asked = rows_query(query, fields, size)
-        with _naming_parameters(asked), self._serve() as serve:
+        with self._turn(asked) as serve:
             return split_rows(serve.rows(asked.encoded(), self.seconds, self.most))
 
-    @contextlib.contextmanager
-    def _serve(self) -> Iterator[Serve]:
-        """Takes a process that is idle, and waits for one if necessary."""
-        serve = self._idle.get()
-        try:
-            if self._is_closed:
-                raise ValueError("the Index is closed")
-            yield serve
-        finally:
-            self._idle.put(serve)
+    def _turn(self, query: Query) -> "_Turn":
+        return _Turn(self._idle, query)
+
+
+class _Turn:
+    """A block in which a process that was idle answers a query. A refusal names its parameter.
+
+    Such a block begins and ends for each query, and a class needs less time for that than a generator.
+    """
+
+    def __init__(self, idle: "queue.LifoQueue[Optional[Serve]]", query: Query) -> None:
+        self._idle = idle
+        self._query = query
+        self._serve: Optional[Serve] = None
+
+    def __enter__(self) -> Serve:
+        self._serve = serve = self._idle.get()
+        if serve is None:
+            self._idle.put(None)
+            raise ValueError("the Index is closed")
+        return serve
+
+    def __exit__(
+        self, kind: Optional[type[BaseException]], error: Optional[BaseException], trace: Optional[TracebackType]
+    ) -> None:
+        self._idle.put(self._serve)
+        if isinstance(error, Refused):
+            raise refused(error.name, parameter_of(error.name, self._query)) from None
 
 
 def _check_that_it_opens(path: str) -> None:
@@ -211,12 +229,3 @@ def _check_that_it_opens(path: str) -> None:
         os.close(os.open(path, os.O_RDONLY | os.O_NONBLOCK | os.O_CLOEXEC))
     except OSError as error:
         raise CannotOpen("CannotOpen", path) from error
-
-
-@contextlib.contextmanager
-def _naming_parameters(query: Query) -> Iterator[None]:
-    """Lets the refusal of a query name its parameter."""
-    try:
-        yield
-    except Refused as refusal:
-        raise refused(refusal.name, parameter_of(refusal.name, query)) from None

@@ -6,7 +6,6 @@ from urllib.parse import quote
 from werkzeug.wrappers import Response
 
 COMMON = {
-    "X-Content-Type-Options": "nosniff",
     "Referrer-Policy": "no-referrer",
     "Cross-Origin-Resource-Policy": "same-origin",
     "Cross-Origin-Opener-Policy": "same-origin",
