@@ -1,5 +1,5 @@
 //! The keys of targets and of hosts.
-use cdxj_core::{KeyFault, host_key, url_key};
+use cdxj_core::{KeyFault, host_key, url_key, url_key_with_room};
 use std::alloc::Global;
 
 const LABELS_AND_PORTS: &[(&str, &str)] = &[
@@ -118,7 +118,8 @@ const TARGETS: &[&[(&str, &str)]] = &[
 ];
 
 fn has_key(alloc: Global, target: &str, key: &str) -> Result<bool, KeyFault> {
-    Ok(url_key(alloc, target)?.as_str() == key)
+    let without_room = url_key_with_room(alloc, target, 0)?;
+    Ok(url_key(alloc, target)?.as_str() == key && without_room.as_str() == key)
 }
 
 /// The URL's parts by the URL Standard, the key by the rules of docs/CDXJ.md.

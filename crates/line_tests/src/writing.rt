@@ -1,5 +1,11 @@
 //! The lines that are written for entries.
-use cdxj_core::{Entry, Field, Line, LineFault, push_quoted, write_line};
+ghost use Rattle.std.specs.Prelude.{◌≡◌, IfSome};
+ghost use Rattle.cdxj_core.specs.Entries.{HasPlainTexts, entry_view, keyed_view};
+
+use cdxj_core::{
+    Entry, EntryRef, Field, KeylessEntry, Line, LineFault, plain_utf8, push_quoted, write_line,
+    write_plain_entry,
+};
 use std::alloc::{AllocError, Global};
 use std::test::Fail;
 
@@ -130,6 +136,46 @@ fn entries_are_written_and_read_back(rt: HostRuntime) -> Result<(), Fail> {
             members.url
         );
     }
+    Ok(())
+}
+
+/// Returns an entry without its key, if no text needs an escape.
+fn keyless(entry: EntryRef<'_>) -> Option<KeylessEntry<'_>>
+    ensures value { IfSome result (λ e. keyed_view entry.entry.key.now e ≡ entry_view entry.entry) }
+    ensures plain { IfSome result (λ _. HasPlainTexts (entry_view entry.entry)) }
+{
+    Some(KeylessEntry {
+        stamp: entry.stamp,
+        url: plain_utf8(entry.url.as_bytes())?,
+        mime: plain_utf8(entry.mime.as_bytes())?,
+        status: plain_utf8(entry.status.as_bytes())?,
+        digest: plain_utf8(entry.digest.as_bytes())?,
+        length: entry.length,
+        offset: entry.offset,
+        filename: plain_utf8(entry.filename.as_bytes())?,
+    })
+}
+
+/// Returns the line that is written behind the key of these members, if they are good and plain.
+fn written_plainly(alloc: Global, members: &Members) -> Result<Option<Vec<u8>>, Fail> {
+    let entry = entry(alloc, members)?;
+    match keyless(entry.borrowed()) {
+        Some(plain) if entry.good() => Ok(Some(write_plain_entry(entry.key.clone()?, plain)?)),
+        _ => Ok(None),
+    }
+}
+
+#[test]
+fn a_plain_entry_is_written_behind_its_key(rt: HostRuntime) -> Result<(), Fail> {
+    for (members, line) in &[(HOME, HOME_LINE), (RESOURCE, RESOURCE_LINE)] {
+        let written = written_plainly(rt.alloc(), members)?;
+        assert!(rt;
+            written.is_some_and(|text| text.as_slice() == *line),
+            "{}",
+            members.url
+        );
+    }
+    assert!(rt; written_plainly(rt.alloc(), &ESCAPED)?.is_none());
     Ok(())
 }
 

@@ -1,6 +1,7 @@
 //! A record's head, its block and its length.
-use fixtures::RESPONSE;
+use fixtures::{RESOURCE, RESPONSE, joined};
 use std::alloc::Global;
+use std::test::Fail;
 use warc_core::{Fault, Head, Kind, Reader, Slice};
 
 fn is_of_response(head: &Head) -> bool {
@@ -71,5 +72,35 @@ fn an_input_without_bytes_has_no_record_however_often_it_is_read(
     rt: HostRuntime,
 ) -> Result<(), Fault> {
     assert!(rt; is_at_end(rt.alloc(), &mut Slice::new(b""))?);
+    Ok(())
+}
+
+/// Reads a whole record, whose head's memory serves the next one. Returns its start, its length and its kind.
+fn next_recycled(
+    reader: &mut Reader,
+    input: &mut Slice<'_>,
+) -> Result<Option<(u64, u64, Kind)>, Fault> {
+    let Some(head) = reader.next(input)? else {
+        return Ok(None);
+    };
+    let found = (head.start(), head.record_length(), head.kind());
+    reader.recycle(head);
+    reader.finish(input)?;
+    Ok(Some(found))
+}
+
+#[test]
+fn the_memory_of_a_head_serves_the_next_one(rt: HostRuntime) -> Result<(), Fail> {
+    let text = joined(rt.alloc(), &[RESPONSE, RESOURCE, RESPONSE])?;
+    let mut input = Slice::new(&text);
+    let mut reader = Reader::new(rt.alloc())?;
+    for expected in &[
+        Some((0, 264, Kind::Response)),
+        Some((264, 184, Kind::Resource)),
+        Some((448, 264, Kind::Response)),
+        None,
+    ] {
+        assert!(rt; next_recycled(&mut reader, &mut input)? == *expected);
+    }
     Ok(())
 }
