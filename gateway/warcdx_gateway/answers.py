@@ -10,7 +10,7 @@ from urllib.parse import quote_plus, unquote_plus
 from warcdx import FIELDS, Index
 
 from .conditions import Conditions
-from .orders import Window, batched, sorted_rows
+from .history import first_moment, seconds_of
 from .parameters import Form
 from .plan import Order, Plan
 from .refusal import Refusal
@@ -37,6 +37,7 @@ REVISIT = "warc/revisit"
 MOST_PAGES = 10_000  # of a query
 MOST_QUERIES = 64  # whose pages are remembered
 MOST_STARTS = 4 << 20  # bytes of the starts of pages that are remembered
+PIECE = 1000  # captures of another order that are written at a time
 ORIGINAL = ("digest", "mimetype", "statuscode", "length", "offset", "filename")
 
 
@@ -249,12 +250,8 @@ class Answers:
         if plan.order is Order.FORWARD and (limit is not None or not plan.counts_duplicates):
             yield from forward(plan, selection, limit)
             return
-        window = Window(plan, self._limits.held)
-        for stamps in selection.timestamps():
-            if window.add(stamps):
-                break
-        window.close()
-        yield from ordered(plan, selection, window)
+        numbers = chosen(plan, selection.timestamps(), self._limits.held)
+        yield from ordered(plan, selection, numbers)
 
     def _check_held(self, plan: Plan, limit: Optional[int]) -> None:
         held = self._limits.held
@@ -368,12 +365,41 @@ def or_nothing(pieces: Iterator[bytes]) -> Iterator[bytes]:
     yield from pieces
 
 
-def ordered(plan: Plan, selection: Selection, window: Window) -> Iterator[bytes]:
-    """Yields the captures of a window in the order of the plan."""
+def chosen(plan: Plan, groups: Iterator[list[str]], most: int) -> Sequence[int]:
+    """Returns the numbers that the captures of an answer have in the index, in its own order.
+
+    `groups` are the timestamps of all captures. None of these is held yet.
+    """
+    wanted, limit, count = seconds_of(first_moment(plan.closest)), plan.limit, 0
+    # The distance from the time, whether it is one from the time on, and the number.
+    nearest: list[tuple[int, bool, int]] = []
+    for stamps in groups:
+        if limit is None and count + len(stamps) > most:
+            names = {Order.CLOSEST: "closest", Order.REVERSE: "sort"}
+            name = names.get(plan.order, "showDupeCount")
+            raise Refusal("TooMany", name, f"without limit it is for at most {most} captures")
+        if plan.order is Order.CLOSEST:
+            distances = enumerate((seconds_of(each) - wanted for each in stamps), count)
+            found = [(abs(distance), distance >= 0, number) for number, distance in distances]
+            nearest = sorted(nearest + found)[:limit]
+            if found and found[-1][1] and found[-1] > nearest[-1]:
+                break  # those that follow are still farther
+        count += len(stamps)
+    if plan.order is Order.CLOSEST:
+        return [number for _, _, number in nearest]
+    numbers = range(count)[-(limit or count) :]
+    return numbers[::-1] if plan.order is Order.REVERSE else numbers
+
+
+def ordered(plan: Plan, selection: Selection, numbers: Sequence[int]) -> Iterator[bytes]:
+    """Yields the captures with these numbers in the index, in the order of the plan."""
     writer, counter = writer_of(plan.output, plan.fields), DuplicateCounter()
-    groups = selection.between(window.first, window.end)
+    first, last = min(numbers, default=0), max(numbers, default=-1)
+    groups = selection.between(first, last + 1)
     if plan.order not in (Order.FORWARD, Order.LAST):
-        groups = batched(sorted_rows(plan, window, groups))
+        found = [row for rows in groups for row in rows]
+        held = [found[number - first] for number in numbers]
+        groups = (held[place : place + PIECE] for place in range(0, len(held), PIECE))
     for rows in groups:
         if plan.counts_duplicates:
             counter.count(rows)

@@ -19,8 +19,7 @@ from . import memento
 from .answers import Source
 from .application import METHODS, WAYBACK_PATHS, Gateway, GatewayRequest, rule
 from .collection import Collection
-from .history import quoted
-from .orders import FIRST_MOMENT, seconds_of
+from .history import first_moment, quoted, seconds_of
 from .parameters import Form, is_number
 from .refusal import Refusal
 from .shared import Share
@@ -213,7 +212,7 @@ def _available(
     answer["archived_snapshots"] = {}
     if timestamp:
         answer["timestamp"] = timestamp
-        wanted = timestamp + FIRST_MOMENT[len(timestamp) :]
+        wanted = first_moment(timestamp)
     else:
         wanted = f"{datetime.now(timezone.utc):%Y%m%d%H%M%S}"
     with contextlib.suppress(NotFound):

@@ -1,4 +1,5 @@
 """The captures of one URL, found by their time without reading all of them."""
+import calendar
 import re
 from collections.abc import Callable
 from typing import Optional
@@ -7,12 +8,11 @@ from urllib.parse import quote_plus
 from warcdx import Capture, Refused
 from warcdx.record import Head
 
-from .orders import seconds_of
-
 # Returns the first captures that a query selects, in order, at most as many as it is told.
 Ask = Callable[[str, int], list[Capture]]
 
 FIRST, LAST = 0, 10**14 - 1  # timestamps as numbers
+FIRST_MOMENT = "00000101000000"
 MOST = 200  # captures that are read at once
 REVISIT = "warc/revisit"
 # A file name and an offset that are after all others.
@@ -159,6 +159,23 @@ def original_of(ask: Ask, head: Head) -> Optional[Capture]:
 def without_brackets(url: str) -> str:
     """Returns a URL without the brackets that wget writes around it."""
     return url[1:-1] if url.startswith("<") and url.endswith(">") else url
+
+
+def first_moment(digits: str) -> str:
+    """Returns the first timestamp that begins with these digits."""
+    return digits + FIRST_MOMENT[len(digits) :]
+
+
+def seconds_of(timestamp: str) -> int:
+    """Returns the seconds from 1970 to a timestamp. What isn't a date is the nearest one."""
+    year, month = max(int(timestamp[:4]), 1), clamped(timestamp[4:6], 1, 12)
+    day = clamped(timestamp[6:8], 1, calendar.monthrange(year, month)[1])
+    hour, minute = clamped(timestamp[8:10], 0, 23), clamped(timestamp[10:12], 0, 59)
+    return calendar.timegm((year, month, day, hour, minute, clamped(timestamp[12:14], 0, 59)))
+
+
+def clamped(digits: str, least: int, most: int) -> int:
+    return min(max(int(digits), least), most)
 
 
 def quoted(value: str) -> str:

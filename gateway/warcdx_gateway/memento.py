@@ -20,8 +20,7 @@ from .application import Gateway, rule
 from .browse import responses
 from .browse.raw_captures import RawCapture
 from .collection import Collection
-from .history import History, quoted
-from .orders import FIRST_MOMENT
+from .history import History, first_moment, quoted
 from .shared import Share
 
 LINK_FORMAT = "application/link-format"
@@ -213,9 +212,8 @@ def raw_capture(
     """Answers with a capture as it was archived, or sends a client to the nearest one."""
     if not (timestamp.isascii() and timestamp.isdigit() and len(timestamp) <= 14):
         raise NotFound()
-    wanted = timestamp + FIRST_MOMENT[len(timestamp) :]
     resource = Resource.of(gateway, request, collection, url_of(request, segments))
-    capture = resource.history.nearest(wanted, resource.original)
+    capture = resource.history.nearest(first_moment(timestamp), resource.original)
     if capture is None:
         raise NotFound("there is no capture of this URL")
     if capture.timestamp != timestamp:
