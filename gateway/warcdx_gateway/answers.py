@@ -41,37 +41,36 @@ PIECE = 1000  # captures of another order that are written at a time
 ORIGINAL = ("digest", "mimetype", "statuscode", "length", "offset", "filename")
 
 
-class Clock:
-    """The time of an answer, in seconds. The master learns by `beat` that it goes on."""
+class Source:
+    """Asks an index for the captures of an answer, each time by one query of the program.
 
-    def __init__(self, seconds: float, reply: float, beat: Callable[[], None]) -> None:
+    The answer may take `seconds`, and each piece of a reply `piece` seconds. The master learns by
+    `beat` that it goes on.
+    """
+
+    def __init__(
+        self, index: Index, seconds: float, piece: float, beat: Callable[[], None]
+    ) -> None:
+        self._index = index
         self._end = time.monotonic() + seconds
-        self._reply = reply
+        self._piece = piece
         self._beat = beat
 
-    def check(self, index: Index) -> None:
-        """Bounds the next reply of an index. Raises Refusal if the time is over."""
+    def check(self) -> None:
+        """Bounds the next piece of a reply. Raises Refusal if the time is over."""
         left = self._end - time.monotonic()
         if left <= 0:
             cause = "the answer takes too long; restrict the query"
             raise Refusal("TooSlow", "", cause, status=503)
-        index.seconds = min(self._reply, left)
+        self._index.seconds = min(self._piece, left)
         self._beat()
-
-
-class Source:
-    """Asks an index for the captures of an answer, each time by one query of the program."""
-
-    def __init__(self, index: Index, clock: Clock) -> None:
-        self._index = index
-        self._clock = clock
 
     def pieces(self, query: str) -> Iterator[bytes]:
         """Yields the page of a query as the program writes it."""
-        self._clock.check(self._index)
+        self.check()
         for piece in self._index.stream(query):
             yield piece
-            self._clock.check(self._index)
+            self.check()
 
     def lines(self, query: str) -> Iterator[list[bytes]]:
         """Yields the lines of a page, each time those that a piece has ended."""
@@ -225,12 +224,11 @@ class Answers:
         self._limits = limits
         self._starts: OrderedDict[tuple[str, str], PageStarts] = OrderedDict()
 
-    def pieces(self, plan: Plan, index: Index, tag: str, clock: Clock) -> Iterator[bytes]:
+    def pieces(self, plan: Plan, source: Source, tag: str) -> Iterator[bytes]:
         """Yields the pieces of an answer, some of which are empty.
 
         `tag` is that of the collection. Raises Refusal, or an Error of the package.
         """
-        source = Source(index, clock)
         if plan.counts_pages:
             yield from self._page_count(plan, source, tag)
             return

@@ -18,14 +18,14 @@ from werkzeug.wrappers import Request, Response
 
 from warcdx import FIELDS, Capture, Error, Fault, Refused, ReplyTooLate, ReplyTooLong, command
 
-from .answers import Answers, Clock, Source, or_nothing
+from .answers import Answers, Source, or_nothing
 from .collection import Collection
 from .parameters import Form, translated
 from .plan import Plan, plan_of
 from .refusal import Refusal, program_refusal
 from .rows import Output
 from .settings import Settings, is_loopback
-from .shared import Metrics, Share, Shares
+from .shared import Metrics, Shares
 
 NAME = "warcdx-gateway"
 METHODS = ("GET", "HEAD")
@@ -80,7 +80,7 @@ class Gateway:
         self.settings = settings
         self.collections = collections
         self.main = collections[settings.main]
-        self.shares = shares
+        self.slot = shares.slot
         self.metrics = metrics
         self._answers = Answers(settings.limits)
         self.beat: Callable[[], None] = lambda: None  # shows the master that an answer goes on
@@ -96,18 +96,11 @@ class Gateway:
             raise NotFound("there is no such collection")
         return self.collections[name]
 
-    def slot(self, kind: Share) -> contextlib.AbstractContextManager[None]:
-        """Takes a slot for a block. Raises Refusal with status 503 if none is free in time."""
-        return self.shares.slot(kind)
-
-    def clock(self, kind: Share, client: Optional[socket.socket] = None) -> Clock:
-        """Returns the clock of an answer, which is checked before each costly step of it.
+    def source(self, collection: Collection, client: Optional[socket.socket] = None) -> Source:
+        """Returns what asks the indexes for an answer that may be wide or costly.
 
         It raises ConnectionResetError if the client has left with a reset.
         """
-        limits = self.settings.limits
-        if kind is Share.EXACT:
-            return Clock(limits.exact, limits.query, self.beat)
 
         def beat() -> None:
             self.beat()
@@ -115,17 +108,15 @@ class Gateway:
                 with contextlib.suppress(BlockingIOError):
                     client.recv(1, socket.MSG_PEEK | socket.MSG_DONTWAIT)
 
-        return Clock(limits.wide, limits.query, beat)
+        limits = self.settings.limits
+        return Source(collection.index, limits.wide, limits.query, beat)
 
-    def captures(
-        self, collection: Collection, query: str, limit: int, kind: Share = Share.WIDE
-    ) -> list[Capture]:
+    def captures(self, collection: Collection, query: str, limit: int) -> list[Capture]:
         """Returns the first captures that a query of the program selects, at most `limit`.
 
         Raises the errors of the package, or Refusal if it takes too long.
         """
-        source = Source(collection.index, self.clock(kind))
-        groups = source.values(f"{query}&limit={limit}", FIELDS)
+        groups = self.source(collection).values(f"{query}&limit={limit}", FIELDS)
         return [Capture.of(values) for group in groups for values in group]
 
     def answer(
@@ -137,19 +128,21 @@ class Gateway:
     ) -> WSGIApplication:
         """Answers a query, by default that of the request, in a form of its parameters."""
         text = translated(request.query_text if query is None else query)
-        plan = plan_of(text, form, self.settings.limits)
-        kind = Share.EXACT if plan.is_exact else Share.WIDE
-        clock = self.clock(kind, request.environ.get("gunicorn.socket"))
-        index = collection.index
+        limits = self.settings.limits
+        plan = plan_of(text, form, limits)
+        if plan.is_exact:
+            source = Source(collection.index, limits.exact, limits.query, self.beat)
+        else:
+            source = self.source(collection, request.environ.get("gunicorn.socket"))
         headers = collection.validators()
         if is_unchanged(request, headers):
-            clock.check(index)
-            index.text(plan.plain_query(plan.resume_key, 1))  # a query that is refused has no 304
+            source.check()
+            collection.index.text(plan.plain_query(plan.resume_key, 1))  # a query that is refused has no 304
             return Response(status=304, headers=headers)
 
         def pieces() -> Generator[bytes, None, None]:
-            with self.slot(kind):
-                made = self._answers.pieces(plan, index, collection.tag, clock)
+            with contextlib.nullcontext() if plan.is_exact else self.slot():
+                made = self._answers.pieces(plan, source, collection.tag)
                 yield from or_nothing(made) if plan.is_array else made
 
         return streamed(pieces(), [*headers.items(), ("Content-Type", kind_of(plan))])
@@ -157,9 +150,8 @@ class Gateway:
     def rows(self, collection: Collection, query: str) -> list[list[str]]:
         """Returns the rows of a query in the form of the Internet Archive, which names `fl`."""
         plan = plan_of(f"{query}&output=json", Form.WAYBACK, self.settings.limits)
-        with self.slot(Share.WIDE):
-            clock = self.clock(Share.WIDE)
-            made = self._answers.pieces(plan, collection.index, collection.tag, clock)
+        with self.slot():
+            made = self._answers.pieces(plan, self.source(collection), collection.tag)
             return list(json.loads(b"".join(made)))[1:]
 
     def __call__(self, environ: WSGIEnvironment, start_response: StartResponse) -> Iterable[bytes]:

@@ -16,13 +16,11 @@ from werkzeug.routing import Rule
 from werkzeug.wrappers import Request, Response
 
 from . import memento
-from .answers import Source
 from .application import METHODS, WAYBACK_PATHS, Gateway, GatewayRequest, rule
 from .collection import Collection
 from .history import first_moment, quoted, seconds_of
 from .parameters import Form, is_number
 from .refusal import Refusal
-from .shared import Share
 
 JSON = "application/json"
 XML = "text/xml; charset=utf-8"
@@ -193,7 +191,7 @@ def available(gateway: Gateway, request: GatewayRequest) -> Response:
         if len(lines) > MOST_ASKED:
             raise Refusal("TooMany", "url", f"a request has at most {MOST_ASKED} lines")
         asked = [MultiDict(parse_qsl(line.strip())) for line in lines if line.strip()]
-        with gateway.slot(Share.WIDE):
+        with gateway.slot():
             found: object = {"results": [_available(gateway, request, each) for each in asked]}
     else:
         found = _available(gateway, request, request.args)
@@ -235,11 +233,11 @@ def _available(
 
 def sparkline(gateway: Gateway, request: GatewayRequest) -> Response:
     """Counts the captures of a URL by months, as the Internet Archive's pages and extension ask."""
-    source = Source(gateway.main.index, gateway.clock(Share.WIDE))
+    source = gateway.source(gateway.main)
     years: dict[str, list[int]] = {}
     first = last = None
     query = f"url={quoted(request.args.get('url', ''))}&matchType=exact&fl=timestamp"
-    with gateway.slot(Share.WIDE):
+    with gateway.slot():
         for lines in source.lines(query):
             for timestamp in map(bytes.decode, lines):
                 first, last = first or timestamp, timestamp

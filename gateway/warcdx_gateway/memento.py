@@ -21,7 +21,6 @@ from .browse import responses
 from .browse.raw_captures import RawCapture
 from .collection import Collection
 from .history import History, first_moment, quoted
-from .shared import Share
 
 LINK_FORMAT = "application/link-format"
 MOST_MEMENTOS = 5000  # of a page of a TimeMap
@@ -179,7 +178,7 @@ def time_map(
 
 
 def time_map_of(gateway: Gateway, resource: Resource, start: str = "") -> Response:
-    with gateway.slot(Share.WIDE):
+    with gateway.slot():
         captures, following = resource.history.page(start or "0" * 14, MOST_MEMENTOS)
     if not captures:
         return Response("there is no capture of this URL\n", 404)
@@ -222,7 +221,7 @@ def raw_capture(
     if links := resource.links(capture):
         own["Link"] = links
     with contextlib.ExitStack() as stack:
-        stack.enter_context(gateway.slot(Share.WIDE))
+        stack.enter_context(gateway.slot())
         raw = RawCapture(request, resource.collection, resource.history.ask, capture, stack)
         response = raw.response(own, functools.partial(_capture_of, resource, capture))
     return response

@@ -5,7 +5,6 @@ import os
 import pathlib
 import time
 from collections.abc import Callable, Iterator
-from enum import Enum
 from typing import Optional
 
 from prometheus_client import CollectorRegistry, generate_latest, multiprocess, values
@@ -33,13 +32,6 @@ class Beat:
         if now - self._last >= BEATS:
             self._last = now
             self._notify()
-
-
-class Share(Enum):
-    """Which workers may answer a request."""
-
-    EXACT = "exact"  # each
-    WIDE = "wide"  # as many at a time as there are slots
 
 
 class Slots:
@@ -76,12 +68,9 @@ class Shares:
         self._wide = Slots(folder, "wide", wide)
         self._waiting = Slots(folder, "waiting", (workers - wide) // 2)
 
-    def slot(self, kind: Share) -> contextlib.AbstractContextManager[None]:
-        """Takes a slot for a block, and waits a second for it. Raises Refusal with status 503."""
-        return contextlib.nullcontext() if kind is Share.EXACT else self._wide_slot()
-
     @contextlib.contextmanager
-    def _wide_slot(self) -> Iterator[None]:
+    def slot(self) -> Iterator[None]:
+        """Takes a slot for a block, and waits a second for it. Raises Refusal with status 503."""
         taken = self._wide.take() or self._waited()
         if taken is None:
             raise Refusal(

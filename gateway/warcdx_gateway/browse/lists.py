@@ -4,11 +4,9 @@ from typing import Optional
 
 from warcdx import Capture
 
-from ..answers import Source
 from ..application import Gateway
 from ..collection import Collection
 from ..history import REVISIT, place_of
-from ..shared import Share
 from . import dates
 from .counting import count_of_url
 from .layout import row, table
@@ -45,7 +43,7 @@ def addresses(gateway: Gateway, collection: Collection, search: Search, after: s
     query = search.query(collapse="urlkey", resumeKey=after)
     part = _part(gateway, collection, query, bool(after))
     times = Search("", "exact", search.first, search.last)
-    source = Source(collection.index, gateway.clock(Share.WIDE))
+    source = gateway.source(collection)
     counts = tuple(
         count_of_url(source, replace(times, key=each.urlkey)) for each in part.captures
     )
