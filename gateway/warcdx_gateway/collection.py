@@ -1,14 +1,13 @@
 """A collection: indexes that are queried as one, and the folders of their archives."""
 import errno
 import hashlib
-import json
 import os
 import pathlib
 import stat
 import time
 from collections.abc import Sequence
 from email.utils import formatdate
-from typing import Any, Optional
+from typing import Optional
 from urllib.parse import quote_plus
 
 from warcdx import Error, Fault, Index, Refused, command
@@ -20,8 +19,6 @@ LOOKS = 0.25  # seconds between two looks at the files
 MOST_REPLY = 8 << 20  # bytes of a reply, unless no shorter one can be had
 MOST_END = 1 << 16  # bytes in which the last line of an index is looked for
 CHECK_SECONDS = 10  # for the first queries of an index
-MOST_SUMMARY = 16 << 20  # bytes
-SUMMARY = ".summary.json"  # what is added to the name of an index
 SETTLED = 2  # seconds after which no other files get the same time
 TRIES = 3  # to open files while they are replaced
 # A capture before all others, and one after all: their searches read the ends of each index.
@@ -146,30 +143,6 @@ class Collection:
         if time.time() - self.modified > SETTLED:  # else other files may have the same second
             headers["Last-Modified"] = self._date
         return headers
-
-    def archive(self, filename: str) -> Optional[pathlib.Path]:
-        """Returns the file of this name in the folders, or None. It is never outside of them."""
-        for folder in self.settings.archives:
-            root = folder.resolve()
-            try:
-                path = (root / filename).resolve()
-                if path.is_relative_to(root) and path.is_file():
-                    return path
-            except (OSError, ValueError):  # a name that is too long, or has a NUL
-                continue
-        return None
-
-    def summary(self) -> Optional[dict[str, Any]]:
-        """Returns what the file beside the first index says of the collection, if there is one."""
-        first = self.settings.indexes[0]
-        path = first.with_name(first.name + SUMMARY)
-        try:
-            if path.stat().st_size > MOST_SUMMARY:
-                return None
-            found = json.loads(path.read_bytes())
-        except (OSError, ValueError, RecursionError):
-            return None
-        return found if isinstance(found, dict) else None
 
     def close(self) -> None:
         """Ends the programs of this process, and closes the files."""

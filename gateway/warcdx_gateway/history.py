@@ -1,12 +1,10 @@
 """The captures of one URL, found by their time without reading all of them."""
 import calendar
-import re
 from collections.abc import Callable
 from typing import Optional
 from urllib.parse import quote_plus
 
-from warcdx import Capture, Refused
-from warcdx.record import Head
+from warcdx import Capture
 
 # Returns the first captures that a query selects, in order, at most as many as it is told.
 Ask = Callable[[str, int], list[Capture]]
@@ -14,10 +12,8 @@ Ask = Callable[[str, int], list[Capture]]
 FIRST, LAST = 0, 10**14 - 1  # timestamps as numbers
 FIRST_MOMENT = "00000101000000"
 MOST = 200  # captures that are read at once
-REVISIT = "warc/revisit"
 # A file name and an offset that are after all others.
 _LAST_PLACE = "\U0010ffff 9223372036854775807"
-_SHA1 = re.compile("^sha1:", re.IGNORECASE)
 
 
 class History:
@@ -117,11 +113,6 @@ class History:
         return [each for each in found if low <= int(each.timestamp) <= high][:most]
 
 
-def place_of(capture: Capture) -> str:
-    """Returns the place of a capture as a resume key, which isn't form-encoded yet."""
-    return f"{capture.urlkey} {capture.timestamp} {capture.filename} {capture.offset}"
-
-
 def before_time(key: str, timestamp: int) -> str:
     """Returns the parameter with which a query begins at the captures of a key from a time on."""
     return resumed(f"{key} {timestamp - 1:014} {_LAST_PLACE}") if timestamp > 0 else ""
@@ -129,36 +120,6 @@ def before_time(key: str, timestamp: int) -> str:
 
 def resumed(place: str) -> str:
     return f"&resumeKey={quoted(place)}"
-
-
-def original_of(ask: Ask, head: Head) -> Optional[Capture]:
-    """Returns the capture that a revisit points to by its head, or None if no index has it.
-
-    It is one of the URL, with the digest and the time if the revisit has them, or else with the
-    digest alone.
-    """
-    digest = _SHA1.sub("", head.field("WARC-Payload-Digest") or "", count=1)
-    url = without_brackets(head.field("WARC-Refers-To-Target-URI") or "")
-    url = url or without_brackets(head.field("WARC-Target-URI") or "")
-    if not url:
-        return None
-    digits = re.sub("[^0-9]", "", head.field("WARC-Refers-To-Date") or "")[:14]
-    times = f"&from={digits}&to={digits}" if len(digits) == 14 else ""
-    same = f"&is=digest:{quoted(digest)}" if digest else ""
-    target = f"url={quoted(url)}&matchType=exact&isnot=mimetype:{REVISIT}"
-    for conditions in dict.fromkeys(filter(None, (times and times + same, same))):
-        try:
-            found = ask(target + conditions, 1)
-        except Refused:
-            return None
-        if found:
-            return found[0]
-    return None
-
-
-def without_brackets(url: str) -> str:
-    """Returns a URL without the brackets that wget writes around it."""
-    return url[1:-1] if url.startswith("<") and url.endswith(">") else url
 
 
 def first_moment(digits: str) -> str:
