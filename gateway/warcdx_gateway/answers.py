@@ -21,6 +21,7 @@ from .rows import (
     PLACES,
     STAMP,
     STATUS,
+    WRITERS,
     Collapser,
     DuplicateCounter,
     Grouper,
@@ -29,7 +30,6 @@ from .rows import (
     resume_key,
     row_of_line,
     row_of_values,
-    writer_of,
 )
 from .settings import Limits
 
@@ -238,7 +238,7 @@ class Answers:
             if plan.page.number > 0:
                 key = self._start_of_page(plan, source, tag)
                 if key is None:
-                    yield writer_of(plan.output, plan.fields).end(None)
+                    yield WRITERS[plan.output](plan.fields).end(None)
                     return
         if plan.is_plain:
             yield from source.pieces(plan.plain_query(key, limit))
@@ -324,7 +324,7 @@ def passed(selection: Selection, size: int) -> tuple[bool, Optional[str]]:
 
 def forward(plan: Plan, selection: Selection, limit: Optional[int]) -> Iterator[bytes]:
     """Yields captures in the order of the index."""
-    writer, counter = writer_of(plan.output, plan.fields), DuplicateCounter()
+    writer, counter = WRITERS[plan.output](plan.fields), DuplicateCounter()
     left, has_more, last = limit, False, None
     for rows in skipped(selection.rows(), plan.skip):
         if left is not None:
@@ -391,7 +391,7 @@ def chosen(plan: Plan, groups: Iterator[list[str]], most: int) -> Sequence[int]:
 
 def ordered(plan: Plan, selection: Selection, numbers: Sequence[int]) -> Iterator[bytes]:
     """Yields the captures with these numbers in the index, in the order of the plan."""
-    writer, counter = writer_of(plan.output, plan.fields), DuplicateCounter()
+    writer, counter = WRITERS[plan.output](plan.fields), DuplicateCounter()
     first, last = min(numbers, default=0), max(numbers, default=-1)
     groups = selection.between(first, last + 1)
     if plan.order not in (Order.FORWARD, Order.LAST):

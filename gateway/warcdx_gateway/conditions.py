@@ -1,4 +1,5 @@
 """Conditions on captures that the gateway checks itself: texts and regular expressions."""
+import functools
 import re
 import time
 from collections.abc import Sequence
@@ -13,11 +14,11 @@ from .rows import PLACES, Row
 
 SPECIAL = frozenset("\\^$.|?*+()[]{}")  # characters that a literal text has not
 LONGEST = 1000  # characters of a regular expression
-LONGEST_VALUE = (
-    65_536  # characters that a regular expression is tried on; it may hold 200 bytes for each
-)
+LONGEST_VALUE = 65_536  # characters that an expression is tried on, with up to 200 bytes for each
 MOST_COPIES = 200_000  # characters of a regular expression in which repeated parts are written out
 STEP = 1.0  # seconds for one match
+# What `regex` raises at an expression that it can't read.
+UNREADABLE = (regex.error, LookupError, OverflowError, RecursionError, TypeError, ValueError)
 ESCAPE = re.compile(r"\\.", re.DOTALL)
 RECURSION = re.compile(r"\(\?(?:R|[+-]?[0-9]|&|P>)")
 
@@ -65,10 +66,8 @@ class Conditions:
         self._end = time.monotonic() + self._left
         try:
             for condition, place, pattern in self._tests:
-                is_wanted = not condition.is_negated
-                rows = [
-                    row for row in rows if self._holds(condition, pattern, row[place]) is is_wanted
-                ]
+                holds = functools.partial(self._holds, condition, pattern)
+                rows = [row for row in rows if holds(row[place]) != condition.is_negated]
             return rows
         finally:
             self._left = self._end - time.monotonic()
@@ -107,22 +106,12 @@ def compiled(condition: Condition) -> "regex.Pattern[str]":
         raise bad_pattern(condition, "the regular expression repeats too much")
     try:
         return regex.compile(text, regex.VERSION0, cache_pattern=False)
-    except (
-        regex.error,
-        ValueError,
-        OverflowError,
-        RecursionError,
-        KeyError,
-        IndexError,
-        TypeError,
-    ) as error:
+    except UNREADABLE as error:
         raise bad_pattern(condition, f"the regular expression can't be read: {error}") from error
 
 
 def copies(condition: Condition) -> int:
-    """Returns at least how long an expression is in which `a{3}` is written as `aaa`, as it is
-    compiled.
-    """
+    """Returns at least how long an expression is with `aaa` for `a{3}`, as it is compiled."""
     count = len(condition.text)
     for braces in condition.text.split("{")[1:]:
         bound = braces.partition("}")[0].partition(",")[0]
@@ -140,6 +129,5 @@ def bad_pattern(condition: Condition, cause: str) -> Refusal:
 
 
 def too_slow(condition: Condition) -> Refusal:
-    return Refusal(
-        "TooSlow", condition.parameter, "the regular expression takes too long", condition.text
-    )
+    cause = "the regular expression takes too long"
+    return Refusal("TooSlow", condition.parameter, cause, condition.text)
