@@ -12,7 +12,7 @@ from warcdx import FIELDS, Index
 from .conditions import Conditions
 from .history import first_moment, seconds_of
 from .parameters import Form
-from .plan import Order, Plan
+from .plan import BLOCK, Order, Plan
 from .refusal import Refusal
 from .rows import (
     DIGEST,
@@ -127,13 +127,13 @@ class Selection:
         """Yields the captures from a number to before another one, and parses no others if it can."""
         if first >= end:
             return
-        number, rows_of = 0, self._resolving()
         groups: Iterator[list[Any]] = self.rows()
+        rows_of: Callable[[list[Any]], list[Row]] = list
         if not self._has_steps:
-            groups = self._lines()
+            groups, rows_of = self._lines(), self._resolving()
+        number = 0
         for found in groups:
-            shown = found[max(first - number, 0) : max(end - number, 0)]
-            yield shown if self._has_steps else rows_of(shown)
+            yield rows_of(found[max(first - number, 0) : max(end - number, 0)])
             number += len(found)
             if number >= end:
                 return
@@ -229,85 +229,74 @@ class Answers:
 
         `tag` is that of the collection. Raises Refusal, or an Error of the package.
         """
-        if plan.counts_pages:
-            yield from self._page_count(plan, source, tag)
-            return
-        key, limit = plan.resume_key, plan.limit
-        if plan.page is not None:
-            limit = plan.page.size if limit is None else min(limit, plan.page.size)
-            if plan.page.number > 0:
-                key = self._start_of_page(plan, source, tag)
-                if key is None:
+        key, limit, page = plan.resume_key, plan.limit, plan.page
+        if page is not None:
+            limit = min(limit or page.size, page.size)
+            if plan.counts_pages:
+                starts = self._starts_of(plan, page.size, source, tag, MOST_PAGES + 1)
+                yield page_count(plan, page.size // BLOCK, starts.count)
+                return
+            if page.number > 0:
+                starts = self._starts_of(plan, page.size, source, tag, page.number)
+                if page.number > len(starts.keys):
                     yield WRITERS[plan.output](plan.fields).end(None)
                     return
+                key = starts.keys[page.number - 1]
         if plan.is_plain:
             yield from source.pieces(plan.plain_query(key, limit))
             return
-        self._check_held(plan, limit)
-        selection = Selection(plan, source, self._limits, key)
-        if plan.order is Order.FORWARD and (limit is not None or not plan.counts_duplicates):
-            yield from forward(plan, selection, limit)
-            return
-        numbers = chosen(plan, selection.timestamps(), self._limits.held)
-        yield from ordered(plan, selection, numbers)
-
-    def _check_held(self, plan: Plan, limit: Optional[int]) -> None:
         held = self._limits.held
         if plan.counts_duplicates and limit is not None and limit > held:
             cause = f"it is for at most {held} captures; this may give {limit}"
             raise Refusal("BadLimit", "showDupeCount", cause)
+        selection = Selection(plan, source, self._limits, key)
+        if plan.order is Order.FORWARD and (limit is not None or not plan.counts_duplicates):
+            yield from forward(plan, selection, limit)
+            return
+        yield from ordered(plan, selection, chosen(plan, selection.timestamps(), held))
 
-    def _page_count(self, plan: Plan, source: Source, tag: str) -> Iterator[bytes]:
-        """Yields the number of pages as the Internet Archive writes it, or as pywb does."""
-        assert plan.page is not None
-        starts = self._known_starts(plan, tag)
-        while starts.count is None:
-            self._find_start(starts, plan, source)
-        count, blocks = starts.count, plan.page.size // 3000
-        if plan.form is Form.WAYBACK:
-            yield f"{count}\n".encode()
-        else:
-            sizes = f'"pageSize": {blocks}, "blocks": {count * blocks}'
-            yield f'{{"pages": {count}, {sizes}}}\n'.encode()
-
-    def _start_of_page(self, plan: Plan, source: Source, tag: str) -> Optional[str]:
-        """Returns the resume key with which a page begins, or None if there is no such page."""
-        assert plan.page is not None
-        starts, number = self._known_starts(plan, tag), plan.page.number
-        while len(starts.keys) < number and starts.count is None:
-            self._find_start(starts, plan, source)
-        return starts.keys[number - 1] if number <= len(starts.keys) else None
-
-    def _known_starts(self, plan: Plan, tag: str) -> PageStarts:
-        """Returns what is remembered of a query. Those asked longest ago are forgotten."""
+    def _starts_of(
+        self, plan: Plan, size: int, source: Source, tag: str, most: int
+    ) -> PageStarts:
+        """Returns where pages begin, up to `most`. The query asked longest ago is forgotten."""
         name = (tag, plan.selection)
-        found = self._starts.pop(name, None) or PageStarts([])
+        starts = self._starts.pop(name, None) or PageStarts([])
         while self._starts and (len(self._starts) >= MOST_QUERIES or self._size() > MOST_STARTS):
             self._starts.popitem(last=False)
-        self._starts[name] = found
-        return found
+        self._starts[name] = starts
+        while starts.count is None and len(starts.keys) < most:
+            self._find_start(starts, plan, size, source)
+        return starts
 
     def _size(self) -> int:
         return sum(len(key) for each in self._starts.values() for key in each.keys)
 
-    def _find_start(self, starts: PageStarts, plan: Plan, source: Source) -> None:
+    def _find_start(self, starts: PageStarts, plan: Plan, size: int, source: Source) -> None:
         """Finds the start of one more page, or the number of pages."""
-        assert plan.page is not None
         if len(starts.keys) == MOST_PAGES:
-            cause = f"a query has at most {MOST_PAGES} pages; follow resume keys, or give a larger pageSize"
-            raise Refusal("BadPage", "page", cause)
+            cause = f"a query has at most {MOST_PAGES} pages; follow resume keys, or give a larger"
+            raise Refusal("BadPage", "page", f"{cause} pageSize")
         last = starts.keys[-1] if starts.keys else None
         if plan.conditions or plan.collapses:
-            has_rows, key = passed(Selection(plan, source, self._limits, last), plan.page.size)
+            has_rows, key = passed(Selection(plan, source, self._limits, last), size)
         else:
-            shown = f"fl=offset&limit={plan.page.size}&showResumeKey=true"
-            lines = [line for each in source.lines(f"{with_key(plan.selected, last)}&{shown}") for line in each]
+            query = f"{with_key(plan.selected, last)}&fl=offset&limit={size}&showResumeKey=true"
+            lines = [line for each in source.lines(query) for line in each]
             has_rows = bool(lines)
             key = lines[-1].decode() if lines[-2:-1] == [b""] else None
         if key is None:
             starts.count = len(starts.keys) + has_rows
         else:
             starts.keys.append(key)
+
+
+def page_count(plan: Plan, blocks: int, count: Optional[int]) -> bytes:
+    """Returns the number of pages as the Internet Archive writes it, or as pywb does."""
+    assert count is not None
+    if plan.form is Form.WAYBACK:
+        return f"{count}\n".encode()
+    sizes = f'"pageSize": {blocks}, "blocks": {count * blocks}'
+    return f'{{"pages": {count}, {sizes}}}\n'.encode()
 
 
 def passed(selection: Selection, size: int) -> tuple[bool, Optional[str]]:
