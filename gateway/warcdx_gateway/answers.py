@@ -1,14 +1,13 @@
 """Answers: the captures of a plan as pieces of text, each made when the one before was taken."""
-import json
-import time
 from collections import OrderedDict
 from collections.abc import Callable, Generator, Iterator, Sequence
 from dataclasses import dataclass
 from typing import Any, Optional
 from urllib.parse import quote_plus, unquote_plus
 
-from warcdx import FIELDS, Index
+from warcdx import FIELDS
 
+from .collection import Source, values_of
 from .conditions import Conditions
 from .history import first_moment, seconds_of
 from .parameters import Form
@@ -39,61 +38,6 @@ MOST_QUERIES = 64  # whose pages are remembered
 MOST_STARTS = 4 << 20  # bytes of the starts of pages that are remembered
 PIECE = 1000  # captures of another order that are written at a time
 ORIGINAL = ("digest", "mimetype", "statuscode", "length", "offset", "filename")
-
-
-class Source:
-    """Asks an index for the captures of an answer, each time by one query of the program.
-
-    The answer may take `seconds`, and each piece of a reply `piece` seconds. The master learns by
-    `beat` that it goes on.
-    """
-
-    def __init__(
-        self, index: Index, seconds: float, piece: float, beat: Callable[[], None]
-    ) -> None:
-        self._index = index
-        self._end = time.monotonic() + seconds
-        self._piece = piece
-        self._beat = beat
-
-    def check(self) -> None:
-        """Bounds the next piece of a reply. Raises Refusal if the time is over."""
-        left = self._end - time.monotonic()
-        if left <= 0:
-            cause = "the answer takes too long; restrict the query"
-            raise Refusal("TooSlow", "", cause, status=503)
-        self._index.seconds = min(self._piece, left)
-        self._beat()
-
-    def pieces(self, query: str) -> Iterator[bytes]:
-        """Yields the page of a query as the program writes it."""
-        self.check()
-        for piece in self._index.stream(query):
-            yield piece
-            self.check()
-
-    def lines(self, query: str) -> Iterator[list[bytes]]:
-        """Yields the lines of a page, each time those that a piece has ended."""
-        begun: list[bytes] = []
-        for piece in self.pieces(query):
-            first, *others = piece.split(b"\n")
-            begun.append(first)
-            if others:
-                yield [b"".join(begun), *others[:-1]]
-                begun = others[-1:]
-        # A page ends with a line feed.
-
-    def values(self, query: str, fields: Sequence[str]) -> Generator[list[list[str]], None, None]:
-        """Yields the values of these fields of each capture."""
-        for lines in self.row_lines(f"{query}&fl={','.join(fields)}"):
-            yield values_of(lines)
-
-    def row_lines(self, query: str) -> Iterator[list[bytes]]:
-        """Yields the lines of the captures in `output=json`."""
-        names = 1
-        for lines in self.lines(f"{query}&output=json"):
-            yield lines[names:]
-            names = 0
 
 
 class Selection:
@@ -392,12 +336,6 @@ def ordered(plan: Plan, selection: Selection, numbers: Sequence[int]) -> Iterato
             counter.count(rows)
         yield writer.rows(rows) if rows else b""
     yield writer.end(None)
-
-
-def values_of(lines: list[bytes]) -> list[list[str]]:
-    """Returns the values of captures from lines of `output=json`, each of which ends in `,` or `]`."""
-    rows: list[list[str]] = json.loads(b"[" + b",".join([line[:-1] for line in lines]) + b"]")
-    return rows
 
 
 def with_key(query: str, key: Optional[str]) -> str:

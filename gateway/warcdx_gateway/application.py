@@ -18,8 +18,8 @@ from werkzeug.wrappers import Request, Response
 
 from warcdx import FIELDS, Capture, Error, Fault, Refused, ReplyTooLate, ReplyTooLong, command
 
-from .answers import Answers, Source, or_nothing
-from .collection import Collection
+from .answers import Answers, or_nothing
+from .collection import Collection, Source
 from .parameters import Form, translated
 from .plan import Plan, plan_of
 from .refusal import Refusal, program_refusal

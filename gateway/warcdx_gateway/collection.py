@@ -1,11 +1,12 @@
-"""A collection: indexes that are queried as one, and the folders of their archives."""
+"""A collection: indexes that are queried as one, while their files are replaced."""
 import errno
 import hashlib
+import json
 import os
 import pathlib
 import stat
 import time
-from collections.abc import Sequence
+from collections.abc import Callable, Generator, Iterator, Sequence
 from email.utils import formatdate
 from typing import Optional
 from urllib.parse import quote_plus
@@ -13,6 +14,7 @@ from urllib.parse import quote_plus
 from warcdx import Error, Fault, Index, Refused, command
 from warcdx.errors import fault
 
+from .refusal import Refusal
 from .settings import CollectionSettings, Settings
 
 LOOKS = 0.25  # seconds between two looks at the files
@@ -176,6 +178,61 @@ class Collection:
         raise OSError("the indexes are being changed")
 
 
+class Source:
+    """Asks an index for the captures of an answer, each time by one query of the program.
+
+    The answer may take `seconds`, and each piece of a reply `piece` seconds. The master learns by
+    `beat` that it goes on.
+    """
+
+    def __init__(
+        self, index: Index, seconds: float, piece: float, beat: Callable[[], None]
+    ) -> None:
+        self._index = index
+        self._end = time.monotonic() + seconds
+        self._piece = piece
+        self._beat = beat
+
+    def check(self) -> None:
+        """Bounds the next piece of a reply. Raises Refusal if the time is over."""
+        left = self._end - time.monotonic()
+        if left <= 0:
+            cause = "the answer takes too long; restrict the query"
+            raise Refusal("TooSlow", "", cause, status=503)
+        self._index.seconds = min(self._piece, left)
+        self._beat()
+
+    def pieces(self, query: str) -> Iterator[bytes]:
+        """Yields the page of a query as the program writes it."""
+        self.check()
+        for piece in self._index.stream(query):
+            yield piece
+            self.check()
+
+    def lines(self, query: str) -> Iterator[list[bytes]]:
+        """Yields the lines of a page, each time those that a piece has ended."""
+        begun: list[bytes] = []
+        for piece in self.pieces(query):
+            first, *others = piece.split(b"\n")
+            begun.append(first)
+            if others:
+                yield [b"".join(begun), *others[:-1]]
+                begun = others[-1:]
+        # A page ends with a line feed.
+
+    def values(self, query: str, fields: Sequence[str]) -> Generator[list[list[str]], None, None]:
+        """Yields the values of these fields of each capture."""
+        for lines in self.row_lines(f"{query}&fl={','.join(fields)}"):
+            yield values_of(lines)
+
+    def row_lines(self, query: str) -> Iterator[list[bytes]]:
+        """Yields the lines of the captures in `output=json`."""
+        names = 1
+        for lines in self.lines(f"{query}&output=json"):
+            yield lines[names:]
+            names = 0
+
+
 def query_of_end(file: int) -> str:
     """Returns a query for the last line of a file, as far as its key is short enough for one."""
     size = os.fstat(file).st_size
@@ -191,3 +248,9 @@ def stamp_of(found: "map[os.stat_result]") -> Stamp:
         (each.st_dev, each.st_ino, each.st_size, each.st_mtime_ns, each.st_ctime_ns)
         for each in found
     )
+
+
+def values_of(lines: list[bytes]) -> list[list[str]]:
+    """Returns the values of captures from lines of `output=json`, each of which ends in `,` or `]`."""
+    rows: list[list[str]] = json.loads(b"[" + b",".join([line[:-1] for line in lines]) + b"]")
+    return rows
