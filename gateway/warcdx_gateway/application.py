@@ -12,24 +12,22 @@ from typing import Any, Optional
 from urllib.parse import urlsplit
 from wsgiref.types import StartResponse, WSGIApplication, WSGIEnvironment
 
-from werkzeug.exceptions import HTTPException, MethodNotAllowed, NotFound
+from werkzeug.exceptions import HTTPException, NotFound
 from werkzeug.routing import Map, Rule
 from werkzeug.wrappers import Request, Response
 
-from warcdx import FIELDS, Capture, Error, Fault, Refused, ReplyTooLate, ReplyTooLong, command
+from warcdx import FIELDS, Capture, Error, Fault, Refused, ReplyTooLate, ReplyTooLong
 
 from .answers import Answers, or_nothing
 from .collection import Collection, Source
 from .parameters import Form, translated
 from .plan import Plan, plan_of
-from .refusal import Refusal, program_refusal
+from .refusal import TEXT, Refusal, http_response, program_refusal, say, text_of
 from .rows import Output
 from .settings import Settings, is_loopback
 from .shared import Metrics, Shares
 
-NAME = "warcdx-gateway"
 METHODS = ("GET", "HEAD")
-TEXT = "text/plain; charset=utf-8"
 KINDS = {
     Output.TEXT: TEXT,
     Output.JSON: "application/json",
@@ -45,7 +43,7 @@ WAYBACK_PATHS = (
     "/web/timemap/cdx",
     "/web/timemap/json",
 )
-MODULES = ("memento", "clients", "browse")  # each has `rules(gateway)`
+MODULES = ("memento", "clients", "browse")  # each has `rules()`
 MOST_BODY = 1 << 17  # bytes of a request
 MOST_PATHS = 64  # whose rules are remembered
 HEALTH_SECONDS = 5
@@ -84,14 +82,17 @@ class Gateway:
         self.metrics = metrics
         self._answers = Answers(settings.limits)
         self.beat: Callable[[], None] = lambda: None  # shows the master that an answer goes on
-        found = list(own_rules())
+        found = [rule("/health", health), rule("/metrics", show_metrics)]
         for name in MODULES:  # which stand on this one
-            found += importlib.import_module(f"{__package__}.{name}").rules(self)
+            found += importlib.import_module(f"{__package__}.{name}").rules()
         self._paths = Map(found, strict_slashes=False, merge_slashes=False).bind("")
-        self._rule_of = functools.lru_cache(MOST_PATHS)(self._matched)
+        matched: Any = functools.partial(self._paths.match, return_rule=True)
+        self._rule_of = functools.lru_cache(MOST_PATHS)(matched)
 
     def collection(self, name: str) -> Collection:
-        """Returns the collection of a name in a path. Raises NotFound."""
+        """Returns the collection of a name in a path, without one the main one. Raises NotFound."""
+        if not name:
+            return self.main
         if name not in self.collections:
             raise NotFound("there is no such collection")
         return self.collections[name]
@@ -207,10 +208,6 @@ class Gateway:
         text = text_of(error) if isinstance(error, Fault) else "the program has failed"
         return Response(f"{text}\n", 500, content_type=TEXT)
 
-    def _matched(self, path: str, method: str) -> tuple[Rule, Mapping[str, Any]]:
-        """Returns the rule of a path, and the values that it has. Raises HTTPException."""
-        return self._paths.match(path, method, return_rule=True)
-
     def _check_host(self, request: Request) -> None:
         """Refuses a request for another server, as a page of a hostile site may send it.
 
@@ -235,20 +232,6 @@ class Gateway:
         yield "Access-Control-Expose-Headers", "ETag, Last-Modified, Link"
         if allowed != "*":
             yield "Vary", "Origin"
-
-
-class Captures:
-    """The answer to a query, as a WSGI application: captures in pieces."""
-
-    def __init__(self, headers: Headers, pieces: Iterable[bytes]) -> None:
-        self._headers = headers
-        self._pieces = pieces
-
-    def __call__(
-        self, environ: WSGIEnvironment, start_response: StartResponse
-    ) -> Iterable[bytes]:
-        start_response("200 OK", self._headers)
-        return () if environ["REQUEST_METHOD"] == "HEAD" else self._pieces
 
 
 class Sent:
@@ -289,8 +272,7 @@ class Sent:
         self._gateway.metrics.seconds.observe(time.monotonic() - self._start)
 
     def _break(self, error: BaseException) -> None:
-        cause = type(error).__name__
-        self._gateway.metrics.broken.labels(cause).inc()
+        self._gateway.metrics.broken.labels(type(error).__name__).inc()
         say(f"an answer was broken off: {text_of(error)}")
         found = self._environ.get("gunicorn.socket")
         if found is not None and self._environ.get("SERVER_PROTOCOL") == "HTTP/1.0":
@@ -302,11 +284,6 @@ def rule(path: str, handler: Handler, methods: Iterable[str] = METHODS) -> Rule:
     """Returns the rule of a path, in the words of Werkzeug, whose requests a handler answers."""
     endpoint: Any = handler
     return Rule(path, endpoint=endpoint, methods=methods)
-
-
-def own_rules() -> Iterator[Rule]:
-    yield rule("/health", health)
-    yield rule("/metrics", show_metrics)
 
 
 def health(gateway: Gateway, request: GatewayRequest) -> Response:
@@ -326,7 +303,7 @@ def show_metrics(gateway: Gateway, request: GatewayRequest) -> Response:
     return Response(gateway.metrics.text(), content_type=kind)
 
 
-def streamed(pieces: Generator[bytes, None, None], headers: Headers) -> Captures:
+def streamed(pieces: Generator[bytes, None, None], headers: Headers) -> WSGIApplication:
     """Returns an answer whose pieces are made when they are sent.
 
     The first ones are made at once. So what fails until then has a status, and a short answer has
@@ -337,8 +314,18 @@ def streamed(pieces: Generator[bytes, None, None], headers: Headers) -> Captures
         begun.append(piece)
         size += len(piece)
         if size > MOST_WHOLE:
-            return Captures(headers, joined(begun, pieces))
-    return Captures([*headers, ("Content-Length", str(size))], [b"".join(begun)])
+            return answer_of(headers, joined(begun, pieces))
+    return answer_of([*headers, ("Content-Length", str(size))], [b"".join(begun)])
+
+
+def answer_of(headers: Headers, pieces: Iterable[bytes]) -> WSGIApplication:
+    """Returns an answer of captures in pieces."""
+
+    def answer(environ: WSGIEnvironment, start_response: StartResponse) -> Iterable[bytes]:
+        start_response("200 OK", headers)
+        return () if environ["REQUEST_METHOD"] == "HEAD" else pieces
+
+    return answer
 
 
 def joined(begun: list[bytes], pieces: Generator[bytes, None, None]) -> Iterator[bytes]:
@@ -356,21 +343,6 @@ def is_unchanged(request: Request, headers: Mapping[str, str]) -> bool:
         return request.if_none_match.contains_weak(headers["ETag"].strip('"'))
     since = request.environ.get("HTTP_IF_MODIFIED_SINCE")
     return since is not None and since == headers.get("Last-Modified")
-
-
-def http_response(error: HTTPException) -> Response:
-    """Returns the plain response to a path or method that there isn't."""
-    if isinstance(error.response, Response):
-        return error.response
-    name, cause = (error.name or "").title().replace(" ", ""), error.description or ""
-    headers = [each for each in error.get_headers() if each[0] not in ("Content-Type", "Allow")]
-    if isinstance(error, MethodNotAllowed):
-        methods = ", ".join(sorted(error.valid_methods or ()))
-        headers.append(("Allow", methods))
-        cause = f"the methods are {methods}"
-    elif cause == NotFound.description:
-        cause = "there is no such path"
-    return Response(f"refused {name}: {cause}\n", error.code, headers, content_type=TEXT)
 
 
 def preflight(methods: Iterable[str]) -> Response:
@@ -399,17 +371,3 @@ def host_of(field: str) -> str:
         return urlsplit(f"//{field}").hostname or ""
     except ValueError:
         return ""
-
-
-def text_of(error: BaseException) -> str:
-    """Returns an error on one line. An index is named by its number in the settings, from 0."""
-    if isinstance(error, Fault):
-        parts = ("fault", error.name, error.number, error.offset)
-        return " ".join(str(part) for part in parts if part is not None)
-    is_known = isinstance(error, (Error, Refusal, OSError)) and str(error)
-    return str(error) if is_known else f"{type(error).__name__} {error}".rstrip()
-
-
-def say(text: str) -> None:
-    """Writes a line to standard error."""
-    command.report(NAME, command.printable(text))

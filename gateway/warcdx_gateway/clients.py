@@ -53,7 +53,7 @@ MOST_RESULTS = 10_000  # of an XML query
 _NOT_XML = re.compile("[^\t\n\r -\ud7ff\ue000-\ufffd\U00010000-\U0010ffff]")
 
 
-def rules(gateway: Gateway) -> list[Rule]:
+def rules() -> list[Rule]:
     """Returns the rules of these paths."""
     found = [rule(path, _wayback) for path in WAYBACK_PATHS]
     for front in ("web", "<collection>"):
@@ -92,7 +92,7 @@ def _time_map_in_json(
     gateway: Gateway, request: GatewayRequest, url: str, collection: str = ""
 ) -> WSGIApplication:
     """Lists the captures of a URL, in the form of the collection."""
-    found = gateway.collection(collection) if collection else gateway.main
+    found = gateway.collection(collection)
     resource = memento.Resource.of(gateway, request, collection, memento.url_of(request, 3))
     form = Form(found.settings.form) if collection else Form.WAYBACK
     return gateway.answer(request, found, form, f"url={quoted(resource.original)}&output=json")

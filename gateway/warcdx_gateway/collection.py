@@ -14,7 +14,7 @@ from urllib.parse import quote_plus
 from warcdx import Error, Fault, Index, Refused, command
 from warcdx.errors import fault
 
-from .refusal import Refusal
+from .refusal import Refusal, say
 from .settings import CollectionSettings, Settings
 
 LOOKS = 0.25  # seconds between two looks at the files
@@ -133,8 +133,7 @@ class Collection:
                 return ""
             self._bad = stamp
             if is_told:
-                text = f"{self.name}: the old indexes stay in use: {command.reason_of(error)}"
-                command.report("warcdx-gateway", command.printable(text))
+                say(f"{self.name}: the old indexes stay in use: {command.reason_of(error)}")
             return "failed"
         self._bad = None
         return "done"

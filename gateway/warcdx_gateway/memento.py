@@ -38,7 +38,7 @@ _DATE = re.compile(
 )
 
 
-def rules(gateway: Gateway) -> list[Rule]:
+def rules() -> list[Rule]:
     """Returns the rules of these paths, of which `/web` is the main collection."""
     paths: dict[str, Callable[..., Response]] = {
         "timegate/": time_gate,
@@ -74,7 +74,7 @@ class Resource:
         host = url.partition("/")[0]
         if ":" not in host and "." not in host and host != "localhost":
             raise NotFound()
-        found = gateway.collection(collection) if collection else gateway.main
+        found = gateway.collection(collection)
         history = History(functools.partial(gateway.captures, found), url=url)
         return cls(f"{request.root_url.rstrip('/')}/{collection or 'web'}", found, url, history)
 

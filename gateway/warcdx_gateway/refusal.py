@@ -1,7 +1,14 @@
-"""Queries that are refused, with the parameter and the cause."""
+"""Requests that are refused or fail, with the cause in words."""
 from collections.abc import Sequence
 from urllib.parse import unquote_plus
 
+from werkzeug.exceptions import HTTPException, MethodNotAllowed, NotFound
+from werkzeug.wrappers import Response
+
+from warcdx import Error, Fault, command
+
+NAME = "warcdx-gateway"
+TEXT = "text/plain; charset=utf-8"
 MOST_SHOWN = 100  # characters of a value
 
 # What the program refuses and the gateway doesn't: the parameters, and what they have to be.
@@ -50,3 +57,32 @@ def program_refusal(name: str, pieces: Sequence[str]) -> Refusal:
         if unquote_plus(parameter) in names:
             return Refusal(name, unquote_plus(parameter), cause, unquote_plus(value))
     return Refusal(name, names[0] if names else "", cause)
+
+
+def http_response(error: HTTPException) -> Response:
+    """Returns the plain response to a path or method that there isn't."""
+    if isinstance(error.response, Response):
+        return error.response
+    name, cause = (error.name or "").title().replace(" ", ""), error.description or ""
+    headers = [each for each in error.get_headers() if each[0] not in ("Content-Type", "Allow")]
+    if isinstance(error, MethodNotAllowed):
+        methods = ", ".join(sorted(error.valid_methods or ()))
+        headers.append(("Allow", methods))
+        cause = f"the methods are {methods}"
+    elif cause == NotFound.description:
+        cause = "there is no such path"
+    return Response(f"refused {name}: {cause}\n", error.code, headers, content_type=TEXT)
+
+
+def text_of(error: BaseException) -> str:
+    """Returns an error on one line. An index is named by its number in the settings, from 0."""
+    if isinstance(error, Fault):
+        parts = ("fault", error.name, error.number, error.offset)
+        return " ".join(str(part) for part in parts if part is not None)
+    is_known = isinstance(error, (Error, Refusal, OSError)) and str(error)
+    return str(error) if is_known else f"{type(error).__name__} {error}".rstrip()
+
+
+def say(text: str) -> None:
+    """Writes a line to standard error."""
+    command.report(NAME, command.printable(text))

@@ -25,8 +25,9 @@ from gunicorn.errors import HaltServer
 from warcdx import Error, command
 from warcdx.program import end_with_parent
 
-from .application import NAME, Gateway, say
+from .application import Gateway
 from .collection import Collection
+from .refusal import NAME, say
 from .settings import BadSettings, Settings
 from .shared import Beat, Metrics, Shares
 

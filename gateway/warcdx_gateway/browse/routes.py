@@ -28,7 +28,7 @@ WINDOW = "document"  # the value of Sec-Fetch-Dest for a page that gets a window
 Page = Callable[[Gateway, Collection, Request], Response]
 
 
-def rules(gateway: Gateway) -> list[Rule]:
+def rules() -> list[Rule]:
     """Returns the rules of `/browse`, and of `/COLLECTION/browse/` with what is below it."""
     found = [
         rule("/", _root),
