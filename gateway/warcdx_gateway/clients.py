@@ -72,7 +72,7 @@ def rules() -> list[Rule]:
 def _wayback(gateway: Gateway, request: GatewayRequest) -> WSGIApplication:
     query = request.query_text
     if request.path == "/web/timemap/json":
-        query = with_output(query, "json")
+        query = _with(query, "output", "json")
     return gateway.answer(request, gateway.main, Form.WAYBACK, query)
 
 
@@ -83,7 +83,7 @@ def _answer(
     found = gateway.collection(collection)
     form = form or Form(found.settings.form)
     if form is Form.PYWB and request.args.get("output") == "link":
-        resource = memento.Resource.of(gateway, request, collection, request.args.get("url", ""))
+        resource = memento.Resource(gateway, request, collection, request.args.get("url", ""))
         return memento.time_map_of(gateway, resource)
     return gateway.answer(request, found, form)
 
@@ -93,14 +93,14 @@ def _time_map_in_json(
 ) -> WSGIApplication:
     """Lists the captures of a URL, in the form of the collection."""
     found = gateway.collection(collection)
-    resource = memento.Resource.of(gateway, request, collection, memento.url_of(request, 3))
+    resource = memento.Resource(gateway, request, collection, memento.url_of(request, 3))
     form = Form(found.settings.form) if collection else Form.WAYBACK
     return gateway.answer(request, found, form, f"url={quoted(resource.original)}&output=json")
 
 
-def with_output(query: str, output: str) -> str:
-    """Returns a query with an output, if it names none."""
-    return query if re.search("(?:^|&)output=.", query) else f"{query}&output={output}"
+def _with(query: str, name: str, value: str) -> str:
+    """Returns a query with a value of a parameter, if it has none."""
+    return query if re.search(f"(?:^|&){name}=.", query) else f"{query}&{name}={value}"
 
 
 def collinfo(gateway: Gateway, request: Request) -> Response:
@@ -125,9 +125,7 @@ def outback(gateway: Gateway, request: GatewayRequest, collection: str) -> WSGIA
         return xml_query(gateway, found, request.args)
     if not request.query_string:
         return Response(b"", 302, {"Location": f"{request.path.rstrip('/')}/browse/"})
-    query = request.query_text
-    if not re.search("(?:^|&)fl=.", query):
-        query += f"&fl={CDX11}"
+    query = _with(request.query_text, "fl", CDX11)
     return gateway.answer(request, found, Form.WAYBACK, query)
 
 
@@ -214,7 +212,7 @@ def _available(
     else:
         wanted = f"{datetime.now(timezone.utc):%Y%m%d%H%M%S}"
     with contextlib.suppress(NotFound):
-        resource = memento.Resource.of(gateway, request, "", url)
+        resource = memento.Resource(gateway, request, "", url)
         codes = given.getlist("statuscodes")[:10] or ["200"]
         found = [resource.history.where("statuscode", code).nearest(wanted) for code in codes]
         moment = seconds_of(wanted)
