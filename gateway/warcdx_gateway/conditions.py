@@ -91,10 +91,6 @@ class Conditions:
             raise too_slow(condition) from None
 
 
-def is_literal(text: str) -> bool:
-    return SPECIAL.isdisjoint(text)
-
-
 def compiled(condition: Condition) -> "regex.Pattern[str]":
     """Returns a regular expression, which is kept nowhere else. Raises Refusal."""
     text = condition.text
