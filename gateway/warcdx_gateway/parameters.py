@@ -194,6 +194,10 @@ class Given:
     def is_true(self, name: str) -> bool:
         return self.values.get(name) == "true"
 
+    def bad(self, name: str, parameter: str, cause: str) -> Refusal:
+        """Returns the refusal of a parameter because of other ones or of the settings."""
+        return Refusal(name, parameter, cause, self.values.get(parameter, ""))
+
     def is_one_key(self) -> bool:
         """Returns whether the match is `exact`."""
         url = self.values.get("url", "")
