@@ -79,7 +79,8 @@ class Collection:
 
     `name`, `title` and `settings` are as given. `tag` changes with the files and with the
     settings that change answers. `modified` is when the files were changed or got their names, in
-    seconds since 1970. The master opens the indexes, and each worker goes on with its files.
+    seconds since 1970. The master opens the indexes, and each worker goes on with its files. The
+    constructor raises OSError, or an Error of the package if the indexes are none.
     """
 
     def __init__(self, each: CollectionSettings, settings: Settings) -> None:
@@ -88,24 +89,16 @@ class Collection:
         self.settings = each
         self.program = settings.program
         self._limits = settings.limits
-        self._generation: Optional[Generation] = None
         self._index: Optional[Index] = None
         self._owner = 0
         self._looked = 0.0
         self._bad: Optional[Stamp] = None
-        self.tag = ""
-        self.modified = 0
-        self._date = ""
-
-    def open(self) -> None:
-        """Opens the indexes. Raises OSError, or an Error of the package if they are none."""
         self._use(self._renewed())
 
     @property
     def index(self) -> Index:
         """The index of this process over the files that were the present ones at the last look."""
         if self._index is None or self._owner != os.getpid():
-            assert self._generation is not None
             self._index = self._generation.index(self.program, self._limits.query)
             self._owner = os.getpid()
         return self._index
@@ -119,7 +112,6 @@ class Collection:
         if now - self._looked < LOOKS:
             return ""
         self._looked = now
-        assert self._generation is not None
         stamp: Stamp = ()
         try:
             stamp = stamp_of(map(os.stat, self.settings.indexes))
@@ -127,7 +119,9 @@ class Collection:
                 self._bad = None
             if stamp in (self._generation.stamp, self._bad):
                 return ""
-            self._use(self._renewed())
+            generation = self._renewed()
+            self.close()
+            self._use(generation)
         except (Error, OSError) as error:
             if stamp == self._bad:  # they are still missing
                 return ""
@@ -150,12 +144,9 @@ class Collection:
         if self._index is not None and self._owner == os.getpid():
             self._index.close()
         self._index = None
-        if self._generation is not None:
-            self._generation.close()
-            self._generation = None
+        self._generation.close()
 
     def _use(self, generation: Generation) -> None:
-        self.close()
         self._generation = generation
         key = (self.settings, generation.stamp, self._limits)
         self.tag = hashlib.sha256(repr(key).encode()).hexdigest()[:20]

@@ -1,6 +1,5 @@
 """Requests that are refused or fail, with the cause in words."""
-from collections.abc import Sequence
-from urllib.parse import unquote_plus
+from collections.abc import Mapping
 
 from werkzeug.exceptions import HTTPException, MethodNotAllowed, NotFound
 from werkzeug.wrappers import Response
@@ -50,13 +49,12 @@ def printable(text: str) -> str:
     return "".join(each if each.isprintable() else f"%{ord(each):02X}" for each in cut)
 
 
-def program_refusal(name: str, pieces: Sequence[str]) -> Refusal:
-    """Returns what the program has refused, from the pieces of the query."""
+def program_refusal(name: str, given: Mapping[str, str]) -> Refusal:
+    """Returns what the program has refused of the parameters that were given."""
     names, cause = CAUSES.get(name, ((), "the program refuses it"))
-    for parameter, _, value in (piece.partition("=") for piece in pieces):
-        if unquote_plus(parameter) in names:
-            return Refusal(name, unquote_plus(parameter), cause, unquote_plus(value))
-    return Refusal(name, names[0] if names else "", cause)
+    usual = names[0] if names else ""
+    parameter = next((each for each in given if each in names), usual)
+    return Refusal(name, parameter, cause, given.get(parameter, ""))
 
 
 def http_response(error: HTTPException) -> Response:
