@@ -18,7 +18,7 @@ from werkzeug.wrappers import Request, Response
 from . import memento
 from .application import METHODS, WAYBACK_PATHS, Gateway, GatewayRequest, rule
 from .collection import Collection
-from .history import first_moment, quoted, seconds_of
+from .history import first_moment, nearest_of, quoted
 from .parameters import Form, is_number
 from .refusal import Refusal
 
@@ -214,10 +214,8 @@ def _available(
     with contextlib.suppress(NotFound):
         resource = memento.Resource(gateway, request, "", url)
         codes = given.getlist("statuscodes")[:10] or ["200"]
-        found = [resource.history.where("statuscode", code).nearest(wanted) for code in codes]
-        moment = seconds_of(wanted)
-        distances = {abs(seconds_of(each.timestamp) - moment): each for each in filter(None, found)}
-        nearest = distances[min(distances)] if distances else None
+        found = (resource.history.where("statuscode", code).nearest(wanted) for code in codes)
+        nearest = nearest_of(found, wanted)
         if nearest is not None:
             closest = {
                 "status": nearest.statuscode,

@@ -1,6 +1,6 @@
 """The captures of one URL, found by their time without reading all of them."""
 import calendar
-from collections.abc import Callable
+from collections.abc import Callable, Iterable
 from typing import Optional
 from urllib.parse import quote_plus
 
@@ -49,22 +49,14 @@ class History:
         """Returns the first capture after a time."""
         return self._first_from(int(timestamp) + 1)
 
-    def at(self, timestamp: str, original: str = "") -> Optional[Capture]:
-        """Returns the capture at a time: that of this URL, or else the first one."""
-        found = self._dated(int(timestamp), int(timestamp))
-        same = (each for each in found if each.original == original)
-        return next(same, found[0] if found else None)
-
     def nearest(self, timestamp: str, original: str = "") -> Optional[Capture]:
-        """Returns the capture nearest to a time, and of two that are as near the earlier one."""
-        if exact := self.at(timestamp, original):
-            return exact
-        earlier, later = self.before(timestamp), self.after(timestamp)
-        if earlier is None or later is None:
-            return earlier or later
-        back = seconds_of(timestamp) - seconds_of(earlier.timestamp)
-        on = seconds_of(later.timestamp) - seconds_of(timestamp)
-        return earlier if back <= on else later
+        """Returns the capture nearest to a time, and of two that are as near the earlier one.
+
+        Of those at the time, it is that of this URL, or else the first one.
+        """
+        if exact := self._dated(int(timestamp), int(timestamp)):
+            return next((each for each in exact if each.original == original), exact[0])
+        return nearest_of((self.before(timestamp), self.after(timestamp)), timestamp)
 
     def page(self, timestamp: str, most: int) -> tuple[list[Capture], Optional[Capture]]:
         """Returns the first captures from a time on, about `most`, and the one that follows them.
@@ -111,6 +103,14 @@ class History:
             after = before_time(found[0].urlkey, low)
             found = self.ask(f"{self._target}{after}", most)
         return [each for each in found if low <= int(each.timestamp) <= high][:most]
+
+
+def nearest_of(captures: Iterable[Optional[Capture]], timestamp: str) -> Optional[Capture]:
+    """Returns the capture nearest to a time, and of those that are as near the first one."""
+    moment = seconds_of(timestamp)
+    found = [each for each in captures if each is not None]
+    found.sort(key=lambda each: abs(seconds_of(each.timestamp) - moment))
+    return found[0] if found else None
 
 
 def before_time(key: str, timestamp: int) -> str:

@@ -19,6 +19,7 @@ from .application import Gateway, rule
 from .browse import responses
 from .browse.raw_captures import RawCapture
 from .history import History, first_moment, quoted
+from .parameters import is_number
 
 LINK_FORMAT = "application/link-format"
 MOST_MEMENTOS = 5000  # of a page of a TimeMap
@@ -195,7 +196,7 @@ def raw_capture(
     gateway: Gateway, request: Request, collection: str, sent: str, timestamp: str
 ) -> Response:
     """Answers with a capture as it was archived, or sends a client to the nearest one."""
-    if not (timestamp.isascii() and timestamp.isdigit() and len(timestamp) <= 14):
+    if not (is_number(timestamp) and len(timestamp) <= 14):
         raise NotFound()
     resource = Resource(gateway, request, collection, sent)
     capture = resource.history.nearest(first_moment(timestamp), resource.original)

@@ -59,14 +59,11 @@ def program_refusal(name: str, given: Mapping[str, str]) -> Refusal:
 
 def http_response(error: HTTPException) -> Response:
     """Returns the plain response to a path or method that there isn't."""
-    if isinstance(error.response, Response):
-        return error.response
     name, cause = (error.name or "").title().replace(" ", ""), error.description or ""
-    headers = [each for each in error.get_headers() if each[0] not in ("Content-Type", "Allow")]
+    headers = {}
     if isinstance(error, MethodNotAllowed):
-        methods = ", ".join(sorted(error.valid_methods or ()))
-        headers.append(("Allow", methods))
-        cause = f"the methods are {methods}"
+        headers["Allow"] = ", ".join(sorted(error.valid_methods or ()))
+        cause = f"the methods are {headers['Allow']}"
     elif cause == NotFound.description:
         cause = "there is no such path"
     return Response(f"refused {name}: {cause}\n", error.code, headers, content_type=TEXT)

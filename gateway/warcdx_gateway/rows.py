@@ -1,6 +1,7 @@
 """Rows: the values of captures, what is done with them one after another, and their text."""
 import json
 import re
+from collections import Counter
 from collections.abc import Sequence
 from dataclasses import dataclass
 from enum import Enum
@@ -151,13 +152,12 @@ class DuplicateCounter:
     """
 
     def __init__(self) -> None:
-        self._counts: dict[str, int] = {}
+        self._counts: Counter[str] = Counter()
 
     def count(self, rows: list[Row]) -> None:
         for row in rows:
-            count = self._counts.get(row[DIGEST], 0)
-            row[COUNT] = str(count)
-            self._counts[row[DIGEST]] = count + 1
+            row[COUNT] = str(self._counts[row[DIGEST]])
+            self._counts[row[DIGEST]] += 1
 
 
 class Writer:
