@@ -1,8 +1,9 @@
 """Answers: the captures of a plan as pieces of text, each made when the one before was taken."""
-from collections import OrderedDict
-from collections.abc import Callable, Generator, Iterator, Sequence
+import sys
+from collections import Counter, OrderedDict
+from collections.abc import Generator, Iterable, Iterator, Sequence
 from dataclasses import dataclass
-from typing import Any, Optional
+from typing import Optional, TypeVar
 from urllib.parse import quote_plus, unquote_plus
 
 from warcdx import FIELDS
@@ -14,6 +15,7 @@ from .parameters import Form
 from .plan import BLOCK, Order, Plan
 from .refusal import Refusal
 from .rows import (
+    COUNT,
     DIGEST,
     KEY,
     MIME,
@@ -22,7 +24,6 @@ from .rows import (
     STATUS,
     WRITERS,
     Collapser,
-    DuplicateCounter,
     Grouper,
     Output,
     Row,
@@ -38,6 +39,8 @@ MOST_QUERIES = 64  # whose pages are remembered
 MOST_STARTS = 4 << 20  # bytes of the starts of pages that are remembered
 PIECE = 1000  # captures of another order that are written at a time
 ORIGINAL = ("digest", "mimetype", "statuscode", "length", "offset", "filename")
+
+Item = TypeVar("Item")
 
 
 class Selection:
@@ -55,7 +58,7 @@ class Selection:
         """Yields captures, possibly none."""
         kind = Grouper if self._plan.groups else Collapser
         collapser = kind(self._plan.collapses, self._before)
-        for rows in map(self._resolving(), self._lines()):
+        for rows in self._parsed(self._lines()):
             yield collapser.select(self._conditions.select(rows))
         yield collapser.rest()
 
@@ -69,37 +72,21 @@ class Selection:
 
     def between(self, first: int, end: int) -> Iterator[list[Row]]:
         """Yields the captures from a number to before another one, and parses no others if it can."""
-        if first >= end:
-            return
-        groups: Iterator[list[Any]] = self.rows()
-        rows_of: Callable[[list[Any]], list[Row]] = list
-        if not self._has_steps:
-            groups, rows_of = self._lines(), self._resolving()
-        number = 0
-        for found in groups:
-            yield rows_of(found[max(first - number, 0) : max(end - number, 0)])
-            number += len(found)
-            if number >= end:
-                return
+        if self._has_steps:
+            return sliced(self.rows(), first, end)
+        return self._parsed(sliced(self._lines(), first, end))
 
     def _lines(self) -> Iterator[list[bytes]]:
         if self._plan.output is Output.CDXJ:
             return self._source.lines(f"{self._query}&output=cdxj")
         return self._source.row_lines(f"{self._query}&fl={','.join(FIELDS)}")
 
-    def _resolving(self) -> Callable[[list[bytes]], list[Row]]:
-        """Returns what makes captures of lines, with the originals of revisits if they are wanted."""
-        resolver = Resolver(self._source) if self._plan.resolves else None
-
-        def rows_of(lines: list[bytes]) -> list[Row]:
-            if self._plan.output is Output.CDXJ:
-                return [row_of_line(line.decode()) for line in lines]
-            rows = list(map(row_of_values, values_of(lines)))
-            if resolver is not None:
-                resolver.resolve(rows)
-            return rows
-
-        return rows_of
+    def _parsed(self, groups: Iterator[list[bytes]]) -> Iterator[list[Row]]:
+        """Yields captures of lines, with the originals of revisits if they are wanted."""
+        if self._plan.output is Output.CDXJ:
+            return ([row_of_line(line.decode()) for line in lines] for lines in groups)
+        found = (list(map(row_of_values, values_of(lines))) for lines in groups)
+        return map(Resolver(self._source).resolved, found) if self._plan.resolves else found
 
     def _capture_at(self, key: str) -> Optional[Row]:
         """Returns the capture at the place of a resume key."""
@@ -130,13 +117,14 @@ class Resolver:
     def _nothing() -> Generator[list[list[str]], None, None]:
         yield from ()
 
-    def resolve(self, rows: list[Row]) -> None:
+    def resolved(self, rows: list[Row]) -> list[Row]:
         for row in rows:
             if row[MIME] == REVISIT and row[DIGEST] != "-":
                 original = self._original(row[KEY], row[DIGEST])
                 if original is not None:
                     _, row[MIME], row[STATUS], *place = original
                     row[PLACES["orig.length"] :] = place
+        return rows
 
     def _original(self, key: str, digest: str) -> Optional[list[str]]:
         if key != self._key:
@@ -257,15 +245,14 @@ def passed(selection: Selection, size: int) -> tuple[bool, Optional[str]]:
 
 def forward(plan: Plan, selection: Selection, limit: Optional[int]) -> Iterator[bytes]:
     """Yields captures in the order of the index."""
-    writer, counter = WRITERS[plan.output](plan.fields), DuplicateCounter()
+    writer = WRITERS[plan.output](plan.fields)
     left, has_more, last = limit, False, None
-    for rows in skipped(selection.rows(), plan.skip):
+    groups = sliced(selection.rows(), plan.skip)
+    for rows in counted(groups) if plan.counts_duplicates else groups:
         if left is not None:
             has_more = len(rows) > left
             rows = rows[:left]
             left -= len(rows)
-        if plan.counts_duplicates:
-            counter.count(rows)
         last = rows[-1] if rows else last
         yield writer.rows(rows) if rows else b""
         # To show a resume key, a capture that follows has to be found.
@@ -275,11 +262,26 @@ def forward(plan: Plan, selection: Selection, limit: Optional[int]) -> Iterator[
     yield writer.end(resume_key(last) if is_shown and last is not None else None)
 
 
-def skipped(groups: Iterator[list[Row]], count: int) -> Iterator[list[Row]]:
-    """Yields captures without the first ones."""
+def sliced(
+    groups: Iterable[list[Item]], first: int, end: int = sys.maxsize
+) -> Iterator[list[Item]]:
+    """Yields what has the numbers from `first` to before `end` in the groups."""
+    number = 0
+    for found in groups if first < end else ():
+        yield found[max(first - number, 0) : end - number]
+        number += len(found)
+        if number >= end:
+            return
+
+
+def counted(groups: Iterable[list[Row]]) -> Iterator[list[Row]]:
+    """Counts for each capture the captures before it that have its digest. It holds each digest."""
+    counts: Counter[str] = Counter()
     for rows in groups:
-        yield rows[count:]
-        count -= min(count, len(rows))
+        for row in rows:
+            row[COUNT] = str(counts[row[DIGEST]])
+            counts[row[DIGEST]] += 1
+        yield rows
 
 
 def or_nothing(pieces: Iterator[bytes]) -> Iterator[bytes]:
@@ -324,16 +326,14 @@ def chosen(plan: Plan, groups: Iterator[list[str]], most: int) -> Sequence[int]:
 
 def ordered(plan: Plan, selection: Selection, numbers: Sequence[int]) -> Iterator[bytes]:
     """Yields the captures with these numbers in the index, in the order of the plan."""
-    writer, counter = WRITERS[plan.output](plan.fields), DuplicateCounter()
+    writer = WRITERS[plan.output](plan.fields)
     first, last = min(numbers, default=0), max(numbers, default=-1)
     groups = selection.between(first, last + 1)
     if plan.order not in (Order.FORWARD, Order.LAST):
         found = [row for rows in groups for row in rows]
         held = [found[number - first] for number in numbers]
         groups = (held[place : place + PIECE] for place in range(0, len(held), PIECE))
-    for rows in groups:
-        if plan.counts_duplicates:
-            counter.count(rows)
+    for rows in counted(groups) if plan.counts_duplicates else groups:
         yield writer.rows(rows) if rows else b""
     yield writer.end(None)
 

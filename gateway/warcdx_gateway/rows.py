@@ -1,7 +1,6 @@
 """Rows: the values of captures, what is done with them one after another, and their text."""
 import json
 import re
-from collections import Counter
 from collections.abc import Sequence
 from dataclasses import dataclass
 from enum import Enum
@@ -143,21 +142,6 @@ class Grouper(Collapser):
 
     def rest(self) -> list[Row]:
         return [] if self._first is None else [self._first]
-
-
-class DuplicateCounter:
-    """Counts for each capture the captures before it in the answer that have its digest.
-
-    It holds each digest.
-    """
-
-    def __init__(self) -> None:
-        self._counts: Counter[str] = Counter()
-
-    def count(self, rows: list[Row]) -> None:
-        for row in rows:
-            row[COUNT] = str(self._counts[row[DIGEST]])
-            self._counts[row[DIGEST]] += 1
 
 
 class Writer:
