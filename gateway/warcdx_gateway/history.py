@@ -106,10 +106,10 @@ class History:
 
 
 def nearest_of(captures: Iterable[Optional[Capture]], timestamp: str) -> Optional[Capture]:
-    """Returns the capture nearest to a time, and of those that are as near the first one."""
+    """Returns the capture nearest to a time, and of two that are as near the earlier one."""
     moment = seconds_of(timestamp)
     found = [each for each in captures if each is not None]
-    found.sort(key=lambda each: abs(seconds_of(each.timestamp) - moment))
+    found.sort(key=lambda each: (abs(seconds_of(each.timestamp) - moment), each.timestamp))
     return found[0] if found else None
 
 
