@@ -101,7 +101,8 @@ def condition_of(value: str, test: Test, is_negated: bool, parameter: str) -> Co
     if not colon or field not in FIELDS:
         cause = f"it is FIELD:TEXT, with one of the fields {FIELD_LIST}"
         raise Refusal("BadFilter", parameter, cause, value)
-    return Condition(field, test, text, is_negated, parameter)
+    pattern = compiled(text) if test in (Test.MATCHES, Test.BEGINS) else None
+    return Condition(field, test, text, is_negated, parameter, pattern)
 
 
 def collapse_of(value: str) -> Collapse:
@@ -165,8 +166,7 @@ class Given:
             self.add_condition(condition_of(value, *TESTS[name], name), piece)
 
     def add_filter(self, condition: Condition) -> None:
-        if condition.is_pattern:
-            compiled(condition)
+        if condition.pattern is not None:
             self.add_condition(condition, "")
         else:
             name = "is" if condition.test is Test.EQUALS else "has"

@@ -130,7 +130,7 @@ class Plan:
     @property
     def is_exact(self) -> bool:
         """Whether it is for the captures of one key, as they come."""
-        is_costly = self.resolves or any(each.is_pattern for each in self.conditions)
+        is_costly = self.resolves or any(each.pattern is not None for each in self.conditions)
         return self.is_one_key and not is_costly and self.order is Order.FORWARD
 
     @property
