@@ -8,6 +8,7 @@ import socket
 import struct
 import time
 from collections.abc import Callable, Generator, Iterable, Iterator, Mapping
+from dataclasses import dataclass
 from typing import Any, Optional
 from urllib.parse import urlsplit
 from wsgiref.types import StartResponse, WSGIApplication, WSGIEnvironment
@@ -234,29 +235,27 @@ class Gateway:
             yield "Vary", "Origin"
 
 
+@dataclass(eq=False)
 class Sent:
     """An answer as gunicorn sends it. One that fails is broken off, so that it is seen."""
 
-    def __init__(
-        self, gateway: Gateway, environ: dict[str, Any], start: float, pieces: Iterable[bytes]
-    ) -> None:
-        self._gateway = gateway
-        self._environ = environ
-        self._start = start
-        self._pieces = pieces
-        self._is_whole = False
+    gateway: Gateway
+    environ: WSGIEnvironment
+    start: float
+    pieces: Iterable[bytes]
+    is_whole: bool = False
 
     def __iter__(self) -> Iterator[bytes]:
         try:
-            for piece in self._pieces:
-                self._gateway.beat()
-                self._gateway.metrics.bytes.inc(len(piece))
+            for piece in self.pieces:
+                self.gateway.beat()
+                self.gateway.metrics.bytes.inc(len(piece))
                 yield piece
-            self._is_whole = True
+            self.is_whole = True
         except (ConnectionError, GeneratorExit):
             raise  # the client has left
         except BaseException as error:
-            self._is_whole = True  # it is counted here
+            self.is_whole = True  # it is counted here
             self._break(error)
             if not isinstance(error, Exception):
                 raise
@@ -264,18 +263,18 @@ class Sent:
             raise BrokenPipeError(errno.EPIPE, "an answer was broken off") from None
 
     def close(self) -> None:
-        if not self._is_whole:
-            self._gateway.metrics.broken.labels("client left").inc()
-        close = getattr(self._pieces, "close", None)
+        if not self.is_whole:
+            self.gateway.metrics.broken.labels("client left").inc()
+        close = getattr(self.pieces, "close", None)
         if close is not None:
             close()
-        self._gateway.metrics.seconds.observe(time.monotonic() - self._start)
+        self.gateway.metrics.seconds.observe(time.monotonic() - self.start)
 
     def _break(self, error: BaseException) -> None:
-        self._gateway.metrics.broken.labels(type(error).__name__).inc()
+        self.gateway.metrics.broken.labels(type(error).__name__).inc()
         say(f"an answer was broken off: {text_of(error)}")
-        found = self._environ.get("gunicorn.socket")
-        if found is not None and self._environ.get("SERVER_PROTOCOL") == "HTTP/1.0":
+        found = self.environ.get("gunicorn.socket")
+        if found is not None and self.environ.get("SERVER_PROTOCOL") == "HTTP/1.0":
             # Without chunks, the end of the connection would be that of the answer.
             found.setsockopt(socket.SOL_SOCKET, socket.SO_LINGER, struct.pack("ii", 1, 0))
 

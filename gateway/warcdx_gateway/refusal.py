@@ -1,5 +1,6 @@
 """Requests that are refused or fail, with the cause in words."""
 from collections.abc import Mapping
+from dataclasses import dataclass
 
 from werkzeug.exceptions import HTTPException, MethodNotAllowed, NotFound
 from werkzeug.wrappers import Response
@@ -20,21 +21,18 @@ CAUSES: dict[str, tuple[tuple[str, ...], str]] = {
 }
 
 
+@dataclass(eq=False)
 class Refusal(Exception):
     """A query is refused.
 
     The name is that of docs/QUERY.md if the program could refuse the query for it.
     """
 
-    def __init__(
-        self, name: str, parameter: str, cause: str, value: str = "", status: int = 400
-    ) -> None:
-        super().__init__(name, parameter, cause, value)
-        self.name = name
-        self.parameter = parameter
-        self.cause = cause
-        self.value = value
-        self.status = status
+    name: str
+    parameter: str
+    cause: str
+    value: str = ""
+    status: int = 400
 
     def __str__(self) -> str:
         """Returns one line: the name, the parameter with its value, and the cause."""
