@@ -4,12 +4,11 @@ import functools
 import re
 from collections.abc import Callable
 from datetime import datetime, timezone
-from email.utils import parsedate_to_datetime
 from typing import Optional
 from urllib.parse import quote, unquote, urljoin
 
 from werkzeug.exceptions import NotFound
-from werkzeug.http import http_date
+from werkzeug.http import http_date, parse_date
 from werkzeug.routing import Rule
 from werkzeug.wrappers import Request, Response
 
@@ -240,13 +239,10 @@ def redirect(url: str, headers: dict[str, str]) -> Response:
 def timestamp_of(date: str) -> Optional[str]:
     """Returns the timestamp of a date of Accept-Datetime, or None (RFC 7089, section 2.1.1)."""
     found = _DATE.fullmatch(date.strip())
-    if not found:
+    moment = parse_date(found[0]) if found else None
+    if found is None or moment is None or http_date(moment)[3:] != found[2]:
         return None
-    try:
-        moment = parsedate_to_datetime(date.strip())
-    except ValueError:
-        return None
-    return f"{moment:%Y%m%d%H%M%S}".rjust(14, "0") if http_date(moment)[3:] == found[2] else None
+    return f"{moment:%Y%m%d%H%M%S}".rjust(14, "0")
 
 
 def date_of(capture: Capture) -> str:
