@@ -100,7 +100,7 @@ def _time_map_in_json(
 
 def _with(query: str, name: str, value: str) -> str:
     """Returns a query with a value of a parameter, if it has none."""
-    return query if re.search(f"(?:^|&){name}=.", query) else f"{query}&{name}={value}"
+    return query if re.search(f"(?:^|&){name}=[^&]", query) else f"{query}&{name}={value}"
 
 
 def collinfo(gateway: Gateway, request: Request) -> Response:
@@ -185,10 +185,10 @@ def available(gateway: Gateway, request: GatewayRequest) -> Response:
     A POST has a query on each line, and `results` in the order of the lines.
     """
     if request.method == "POST":
-        lines = request.get_data(as_text=True).split("\n")[: MOST_ASKED + 1]
+        lines = [line for line in request.get_data(as_text=True).split("\n") if line.strip()]
         if len(lines) > MOST_ASKED:
             raise Refusal("TooMany", "url", f"a request has at most {MOST_ASKED} lines")
-        asked = [MultiDict(parse_qsl(line.strip())) for line in lines if line.strip()]
+        asked = [MultiDict(parse_qsl(line.strip())) for line in lines]
         with gateway.slot():
             found: object = {"results": [_available(gateway, request, each) for each in asked]}
     else:
