@@ -187,9 +187,7 @@ class Answers:
             return
         yield from ordered(plan, selection, chosen(plan, selection.timestamps(), held))
 
-    def _starts_of(
-        self, plan: Plan, size: int, source: Source, tag: str, most: int
-    ) -> PageStarts:
+    def _starts_of(self, plan: Plan, size: int, source: Source, tag: str, most: int) -> PageStarts:
         """Returns where pages begin, up to `most`. The query asked longest ago is forgotten."""
         name = (tag, plan.selection)
         starts = self._starts.pop(name, None) or PageStarts([])

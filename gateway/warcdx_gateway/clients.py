@@ -129,9 +129,7 @@ def outback(gateway: Gateway, request: GatewayRequest, collection: str) -> WSGIA
     return gateway.answer(request, found, Form.WAYBACK, query)
 
 
-def xml_query(
-    gateway: Gateway, collection: Collection, sent: "MultiDict[str, str]"
-) -> Response:
+def xml_query(gateway: Gateway, collection: Collection, sent: "MultiDict[str, str]") -> Response:
     """Answers a query of OpenWayback: a `type:`, urlquery or prefixquery, and `url:` of a URL."""
     pairs = (each.partition(":") for each in sent["q"].split())
     given = {name: unquote_plus(value) for name, _, value in pairs}
