@@ -1,4 +1,5 @@
 """Answers: the captures of a plan as pieces of text, each made when the one before was taken."""
+import itertools
 import sys
 from collections import Counter, OrderedDict
 from collections.abc import Generator, Iterable, Iterator, Sequence
@@ -328,12 +329,26 @@ def ordered(plan: Plan, selection: Selection, numbers: Sequence[int]) -> Iterato
     first, last = min(numbers, default=0), max(numbers, default=-1)
     groups = selection.between(first, last + 1)
     if plan.order not in (Order.FORWARD, Order.LAST):
-        found = [row for rows in groups for row in rows]
-        held = [found[number - first] for number in numbers]
-        groups = (held[place : place + PIECE] for place in range(0, len(held), PIECE))
+        groups = arranged(groups, numbers, first)
     for rows in counted(groups) if plan.counts_duplicates else groups:
         yield writer.rows(rows) if rows else b""
     yield writer.end(None)
+
+
+def arranged(
+    groups: Iterable[list[Row]], numbers: Sequence[int], first: int
+) -> Iterator[list[Row]]:
+    """Yields the captures with these numbers, in the order of these. It holds no others.
+
+    `groups` are captures from the number `first` on.
+    """
+    places = {number: place for place, number in enumerate(numbers)}
+    held: list[Row] = [[]] * len(places)
+    for number, row in enumerate(itertools.chain.from_iterable(groups), first):
+        if number in places:
+            held[places[number]] = row
+    for place in range(0, len(held), PIECE):
+        yield held[place : place + PIECE]
 
 
 def with_key(query: str, key: Optional[str]) -> str:

@@ -138,8 +138,8 @@ class Gateway:
             source = self.source(collection, request.environ.get("gunicorn.socket"))
         headers = collection.validators()
         if is_unchanged(request, headers):
-            source.check()
-            collection.index.text(plan.plain_query(plan.resume_key, 1))  # a query that is refused has no 304
+            source.check()  # a query that is refused has no 304
+            collection.index.text(plan.plain_query(plan.resume_key, 1))
             return Response(status=304, headers=headers)
 
         def pieces() -> Generator[bytes, None, None]:
