@@ -193,7 +193,6 @@ def gateway_of(test: unittest.TestCase, settings: Settings) -> Gateway:
     collections = {each.name: Collection(each, settings) for each in settings.collections}
     for each in collections.values():
         test.addCleanup(each.close)
-        each.open()
     shares = Shares(pathlib.Path(folder.name), workers=8, wide=4)
     return Gateway(settings, collections, shares, metrics())
 

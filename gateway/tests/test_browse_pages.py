@@ -10,11 +10,10 @@ from werkzeug.test import Client
 from . import browse_support as support
 from .browse_support import Archives, digest_of, page, record, response, revisit, text_of
 
-from warcdx_gateway.answers import Source
 from warcdx_gateway.browse import counting, lists
 from warcdx_gateway.browse.search_page import caption
 from warcdx_gateway.browse.searching import Search
-from warcdx_gateway.shared import Share
+from warcdx_gateway.collection import Source
 
 HOME = "http://example.com/"
 FIRST = page("Home", "Open from 9 to 17.", "The same.")
@@ -356,7 +355,7 @@ class Reading(support.Pages):
         return self.pair("a.warc", self.offset_of(number))
 
     def source(self) -> Source:
-        return Source(self.gateway.main.index, self.gateway.clock(Share.WIDE))
+        return self.gateway.source(self.gateway.main)
 
 if __name__ == "__main__":
     unittest.main()

@@ -2,6 +2,7 @@
 import json
 import time
 import unittest
+import urllib.error
 import urllib.request
 from xml.etree import ElementTree
 
@@ -182,6 +183,25 @@ class Paths(Shared):
         self.assertEqual(["1", "2"], [each["tag"] for each in results])
         closest = [each["archived_snapshots"]["closest"] for each in results]
         self.assertEqual(["200", "404"], [each["status"] for each in closest])
+
+    def test_availability_of_many(self) -> None:
+        for count, wanted in ((50, 200), (51, 400)):
+            body = b"url=example.net\n" * count
+            asked = urllib.request.Request(f"{self.server.url}/wayback/available", body)
+            try:
+                with urllib.request.urlopen(asked) as answer:
+                    self.assertEqual(count, len(json.load(answer)["results"]))
+            except urllib.error.HTTPError as error:
+                with error:
+                    self.assertEqual(wanted, error.code)
+                    self.assertTrue(error.read().startswith(b"refused TooMany"))
+
+    def test_an_empty_parameter_is_as_none(self) -> None:
+        query = "url=example.com&limit=1"
+        for path, name in (("/web/timemap/json", "output"), ("/main", "fl")):
+            wanted = self.server.ask(f"{path}?{query}").text
+            for given in (f"{name}=&{query}", f"{query}&{name}="):
+                self.assertEqual(wanted, self.server.ask(f"{path}?{given}").text, given)
 
     def test_waybackpack_and_edgi_download(self) -> None:
         capture = "/web/20150101000000id_/http://example.com/"

@@ -8,7 +8,7 @@ from .support import ROOT as _  # noqa: F401, whose import finds the packages
 
 from warcdx import FIELDS
 from warcdx_gateway import rows
-from warcdx_gateway.answers import or_nothing, skipped
+from warcdx_gateway.answers import or_nothing, sliced
 from warcdx_gateway.refusal import Refusal
 from warcdx_gateway.rows import DIGEST, KEY, STAMP, Collapse, Grouper, row_of_values
 
@@ -59,12 +59,13 @@ class Pieces(unittest.TestCase):
                 pieces = iter([text[at : at + size] for at in range(0, len(text), size)])
                 self.assertEqual(wanted, b"".join(or_nothing(pieces)))
 
-    def test_the_first_captures_are_skipped(self) -> None:
+    def test_captures_are_those_of_their_numbers(self) -> None:
         groups = [[["1"], ["2"]], [], [["3"]], [["4"], ["5"]]]
-        for count in range(7):
-            wanted = [row for group in groups for row in group][count:]
-            found = [row for group in skipped(iter(groups), count) for row in group]
-            self.assertEqual(wanted, found)
+        rows = [row for group in groups for row in group]
+        for first in range(7):
+            for ends in ((), *((end,) for end in range(7))):
+                found = [row for group in sliced(iter(groups), first, *ends) for row in group]
+                self.assertEqual(rows[first : ends[0] if ends else None], found)
 
 
 if __name__ == "__main__":

@@ -306,6 +306,12 @@ class Starts(Case):
                 '[collections.a]\nindexes = ["a"]\nindex = 1',
                 "unknown setting 'collections.a.index'",
             ),
+            (f"{good}name = 'b'", "unknown setting 'collections.a.name'"),
+            (f"{good}title = 1", "'collections.a.title' has to be of type str"),
+            (f"{good}archives = [1]", "'collections.a.archives' has to be a list of texts"),
+            (f"{good}form = 'cdx'", "'collections.a.form' has to be \"wayback\""),
+            ("limits = 1\n" + good, "'limits' has to be a table"),
+            ("[collections]\na = 1", "'collections.a' has to be a table"),
         ):
             with self.subTest(text):
                 self.assertIn(wanted, self.fails(self.settings(text)))

@@ -13,7 +13,7 @@ from .browse_support import Archives, digest_of, record, response, revisit
 from warcdx import Capture
 from warcdx_gateway import history as histories
 from warcdx_gateway.browse.raw_captures import archived_fields
-from warcdx_gateway.history import History
+from warcdx_gateway.history import History, nearest_of
 from warcdx_gateway.memento import timestamp_of
 
 ORIGINAL = "http://a.example.org/"
@@ -95,6 +95,17 @@ class Histories(unittest.TestCase):
                         self.assertEqual(before, time_of(history.before(f"{moment:014}")))
                         self.assertEqual(after, time_of(history.after(f"{moment:014}")))
                 self.assertLess(asked, 600)
+
+    def test_the_nearest_is_the_earlier_of_two(self) -> None:
+        early, late, far = map(capture, (20160101000010, 20160101000030, 20160102000000))
+        for given, wanted in (
+            ((early, late), early),
+            ((late, None, early), early),
+            ((far, late), late),
+            ((None, far), far),
+            ((None,), None),
+        ):
+            self.assertEqual(wanted, nearest_of(given, "20160101000020"))
 
 
 def time_of(found: Optional[Capture]) -> Optional[int]:

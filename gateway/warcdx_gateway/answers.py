@@ -1,35 +1,36 @@
 """Answers: the captures of a plan as pieces of text, each made when the one before was taken."""
-import json
-import time
-from collections import OrderedDict
-from collections.abc import Callable, Generator, Iterator, Sequence
+import itertools
+import sys
+from collections import Counter, OrderedDict
+from collections.abc import Generator, Iterable, Iterator, Sequence
 from dataclasses import dataclass
-from typing import Any, Optional
+from typing import Optional, TypeVar
 from urllib.parse import quote_plus, unquote_plus
 
-from warcdx import FIELDS, Index
+from warcdx import FIELDS
 
+from .collection import Source, values_of
 from .conditions import Conditions
-from .orders import Window, batched, sorted_rows
+from .history import first_moment, seconds_of
 from .parameters import Form
-from .plan import Order, Plan
+from .plan import BLOCK, Order, Plan
 from .refusal import Refusal
 from .rows import (
+    COUNT,
     DIGEST,
     KEY,
     MIME,
     PLACES,
     STAMP,
     STATUS,
+    WRITERS,
     Collapser,
-    DuplicateCounter,
     Grouper,
     Output,
     Row,
     resume_key,
     row_of_line,
     row_of_values,
-    writer_of,
 )
 from .settings import Limits
 
@@ -37,63 +38,10 @@ REVISIT = "warc/revisit"
 MOST_PAGES = 10_000  # of a query
 MOST_QUERIES = 64  # whose pages are remembered
 MOST_STARTS = 4 << 20  # bytes of the starts of pages that are remembered
+PIECE = 1000  # captures of another order that are written at a time
 ORIGINAL = ("digest", "mimetype", "statuscode", "length", "offset", "filename")
 
-
-class Clock:
-    """The time of an answer, in seconds. The master learns by `beat` that it goes on."""
-
-    def __init__(self, seconds: float, reply: float, beat: Callable[[], None]) -> None:
-        self._end = time.monotonic() + seconds
-        self._reply = reply
-        self._beat = beat
-
-    def check(self, index: Index) -> None:
-        """Bounds the next reply of an index. Raises Refusal if the time is over."""
-        left = self._end - time.monotonic()
-        if left <= 0:
-            cause = "the answer takes too long; restrict the query"
-            raise Refusal("TooSlow", "", cause, status=503)
-        index.seconds = min(self._reply, left)
-        self._beat()
-
-
-class Source:
-    """Asks an index for the captures of an answer, each time by one query of the program."""
-
-    def __init__(self, index: Index, clock: Clock) -> None:
-        self._index = index
-        self._clock = clock
-
-    def pieces(self, query: str) -> Iterator[bytes]:
-        """Yields the page of a query as the program writes it."""
-        self._clock.check(self._index)
-        for piece in self._index.stream(query):
-            yield piece
-            self._clock.check(self._index)
-
-    def lines(self, query: str) -> Iterator[list[bytes]]:
-        """Yields the lines of a page, each time those that a piece has ended."""
-        begun: list[bytes] = []
-        for piece in self.pieces(query):
-            first, *others = piece.split(b"\n")
-            begun.append(first)
-            if others:
-                yield [b"".join(begun), *others[:-1]]
-                begun = others[-1:]
-        # A page ends with a line feed.
-
-    def values(self, query: str, fields: Sequence[str]) -> Generator[list[list[str]], None, None]:
-        """Yields the values of these fields of each capture."""
-        for lines in self.row_lines(f"{query}&fl={','.join(fields)}"):
-            yield values_of(lines)
-
-    def row_lines(self, query: str) -> Iterator[list[bytes]]:
-        """Yields the lines of the captures in `output=json`."""
-        names = 1
-        for lines in self.lines(f"{query}&output=json"):
-            yield lines[names:]
-            names = 0
+Item = TypeVar("Item")
 
 
 class Selection:
@@ -111,7 +59,7 @@ class Selection:
         """Yields captures, possibly none."""
         kind = Grouper if self._plan.groups else Collapser
         collapser = kind(self._plan.collapses, self._before)
-        for rows in map(self._resolving(), self._lines()):
+        for rows in self._parsed(self._lines()):
             yield collapser.select(self._conditions.select(rows))
         yield collapser.rest()
 
@@ -125,37 +73,21 @@ class Selection:
 
     def between(self, first: int, end: int) -> Iterator[list[Row]]:
         """Yields the captures from a number to before another one, and parses no others if it can."""
-        if first >= end:
-            return
-        number, rows_of = 0, self._resolving()
-        groups: Iterator[list[Any]] = self.rows()
-        if not self._has_steps:
-            groups = self._lines()
-        for found in groups:
-            shown = found[max(first - number, 0) : max(end - number, 0)]
-            yield shown if self._has_steps else rows_of(shown)
-            number += len(found)
-            if number >= end:
-                return
+        if self._has_steps:
+            return sliced(self.rows(), first, end)
+        return self._parsed(sliced(self._lines(), first, end))
 
     def _lines(self) -> Iterator[list[bytes]]:
         if self._plan.output is Output.CDXJ:
             return self._source.lines(f"{self._query}&output=cdxj")
         return self._source.row_lines(f"{self._query}&fl={','.join(FIELDS)}")
 
-    def _resolving(self) -> Callable[[list[bytes]], list[Row]]:
-        """Returns what makes captures of lines, with the originals of revisits if they are wanted."""
-        resolver = Resolver(self._source) if self._plan.resolves else None
-
-        def rows_of(lines: list[bytes]) -> list[Row]:
-            if self._plan.output is Output.CDXJ:
-                return [row_of_line(line.decode()) for line in lines]
-            rows = list(map(row_of_values, values_of(lines)))
-            if resolver is not None:
-                resolver.resolve(rows)
-            return rows
-
-        return rows_of
+    def _parsed(self, groups: Iterator[list[bytes]]) -> Iterator[list[Row]]:
+        """Yields captures of lines, with the originals of revisits if they are wanted."""
+        if self._plan.output is Output.CDXJ:
+            return ([row_of_line(line.decode()) for line in lines] for lines in groups)
+        found = (list(map(row_of_values, values_of(lines))) for lines in groups)
+        return map(Resolver(self._source).resolved, found) if self._plan.resolves else found
 
     def _capture_at(self, key: str) -> Optional[Row]:
         """Returns the capture at the place of a resume key."""
@@ -186,13 +118,14 @@ class Resolver:
     def _nothing() -> Generator[list[list[str]], None, None]:
         yield from ()
 
-    def resolve(self, rows: list[Row]) -> None:
+    def resolved(self, rows: list[Row]) -> list[Row]:
         for row in rows:
             if row[MIME] == REVISIT and row[DIGEST] != "-":
                 original = self._original(row[KEY], row[DIGEST])
                 if original is not None:
                     _, row[MIME], row[STATUS], *place = original
                     row[PLACES["orig.length"] :] = place
+        return rows
 
     def _original(self, key: str, digest: str) -> Optional[list[str]]:
         if key != self._key:
@@ -224,95 +157,77 @@ class Answers:
         self._limits = limits
         self._starts: OrderedDict[tuple[str, str], PageStarts] = OrderedDict()
 
-    def pieces(self, plan: Plan, index: Index, tag: str, clock: Clock) -> Iterator[bytes]:
+    def pieces(self, plan: Plan, source: Source, tag: str) -> Iterator[bytes]:
         """Yields the pieces of an answer, some of which are empty.
 
         `tag` is that of the collection. Raises Refusal, or an Error of the package.
         """
-        source = Source(index, clock)
-        if plan.counts_pages:
-            yield from self._page_count(plan, source, tag)
-            return
-        key, limit = plan.resume_key, plan.limit
-        if plan.page is not None:
-            limit = plan.page.size if limit is None else min(limit, plan.page.size)
-            if plan.page.number > 0:
-                key = self._start_of_page(plan, source, tag)
-                if key is None:
-                    yield writer_of(plan.output, plan.fields).end(None)
+        key, limit, page = plan.resume_key, plan.limit, plan.page
+        if page is not None:
+            limit = min(limit or page.size, page.size)
+            if plan.counts_pages:
+                starts = self._starts_of(plan, page.size, source, tag, MOST_PAGES + 1)
+                yield page_count(plan, page.size // BLOCK, starts.count)
+                return
+            if page.number > 0:
+                starts = self._starts_of(plan, page.size, source, tag, page.number)
+                if page.number > len(starts.keys):
+                    yield WRITERS[plan.output](plan.fields).end(None)
                     return
+                key = starts.keys[page.number - 1]
         if plan.is_plain:
             yield from source.pieces(plan.plain_query(key, limit))
             return
-        self._check_held(plan, limit)
-        selection = Selection(plan, source, self._limits, key)
-        if plan.order is Order.FORWARD and (limit is not None or not plan.counts_duplicates):
-            yield from forward(plan, selection, limit)
-            return
-        window = Window(plan, self._limits.held)
-        for stamps in selection.timestamps():
-            if window.add(stamps):
-                break
-        window.close()
-        yield from ordered(plan, selection, window)
-
-    def _check_held(self, plan: Plan, limit: Optional[int]) -> None:
         held = self._limits.held
         if plan.counts_duplicates and limit is not None and limit > held:
             cause = f"it is for at most {held} captures; this may give {limit}"
             raise Refusal("BadLimit", "showDupeCount", cause)
+        selection = Selection(plan, source, self._limits, key)
+        if plan.order is Order.FORWARD and (limit is not None or not plan.counts_duplicates):
+            yield from forward(plan, selection, limit)
+            return
+        yield from ordered(plan, selection, chosen(plan, selection.timestamps(), held))
 
-    def _page_count(self, plan: Plan, source: Source, tag: str) -> Iterator[bytes]:
-        """Yields the number of pages as the Internet Archive writes it, or as pywb does."""
-        assert plan.page is not None
-        starts = self._known_starts(plan, tag)
-        while starts.count is None:
-            self._find_start(starts, plan, source)
-        count, blocks = starts.count, plan.page.size // 3000
-        if plan.form is Form.WAYBACK:
-            yield f"{count}\n".encode()
-        else:
-            sizes = f'"pageSize": {blocks}, "blocks": {count * blocks}'
-            yield f'{{"pages": {count}, {sizes}}}\n'.encode()
-
-    def _start_of_page(self, plan: Plan, source: Source, tag: str) -> Optional[str]:
-        """Returns the resume key with which a page begins, or None if there is no such page."""
-        assert plan.page is not None
-        starts, number = self._known_starts(plan, tag), plan.page.number
-        while len(starts.keys) < number and starts.count is None:
-            self._find_start(starts, plan, source)
-        return starts.keys[number - 1] if number <= len(starts.keys) else None
-
-    def _known_starts(self, plan: Plan, tag: str) -> PageStarts:
-        """Returns what is remembered of a query. Those asked longest ago are forgotten."""
+    def _starts_of(self, plan: Plan, size: int, source: Source, tag: str, most: int) -> PageStarts:
+        """Returns where pages begin, up to `most`. The query asked longest ago is forgotten."""
         name = (tag, plan.selection)
-        found = self._starts.pop(name, None) or PageStarts([])
+        starts = self._starts.pop(name, None) or PageStarts([])
         while self._starts and (len(self._starts) >= MOST_QUERIES or self._size() > MOST_STARTS):
             self._starts.popitem(last=False)
-        self._starts[name] = found
-        return found
+        self._starts[name] = starts
+        while starts.count is None and len(starts.keys) < most:
+            self._find_start(starts, plan, size, source)
+        return starts
 
     def _size(self) -> int:
         return sum(len(key) for each in self._starts.values() for key in each.keys)
 
-    def _find_start(self, starts: PageStarts, plan: Plan, source: Source) -> None:
+    def _find_start(self, starts: PageStarts, plan: Plan, size: int, source: Source) -> None:
         """Finds the start of one more page, or the number of pages."""
-        assert plan.page is not None
         if len(starts.keys) == MOST_PAGES:
-            cause = f"a query has at most {MOST_PAGES} pages; follow resume keys, or give a larger pageSize"
-            raise Refusal("BadPage", "page", cause)
+            cause = f"a query has at most {MOST_PAGES} pages; follow resume keys, or give a larger"
+            raise Refusal("BadPage", "page", f"{cause} pageSize")
         last = starts.keys[-1] if starts.keys else None
         if plan.conditions or plan.collapses:
-            has_rows, key = passed(Selection(plan, source, self._limits, last), plan.page.size)
+            has_rows, key = passed(Selection(plan, source, self._limits, last), size)
         else:
-            shown = f"fl=offset&limit={plan.page.size}&showResumeKey=true"
-            lines = [line for each in source.lines(f"{with_key(plan.selected, last)}&{shown}") for line in each]
+            query = f"{with_key(plan.selected, last)}&fl=offset&limit={size}&showResumeKey=true"
+            lines = [line for each in source.lines(query) for line in each]
             has_rows = bool(lines)
             key = lines[-1].decode() if lines[-2:-1] == [b""] else None
         if key is None:
             starts.count = len(starts.keys) + has_rows
         else:
             starts.keys.append(key)
+
+
+def page_count(plan: Plan, blocks: int, count: Optional[int]) -> bytes:
+    """Returns the number of pages as the Internet Archive writes it, or as pywb does."""
+    assert count is not None
+    if plan.form is Form.WAYBACK:
+        return f"{count}\n".encode()
+    sizes = f'"pageSize": {blocks}, "blocks": {count * blocks}'
+    return f'{{"pages": {count}, {sizes}}}\n'.encode()
 
 
 def passed(selection: Selection, size: int) -> tuple[bool, Optional[str]]:
@@ -329,15 +244,14 @@ def passed(selection: Selection, size: int) -> tuple[bool, Optional[str]]:
 
 def forward(plan: Plan, selection: Selection, limit: Optional[int]) -> Iterator[bytes]:
     """Yields captures in the order of the index."""
-    writer, counter = writer_of(plan.output, plan.fields), DuplicateCounter()
+    writer = WRITERS[plan.output](plan.fields)
     left, has_more, last = limit, False, None
-    for rows in skipped(selection.rows(), plan.skip):
+    groups = sliced(selection.rows(), plan.skip)
+    for rows in counted(groups) if plan.counts_duplicates else groups:
         if left is not None:
             has_more = len(rows) > left
             rows = rows[:left]
             left -= len(rows)
-        if plan.counts_duplicates:
-            counter.count(rows)
         last = rows[-1] if rows else last
         yield writer.rows(rows) if rows else b""
         # To show a resume key, a capture that follows has to be found.
@@ -347,11 +261,26 @@ def forward(plan: Plan, selection: Selection, limit: Optional[int]) -> Iterator[
     yield writer.end(resume_key(last) if is_shown and last is not None else None)
 
 
-def skipped(groups: Iterator[list[Row]], count: int) -> Iterator[list[Row]]:
-    """Yields captures without the first ones."""
+def sliced(
+    groups: Iterable[list[Item]], first: int, end: int = sys.maxsize
+) -> Iterator[list[Item]]:
+    """Yields what has the numbers from `first` to before `end` in the groups."""
+    number = 0
+    for found in groups if first < end else ():
+        yield found[max(first - number, 0) : end - number]
+        number += len(found)
+        if number >= end:
+            return
+
+
+def counted(groups: Iterable[list[Row]]) -> Iterator[list[Row]]:
+    """Counts for each capture the captures before it that have its digest. It holds each digest."""
+    counts: Counter[str] = Counter()
     for rows in groups:
-        yield rows[count:]
-        count -= min(count, len(rows))
+        for row in rows:
+            row[COUNT] = str(counts[row[DIGEST]])
+            counts[row[DIGEST]] += 1
+        yield rows
 
 
 def or_nothing(pieces: Iterator[bytes]) -> Iterator[bytes]:
@@ -368,23 +297,58 @@ def or_nothing(pieces: Iterator[bytes]) -> Iterator[bytes]:
     yield from pieces
 
 
-def ordered(plan: Plan, selection: Selection, window: Window) -> Iterator[bytes]:
-    """Yields the captures of a window in the order of the plan."""
-    writer, counter = writer_of(plan.output, plan.fields), DuplicateCounter()
-    groups = selection.between(window.first, window.end)
+def chosen(plan: Plan, groups: Iterator[list[str]], most: int) -> Sequence[int]:
+    """Returns the numbers that the captures of an answer have in the index, in its own order.
+
+    `groups` are the timestamps of all captures. None of these is held yet.
+    """
+    wanted, limit, count = seconds_of(first_moment(plan.closest)), plan.limit, 0
+    # The distance from the time, whether it is one from the time on, and the number.
+    nearest: list[tuple[int, bool, int]] = []
+    for stamps in groups:
+        if limit is None and count + len(stamps) > most:
+            names = {Order.CLOSEST: "closest", Order.REVERSE: "sort"}
+            name = names.get(plan.order, "showDupeCount")
+            raise Refusal("TooMany", name, f"without limit it is for at most {most} captures")
+        if plan.order is Order.CLOSEST:
+            distances = enumerate((seconds_of(each) - wanted for each in stamps), count)
+            found = [(abs(distance), distance >= 0, number) for number, distance in distances]
+            nearest = sorted(nearest + found)[:limit]
+            if found and found[-1][1] and found[-1] > nearest[-1]:
+                break  # those that follow are still farther
+        count += len(stamps)
+    if plan.order is Order.CLOSEST:
+        return [number for _, _, number in nearest]
+    numbers = range(count)[-(limit or count) :]
+    return numbers[::-1] if plan.order is Order.REVERSE else numbers
+
+
+def ordered(plan: Plan, selection: Selection, numbers: Sequence[int]) -> Iterator[bytes]:
+    """Yields the captures with these numbers in the index, in the order of the plan."""
+    writer = WRITERS[plan.output](plan.fields)
+    first, last = min(numbers, default=0), max(numbers, default=-1)
+    groups = selection.between(first, last + 1)
     if plan.order not in (Order.FORWARD, Order.LAST):
-        groups = batched(sorted_rows(plan, window, groups))
-    for rows in groups:
-        if plan.counts_duplicates:
-            counter.count(rows)
+        groups = arranged(groups, numbers, first)
+    for rows in counted(groups) if plan.counts_duplicates else groups:
         yield writer.rows(rows) if rows else b""
     yield writer.end(None)
 
 
-def values_of(lines: list[bytes]) -> list[list[str]]:
-    """Returns the values of captures from lines of `output=json`, each of which ends in `,` or `]`."""
-    rows: list[list[str]] = json.loads(b"[" + b",".join([line[:-1] for line in lines]) + b"]")
-    return rows
+def arranged(
+    groups: Iterable[list[Row]], numbers: Sequence[int], first: int
+) -> Iterator[list[Row]]:
+    """Yields the captures with these numbers, in the order of these. It holds no others.
+
+    `groups` are captures from the number `first` on.
+    """
+    places = {number: place for place, number in enumerate(numbers)}
+    held: list[Row] = [[]] * len(places)
+    for number, row in enumerate(itertools.chain.from_iterable(groups), first):
+        if number in places:
+            held[places[number]] = row
+    for place in range(0, len(held), PIECE):
+        yield held[place : place + PIECE]
 
 
 def with_key(query: str, key: Optional[str]) -> str:

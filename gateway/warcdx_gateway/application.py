@@ -8,28 +8,27 @@ import socket
 import struct
 import time
 from collections.abc import Callable, Generator, Iterable, Iterator, Mapping
+from dataclasses import dataclass
 from typing import Any, Optional
 from urllib.parse import urlsplit
 from wsgiref.types import StartResponse, WSGIApplication, WSGIEnvironment
 
-from werkzeug.exceptions import HTTPException, MethodNotAllowed, NotFound
+from werkzeug.exceptions import HTTPException, NotFound
 from werkzeug.routing import Map, Rule
 from werkzeug.wrappers import Request, Response
 
-from warcdx import FIELDS, Capture, Error, Fault, Refused, ReplyTooLate, ReplyTooLong, command
+from warcdx import FIELDS, Capture, Error, Fault, Refused, ReplyTooLate, ReplyTooLong
 
-from .answers import Answers, Clock, Source, or_nothing
-from .collection import Collection
+from .answers import Answers, or_nothing
+from .collection import Collection, Source
 from .parameters import Form, translated
 from .plan import Plan, plan_of
-from .refusal import Refusal, program_refusal
+from .refusal import TEXT, Refusal, http_response, program_refusal, say, text_of
 from .rows import Output
 from .settings import Settings, is_loopback
-from .shared import Metrics, Share, Shares
+from .shared import Metrics, Shares
 
-NAME = "warcdx-gateway"
 METHODS = ("GET", "HEAD")
-TEXT = "text/plain; charset=utf-8"
 KINDS = {
     Output.TEXT: TEXT,
     Output.JSON: "application/json",
@@ -45,7 +44,7 @@ WAYBACK_PATHS = (
     "/web/timemap/cdx",
     "/web/timemap/json",
 )
-MODULES = ("memento", "clients", "browse")  # each has `rules(gateway)`
+MODULES = ("memento", "clients", "browse")  # each has `rules()`
 MOST_BODY = 1 << 17  # bytes of a request
 MOST_PATHS = 64  # whose rules are remembered
 HEALTH_SECONDS = 5
@@ -80,34 +79,30 @@ class Gateway:
         self.settings = settings
         self.collections = collections
         self.main = collections[settings.main]
-        self.shares = shares
+        self.slot = shares.slot
         self.metrics = metrics
         self._answers = Answers(settings.limits)
         self.beat: Callable[[], None] = lambda: None  # shows the master that an answer goes on
-        found = list(own_rules())
+        found = [rule("/health", health), rule("/metrics", show_metrics)]
         for name in MODULES:  # which stand on this one
-            found += importlib.import_module(f"{__package__}.{name}").rules(self)
+            found += importlib.import_module(f"{__package__}.{name}").rules()
         self._paths = Map(found, strict_slashes=False, merge_slashes=False).bind("")
-        self._rule_of = functools.lru_cache(MOST_PATHS)(self._matched)
+        matched: Any = functools.partial(self._paths.match, return_rule=True)
+        self._rule_of = functools.lru_cache(MOST_PATHS)(matched)
 
     def collection(self, name: str) -> Collection:
-        """Returns the collection of a name in a path. Raises NotFound."""
+        """Returns the collection of a name in a path, without one the main one. Raises NotFound."""
+        if not name:
+            return self.main
         if name not in self.collections:
             raise NotFound("there is no such collection")
         return self.collections[name]
 
-    def slot(self, kind: Share) -> contextlib.AbstractContextManager[None]:
-        """Takes a slot for a block. Raises Refusal with status 503 if none is free in time."""
-        return self.shares.slot(kind)
-
-    def clock(self, kind: Share, client: Optional[socket.socket] = None) -> Clock:
-        """Returns the clock of an answer, which is checked before each costly step of it.
+    def source(self, collection: Collection, client: Optional[socket.socket] = None) -> Source:
+        """Returns what asks the indexes for an answer that may be wide or costly.
 
         It raises ConnectionResetError if the client has left with a reset.
         """
-        limits = self.settings.limits
-        if kind is Share.EXACT:
-            return Clock(limits.exact, limits.query, self.beat)
 
         def beat() -> None:
             self.beat()
@@ -115,17 +110,15 @@ class Gateway:
                 with contextlib.suppress(BlockingIOError):
                     client.recv(1, socket.MSG_PEEK | socket.MSG_DONTWAIT)
 
-        return Clock(limits.wide, limits.query, beat)
+        limits = self.settings.limits
+        return Source(collection.index, limits.wide, limits.query, beat)
 
-    def captures(
-        self, collection: Collection, query: str, limit: int, kind: Share = Share.WIDE
-    ) -> list[Capture]:
+    def captures(self, collection: Collection, query: str, limit: int) -> list[Capture]:
         """Returns the first captures that a query of the program selects, at most `limit`.
 
         Raises the errors of the package, or Refusal if it takes too long.
         """
-        source = Source(collection.index, self.clock(kind))
-        groups = source.values(f"{query}&limit={limit}", FIELDS)
+        groups = self.source(collection).values(f"{query}&limit={limit}", FIELDS)
         return [Capture.of(values) for group in groups for values in group]
 
     def answer(
@@ -137,19 +130,21 @@ class Gateway:
     ) -> WSGIApplication:
         """Answers a query, by default that of the request, in a form of its parameters."""
         text = translated(request.query_text if query is None else query)
-        plan = plan_of(text, form, self.settings.limits)
-        kind = Share.EXACT if plan.is_exact else Share.WIDE
-        clock = self.clock(kind, request.environ.get("gunicorn.socket"))
-        index = collection.index
+        limits = self.settings.limits
+        plan = plan_of(text, form, limits)
+        if plan.is_exact:
+            source = Source(collection.index, limits.exact, limits.query, self.beat)
+        else:
+            source = self.source(collection, request.environ.get("gunicorn.socket"))
         headers = collection.validators()
         if is_unchanged(request, headers):
-            clock.check(index)
-            index.text(plan.plain_query(plan.resume_key, 1))  # a query that is refused has no 304
+            source.check()  # a query that is refused has no 304
+            collection.index.text(plan.plain_query(plan.resume_key, 1))
             return Response(status=304, headers=headers)
 
         def pieces() -> Generator[bytes, None, None]:
-            with self.slot(kind):
-                made = self._answers.pieces(plan, index, collection.tag, clock)
+            with contextlib.nullcontext() if plan.is_exact else self.slot():
+                made = self._answers.pieces(plan, source, collection.tag)
                 yield from or_nothing(made) if plan.is_array else made
 
         return streamed(pieces(), [*headers.items(), ("Content-Type", kind_of(plan))])
@@ -157,9 +152,8 @@ class Gateway:
     def rows(self, collection: Collection, query: str) -> list[list[str]]:
         """Returns the rows of a query in the form of the Internet Archive, which names `fl`."""
         plan = plan_of(f"{query}&output=json", Form.WAYBACK, self.settings.limits)
-        with self.slot(Share.WIDE):
-            clock = self.clock(Share.WIDE)
-            made = self._answers.pieces(plan, collection.index, collection.tag, clock)
+        with self.slot():
+            made = self._answers.pieces(plan, self.source(collection), collection.tag)
             return list(json.loads(b"".join(made)))[1:]
 
     def __call__(self, environ: WSGIEnvironment, start_response: StartResponse) -> Iterable[bytes]:
@@ -202,7 +196,7 @@ class Gateway:
     def failed(self, request: GatewayRequest, name: str, error: BaseException) -> Response:
         """Returns the plain response to a request that has met an error."""
         if isinstance(error, Refused):
-            error = program_refusal(error.name, request.query_string.decode(errors="replace").split("&"))
+            error = program_refusal(error.name, request.args)
         elif isinstance(error, ReplyTooLate):
             error = Refusal("TooSlow", "", "it takes too long; restrict the query", status=503)
         elif isinstance(error, (ReplyTooLong, MemoryError)):
@@ -214,10 +208,6 @@ class Gateway:
         say(f"{name}: {text_of(error)}")
         text = text_of(error) if isinstance(error, Fault) else "the program has failed"
         return Response(f"{text}\n", 500, content_type=TEXT)
-
-    def _matched(self, path: str, method: str) -> tuple[Rule, Mapping[str, Any]]:
-        """Returns the rule of a path, and the values that it has. Raises HTTPException."""
-        return self._paths.match(path, method, return_rule=True)
 
     def _check_host(self, request: Request) -> None:
         """Refuses a request for another server, as a page of a hostile site may send it.
@@ -245,43 +235,27 @@ class Gateway:
             yield "Vary", "Origin"
 
 
-class Captures:
-    """The answer to a query, as a WSGI application: captures in pieces."""
-
-    def __init__(self, headers: Headers, pieces: Iterable[bytes]) -> None:
-        self._headers = headers
-        self._pieces = pieces
-
-    def __call__(
-        self, environ: WSGIEnvironment, start_response: StartResponse
-    ) -> Iterable[bytes]:
-        start_response("200 OK", self._headers)
-        return () if environ["REQUEST_METHOD"] == "HEAD" else self._pieces
-
-
+@dataclass(eq=False)
 class Sent:
     """An answer as gunicorn sends it. One that fails is broken off, so that it is seen."""
 
-    def __init__(
-        self, gateway: Gateway, environ: dict[str, Any], start: float, pieces: Iterable[bytes]
-    ) -> None:
-        self._gateway = gateway
-        self._environ = environ
-        self._start = start
-        self._pieces = pieces
-        self._is_whole = False
+    gateway: Gateway
+    environ: WSGIEnvironment
+    start: float
+    pieces: Iterable[bytes]
+    is_whole: bool = False
 
     def __iter__(self) -> Iterator[bytes]:
         try:
-            for piece in self._pieces:
-                self._gateway.beat()
-                self._gateway.metrics.bytes.inc(len(piece))
+            for piece in self.pieces:
+                self.gateway.beat()
+                self.gateway.metrics.bytes.inc(len(piece))
                 yield piece
-            self._is_whole = True
+            self.is_whole = True
         except (ConnectionError, GeneratorExit):
             raise  # the client has left
         except BaseException as error:
-            self._is_whole = True  # it is counted here
+            self.is_whole = True  # it is counted here
             self._break(error)
             if not isinstance(error, Exception):
                 raise
@@ -289,19 +263,18 @@ class Sent:
             raise BrokenPipeError(errno.EPIPE, "an answer was broken off") from None
 
     def close(self) -> None:
-        if not self._is_whole:
-            self._gateway.metrics.broken.labels("client left").inc()
-        close = getattr(self._pieces, "close", None)
+        if not self.is_whole:
+            self.gateway.metrics.broken.labels("client left").inc()
+        close = getattr(self.pieces, "close", None)
         if close is not None:
             close()
-        self._gateway.metrics.seconds.observe(time.monotonic() - self._start)
+        self.gateway.metrics.seconds.observe(time.monotonic() - self.start)
 
     def _break(self, error: BaseException) -> None:
-        cause = type(error).__name__
-        self._gateway.metrics.broken.labels(cause).inc()
+        self.gateway.metrics.broken.labels(type(error).__name__).inc()
         say(f"an answer was broken off: {text_of(error)}")
-        found = self._environ.get("gunicorn.socket")
-        if found is not None and self._environ.get("SERVER_PROTOCOL") == "HTTP/1.0":
+        found = self.environ.get("gunicorn.socket")
+        if found is not None and self.environ.get("SERVER_PROTOCOL") == "HTTP/1.0":
             # Without chunks, the end of the connection would be that of the answer.
             found.setsockopt(socket.SOL_SOCKET, socket.SO_LINGER, struct.pack("ii", 1, 0))
 
@@ -310,11 +283,6 @@ def rule(path: str, handler: Handler, methods: Iterable[str] = METHODS) -> Rule:
     """Returns the rule of a path, in the words of Werkzeug, whose requests a handler answers."""
     endpoint: Any = handler
     return Rule(path, endpoint=endpoint, methods=methods)
-
-
-def own_rules() -> Iterator[Rule]:
-    yield rule("/health", health)
-    yield rule("/metrics", show_metrics)
 
 
 def health(gateway: Gateway, request: GatewayRequest) -> Response:
@@ -334,7 +302,7 @@ def show_metrics(gateway: Gateway, request: GatewayRequest) -> Response:
     return Response(gateway.metrics.text(), content_type=kind)
 
 
-def streamed(pieces: Generator[bytes, None, None], headers: Headers) -> Captures:
+def streamed(pieces: Generator[bytes, None, None], headers: Headers) -> WSGIApplication:
     """Returns an answer whose pieces are made when they are sent.
 
     The first ones are made at once. So what fails until then has a status, and a short answer has
@@ -345,8 +313,18 @@ def streamed(pieces: Generator[bytes, None, None], headers: Headers) -> Captures
         begun.append(piece)
         size += len(piece)
         if size > MOST_WHOLE:
-            return Captures(headers, joined(begun, pieces))
-    return Captures([*headers, ("Content-Length", str(size))], [b"".join(begun)])
+            return answer_of(headers, joined(begun, pieces))
+    return answer_of([*headers, ("Content-Length", str(size))], [b"".join(begun)])
+
+
+def answer_of(headers: Headers, pieces: Iterable[bytes]) -> WSGIApplication:
+    """Returns an answer of captures in pieces."""
+
+    def answer(environ: WSGIEnvironment, start_response: StartResponse) -> Iterable[bytes]:
+        start_response("200 OK", headers)
+        return () if environ["REQUEST_METHOD"] == "HEAD" else pieces
+
+    return answer
 
 
 def joined(begun: list[bytes], pieces: Generator[bytes, None, None]) -> Iterator[bytes]:
@@ -364,21 +342,6 @@ def is_unchanged(request: Request, headers: Mapping[str, str]) -> bool:
         return request.if_none_match.contains_weak(headers["ETag"].strip('"'))
     since = request.environ.get("HTTP_IF_MODIFIED_SINCE")
     return since is not None and since == headers.get("Last-Modified")
-
-
-def http_response(error: HTTPException) -> Response:
-    """Returns the plain response to a path or method that there isn't."""
-    if isinstance(error.response, Response):
-        return error.response
-    name, cause = (error.name or "").title().replace(" ", ""), error.description or ""
-    headers = [each for each in error.get_headers() if each[0] not in ("Content-Type", "Allow")]
-    if isinstance(error, MethodNotAllowed):
-        methods = ", ".join(sorted(error.valid_methods or ()))
-        headers.append(("Allow", methods))
-        cause = f"the methods are {methods}"
-    elif cause == NotFound.description:
-        cause = "there is no such path"
-    return Response(f"refused {name}: {cause}\n", error.code, headers, content_type=TEXT)
 
 
 def preflight(methods: Iterable[str]) -> Response:
@@ -407,17 +370,3 @@ def host_of(field: str) -> str:
         return urlsplit(f"//{field}").hostname or ""
     except ValueError:
         return ""
-
-
-def text_of(error: BaseException) -> str:
-    """Returns an error on one line. An index is named by its number in the settings, from 0."""
-    if isinstance(error, Fault):
-        parts = ("fault", error.name, error.number, error.offset)
-        return " ".join(str(part) for part in parts if part is not None)
-    is_known = isinstance(error, (Error, Refusal, OSError)) and str(error)
-    return str(error) if is_known else f"{type(error).__name__} {error}".rstrip()
-
-
-def say(text: str) -> None:
-    """Writes a line to standard error."""
-    command.report(NAME, command.printable(text))

@@ -16,14 +16,11 @@ from werkzeug.routing import Rule
 from werkzeug.wrappers import Request, Response
 
 from . import memento
-from .answers import Source
 from .application import METHODS, WAYBACK_PATHS, Gateway, GatewayRequest, rule
 from .collection import Collection
-from .history import quoted
-from .orders import FIRST_MOMENT, seconds_of
+from .history import first_moment, nearest_of, quoted
 from .parameters import Form, is_number
 from .refusal import Refusal
-from .shared import Share
 
 JSON = "application/json"
 XML = "text/xml; charset=utf-8"
@@ -56,7 +53,7 @@ MOST_RESULTS = 10_000  # of an XML query
 _NOT_XML = re.compile("[^\t\n\r -\ud7ff\ue000-\ufffd\U00010000-\U0010ffff]")
 
 
-def rules(gateway: Gateway) -> list[Rule]:
+def rules() -> list[Rule]:
     """Returns the rules of these paths."""
     found = [rule(path, _wayback) for path in WAYBACK_PATHS]
     for front in ("web", "<collection>"):
@@ -75,7 +72,7 @@ def rules(gateway: Gateway) -> list[Rule]:
 def _wayback(gateway: Gateway, request: GatewayRequest) -> WSGIApplication:
     query = request.query_text
     if request.path == "/web/timemap/json":
-        query = with_output(query, "json")
+        query = _with(query, "output", "json")
     return gateway.answer(request, gateway.main, Form.WAYBACK, query)
 
 
@@ -86,7 +83,7 @@ def _answer(
     found = gateway.collection(collection)
     form = form or Form(found.settings.form)
     if form is Form.PYWB and request.args.get("output") == "link":
-        resource = memento.Resource.of(gateway, request, collection, request.args.get("url", ""))
+        resource = memento.Resource(gateway, request, collection, request.args.get("url", ""))
         return memento.time_map_of(gateway, resource)
     return gateway.answer(request, found, form)
 
@@ -95,15 +92,15 @@ def _time_map_in_json(
     gateway: Gateway, request: GatewayRequest, url: str, collection: str = ""
 ) -> WSGIApplication:
     """Lists the captures of a URL, in the form of the collection."""
-    found = gateway.collection(collection) if collection else gateway.main
-    resource = memento.Resource.of(gateway, request, collection, memento.url_of(request, 3))
+    found = gateway.collection(collection)
+    resource = memento.Resource(gateway, request, collection, memento.url_of(request, 3))
     form = Form(found.settings.form) if collection else Form.WAYBACK
     return gateway.answer(request, found, form, f"url={quoted(resource.original)}&output=json")
 
 
-def with_output(query: str, output: str) -> str:
-    """Returns a query with an output, if it names none."""
-    return query if re.search("(?:^|&)output=.", query) else f"{query}&output={output}"
+def _with(query: str, name: str, value: str) -> str:
+    """Returns a query with a value of a parameter, if it has none."""
+    return query if re.search(f"(?:^|&){name}=[^&]", query) else f"{query}&{name}={value}"
 
 
 def collinfo(gateway: Gateway, request: Request) -> Response:
@@ -128,15 +125,11 @@ def outback(gateway: Gateway, request: GatewayRequest, collection: str) -> WSGIA
         return xml_query(gateway, found, request.args)
     if not request.query_string:
         return Response(b"", 302, {"Location": f"{request.path.rstrip('/')}/browse/"})
-    query = request.query_text
-    if not re.search("(?:^|&)fl=.", query):
-        query += f"&fl={CDX11}"
+    query = _with(request.query_text, "fl", CDX11)
     return gateway.answer(request, found, Form.WAYBACK, query)
 
 
-def xml_query(
-    gateway: Gateway, collection: Collection, sent: "MultiDict[str, str]"
-) -> Response:
+def xml_query(gateway: Gateway, collection: Collection, sent: "MultiDict[str, str]") -> Response:
     """Answers a query of OpenWayback: a `type:`, urlquery or prefixquery, and `url:` of a URL."""
     pairs = (each.partition(":") for each in sent["q"].split())
     given = {name: unquote_plus(value) for name, _, value in pairs}
@@ -190,11 +183,11 @@ def available(gateway: Gateway, request: GatewayRequest) -> Response:
     A POST has a query on each line, and `results` in the order of the lines.
     """
     if request.method == "POST":
-        lines = request.get_data(as_text=True).split("\n")[: MOST_ASKED + 1]
+        lines = [line for line in request.get_data(as_text=True).split("\n") if line.strip()]
         if len(lines) > MOST_ASKED:
             raise Refusal("TooMany", "url", f"a request has at most {MOST_ASKED} lines")
-        asked = [MultiDict(parse_qsl(line.strip())) for line in lines if line.strip()]
-        with gateway.slot(Share.WIDE):
+        asked = [MultiDict(parse_qsl(line.strip())) for line in lines]
+        with gateway.slot():
             found: object = {"results": [_available(gateway, request, each) for each in asked]}
     else:
         found = _available(gateway, request, request.args)
@@ -213,16 +206,14 @@ def _available(
     answer["archived_snapshots"] = {}
     if timestamp:
         answer["timestamp"] = timestamp
-        wanted = timestamp + FIRST_MOMENT[len(timestamp) :]
+        wanted = first_moment(timestamp)
     else:
         wanted = f"{datetime.now(timezone.utc):%Y%m%d%H%M%S}"
     with contextlib.suppress(NotFound):
-        resource = memento.Resource.of(gateway, request, "", url)
+        resource = memento.Resource(gateway, request, "", url)
         codes = given.getlist("statuscodes")[:10] or ["200"]
-        found = [resource.history.where("statuscode", code).nearest(wanted) for code in codes]
-        moment = seconds_of(wanted)
-        distances = {abs(seconds_of(each.timestamp) - moment): each for each in filter(None, found)}
-        nearest = distances[min(distances)] if distances else None
+        found = (resource.history.where("statuscode", code).nearest(wanted) for code in codes)
+        nearest = nearest_of(found, wanted)
         if nearest is not None:
             closest = {
                 "status": nearest.statuscode,
@@ -236,11 +227,11 @@ def _available(
 
 def sparkline(gateway: Gateway, request: GatewayRequest) -> Response:
     """Counts the captures of a URL by months, as the Internet Archive's pages and extension ask."""
-    source = Source(gateway.main.index, gateway.clock(Share.WIDE))
+    source = gateway.source(gateway.main)
     years: dict[str, list[int]] = {}
     first = last = None
     query = f"url={quoted(request.args.get('url', ''))}&matchType=exact&fl=timestamp"
-    with gateway.slot(Share.WIDE):
+    with gateway.slot():
         for lines in source.lines(query):
             for timestamp in map(bytes.decode, lines):
                 first, last = first or timestamp, timestamp

@@ -1,4 +1,4 @@
-"""A collection: indexes that are queried as one, and the folders of their archives."""
+"""A collection: indexes that are queried as one, while their files are replaced."""
 import errno
 import hashlib
 import json
@@ -6,22 +6,21 @@ import os
 import pathlib
 import stat
 import time
-from collections.abc import Sequence
+from collections.abc import Callable, Generator, Iterator, Sequence
 from email.utils import formatdate
-from typing import Any, Optional
+from typing import Optional
 from urllib.parse import quote_plus
 
 from warcdx import Error, Fault, Index, Refused, command
 from warcdx.errors import fault
 
+from .refusal import Refusal, say
 from .settings import CollectionSettings, Settings
 
 LOOKS = 0.25  # seconds between two looks at the files
 MOST_REPLY = 8 << 20  # bytes of a reply, unless no shorter one can be had
 MOST_END = 1 << 16  # bytes in which the last line of an index is looked for
 CHECK_SECONDS = 10  # for the first queries of an index
-MOST_SUMMARY = 16 << 20  # bytes
-SUMMARY = ".summary.json"  # what is added to the name of an index
 SETTLED = 2  # seconds after which no other files get the same time
 TRIES = 3  # to open files while they are replaced
 # A capture before all others, and one after all: their searches read the ends of each index.
@@ -80,7 +79,8 @@ class Collection:
 
     `name`, `title` and `settings` are as given. `tag` changes with the files and with the
     settings that change answers. `modified` is when the files were changed or got their names, in
-    seconds since 1970. The master opens the indexes, and each worker goes on with its files.
+    seconds since 1970. The master opens the indexes, and each worker goes on with its files. The
+    constructor raises OSError, or an Error of the package if the indexes are none.
     """
 
     def __init__(self, each: CollectionSettings, settings: Settings) -> None:
@@ -89,24 +89,16 @@ class Collection:
         self.settings = each
         self.program = settings.program
         self._limits = settings.limits
-        self._generation: Optional[Generation] = None
         self._index: Optional[Index] = None
         self._owner = 0
         self._looked = 0.0
         self._bad: Optional[Stamp] = None
-        self.tag = ""
-        self.modified = 0
-        self._date = ""
-
-    def open(self) -> None:
-        """Opens the indexes. Raises OSError, or an Error of the package if they are none."""
         self._use(self._renewed())
 
     @property
     def index(self) -> Index:
         """The index of this process over the files that were the present ones at the last look."""
         if self._index is None or self._owner != os.getpid():
-            assert self._generation is not None
             self._index = self._generation.index(self.program, self._limits.query)
             self._owner = os.getpid()
         return self._index
@@ -120,7 +112,6 @@ class Collection:
         if now - self._looked < LOOKS:
             return ""
         self._looked = now
-        assert self._generation is not None
         stamp: Stamp = ()
         try:
             stamp = stamp_of(map(os.stat, self.settings.indexes))
@@ -128,14 +119,15 @@ class Collection:
                 self._bad = None
             if stamp in (self._generation.stamp, self._bad):
                 return ""
-            self._use(self._renewed())
+            generation = self._renewed()
+            self.close()
+            self._use(generation)
         except (Error, OSError) as error:
             if stamp == self._bad:  # they are still missing
                 return ""
             self._bad = stamp
             if is_told:
-                text = f"{self.name}: the old indexes stay in use: {command.reason_of(error)}"
-                command.report("warcdx-gateway", command.printable(text))
+                say(f"{self.name}: the old indexes stay in use: {command.reason_of(error)}")
             return "failed"
         self._bad = None
         return "done"
@@ -147,41 +139,14 @@ class Collection:
             headers["Last-Modified"] = self._date
         return headers
 
-    def archive(self, filename: str) -> Optional[pathlib.Path]:
-        """Returns the file of this name in the folders, or None. It is never outside of them."""
-        for folder in self.settings.archives:
-            root = folder.resolve()
-            try:
-                path = (root / filename).resolve()
-                if path.is_relative_to(root) and path.is_file():
-                    return path
-            except (OSError, ValueError):  # a name that is too long, or has a NUL
-                continue
-        return None
-
-    def summary(self) -> Optional[dict[str, Any]]:
-        """Returns what the file beside the first index says of the collection, if there is one."""
-        first = self.settings.indexes[0]
-        path = first.with_name(first.name + SUMMARY)
-        try:
-            if path.stat().st_size > MOST_SUMMARY:
-                return None
-            found = json.loads(path.read_bytes())
-        except (OSError, ValueError, RecursionError):
-            return None
-        return found if isinstance(found, dict) else None
-
     def close(self) -> None:
         """Ends the programs of this process, and closes the files."""
         if self._index is not None and self._owner == os.getpid():
             self._index.close()
         self._index = None
-        if self._generation is not None:
-            self._generation.close()
-            self._generation = None
+        self._generation.close()
 
     def _use(self, generation: Generation) -> None:
-        self.close()
         self._generation = generation
         key = (self.settings, generation.stamp, self._limits)
         self.tag = hashlib.sha256(repr(key).encode()).hexdigest()[:20]
@@ -203,6 +168,61 @@ class Collection:
         raise OSError("the indexes are being changed")
 
 
+class Source:
+    """Asks an index for the captures of an answer, each time by one query of the program.
+
+    The answer may take `seconds`, and each piece of a reply `piece` seconds. The master learns by
+    `beat` that it goes on.
+    """
+
+    def __init__(
+        self, index: Index, seconds: float, piece: float, beat: Callable[[], None]
+    ) -> None:
+        self._index = index
+        self._end = time.monotonic() + seconds
+        self._piece = piece
+        self._beat = beat
+
+    def check(self) -> None:
+        """Bounds the next piece of a reply. Raises Refusal if the time is over."""
+        left = self._end - time.monotonic()
+        if left <= 0:
+            cause = "the answer takes too long; restrict the query"
+            raise Refusal("TooSlow", "", cause, status=503)
+        self._index.seconds = min(self._piece, left)
+        self._beat()
+
+    def pieces(self, query: str) -> Iterator[bytes]:
+        """Yields the page of a query as the program writes it."""
+        self.check()
+        for piece in self._index.stream(query):
+            yield piece
+            self.check()
+
+    def lines(self, query: str) -> Iterator[list[bytes]]:
+        """Yields the lines of a page, each time those that a piece has ended."""
+        begun: list[bytes] = []
+        for piece in self.pieces(query):
+            first, *others = piece.split(b"\n")
+            begun.append(first)
+            if others:
+                yield [b"".join(begun), *others[:-1]]
+                begun = others[-1:]
+        # A page ends with a line feed.
+
+    def values(self, query: str, fields: Sequence[str]) -> Generator[list[list[str]], None, None]:
+        """Yields the values of these fields of each capture."""
+        for lines in self.row_lines(f"{query}&fl={','.join(fields)}"):
+            yield values_of(lines)
+
+    def row_lines(self, query: str) -> Iterator[list[bytes]]:
+        """Yields the lines of the captures in `output=json`."""
+        names = 1
+        for lines in self.lines(f"{query}&output=json"):
+            yield lines[names:]
+            names = 0
+
+
 def query_of_end(file: int) -> str:
     """Returns a query for the last line of a file, as far as its key is short enough for one."""
     size = os.fstat(file).st_size
@@ -218,3 +238,9 @@ def stamp_of(found: "map[os.stat_result]") -> Stamp:
         (each.st_dev, each.st_ino, each.st_size, each.st_mtime_ns, each.st_ctime_ns)
         for each in found
     )
+
+
+def values_of(lines: list[bytes]) -> list[list[str]]:
+    """Returns the values of captures from lines of `output=json`, each of which ends in `,` or `]`."""
+    rows: list[list[str]] = json.loads(b"[" + b",".join([line[:-1] for line in lines]) + b"]")
+    return rows

@@ -1,23 +1,19 @@
 """The captures of one URL, found by their time without reading all of them."""
-import re
-from collections.abc import Callable
+import calendar
+from collections.abc import Callable, Iterable
 from typing import Optional
 from urllib.parse import quote_plus
 
-from warcdx import Capture, Refused
-from warcdx.record import Head
-
-from .orders import seconds_of
+from warcdx import Capture
 
 # Returns the first captures that a query selects, in order, at most as many as it is told.
 Ask = Callable[[str, int], list[Capture]]
 
 FIRST, LAST = 0, 10**14 - 1  # timestamps as numbers
+FIRST_MOMENT = "00000101000000"
 MOST = 200  # captures that are read at once
-REVISIT = "warc/revisit"
 # A file name and an offset that are after all others.
 _LAST_PLACE = "\U0010ffff 9223372036854775807"
-_SHA1 = re.compile("^sha1:", re.IGNORECASE)
 
 
 class History:
@@ -53,22 +49,14 @@ class History:
         """Returns the first capture after a time."""
         return self._first_from(int(timestamp) + 1)
 
-    def at(self, timestamp: str, original: str = "") -> Optional[Capture]:
-        """Returns the capture at a time: that of this URL, or else the first one."""
-        found = self._dated(int(timestamp), int(timestamp))
-        same = (each for each in found if each.original == original)
-        return next(same, found[0] if found else None)
-
     def nearest(self, timestamp: str, original: str = "") -> Optional[Capture]:
-        """Returns the capture nearest to a time, and of two that are as near the earlier one."""
-        if exact := self.at(timestamp, original):
-            return exact
-        earlier, later = self.before(timestamp), self.after(timestamp)
-        if earlier is None or later is None:
-            return earlier or later
-        back = seconds_of(timestamp) - seconds_of(earlier.timestamp)
-        on = seconds_of(later.timestamp) - seconds_of(timestamp)
-        return earlier if back <= on else later
+        """Returns the capture nearest to a time, and of two that are as near the earlier one.
+
+        Of those at the time, it is that of this URL, or else the first one.
+        """
+        if exact := self._dated(int(timestamp), int(timestamp)):
+            return next((each for each in exact if each.original == original), exact[0])
+        return nearest_of((self.before(timestamp), self.after(timestamp)), timestamp)
 
     def page(self, timestamp: str, most: int) -> tuple[list[Capture], Optional[Capture]]:
         """Returns the first captures from a time on, about `most`, and the one that follows them.
@@ -117,9 +105,12 @@ class History:
         return [each for each in found if low <= int(each.timestamp) <= high][:most]
 
 
-def place_of(capture: Capture) -> str:
-    """Returns the place of a capture as a resume key, which isn't form-encoded yet."""
-    return f"{capture.urlkey} {capture.timestamp} {capture.filename} {capture.offset}"
+def nearest_of(captures: Iterable[Optional[Capture]], timestamp: str) -> Optional[Capture]:
+    """Returns the capture nearest to a time, and of two that are as near the earlier one."""
+    moment = seconds_of(timestamp)
+    found = [each for each in captures if each is not None]
+    found.sort(key=lambda each: (abs(seconds_of(each.timestamp) - moment), each.timestamp))
+    return found[0] if found else None
 
 
 def before_time(key: str, timestamp: int) -> str:
@@ -131,34 +122,21 @@ def resumed(place: str) -> str:
     return f"&resumeKey={quoted(place)}"
 
 
-def original_of(ask: Ask, head: Head) -> Optional[Capture]:
-    """Returns the capture that a revisit points to by its head, or None if no index has it.
-
-    It is one of the URL, with the digest and the time if the revisit has them, or else with the
-    digest alone.
-    """
-    digest = _SHA1.sub("", head.field("WARC-Payload-Digest") or "", count=1)
-    url = without_brackets(head.field("WARC-Refers-To-Target-URI") or "")
-    url = url or without_brackets(head.field("WARC-Target-URI") or "")
-    if not url:
-        return None
-    digits = re.sub("[^0-9]", "", head.field("WARC-Refers-To-Date") or "")[:14]
-    times = f"&from={digits}&to={digits}" if len(digits) == 14 else ""
-    same = f"&is=digest:{quoted(digest)}" if digest else ""
-    target = f"url={quoted(url)}&matchType=exact&isnot=mimetype:{REVISIT}"
-    for conditions in dict.fromkeys(filter(None, (times and times + same, same))):
-        try:
-            found = ask(target + conditions, 1)
-        except Refused:
-            return None
-        if found:
-            return found[0]
-    return None
+def first_moment(digits: str) -> str:
+    """Returns the first timestamp that begins with these digits."""
+    return digits + FIRST_MOMENT[len(digits) :]
 
 
-def without_brackets(url: str) -> str:
-    """Returns a URL without the brackets that wget writes around it."""
-    return url[1:-1] if url.startswith("<") and url.endswith(">") else url
+def seconds_of(timestamp: str) -> int:
+    """Returns the seconds from 1970 to a timestamp. What isn't a date is the nearest one."""
+    year, month = max(int(timestamp[:4]), 1), clamped(timestamp[4:6], 1, 12)
+    day = clamped(timestamp[6:8], 1, calendar.monthrange(year, month)[1])
+    hour, minute = clamped(timestamp[8:10], 0, 23), clamped(timestamp[10:12], 0, 59)
+    return calendar.timegm((year, month, day, hour, minute, clamped(timestamp[12:14], 0, 59)))
+
+
+def clamped(digits: str, least: int, most: int) -> int:
+    return min(max(int(digits), least), most)
 
 
 def quoted(value: str) -> str:

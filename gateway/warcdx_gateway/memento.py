@@ -3,14 +3,12 @@ import contextlib
 import functools
 import re
 from collections.abc import Callable
-from dataclasses import dataclass
 from datetime import datetime, timezone
-from email.utils import parsedate_to_datetime
 from typing import Optional
 from urllib.parse import quote, unquote, urljoin
 
 from werkzeug.exceptions import NotFound
-from werkzeug.http import http_date
+from werkzeug.http import http_date, parse_date
 from werkzeug.routing import Rule
 from werkzeug.wrappers import Request, Response
 
@@ -19,10 +17,8 @@ from warcdx import Capture
 from .application import Gateway, rule
 from .browse import responses
 from .browse.raw_captures import RawCapture
-from .collection import Collection
-from .history import History, quoted
-from .orders import FIRST_MOMENT
-from .shared import Share
+from .history import History, first_moment, quoted
+from .parameters import is_number
 
 LINK_FORMAT = "application/link-format"
 MOST_MEMENTOS = 5000  # of a page of a TimeMap
@@ -40,7 +36,7 @@ _DATE = re.compile(
 )
 
 
-def rules(gateway: Gateway) -> list[Rule]:
+def rules() -> list[Rule]:
     """Returns the rules of these paths, of which `/web` is the main collection."""
     paths: dict[str, Callable[..., Response]] = {
         "timegate/": time_gate,
@@ -49,42 +45,41 @@ def rules(gateway: Gateway) -> list[Rule]:
         "": time_gate,
     }
     return [
-        rule(f"/{front}/{path}<path:url>", functools.partial(handler, 1 + path.count("/")))
+        rule(f"/{front}/{path}<path:url>", functools.partial(_sent, handler, 1 + path.count("/")))
         for front in ("web", "<collection>")
         for path, handler in paths.items()
     ]
 
 
-@dataclass(frozen=True)
+def _sent(
+    handler: Callable[..., Response],
+    segments: int,
+    gateway: Gateway,
+    request: Request,
+    url: str,
+    collection: str = "",
+    **values: str,
+) -> Response:
+    """Answers by a handler of the URL behind the first segments of the path, as it was sent."""
+    return handler(gateway, request, collection, url_of(request, segments), **values)
+
+
 class Resource:
     """A URL of a collection, whose paths begin with `root`, and the history of its captures."""
 
-    root: str
-    collection: Collection
-    url: str
-    history: History
-
-    @classmethod
-    def of(cls, gateway: Gateway, request: Request, collection: str, url: str) -> "Resource":
-        """Returns the resource of a URL as it was sent. Raises NotFound if it isn't one.
-
-        Without the name of a collection, it is one of the main collection.
-        """
+    def __init__(self, gateway: Gateway, request: Request, collection: str, url: str) -> None:
+        """Takes a URL as it was sent. Raises NotFound if it isn't one."""
         if _ENCODED.match(url):
             url = unquote(url)
         url = _ONE_SLASH.sub(r"\1://", url, count=1)
         host = url.partition("/")[0]
         if ":" not in host and "." not in host and host != "localhost":
             raise NotFound()
-        found = gateway.collection(collection) if collection else gateway.main
-        history = History(functools.partial(gateway.captures, found), url=url)
-        return cls(f"{request.root_url.rstrip('/')}/{collection or 'web'}", found, url, history)
-
-    @property
-    def original(self) -> str:
-        """The URL, with a scheme."""
-        has_scheme = re.match(r"[A-Za-z][A-Za-z0-9+.-]*://", self.url)
-        return self.url if has_scheme else f"http://{self.url}"
+        has_scheme = re.match(r"[A-Za-z][A-Za-z0-9+.-]*://", url)
+        self.url, self.original = url, url if has_scheme else f"http://{url}"
+        self.root = f"{request.root_url.rstrip('/')}/{collection or 'web'}"
+        self.collection = gateway.collection(collection)
+        self.history = History(functools.partial(gateway.captures, self.collection), url=url)
 
     def memento(self, capture: Capture) -> str:
         """Returns the URL of a capture as it was archived. The line of an index may have no URL."""
@@ -136,23 +131,20 @@ def url_of(request: Request, segments: int) -> str:
     return parts[segments + 1] if len(parts) == segments + 2 else ""
 
 
-def time_gate(
-    segments: int, gateway: Gateway, request: Request, url: str, collection: str = ""
-) -> Response:
+def time_gate(gateway: Gateway, request: Request, collection: str, sent: str) -> Response:
     """Sends a client to the capture that is nearest to its time, or to the last one without a time.
 
     RFC 7089, sections 4.2.1 and 4.5.3: a datetime that can't be read has status 400.
     """
-    sent = url_of(request, segments)
     if found := _REPLAYED.fullmatch(sent):
-        resource = Resource.of(gateway, request, collection, found[2])
+        resource = Resource(gateway, request, collection, found[2])
         return redirect(f"{resource.root}/{found[1]}id_/{escaped(resource.url)}", {})
     if found := _CALENDAR.fullmatch(sent):
-        resource = Resource.of(gateway, request, collection, found[2])
+        resource = Resource(gateway, request, collection, found[2])
         year = f"&year={found[1][:4]}" if len(found[1]) >= 4 else ""
         target = f"/{resource.collection.name}/browse/search?url={quoted(resource.url)}{year}"
         return redirect(request.root_url.rstrip("/") + target, {})
-    resource = Resource.of(gateway, request, collection, sent)
+    resource = Resource(gateway, request, collection, sent)
     vary = {"Vary": "accept-datetime"}
     wanted = request.headers.get("Accept-Datetime")
     moment = None if wanted is None else timestamp_of(wanted)
@@ -166,21 +158,18 @@ def time_gate(
     return redirect(resource.memento(chosen), {**vary, "Link": resource.links(chosen)})
 
 
-def time_map(
-    segments: int, gateway: Gateway, request: Request, url: str, collection: str = ""
-) -> Response:
+def time_map(gateway: Gateway, request: Request, collection: str, sent: str) -> Response:
     """Lists the captures of a URL, a page at a time (RFC 7089, section 5).
 
     A page begins at the time that is before the URL. It links the next one.
     """
-    sent, start = url_of(request, segments), ""
-    if found := _PAGE.fullmatch(sent):
-        start, sent = found[1], found[2]
-    return time_map_of(gateway, Resource.of(gateway, request, collection, sent), start)
+    found = _PAGE.fullmatch(sent)
+    start, url = (found[1], found[2]) if found else ("", sent)
+    return time_map_of(gateway, Resource(gateway, request, collection, url), start)
 
 
 def time_map_of(gateway: Gateway, resource: Resource, start: str = "") -> Response:
-    with gateway.slot(Share.WIDE):
+    with gateway.slot():
         captures, following = resource.history.page(start or "0" * 14, MOST_MEMENTOS)
     if not captures:
         return Response("there is no capture of this URL\n", 404)
@@ -203,19 +192,13 @@ def time_map_of(gateway: Gateway, resource: Resource, start: str = "") -> Respon
 
 
 def raw_capture(
-    segments: int,
-    gateway: Gateway,
-    request: Request,
-    timestamp: str,
-    url: str,
-    collection: str = "",
+    gateway: Gateway, request: Request, collection: str, sent: str, timestamp: str
 ) -> Response:
     """Answers with a capture as it was archived, or sends a client to the nearest one."""
-    if not (timestamp.isascii() and timestamp.isdigit() and len(timestamp) <= 14):
+    if not (is_number(timestamp) and len(timestamp) <= 14):
         raise NotFound()
-    wanted = timestamp + FIRST_MOMENT[len(timestamp) :]
-    resource = Resource.of(gateway, request, collection, url_of(request, segments))
-    capture = resource.history.nearest(wanted, resource.original)
+    resource = Resource(gateway, request, collection, sent)
+    capture = resource.history.nearest(first_moment(timestamp), resource.original)
     if capture is None:
         raise NotFound("there is no capture of this URL")
     if capture.timestamp != timestamp:
@@ -224,7 +207,7 @@ def raw_capture(
     if links := resource.links(capture):
         own["Link"] = links
     with contextlib.ExitStack() as stack:
-        stack.enter_context(gateway.slot(Share.WIDE))
+        stack.enter_context(gateway.slot())
         raw = RawCapture(request, resource.collection, resource.history.ask, capture, stack)
         response = raw.response(own, functools.partial(_capture_of, resource, capture))
     return response
@@ -256,13 +239,10 @@ def redirect(url: str, headers: dict[str, str]) -> Response:
 def timestamp_of(date: str) -> Optional[str]:
     """Returns the timestamp of a date of Accept-Datetime, or None (RFC 7089, section 2.1.1)."""
     found = _DATE.fullmatch(date.strip())
-    if not found:
+    moment = parse_date(found[0]) if found else None
+    if found is None or moment is None or http_date(moment)[3:] != found[2]:
         return None
-    try:
-        moment = parsedate_to_datetime(date.strip())
-    except ValueError:
-        return None
-    return f"{moment:%Y%m%d%H%M%S}".rjust(14, "0") if http_date(moment)[3:] == found[2] else None
+    return f"{moment:%Y%m%d%H%M%S}".rjust(14, "0")
 
 
 def date_of(capture: Capture) -> str:

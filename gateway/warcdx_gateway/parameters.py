@@ -6,7 +6,7 @@ from urllib.parse import quote_plus, unquote_to_bytes
 
 from warcdx import FIELDS
 
-from .conditions import Condition, Test, compiled, is_literal
+from .conditions import SPECIAL, Condition, Test, compiled
 from .refusal import Refusal
 from .rows import GROUPED, ORIGINALS, UNKNOWN, Collapse
 from .settings import Limits
@@ -18,12 +18,15 @@ TESTS = {
     "has": (Test.CONTAINS, False),
     "hasnot": (Test.CONTAINS, True),
 }
+MARKED = {"=": Test.EQUALS, "~": Test.BEGINS}  # filters of pywb
 FIELD_LIST = ", ".join(FIELDS)
 ADDED = (*UNKNOWN, *GROUPED, *ORIGINALS, "dupecount")
 FIELD = "|".join(map(re.escape, (*FIELDS, *PYWB_NAMES, *ADDED)))
+COLUMNS = f"(?:{FIELD})(?:,(?:{FIELD}))*"
 FLAG = ("true|false", "BadFlag", "it is true or false")
 STAMP = ("[0-9]{1,14}", "BadStamp", "it is 1 to 14 digits")
-MILLION = "(?:[1-9][0-9]{0,5}|1000000)"
+LIMIT = "-?0{0,6}(?:[1-9][0-9]{0,5}|1000000)"
+SORTS = "default|regular|reverse|closest"
 NUMBER = "[0-9]{1,7}"
 NEVER = ("false", "Unknown", "this server counts no captures that are left out")
 # Parameters that may be given once: what each may be, and how it is refused. Each is checked where the
@@ -34,18 +37,10 @@ SINGLE = {
     "matchType": ("exact|prefix|host|domain", "BadMatch", "it is exact, prefix, host or domain"),
     "from": STAMP,
     "to": STAMP,
-    "limit": (
-        f"-?0{{0,6}}{MILLION}",
-        "BadLimit",
-        "it is a number from 1 to 1,000,000, or such a number after a -",
-    ),
+    "limit": (LIMIT, "BadLimit", "it is a number from 1 to 1,000,000, or such a number after a -"),
     "resumeKey": ("[^ ]* [0-9]{14} .+ [0-9]+", "BadResume", "it isn't the resume key of a page"),
     "showResumeKey": FLAG,
-    "fl": (
-        f"(?:{FIELD})(?:,(?:{FIELD}))*",
-        "BadField",
-        f"it is a list of fields, separated by commas: {FIELD_LIST}",
-    ),
+    "fl": (COLUMNS, "BadField", f"it is a list of fields, separated by commas: {FIELD_LIST}"),
     "output": ("text|json|cdxj", "BadOutput", "it is text, json or cdxj"),
     "gzip": FLAG,
     "page": (NUMBER, "BadPage", "it is a number of at most 7 digits"),
@@ -53,11 +48,7 @@ SINGLE = {
     "showNumPages": FLAG,
     "fastLatest": FLAG,
     "closest": STAMP,
-    "sort": (
-        "default|regular|reverse|closest",
-        "BadSort",
-        "it is one of default, regular, reverse, closest",
-    ),
+    "sort": (SORTS, "BadSort", "it is one of default, regular, reverse, closest"),
     "reverse": FLAG,
     "resolveRevisits": FLAG,
     "showDupeCount": FLAG,
@@ -95,28 +86,23 @@ def filter_of(value: str, form: Form) -> Condition:
     """
     is_negated = value.startswith("!")
     text = value[is_negated:]
-    if text[:1] in ("=", "~"):
-        return condition_of(
-            text[1:], Test.EQUALS if text[0] == "=" else Test.BEGINS, is_negated, "filter"
-        )
-    if form is Form.PYWB:
-        return condition_of(text, Test.CONTAINS, is_negated, "filter")
-    found = condition_of(text, Test.MATCHES, is_negated, "filter")
-    return (
-        Condition(found.field, Test.EQUALS, found.text, is_negated)
-        if is_literal(found.text)
-        else found
-    )
+    test = MARKED.get(text[:1])
+    if test is not None:
+        return condition_of(text[1:], test, is_negated, "filter")
+    test = Test.CONTAINS if form is Form.PYWB else Test.MATCHES
+    if test is Test.MATCHES and SPECIAL.isdisjoint(text.partition(":")[2]):
+        test = Test.EQUALS
+    return condition_of(text, test, is_negated, "filter")
 
 
 def condition_of(value: str, test: Test, is_negated: bool, parameter: str) -> Condition:
     name, colon, text = value.partition(":")
     field = PYWB_NAMES.get(name, name)
     if not colon or field not in FIELDS:
-        raise Refusal(
-            "BadFilter", parameter, f"it is FIELD:TEXT, with one of the fields {FIELD_LIST}", value
-        )
-    return Condition(field, test, text, is_negated, parameter)
+        cause = f"it is FIELD:TEXT, with one of the fields {FIELD_LIST}"
+        raise Refusal("BadFilter", parameter, cause, value)
+    pattern = compiled(text) if test in (Test.MATCHES, Test.BEGINS) else None
+    return Condition(field, test, text, is_negated, parameter, pattern)
 
 
 def collapse_of(value: str) -> Collapse:
@@ -124,12 +110,8 @@ def collapse_of(value: str) -> Collapse:
     field = PYWB_NAMES.get(name, name)
     is_count = is_number(digits) and len(digits) <= 4 and int(digits) > 0
     if field not in FIELDS or (colon and not is_count):
-        raise Refusal(
-            "BadCollapse",
-            "collapse",
-            f"it is FIELD or FIELD:N, with one of the fields {FIELD_LIST}",
-            value,
-        )
+        cause = f"it is FIELD or FIELD:N, with one of the fields {FIELD_LIST}"
+        raise Refusal("BadCollapse", "collapse", cause, value)
     return Collapse(field, int(digits) if colon else None)
 
 
@@ -184,8 +166,7 @@ class Given:
             self.add_condition(condition_of(value, *TESTS[name], name), piece)
 
     def add_filter(self, condition: Condition) -> None:
-        if condition.is_pattern:
-            compiled(condition)
+        if condition.pattern is not None:
             self.add_condition(condition, "")
         else:
             name = "is" if condition.test is Test.EQUALS else "has"
@@ -212,6 +193,10 @@ class Given:
 
     def is_true(self, name: str) -> bool:
         return self.values.get(name) == "true"
+
+    def bad(self, name: str, parameter: str, cause: str) -> Refusal:
+        """Returns the refusal of a parameter because of other ones or of the settings."""
+        return Refusal(name, parameter, cause, self.values.get(parameter, ""))
 
     def is_one_key(self) -> bool:
         """Returns whether the match is `exact`."""

@@ -1,7 +1,14 @@
-"""Queries that are refused, with the parameter and the cause."""
-from collections.abc import Sequence
-from urllib.parse import unquote_plus
+"""Requests that are refused or fail, with the cause in words."""
+from collections.abc import Mapping
+from dataclasses import dataclass
 
+from werkzeug.exceptions import HTTPException, MethodNotAllowed, NotFound
+from werkzeug.wrappers import Response
+
+from warcdx import Error, Fault, command
+
+NAME = "warcdx-gateway"
+TEXT = "text/plain; charset=utf-8"
 MOST_SHOWN = 100  # characters of a value
 
 # What the program refuses and the gateway doesn't: the parameters, and what they have to be.
@@ -14,21 +21,18 @@ CAUSES: dict[str, tuple[tuple[str, ...], str]] = {
 }
 
 
+@dataclass(eq=False)
 class Refusal(Exception):
     """A query is refused.
 
     The name is that of docs/QUERY.md if the program could refuse the query for it.
     """
 
-    def __init__(
-        self, name: str, parameter: str, cause: str, value: str = "", status: int = 400
-    ) -> None:
-        super().__init__(name, parameter, cause, value)
-        self.name = name
-        self.parameter = parameter
-        self.cause = cause
-        self.value = value
-        self.status = status
+    name: str
+    parameter: str
+    cause: str
+    value: str = ""
+    status: int = 400
 
     def __str__(self) -> str:
         """Returns one line: the name, the parameter with its value, and the cause."""
@@ -43,10 +47,35 @@ def printable(text: str) -> str:
     return "".join(each if each.isprintable() else f"%{ord(each):02X}" for each in cut)
 
 
-def program_refusal(name: str, pieces: Sequence[str]) -> Refusal:
-    """Returns what the program has refused, from the pieces of the query."""
+def program_refusal(name: str, given: Mapping[str, str]) -> Refusal:
+    """Returns what the program has refused of the parameters that were given."""
     names, cause = CAUSES.get(name, ((), "the program refuses it"))
-    for parameter, _, value in (piece.partition("=") for piece in pieces):
-        if unquote_plus(parameter) in names:
-            return Refusal(name, unquote_plus(parameter), cause, unquote_plus(value))
-    return Refusal(name, names[0] if names else "", cause)
+    usual = names[0] if names else ""
+    parameter = next((each for each in given if each in names), usual)
+    return Refusal(name, parameter, cause, given.get(parameter, ""))
+
+
+def http_response(error: HTTPException) -> Response:
+    """Returns the plain response to a path or method that there isn't."""
+    name, cause = (error.name or "").title().replace(" ", ""), error.description or ""
+    headers = {}
+    if isinstance(error, MethodNotAllowed):
+        headers["Allow"] = ", ".join(sorted(error.valid_methods or ()))
+        cause = f"the methods are {headers['Allow']}"
+    elif cause == NotFound.description:
+        cause = "there is no such path"
+    return Response(f"refused {name}: {cause}\n", error.code, headers, content_type=TEXT)
+
+
+def text_of(error: BaseException) -> str:
+    """Returns an error on one line. An index is named by its number in the settings, from 0."""
+    if isinstance(error, Fault):
+        parts = ("fault", error.name, error.number, error.offset)
+        return " ".join(str(part) for part in parts if part is not None)
+    is_known = isinstance(error, (Error, Refusal, OSError)) and str(error)
+    return str(error) if is_known else f"{type(error).__name__} {error}".rstrip()
+
+
+def say(text: str) -> None:
+    """Writes a line to standard error."""
+    command.report(NAME, command.printable(text))

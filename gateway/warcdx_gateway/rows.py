@@ -4,7 +4,7 @@ import re
 from collections.abc import Sequence
 from dataclasses import dataclass
 from enum import Enum
-from typing import Any, Optional, Protocol
+from typing import Any, Optional
 from urllib.parse import quote_plus
 
 from warcdx import FIELDS
@@ -144,100 +144,67 @@ class Grouper(Collapser):
         return [] if self._first is None else [self._first]
 
 
-class DuplicateCounter:
-    """Counts for each capture the captures before it in the answer that have its digest.
+class Writer:
+    """Writes an answer in pieces, of lines: `rows` for some captures each time, then `end`.
 
-    It holds each digest.
+    `fields` are pairs of a column and its name in the answer. Here a line has the values.
     """
 
-    def __init__(self) -> None:
-        self._counts: dict[str, int] = {}
+    def __init__(self, fields: Sequence[tuple[str, str]]) -> None:
+        self._names = [name for _, name in fields]
+        self._places = [PLACES[column] for column, _ in fields]
 
-    def count(self, rows: list[Row]) -> None:
-        for row in rows:
-            count = self._counts.get(row[DIGEST], 0)
-            row[COUNT] = str(count)
-            self._counts[row[DIGEST]] = count + 1
+    def values(self, row: Row) -> list[str]:
+        return [row[place] for place in self._places]
 
-
-class Writer(Protocol):
-    """Writes an answer in pieces: `rows` for some captures each time, then `end`."""
+    def line(self, row: Row) -> str:
+        return " ".join(map(escaped, self.values(row)))
 
     def rows(self, rows: Sequence[Row]) -> bytes:
         """Returns the text of some captures."""
+        return "".join(self.line(row) + "\n" for row in rows).encode()
 
     def end(self, key: Optional[str]) -> bytes:
         """Returns the end of the answer, with the resume key if there is one."""
-
-
-def writer_of(output: Output, fields: Sequence[tuple[str, str]]) -> Writer:
-    """Returns the writer of these columns, each with its name in the answer."""
-    places = [PLACES[column] for column, _ in fields]
-    names = [name for _, name in fields]
-    if output is Output.JSON:
-        return ArrayWriter(places, names)
-    if output is Output.LINES:
-        return ObjectWriter(places, names)
-    if output is Output.CDXJ:
-        return LineWriter()
-    return TextWriter(places)
-
-
-class TextWriter:
-    """A line of values for each capture."""
-
-    def __init__(self, places: Sequence[int]) -> None:
-        self._places = places
-
-    def rows(self, rows: Sequence[Row]) -> bytes:
-        return "".join(
-            " ".join(escaped(row[place]) for place in self._places) + "\n" for row in rows
-        ).encode()
-
-    def end(self, key: Optional[str]) -> bytes:
         return b"" if key is None else f"\n{key}\n".encode()
 
 
-class LineWriter:
+class LineWriter(Writer):
     """The lines of the index."""
 
-    def rows(self, rows: Sequence[Row]) -> bytes:
-        return "".join(row[LINE] + "\n" for row in rows).encode()
-
-    def end(self, key: Optional[str]) -> bytes:
-        return b"" if key is None else f"\n{key}\n".encode()
+    def line(self, row: Row) -> str:
+        return row[LINE]
 
 
-class ArrayWriter:
+class ObjectWriter(Writer):
+    """An object on each line, as pywb writes it."""
+
+    def line(self, row: Row) -> str:
+        return json.dumps(dict(zip(self._names, self.values(row))), ensure_ascii=False)
+
+
+class ArrayWriter(Writer):
     """One array of rows, the first of which has the names of the fields."""
 
-    def __init__(self, places: Sequence[int], names: Sequence[str]) -> None:
-        self._places = places
-        self._head = "[" + array(names)
+    def __init__(self, fields: Sequence[tuple[str, str]]) -> None:
+        super().__init__(fields)
+        self._head = "[" + array(self._names)
 
     def rows(self, rows: Sequence[Row]) -> bytes:
         head, self._head = self._head, ""
-        return (
-            head + "".join(",\n" + array([row[place] for place in self._places]) for row in rows)
-        ).encode()
+        return (head + "".join(",\n" + array(self.values(row)) for row in rows)).encode()
 
     def end(self, key: Optional[str]) -> bytes:
         shown = "" if key is None else f',\n[],\n["{key}"]'
         return self.rows(()) + f"{shown}]\n".encode()
 
 
-class ObjectWriter:
-    """An object on each line, as pywb writes it. A resume key follows an empty line."""
-
-    def __init__(self, places: Sequence[int], names: Sequence[str]) -> None:
-        self._members = list(zip(names, places))
-
-    def rows(self, rows: Sequence[Row]) -> bytes:
-        objects = ({name: row[place] for name, place in self._members} for row in rows)
-        return "".join(json.dumps(each, ensure_ascii=False) + "\n" for each in objects).encode()
-
-    def end(self, key: Optional[str]) -> bytes:
-        return b"" if key is None else f"\n{key}\n".encode()
+WRITERS = {
+    Output.TEXT: Writer,
+    Output.JSON: ArrayWriter,
+    Output.CDXJ: LineWriter,
+    Output.LINES: ObjectWriter,
+}
 
 
 def array(values: Sequence[str]) -> str:

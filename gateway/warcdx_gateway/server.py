@@ -1,4 +1,5 @@
 """The workers: gunicorn runs the application in processes of limits of their own."""
+import contextlib
 import gc
 import logging
 import os
@@ -25,8 +26,9 @@ from gunicorn.errors import HaltServer
 from warcdx import Error, command
 from warcdx.program import end_with_parent
 
-from .application import NAME, Gateway, say
+from .application import Gateway
 from .collection import Collection
+from .refusal import NAME, say
 from .settings import BadSettings, Settings
 from .shared import Beat, Metrics, Shares
 
@@ -225,16 +227,15 @@ class Server(BaseApplication):
         for folder in (folder for each in settings.collections for folder in each.archives):
             if not folder.is_dir():
                 raise OSError(f"{folder}: no such folder")
-        collections = {each.name: Collection(each, settings) for each in settings.collections}
+        collections = {}
         shares = Shares(self._folder, settings.workers, settings.wide)
-        try:
-            for collection in collections.values():
-                collection.open()
-            return Gateway(settings, collections, shares, self._metrics)
-        except BaseException:
-            for collection in collections.values():
-                collection.close()
-            raise
+        with contextlib.ExitStack() as opened:
+            for each in settings.collections:
+                collections[each.name] = Collection(each, settings)
+                opened.callback(collections[each.name].close)
+            gateway = Gateway(settings, collections, shares, self._metrics)
+            opened.pop_all()  # which stay open
+        return gateway
 
 
 def run(settings: Settings, read: Callable[[], Settings]) -> None:

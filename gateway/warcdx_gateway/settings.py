@@ -6,7 +6,6 @@ import os
 import pathlib
 import re
 import tomllib
-from collections.abc import Mapping
 from dataclasses import dataclass, field
 from typing import Any
 
@@ -112,34 +111,20 @@ def read_settings(path: pathlib.Path) -> Settings:
     """
     try:
         with open(path, "rb") as file:
-            table = tomllib.load(file)
+            return settings_of(tomllib.load(file), path.parent)
     except OSError as error:
         raise BadSettings(f"{path}: {error.strerror}") from error
-    except (tomllib.TOMLDecodeError, UnicodeDecodeError) as error:
-        raise BadSettings(f"{path}: {error}") from error
-    try:
-        return settings_of(table, path.parent)
-    except BadSettings as error:
+    except (tomllib.TOMLDecodeError, UnicodeDecodeError, BadSettings) as error:
         raise BadSettings(f"{path}: {error}") from error
 
 
-def settings_of(table: Mapping[str, Any], folder: pathlib.Path) -> Settings:
-    given: dict[str, Any] = dict(table)
-    tables = given.pop("collections", None)
+def settings_of(table: dict[str, Any], folder: pathlib.Path) -> Settings:
+    tables = table.pop("collections", None)
     if not isinstance(tables, dict) or not tables:
         raise BadSettings("no collection: [collections.NAME] with indexes is needed")
     collections = tuple(collection_of(name, each, folder) for name, each in tables.items())
-    limits = limits_of(given.pop("limits", {}))
-    known = {each.name: each for each in dataclasses.fields(Settings)}
-    for name, value in given.items():
-        if name not in known or name in ("collections", "limits"):
-            raise unknown(name)
-        if name in ("hosts", "origins"):
-            given[name] = texts_of(name, value)
-        else:
-            wanted = type(known[name].default) if name != "main" else str
-            require(type(value) is wanted, name, f"has to be of type {wanted.__name__}")
-    given.setdefault("main", collections[0].name)
+    limits = limits_of(table.pop("limits", {}))
+    given: dict[str, Any] = {"main": collections[0].name, **values_of(Settings, table)}
     settings = Settings(collections=collections, limits=limits, **given)
     require(settings.main in tables, "main", "is not the name of a collection")
     return settings
@@ -158,16 +143,11 @@ def checked(settings: Settings) -> Settings:
     require(2 <= settings.workers <= MOST_WORKERS, "workers", f"has to be 2 to {MOST_WORKERS}")
     require(1 <= wide < workers, "wide", "has to be 1 or more, and less than 'workers'")
     require(settings.memory >= LEAST_MEMORY, "memory", f"has to be {LEAST_MEMORY} bytes or more")
-    require(
-        settings.timeout > settings.limits.query,
-        "timeout",
-        f"has to be more than limits.query, which is {settings.limits.query}",
-    )
-    require(
-        settings.is_local or bool(settings.hosts),
-        "hosts",
-        "has to name the hosts of requests, as the address isn't one of this machine only",
-    )
+    least = settings.limits.query
+    why = f"has to be more than limits.query, which is {least}"
+    require(settings.timeout > least, "timeout", why)
+    why = "has to name the hosts of requests, as the address isn't one of this machine only"
+    require(settings.is_local or bool(settings.hosts), "hosts", why)
     return settings
 
 
@@ -180,25 +160,32 @@ def is_loopback(host: str) -> bool:
         return host.lower().rstrip(".") == "localhost"
 
 
-def unknown(name: str) -> BadSettings:
-    why = GONE.get(name)
-    return BadSettings(f"'{name}' {why}" if why else f"unknown setting '{name}'")
+def values_of(kind: Any, table: object, where: str = "") -> dict[str, Any]:
+    """Returns the settings of a table: names of a dataclass, with values of its types."""
+    if not isinstance(table, dict):
+        raise BadSettings(f"'{where}' has to be a table")
+    types = {each.name: each.type for each in dataclasses.fields(kind) if each.name != "name"}
+    found: dict[str, Any] = {}
+    for name, value in table.items():
+        full, wanted = f"{where}.{name}".lstrip("."), types.get(name)
+        if wanted is None:
+            gone = GONE.get(full)
+            raise BadSettings(f"'{full}' {gone}" if gone else f"unknown setting '{full}'")
+        if wanted in (int, str):
+            require(type(value) is wanted, full, f"has to be of type {wanted.__name__}")
+            found[name] = value
+        else:
+            is_list = isinstance(value, list) and all(type(each) is str and each for each in value)
+            require(is_list, full, "has to be a list of texts")
+            found[name] = tuple(value)
+    return found
 
 
 def limits_of(table: object) -> Limits:
-    if not isinstance(table, dict):
-        raise BadSettings("'limits' has to be a table")
-    known = {each.name for each in dataclasses.fields(Limits)}
-    for name, value in table.items():
-        if name not in known:
-            raise unknown(f"limits.{name}")
+    limits = Limits(**values_of(Limits, table, "limits"))
+    for name, value in vars(limits).items():
         least = 0 if name == "usual" else 1
-        require(
-            type(value) is int and value >= least,
-            f"limits.{name}",
-            f"has to be a number from {least}",
-        )
-    limits = Limits(**table)
+        require(value >= least, f"limits.{name}", f"has to be a number from {least}")
     require(limits.largest <= MOST_CAPTURES, "limits.largest", f"has to be at most {MOST_CAPTURES}")
     require(limits.usual <= limits.largest, "limits.usual", "has to be at most limits.largest")
     require(limits.held <= limits.largest, "limits.held", "has to be at most limits.largest")
@@ -207,39 +194,16 @@ def limits_of(table: object) -> Limits:
 
 def collection_of(name: str, table: object, folder: pathlib.Path) -> CollectionSettings:
     where = f"collections.{name}"
-    require(
-        bool(NAME.fullmatch(name)) and name not in RESERVED,
-        where,
-        "can't be the name of a collection",
-    )
-    if not isinstance(table, dict):
-        raise BadSettings(f"'{where}' has to be a table")
-    for each in table:
-        if each not in ("title", "indexes", "archives", "form"):
-            raise BadSettings(f"unknown setting '{where}.{each}'")
-    title = table.get("title", name)
-    require(isinstance(title, str), f"{where}.title", "has to be a text")
-    indexes = texts_of(f"{where}.indexes", table.get("indexes"))
-    require(
-        1 <= len(indexes) <= MOST_INDEXES,
-        f"{where}.indexes",
-        f"has to be 1 to {MOST_INDEXES} paths",
-    )
-    archives = texts_of(f"{where}.archives", table.get("archives", []))
-    form = table.get("form", "wayback")
-    require(form in ("wayback", "pywb"), f"{where}.form", 'has to be "wayback" or "pywb"')
-    files, folders = (paths_of(each, folder) for each in (indexes, archives))
-    return CollectionSettings(name, title, files, folders, form)
-
-
-def texts_of(name: str, value: object) -> tuple[str, ...]:
-    if not isinstance(value, list) or not all(isinstance(each, str) and each for each in value):
-        raise BadSettings(f"'{name}' has to be a list of texts")
-    return tuple(value)
-
-
-def paths_of(names: tuple[str, ...], folder: pathlib.Path) -> tuple[pathlib.Path, ...]:
-    return tuple((folder / name).absolute() for name in names)
+    is_name = bool(NAME.fullmatch(name)) and name not in RESERVED
+    require(is_name, where, "can't be the name of a collection")
+    given: dict[str, Any] = {"title": name, **values_of(CollectionSettings, table, where)}
+    for kind in ("indexes", "archives"):
+        given[kind] = tuple((folder / each).absolute() for each in given.get(kind, ()))
+    found = CollectionSettings(name, **given)
+    is_few = 1 <= len(found.indexes) <= MOST_INDEXES
+    require(is_few, f"{where}.indexes", f"has to be 1 to {MOST_INDEXES} paths")
+    require(found.form in ("wayback", "pywb"), f"{where}.form", 'has to be "wayback" or "pywb"')
+    return found
 
 
 def require(holds: bool, name: str, what: str) -> None:

@@ -5,8 +5,7 @@ import os
 import pathlib
 import time
 from collections.abc import Callable, Iterator
-from enum import Enum
-from typing import Optional
+from typing import BinaryIO, Optional
 
 from prometheus_client import CollectorRegistry, generate_latest, multiprocess, values
 from prometheus_client.metrics import Counter, Histogram
@@ -35,13 +34,6 @@ class Beat:
             self._notify()
 
 
-class Share(Enum):
-    """Which workers may answer a request."""
-
-    EXACT = "exact"  # each
-    WIDE = "wide"  # as many at a time as there are slots
-
-
 class Slots:
     """Files, each of which is locked by at most one process.
 
@@ -51,18 +43,15 @@ class Slots:
     def __init__(self, folder: pathlib.Path, name: str, count: int) -> None:
         self._paths = [folder / f"{name}-{number}" for number in range(count)]
 
-    def take(self) -> Optional[tuple[int, int]]:
+    def take(self) -> Optional[tuple[int, BinaryIO]]:
         """Returns the number of a slot that was free and its open file, or None."""
         for number, path in enumerate(self._paths):
-            file = os.open(path, os.O_RDWR | os.O_CREAT | os.O_CLOEXEC, 0o600)
+            file = open(path, "wb")
             try:
                 fcntl.flock(file, fcntl.LOCK_EX | fcntl.LOCK_NB)
                 return number, file
             except BlockingIOError:
-                os.close(file)
-            except BaseException:
-                os.close(file)
-                raise
+                file.close()
         return None
 
 
@@ -76,35 +65,26 @@ class Shares:
         self._wide = Slots(folder, "wide", wide)
         self._waiting = Slots(folder, "waiting", (workers - wide) // 2)
 
-    def slot(self, kind: Share) -> contextlib.AbstractContextManager[None]:
-        """Takes a slot for a block, and waits a second for it. Raises Refusal with status 503."""
-        return contextlib.nullcontext() if kind is Share.EXACT else self._wide_slot()
-
     @contextlib.contextmanager
-    def _wide_slot(self) -> Iterator[None]:
+    def slot(self) -> Iterator[None]:
+        """Takes a slot for a block, and waits a second for it. Raises Refusal with status 503."""
         taken = self._wide.take() or self._waited()
         if taken is None:
-            raise Refusal(
-                "TooBusy", "", "too many costly queries are being answered; ask again", status=503
-            )
-        try:
+            cause = "too many costly queries are being answered; ask again"
+            raise Refusal("TooBusy", "", cause, status=503)
+        with taken[1]:
             yield
-        finally:
-            os.close(taken[1])
 
-    def _waited(self) -> Optional[tuple[int, int]]:
-        place = self._waiting.take()
+    def _waited(self) -> Optional[tuple[int, BinaryIO]]:
+        place, end = self._waiting.take(), time.monotonic() + WAIT
         if place is None:
             return None
-        try:
-            end = time.monotonic() + WAIT
+        with place[1]:
             while time.monotonic() < end:
                 time.sleep(LOOKS)
                 if taken := self._wide.take():
                     return taken
-            return None
-        finally:
-            os.close(place[1])
+        return None
 
 
 class Metrics:
@@ -146,9 +126,9 @@ class Metrics:
 
     def sit(self) -> None:
         """Takes a seat, in a new worker."""
-        taken = self._seats.take()
-        if taken is not None:
-            self._seat = str(taken[0])
+        self._taken = self._seats.take()  # its file stays open
+        if self._taken is not None:
+            self._seat = str(self._taken[0])
 
     def text(self) -> bytes:
         """Returns all counts in the text format of Prometheus."""

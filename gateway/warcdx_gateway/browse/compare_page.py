@@ -13,11 +13,10 @@ from warcdx import Capture
 
 from ..application import Gateway
 from ..collection import Collection
-from ..history import original_of
 from . import comparing, dates, reading
 from .layout import collection_page
 from .markup import Child, Markup, cut, element, followed, joined
-from .places import record_link
+from .places import original_of, record_link
 from .reading import Read
 from .record_page import target_of
 from .searching import NotShown

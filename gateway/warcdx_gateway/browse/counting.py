@@ -6,7 +6,7 @@ from dataclasses import dataclass, field
 
 from warcdx import Refused
 
-from ..answers import Source
+from ..collection import Source
 from . import dates
 from .searching import Search
 

@@ -16,9 +16,10 @@ from warcdx import Capture, Error
 
 from ..application import Gateway
 from ..collection import Collection
-from ..history import History, original_of
+from ..history import History
 from ..refusal import Refusal
 from . import reading
+from .places import original_of
 from .record_page import target_of
 from .searching import NotShown
 

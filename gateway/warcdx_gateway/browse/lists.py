@@ -4,17 +4,16 @@ from typing import Optional
 
 from warcdx import Capture
 
-from ..answers import Source
+from ..answers import REVISIT
 from ..application import Gateway
 from ..collection import Collection
-from ..history import REVISIT, place_of
-from ..shared import Share
+from ..history import quoted
 from . import dates
 from .counting import count_of_url
 from .layout import row, table
 from .markup import MOST_LINK, Child, Link, Markup, cut, element, followed, joined, link
-from .places import record_link, text_of
-from .searching import Search, quoted
+from .places import place_of, record_link, text_of
+from .searching import Search
 
 SIZE = 50  # rows of a page
 _MOST_ADDRESS = 300  # characters of an address that are shown in a list
@@ -45,7 +44,7 @@ def addresses(gateway: Gateway, collection: Collection, search: Search, after: s
     query = search.query(collapse="urlkey", resumeKey=after)
     part = _part(gateway, collection, query, bool(after))
     times = Search("", "exact", search.first, search.last)
-    source = Source(collection.index, gateway.clock(Share.WIDE))
+    source = gateway.source(collection)
     counts = tuple(
         count_of_url(source, replace(times, key=each.urlkey)) for each in part.captures
     )

@@ -5,16 +5,19 @@ from collections.abc import Mapping
 from dataclasses import dataclass
 from typing import Optional
 
-from warcdx import Capture
+from warcdx import Capture, Refused
+from warcdx.record import Head
 
+from ..answers import REVISIT
 from ..application import Gateway
 from ..collection import Collection
-from ..history import MOST, Ask, History, before_time, place_of, quoted, resumed
+from ..history import MOST, Ask, History, before_time, quoted, resumed
 from .markup import Link, link
 from .searching import NotShown
 
 _OFFSET = re.compile("[0-9]{1,19}")
 _TIMESTAMP = re.compile("[0-9]{14}")
+_SHA1 = re.compile("^sha1:", re.IGNORECASE)
 
 
 @dataclass(frozen=True)
@@ -74,6 +77,11 @@ class Place:
         return found
 
 
+def place_of(capture: Capture) -> str:
+    """Returns the place of a capture as a resume key, which isn't form-encoded yet."""
+    return f"{capture.urlkey} {capture.timestamp} {capture.filename} {capture.offset}"
+
+
 def capture_at(ask: Ask, place: Capture) -> Optional[Capture]:
     """Returns the capture with the key, timestamp, file name and offset of a place, or None."""
     after = before_time(place.urlkey, int(place.timestamp))
@@ -87,6 +95,36 @@ def capture_at(ask: Ask, place: Capture) -> Optional[Capture]:
         if place.offset or len(found) < MOST or found[-1].timestamp != place.timestamp:
             return None
         after = resumed(place_of(found[-1]))
+
+
+def original_of(ask: Ask, head: Head) -> Optional[Capture]:
+    """Returns the capture that a revisit points to by its head, or None if no index has it.
+
+    It is one of the URL, with the digest and the time if the revisit has them, or else with the
+    digest alone.
+    """
+    digest = _SHA1.sub("", head.field("WARC-Payload-Digest") or "", count=1)
+    url = without_brackets(head.field("WARC-Refers-To-Target-URI") or "")
+    url = url or without_brackets(head.field("WARC-Target-URI") or "")
+    if not url:
+        return None
+    digits = re.sub("[^0-9]", "", head.field("WARC-Refers-To-Date") or "")[:14]
+    times = f"&from={digits}&to={digits}" if len(digits) == 14 else ""
+    same = f"&is=digest:{quoted(digest)}" if digest else ""
+    target = f"url={quoted(url)}&matchType=exact&isnot=mimetype:{REVISIT}"
+    for conditions in dict.fromkeys(filter(None, (times and times + same, same))):
+        try:
+            found = ask(target + conditions, 1)
+        except Refused:
+            return None
+        if found:
+            return found[0]
+    return None
+
+
+def without_brackets(url: str) -> str:
+    """Returns a URL without the brackets that wget writes around it."""
+    return url[1:-1] if url.startswith("<") and url.endswith(">") else url
 
 
 def text_of(capture: Capture) -> str:

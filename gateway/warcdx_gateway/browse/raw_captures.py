@@ -11,8 +11,9 @@ from warcdx.codings import content_codings
 from warcdx.record import HttpHead, RecordStream
 
 from ..collection import Collection
-from ..history import Ask, original_of
+from ..history import Ask
 from . import reading, responses
+from .places import original_of
 from .searching import NotShown
 
 MOST_FIELDS = 64  # of an archived head

@@ -1,5 +1,6 @@
 """Reads records for these pages, with bounds on what is read, unpacked and held."""
 import contextlib
+import pathlib
 import re
 from collections.abc import Iterator
 from dataclasses import dataclass
@@ -100,7 +101,7 @@ class Read:
 @contextlib.contextmanager
 def opened(collection: Collection, capture: Capture) -> Iterator[RecordStream]:
     """Opens the record of a capture, by its offset and length. Raises NotShown."""
-    path = collection.archive(capture.filename)
+    path = archive_of(collection, capture.filename)
     if path is None:
         raise NotShown(
             f"The archive “{capture.filename}” isn't here.",
@@ -120,6 +121,19 @@ def opened(collection: Collection, capture: Capture) -> Iterator[RecordStream]:
         ) from None
     except (Fault, Unreadable) as error:
         raise NotShown("The record can't be read.", reason_of(error), 502) from error
+
+
+def archive_of(collection: Collection, filename: str) -> Optional[pathlib.Path]:
+    """Returns the file of this name in the folders, or None. It is never outside of them."""
+    for folder in collection.settings.archives:
+        root = folder.resolve()
+        try:
+            path = (root / filename).resolve()
+            if path.is_relative_to(root) and path.is_file():
+                return path
+        except (OSError, ValueError):  # a name that is too long, or has a NUL
+            continue
+    return None
 
 
 def reason_of(error: Error) -> str:

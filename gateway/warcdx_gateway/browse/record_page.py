@@ -11,11 +11,11 @@ from warcdx.record_digests import Verdict, Verdicts
 
 from ..application import Gateway
 from ..collection import Collection
-from ..history import History, original_of, without_brackets
+from ..history import History
 from . import dates, reading
 from .layout import collection_page, row, table
 from .markup import Child, Markup, cut, element, followed, joined, link
-from .places import record_link
+from .places import original_of, record_link, without_brackets
 from .reading import MOST_SHOWN, MOST_VERIFIED, Read
 from .searching import Search
 

@@ -13,7 +13,6 @@ from warcdx import Error, Fault, Refused, ReplyTooLate, ReplyTooLong
 from ..application import Gateway, rule
 from ..collection import Collection
 from ..refusal import Refusal
-from ..shared import Share
 from . import dates, embedding, layout, reading, responses
 from .compare_page import compare_page
 from .places import Place
@@ -29,7 +28,7 @@ WINDOW = "document"  # the value of Sec-Fetch-Dest for a page that gets a window
 Page = Callable[[Gateway, Collection, Request], Response]
 
 
-def rules(gateway: Gateway) -> list[Rule]:
+def rules() -> list[Rule]:
     """Returns the rules of `/browse`, and of `/COLLECTION/browse/` with what is below it."""
     found = [
         rule("/", _root),
@@ -105,7 +104,7 @@ def start(gateway: Gateway, collection: Collection, request: Request) -> Respons
 
 def search_of(gateway: Gateway, collection: Collection, request: Request) -> Response:
     query = request.args
-    with gateway.slot(Share.WIDE):
+    with gateway.slot():
         return search_page(
             gateway, collection, Search.of(query), query.get("year", ""), query.get("after", "")
         )
@@ -113,20 +112,20 @@ def search_of(gateway: Gateway, collection: Collection, request: Request) -> Res
 
 def captures_of(gateway: Gateway, collection: Collection, request: Request) -> Response:
     query = request.args
-    with gateway.slot(Share.WIDE):
+    with gateway.slot():
         return captures_page(gateway, collection, Search.of(query), query.get("after", ""))
 
 
 def compare(gateway: Gateway, collection: Collection, request: Request) -> Response:
     places = [Place.of_text(request.args.get(name, "")) for name in ("first", "second")]
-    with gateway.slot(Share.WIDE):
+    with gateway.slot():
         captures = [place.capture(gateway, collection) for place in places]
         return compare_page(gateway, collection, captures)
 
 
 def record(gateway: Gateway, collection: Collection, request: Request) -> Response:
     capture = Place.of(request.args).capture(gateway, collection)
-    with gateway.slot(Share.WIDE):
+    with gateway.slot():
         return record_page(gateway, collection, capture)
 
 
@@ -138,7 +137,7 @@ def payload(gateway: Gateway, collection: Collection, request: Request) -> Respo
     if request.headers.get("Sec-Fetch-Dest") == WINDOW:
         return responses.redirect(f"record?{request.query_string.decode('latin-1')}")
     capture = Place.of(request.args).capture(gateway, collection)
-    with gateway.slot(Share.WIDE):
+    with gateway.slot():
         record = reading.read(collection, capture)
         kind = record.shown_type
         if kind is None:
@@ -157,7 +156,7 @@ def download(gateway: Gateway, collection: Collection, request: Request) -> Resp
         raise NotShown("The download was refused.", "A record or its payload can be saved.")
     capture = place.capture(gateway, collection)
     with contextlib.ExitStack() as stack:
-        stack.enter_context(gateway.slot(Share.WIDE))
+        stack.enter_context(gateway.slot())
         opened = Download(stack, stack.enter_context(reading.opened(collection, capture)), what)
     headers = responses.attachment_headers(_file_name(opened, place, what))
     response = Response(opened, 200, headers, content_type="application/octet-stream")

@@ -3,10 +3,8 @@ import re
 
 from werkzeug.wrappers import Response
 
-from ..answers import Source
 from ..application import Gateway
 from ..collection import Collection
-from ..shared import Share
 from . import calendars, dates, lists
 from .counting import Counts, count
 from .layout import collection_page
@@ -23,7 +21,7 @@ def search_page(
 
     It has the calendar of a year, for one URL that of the last year with captures by default.
     """
-    counts = count(Source(collection.index, gateway.clock(Share.WIDE)), search)
+    counts = count(gateway.source(collection), search)
     if not counts.total:
         return collection_page(collection, title_of(search), nothing(search), search=search)
     chosen = year if _YEAR.fullmatch(year) else ""

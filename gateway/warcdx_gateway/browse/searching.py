@@ -3,8 +3,8 @@ import re
 from collections.abc import Mapping
 from dataclasses import dataclass, replace
 from typing import Optional
-from urllib.parse import quote_plus
 
+from ..history import quoted
 from . import dates
 from .markup import Link, link
 
@@ -128,7 +128,3 @@ class Search:
         """Returns why this search is refused, from the name that the program gives it."""
         why = REASONS.get(name, "The program has refused the query.")
         return NotShown(f"The search for “{self.shown}” was refused ({name}).", why)
-
-
-def quoted(value: str) -> str:
-    return quote_plus(value, errors="replace")

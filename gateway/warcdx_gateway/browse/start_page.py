@@ -1,6 +1,7 @@
 """The start page of a collection: what it holds."""
 import contextlib
 import datetime
+import json
 import re
 from collections import Counter
 from collections.abc import Mapping
@@ -20,6 +21,8 @@ from .markup import Child, cut, element, followed, link
 
 MOST_ROWS = 20  # of a table
 MOST_DAMAGED = 20
+MOST_SUMMARY = 16 << 20  # bytes
+SUMMARY = ".summary.json"  # what is added to the name of an index
 _MOST_NAME = 200  # characters of a value
 _YEAR = re.compile("[0-9]{4}")
 # With the front of a key before it, the place after all keys that begin so.
@@ -27,7 +30,7 @@ _AFTER = "\U0010ffff 00000000000000 - 0"
 
 
 def start_page(gateway: Gateway, collection: Collection) -> Response:
-    summary = collection.summary()
+    summary = summary_of(collection)
     content: list[Child] = [
         element("h1", collection.title),
         element("p", "Search for an address or a host to see when it was captured."),
@@ -38,6 +41,19 @@ def start_page(gateway: Gateway, collection: Collection) -> Response:
         content += _some_hosts(some_hosts(gateway, collection))
         content.append(_files(collection))
     return collection_page(collection, collection.title, *content)
+
+
+def summary_of(collection: Collection) -> Optional[dict[str, Any]]:
+    """Returns what the file beside the first index says of the collection, if there is one."""
+    first = collection.settings.indexes[0]
+    path = first.with_name(first.name + SUMMARY)
+    try:
+        if path.stat().st_size > MOST_SUMMARY:
+            return None
+        found = json.loads(path.read_bytes())
+    except (OSError, ValueError, RecursionError):
+        return None
+    return found if isinstance(found, dict) else None
 
 
 def _summary(summary: Mapping[str, Any]) -> list[Child]:
