@@ -94,8 +94,8 @@ def rows(folder: pathlib.Path) -> Iterator[Row]:
     archives, crawls = [archive(folder, batches) for batches in (1, 2)], [crawl(folder, captures) for captures in CAPTURES]
     one, four, many = ([indexes(folder, count, files) for count in LINES] for files in (1, 4, 1024))
     numbers = [with_numbers(index) for index in one]
-    yield Row("list of a file, a record of 20 kB", ["list"], *archives, 3200)
-    yield Row("index of a file, a capture", ["index"], *crawls, 9500)
+    yield Row("list of a file, a record of 20 kB", ["list"], *archives, 2900)
+    yield Row("index of a file, a capture", ["index"], *crawls, 8200)
     yield Row("check, a line", ["check"], *one, 900)
     yield Row("merge of 4 files, a line that is read", ["merge"], *four, 1500)
     yield Row("merge of 1,024 files, a line that is read", ["merge"], *many, 1850)
