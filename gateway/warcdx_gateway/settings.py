@@ -15,6 +15,7 @@ MOST_CAPTURES = 1_000_000  # the largest limit of the program
 MOST_INDEXES = 1024  # of the program
 MOST_WORKERS = 256
 LEAST_MEMORY = 256 << 20  # bytes
+WORDS = {int: "a whole number", str: "a text"}
 # What settings of earlier versions are replaced by.
 GONE = {
     "exact": "is gone: 'workers' is how many requests are answered at a time",
@@ -171,8 +172,8 @@ def values_of(kind: Any, table: object, where: str = "") -> dict[str, Any]:
         if wanted is None:
             gone = GONE.get(full)
             raise BadSettings(f"'{full}' {gone}" if gone else f"unknown setting '{full}'")
-        if wanted in (int, str):
-            require(type(value) is wanted, full, f"has to be of type {wanted.__name__}")
+        if wanted in WORDS:
+            require(type(value) is wanted, full, f"has to be {WORDS[wanted]}")
             found[name] = value
         else:
             is_list = isinstance(value, list) and all(type(each) is str and each for each in value)
