@@ -8,7 +8,7 @@ from .support import ROOT as _  # noqa: F401, whose import finds the packages
 
 from warcdx import FIELDS
 from warcdx_gateway import rows
-from warcdx_gateway.answers import or_nothing, sliced
+from warcdx_gateway.answers import arranged, or_nothing, sliced
 from warcdx_gateway.refusal import Refusal
 from warcdx_gateway.rows import DIGEST, KEY, STAMP, Collapse, Grouper, row_of_values
 
@@ -58,6 +58,12 @@ class Pieces(unittest.TestCase):
             for text, wanted in ((whole, whole), (alone, b"[]\n")):
                 pieces = iter([text[at : at + size] for at in range(0, len(text), size)])
                 self.assertEqual(wanted, b"".join(or_nothing(pieces)))
+
+    def test_captures_are_given_in_the_order_of_their_numbers(self) -> None:
+        groups = [[["3"], ["4"]], [], [["5"], ["6"], ["7"]]]
+        for numbers in ((7, 3, 5), (4,), range(7, 2, -1), ()):
+            found = [row for group in arranged(iter(groups), numbers, 3) for row in group]
+            self.assertEqual([[str(number)] for number in numbers], found)
 
     def test_captures_are_those_of_their_numbers(self) -> None:
         groups = [[["1"], ["2"]], [], [["3"]], [["4"], ["5"]]]

@@ -241,6 +241,6 @@ def stamp_of(found: "map[os.stat_result]") -> Stamp:
 
 
 def values_of(lines: list[bytes]) -> list[list[str]]:
-    """Returns the values of captures from lines of `output=json`, each of which ends in `,` or `]`."""
+    """Returns the values of captures. Lines of `output=json` each end in `,` or `]`."""
     rows: list[list[str]] = json.loads(b"[" + b",".join([line[:-1] for line in lines]) + b"]")
     return rows

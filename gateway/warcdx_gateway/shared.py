@@ -21,7 +21,7 @@ BOUNDS = (0.005, 0.01, 0.025, 0.05, 0.1, 0.25, 0.5, 1.0, 2.5, 5.0, 10.0, 30.0)  
 
 
 class Beat:
-    """Shows the master that a worker goes on, now and then: it costs as much as a part of an answer."""
+    """Shows the master that a worker goes on, by a system call, at most four times a second."""
 
     def __init__(self, notify: Callable[[], None]) -> None:
         self._notify = notify
