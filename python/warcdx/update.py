@@ -285,7 +285,7 @@ class Update:
         try:
             if not self._is_current():
                 self._merge(workers)
-        except (CannotUpdate, OSError) as error:
+        except (CannotUpdate, Failed, OSError) as error:
             return reason_of(error)
         return None
 

@@ -25,7 +25,7 @@ import re
 import sys
 from collections import Counter
 from collections.abc import Callable, Iterator, Sequence
-from typing import Any, BinaryIO, Optional
+from typing import Any, BinaryIO, Optional, TextIO
 
 from . import __version__, update_task
 from .command import FAILED, Parser, printable, report, run
@@ -38,6 +38,7 @@ from .update_results import Locked, Results
 NAME = "warcdx-update"
 CONSEQUENCES = {Action.KEPT: "; the index keeps its captures", Action.LEFT_OUT: "; left out"}
 _NUMBER = re.compile("[1-9][0-9]{0,2}")
+_REPORT = b'{"archive": '  # the first bytes of a report
 
 
 def read_arguments(arguments: Optional[Sequence[str]]) -> argparse.Namespace:
@@ -179,10 +180,19 @@ def update(given: argparse.Namespace, output: BinaryIO) -> int:
 
 
 def run_with_report(work: Update, given: argparse.Namespace) -> Outcome:
-    with open(given.report, "w", encoding="ascii") as file:
+    with open_report(given.report) as file:
         outcome = work.run(given.recursive)
         file.writelines(json.dumps(each.values()) + "\n" for each in outcome.reports)
     return outcome
+
+
+def open_report(path: str) -> TextIO:
+    """Opens a file for a report. Raises Error if it would replace a file that isn't a report, such as the index."""
+    if os.path.isfile(path):
+        with open(path, "rb") as file:
+            if file.read(len(_REPORT)) not in (b"", _REPORT):
+                raise Error(f"{path}: this file isn't a report, and isn't replaced")
+    return open(path, "w", encoding="ascii")
 
 
 def workers_of(given: argparse.Namespace) -> Callable[[], contextlib.AbstractContextManager[Workers]]:

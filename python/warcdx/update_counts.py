@@ -5,12 +5,14 @@ import os
 import pathlib
 from collections import Counter
 from collections.abc import Iterable, Sequence
+from operator import index
 from typing import Any, NamedTuple, Optional
 
 from .update_log import Identity, Part
-from .update_task import COUNTED
+from .update_task import COUNTED, Failed
 
 MOST = 100  # values of a field in a summary
+_DAMAGE = (AttributeError, KeyError, TypeError, ValueError)  # what a file raises that doesn't have the expected values
 
 
 class Counts:
@@ -23,8 +25,8 @@ class Counts:
     @classmethod
     def of(cls, values: dict[str, Any]) -> "Counts":
         counts = cls()
-        counts.captures = values["captures"]
-        counts.fields = {name: Counter(values[name]) for name in COUNTED}
+        counts.captures = index(values["captures"])
+        counts.fields = {name: Counter({value: index(count) for value, count in values[name].items()}) for name in COUNTED}
         return counts
 
     def values(self) -> dict[str, Any]:
@@ -57,7 +59,7 @@ class Made(NamedTuple):
         try:
             values = json.loads(path.read_text(encoding="utf-8"))
             return cls(Identity(*values["index"]), frozenset(values["parts"]), Counts.of(values["counts"]))
-        except (FileNotFoundError, ValueError, KeyError, TypeError):
+        except (FileNotFoundError, *_DAMAGE):
             return None
 
     def write(self, path: pathlib.Path) -> None:
@@ -74,7 +76,7 @@ def counts_of(folder: pathlib.Path, wanted: frozenset[str], made: Optional[Made]
             for part in made.parts - wanted:
                 counts.remove(read_counts(folder, part))
             return counts
-        except (FileNotFoundError, ValueError, KeyError):  # those of a part that is gone: all are counted anew
+        except FileNotFoundError:  # the counts of a part that is gone: all are counted anew
             pass
     counts = Counts()
     for part in wanted:
@@ -83,7 +85,13 @@ def counts_of(folder: pathlib.Path, wanted: frozenset[str], made: Optional[Made]
 
 
 def read_counts(folder: pathlib.Path, part: str) -> Counts:
-    return Counts.of(json.loads((folder / f"{part}.json").read_text(encoding="utf-8")))
+    """Returns the counts of a part. Raises Failed if they are damaged, and then removes them."""
+    file = folder / f"{part}.json"
+    try:
+        return Counts.of(json.loads(file.read_text(encoding="utf-8")))
+    except _DAMAGE:
+        os.remove(file)  # so that the next update makes the part anew
+        raise Failed(f"{file.name} in {folder.name} is damaged; the next update indexes its archive anew") from None
 
 
 def summary_of(parts: Sequence[Part], counts: Counts, damaged: Iterable[dict[str, Any]]) -> dict[str, Any]:

@@ -22,7 +22,8 @@ import tempfile
 import time
 
 from failing_runs import (
-    a_full_disk_is_reported, a_signal_ends_a_run, an_archive_that_cannot_be_read_keeps_its_part, memory_may_be_refused, streams_may_be_closed
+    a_full_disk_is_reported, a_report_replaces_no_other_file, a_signal_ends_a_run, an_archive_that_cannot_be_read_keeps_its_part,
+    counts_that_are_damaged_are_made_anew, memory_may_be_refused, parts_that_are_damaged_leave_the_index, streams_may_be_closed
 )
 from update_trial import (
     FAILING, SLOW, WAIT, Differs, Trial, compressed, copy_sample, expect, index_of, index_of_folders, kill_group, merged, sample, until
@@ -296,20 +297,6 @@ def another_file_is_not_replaced(program: pathlib.Path, folder: pathlib.Path) ->
     trial.expect_results({"07.warc": 1}, trial.wanted)
 
 
-def parts_that_are_damaged_leave_the_index(program: pathlib.Path, folder: pathlib.Path) -> None:
-    """`warcdx check` doesn't accept an index of a part that something else has changed."""
-    trial = Trial(program, folder)
-    expect("status", trial.run(), 1)
-    part = next(path for path in trial.parts.iterdir() if not path.suffix and path.stat().st_size > 1000)
-    part.write_bytes(bytes(part.stat().st_size))
-    copy_sample("response", trial.archives / "new.warc")
-    expect("status", trial.run(), 3)
-    expect("index", trial.index.read_bytes() == trial.wanted, True)
-    part.unlink()
-    expect("status without the part", trial.run(), 1)
-    trial.expect_results({"07.warc": 1}, trial.index_of("*.warc"))
-
-
 def the_summary_counts_the_captures(program: pathlib.Path, folder: pathlib.Path) -> None:
     """The values are those of the samples, by hand: response.warc has one capture of 2016."""
     trial = Trial(program, folder)
@@ -368,6 +355,8 @@ CASES = (
     a_second_run_is_refused,
     another_file_is_not_replaced,
     parts_that_are_damaged_leave_the_index,
+    counts_that_are_damaged_are_made_anew,
+    a_report_replaces_no_other_file,
     a_full_disk_is_reported,
     streams_may_be_closed,
     memory_may_be_refused,

@@ -1,4 +1,4 @@
-"""Runs of warcdx-update that signals end, and runs without room on the disk, streams, memory or an archive."""
+"""Runs of warcdx-update that signals end, and runs without room on the disk, streams, memory, an archive or whole files."""
 import os
 import pathlib
 import shutil
@@ -6,7 +6,7 @@ import signal
 import subprocess
 import time
 
-from update_trial import SLOW, WAIT, Trial, children_of, expect, until
+from update_trial import SLOW, WAIT, Trial, children_of, copy_sample, expect, until
 
 
 def a_signal_ends_a_run(program: pathlib.Path, folder: pathlib.Path) -> None:
@@ -102,3 +102,49 @@ def an_archive_that_cannot_be_read_keeps_its_part(program: pathlib.Path, folder:
     expect("status without the archive", trial.run(), 1)
     trial.expect_results({"07.warc": 1}, trial.index_of("*.warc"))
     expect("action", trial.reports["05.warc"]["action"], "removed")
+
+
+def parts_that_are_damaged_leave_the_index(program: pathlib.Path, folder: pathlib.Path) -> None:
+    """`warcdx check` doesn't accept an index of a part that something else has changed."""
+    trial = Trial(program, folder)
+    expect("status", trial.run(), 1)
+    part = next(path for path in trial.parts.iterdir() if not path.suffix and path.stat().st_size > 1000)
+    part.write_bytes(bytes(part.stat().st_size))
+    copy_sample("response", trial.archives / "new.warc")
+    expect("status", trial.run(), 3)
+    expect("index", trial.index.read_bytes() == trial.wanted, True)
+    part.unlink()
+    expect("status without the part", trial.run(), 1)
+    trial.expect_results({"07.warc": 1}, trial.index_of("*.warc"))
+
+
+def counts_that_are_damaged_are_made_anew(program: pathlib.Path, folder: pathlib.Path) -> None:
+    """The run that finds them leaves the index as it was, and the next one indexes the archive of the part."""
+    trial = Trial(program, folder)
+    expect("status", trial.run(), 1)
+    made = trial.parts / "made.json"
+    for text in ("", "[]", "{", '{"captures": "1"}', made.read_text()[:40], "\0" * 100):
+        counts = next(path for path in trial.parts.iterdir() if path.suffix == ".json" and path != made)
+        counts.write_text(text)
+        made.write_text(text)
+        trial.forget()
+        expect("status", trial.run(), 3)
+        damage = f"{counts.name} in {trial.parts.name} is damaged; the next update indexes its archive anew"
+        expect("line", trial.said[-1], f"warcdx-update: {trial.index}: {damage}; the index stays as it was")
+        expect("index", trial.index.read_bytes() == trial.wanted, True)
+        expect("archives", trial.begun, [])
+        expect("status of the next run", trial.run(), 1)
+        expect("archives of the next run", len(trial.begun), 1)
+        trial.expect_results({"07.warc": 1}, trial.wanted)
+
+
+def a_report_replaces_no_other_file(program: pathlib.Path, folder: pathlib.Path) -> None:
+    trial = Trial(program, folder)
+    expect("status", trial.run(), 1)
+    for path in (trial.index, trial.archives / "05.warc"):
+        before = path.read_bytes()
+        expect("status", trial.run("--report", path), 3)
+        expect("line", trial.said, [f"warcdx-update: {path}: this file isn't a report, and isn't replaced"])
+        expect("file", path.read_bytes() == before, True)
+    expect("status over a report", trial.run(), 1)
+    trial.expect_results({"07.warc": 1}, trial.wanted)
