@@ -39,6 +39,16 @@ row "\`this file isn't an index, and isn't replaced\`"
 echo x > text
 shows "another file" "this file isn't an index, and isn't replaced" run_python update --warcdx "$program" --quiet folder text
 
+row "\`this file isn't a report, and isn't replaced\`"
+shows "another report" "this file isn't a report, and isn't replaced" run_python update --warcdx "$program" --report text folder reported
+
+row "\`is damaged; the next update indexes its archive anew\`"
+run_python update --warcdx "$program" --quiet folder damaged
+for file in damaged.parts/*.json; do
+    : > "$file"
+done
+shows "damaged counts" "is damaged; the next update indexes its archive anew" run_python update --warcdx "$program" --quiet folder damaged
+
 row "\`the parts have N captures, and the index of them has M\`"
 row "\`the module distributed is missing (Debian's package python3-distributed)\`, \`Python's package surt is missing\`"
 
