@@ -33,7 +33,8 @@ fn copy_block<I: Input, O: Output>(
     }
 }
 
-/// Writes a record as it is stored, and returns its length in bytes. Its head has been read, and none of its block.
+/// Writes a record as it is stored, and returns its length in bytes. Its head has been read, and
+/// none of its block.
 ///
 /// Errors are the archive's fault, and `Write`. A prefix of the record was then written.
 pub fn copy_record<I: Input, O: Output>(
