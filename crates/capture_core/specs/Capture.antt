@@ -108,17 +108,3 @@ OneCapture = (types : Kind → Bool) (limit few : ℕ) (h : HeadView) (block nam
 abbrev pub HasCapture : (Kind → Bool) → ℕ → ℕ → HeadView → List ℕ → List ℕ → Type 0
 HasCapture types limit few h block name = (captured : Option EntryValue)
     × IsCapture types limit few h block name captured
-
--- the entry of a record, by its head and the texts of its capture
-abbrev pub entry_with : HeadView → List ℕ → List ℕ → List ℕ → List ℕ → List ℕ → EntryValue
-entry_with h name url mime status digest = record {
-  key = key_of url;
-  stamp = h.parts.stamp;
-  url = url;
-  mime = mime;
-  status = status;
-  digest = digest;
-  length = record_length h;
-  offset = h.start;
-  filename = name;
-}

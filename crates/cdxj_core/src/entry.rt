@@ -1,7 +1,7 @@
-//! The entry of a capture in an index, with its own texts or borrowed ones.
+//! The entry of a capture in an index, with texts of its own.
 use crate::field::Field;
+use crate::keyless::KeylessEntry;
 use crate::line_ref::LineRef;
-use cdxj_objects::Members;
 use cdxj_places::{HasPlace, Pair, Place, is_key, is_stamp};
 use std::alloc::{AllocError, Global};
 use std::cmp::Ordering;
@@ -51,7 +51,7 @@ impl Model for Entry {
 
 impl Entry {
     ghost use Rattle.std.specs.Prelude.{◌≡◌, ◌↔◌, IfOk, IsTrue};
-    ghost use Rattle.cdxj_core.specs.Entries.{AreUtf8, IsGood, entry_view};
+    ghost use Rattle.cdxj_core.specs.Entries.{AreUtf8, IsGood, keyed_view};
     ghost use Rattle.cdxj_core.specs.Lines.{entry_of_values};
 
     /// Returns `true` if the entry can be written: the key is a key, the stamp is 14 digits, no
@@ -96,12 +96,11 @@ impl Entry {
         })
     }
 
-    /// Returns the entry with its texts borrowed.
-    pub fn borrowed(&self) -> EntryRef<'_>
-        ensures { entry_view result ≡ self.now }
+    /// Returns the entry without its key, with its texts borrowed.
+    pub fn keyless(&self) -> KeylessEntry<'_>
+        ensures { keyed_view self.now.key result ≡ self.now }
     {
-        EntryRef {
-            key: self.key.as_str(),
+        KeylessEntry {
             stamp: self.stamp,
             url: self.url.as_str(),
             mime: self.mime.as_str(),
@@ -146,53 +145,5 @@ impl HasPlace for Entry {
             .cmp(&other.pair())
             .then_with(|| self.filename.as_str().cmp(other.filename.as_str()))
             .then_with(|| self.offset.cmp(&other.offset))
-    }
-}
-
-/// The contents of an index line about one capture. Its texts are borrowed.
-#[derive(Clone, Copy, Debug)]
-pub struct EntryRef<'a> {
-    /// The key of `url`.
-    pub key: &'a str,
-    /// 14 digits, `YYYYMMDDhhmmss`.
-    pub stamp: [u8; 14],
-    /// The target.
-    pub url: &'a str,
-    /// The media type, or `-`.
-    pub mime: &'a str,
-    /// The HTTP status in three digits, or `-`.
-    pub status: &'a str,
-    /// The digest of the payload, or `-`.
-    pub digest: &'a str,
-    /// The length of the record in bytes.
-    pub length: u64,
-    /// The offset in bytes from the archive's start.
-    pub offset: u64,
-    /// The archive's name.
-    pub filename: &'a str,
-}
-
-impl<'a> EntryRef<'a> {
-    ghost use Rattle.std.specs.Prelude.{◌≡◌, ◌↔◌, IsTrue};
-    ghost use Rattle.cdxj_objects.specs.Texts.{borrowed_view};
-    ghost use Rattle.cdxj_core.specs.Entries.{IsGood, entry_texts, entry_view};
-
-    /// Returns the texts of the members. `length` and `offset` are the entry's numbers in decimal.
-    pub(crate) fn members(self, length: &'a str, offset: &'a str) -> Members<&'a str>
-        ensures { borrowed_view result
-            ≡ record (entry_texts (entry_view self.entry)) {
-              length = length.now;
-              offset = offset.now;
-            } }
-    {
-        Members {
-            url: self.url,
-            mime: self.mime,
-            status: self.status,
-            digest: self.digest,
-            length,
-            offset,
-            filename: self.filename,
-        }
     }
 }

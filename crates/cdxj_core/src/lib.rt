@@ -17,7 +17,7 @@ mod spans;
 mod unescaped;
 mod writing;
 
-pub use crate::entry::{Entry, EntryRef};
+pub use crate::entry::Entry;
 pub use crate::fault::LineFault;
 pub use crate::field::{Field, field_name, field_named};
 pub use crate::keyless::KeylessEntry;
