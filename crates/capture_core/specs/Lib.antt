@@ -4,7 +4,6 @@ pub mod FieldValue
 pub mod Types
 pub mod Indexed
 pub mod Capture
-pub mod EntryTexts
 pub mod ResponseView
 pub mod Fault
 pub mod RecordReading

@@ -6,8 +6,7 @@ ghost use Rattle.cdxj_core.specs.declared.limit.TheConstants.{LINE_LIMIT};
 ghost use Rattle.cdxj_places.specs.Pair.{is_stamp};
 ghost use Rattle.cdxj_keys.specs.Key.{key_of};
 ghost use Rattle.cdxj_core.specs.Entries.{HasLine, HasPlainTexts, keyed_view, line_text};
-ghost use Rattle.capture_core.specs.Capture.{entry_of};
-ghost use Rattle.capture_core.specs.EntryTexts.{AreFilled, entry_with};
+ghost use Rattle.capture_core.specs.Capture.{AreFilled, entry_of, entry_with};
 ghost use Rattle.capture_core.specs.ResponseView.{response_view};
 ghost use Rattle.capture_core.specs.Utf8Text.{utf8_text};
 

@@ -9,7 +9,7 @@ use Rattle.cdxj_places.specs.Pairs.{Pair}
 use Rattle.cdxj_places.specs.Places.{PlaceValue}
 use Rattle.cdxj_objects.specs.Objects.{object_text}
 use Rattle.cdxj_objects.specs.Texts.{TextsValue, text_members}
-use Rattle.cdxj_core.specs.declared.keyless.KeylessEntry.{KeylessEntry}
+use Rattle.cdxj_core.specs.declared.entry.KeylessEntry.{KeylessEntry}
 
 -- what an index says of a capture: texts as the lists of their bytes, length and offset in bytes
 pub record EntryValue : Type 0 where

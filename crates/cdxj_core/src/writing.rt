@@ -3,9 +3,8 @@ ghost use Rattle.std.specs.Prelude.{◌≡◌, ◌≢◌, ◌<◌, ◌≤◌, �
 ghost use Rattle.std.specs.Prelude.{MatchResult};
 ghost use Rattle.cdxj_core.specs.Entries.{HasPlainTexts, IsGood, keyed_view, line_text};
 
-use crate::entry::Entry;
+use crate::entry::{Entry, KeylessEntry, LINE_FRAME};
 use crate::fault::LineFault;
-use crate::keyless::{KeylessEntry, LINE_FRAME};
 use crate::limit::LINE_LIMIT;
 use cdxj_objects::{Members, push_object, push_plain_object};
 use itoa::Buffer;
