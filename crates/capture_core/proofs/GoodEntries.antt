@@ -1,11 +1,9 @@
--- The texts of an entry aren't empty, and its stamp is one.
-use Rattle.std.proofs.Common.{◌≡◌, ℕ, ◌<◌, true, List, length, Option}
+-- The texts of an entry aren't empty.
+use Rattle.std.proofs.Common.{ℕ, ◌<◌, List, length, Option}
 use Rattle.std.proofs.Common.{arith}
 use Rattle.percent_encoding.proofs.PercentLemmas.{percent_encode_nonempty}
 use Rattle.std.proofs.lemmas.Grind.{common_steps}
-use Rattle.warc_core.specs.Length.{all_digits}
 use Rattle.warc_core.specs.HeadView.{HeadView}
-use Rattle.cdxj_places.specs.Pair.{is_stamp}
 use Rattle.capture_core.specs.Utf8Text.{utf8_text}
 use Rattle.capture_core.specs.Capture.{ResponseValue, content_of, mime_of}
 
@@ -20,6 +18,3 @@ content_is_filled h response = grind (arith, common_steps)
 
 pub mime_is_filled : (h : HeadView) (response : Option ResponseValue) → 0 < length (mime_of h response)
 mime_is_filled h response = grind (arith, content_is_filled)
-
-pub stamp_is : (stamp : List ℕ) → length stamp ≡ 14 → all_digits stamp ≡ true → is_stamp stamp ≡ true
-stamp_is stamp size digits = grind (arith)

@@ -1,5 +1,5 @@
 -- The capture of a record: the entry that an index has of it.
-use Rattle.std.specs.Prelude.{◌≡◌, ℕ, ◌+◌, ◌/◌, ◌%◌, [], ◌∷◌, Bool, cond, List, Option, Some, None, option_map}
+use Rattle.std.specs.Prelude.{◌≡◌, ℕ, ◌+◌, ◌/◌, ◌%◌, ◌<◌, [], ◌∷◌, Bool, cond, List, Option, Some, None, option_map, length}
 use Rattle.std.specs.Prelude.{unwrap_or, codes}
 use Rattle.httparse.specs.Grammar.{ResponseHead, status_code}
 use Rattle.sha1.specs.Sha1.{sha1}
@@ -15,6 +15,7 @@ use Rattle.capture_core.specs.HttpHead.{IsHeadOf, field_of}
 use Rattle.capture_core.specs.Indexed.{field, url_of, is_http_record, may_have_head, given_digest}
 use Rattle.capture_core.specs.FieldValue.{media_type}
 use Rattle.capture_core.specs.Utf8Text.{utf8_text}
+use Rattle.capture_core.specs.declared.entry_line.EntryTexts.{EntryTexts}
 
 -- what an entry takes from an HTTP head: the status code, and the first Content-Type
 pub record ResponseValue : Type 0 where
@@ -109,15 +110,24 @@ abbrev pub HasCapture : (Kind → Bool) → ℕ → ℕ → HeadView → List �
 HasCapture types limit few h block name = (captured : Option EntryValue)
     × IsCapture types limit few h block name captured
 
--- the entry of a record, by its head and the texts of its capture
-abbrev pub entry_with : HeadView → List ℕ → List ℕ → List ℕ → List ℕ → List ℕ → EntryValue
-entry_with h name url mime status digest = record {
-  key = key_of url;
+-- ---- the texts of an entry, before it is written
+
+-- texts of which none is empty
+pub record AreFilled (texts : EntryTexts) : Type 0 where
+  pub url : 0 < length texts.url.now
+  pub mime : 0 < length texts.mime.now
+  pub status : 0 < length texts.status.now
+  pub digest : 0 < length texts.digest.now
+
+-- the entry of a record, by its head, its archive's name and its texts
+abbrev pub entry_with : HeadView → List ℕ → EntryTexts → EntryValue
+entry_with h name texts = record {
+  key = key_of texts.url.now;
   stamp = h.parts.stamp;
-  url = url;
-  mime = mime;
-  status = status;
-  digest = digest;
+  url = texts.url.now;
+  mime = texts.mime.now;
+  status = texts.status.now;
+  digest = texts.digest.now;
   length = record_length h;
   offset = h.start;
   filename = name;

@@ -1,10 +1,12 @@
 //! The line of a record's entry, from texts that are borrowed from its head and its block.
-ghost use Rattle.std.specs.Prelude.{◌≡◌, ◌<◌, length, true, Ok, Err, IfOk, IfSome, option_map};
+ghost use Rattle.std.specs.Prelude.{◌≡◌, ◌<◌, ◌^◌, length, true, Ok, Err, IfOk, IfSome, option_map};
 ghost use Rattle.std.specs.List.{list_all};
 ghost use Rattle.json.specs.Run.{is_plain};
 ghost use Rattle.cdxj_core.specs.declared.limit.TheConstants.{LINE_LIMIT};
-ghost use Rattle.cdxj_core.specs.Entries.{HasLine, HasPlainTexts, line_text};
-ghost use Rattle.capture_core.specs.Capture.{entry_of, entry_with};
+ghost use Rattle.cdxj_places.specs.Pair.{is_stamp};
+ghost use Rattle.cdxj_keys.specs.Key.{key_of};
+ghost use Rattle.cdxj_core.specs.Entries.{HasLine, HasPlainTexts, keyed_view, line_text};
+ghost use Rattle.capture_core.specs.Capture.{AreFilled, entry_of, entry_with};
 ghost use Rattle.capture_core.specs.ResponseView.{response_view};
 ghost use Rattle.capture_core.specs.Utf8Text.{utf8_text};
 
@@ -14,9 +16,7 @@ use crate::indexed::IndexedRecord;
 use crate::mime::mime;
 use crate::status::status;
 use crate::utf8_text::{plain_text, utf8_text};
-use cdxj_core::{
-    EntryRef, KeyFault, KeylessEntry, LineFault, plain_utf8, url_key, url_key_with_room,
-};
+use cdxj_core::{KeyFault, KeylessEntry, LineFault, plain_utf8, url_key, url_key_with_room};
 use std::alloc::{AllocError, Global};
 
 /// Why the line of an entry could not be written.
@@ -100,8 +100,8 @@ struct EntryTexts<'a> {
     digest: &'a str,
 }
 
-/// Returns the texts of an entry if none of them needs an escape, nor does the archive's name, as in
-/// most entries.
+/// Returns the texts of an entry if none of them needs an escape, nor does the archive's name, as
+/// in most entries.
 fn plain_texts<'a>(
     indexed: IndexedRecord<'a>,
     mime: &'a [u8],
@@ -113,8 +113,8 @@ fn plain_texts<'a>(
     ensures mime { IfSome result (λ t. t.mime.now ≡ utf8_text mime.now) }
     ensures status { IfSome result (λ t. t.status.now ≡ status.now) }
     ensures digest { IfSome result (λ t. t.digest.now ≡ utf8_text digest.now) }
-    ensures plain { IfSome result (λ t. HasPlainTexts (entry_with indexed.entry.head.now
-        indexed.entry.name.now t.url.now t.mime.now t.status.now t.digest.now)) }
+    ensures plain { IfSome result (λ t. HasPlainTexts
+        (entry_with indexed.entry.head.now indexed.entry.name.now t)) }
 {
     let _name = plain_utf8(indexed.name.as_bytes())?;
     Some(EntryTexts {
@@ -125,28 +125,16 @@ fn plain_texts<'a>(
     })
 }
 
-/// Like `line_of_texts`, from texts that need no escapes.
-fn plain_line(
-    alloc: Global,
-    indexed: IndexedRecord<'_>,
-    texts: EntryTexts<'_>,
-) -> Result<HeldLine, LineRefused>
-    requires named { 0 < length indexed.name.now }
-    requires url { 0 < length texts.url.now }
-    requires mime { 0 < length texts.mime.now }
-    requires status { 0 < length texts.status.now }
-    requires digest { 0 < length texts.digest.now }
-    requires plain { HasPlainTexts (entry_with indexed.head.now indexed.name.now texts.url.now
-        texts.mime.now texts.status.now texts.digest.now) }
-    ensures value { IfOk result (λ held. held
-        ≡ entry_with indexed.entry.head.now indexed.entry.name.now texts.entry.url.now
-        texts.entry.mime.now texts.entry.status.now texts.entry.digest.now) }
-    ensures line { IfOk result (HasLine LINE_LIMIT) }
-    ensures long { result ≡ Err LineRefused.LineTooLong → LINE_LIMIT < length (line_text
-        (entry_with indexed.entry.head.now indexed.entry.name.now texts.entry.url.now
-        texts.entry.mime.now texts.entry.status.now texts.entry.digest.now)) }
+/// Returns the entry of a record with these texts, but for its key.
+#[inline(always)]
+fn keyless<'a>(indexed: IndexedRecord<'a>, texts: EntryTexts<'a>) -> KeylessEntry<'a>
+    ensures entry { keyed_view (key_of texts.entry.url.now) result
+        ≡ entry_with indexed.entry.head.now indexed.entry.name.now texts.entry }
+    ensures stamp { is_stamp result.stamp ≡ true }
+    ensures length { result.length < 2 ^ 63 }
+    ensures offset { result.offset < 2 ^ 63 }
 {
-    let entry = KeylessEntry {
+    KeylessEntry {
         stamp: indexed.head.stamp(),
         url: texts.url,
         mime: texts.mime,
@@ -155,7 +143,25 @@ fn plain_line(
         length: indexed.head.record_length(),
         offset: indexed.head.start(),
         filename: indexed.name(),
-    };
+    }
+}
+
+/// Like `line_of_texts`, from texts that need no escapes.
+fn plain_line(
+    alloc: Global,
+    indexed: IndexedRecord<'_>,
+    texts: EntryTexts<'_>,
+) -> Result<HeldLine, LineRefused>
+    requires named { 0 < length indexed.name.now }
+    requires filled { AreFilled texts }
+    requires plain { HasPlainTexts (entry_with indexed.head.now indexed.name.now texts) }
+    ensures value { IfOk result (λ held. held
+        ≡ entry_with indexed.entry.head.now indexed.entry.name.now texts.entry) }
+    ensures line { IfOk result (HasLine LINE_LIMIT) }
+    ensures long { result ≡ Err LineRefused.LineTooLong → LINE_LIMIT < length (line_text
+        (entry_with indexed.entry.head.now indexed.entry.name.now texts.entry)) }
+{
+    let entry = keyless(indexed, texts);
     let room = entry.room();
     // Most URLs are longer than their keys.
     let most = room.saturating_add(texts.url.len());
@@ -173,31 +179,15 @@ fn line_of_texts(
     texts: EntryTexts<'_>,
 ) -> Result<HeldLine, LineRefused>
     requires named { 0 < length indexed.name.now }
-    requires url { 0 < length texts.url.now }
-    requires mime { 0 < length texts.mime.now }
-    requires status { 0 < length texts.status.now }
-    requires digest { 0 < length texts.digest.now }
+    requires filled { AreFilled texts }
     ensures value { IfOk result (λ held. held
-        ≡ entry_with indexed.entry.head.now indexed.entry.name.now texts.entry.url.now
-        texts.entry.mime.now texts.entry.status.now texts.entry.digest.now) }
+        ≡ entry_with indexed.entry.head.now indexed.entry.name.now texts.entry) }
     ensures line { IfOk result (HasLine LINE_LIMIT) }
     ensures long { result ≡ Err LineRefused.LineTooLong → LINE_LIMIT < length (line_text
-        (entry_with indexed.entry.head.now indexed.entry.name.now texts.entry.url.now
-        texts.entry.mime.now texts.entry.status.now texts.entry.digest.now)) }
+        (entry_with indexed.entry.head.now indexed.entry.name.now texts.entry)) }
 {
     let key = url_key(alloc, texts.url)?;
-    let entry = EntryRef {
-        key: key.as_str(),
-        stamp: indexed.head.stamp(),
-        url: texts.url,
-        mime: texts.mime,
-        status: texts.status,
-        digest: texts.digest,
-        length: indexed.head.record_length(),
-        offset: indexed.head.start(),
-        filename: indexed.name(),
-    };
-    held(HeldLine::new(alloc, entry))
+    held(HeldLine::new(alloc, key.as_str(), keyless(indexed, texts)))
 }
 
 /// Returns a line, or why it could not be written.

@@ -7,8 +7,8 @@ use crate::payload::part;
 use crate::types::Types;
 use warc_core::Head;
 
-/// A record with this head and this block has a capture under a name, or isn't indexed. The call only looks for an HTTP
-/// head at the start of the block, and takes no memory.
+/// A record with this head and this block has a capture under a name, or isn't indexed. The call
+/// only looks for an HTTP head at the start of the block, and takes no memory.
 pub fn record_has_a_capture(head: &Head, block: &[u8], name: &str, types: Types)
     ensures { HasCapture (includes types) HTTP_HEAD_LIMIT HTTP_FIELD_LIMIT head.now block.now
         name.now }

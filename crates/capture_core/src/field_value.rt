@@ -1,6 +1,8 @@
 //! The parts of a field's value that an entry contains.
-ghost use Rattle.std.specs.Prelude.{◌≡◌, ◌==◌, ◌<◌, length, position, MatchOption, IfSome, Some, None};
-ghost use Rattle.capture_core.specs.FieldValue.{non_empty, without_brackets, before_semicolon, media_type, without_sha1};
+ghost use Rattle.std.specs.Prelude.{◌≡◌, ◌==◌, ◌<◌, length, position, MatchOption, IfSome, Some};
+ghost use Rattle.std.specs.Prelude.{None};
+ghost use Rattle.capture_core.specs.FieldValue.{non_empty, without_brackets, before_semicolon};
+ghost use Rattle.capture_core.specs.FieldValue.{media_type, without_sha1};
 
 use memchr::memchr_iter;
 use warc_core::is_sha1;
@@ -53,7 +55,8 @@ fn before_semicolon(value: &[u8]) -> &[u8]
     }
 }
 
-/// Returns the offset of the first semicolon. For one that is near, the iterator is faster than `memchr`.
+/// Returns the offset of the first semicolon. For one that is near, the iterator is faster than
+/// `memchr`.
 fn semicolon(value: &[u8]) -> Option<usize>
     ensures place { result ≡ position (λ byte. byte == 59) value.now }
     ensures within { IfSome result (λ end. end < length value.now) }

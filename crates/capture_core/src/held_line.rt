@@ -1,6 +1,6 @@
 //! Captures, held as their lines.
 use cdxj_core::{
-    Entry, EntryRef, HasPlace, KeylessEntry, Line, LineFault, write_entry, write_plain_entry,
+    Entry, HasPlace, KeylessEntry, Line, LineFault, write_entry, write_plain_entry,
     written_line_is_read,
 };
 use memchr::{memchr, memrchr};
@@ -34,19 +34,20 @@ impl Model for HeldLine {
 impl HeldLine {
     ghost use Rattle.std.specs.Prelude.{◌≡◌, ◌<◌, length, string_bytes, Err, IfOk};
     ghost use Rattle.cdxj_core.specs.declared.limit.TheConstants.{LINE_LIMIT};
-    ghost use Rattle.cdxj_core.specs.Entries.{IsGood, HasLine, HasPlainTexts, entry_view, keyed_view, line_text};
+    ghost use Rattle.cdxj_core.specs.Entries.{IsGood, HasLine, HasPlainTexts, keyed_view};
+    ghost use Rattle.cdxj_core.specs.Entries.{line_text};
 
     /// Writes the line of a good entry.
     ///
     /// The error is `LineTooLong` if the line has more than `LINE_LIMIT` bytes, or `Memory`.
-    pub fn new(alloc: Global, entry: EntryRef<'_>) -> Result<HeldLine, LineFault>
-        requires { IsGood (entry_view entry) }
-        ensures value { IfOk result (λ held. held ≡ entry_view entry.entry) }
+    pub fn new(alloc: Global, key: &str, entry: KeylessEntry<'_>) -> Result<HeldLine, LineFault>
+        requires { IsGood (keyed_view key.now entry) }
+        ensures value { IfOk result (λ held. held ≡ keyed_view key.now entry.entry) }
         ensures line { IfOk result (HasLine LINE_LIMIT) }
         ensures long { result ≡ Err LineFault.LineTooLong
-            → LINE_LIMIT < length (line_text (entry_view entry.entry)) }
+            → LINE_LIMIT < length (line_text (keyed_view key.now entry.entry)) }
     {
-        let mut bytes = write_entry(alloc, entry)?;
+        let mut bytes = write_entry(alloc, key, entry)?;
         keep_name(&mut bytes, entry.filename.as_bytes())?;
         Ok(HeldLine {
             bytes,
@@ -54,7 +55,7 @@ impl HeldLine {
         })
     }
 
-    /// Like `new`, in the memory of the entry's key. No text of the entry needs an escape.
+    /// Like `new`, in the memory of the key. No text of the entry needs an escape.
     pub(crate) fn plain(key: String, entry: KeylessEntry<'_>) -> Result<HeldLine, LineFault>
         requires good { IsGood (keyed_view (string_bytes key) entry) }
         requires plain { HasPlainTexts (keyed_view (string_bytes key) entry) }

@@ -1,5 +1,6 @@
 //! The HTTP head at the start of a block.
-ghost use Rattle.std.specs.Prelude.{◌≡◌, ◌<◌, ◌≤◌, length, map, All, IfOk, IfErr, IfSome, IfNone, option_map};
+ghost use Rattle.std.specs.Prelude.{◌≡◌, ◌<◌, ◌≤◌, length, map, All, IfOk, IfErr, IfSome, IfNone};
+ghost use Rattle.std.specs.Prelude.{option_map};
 ghost use Rattle.std.specs.Str.{str_eq_ignore_ascii_case};
 ghost use Rattle.httparse.specs.Spans.{IsHeaderWithin, ResponseOverflows, header_bytes};
 ghost use Rattle.capture_core.specs.HttpHead.{HasNoHead, first_field_value};
@@ -37,7 +38,8 @@ pub(crate) struct HttpHead<'a> {
 #[derive(Clone, Copy)]
 struct TooManyFields;
 
-/// Reads the HTTP head at the start of a block, if there is one. The first 65,536 bytes of the block are enough.
+/// Reads the HTTP head at the start of a block, if there is one. The first 65,536 bytes of the
+/// block are enough.
 pub(crate) fn http_head<'a>(block: &'a [u8], spans: &mut UsualSpans) -> Option<HttpHead<'a>>
     ensures found { IfSome result (IsHeadAt block.now) }
     ensures three_digits { IfSome result (λ r. r.code < 1000) }
@@ -67,8 +69,8 @@ fn head_of_many_fields(block: &[u8]) -> Option<HttpHead<'_>>
     }
 }
 
-/// Like `http_head`, with these spans for the fields. The error says that each head at the start of the block has more
-/// fields.
+/// Like `http_head`, with these spans for the fields. The error says that each head at the start of
+/// the block has more fields.
 fn head_within<'a>(
     block: &'a [u8],
     spans: &mut [HeaderSpan],
@@ -113,7 +115,8 @@ fn first_field_value<'a>(bytes: &'a [u8], fields: &[HeaderSpan], name: &[u8]) ->
     None
 }
 
-/// Returns `true` if a field has this name, ignoring ASCII case. Most are spelled alike, which is the faster test.
+/// Returns `true` if a field has this name, ignoring ASCII case. Most are spelled alike, which is
+/// the faster test.
 fn is_named(field: &[u8], name: &[u8]) -> bool
     ensures { result ≡ str_eq_ignore_ascii_case field.now name.now }
 {

@@ -24,8 +24,8 @@ pub(crate) fn is_http_record(head: &Head) -> bool
     }
 }
 
-/// Returns `true` if the media type of a value is `application/http`. Most have a parameter right behind it, which is the
-/// fastest test.
+/// Returns `true` if the media type of a value is `application/http`. Most have a parameter right
+/// behind it, which is the fastest test.
 fn has_http_type(value: &[u8]) -> bool
     ensures { result ≡ same_name (media_type value.now) (codes "application/http") }
 {
@@ -35,8 +35,8 @@ fn has_http_type(value: &[u8]) -> bool
     is_http(media_type(value))
 }
 
-/// Returns `true` if a media type is `application/http`, ignoring ASCII case. Most records write it in lower case, which
-/// is the faster test.
+/// Returns `true` if a media type is `application/http`, ignoring ASCII case. Most records write it
+/// in lower case, which is the faster test.
 fn is_http(media: &[u8]) -> bool
     ensures { result ≡ same_name media.now (codes "application/http") }
 {

@@ -2,8 +2,8 @@
 ghost use Rattle.capture_core.specs.HttpHead.{OneHead, FrontDecides};
 ghost use Rattle.capture_core.specs.Capture.{OneCapture};
 
-/// A block has at most one HTTP head, and one payload. Its first bytes, as many as a head may have, decide what its head
-/// is.
+/// A block has at most one HTTP head, and one payload. Its first bytes, as many as a head may have,
+/// decide what its head is.
 pub fn block_has_one_head()
     ensures one { OneHead }
     ensures front { FrontDecides }

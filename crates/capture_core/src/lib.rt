@@ -29,7 +29,7 @@ pub use crate::held_line::HeldLine;
 pub use crate::laws::{block_has_one_head, record_has_one_capture};
 pub use crate::record_capture::{BlockStart, capture, held_capture};
 pub use crate::types::Types;
-pub use cdxj_core::{Entry, EntryRef, LINE_LIMIT, LineFault, write_line};
+pub use cdxj_core::{Entry, KeylessEntry, LINE_LIMIT, LineFault, write_line};
 pub use warc_core::{
     Cause, DeviceFault, Fault, FromFile, FromRead, HEAD_LIMIT, Head, Input, Kind, Positioned,
     Reader, Slice, SystemFile, Verdict, base32, block_digest,

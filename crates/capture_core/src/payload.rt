@@ -1,5 +1,6 @@
 //! The start of a record's block, split into its HTTP head and the payload.
-ghost use Rattle.std.specs.Prelude.{◌≡◌, ◌<◌, ◌≤◌, ℕ, List, ◌++◌, length, drop, Option, option_map, IfOk, IfSome, IfNone};
+ghost use Rattle.std.specs.Prelude.{◌≡◌, ◌<◌, ◌≤◌, ℕ, List, ◌++◌, length, drop, Option, option_map};
+ghost use Rattle.std.specs.Prelude.{IfOk, IfSome, IfNone};
 ghost use Rattle.httparse.specs.Grammar.{ResponseHead};
 ghost use Rattle.capture_core.specs.Capture.{response_of, payload_of};
 ghost use Rattle.capture_core.specs.RecordReading.{front_limit, front_length};
@@ -11,7 +12,8 @@ use crate::http_head::{HTTP_FIELD_LIMIT, HTTP_HEAD_LIMIT, HttpHead, UsualSpans, 
 use crate::http_record::may_have_head;
 use warc_core::Head;
 
-/// The first bytes of a record's block, with the HTTP head, if there is one, and the start of the payload in them.
+/// The first bytes of a record's block, with the HTTP head, if there is one, and the start of the
+/// payload in them.
 #[derive(Clone, Copy)]
 pub(crate) struct SplitBlock<'a> {
     pub bytes: &'a [u8],
@@ -40,8 +42,8 @@ pub(crate) fn front_length(head: &Head) -> usize
     head.length().min(limit) as usize
 }
 
-/// Splits the first bytes of a record's block, or returns `None` if no HTTP head ends in them and more bytes, up to
-/// `whole` in all, may hold one.
+/// Splits the first bytes of a record's block, or returns `None` if no HTTP head ends in them and
+/// more bytes, up to `whole` in all, may hold one.
 pub(crate) fn part_decided<'a>(
     head: &Head,
     front: &'a [u8],

@@ -1,5 +1,6 @@
 //! The capture of a record.
-ghost use Rattle.std.specs.Prelude.{◌≡◌, ℕ, ◌-◌, ◌<◌, ◌≤◌, List, [], length, take, IfOk, IfSome, OnOk, option_map};
+ghost use Rattle.std.specs.Prelude.{◌≡◌, ℕ, ◌-◌, ◌<◌, ◌≤◌, List, [], length, take, IfOk, IfSome};
+ghost use Rattle.std.specs.Prelude.{OnOk, option_map};
 ghost use Rattle.std.specs.Io.KnownBytes.{prepend_known};
 ghost use Rattle.warc_core.specs.Calls.{GivesBlock};
 ghost use Rattle.warc_core.specs.declared.phase.Phase.TheVariants.{Open};
@@ -49,13 +50,13 @@ impl BlockStart {
     }
 }
 
-/// Returns the entry of a record under the archive's name, or `None` if the record isn't indexed. A record is indexed
-/// if it has a target and its type is one of these. The record is read to its end, and its payload is hashed if the
-/// head gives no digest of it.
+/// Returns the entry of a record under the archive's name, or `None` if the record isn't indexed. A
+/// record is indexed if it has a target and its type is one of these. The record is read to its
+/// end, and its payload is hashed if the head gives no digest of it.
 ///
-/// The record must be the last that the reader returned, with none of its block read, and the name must not be empty.
-/// Errors are the archive's fault and, after the record was read to its end, `KeyTooLong`, `LineTooLong` and `Memory`,
-/// all at the record's offset.
+/// The record must be the last that the reader returned, with none of its block read, and the name
+/// must not be empty. Errors are the archive's fault and, after the record was read to its end,
+/// `KeyTooLong`, `LineTooLong` and `Memory`, all at the record's offset.
 pub fn capture<I: Input>(
     alloc: Global,
     reader: &mut Reader,
@@ -84,8 +85,9 @@ pub fn capture<I: Input>(
     }
 }
 
-/// Like `capture`, with the capture as its line, and with a buffer for the start of the block that serves one record
-/// after another. Of a usual record, only the line takes memory. Errors are those of `capture`, `Memory` included.
+/// Like `capture`, with the capture as its line, and with a buffer for the start of the block that
+/// serves one record after another. Of a usual record, only the line takes memory. Errors are those
+/// of `capture`, `Memory` included.
 pub fn held_capture<I: Input>(
     alloc: Global,
     front: &mut BlockStart,
@@ -124,9 +126,10 @@ pub fn held_capture<I: Input>(
     }
 }
 
-/// Returns the line of a record that is indexed. The front of its block is read in three steps at most, and no further
-/// than to the step in which an HTTP head ends: what one call of the reader returns for a piece of 2,048 bytes, the first
-/// 8,192 bytes, and the whole front, of at most 65,536 bytes.
+/// Returns the line of a record that is indexed. The front of its block is read in three steps at
+/// most, and no further than to the step in which an HTTP head ends: what one call of the reader
+/// returns for a piece of 2,048 bytes, the first 8,192 bytes, and the whole front, of at most
+/// 65,536 bytes.
 fn capture_indexed<I: Input>(
     alloc: Global,
     front: &mut Vec<u8>,
@@ -162,7 +165,8 @@ fn capture_indexed<I: Input>(
     }
 }
 
-/// Reads the first bytes of the block into the front, as many as one call of the reader returns for this many.
+/// Reads the first bytes of the block into the front, as many as one call of the reader returns for
+/// this many.
 fn read_first<I: Input>(
     reader: &mut Reader,
     input: &mut I,
@@ -238,7 +242,8 @@ fn finish_without_memory<I: Input>(
     Err(memory(indexed.head))
 }
 
-/// Returns the line of a record that is indexed, after the first bytes of its block were read and split.
+/// Returns the line of a record that is indexed, after the first bytes of its block were read and
+/// split.
 fn finish_capture<I: Input>(
     alloc: Global,
     reader: &mut Reader,

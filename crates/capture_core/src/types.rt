@@ -1,8 +1,8 @@
 //! The types of records that are indexed.
 use warc_core::Kind;
 
-/// A set of one or more record types out of response, resource, revisit, conversion and metadata. The records of these
-/// types are indexed.
+/// A set of one or more record types out of response, resource, revisit, conversion and metadata.
+/// The records of these types are indexed.
 #[derive(Clone, Copy, Debug, PartialEq, Eq)]
 pub struct Types {
     response: bool,
@@ -15,7 +15,8 @@ pub struct Types {
 impl Types {
     ghost use Rattle.std.specs.Prelude.{◌≡◌, IfSome};
     ghost use Rattle.std.specs.List.{slice_split};
-    ghost use Rattle.capture_core.specs.Types.{HasType, includes, is_comma, no_types, types_of, usual_types, with_kind, with_name, with_names};
+    ghost use Rattle.capture_core.specs.Types.{HasType, includes, is_comma, no_types, types_of};
+    ghost use Rattle.capture_core.specs.Types.{usual_types, with_kind, with_name, with_names};
 
     /// Returns the set of response, resource and revisit: the types that are indexed by default.
     pub fn usual() -> Types
@@ -29,8 +30,8 @@ impl Types {
         }
     }
 
-    /// Reads the names of one or more types, in lower case, separated by commas, with no type twice. Returns `None` for
-    /// any other text.
+    /// Reads the names of one or more types, in lower case, separated by commas, with no type
+    /// twice. Returns `None` for any other text.
     pub fn read(text: &str) -> Option<Types>
         ensures value { result ≡ types_of text.now }
         ensures some { IfSome result HasType }

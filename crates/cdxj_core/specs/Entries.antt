@@ -9,8 +9,7 @@ use Rattle.cdxj_places.specs.Pairs.{Pair}
 use Rattle.cdxj_places.specs.Places.{PlaceValue}
 use Rattle.cdxj_objects.specs.Objects.{object_text}
 use Rattle.cdxj_objects.specs.Texts.{TextsValue, text_members}
-use Rattle.cdxj_core.specs.declared.entry.EntryRef.{EntryRef}
-use Rattle.cdxj_core.specs.declared.keyless.KeylessEntry.{KeylessEntry}
+use Rattle.cdxj_core.specs.declared.entry.KeylessEntry.{KeylessEntry}
 
 -- what an index says of a capture: texts as the lists of their bytes, length and offset in bytes
 pub record EntryValue : Type 0 where
@@ -23,20 +22,6 @@ pub record EntryValue : Type 0 where
   pub length : ℕ
   pub offset : ℕ
   pub filename : List ℕ
-
--- what contracts see of an entry whose texts are borrowed
-abbrev pub entry_view : EntryRef → EntryValue
-entry_view e = record {
-  key = e.key.now;
-  stamp = e.stamp;
-  url = e.url.now;
-  mime = e.mime.now;
-  status = e.status.now;
-  digest = e.digest.now;
-  length = e.length;
-  offset = e.offset;
-  filename = e.filename.now;
-}
 
 -- what contracts see of a key, and of an entry without one
 abbrev pub keyed_view : List ℕ → KeylessEntry → EntryValue

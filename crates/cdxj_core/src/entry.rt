@@ -1,11 +1,16 @@
-//! The entry of a capture in an index, with its own texts or borrowed ones.
+//! The entry of a capture in an index, with texts of its own or with borrowed ones.
 use crate::field::Field;
+use crate::limit::LINE_LIMIT;
 use crate::line_ref::LineRef;
-use cdxj_objects::Members;
+use crate::spans::TO_OBJECT;
+use cdxj_objects::{FRAME, Members};
 use cdxj_places::{HasPlace, Pair, Place, is_key, is_stamp};
 use std::alloc::{AllocError, Global};
 use std::cmp::Ordering;
 use std::marker::Model;
+
+/// The length of what a line has beside its key and its texts, in bytes.
+pub(crate) const LINE_FRAME: usize = TO_OBJECT + FRAME + 1;
 
 /// The contents of an index line about one capture.
 #[derive(Debug, Drop)]
@@ -51,7 +56,7 @@ impl Model for Entry {
 
 impl Entry {
     ghost use Rattle.std.specs.Prelude.{◌≡◌, ◌↔◌, IfOk, IsTrue};
-    ghost use Rattle.cdxj_core.specs.Entries.{AreUtf8, IsGood, entry_view};
+    ghost use Rattle.cdxj_core.specs.Entries.{AreUtf8, IsGood, keyed_view};
     ghost use Rattle.cdxj_core.specs.Lines.{entry_of_values};
 
     /// Returns `true` if the entry can be written: the key is a key, the stamp is 14 digits, no
@@ -96,12 +101,11 @@ impl Entry {
         })
     }
 
-    /// Returns the entry with its texts borrowed.
-    pub fn borrowed(&self) -> EntryRef<'_>
-        ensures { entry_view result ≡ self.now }
+    /// Returns the entry without its key, with its texts borrowed.
+    pub fn keyless(&self) -> KeylessEntry<'_>
+        ensures { keyed_view self.now.key result ≡ self.now }
     {
-        EntryRef {
-            key: self.key.as_str(),
+        KeylessEntry {
             stamp: self.stamp,
             url: self.url.as_str(),
             mime: self.mime.as_str(),
@@ -149,11 +153,9 @@ impl HasPlace for Entry {
     }
 }
 
-/// The contents of an index line about one capture. Its texts are borrowed.
+/// The contents of an index line about one capture, but for its key. Its texts are borrowed.
 #[derive(Clone, Copy, Debug)]
-pub struct EntryRef<'a> {
-    /// The key of `url`.
-    pub key: &'a str,
+pub struct KeylessEntry<'a> {
     /// 14 digits, `YYYYMMDDhhmmss`.
     pub stamp: [u8; 14],
     /// The target.
@@ -172,15 +174,15 @@ pub struct EntryRef<'a> {
     pub filename: &'a str,
 }
 
-impl<'a> EntryRef<'a> {
-    ghost use Rattle.std.specs.Prelude.{◌≡◌, ◌↔◌, IsTrue};
+impl<'a> KeylessEntry<'a> {
+    ghost use Rattle.std.specs.Prelude.{◌≡◌, ℕ, List};
     ghost use Rattle.cdxj_objects.specs.Texts.{borrowed_view};
-    ghost use Rattle.cdxj_core.specs.Entries.{IsGood, entry_texts, entry_view};
+    ghost use Rattle.cdxj_core.specs.Entries.{entry_texts, keyed_view};
 
     /// Returns the texts of the members. `length` and `offset` are the entry's numbers in decimal.
     pub(crate) fn members(self, length: &'a str, offset: &'a str) -> Members<&'a str>
-        ensures { borrowed_view result
-            ≡ record (entry_texts (entry_view self.entry)) {
+        ensures { (key : List ℕ) → borrowed_view result
+            ≡ record (entry_texts (keyed_view key self.entry)) {
               length = length.now;
               offset = offset.now;
             } }
@@ -194,5 +196,28 @@ impl<'a> EntryRef<'a> {
             offset,
             filename: self.filename,
         }
+    }
+
+    /// Returns how many bytes the line has behind its key if no text needs an escape, and at most
+    /// `LINE_LIMIT`.
+    pub fn room(self) -> usize {
+        self.url
+            .len()
+            .saturating_add(self.mime.len())
+            .saturating_add(self.status.len())
+            .saturating_add(self.digest.len())
+            .saturating_add(digits(self.length))
+            .saturating_add(digits(self.offset))
+            .saturating_add(self.filename.len())
+            .saturating_add(LINE_FRAME)
+            .min(LINE_LIMIT)
+    }
+}
+
+/// Returns how many digits a number has.
+fn digits(number: u64) -> usize {
+    match number.checked_ilog10() {
+        Some(log) => log as usize + 1,
+        None => 1,
     }
 }

@@ -1,6 +1,7 @@
 //! Laws of the definitions that the contracts cite. These functions do nothing: each law is a
 //! contract.
-ghost use Rattle.std.specs.Prelude.{◌≡◌, ◌≤◌, ◌<◌, ◌++◌, ℕ, List, None, Some, length, map, flat_map};
+ghost use Rattle.std.specs.Prelude.{◌≡◌, ◌≤◌, ◌<◌, ◌++◌, ℕ, List, None, Some, length, map};
+ghost use Rattle.std.specs.Prelude.{flat_map};
 ghost use Rattle.std.specs.List.{AllByRecursion};
 ghost use Rattle.std.specs.Cmp.Lexicographic.{slice_cmp};
 ghost use Rattle.std.specs.Ordering.{nat_cmp};
@@ -62,8 +63,8 @@ pub fn written_lines_are_an_index()
         → IsIndex limit (flat_map line_text entries) (map entry_member entries) }
 {}
 
-/// A text whose lines all have entries, in the order of their bytes, is an index: so is what `LC_ALL=C sort` makes of
-/// such lines.
+/// A text whose lines all have entries, in the order of their bytes, is an index: so is what
+/// `LC_ALL=C sort` makes of such lines.
 pub fn sorted_lines_are_an_index()
     ensures { (limit : ℕ) → (text : List ℕ) → (members : List Member)
         → map (line_entry limit) (lines text) ≡ map Some members

@@ -8,7 +8,6 @@ mod body;
 mod entry;
 mod fault;
 mod field;
-mod keyless;
 mod laws;
 mod limit;
 mod line;
@@ -17,10 +16,9 @@ mod spans;
 mod unescaped;
 mod writing;
 
-pub use crate::entry::{Entry, EntryRef};
+pub use crate::entry::{Entry, KeylessEntry};
 pub use crate::fault::LineFault;
 pub use crate::field::{Field, field_name, field_named};
-pub use crate::keyless::KeylessEntry;
 pub use crate::laws::{
     index_has_one_list_of_members, key_and_file_name_are_no_longer_than_their_line,
     line_begins_with_its_pair, line_stays_under_higher_limit, long_line_has_no_entry,

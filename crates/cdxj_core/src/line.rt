@@ -157,8 +157,8 @@ impl Line {
         self.refill_from(line, LineRef::plain(line))
     }
 
-    /// The same for a line that consists of characters of ASCII other than controls and backslashes,
-    /// but for its line feed.
+    /// The same for a line that consists of characters of ASCII other than controls and
+    /// backslashes, but for its line feed.
     pub fn refill_unescaped(&mut self, line: &[u8]) -> Result<(), LineFault>
         requires { list_all is_unescaped_ascii (body_of line.now) ≡ true }
         ensures { MatchResult result (λ _. IsLineReading LINE_LIMIT line.now (Ok self.new))

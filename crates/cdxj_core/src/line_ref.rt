@@ -68,8 +68,8 @@ impl<'a> LineRef<'a> {
         LineRef::of_text(ascii_text(body))
     }
 
-    /// Reads a plain line without its line feed, in which no byte is a control or a backslash. It may
-    /// decline any line.
+    /// Reads a plain line without its line feed, in which no byte is a control or a backslash. It
+    /// may decline any line.
     #[inline(always)]
     pub(crate) fn of_text(text: &'a str) -> Option<LineRef<'a>>
         requires short { length text.now < LINE_LIMIT }

@@ -1,10 +1,10 @@
 //! The writing of an entry's line.
-ghost use Rattle.std.specs.Prelude.{◌≡◌, ◌≢◌, ◌<◌, ◌≤◌, ◌++◌, [], ◌∷◌, length, string_bytes, IfOk, MatchResult};
-ghost use Rattle.cdxj_core.specs.Entries.{HasPlainTexts, IsGood, entry_view, keyed_view, line_text};
+ghost use Rattle.std.specs.Prelude.{◌≡◌, ◌≢◌, ◌<◌, ◌≤◌, ◌++◌, [], ◌∷◌, length, string_bytes, IfOk};
+ghost use Rattle.std.specs.Prelude.{MatchResult};
+ghost use Rattle.cdxj_core.specs.Entries.{HasPlainTexts, IsGood, keyed_view, line_text};
 
-use crate::entry::{Entry, EntryRef};
+use crate::entry::{Entry, KeylessEntry, LINE_FRAME};
 use crate::fault::LineFault;
-use crate::keyless::{KeylessEntry, LINE_FRAME};
 use crate::limit::LINE_LIMIT;
 use cdxj_objects::{Members, push_object, push_plain_object};
 use itoa::Buffer;
@@ -33,14 +33,14 @@ fn key_with_room(alloc: Global, key: &str, texts: &Members<&str>) -> Result<Vec<
     Ok(line)
 }
 
-fn line_bytes(alloc: Global, entry: EntryRef<'_>) -> Result<Vec<u8>, AllocError>
-    requires { IsGood (entry_view entry) }
-    ensures { IfOk result (λ line. line.items ≡ line_text (entry_view entry.entry)) }
+fn line_bytes(alloc: Global, key: &str, entry: KeylessEntry<'_>) -> Result<Vec<u8>, AllocError>
+    requires { IsGood (keyed_view key.now entry) }
+    ensures { IfOk result (λ line. line.items ≡ line_text (keyed_view key.now entry.entry)) }
 {
     let mut length = Buffer::new();
     let mut offset = Buffer::new();
     let texts = entry.members(length.format(entry.length), offset.format(entry.offset));
-    let mut line = key_with_room(alloc, entry.key, &texts)?;
+    let mut line = key_with_room(alloc, key, &texts)?;
     push_stamp(&mut line, &entry.stamp)?;
     push_object(&mut line, alloc, texts)?;
     line.push(b'\n')?;
@@ -63,8 +63,8 @@ fn plain_line_bytes(key: String, entry: KeylessEntry<'_>) -> Result<Vec<u8>, All
     Ok(line)
 }
 
-/// Writes the line of a good entry behind its key, in the key's memory. No text of the entry needs an
-/// escape. Errors are those of `write_line`.
+/// Writes the line of a good entry behind its key, in the key's memory. No text of the entry needs
+/// an escape. Errors are those of `write_line`.
 pub fn write_plain_entry(key: String, entry: KeylessEntry<'_>) -> Result<Vec<u8>, LineFault>
     requires good { IsGood (keyed_view (string_bytes key) entry) }
     requires plain { HasPlainTexts (keyed_view (string_bytes key) entry) }
@@ -92,16 +92,16 @@ fn within_limit(line: Vec<u8>) -> Result<Vec<u8>, LineFault>
 
 /// Writes the line of a good entry, as `write_line` does.
 /// Errors are those of `write_line`.
-pub fn write_entry(alloc: Global, entry: EntryRef<'_>) -> Result<Vec<u8>, LineFault>
-    requires { IsGood (entry_view entry) }
+pub fn write_entry(alloc: Global, key: &str, entry: KeylessEntry<'_>) -> Result<Vec<u8>, LineFault>
+    requires { IsGood (keyed_view key.now entry) }
     ensures { MatchResult result
-        (λ line. (line.items ≡ line_text (entry_view entry.entry))
+        (λ line. (line.items ≡ line_text (keyed_view key.now entry.entry))
         × (length line.items ≤ LINE_LIMIT))
         (λ fault. (fault ≡ LineFault.LineTooLong
-        → LINE_LIMIT < length (line_text (entry_view entry.entry)))
+        → LINE_LIMIT < length (line_text (keyed_view key.now entry.entry)))
         × (fault ≢ LineFault.BadLine)) }
 {
-    within_limit(line_bytes(alloc, entry)?)
+    within_limit(line_bytes(alloc, key, entry)?)
 }
 
 /// Writes the line of a good entry, with its line feed: the key, the stamp and a JSON object with
@@ -114,5 +114,5 @@ pub fn write_line(alloc: Global, entry: &Entry) -> Result<Vec<u8>, LineFault>
         (λ fault. (fault ≡ LineFault.LineTooLong → LINE_LIMIT < length (line_text entry.now))
         × (fault ≢ LineFault.BadLine)) }
 {
-    write_entry(alloc, entry.borrowed())
+    write_entry(alloc, entry.key.as_str(), entry.keyless())
 }

@@ -1,6 +1,6 @@
 -- What a plain object is read as.
 use Rattle.std.proofs.Common.{◌≡◌, ℕ, true, List, [], ◌∷◌, ◌++◌}
-use Rattle.std.proofs.Common.{Some, append_assoc, flat_map, codes, refl, sym, ap, subst, ◌∙◌, arith}
+use Rattle.std.proofs.Common.{Some, append_assoc, flat_map, refl, sym, ap, subst, ◌∙◌, arith}
 use Rattle.std.specs.List.{list_all}
 use Rattle.json.specs.Print.{quoted, escape}
 use Rattle.json.specs.Run.{is_plain}

@@ -1,5 +1,6 @@
 //! The members that a line takes from its JSON object.
-ghost use Rattle.std.specs.Prelude.{◌≡◌, ◌<◌, ◌^◌, length, Some, None, IfOk, IfSome, MatchResult, option_map};
+ghost use Rattle.std.specs.Prelude.{◌≡◌, ◌<◌, ◌^◌, length, Some, None, IfOk, IfSome, MatchResult};
+ghost use Rattle.std.specs.Prelude.{option_map};
 ghost use Rattle.cdxj_objects.specs.FoundMembers.{members_found, members_in, object_read};
 ghost use Rattle.cdxj_objects.specs.FoundViews.{found_view};
 ghost use Rattle.cdxj_objects.specs.MemberValues.{filename_value, offset_value};

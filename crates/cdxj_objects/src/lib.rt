@@ -1,8 +1,8 @@
 //! The JSON object of a line: seven members, which are read from any object, and written.
 //!
 //! A plain object has them in the order and the spelling of a written line, as texts that stand
-//! between their quotes as they are. `specs/Plain.antt` says what it is, and `specs/FoundMembers.antt`
-//! what a line takes from any other object.
+//! between their quotes as they are. `specs/Plain.antt` says what it is, and
+//! `specs/FoundMembers.antt` what a line takes from any other object.
 #![tactic(auto)]
 
 mod found_members;

@@ -1,10 +1,12 @@
 //! Plain objects: seven members in the order and the spelling of a written line, whose texts need
 //! no escapes.
-ghost use Rattle.std.specs.Prelude.{◌≡◌, ◌≤◌, ◌<◌, ◌+◌, ◌^◌, true, codes, drop, length, take, IfSome};
+ghost use Rattle.std.specs.Prelude.{◌≡◌, ◌≤◌, ◌<◌, ◌+◌, ◌^◌, true, codes, drop, length, take};
+ghost use Rattle.std.specs.Prelude.{IfSome};
 ghost use Rattle.std.specs.Char.{is_ascii_digit};
 ghost use Rattle.std.specs.List.{list_all, prefix_len};
 ghost use Rattle.std.specs.Str.Parse.{digits_value};
-ghost use Rattle.cdxj_objects.specs.PlainPlaces.{ArePlainMembers, AreParts, IsNumberAfter, IsTextAfter, texts_at};
+ghost use Rattle.cdxj_objects.specs.PlainPlaces.{ArePlainMembers, AreParts, IsNumberAfter};
+ghost use Rattle.cdxj_objects.specs.PlainPlaces.{IsTextAfter, texts_at};
 ghost use Rattle.cdxj_objects.specs.Texts.{borrowed_view};
 
 use crate::lanes::{Front, digits_before, has_front, holds_lanes, place_of_either};
@@ -49,8 +51,8 @@ fn number_of(digits: &[u8]) -> u64
     number
 }
 
-/// Returns the number of digits from a place on, if it is at least 1 and less than 16. It may decline
-/// any digits.
+/// Returns the number of digits from a place on, if it is at least 1 and less than 16. It may
+/// decline any digits.
 #[inline(always)]
 fn count_digits(text: &[u8], start: usize) -> Option<usize>
     ensures long { IfSome result (λ n. start + 16 ≤ length text.now) }

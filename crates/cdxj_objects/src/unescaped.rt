@@ -31,7 +31,8 @@ fn others_at(text: &[u8], at: usize) -> u64
     others.to_bitmask()
 }
 
-/// Returns how many bytes precede the first that is a control, a backslash or no character of ASCII.
+/// Returns how many bytes precede the first that is a control, a backslash or no character of
+/// ASCII.
 #[inline(always)]
 pub fn unescaped_length(text: &[u8]) -> usize
     ensures { result ≡ prefix_len is_unescaped_ascii text.now }

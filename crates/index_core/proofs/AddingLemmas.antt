@@ -10,7 +10,7 @@ use Rattle.warc_core.specs.Reading.{Reads}
 use Rattle.warc_core.specs.ReaderView.{ReaderView}
 use Rattle.warc_core.specs.Record.{after_record}
 use Rattle.warc_core.specs.Walk.{record_at, Walks}
-use Rattle.warc_core.proofs.ArchiveLemmas.{walk-front, next-spelled}
+use Rattle.warc_core.proofs.ArchiveLemmas.{next-spelled}
 use Rattle.warc_core.proofs.WalkLemmas.{Walks-more, none_at_end, record-unclosed, record-whole}
 use Rattle.cdxj_core.specs.Entries.{EntryValue, line_text}
 use Rattle.capture_core.specs.declared.fault.CaptureFault.{CaptureFault}
@@ -23,7 +23,7 @@ use Rattle.capture_core.specs.declared.types.Types.{Types}
 use Rattle.index_core.specs.Adding.{with_archive}
 use Rattle.index_core.specs.Captures.{TakesRecord}
 use Rattle.index_core.specs.Indexing.{Held}
-use Rattle.index_core.proofs.VerdictLemmas.{behind}
+use Rattle.index_core.proofs.ArchiveWalks.{from_start}
 
 pub fault_at : (start : ℕ) (fault : CaptureFault) → IsCaptureFaultAt start fault → fault_offset fault ≡ start
 fault_at start fault h = grind arith
@@ -74,8 +74,7 @@ module _ (types : Kind → Bool) (limits : Limits) (limit : ℕ) (name : List �
       → TakesRecord types limits limit name o h captured new now after
       → AddedSoFar left after (o + record_length h) (gained ++ option_to_list captured)
   AddedSoFar-more (Some archive) (Some z) (Some y) o gained h captured new s t =
-      let f = walk-front limit 0 archive s.0 o z s.1 in
-      let there : drop h.start archive ≡ z = grind (arith, behind) in (
+      let there : drop h.start archive ≡ z = from_start limit archive s.0 o z s.1 h y t.bytes in (
         s.0 ++ h ∷ [],
         Walks-more limit 0 archive s.0 o z h y s.1 t.bytes,
         grind (arith, captured_more, fits_line),

@@ -1,26 +1,25 @@
 -- The copying of a record, piece by piece.
-use Rattle.std.proofs.Common.{◌≡◌, ◌∙◌, ℕ, ◌+◌, ◌-◌, ◌≤◌, List, ◌++◌, Option, Result, Ok, Err, IfSome}
-use Rattle.std.proofs.Common.{length, take, sym, refl, subst, append_assoc, length-append, arith}
+use Rattle.std.proofs.Common.{◌≡◌, ◌∙◌, ℕ, ◌+◌, ◌-◌, ◌<◌, ◌≤◌, List, ◌++◌, Option, Result, Ok, Err, IfSome, length}
+use Rattle.std.proofs.Common.{take, sym, subst, append_assoc, append-nil, length-append, arith}
 use Rattle.std.proofs.lemmas.List.{length-take-le}
 use Rattle.std.specs.Io.KnownBytes.{Appends, Consumes, prepend_known}
 use Rattle.warc_core.specs.declared.fault.Cause.{Cause}
 use Rattle.warc_core.specs.declared.fault.Fault.{Fault}
-use Rattle.warc_core.specs.declared.phase.Phase.TheVariants.{Open}
 use Rattle.devices.specs.Device.{AppendsPrefix}
 use Rattle.warc_core.specs.HeadView.{HeadView, record_length}
-use Rattle.warc_core.specs.Reading.{Reads, IsPossibleFault}
-use Rattle.warc_core.specs.ReaderView.{ReaderView, StandsAt, state_of}
+use Rattle.warc_core.specs.Reading.{Reads}
+use Rattle.warc_core.specs.ReaderView.{ReaderView, IsUnread, state_of}
 use Rattle.warc_core.specs.Calls.{GivesBlock, Finishes}
-use Rattle.warc_core.specs.Record.{closing, after_block, after_record}
+use Rattle.warc_core.specs.Record.{closing, after_record}
 use Rattle.devices.proofs.DeviceLemmas.{Appends-none, Appends-join}
 use Rattle.warc_core.proofs.ReadingLemmas.{GoesOn-reads, nil_of}
 use Rattle.warc_core.proofs.SpelledLemmas.{block-there}
 use Rattle.capture_core.specs.declared.fault.CaptureFault.TheVariants.{Archive}
-use Rattle.warc_core.proofs.OpenLemmas.{behind-front, found-of-record}
-use Rattle.warc_core.proofs.FillLemmas.{Consumes-none, Consumes-join, found-behind}
+use Rattle.warc_core.proofs.OpenLemmas.{behind-front, found-of-record, zero_of}
+use Rattle.warc_core.proofs.FillLemmas.{Consumes-none, Consumes-join}
 use Rattle.index_core.specs.declared.fault.IndexFault.{IndexFault}
 use Rattle.index_core.specs.declared.fault.IndexFault.TheVariants as faults
-use Rattle.index_core.specs.Copying.{WroteFront, CopiesBlock, CopiesRecord}
+use Rattle.index_core.specs.Copying.{WroteFront, CopiesRecord, CopiedBut}
 
 -- ---- fronts of what is known
 
@@ -29,194 +28,160 @@ front_there : (known known' : Option (List ℕ)) (a : List ℕ) → Consumes kno
     → IfSome known (λ bytes. (more : List ℕ) × (bytes ≡ a ++ more))
 front_there known known' a c = grind arith
 
+-- what was taken, and a front of what follows it
 begins_behind : (known known' : Option (List ℕ)) (a front : List ℕ) → Consumes known known' a
     → IfSome known' (λ bytes. (more : List ℕ) × (bytes ≡ front ++ more))
     → IfSome known (λ bytes. (more : List ℕ) × (bytes ≡ (a ++ front) ++ more))
 begins_behind known known' a front c b = grind (arith, append_assoc)
 
 -- a head stands in front of what follows it
-pub consumes_head : (raw : List ℕ) (known : Option (List ℕ)) → Consumes (prepend_known raw known) known raw
+consumes_head : (raw : List ℕ) (known : Option (List ℕ)) → Consumes (prepend_known raw known) known raw
 consumes_head raw known = grind arith
 
--- all that was taken was written
-pub wrote_all : (a : List ℕ) (known known' old new : Option (List ℕ)) → Consumes known known' a → Appends old new a
-    → WroteFront (length a) known old new
-wrote_all a known known' old new c k = grind (arith, front_there)
-
 -- a prefix of what was taken was written
-pub wrote_part : (a : List ℕ) (known known' old new : Option (List ℕ)) → Consumes known known' a
+wrote_part : (a : List ℕ) (known known' old new : Option (List ℕ)) → Consumes known known' a
     → AppendsPrefix old new a → WroteFront (length a) known old new
 wrote_part a known known' old new c p = grind (arith, length-append, append_assoc)
 
 -- a front behind what was written before
-pub wrote_behind : (n : ℕ) (a : List ℕ) (known known' old mid new : Option (List ℕ)) → Consumes known known' a
+wrote_behind : (n : ℕ) (a : List ℕ) (known known' old mid new : Option (List ℕ)) → Consumes known known' a
     → Appends old mid a → WroteFront n known' mid new → WroteFront (length a + n) known old new
 wrote_behind n a known known' old mid new c k w = grind (arith, length-append, begins_behind, Appends-join)
 
-pub wrote_within : (n m : ℕ) (known old new : Option (List ℕ)) → n ≤ m → WroteFront n known old new
+wrote_within : (n m : ℕ) (known old new : Option (List ℕ)) → n ≤ m → WroteFront n known old new
     → WroteFront m known old new
 wrote_within n m known old new l w = record { front = w.front; most = grind arith; begins = w.begins; grown = w.grown }
 
--- ---- a block
+module _ (h : HeadView) (before : Option (List ℕ)) where
+  -- ---- the head and the block
 
--- What was written of an open record's block, of which rest bytes are left.
-pub record Copying (left len rest : ℕ) (old now : ReaderView) (before mid written written' : Option (List ℕ)) : Type 0
-  where
-    pub taken : List ℕ
-    pub whole : length taken + rest ≡ left
-    pub given : Consumes (prepend_known old.held before) (prepend_known now.held mid) taken
-    pub stands : StandsAt now old.offset (Open rest len)
-    pub grown : Appends written written' taken
-
-pub Copying-start : (left len : ℕ) (old : ReaderView) (before written : Option (List ℕ)) → old.phase ≡ Open left len
-    → Copying left len left old old before before written written
-Copying-start left len old before written e = grind (arith, Consumes-none, Appends-none)
-
-module _ (left len rest : ℕ) (old now next : ReaderView) (before mid after w v u : Option (List ℕ))
-    (d : Copying left len rest old now before mid w v) where
-  pub Copying-more : (n : ℕ) (piece : List ℕ) (k k' : ℕ)
-      → GivesBlock rest len (state_of now mid k) (state_of next after k') (Ok n) piece → Appends v u (take n piece)
-      → Copying left len (rest - n) old next before after w u
-  Copying-more n piece k k' g a =
-      let low = g.bound.0 in
-      let long = length-take-le n piece g.bound.1 in
-      let whole = d.whole in
-      record {
-        taken = d.taken ++ take n piece;
-        whole = omega (arith, low, long, whole, length-append d.taken (take n piece));
-        given = Consumes-join _ _ _ d.taken (take n piece) d.given g.bytes;
-        stands = grind arith;
-        grown = Appends-join w v u d.taken (take n piece) d.grown a;
-      }
-
-  -- the output failed in a piece
-  pub Copying-cut : (fault : IndexFault) (n : ℕ) (piece : List ℕ) (k k' : ℕ) → fault ≡ faults.Write
-      → GivesBlock rest len (state_of now mid k) (state_of next after k') (Ok n) piece
-      → AppendsPrefix v u (take n piece) → CopiesBlock left len old next (Err fault) before after w u
-  Copying-cut faults.Write n piece k k' e g p =
-      let low = g.bound.0 in
-      let long = length-take-le n piece g.bound.1 in
-      let whole = d.whole in
-      record {
-        wrote = wrote_within (length d.taken + length (take n piece)) left _ w u (omega (arith, low, long, whole))
-            (wrote_behind (length (take n piece)) d.taken _ _ w v u d.given d.grown
-            (wrote_part (take n piece) _ _ v u g.bytes p));
-        ends = tt;
-      }
-  Copying-cut fault n piece k k' e g p = absurd (cc)
-
-  -- the block couldn't be read on
-  pub Copying-fault : (f : Fault) (piece : List ℕ) (k k' : ℕ)
-      → GivesBlock rest len (state_of now mid k) (state_of next after k') (Err f) piece
-      → CopiesBlock left len old next (Err (faults.Capture (Archive f))) before after w v
-  Copying-fault f piece k k' g =
-      let whole = d.whole in
-      let same : rest ≡ left - length d.taken = omega (arith, whole) in
-      record {
-        wrote = wrote_within (length d.taken) left _ w v (omega (arith, whole))
-            (wrote_all d.taken _ _ w v d.given d.grown);
-        ends = (
-          g.state.at ∙ d.stands.offset_is,
-          found-behind f.cause left (length d.taken) d.taken _ _ refl
-              (omega (arith, whole)) d.given
-              (subst (λ n. IsPossibleFault (after_block n) f.cause (prepend_known now.held mid)) same g.bytes),
-        );
-      }
-
-pub Copying-end : (left len rest : ℕ) (old now : ReaderView) (before mid w v : Option (List ℕ)) → rest ≡ 0
-    → Copying left len rest old now before mid w v → CopiesBlock left len old now (Ok tt) before mid w v
-Copying-end left len rest old now before mid w v e d =
-    let whole = d.whole in
-    record {
-      wrote = record { front = d.taken; most = omega arith; begins = front_there _ _ d.taken d.given; grown = d.grown };
-      ends = grind arith;
-    }
-
--- ---- a record
-
--- the closing was taken
-closing_taken : (before after : Option (List ℕ)) → Reads (after_record 0) (Ok tt) before after
-    → Consumes before after closing
-closing_taken before after r = grind (arith, block-there, nil_of)
-
--- what is read behind a block that was taken whole is read behind its record's head
-behind_block : (r : Result (Unit {0}) Cause) (n : ℕ) (block : List ℕ) (before mid after : Option (List ℕ))
-    → length block ≡ n → Consumes before mid block → Reads (after_record 0) r mid after
-    → Reads (after_record n) r before after
-behind_block r n block before mid after l c s =
-    GoesOn-reads (after_record n) (after_record (n - length block)) r before mid after (grind (arith, behind-front))
-    (grind arith)
-
-module _ (h : HeadView) (w v : Option (List ℕ)) where
   -- the output failed in the head
-  pub head_cut : (fault : IndexFault) (before after : Option (List ℕ)) → fault ≡ faults.Write → AppendsPrefix w v h.raw
-      → CopiesRecord h (Err fault) before after w v
-  head_cut fault before after e p = rw e (record {
-    wrote = wrote_within (length h.raw) (record_length h) _ w v (omega arith)
-        (wrote_part h.raw _ before w v (consumes_head h.raw before) p);
+  pub head_cut : (fault : IndexFault) (after w u : Option (List ℕ)) → fault ≡ faults.Write → AppendsPrefix w u h.raw
+      → CopiesRecord h (Err fault) before after w u
+  head_cut fault after w u e p = rw e (record {
+    wrote = wrote_within (length h.raw) (record_length h) _ w u (omega arith)
+        (wrote_part h.raw _ before w u (consumes_head h.raw before) p);
     ends = tt;
   })
 
-  module _ (u : Option (List ℕ)) (old mid : ReaderView) (before between : Option (List ℕ)) (unread : old.offset
-      ≡ h.start) (head : Appends w v h.raw) where
-    behind_head : WroteFront h.parts.block_length (prepend_known old.held before) v u
-        → WroteFront (record_length h) (prepend_known h.raw (prepend_known old.held before)) w u
-    behind_head f = wrote_within (length h.raw + h.parts.block_length) (record_length h) _ w u (omega arith)
-        (wrote_behind h.parts.block_length h.raw _ _ w v u (consumes_head h.raw _) head f)
+  pub head_copied : (now : ReaderView) (w u : Option (List ℕ)) → IsUnread now h → Appends w u h.raw
+      → CopiedBut h.parts.block_length h now before before w u
+  head_copied now w u r a = grind (arith, Consumes-none, append-nil)
 
-    -- the block couldn't be copied
-    pub block_cut : (fault : IndexFault) (after : Option (List ℕ))
-        → CopiesBlock h.parts.block_length (record_length h) old mid (Err fault) before between v u
-        → CopiesRecord h (Err fault) (prepend_known old.held before) after w u
-    block_cut fault after b = grind (arith, behind_head, found-of-record)
+  -- a front of the block was copied, of which rest bytes are left
+  module _ (rest : ℕ) (now : ReaderView) (x w v : Option (List ℕ))
+      (d : CopiedBut rest h now before (prepend_known now.held x) w v) where
+    -- what was written stands in front of what is left
+    taken : Consumes (prepend_known h.raw before) (prepend_known now.held x) (h.raw ++ d.front)
+    taken = Consumes-join _ before _ h.raw d.front (consumes_head h.raw before) d.given
 
-    module _ (block : CopiesBlock h.parts.block_length (record_length h) old mid (Ok tt) before between v u)
-        (new : ReaderView) (after : Option (List ℕ)) (k k' : ℕ) where
-      -- the record couldn't be finished
-      pub finish_cut : (f : Fault) → Finishes 0 (record_length h) (state_of mid between k) (state_of new after k')
-          (Err f) → CopiesRecord h (Err (faults.Capture (Archive f))) (prepend_known old.held before)
-          (prepend_known new.held after) w u
-      finish_cut f s = grind (arith, behind_head, behind_block)
+    -- what is read behind the front of the block is read behind the head
+    behind_head : (r : Result (Unit {0}) Cause) (after : Option (List ℕ))
+        → Reads (after_record rest) r (prepend_known now.held x) after
+        → Reads (after_record h.parts.block_length) r before after
+    behind_head r after s =
+        let whole = d.whole in
+        let left : h.parts.block_length - length d.front ≡ rest = omega (arith, whole) in
+        GoesOn-reads (after_record h.parts.block_length) (after_record (h.parts.block_length - length d.front)) r before
+        (prepend_known now.held x) after (behind-front _ d.front before _ (omega (arith, whole)) d.given)
+        (rw left s)
 
-      module _ (x : Option (List ℕ)) (n : ℕ)
-          (s : Finishes 0 (record_length h) (state_of mid between k) (state_of new after k') (Ok n)) where
-        -- the output failed in the closing
-        pub closing_cut : (fault : IndexFault) → fault ≡ faults.Write → AppendsPrefix u x closing
-            → CopiesRecord h (Err fault) (prepend_known old.held before) (prepend_known new.held after) w x
-        closing_cut fault e p =
-            let front = block.wrote.front in
-            let long = block.ends.0 in
-            rw e (record {
-              wrote = wrote_within (length h.raw + (length front + 4)) (record_length h) _ w x (omega (arith, long))
-                  (wrote_behind (length front + 4) h.raw _ _ w v x (consumes_head h.raw _) head
-                  (wrote_behind 4 front _ _ v u x block.ends.1 block.wrote.grown
-                  (wrote_part closing _ _ u x (closing_taken _ _ s.bytes) p)));
-              ends = tt;
-            })
+    pub copied_more : (n : ℕ) (piece : List ℕ) (next : ReaderView) (y u : Option (List ℕ)) (k k' : ℕ)
+        → GivesBlock rest (record_length h) (state_of now x k) (state_of next y k') (Ok n) piece
+        → Appends v u (take n piece) → CopiedBut (rest - n) h next before (prepend_known next.held y) w u
+    copied_more n piece next y u k k' g a =
+        let low = g.bound.0 in
+        let long = length-take-le n piece g.bound.1 in
+        let whole = d.whole in
+        record {
+          front = d.front ++ take n piece;
+          whole = omega (arith, low, long, whole, length-append d.front (take n piece));
+          given = Consumes-join _ _ _ d.front (take n piece) d.given g.bytes;
+          stands = grind arith;
+          grown = rw (← append_assoc) (Appends-join w v u (h.raw ++ d.front) (take n piece) d.grown a);
+        }
 
-        -- the whole record was copied
-        pub record_copied : Appends u x closing
-            → CopiesRecord h (Ok n) (prepend_known old.held before) (prepend_known new.held after) w x
-        record_copied p =
-            let front = block.wrote.front in
-            let long = block.ends.0 in
-            let size : length (h.raw ++ (front ++ closing))
-            ≡ record_length h = omega
-            (arith, long, length-append h.raw (front ++ closing), length-append front closing) in
-            record {
-              wrote = record {
-                front = h.raw ++ (front ++ closing);
-                most = omega (arith, size);
-                begins = begins_behind _ _ h.raw (front ++ closing) (consumes_head h.raw _)
-                    (begins_behind _ _ front closing block.ends.1
-                    (front_there _ _ closing (closing_taken _ _ s.bytes)));
-                grown = Appends-join w v x h.raw (front ++ closing) head
-                    (Appends-join v u x front closing block.wrote.grown p);
-              };
-              ends = (
-                s.state.0 ∙ sym size,
-                s.state.0,
-                behind_block (Ok tt) h.parts.block_length front _ _ _ long block.ends.1
-                    s.bytes,
-              );
-            }
+    -- the whole block was copied
+    pub copied_all : (piece : List ℕ) (next : ReaderView) (y : Option (List ℕ)) (k k' : ℕ) → 0 < length piece
+        → GivesBlock rest (record_length h) (state_of now x k) (state_of next y k') (Ok 0) piece
+        → CopiedBut 0 h next before (prepend_known next.held y) w v
+    copied_all piece next y k k' some g =
+        let none : rest ≡ 0 = zero_of rest (λ more. let one = g.bound.2 more some in omega (arith, one)) in
+        let all = copied_more 0 piece next y v k k' g (Appends-none v) in
+        subst (λ n. CopiedBut n h next before (prepend_known next.held y) w v) (omega (arith, none)) all
+
+    -- the output failed in what comes next
+    copied_cut : (fault : IndexFault) (piece : List ℕ) (later after u : Option (List ℕ)) → fault ≡ faults.Write
+        → Consumes (prepend_known now.held x) later piece → length piece ≤ rest + 4 → AppendsPrefix v u piece
+        → CopiesRecord h (Err fault) before after w u
+    copied_cut fault piece later after u e c l p =
+        let whole = d.whole in
+        rw e (record {
+          wrote = wrote_within (length (h.raw ++ d.front) + length piece) (record_length h) _ w u
+              (omega (arith, whole, l, length-append h.raw d.front))
+              (wrote_behind (length piece) (h.raw ++ d.front) _ _ w v u taken d.grown
+              (wrote_part piece _ later v u c p));
+          ends = tt;
+        })
+
+    -- what comes next couldn't be read
+    pub copied_stop : (f : Fault) (after : Option (List ℕ)) → f.offset ≡ now.offset
+        → Reads (after_record rest) (Err f.cause) (prepend_known now.held x) after
+        → CopiesRecord h (Err (faults.Capture (Archive f))) before after w v
+    copied_stop f after at s =
+        let whole = d.whole in
+        record {
+          wrote = record {
+            front = h.raw ++ d.front;
+            most = omega (arith, whole, length-append h.raw d.front);
+            begins = front_there _ _ _ taken;
+            grown = d.grown;
+          };
+          ends = (at ∙ d.stands.offset_is, behind_head (Err f.cause) after s);
+        }
+
+    -- the output failed in a piece of the block
+    pub piece_cut : (fault : IndexFault) (n : ℕ) (piece : List ℕ) (next : ReaderView) (y after u : Option (List ℕ))
+        (k k' : ℕ) → fault ≡ faults.Write
+        → GivesBlock rest (record_length h) (state_of now x k) (state_of next y k') (Ok n) piece
+        → AppendsPrefix v u (take n piece) → CopiesRecord h (Err fault) before after w u
+    piece_cut fault n piece next y after u k k' e g p =
+        let low = g.bound.0 in
+        let long = length-take-le n piece g.bound.1 in
+        copied_cut fault (take n piece) _ after u e g.bytes (omega (arith, low, long)) p
+
+    -- the block couldn't be read on
+    pub piece_stop : (f : Fault) (piece : List ℕ) (next : ReaderView) (y after : Option (List ℕ)) (k k' : ℕ)
+        → GivesBlock rest (record_length h) (state_of now x k) (state_of next y k') (Err f) piece
+        → CopiesRecord h (Err (faults.Capture (Archive f))) before after w v
+    piece_stop f piece next y after k k' g =
+        copied_stop f after g.state.at (found-of-record f.cause rest (prepend_known now.held x) after g.bytes)
+
+-- ---- the whole record
+
+module _ (h : HeadView) (before : Option (List ℕ)) (now : ReaderView) (x w v : Option (List ℕ))
+    (d : CopiedBut 0 h now before (prepend_known now.held x) w v) (new : ReaderView) (y u : Option (List ℕ))
+    (n k k' : ℕ) (s : Finishes 0 (record_length h) (state_of now x k) (state_of new y k') (Ok n)) where
+  closing_taken : Consumes (prepend_known now.held x) (prepend_known new.held y) closing
+  closing_taken = let read = s.bytes in grind (arith, block-there, nil_of)
+
+  -- the output failed in the closing
+  pub closing_cut : (fault : IndexFault) → fault ≡ faults.Write → AppendsPrefix v u closing
+      → CopiesRecord h (Err fault) before (prepend_known new.held y) w u
+  closing_cut fault e p = copied_cut h before 0 now x w v d fault closing _ _ u e closing_taken (omega arith) p
+
+  pub record_copied : Appends v u closing → CopiesRecord h (Ok n) before (prepend_known new.held y) w u
+  record_copied p =
+      let front = h.raw ++ d.front in
+      let whole = d.whole in
+      let size : length (front ++ closing) ≡ record_length h =
+      omega (arith, whole, length-append front closing, length-append h.raw d.front) in
+      record {
+        wrote = record {
+          front = front ++ closing;
+          most = omega (arith, size);
+          begins = begins_behind _ _ front closing (taken h before 0 now x w v d) (front_there _ _ closing closing_taken);
+          grown = Appends-join w v u front closing d.grown p;
+        };
+        ends = (s.state.0 ∙ sym size, s.state.0, behind_head h before 0 now x w v d (Ok tt) _ s.bytes);
+      }

@@ -9,7 +9,7 @@ use Rattle.warc_core.specs.HeadView.{HeadView, record_length}
 use Rattle.warc_core.specs.Next.{next_at}
 use Rattle.warc_core.specs.Reading.{Reads, IsPossibleCause}
 use Rattle.warc_core.specs.Walk.{record_at, Walks}
-use Rattle.warc_core.proofs.ArchiveLemmas.{walk-front, next-spelled}
+use Rattle.warc_core.proofs.ArchiveLemmas.{next-spelled, walk-front}
 use Rattle.warc_core.proofs.ReadingLemmas.{front_of}
 use Rattle.warc_core.proofs.WalkLemmas.{Walks-more, none_at_end, record-stopped, record-end, record-unclosed}
 use Rattle.warc_core.proofs.WalkLemmas.{record-whole}
@@ -20,7 +20,7 @@ use Rattle.index_core.specs.declared.fault.IndexFault.TheVariants as faults
 use Rattle.index_core.specs.Fetching.{IsInRecord, IsBehindRecords, StopsAt, most_written, most_written_at, Fetches}
 use Rattle.index_core.specs.Copying.{CopiesRecord, CopiesNext, WalkedTo}
 use Rattle.devices.proofs.WritingLemmas.{wrote_nothing}
-use Rattle.index_core.proofs.VerdictLemmas.{behind}
+use Rattle.index_core.proofs.ArchiveWalks.{from_offset}
 
 -- ---- the walk
 
@@ -104,10 +104,6 @@ module _ (limit : ℕ) where
   next_stopped o f before after w n e = grind (arith, record-stopped, wrote_nothing)
 
   -- ---- the whole call
-
-  pub from_offset : (archive : List ℕ) (heads : List HeadView) (o : ℕ) (z : List ℕ) → Walks limit 0 archive heads o z
-      → drop o archive ≡ z
-  from_offset archive heads o z w = grind (arith, walk-front, behind)
 
   prefix_there : (archive : List ℕ) (heads : List HeadView) (o : ℕ) (z : List ℕ) (w u : Option (List ℕ))
       → Walks limit 0 archive heads o z → AppendsPrefix w u (most_written_at limit o z)

@@ -17,7 +17,8 @@ use Rattle.index_core.specs.Fetching.{StandsIn, StopsAt, most_written_at, Fetche
 use Rattle.index_core.specs.FetchingAt.{BeginsOther, CopiesNextOf}
 use Rattle.index_core.specs.FetchingLaws.{IsReached, IsFromOffset, LengthAgrees, OffsetAgrees, WroteRecord}
 use Rattle.index_core.specs.FetchingLaws.{CapturesAreFetched}
-use Rattle.index_core.proofs.FetchLemmas.{from_offset, stops}
+use Rattle.index_core.proofs.ArchiveWalks.{from_offset}
+use Rattle.index_core.proofs.FetchLemmas.{stops}
 use Rattle.index_core.proofs.FetchedLemmas.{fetched}
 use Rattle.index_core.proofs.OffsetLemmas.{one_stands}
 

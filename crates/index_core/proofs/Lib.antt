@@ -1,3 +1,4 @@
+mod ArchiveWalks
 pub mod ReportLemmas
 pub mod FollowLemmas
 pub mod ListingLemmas
@@ -6,15 +7,13 @@ mod IndexLemmas
 mod AddingLemmas
 mod NameLemmas
 pub mod SoundLemmas
-mod OneIndexLemmas
-mod WholeLemmas
 mod CopyLemmas
 mod FetchLemmas
 mod FetchAtLemmas
 mod FetchedLemmas
 mod OffsetLemmas
 pub mod LimitLemmas
-mod AcceptedWhole
+mod AcceptedLemmas
 mod FormLemmas
 mod OneTextLemmas
 mod OneRecordLemmas

@@ -17,7 +17,7 @@ use Rattle.index_core.specs.OneText.{FetchesOneText}
 use Rattle.index_core.specs.OneText.{FetchesFront, FetchesAtOneText, FetchesAtFront}
 use Rattle.index_core.proofs.FormLemmas.{wrote}
 use Rattle.index_core.proofs.OffsetLemmas.{one_stands}
-use Rattle.index_core.proofs.WholeLemmas.{none_behind}
+use Rattle.index_core.proofs.ArchiveWalks.{none_behind}
 use Rattle.index_core.proofs.OneTextLemmas.{grown, has_front, damage}
 
 -- how long what stands at an offset is

@@ -8,12 +8,13 @@ use Rattle.warc_core.specs.HeadView.{HeadView, block_at}
 use Rattle.warc_core.specs.Next.{next_at}
 use Rattle.warc_core.specs.Reading.{Reads}
 use Rattle.warc_core.specs.Record.{after_record}
-use Rattle.warc_core.proofs.ArchiveLemmas.{walk-front, next-spelled}
+use Rattle.warc_core.proofs.ArchiveLemmas.{next-spelled}
 use Rattle.warc_core.specs.declared.verdict.Verdict.{Verdict}
 use Rattle.capture_core.specs.BlockDigest.{judge_record}
 use Rattle.index_core.specs.Verifying.{verdict_on, verdict_in, verdict_line, verification_line, differing_by, Judged}
 use Rattle.index_core.specs.Verifying.{verified_in, verified_of}
 use Rattle.index_core.specs.declared.verified.Verified.{Verified}
+use Rattle.index_core.proofs.ArchiveWalks.{from_offset}
 use Rattle.index_core.proofs.ReportLemmas.{IsLine, CountsOn, SoFar}
 
 judged_record : (judge : List ℕ → Verdict) (n : ℕ) (z w : List ℕ) (v : Verdict) → judge_record judge n z ≡ Ok (v, w)
@@ -45,17 +46,12 @@ judged_verdict limit start h v (Some z) (Some y) (Some w) r j =
     grind (arith, drop-append_seam, judged_record)
 judged_verdict limit start h v before mid after r j = grind arith
 
--- what stands behind the first records of an archive
-pub behind : (archive front z : List ℕ) (o : ℕ) → archive ≡ front ++ z → o ≡ 0 + length front → drop o archive ≡ z
-behind archive front z o e l = ap (λ n. drop n archive) (let k : o ≡ length front = omega (arith, l) in k)
-    ∙ (grind (arith, drop-append_seam))
-
 -- the line of a verdict is that of the record in the archive
 pub verdict_known : {A : Type 0} (limit : ℕ) (tally : List ℕ → List HeadView → A) (left now : Option (List ℕ)) (o : ℕ)
     (x : A) (w u : Option (List ℕ)) (h : HeadView) (v : Verdict) → SoFar limit verification_line tally left now o x w u
     → h.start ≡ o → IfSome now (λ bytes. v ≡ verdict_on h (block_at h bytes)) → (archive : List ℕ) → left ≡ Some archive
     → v ≡ verdict_in archive h
-verdict_known limit tally left now o x w u h v s b t archive e = grind (arith, walk-front, behind)
+verdict_known limit tally left now o x w u h v s b t archive e = grind (arith, from_offset)
 
 pub is_line : (left : Option (List ℕ)) (h : HeadView) (v : Verdict)
     → ((archive : List ℕ) → left ≡ Some archive → v ≡ verdict_in archive h)

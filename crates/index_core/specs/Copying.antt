@@ -1,14 +1,14 @@
 -- The walk to an offset of an archive, and the copying of the record there.
-use Rattle.std.specs.Prelude.{◌≡◌, ℕ, ◌≤◌, ⊤, ◌⊎◌, List, [], ◌++◌, length, take, Option, None, Some, Result, Ok, Err}
+use Rattle.std.specs.Prelude.{◌≡◌, ℕ, ◌+◌, ◌≤◌, ⊤, ◌⊎◌, List, [], ◌++◌, length, take, Option, None, Some, Result, Ok, Err}
 use Rattle.std.specs.Prelude.{IfSome}
 use Rattle.std.specs.Io.KnownBytes.{Appends, Consumes, prepend_known}
 use Rattle.warc_core.specs.declared.fault.Fault.{Fault}
 use Rattle.warc_core.specs.declared.phase.Phase.TheVariants.{Between, Open}
 use Rattle.devices.specs.Device.{AppendsPrefix}
 use Rattle.warc_core.specs.HeadView.{HeadView, record_length}
-use Rattle.warc_core.specs.Reading.{Reads, IsPossibleCause, IsPossibleFault}
+use Rattle.warc_core.specs.Reading.{Reads, IsPossibleCause}
 use Rattle.warc_core.specs.ReaderView.{ReaderView, StandsAt}
-use Rattle.warc_core.specs.Record.{after_block, after_record}
+use Rattle.warc_core.specs.Record.{after_record}
 use Rattle.warc_core.specs.Walk.{record_at, Walks}
 use Rattle.capture_core.specs.declared.fault.CaptureFault.TheVariants.{Archive}
 use Rattle.index_core.specs.declared.fault.IndexFault.{IndexFault}
@@ -21,23 +21,6 @@ pub record WroteFront (n : ℕ) (known old new : Option (List ℕ)) : Type 0 whe
   pub most : length front ≤ n
   pub begins : IfSome known (λ bytes. (more : List ℕ) × (bytes ≡ front ++ more))
   pub grown : Appends old new front
-
--- how the copying of what is left of an open record's block ended, by the front of it that was written
-abbrev pub EndsBlock : ℕ → ℕ → List ℕ → ReaderView → ReaderView → Result (Unit {0}) IndexFault → Option (List ℕ)
-    → Option (List ℕ) → Type 0
-EndsBlock left len front old new (Ok u) before after =
-    (length front ≡ left) × Consumes (prepend_known old.held before) (prepend_known new.held after) front
-    × StandsAt new old.offset (Open 0 len)
-EndsBlock left len front old new (Err (faults.Capture (Archive f))) before after = (f.offset ≡ old.offset)
-    × IsPossibleFault (after_block left) f.cause (prepend_known old.held before)
-EndsBlock left len front old new (Err faults.Write) before after = ⊤
-EndsBlock left len front old new (Err other) before after = ⊥
-
--- what is left of an open record's block was copied, or its front
-pub record CopiesBlock (left len : ℕ) (old new : ReaderView) (r : Result (Unit {0}) IndexFault)
-    (before after written written' : Option (List ℕ)) : Type 0 where
-  pub wrote : WroteFront left (prepend_known old.held before) written written'
-  pub ends : EndsBlock left len wrote.front old new r before after
 
 -- how the copying of a record ended, by the front of it that was written
 abbrev pub EndsRecord : HeadView → List ℕ → Result ℕ IndexFault → Option (List ℕ) → Option (List ℕ) → Type 0
@@ -53,6 +36,21 @@ pub record CopiesRecord (h : HeadView) (r : Result ℕ IndexFault) (before after
     Type 0 where
   pub wrote : WroteFront (record_length h) (prepend_known h.raw before) written written'
   pub ends : EndsRecord h wrote.front r before after
+
+-- A head and what follows it of its block were copied, but for so many bytes.
+pub record CopiedBut (rest : ℕ) (h : HeadView) (now : ReaderView) (before after written written' : Option (List ℕ)) :
+    Type 0 where
+  pub front : List ℕ
+  pub whole : length front + rest ≡ h.parts.block_length
+  pub given : Consumes before after front
+  pub stands : StandsAt now h.start (Open rest (record_length h))
+  pub grown : Appends written written' (h.raw ++ front)
+
+-- a head and its block were copied, or a front of the record
+abbrev pub CopiesHeadAndBlock : HeadView → Result (Unit {0}) IndexFault → ReaderView → Option (List ℕ) → Option (List ℕ)
+    → Option (List ℕ) → Option (List ℕ) → Type 0
+CopiesHeadAndBlock h (Ok u) now before after written written' = CopiedBut 0 h now before after written written'
+CopiesHeadAndBlock h (Err fault) now before after written written' = CopiesRecord h (Err fault) before after written written'
 
 -- what comes next at the offset was copied
 abbrev pub CopiesNext : ℕ → ℕ → Result ℕ IndexFault → Option (List ℕ) → Option (List ℕ) → Option (List ℕ) → Type 0

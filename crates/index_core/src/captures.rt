@@ -1,5 +1,6 @@
 //! The captures of an archive, read record by record.
-ghost use Rattle.std.specs.Prelude.{◌≡◌, ℕ, ◌<◌, ◌-◌, ◌^◌, ◌≤◌, ◌++◌, List, true, [], ◌∷◌, length, IfSome, OnOk, OnErr, option_to_list};
+ghost use Rattle.std.specs.Prelude.{◌≡◌, ℕ, ◌<◌, ◌-◌, ◌^◌, ◌≤◌, ◌++◌, List, true, [], ◌∷◌, length};
+ghost use Rattle.std.specs.Prelude.{IfSome, OnOk, OnErr, option_to_list};
 ghost use Rattle.std.specs.Io.KnownBytes.{prepend_known};
 ghost use Rattle.warc_core.specs.declared.phase.Phase.TheVariants.{Between};
 ghost use Rattle.warc_core.specs.declared.next.TheConstants.{HEAD_LIMIT};
@@ -16,7 +17,8 @@ use capture_core::{BlockStart, CaptureFault, HeldLine, Types, held_capture};
 use std::alloc::{AllocError, Global};
 use warc_core::{Cause, Fault, Head, Input, Reader};
 
-/// Reads the next whole record to its end, and returns its head and its capture under the archive's name.
+/// Reads the next whole record to its end, and returns its head and its capture under the archive's
+/// name.
 fn next_capture<I: Input>(
     alloc: Global,
     front: &mut BlockStart,
@@ -55,7 +57,8 @@ fn keep(captures: &mut Vec<HeldLine>, captured: Option<HeldLine>) -> Result<(), 
     }
 }
 
-/// Adds the captures of an archive's records of these types under its name, and returns their number.
+/// Adds the captures of an archive's records of these types under its name, and returns their
+/// number.
 ///
 /// Errors are those of `held_capture`. The captures before the fault were then added.
 pub fn add_captures<I: Input>(

@@ -1,28 +1,29 @@
 //! The copying of a record.
-ghost use Rattle.std.specs.Prelude.{◌≡◌, ℕ};
 ghost use Rattle.std.specs.Io.KnownBytes.{prepend_known};
-ghost use Rattle.warc_core.specs.declared.phase.Phase.TheVariants.{Open};
-ghost use Rattle.warc_core.specs.ReaderView.{IsUnread, HasLeft};
+ghost use Rattle.warc_core.specs.ReaderView.{IsUnread};
 ghost use Rattle.index_core.specs.Counting.{CountsIndex, CountsIndexWrite};
-ghost use Rattle.index_core.specs.Copying.{CopiesBlock, CopiesRecord};
+ghost use Rattle.index_core.specs.Copying.{CopiesHeadAndBlock, CopiesRecord};
 
 use crate::fault::IndexFault;
 use crate::writing::put_bytes;
 use warc_core::{Head, Input, Output, Reader};
 
-/// Writes the rest of the open record's block.
-fn copy_block<I: Input, O: Output>(
+/// Writes the head and the block of a record. Its head has been read, and none of its block.
+fn copy_head_and_block<I: Input, O: Output>(
     reader: &mut Reader,
     input: &mut I,
+    head: &Head,
     out: &mut O,
 ) -> Result<(), IndexFault>
-    requires { HasLeft 0 reader.old.phase }
-    ensures copies { (left len : ℕ) → reader.old.phase ≡ Open left len →
-        CopiesBlock left len reader.old reader.new result
-        (I.remaining input.old) (I.remaining input.new) (O.written out.old) (O.written out.new) }
+    requires { IsUnread reader.old head.now }
+    ensures copies { CopiesHeadAndBlock head.now result reader.new
+        (prepend_known reader.old.held (I.remaining input.old))
+        (prepend_known reader.new.held (I.remaining input.new)) (O.written out.old)
+        (O.written out.new) }
     ensures reads { CountsIndex result (I.failures input.old) (I.failures input.new) }
     ensures writes { CountsIndexWrite result (O.failures out.old) (O.failures out.new) }
 {
+    put_bytes(out, head.raw())?;
     let mut piece = [0; 8192];
     loop {
         let count = reader.block(input, &mut piece)?;
@@ -33,7 +34,8 @@ fn copy_block<I: Input, O: Output>(
     }
 }
 
-/// Writes a record as it is stored, and returns its length in bytes. Its head has been read, and none of its block.
+/// Writes a record as it is stored, and returns its length in bytes. Its head has been read, and
+/// none of its block.
 ///
 /// Errors are the archive's fault, and `Write`. A prefix of the record was then written.
 pub fn copy_record<I: Input, O: Output>(
@@ -50,8 +52,7 @@ pub fn copy_record<I: Input, O: Output>(
     ensures reads { CountsIndex result (I.failures input.old) (I.failures input.new) }
     ensures writes { CountsIndexWrite result (O.failures out.old) (O.failures out.new) }
 {
-    put_bytes(out, head.raw())?;
-    copy_block(reader, input, out)?;
+    copy_head_and_block(reader, input, head, out)?;
     let length = reader.finish(input)?;
     put_bytes(out, b"\r\n\r\n")?;
     Ok(length)

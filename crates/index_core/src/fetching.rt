@@ -5,7 +5,8 @@ ghost use Rattle.warc_core.specs.Answers.{causes_of, CountsRead};
 ghost use Rattle.index_core.specs.Counting.{CountsIndex, CountsIndexWrite};
 ghost use Rattle.index_core.specs.Copying.{CopiesNext, Reaches};
 ghost use Rattle.index_core.specs.Fetching.{Fetches, IsFetchFault, IsMetBefore};
-ghost use Rattle.index_core.specs.FetchingAt.{CopiesNextOf, CopiesRecordOf, FetchesAt, PassesRecord};
+ghost use Rattle.index_core.specs.FetchingAt.{CopiesNextOf, CopiesRecordOf, FetchesAt};
+ghost use Rattle.index_core.specs.FetchingAt.{PassesRecord};
 ghost use Rattle.warc_core.specs.declared.phase.Phase.TheVariants.{Open};
 ghost use Rattle.warc_core.specs.ReaderView.{HasLeft, IsUnread};
 
@@ -18,14 +19,14 @@ use warc_core::{Fault, HEAD_LIMIT, Head, Input, Output, Phase, Reader};
 /// The greatest offset of a record.
 const GREATEST_OFFSET: u64 = (1 << 63) - 1;
 
-/// Writes the record that begins at `offset`, in bytes from the archive's start, as it is stored, and returns its
-/// length in bytes. The input is not called for anything after that record.
+/// Writes the record that begins at `offset`, in bytes from the archive's start, as it is stored,
+/// and returns its length in bytes. The input is not called for anything after that record.
 ///
-/// Errors are `NoRecord` if a record begins before the offset and ends after it, or if the archive ends at the offset
-/// or before it; the archive's fault at the offset or before it, `Memory` and `Read` included; and `Write` at the
-/// output's first failure. After
-/// `NoRecord`, or a fault before the offset, nothing was written. After any other error, the first bytes from the
-/// offset on may have been written, but none past the end of the record that begins there.
+/// Errors are `NoRecord` if a record begins before the offset and ends after it, or if the archive
+/// ends at the offset or before it; the archive's fault at the offset or before it, `Memory` and
+/// `Read` included; and `Write` at the output's first failure. After `NoRecord`, or a fault before
+/// the offset, nothing was written. After any other error, the first bytes from the offset on may
+/// have been written, but none past the end of the record that begins there.
 pub fn get<I: Input, O: Output>(
     alloc: Global,
     offset: u64,
@@ -45,13 +46,15 @@ pub fn get<I: Input, O: Output>(
     }
 }
 
-/// Writes the record of `length` bytes that begins at `offset`, in bytes from the archive's start, as it is stored, and
-/// returns its length. What precedes the offset is passed over, and not read as records.
+/// Writes the record of `length` bytes that begins at `offset`, in bytes from the archive's start,
+/// as it is stored, and returns its length. What precedes the offset is passed over, and not read
+/// as records.
 ///
-/// Errors are `NoRecord` if a record of another length begins at the offset, if the archive ends at the offset or
-/// before it, or if the offset is 2^63 or more; the fault of the record at the offset, `Memory` and `Read` included; and
-/// `Write` at the output's first failure. After `NoRecord` nothing was written. After any other error, the first bytes
-/// from the offset on may have been written, but none past the end of the record that begins there.
+/// Errors are `NoRecord` if a record of another length begins at the offset, if the archive ends at
+/// the offset or before it, or if the offset is 2^63 or more; the fault of the record at the
+/// offset, `Memory` and `Read` included; and `Write` at the output's first failure. After
+/// `NoRecord` nothing was written. After any other error, the first bytes from the offset on may
+/// have been written, but none past the end of the record that begins there.
 pub fn get_at<I: Input, O: Output>(
     alloc: Global,
     offset: u64,
@@ -94,8 +97,8 @@ fn copy_next_of<I: Input, O: Output>(
     }
 }
 
-/// Writes the record with this head if it has this length in bytes, and returns the length. None of its block was read.
-/// Otherwise reads it to its end.
+/// Writes the record with this head if it has this length in bytes, and returns the length. None of
+/// its block was read. Otherwise reads it to its end.
 fn copy_record_of<I: Input, O: Output>(
     reader: &mut Reader,
     input: &mut I,

@@ -48,7 +48,8 @@ fn put_lines<O: Output>(out: &mut O, captures: &[HeldLine], rows: &[Row]) -> Res
 
 /// Writes the lines of captures in the order of places, and returns their number.
 ///
-/// Errors are `Memory`, before anything is written, and `Write`. A prefix of the lines was then written.
+/// Errors are `Memory`, before anything is written, and `Write`. A prefix of the lines was then
+/// written.
 pub fn put_index<O: Output>(
     alloc: Global,
     out: &mut O,

@@ -41,7 +41,8 @@ impl Indexer {
     ghost use Rattle.capture_core.specs.CaptureAnswer.{usual_limits};
     ghost use Rattle.index_core.specs.Adding.{Adds, IsAddFault, IsRefusal};
     ghost use Rattle.index_core.specs.Counting.{CountsIndex, CountsIndexWrite};
-    ghost use Rattle.index_core.specs.Indexing.{IsWriteFault, IsName, is_among, index_text, in_places, AreSound};
+    ghost use Rattle.index_core.specs.Indexing.{IsWriteFault, IsName, is_among, index_text};
+    ghost use Rattle.index_core.specs.Indexing.{in_places, AreSound};
 
     /// Creates an indexer of records of these types, which holds nothing. It takes no memory.
     pub fn new(alloc: Global, types: Types) -> Indexer
@@ -56,13 +57,13 @@ impl Indexer {
         }
     }
 
-    /// Adds the captures of an archive's records of the indexer's types under the archive's name, of 1 to 255 bytes.
-    /// Returns the number of captures added.
+    /// Adds the captures of an archive's records of the indexer's types under the archive's name,
+    /// of 1 to 255 bytes. Returns the number of captures added.
     ///
-    /// Errors are `BadName`, `DuplicateName` for a name that an earlier call has kept, and `Memory` if the name can't
-    /// be kept. After these, nothing was read and nothing has changed. Any other error is `Capture`. After it, the name
-    /// is kept, and with it the captures of the whole records that end at or before the fault's offset, and nothing
-    /// else.
+    /// Errors are `BadName`, `DuplicateName` for a name that an earlier call has kept, and `Memory`
+    /// if the name can't be kept. After these, nothing was read and nothing has changed. Any other
+    /// error is `Capture`. After it, the name is kept, and with it the captures of the whole
+    /// records that end at or before the fault's offset, and nothing else.
     pub fn add<I: Input>(&mut self, name: &str, input: &mut I) -> Result<u64, IndexFault>
         ensures bad { (result ≡ Err IndexFault.BadName) ↔ ¬ (IsName name.now) }
         ensures duplicate { (result ≡ Err IndexFault.DuplicateName)
@@ -100,10 +101,11 @@ impl Indexer {
         self.captures.clear();
     }
 
-    /// Writes the index: a line for each capture that is held, in the order of places. Returns the number of lines.
+    /// Writes the index: a line for each capture that is held, in the order of places. Returns the
+    /// number of lines.
     ///
-    /// Errors are `Memory`, and `Write` at the output's first failure. After an error, the first lines may have been
-    /// written.
+    /// Errors are `Memory`, and `Write` at the output's first failure. After an error, the first
+    /// lines may have been written.
     pub fn write<O: Output>(&self, out: &mut O) -> Result<u64, IndexFault>
         ensures lines { WritesText result (O.written out.old) (O.written out.new)
             (index_text self.now.captures) }

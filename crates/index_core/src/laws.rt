@@ -1,29 +1,38 @@
-//! Laws of the definitions that the contracts cite. These functions do nothing: each law is a contract.
-ghost use Rattle.index_core.specs.Laws.{AcceptedIsWhole, OneIndexed, OneIndexedTo, CapturesStand, OneStands, SomeStands, WholeIsNotRefused, WholeStays, CapturesStay};
+//! Laws of the definitions that the contracts cite. These functions do nothing: each law is a
+//! contract.
+ghost use Rattle.index_core.specs.Laws.{AcceptedIsWhole, OneIndexed, OneIndexedTo, CapturesStand};
+ghost use Rattle.index_core.specs.Laws.{OneStands, SomeStands, WholeIsNotRefused, WholeStays};
+ghost use Rattle.index_core.specs.Laws.{CapturesStay};
 ghost use Rattle.index_core.specs.FetchingLaws.{LengthAgrees, OffsetAgrees, CapturesAreFetched};
-ghost use Rattle.index_core.specs.OneText.{ListsOneText, ListsPart, VerifiesOneText, VerifiesPart, FetchesOneText, FetchesFront, FetchesAtOneText, FetchesAtFront, AddsOneList, AddsFirst, WritesOneIndex, WritesIndexFront};
+ghost use Rattle.index_core.specs.OneText.{ListsOneText, ListsPart, VerifiesOneText, VerifiesPart};
+ghost use Rattle.index_core.specs.OneText.{FetchesOneText, FetchesFront, FetchesAtOneText};
+ghost use Rattle.index_core.specs.OneText.{FetchesAtFront, AddsOneList, AddsFirst, WritesOneIndex};
+ghost use Rattle.index_core.specs.OneText.{WritesIndexFront};
 
-/// An archive has one list of captures, whether it is accepted whole or only up to a fault's offset.
+/// An archive has one list of captures, whether it is accepted whole or only up to a fault's
+/// offset.
 pub fn archive_has_one_list_of_captures()
     ensures whole { OneIndexed }
     ensures part { OneIndexedTo }
 {}
 
-/// At each offset of an archive there is exactly one of these: a record's text, no record, or the archive's damage.
+/// At each offset of an archive there is exactly one of these: a record's text, no record, or the
+/// archive's damage.
 pub fn one_thing_stands_at_an_offset()
     ensures one { OneStands }
     ensures some { SomeStands }
 {}
 
-/// At the offset of each capture of an archive, a record stands. It has the capture's length, and the capture is that
-/// record's. The archive is accepted whole or up to a fault.
+/// At the offset of each capture of an archive, a record stands. It has the capture's length, and
+/// the capture is that record's. The archive is accepted whole or up to a fault.
 pub fn captures_stand_at_their_offsets()
     ensures { CapturesStand }
 {}
 
-/// Both forms of `get` do the same where whole records fill the archive up to the offset, and the record that begins
-/// there, if one does, has the length that is passed. Only the form without a length may meet a fault before the offset.
-/// For each capture of an archive, both write the text of its record.
+/// Both forms of `get` do the same where whole records fill the archive up to the offset, and the
+/// record that begins there, if one does, has the length that is passed. Only the form without a
+/// length may meet a fault before the offset. For each capture of an archive, both write the text
+/// of its record.
 pub fn both_forms_of_get_agree()
     ensures length { LengthAgrees }
     ensures offset { OffsetAgrees }
@@ -35,20 +44,22 @@ pub fn accepted_archive_is_whole()
     ensures { AcceptedIsWhole }
 {}
 
-/// An archive that is accepted whole can only be rejected because memory could not be allocated, its input fails or a
-/// key is too long, and never because of damage or a line that is too long.
+/// An archive that is accepted whole can only be rejected because memory could not be allocated,
+/// its input fails or a key is too long, and never because of damage or a line that is too long.
 pub fn accepted_archive_is_not_refused()
     ensures { WholeIsNotRefused }
 {}
 
-/// An archive that is accepted whole is accepted whole under higher limits of lines and heads, with the same captures.
+/// An archive that is accepted whole is accepted whole under higher limits of lines and heads, with
+/// the same captures.
 pub fn accepted_archive_stays_accepted()
     ensures whole { WholeStays }
     ensures captures { CapturesStay }
 {}
 
-/// The archive decides what `get` and `get_at` return and write, unless a device fails or memory can't be allocated, and
-/// except for the part of a damaged record at the offset. After such a failure a prefix of the record was written.
+/// The archive decides what `get` and `get_at` return and write, unless a device fails or memory
+/// can't be allocated, and except for the part of a damaged record at the offset. After such a
+/// failure a prefix of the record was written.
 pub fn get_writes_one_text()
     ensures offset { FetchesOneText }
     ensures offset_front { FetchesFront }
@@ -56,25 +67,26 @@ pub fn get_writes_one_text()
     ensures length_front { FetchesAtFront }
 {}
 
-/// The archive decides what `list` returns and writes, unless a device fails or memory can't be allocated. After such a
-/// failure the start of that text was written, and the fault's line. If the output failed, a prefix of this or of the
-/// whole text was written.
+/// The archive decides what `list` returns and writes, unless a device fails or memory can't be
+/// allocated. After such a failure the start of that text was written, and the fault's line. If the
+/// output failed, a prefix of this or of the whole text was written.
 pub fn list_writes_one_text()
     ensures one { ListsOneText }
     ensures part { ListsPart }
 {}
 
-/// The archive decides what `verify` returns and writes, unless a device fails or memory can't be allocated. After such
-/// a failure the start of that text was written, and the fault's line. If the output failed, a prefix of this or of the
-/// whole text was written.
+/// The archive decides what `verify` returns and writes, unless a device fails or memory can't be
+/// allocated. After such a failure the start of that text was written, and the fault's line. If the
+/// output failed, a prefix of this or of the whole text was written.
 pub fn verify_writes_one_text()
     ensures one { VerifiesOneText }
     ensures part { VerifiesPart }
 {}
 
-/// The archive decides which captures an indexer adds, unless the name is refused, the input fails, memory can't be
-/// allocated or a key is too long. Then the first of them were added, or none. The captures that are held decide the
-/// index that is written. After an error a prefix of it was written.
+/// The archive decides which captures an indexer adds, unless the name is refused, the input fails,
+/// memory can't be allocated or a key is too long. Then the first of them were added, or none. The
+/// captures that are held decide the index that is written. After an error a prefix of it was
+/// written.
 pub fn index_writes_one_text()
     ensures adds { AddsOneList }
     ensures adds_first { AddsFirst }

@@ -1,4 +1,5 @@
-//! Archives to indexes, reports on archives, and records by their offsets; docs/COMMANDS.md has the lines of reports.
+//! Archives to indexes, reports on archives, and records by their offsets; docs/COMMANDS.md has the
+//! lines of reports.
 //!
 //! The definitions begin in `specs/Accepted.antt`: the captures of an archive.
 #![tactic(auto)]

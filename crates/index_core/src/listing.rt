@@ -11,11 +11,11 @@ use crate::writing::{put_fault, put_line};
 use std::alloc::Global;
 use warc_core::{HEAD_LIMIT, Input, Output, Reader};
 
-/// Writes a line `OFFSET LENGTH KIND` for each whole record of the archive, and a last line `fault OFFSET CAUSE` if the
-/// archive can't be read to its end. Returns the number of whole records.
+/// Writes a line `OFFSET LENGTH KIND` for each whole record of the archive, and a last line `fault
+/// OFFSET CAUSE` if the archive can't be read to its end. Returns the number of whole records.
 ///
-/// Errors are the archive's fault, `Memory` and `Read` included, after its line was written, and `Write` at the output's
-/// first failure.
+/// Errors are the archive's fault, `Memory` and `Read` included, after its line was written, and
+/// `Write` at the output's first failure.
 pub fn list<I: Input, O: Output>(
     alloc: Global,
     input: &mut I,

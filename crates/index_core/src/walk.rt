@@ -13,7 +13,8 @@ ghost use Rattle.index_core.specs.Verifying.{heads_of, verdict_on};
 use capture_core::{Verdict, block_digest};
 use warc_core::{Fault, HEAD_LIMIT, Head, Input, Phase, Reader};
 
-/// Reads the next whole record to its end, and returns its head. The errors are the archive's faults.
+/// Reads the next whole record to its end, and returns its head. The errors are the archive's
+/// faults.
 pub fn next_record<I: Input>(reader: &mut Reader, input: &mut I) -> Result<Option<Head>, Fault>
     requires { reader.old.phase ≡ Phase.Between }
     ensures bytes { Reads (record_at HEAD_LIMIT reader.old.offset) (causes_of result)
@@ -33,8 +34,8 @@ pub fn next_record<I: Input>(reader: &mut Reader, input: &mut I) -> Result<Optio
     }
 }
 
-/// Reads the next whole record to its end, and returns its head and the verdict on its block. The errors are the
-/// archive's faults.
+/// Reads the next whole record to its end, and returns its head and the verdict on its block. The
+/// errors are the archive's faults.
 pub fn next_verdict<I: Input>(
     reader: &mut Reader,
     input: &mut I,

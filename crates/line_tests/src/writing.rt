@@ -1,9 +1,9 @@
 //! The lines that are written for entries.
 ghost use Rattle.std.specs.Prelude.{◌≡◌, IfSome};
-ghost use Rattle.cdxj_core.specs.Entries.{HasPlainTexts, entry_view, keyed_view};
+ghost use Rattle.cdxj_core.specs.Entries.{HasPlainTexts, keyed_view};
 
 use cdxj_core::{
-    Entry, EntryRef, Field, KeylessEntry, Line, LineFault, plain_utf8, push_quoted, write_line,
+    Entry, Field, KeylessEntry, Line, LineFault, plain_utf8, push_quoted, write_line,
     write_plain_entry,
 };
 use std::alloc::{AllocError, Global};
@@ -140,9 +140,9 @@ fn entries_are_written_and_read_back(rt: HostRuntime) -> Result<(), Fail> {
 }
 
 /// Returns an entry without its key, if no text needs an escape.
-fn keyless(entry: EntryRef<'_>) -> Option<KeylessEntry<'_>>
-    ensures value { IfSome result (λ e. keyed_view entry.entry.key.now e ≡ entry_view entry.entry) }
-    ensures plain { IfSome result (λ _. HasPlainTexts (entry_view entry.entry)) }
+fn plain(entry: &Entry) -> Option<KeylessEntry<'_>>
+    ensures value { IfSome result (λ e. keyed_view entry.now.key e ≡ entry.now) }
+    ensures plain { IfSome result (λ _. HasPlainTexts entry.now) }
 {
     Some(KeylessEntry {
         stamp: entry.stamp,
@@ -159,7 +159,7 @@ fn keyless(entry: EntryRef<'_>) -> Option<KeylessEntry<'_>>
 /// Returns the line that is written behind the key of these members, if they are good and plain.
 fn written_plainly(alloc: Global, members: &Members) -> Result<Option<Vec<u8>>, Fail> {
     let entry = entry(alloc, members)?;
-    match keyless(entry.borrowed()) {
+    match plain(&entry) {
         Some(plain) if entry.good() => Ok(Some(write_plain_entry(entry.key.clone()?, plain)?)),
         _ => Ok(None),
     }

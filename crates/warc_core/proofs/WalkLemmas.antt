@@ -20,11 +20,11 @@ unfolding record_at next_at
 no_fault limit start rest c n e = grind arith
 
 -- the walk to gs at p, with t left, is that to hs at o, with r left, and more
-abbrev GoesOnFrom : ℕ → List HeadView → List HeadView → ℕ → ℕ → List ℕ → List ℕ → Type 0
+abbrev pub GoesOnFrom : ℕ → List HeadView → List HeadView → ℕ → ℕ → List ℕ → List ℕ → Type 0
 GoesOnFrom limit hs gs o p r t = (more : List HeadView) × (gs ≡ hs ++ more) × Walks limit o r more p t
 
 -- of two walks from one place, one goes on where the other stopped
-two-walks : (limit start : ℕ) (bytes : List ℕ) (hs gs : List HeadView) (o p : ℕ) (r t : List ℕ)
+pub two-walks : (limit start : ℕ) (bytes : List ℕ) (hs gs : List HeadView) (o p : ℕ) (r t : List ℕ)
     → Walks limit start bytes hs o r → Walks limit start bytes gs p t
     → GoesOnFrom limit hs gs o p r t ⊎ GoesOnFrom limit gs hs p o t r
 two-walks limit start bytes (h ∷ hs) (g ∷ gs) o p r t v w =
@@ -49,7 +49,7 @@ not_both limit start bytes hs gs o p c rest v w e = grind (arith, two-walks, wal
 -- a walk to the end of the archive or to its damage goes on where any other stopped
 pub walk-extends : (limit start : ℕ) (bytes : List ℕ) (hs gs : List HeadView) (o p : ℕ) (r t : List ℕ)
     → Walks limit start bytes hs o r → Walks limit start bytes gs p t → (t ≡ [])
-    ⊎ ((c : Cause) × (record_at limit p t ≡ Err c)) → (more : List HeadView) × (gs ≡ hs ++ more)
+    ⊎ ((c : Cause) × (record_at limit p t ≡ Err c)) → GoesOnFrom limit hs gs o p r t
 walk-extends limit start bytes hs gs o p r t v w e =
     let s = two-walks limit start bytes hs gs o p r t v w in
     grind (arith, walk-ends, append-nil)

@@ -1,0 +1,38 @@
+-- Walks over the records of an archive.
+use Rattle.std.proofs.Common.{◌≡◌, ◌∙◌, ℕ, List, [], ◌∷◌, Some, Ok, length, drop, ap, refl, append-nil, arith}
+use Rattle.std.proofs.Math.Seq.{drop-append_seam}
+use Rattle.warc_core.specs.HeadView.{HeadView}
+use Rattle.warc_core.specs.Next.{next_at}
+use Rattle.warc_core.specs.Walk.{record_at, Walks}
+use Rattle.warc_core.proofs.ArchiveLemmas.{walk-front}
+use Rattle.warc_core.proofs.SpelledLemmas.{read-spelled}
+use Rattle.warc_core.proofs.WalkLemmas.{two-walks}
+
+-- no record is read at the end
+pub none_behind : (limit start : ℕ) (h : HeadView) (rest : List ℕ) → record_at limit start [] ≡ Ok (Some h, rest) → ⊥
+unfolding record_at next_at
+none_behind limit start h rest r = grind arith
+
+-- a walk that ends where it began is over no records
+pub walk_nowhere : (limit o : ℕ) (more : List HeadView) (r t : List ℕ) → Walks limit o r more o t → more ≡ []
+walk_nowhere limit o [] r t w = refl
+walk_nowhere limit o (h ∷ more) r t w = absurd (grind (arith, walk-front))
+
+-- two walks that end at one offset are over the same records
+pub same_heads : (limit start : ℕ) (bytes : List ℕ) (hs gs : List HeadView) (o : ℕ) (r t : List ℕ)
+    → Walks limit start bytes hs o r → Walks limit start bytes gs o t → hs ≡ gs
+same_heads limit start bytes hs gs o r t v w = grind (arith, two-walks, walk_nowhere, append-nil)
+
+module _ (limit : ℕ) (archive : List ℕ) (heads : List HeadView) (o : ℕ) (rest : List ℕ)
+    (w : Walks limit 0 archive heads o rest) where
+  -- what is left stands behind the records
+  pub from_offset : drop o archive ≡ rest
+  from_offset =
+      let f = walk-front limit 0 archive heads o rest w in
+      let at : o ≡ length f.0 = omega (arith, f.2) in
+      ap (λ n. drop n archive) at ∙ ap (drop (length f.0)) f.1 ∙ drop-append_seam f.0 rest
+
+  -- and from where the record that is read there begins
+  pub from_start : (h : HeadView) (later : List ℕ) → record_at limit o rest ≡ Ok (Some h, later)
+      → drop h.start archive ≡ rest
+  from_start h later r = grind (arith, from_offset, read-spelled)
