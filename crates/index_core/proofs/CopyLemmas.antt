@@ -106,9 +106,8 @@ module _ (h : HeadView) (before : Option (List ℕ)) where
         → GivesBlock rest (record_length h) (state_of now x k) (state_of next y k') (Ok 0) piece
         → CopiedBut 0 h next before (prepend_known next.held y) w v
     copied_all piece next y k k' some g =
-        let none : rest ≡ 0 = zero_of rest (λ more. let one = g.bound.2 more some in omega (arith, one)) in
         let all = copied_more 0 piece next y v k k' g (Appends-none v) in
-        subst (λ n. CopiedBut n h next before (prepend_known next.held y) w v) (omega (arith, none)) all
+        grind arith
 
     -- the output failed in what comes next
     copied_cut : (fault : IndexFault) (piece : List ℕ) (later after u : Option (List ℕ)) → fault ≡ faults.Write
@@ -128,17 +127,7 @@ module _ (h : HeadView) (before : Option (List ℕ)) where
     pub copied_stop : (f : Fault) (after : Option (List ℕ)) → f.offset ≡ now.offset
         → Reads (after_record rest) (Err f.cause) (prepend_known now.held x) after
         → CopiesRecord h (Err (faults.Capture (Archive f))) before after w v
-    copied_stop f after at s =
-        let whole = d.whole in
-        record {
-          wrote = record {
-            front = h.raw ++ d.front;
-            most = omega (arith, whole, length-append h.raw d.front);
-            begins = front_there _ _ _ taken;
-            grown = d.grown;
-          };
-          ends = (at ∙ d.stands.offset_is, behind_head (Err f.cause) after s);
-        }
+    copied_stop f after at s = grind (arith, taken, front_there, length-append, behind_head)
 
     -- the output failed in a piece of the block
     pub piece_cut : (fault : IndexFault) (n : ℕ) (piece : List ℕ) (next : ReaderView) (y after u : Option (List ℕ))

@@ -48,25 +48,13 @@ module _ (limit : ℕ) (line : RecordLine) where
       × IsReport limit line archive (report_lines line archive heads ++ tail)
   report_behind archive heads o rest w =
       elim (total limit archive) [
-        | inl a ↦ (let m = walk-extends limit 0 archive heads a.0 o a.1.end rest [] w a.1.walks (inl refl) in (
-          report_lines line archive m.0,
-          inl
-              (a.0, a.1, sym (ap (report_lines line archive) m.1 ∙ flat_map-append (line archive) heads m.0)),
-        ))
-        | inr d ↦ (let m = walk-extends limit 0 archive heads d.0 o d.1 rest d.3.rest w d.3.walks
-            (inr (d.2, d.3.refused)) in
-            let f : Fault = record { offset = d.1; cause = d.2 } in (
-              report_lines line archive m.0
-                  ++ fault_line f,
-              inr (
-                d.0,
-                f,
-                d.3,
-                sym (ap (λ hs. report_lines line archive hs ++ fault_line f) m.1
-                    ∙ (ap (λ t. t ++ fault_line f) (flat_map-append (line archive) heads m.0)
-                    ∙ append_assoc (report_lines line archive heads) (report_lines line archive m.0) (fault_line f))),
-              ),
-            ))
+        | inl a ↦ (
+            let m = walk-extends limit 0 archive heads a.0 o a.1.end rest [] w a.1.walks (inl refl) in
+            (report_lines line archive m.0, inl (a.0, a.1, grind (arith, flat_map-append))))
+        | inr d ↦ (
+            let m = walk-extends limit 0 archive heads d.0 o d.1 rest d.3.rest w d.3.walks (inr (d.2, d.3.refused)) in
+            let f : Fault = record { offset = d.1; cause = d.2 } in
+            (report_lines line archive m.0 ++ fault_line f, inr (d.0, f, d.3, grind (arith, flat_map-append, append_assoc))))
       ]
 
   -- the lines with one more

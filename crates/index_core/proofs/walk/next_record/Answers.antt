@@ -17,8 +17,7 @@ returns-in_err-finish-in-Some-clause-bytes g c =
 pub returns-in_err-finish-in-Some-clause-state : goal.returns-in_err-finish-in-Some-clause-state
 returns-in_err-finish-in-Some-clause-state g c =
     let n = rw c.in-Some.is at (c.in_ok-next.ensures.between c.requires) in
-    let f = c.in_err-finish-in-Some.ensures.open c.in-Some.head.parts.block_length (record_length c.in-Some.head)
-    n.state.phase_is in
+    let f = c.in_err-finish-in-Some.ensures.open _ _ n.state.phase_is in
     grind arith
 
 pub returns-in_err-finish-in-Some-clause-failures : goal.returns-in_err-finish-in-Some-clause-failures

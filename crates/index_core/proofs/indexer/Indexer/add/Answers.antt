@@ -15,10 +15,7 @@ invariant_of-self-2 g c =
 -- what is held is seen before and after
 pub returns-in_err-add_captures-clause-adds : goal.returns-in_err-add_captures-clause-adds
 returns-in_err-add_captures-clause-adds g c =
-    let p = err_from_is_err_and c.from_residual.result c.from_residual.ensures.1 in
-    let gains = c.in_err-add_captures.ensures.gains in
-    rw (p.1, p.2, ← c.self.view_is)
-    (gains.0, held_more c.self.inside.types _ _ _ _ gains.0 c.args.name.now c.in-Ok.ensures.ok gains.1, gains.2)
+    rw (← c.self.view_is) (grind (arith, err_from_is_err_and))
 
 pub returns-clause-adds : goal.returns-clause-adds
 returns-clause-adds g c = rw (← c.self.view_is) (grind arith)
