@@ -17,7 +17,6 @@ use Rattle.index_core.specs.OneText.{FetchesOneText}
 use Rattle.index_core.specs.OneText.{FetchesFront, FetchesAtOneText, FetchesAtFront}
 use Rattle.index_core.proofs.FormLemmas.{wrote}
 use Rattle.index_core.proofs.OffsetLemmas.{one_stands}
-use Rattle.index_core.proofs.ArchiveWalks.{none_behind}
 use Rattle.index_core.proofs.OneTextLemmas.{grown, has_front, damage}
 
 -- how long what stands at an offset is
@@ -106,11 +105,6 @@ fetches_at_one_text limit offset len archive before this that text other i j (in
     absurd (omega (arith, x.0, y.0))
 fetches_at_one_text limit offset len archive before this that text other i j (inr x) (inl y) p q =
     absurd (omega (arith, x.0, y.0))
-
-most_of : (limit offset len : ℕ) (bytes text : List ℕ) (h : HeadView) (rest : List ℕ)
-    → record_at limit offset bytes ≡ Ok (Some h, rest) → record_length h ≡ len → text ≡ take len bytes
-    → most_written_at limit offset bytes ≡ text
-most_of limit offset len bytes text h rest r l t = rw (r, l, ← t)
 
 -- a record of this length
 wrote_at : (limit offset len : ℕ) (bytes : List ℕ) (text : List ℕ) → BeginsRecord limit offset bytes len text

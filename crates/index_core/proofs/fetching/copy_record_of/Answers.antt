@@ -1,5 +1,5 @@
 use Rattle.std.proofs.Common.{arith}
-use Rattle.index_core.proofs.FetchAtLemmas.{passed_of, passes_writing}
+use Rattle.index_core.proofs.FetchAtLemmas.{passed_of}
 use Rattle.index_core.proofs.fetching.copy_record_of.Goals as goal
 
 pub returns-else-record_length-length-clause-copies :

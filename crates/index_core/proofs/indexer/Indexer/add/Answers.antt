@@ -1,6 +1,5 @@
 use Rattle.std.proofs.Common.{arith}
 use Rattle.std.proofs.lemmas.Result.{err_from_is_err_and}
-use Rattle.index_core.proofs.AddingLemmas.{held_more}
 use Rattle.index_core.proofs.SoundLemmas.{is_among_kept, sound_under}
 use Rattle.index_core.proofs.indexer.Indexer.add.Goals as goal
 
