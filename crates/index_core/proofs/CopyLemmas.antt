@@ -1,5 +1,5 @@
 -- The copying of a record, piece by piece.
-use Rattle.std.proofs.Common.{◌≡◌, ◌∙◌, ℕ, ◌+◌, ◌-◌, ◌<◌, ◌≤◌, List, ◌++◌, Option, Result, Ok, Err, IfSome, length}
+use Rattle.std.proofs.Common.{◌≡◌, ◌∙◌, ℕ, ◌+◌, ◌-◌, ◌<◌, ◌≤◌, List, [], ◌++◌, Option, Result, Ok, Err, IfSome, length}
 use Rattle.std.proofs.Common.{take, sym, subst, append_assoc, append-nil, length-append, arith}
 use Rattle.std.proofs.lemmas.List.{length-take-le}
 use Rattle.std.specs.Io.KnownBytes.{Appends, Consumes, prepend_known}
@@ -38,19 +38,18 @@ begins_behind known known' a front c b = grind (arith, append_assoc)
 consumes_head : (raw : List ℕ) (known : Option (List ℕ)) → Consumes (prepend_known raw known) known raw
 consumes_head raw known = grind arith
 
--- a prefix of what was taken was written
-wrote_part : (a : List ℕ) (known known' old new : Option (List ℕ)) → Consumes known known' a
-    → AppendsPrefix old new a → WroteFront (length a) known old new
-wrote_part a known known' old new c p = grind (arith, length-append, append_assoc)
-
--- a front behind what was written before
-wrote_behind : (n : ℕ) (a : List ℕ) (known known' old mid new : Option (List ℕ)) → Consumes known known' a
-    → Appends old mid a → WroteFront n known' mid new → WroteFront (length a + n) known old new
-wrote_behind n a known known' old mid new c k w = grind (arith, length-append, begins_behind, Appends-join)
-
-wrote_within : (n m : ℕ) (known old new : Option (List ℕ)) → n ≤ m → WroteFront n known old new
-    → WroteFront m known old new
-wrote_within n m known old new l w = record { front = w.front; most = grind arith; begins = w.begins; grown = w.grown }
+-- what was taken was written, and a prefix of what comes next
+wrote_before : (n : ℕ) (a piece : List ℕ) (known mid later w v u : Option (List ℕ)) → Consumes known mid a
+    → Appends w v a → Consumes mid later piece → AppendsPrefix v u piece → length a + length piece ≤ n
+    → WroteFront n known w u
+wrote_before n a piece known mid later w v u c k d p l =
+    let part = p.1.front in
+    record {
+      front = a ++ part;
+      most = grind (arith, length-append);
+      begins = grind (arith, append_assoc);
+      grown = Appends-join w v u a part k p.1.grown;
+    }
 
 module _ (h : HeadView) (before : Option (List ℕ)) where
   -- ---- the head and the block
@@ -59,8 +58,8 @@ module _ (h : HeadView) (before : Option (List ℕ)) where
   pub head_cut : (fault : IndexFault) (after w u : Option (List ℕ)) → fault ≡ faults.Write → AppendsPrefix w u h.raw
       → CopiesRecord h (Err fault) before after w u
   head_cut fault after w u e p = rw e (record {
-    wrote = wrote_within (length h.raw) (record_length h) _ w u (omega arith)
-        (wrote_part h.raw _ before w u (consumes_head h.raw before) p);
+    wrote = wrote_before (record_length h) [] h.raw _ _ before w w u (Consumes-none _) (Appends-none w)
+        (consumes_head h.raw before) p (omega arith);
     ends = tt;
   })
 
@@ -116,10 +115,8 @@ module _ (h : HeadView) (before : Option (List ℕ)) where
     copied_cut fault piece later after u e c l p =
         let whole = d.whole in
         rw e (record {
-          wrote = wrote_within (length (h.raw ++ d.front) + length piece) (record_length h) _ w u
-              (omega (arith, whole, l, length-append h.raw d.front))
-              (wrote_behind (length piece) (h.raw ++ d.front) _ _ w v u taken d.grown
-              (wrote_part piece _ later v u c p));
+          wrote = wrote_before (record_length h) (h.raw ++ d.front) piece _ _ later w v u taken d.grown c p
+              (omega (arith, whole, l, length-append h.raw d.front));
           ends = tt;
         })
 

@@ -98,17 +98,13 @@ module _ (A : Type 0) (limit : ℕ) (line : RecordLine) (tally : List ℕ → Li
     reports_part this that text other i j r s = grind arith
 
 pub lists_one_text : ListsOneText
-lists_one_text limit archive before this that text other i j r s =
-    reports_one ℕ limit listing_line record_count archive before this that text other i j r.report s.report
+lists_one_text limit archive before this that text other i j r s = grind (arith, reports_one)
 
 pub lists_part : ListsPart
-lists_part limit archive before this that text other i j r s =
-    reports_part ℕ limit listing_line record_count archive before this that text other i j r.report s.report
+lists_part limit archive before this that text other i j r s = grind (arith, reports_part)
 
 pub verifies_one_text : VerifiesOneText
-verifies_one_text limit archive before this that text other i j r s =
-    reports_one Verified limit verification_line verified_in archive before this that text other i j r.report s.report
+verifies_one_text limit archive before this that text other i j r s = grind (arith, reports_one)
 
 pub verifies_part : VerifiesPart
-verifies_part limit archive before this that text other i j r s =
-    reports_part Verified limit verification_line verified_in archive before this that text other i j r.report s.report
+verifies_part limit archive before this that text other i j r s = grind (arith, reports_part)

@@ -36,8 +36,8 @@ abbrev pub CountsOn : {A : Type 0} → (List ℕ → List HeadView → A) → Op
 CountsOn tally left h old new = (archive : List ℕ) (heads : List HeadView) → left ≡ Some archive → old
     ≡ tally archive heads → new ≡ tally archive (heads ++ h ∷ [])
 
--- The archive's report goes on where the lines of its first records end.
 module _ (limit : ℕ) (line : RecordLine) where
+  -- the archive's report goes on where the lines of its first records end
   pub report_behind : (archive : List ℕ) (heads : List HeadView) (o : ℕ) (rest : List ℕ)
       → Walks limit 0 archive heads o rest → (tail : List ℕ)
       × IsReport limit line archive (report_lines line archive heads ++ tail)

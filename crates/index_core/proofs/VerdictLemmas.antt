@@ -22,11 +22,6 @@ judged_record : (judge : List ℕ → Verdict) (n : ℕ) (z w : List ℕ) (v : V
 unfolding judge_record
 judged_record judge n z w v h = grind arith
 
-refused_record : (judge : List ℕ → Verdict) (n : ℕ) (z : List ℕ) (c : Cause) → judge_record judge n z ≡ Err c
-    → after_record n z ≡ Err c
-unfolding judge_record
-refused_record judge n z c h = grind arith
-
 -- a judged record was read
 pub judged_reads : (judge : List ℕ → Verdict) (n : ℕ) (v : Verdict) (before after : Option (List ℕ))
     → Reads (judge_record judge n) (Ok v) before after → Reads (after_record n) (Ok tt) before after
@@ -34,7 +29,8 @@ judged_reads judge n v before after h = grind (arith, judged_record)
 
 pub judged_met : (judge : List ℕ → Verdict) (n : ℕ) (c : Cause) (before after : Option (List ℕ))
     → Reads (judge_record judge n) (Err c) before after → Reads (after_record n) (Err c) before after
-judged_met judge n c before after h = grind (arith, refused_record)
+unfolding judge_record
+judged_met judge n c before after h = grind arith
 
 -- the verdict on a record that begins the bytes
 pub judged_verdict : (limit start : ℕ) (h : HeadView) (v : Verdict) (before mid after : Option (List ℕ))
