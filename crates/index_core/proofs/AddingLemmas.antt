@@ -92,10 +92,3 @@ module _ (types : Kind → Bool) (limits : Limits) (limit : ℕ) (name : List �
       → (fault_offset fault ≡ o) × IfSome now (λ bytes. MayBeRefused types limits limit name o bytes fault)
       → IfSome left (λ archive. IsAcceptedTo types limits limit name fault archive gained)
   AddedSoFar-refused left now o gained fault s r = grind arith
-
--- what is held with the captures of one more archive
-pub held_more : (types : Types) (names more : List (List ℕ)) (captures those gained : List EntryValue) (name : List ℕ)
-    → more ≡ names ++ name ∷ [] → those ≡ captures ++ gained
-    → ◌≡◌ {A = Held} (record { types = types; names = more; captures = those })
-    (with_archive name gained (record { types = types; names = names; captures = captures }))
-held_more types names more captures those gained name e f = cc

@@ -8,11 +8,6 @@ use Rattle.warc_core.proofs.ArchiveLemmas.{walk-front}
 use Rattle.warc_core.proofs.SpelledLemmas.{read-spelled}
 use Rattle.warc_core.proofs.WalkLemmas.{two-walks}
 
--- no record is read at the end
-pub none_behind : (limit start : ℕ) (h : HeadView) (rest : List ℕ) → record_at limit start [] ≡ Ok (Some h, rest) → ⊥
-unfolding record_at next_at
-none_behind limit start h rest r = grind arith
-
 -- a walk that ends where it began is over no records
 pub walk_nowhere : (limit o : ℕ) (more : List HeadView) (r t : List ℕ) → Walks limit o r more o t → more ≡ []
 walk_nowhere limit o [] r t w = refl

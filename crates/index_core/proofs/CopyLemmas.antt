@@ -1,5 +1,5 @@
 -- The copying of a record, piece by piece.
-use Rattle.std.proofs.Common.{◌≡◌, ◌∙◌, ℕ, ◌+◌, ◌-◌, ◌<◌, ◌≤◌, List, ◌++◌, Option, Result, Ok, Err, IfSome, length}
+use Rattle.std.proofs.Common.{◌≡◌, ◌∙◌, ℕ, ◌+◌, ◌-◌, ◌<◌, ◌≤◌, List, [], ◌++◌, Option, Result, Ok, Err, IfSome, length}
 use Rattle.std.proofs.Common.{take, sym, subst, append_assoc, append-nil, length-append, arith}
 use Rattle.std.proofs.lemmas.List.{length-take-le}
 use Rattle.std.specs.Io.KnownBytes.{Appends, Consumes, prepend_known}
@@ -38,19 +38,18 @@ begins_behind known known' a front c b = grind (arith, append_assoc)
 consumes_head : (raw : List ℕ) (known : Option (List ℕ)) → Consumes (prepend_known raw known) known raw
 consumes_head raw known = grind arith
 
--- a prefix of what was taken was written
-wrote_part : (a : List ℕ) (known known' old new : Option (List ℕ)) → Consumes known known' a
-    → AppendsPrefix old new a → WroteFront (length a) known old new
-wrote_part a known known' old new c p = grind (arith, length-append, append_assoc)
-
--- a front behind what was written before
-wrote_behind : (n : ℕ) (a : List ℕ) (known known' old mid new : Option (List ℕ)) → Consumes known known' a
-    → Appends old mid a → WroteFront n known' mid new → WroteFront (length a + n) known old new
-wrote_behind n a known known' old mid new c k w = grind (arith, length-append, begins_behind, Appends-join)
-
-wrote_within : (n m : ℕ) (known old new : Option (List ℕ)) → n ≤ m → WroteFront n known old new
-    → WroteFront m known old new
-wrote_within n m known old new l w = record { front = w.front; most = grind arith; begins = w.begins; grown = w.grown }
+-- what was taken was written, and a prefix of what comes next
+wrote_before : (n : ℕ) (a piece : List ℕ) (known mid later w v u : Option (List ℕ)) → Consumes known mid a
+    → Appends w v a → Consumes mid later piece → AppendsPrefix v u piece → length a + length piece ≤ n
+    → WroteFront n known w u
+wrote_before n a piece known mid later w v u c k d p l =
+    let part = p.1.front in
+    record {
+      front = a ++ part;
+      most = grind (arith, length-append);
+      begins = grind (arith, append_assoc);
+      grown = Appends-join w v u a part k p.1.grown;
+    }
 
 module _ (h : HeadView) (before : Option (List ℕ)) where
   -- ---- the head and the block
@@ -59,8 +58,8 @@ module _ (h : HeadView) (before : Option (List ℕ)) where
   pub head_cut : (fault : IndexFault) (after w u : Option (List ℕ)) → fault ≡ faults.Write → AppendsPrefix w u h.raw
       → CopiesRecord h (Err fault) before after w u
   head_cut fault after w u e p = rw e (record {
-    wrote = wrote_within (length h.raw) (record_length h) _ w u (omega arith)
-        (wrote_part h.raw _ before w u (consumes_head h.raw before) p);
+    wrote = wrote_before (record_length h) [] h.raw _ _ before w w u (Consumes-none _) (Appends-none w)
+        (consumes_head h.raw before) p (omega arith);
     ends = tt;
   })
 
@@ -106,9 +105,8 @@ module _ (h : HeadView) (before : Option (List ℕ)) where
         → GivesBlock rest (record_length h) (state_of now x k) (state_of next y k') (Ok 0) piece
         → CopiedBut 0 h next before (prepend_known next.held y) w v
     copied_all piece next y k k' some g =
-        let none : rest ≡ 0 = zero_of rest (λ more. let one = g.bound.2 more some in omega (arith, one)) in
         let all = copied_more 0 piece next y v k k' g (Appends-none v) in
-        subst (λ n. CopiedBut n h next before (prepend_known next.held y) w v) (omega (arith, none)) all
+        grind arith
 
     -- the output failed in what comes next
     copied_cut : (fault : IndexFault) (piece : List ℕ) (later after u : Option (List ℕ)) → fault ≡ faults.Write
@@ -117,10 +115,8 @@ module _ (h : HeadView) (before : Option (List ℕ)) where
     copied_cut fault piece later after u e c l p =
         let whole = d.whole in
         rw e (record {
-          wrote = wrote_within (length (h.raw ++ d.front) + length piece) (record_length h) _ w u
-              (omega (arith, whole, l, length-append h.raw d.front))
-              (wrote_behind (length piece) (h.raw ++ d.front) _ _ w v u taken d.grown
-              (wrote_part piece _ later v u c p));
+          wrote = wrote_before (record_length h) (h.raw ++ d.front) piece _ _ later w v u taken d.grown c p
+              (omega (arith, whole, l, length-append h.raw d.front));
           ends = tt;
         })
 
@@ -128,17 +124,7 @@ module _ (h : HeadView) (before : Option (List ℕ)) where
     pub copied_stop : (f : Fault) (after : Option (List ℕ)) → f.offset ≡ now.offset
         → Reads (after_record rest) (Err f.cause) (prepend_known now.held x) after
         → CopiesRecord h (Err (faults.Capture (Archive f))) before after w v
-    copied_stop f after at s =
-        let whole = d.whole in
-        record {
-          wrote = record {
-            front = h.raw ++ d.front;
-            most = omega (arith, whole, length-append h.raw d.front);
-            begins = front_there _ _ _ taken;
-            grown = d.grown;
-          };
-          ends = (at ∙ d.stands.offset_is, behind_head (Err f.cause) after s);
-        }
+    copied_stop f after at s = grind (arith, taken, front_there, length-append, behind_head)
 
     -- the output failed in a piece of the block
     pub piece_cut : (fault : IndexFault) (n : ℕ) (piece : List ℕ) (next : ReaderView) (y after u : Option (List ℕ))

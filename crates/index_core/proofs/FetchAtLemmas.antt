@@ -13,11 +13,6 @@ use Rattle.index_core.specs.Copying.{WroteFront, CopiesRecord}
 use Rattle.index_core.specs.FetchingAt.{CopiesNextOf, CopiesRecordOf, PassesRecord}
 use Rattle.index_core.proofs.FetchLemmas.{next_copied, record_head}
 
--- a record of this length was copied
-pub copied_of : (h : HeadView) (len : ℕ) (r : Result ℕ IndexFault) (before after w u : Option (List ℕ))
-    → record_length h ≡ len → CopiesRecord h r before after w u → CopiesRecordOf h len r before after w u
-copied_of h len r before after w u e c = grind arith
-
 in_front : (known : Option (List ℕ)) → IfSome known (λ bytes. (more : List ℕ) × (bytes ≡ [] ++ more))
 in_front None = tt
 in_front (Some bytes) = (bytes, refl)
@@ -33,11 +28,6 @@ passed_of h len (Err faults.NoRecord) before after w e p = record { other = e; w
 passed_of h len (Err (faults.Capture (Archive f))) before after w e p =
     record { wrote = nothing (record_length h) _ w; ends = p }
 passed_of h len r before after w e p = grind arith
-
--- nothing is written of it
-pub passes_writing : (left o : ℕ) (r : Result ℕ IndexFault) (before after : Option (List ℕ)) (n : ℕ)
-    → PassesRecord left o r before after → CountsIndexWrite r n n
-passes_writing left o r before after n p = grind arith
 
 module _ (limit : ℕ) where
   pub next_copied_of : (o : ℕ) (h : HeadView) (len : ℕ) (r : Result ℕ IndexFault)

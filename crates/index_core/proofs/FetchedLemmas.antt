@@ -38,10 +38,7 @@ module _ (types : Kind → Bool) (limits : Limits) (limit : ℕ) (name archive :
       let starts : h.start ≡ start = (read-spelled limit start bytes later h r).2.start_is in
       let is = under (url_of types h) h (block_at h (drop h.start archive)) c in
       let at : e.offset ≡ start = grind arith in
-      let size : record_length h ≡ e.length = grind arith in
-      let record_is : IsRecordOf limit archive e.offset h =
-      rw at (record { before = before; bytes = bytes; rest = later; walks = w; whole = r }) in
-      (h, record_is, size, c)
+      (h, rw at (record { before = before; bytes = bytes; rest = later; walks = w; whole = r }), grind arith, c)
 
   go : (before heads : List HeadView) (start end : ℕ) (bytes left : List ℕ) (captures : List EntryValue)
       → Walks limit 0 archive before start bytes → Walks limit start bytes heads end left

@@ -1,6 +1,5 @@
 mod ArchiveWalks
 pub mod ReportLemmas
-pub mod FollowLemmas
 pub mod ListingLemmas
 pub mod VerdictLemmas
 mod IndexLemmas

@@ -88,49 +88,39 @@ one_stands limit offset archive = one_answer limit archive offset
 
 -- ---- something stands there
 
--- a record that begins at the offset or before it, and ends behind it
-abbrev Covers : ℕ → ℕ → List ℕ → ℕ → Type 0
-Covers limit start bytes offset =
-    (before : List HeadView) × (o : ℕ) × (z : List ℕ) × (h : HeadView) × (rest : List ℕ)
-    × Walks limit start bytes before o z × (record_at limit o z ≡ Ok (Some h, rest)) × (o ≤ offset)
-    × (offset < o + record_length h)
-
-covering : (limit start : ℕ) (bytes : List ℕ) (heads : List HeadView) (end : ℕ) (rest : List ℕ) (offset : ℕ)
-    → Walks limit start bytes heads end rest → start ≤ offset → offset < end → Covers limit start bytes offset
-covering limit start bytes [] end rest offset w l m = grind arith
-covering limit start bytes (h ∷ heads) end rest offset w l m =
-    elim (which (nat_lt offset (start + record_length h))) [
-      | inl t ↦ ([], start, bytes, h, w.0, (refl, refl), w.1, l, grind (arith, nat_tests))
-      | inr f ↦ (
-          let c = covering limit (start + record_length h) w.0 heads end rest offset w.2 (grind (arith, nat_tests)) m in
-          (h ∷ c.0, c.1, c.2, c.3, c.4, (w.0, w.1, c.5), c.6, c.7, c.8))
-    ]
-
 abbrev Stands : ℕ → ℕ → List ℕ → Type 0
 Stands limit offset archive = (answer : Result (List ℕ) IndexFault) × StandsIn limit archive offset answer
 
-covered : (limit offset : ℕ) (archive : List ℕ) → Covers limit 0 archive offset → Stands limit offset archive
-covered limit offset archive c =
-    let r : IsRecordOf limit archive c.1 c.3 =
-    record { before = c.0; bytes = c.2; rest = c.4; walks = c.5; whole = c.6 } in
-    elim (which (nat_lt c.1 offset)) [
-      | inl t ↦ (Err faults.NoRecord, inl (c.1, c.3, r, grind (arith, nat_tests), c.8))
-      | inr f ↦ (
-          let same : c.1 ≡ offset = grind (arith, nat_tests) in
-          (Ok (take (record_length c.3) (drop offset archive)), (c.3, rw (← same) r, refl)))
+-- before the end of whole records a record begins, or one that began goes on
+stands_within : (limit offset : ℕ) (archive : List ℕ) (before heads : List HeadView) (start end : ℕ) (bytes rest : List ℕ)
+    → Walks limit 0 archive before start bytes → Walks limit start bytes heads end rest → start ≤ offset
+    → offset < end → Stands limit offset archive
+stands_within limit offset archive before [] start end bytes rest w v l m = absurd (grind arith)
+stands_within limit offset archive before (h ∷ heads) start end bytes rest w v l m =
+    let r : IsRecordOf limit archive start h =
+    record { before = before; bytes = bytes; rest = v.0; walks = w; whole = v.1 } in
+    elim (which (nat_lt start offset)) [
+      | inr here ↦ (
+          let same : start ≡ offset = grind (arith, nat_tests) in
+          (Ok (take (record_length h) (drop offset archive)), (h, rw (← same) r, refl)))
+      | inl past ↦ (elim (which (nat_lt offset (start + record_length h))) [
+        | inl in_it ↦ (Err faults.NoRecord, inl (start, h, r, grind (arith, nat_tests), grind (arith, nat_tests)))
+        | inr behind ↦ stands_within limit offset archive (before ++ h ∷ []) heads (start + record_length h) end v.0 rest
+            (Walks-more limit 0 archive before start bytes h v.0 w v.1) v.2 (grind (arith, nat_tests)) m
+      ])
     ]
 
 pub some_stands : SomeStands
 some_stands limit offset archive =
     elim (total limit archive) [
       | inl a ↦ (elim (which (nat_lt offset a.1.end)) [
-        | inl t ↦ covered limit offset archive
-            (covering limit 0 archive a.0 a.1.end [] offset a.1.walks (omega arith) (grind (arith, nat_tests)))
+        | inl t ↦ stands_within limit offset archive [] a.0 0 a.1.end archive [] (refl, refl) a.1.walks (omega arith)
+            (grind (arith, nat_tests))
         | inr f ↦ (Err faults.NoRecord, inr (a.0, a.1, grind (arith, nat_tests)))
       ])
       | inr d ↦ (elim (which (nat_lt offset d.1)) [
-        | inl t ↦ covered limit offset archive
-            (covering limit 0 archive d.0 d.1 d.3.rest offset d.3.walks (omega arith) (grind (arith, nat_tests)))
+        | inl t ↦ stands_within limit offset archive [] d.0 0 d.1 archive d.3.rest (refl, refl) d.3.walks (omega arith)
+            (grind (arith, nat_tests))
         | inr f ↦ (
           Err (faults.Capture (Archive (record { offset = d.1; cause = d.2 }))),
           (d.0, d.3, grind (arith, nat_tests)),

@@ -17,7 +17,6 @@ use Rattle.index_core.specs.OneText.{FetchesOneText}
 use Rattle.index_core.specs.OneText.{FetchesFront, FetchesAtOneText, FetchesAtFront}
 use Rattle.index_core.proofs.FormLemmas.{wrote}
 use Rattle.index_core.proofs.OffsetLemmas.{one_stands}
-use Rattle.index_core.proofs.ArchiveWalks.{none_behind}
 use Rattle.index_core.proofs.OneTextLemmas.{grown, has_front, damage}
 
 -- how long what stands at an offset is
@@ -37,17 +36,12 @@ settled_once : (Stands : Result (List ℕ) IndexFault → Type 0)
     → Settled Stands before this text → Settled Stands before that other
     → IsUnwritten offset this (Some before) text → IsUnwritten offset that (Some before) other
     → (this ≡ that) × (IsNotDamagedAt offset this → text ≡ other)
-settled_once Stands one offset before this that text other (a, s, e, t) (b, u, f, v) p q =
-    let same = one a b s u in
-    let results : this ≡ that = cc in
-    (results, λ n. grind arith)
+settled_once Stands one offset before this that text other x y p q = grind (arith, one)
 
 -- a call that failed has written a front of the record
 failed_front : (before bytes : List ℕ) (that : Result ℕ IndexFault) (text other : Option (List ℕ)) → IsFailure that
     → text ≡ Some (before ++ bytes) → WroteRecord bytes that (Some before) other → HasFront before text other
-failed_front before bytes (Err (faults.Capture (Archive f))) text other i e (n, p) = has_front before bytes text other e p
-failed_front before bytes (Err faults.Write) text other i e p = has_front before bytes text other e p
-failed_front before bytes that text other i e w = grind arith
+failed_front before bytes that text other i e w = grind (arith, has_front)
 
 module _ (limit offset : ℕ) (archive before : List ℕ) where
   settled : (result : Result ℕ IndexFault) (text : Option (List ℕ)) → IsOfArchive result
@@ -79,36 +73,16 @@ StandsAs limit offset len bytes (Err (faults.Capture (Archive f))) = (f.offset �
     × (record_at limit offset bytes ≡ Err f.cause)
 StandsAs limit offset len bytes (Err other) = ⊥
 
--- no damage stands at the end
-no_damage : (limit start : ℕ) (c : Cause) → record_at limit start [] ≡ Err c → ⊥
-unfolding record_at next_at
-no_damage limit start c e = grind arith
-
 module _ (limit offset len : ℕ) (bytes before : List ℕ) where
-  -- none stands where a record does
-  text_or_none : (text : List ℕ) → BeginsRecord limit offset bytes len text → (bytes ≡ [])
-      ⊎ BeginsOther limit offset bytes len → ⊥
-  text_or_none text (h, rest, r, l, t) (inl e) = none_behind limit offset h rest (rw e at r)
-  text_or_none text (h, rest, r, l, t) (inr (k, later, s, n)) =
-      let same = answered (Some h) (Some k) rest later (sym r ∙ s) in n (grind arith)
-
-  none_or_damage : (c : Cause) → (bytes ≡ []) ⊎ BeginsOther limit offset bytes len
-      → record_at limit offset bytes ≡ Err c → ⊥
-  none_or_damage c (inl e) r = no_damage limit offset c (rw e at r)
-  none_or_damage c (inr (k, later, s, n)) r = grind arith
+  -- where nothing is read, no record and no damage is
+  nothing_or : (r : Result (List ℕ) IndexFault) → bytes ≡ [] → StandsAs limit offset len bytes r
+      → r ≡ Err faults.NoRecord
+  unfolding record_at next_at
+  nothing_or r e s = grind arith
 
   one_stands_as : (this that : Result (List ℕ) IndexFault) → StandsAs limit offset len bytes this
       → StandsAs limit offset len bytes that → this ≡ that
-  one_stands_as (Ok a) (Ok b) x y = grind arith
-  one_stands_as (Ok a) (Err faults.NoRecord) x y = absurd (text_or_none a x y)
-  one_stands_as (Ok a) (Err (faults.Capture (Archive g))) x y = absurd (grind arith)
-  one_stands_as (Err faults.NoRecord) (Ok b) x y = absurd (text_or_none b y x)
-  one_stands_as (Err faults.NoRecord) (Err faults.NoRecord) x y = refl
-  one_stands_as (Err faults.NoRecord) (Err (faults.Capture (Archive g))) x y = absurd (none_or_damage g.cause x y.1)
-  one_stands_as (Err (faults.Capture (Archive f))) (Ok b) x y = absurd (grind arith)
-  one_stands_as (Err (faults.Capture (Archive f))) (Err faults.NoRecord) x y = absurd (none_or_damage f.cause y x.1)
-  one_stands_as (Err (faults.Capture (Archive f))) (Err (faults.Capture (Archive g))) x y = grind arith
-  one_stands_as this that x y = grind arith
+  one_stands_as this that x y = grind (arith, nothing_or)
 
   settled_at : (result : Result ℕ IndexFault) (text : Option (List ℕ)) → IsOfArchive result
       → CopiesNextOf limit offset len result (Some bytes) (Some before) text
@@ -132,23 +106,11 @@ fetches_at_one_text limit offset len archive before this that text other i j (in
 fetches_at_one_text limit offset len archive before this that text other i j (inr x) (inl y) p q =
     absurd (omega (arith, x.0, y.0))
 
-most_of : (limit offset len : ℕ) (bytes text : List ℕ) (h : HeadView) (rest : List ℕ)
-    → record_at limit offset bytes ≡ Ok (Some h, rest) → record_length h ≡ len → text ≡ take len bytes
-    → most_written_at limit offset bytes ≡ text
-most_of limit offset len bytes text h rest r l t = rw (r, l, ← t)
-
 -- a record of this length
 wrote_at : (limit offset len : ℕ) (bytes : List ℕ) (text : List ℕ) → BeginsRecord limit offset bytes len text
     → (result : Result ℕ IndexFault) (before after : Option (List ℕ)) → IsFailure result
     → CopiesNextOf limit offset len result (Some bytes) before after → WroteRecord text result before after
-wrote_at limit offset len bytes text (h, rest, r, l, t) (Err (faults.Capture (Archive f))) before after i (o, (c, p)) =
-    (i, rw (most_of limit offset len bytes text h rest r l t) at p)
-wrote_at limit offset len bytes text (h, rest, r, l, t) (Err faults.Write) before after i p =
-    rw (most_of limit offset len bytes text h rest r l t) at p
 wrote_at limit offset len bytes text b result before after i c = grind arith
 
 pub fetches_at_front : FetchesAtFront
-fetches_at_front limit offset len archive before n that text other i (inr (l, s)) (inr (k, t)) =
-    failed_front before s.1 that text other i (grown before s.1 text s.3)
-    (wrote_at limit offset len (drop offset archive) s.1 s.4 that (Some before) other i t)
-fetches_at_front limit offset len archive before n that text other i r s = grind arith
+fetches_at_front limit offset len archive before n that text other i r s = grind (arith, failed_front, grown, wrote_at)

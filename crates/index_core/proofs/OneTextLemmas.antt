@@ -56,30 +56,11 @@ module _ (A : Type 0) (limit : ℕ) (line : RecordLine) (tally : List ℕ → Li
 
     either : (result : Result A IndexFault) (text : Option (List ℕ)) → IsOfArchive result
         → Reports limit line tally (Some archive) result (Some before) text → Whole result text ⊎ Damaged result text
-    either (Ok answer) text i (heads, whole, is, a) =
-        inl (heads, whole.end, whole.walks, ap Ok is, grown before (report_lines line archive heads) text a)
-    either (Err (faults.Capture (Archive f))) text i (heads, rest, walks, met, a) = inr (
-      heads,
-      f,
-      rest,
-      walks,
-      damage f.cause (record_at limit f.offset rest) i met,
-      refl,
-      grown before (report_lines line archive heads ++ fault_line f) text a,
-    )
-    either (Err faults.Write) text i r = absurd (i tt)
-    either result text i r = grind arith
+    either result text i r = grind (arith, grown, damage)
 
     once : (this that : Result A IndexFault) (text other : Option (List ℕ)) → Whole this text ⊎ Damaged this text
         → Whole that other ⊎ Damaged that other → (this ≡ that) × (text ≡ other)
-    once this that text other (inl x) (inl y) = let e = one_list limit 0 archive x.0 y.0 x.1 y.1 x.2 y.2 in (cc, cc)
-    once this that text other (inl x) (inr y) =
-        absurd (not_both limit 0 archive x.0 y.0 x.1 y.1.offset y.1.cause y.2 x.2 y.3 y.4)
-    once this that text other (inr x) (inl y) =
-        absurd (not_both limit 0 archive y.0 x.0 y.1 x.1.offset x.1.cause x.2 y.2 x.3 x.4)
-    once this that text other (inr x) (inr y) =
-        let e = one_fault limit 0 archive x.0 y.0 x.1.offset y.1.offset x.1.cause y.1.cause x.2 y.2 x.3 y.3 x.4 y.4 in
-        let f : x.1 ≡ y.1 = grind arith in (cc, cc)
+    once this that text other x y = grind (arith, one_list, not_both, one_fault)
 
     reports_one : (this that : Result A IndexFault) (text other : Option (List ℕ)) → IsOfArchive this → IsOfArchive that
         → Reports limit line tally (Some archive) this (Some before) text
@@ -101,20 +82,14 @@ module _ (A : Type 0) (limit : ℕ) (line : RecordLine) (tally : List ℕ → Li
         (rest : List ℕ) → Whole this text ⊎ Damaged this text → Walks limit 0 archive heads f.offset rest
         → HasCut before f text (Some (before ++ (report_lines line archive heads ++ fault_line f)))
     cut_report this text f heads rest e w =
-        let b = report_behind limit line archive heads f.offset rest w in (
-          report_lines line archive heads,
-          b.0,
-          as_report (report_lines line archive heads ++ b.0) text this e b.1,
-          refl,
-        )
+        let b = report_behind limit line archive heads f.offset rest w in
+        (report_lines line archive heads, b.0, as_report _ text this e b.1, refl)
 
     reports_part : (this that : Result A IndexFault) (text other : Option (List ℕ)) → IsOfArchive this → IsFailure that
         → Reports limit line tally (Some archive) this (Some before) text
         → Reports limit line tally (Some archive) that (Some before) other → HasPart before that text other
     reports_part this (Err (faults.Capture (Archive f))) text other i j r (heads, rest, walks, met, a) =
-        let e = either this text i r in
-        let c = cut_report this text f heads rest e walks in
-        (c.0, c.1, c.2, grown before (report_lines line archive heads ++ fault_line f) other a ∙ c.3)
+        grind (arith, grown, cut_report this text f heads rest (either this text i r))
     reports_part this (Err faults.Write) text other i j r (part, inl is, p) =
         inl (has_front before part text other (as_report part text this (either this text i r) is) p)
     reports_part this (Err faults.Write) text other i j r (part, inr (heads, f, rest, n, walks, is), p) =
@@ -123,17 +98,13 @@ module _ (A : Type 0) (limit : ℕ) (line : RecordLine) (tally : List ℕ → Li
     reports_part this that text other i j r s = grind arith
 
 pub lists_one_text : ListsOneText
-lists_one_text limit archive before this that text other i j r s =
-    reports_one ℕ limit listing_line record_count archive before this that text other i j r.report s.report
+lists_one_text limit archive before this that text other i j r s = grind (arith, reports_one)
 
 pub lists_part : ListsPart
-lists_part limit archive before this that text other i j r s =
-    reports_part ℕ limit listing_line record_count archive before this that text other i j r.report s.report
+lists_part limit archive before this that text other i j r s = grind (arith, reports_part)
 
 pub verifies_one_text : VerifiesOneText
-verifies_one_text limit archive before this that text other i j r s =
-    reports_one Verified limit verification_line verified_in archive before this that text other i j r.report s.report
+verifies_one_text limit archive before this that text other i j r s = grind (arith, reports_one)
 
 pub verifies_part : VerifiesPart
-verifies_part limit archive before this that text other i j r s =
-    reports_part Verified limit verification_line verified_in archive before this that text other i j r.report s.report
+verifies_part limit archive before this that text other i j r s = grind (arith, reports_part)

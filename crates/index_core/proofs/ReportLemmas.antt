@@ -1,22 +1,31 @@
--- The lines of a report, one record further, and at the end.
+-- A report on an archive, one record further, at the end, and at a fault.
 use Rattle.std.proofs.Common.{arith, ◌≡◌, ◌∙◌, ℕ, ◌+◌, List, [], ◌∷◌, ◌++◌, inl, inr, Option, None, Some, Result}
-use Rattle.std.proofs.Common.{Ok, Err, sym, ap, refl, append-nil, append_assoc}
+use Rattle.std.proofs.Common.{Ok, Err, IfSome, ap, refl, subst, append-nil, append_assoc}
 use Rattle.std.proofs.lemmas.List.Concat.{flat_map-append}
-use Rattle.std.specs.Bool.{⊤}
+use Rattle.std.specs.List.{flat_map}
 use Rattle.std.specs.Io.KnownBytes.{Appends, prepend_known}
-use Rattle.warc_core.specs.declared.fault.Cause.{Cause}
 use Rattle.warc_core.specs.declared.fault.Cause.TheVariants as causes
 use Rattle.warc_core.specs.declared.fault.Fault.{Fault}
 use Rattle.devices.specs.Device.{AppendsPrefix}
-use Rattle.warc_core.specs.HeadView.{HeadView, record_length}
+use Rattle.warc_core.specs.HeadView.{HeadView, RecordBeginsAt, record_length}
 use Rattle.warc_core.specs.Reading.{Reads}
 use Rattle.warc_core.specs.Walk.{record_at, Walks}
 use Rattle.devices.proofs.DeviceLemmas.{Appends-none, Appends-join, AppendsPrefix-behind}
 use Rattle.warc_core.proofs.SpelledLemmas.{total}
 use Rattle.warc_core.proofs.WalkLemmas.{Walks-more, none_at_end, walk-extends}
+use Rattle.capture_core.specs.declared.fault.CaptureFault.TheVariants.{Archive}
 use Rattle.index_core.specs.declared.fault.IndexFault.{IndexFault}
-use Rattle.index_core.specs.Report.{RecordLine, report_lines, fault_line, IsReport, Reported}
-use Rattle.index_core.specs.Report.{ReportedInPart, Reports, WritesFault}
+use Rattle.index_core.specs.declared.fault.IndexFault.TheVariants as faults
+use Rattle.index_core.specs.Report.{Follow, IsReport, RecordLine, Reports, ReportedInPart, ReportsRecords, WritesFault}
+use Rattle.index_core.specs.Report.{fault_line, report_lines}
+
+-- what a report says of a record, and what it answers: by the archive, and by what was read of each record
+pub record Form (A X : Type 0) : Type 0 where
+  pub line : RecordLine
+  pub tally : List ℕ → List HeadView → A
+  pub head : X → HeadView
+  pub read_line : X → List ℕ
+  pub read_tally : List X → A
 
 -- this text is the record's line, where the archive is known
 abbrev pub IsLine : RecordLine → Option (List ℕ) → HeadView → List ℕ → Type 0
@@ -27,20 +36,6 @@ abbrev pub CountsOn : {A : Type 0} → (List ℕ → List HeadView → A) → Op
 CountsOn tally left h old new = (archive : List ℕ) (heads : List HeadView) → left ≡ Some archive → old
     ≡ tally archive heads → new ≡ tally archive (heads ++ h ∷ [])
 
--- The lines of the records so far were written; the last of these records ends at the offset.
-abbrev pub SoFar : {A : Type 0} → ℕ → RecordLine → (List ℕ → List HeadView → A) → Option (List ℕ) → Option (List ℕ) → ℕ
-    → A → Option (List ℕ) → Option (List ℕ) → Type 0
-SoFar limit line tally None now offset answer before after = ⊤
-SoFar limit line tally (Some archive) None offset answer before after = ⊥
-SoFar limit line tally (Some archive) (Some rest) offset answer before after =
-    (heads : List HeadView) × Walks limit 0 archive heads offset rest × (answer ≡ tally archive heads)
-    × Appends before after (report_lines line archive heads)
-
--- for want of memory any reading may stop
-pub stopped_anywhere : {A : Type 0} (f : List ℕ → Result (A × List ℕ) Cause) (c : Cause)
-    (before after : Option (List ℕ)) → c ≡ causes.Memory → Reads f (Err c) before after
-stopped_anywhere f c before after e = grind arith
-
 module _ (limit : ℕ) (line : RecordLine) where
   -- the archive's report goes on where the lines of its first records end
   pub report_behind : (archive : List ℕ) (heads : List HeadView) (o : ℕ) (rest : List ℕ)
@@ -48,25 +43,13 @@ module _ (limit : ℕ) (line : RecordLine) where
       × IsReport limit line archive (report_lines line archive heads ++ tail)
   report_behind archive heads o rest w =
       elim (total limit archive) [
-        | inl a ↦ (let m = walk-extends limit 0 archive heads a.0 o a.1.end rest [] w a.1.walks (inl refl) in (
-          report_lines line archive m.0,
-          inl
-              (a.0, a.1, sym (ap (report_lines line archive) m.1 ∙ flat_map-append (line archive) heads m.0)),
-        ))
-        | inr d ↦ (let m = walk-extends limit 0 archive heads d.0 o d.1 rest d.3.rest w d.3.walks
-            (inr (d.2, d.3.refused)) in
-            let f : Fault = record { offset = d.1; cause = d.2 } in (
-              report_lines line archive m.0
-                  ++ fault_line f,
-              inr (
-                d.0,
-                f,
-                d.3,
-                sym (ap (λ hs. report_lines line archive hs ++ fault_line f) m.1
-                    ∙ (ap (λ t. t ++ fault_line f) (flat_map-append (line archive) heads m.0)
-                    ∙ append_assoc (report_lines line archive heads) (report_lines line archive m.0) (fault_line f))),
-              ),
-            ))
+        | inl a ↦ (
+            let m = walk-extends limit 0 archive heads a.0 o a.1.end rest [] w a.1.walks (inl refl) in
+            (report_lines line archive m.0, inl (a.0, a.1, grind (arith, flat_map-append))))
+        | inr d ↦ (
+            let m = walk-extends limit 0 archive heads d.0 o d.1 rest d.3.rest w d.3.walks (inr (d.2, d.3.refused)) in
+            let f : Fault = record { offset = d.1; cause = d.2 } in
+            (report_lines line archive m.0 ++ fault_line f, inr (d.0, f, d.3, grind (arith, flat_map-append, append_assoc))))
       ]
 
   -- the lines with one more
@@ -74,49 +57,136 @@ module _ (limit : ℕ) (line : RecordLine) where
       ≡ report_lines line archive heads ++ line archive h
   one_more archive heads h = grind (arith, flat_map-append, append-nil)
 
-  module _ {A : Type 0} (tally : List ℕ → List HeadView → A) where
-    pub SoFar-start : (left written : Option (List ℕ)) (x : A) → ((archive : List ℕ) → x ≡ tally archive [])
-        → SoFar limit line tally left (prepend_known [] left) 0 x written written
-    SoFar-start left written x e = grind (arith, Appends-none)
+module _ {A X : Type 0} (limit : ℕ) (form : Form A X) where
+  -- The lines of these first records of the archive were written.
+  pub record Written (archive : List ℕ) (now : Option (List ℕ)) (offset : ℕ) (answer : A) (before after : Option (List ℕ)) :
+      Type 0 where
+    pub heads : List HeadView
+    pub rest : List ℕ
+    pub now_is : now ≡ Some rest
+    pub walks : Walks limit 0 archive heads offset rest
+    pub tally_is : answer ≡ form.tally archive heads
+    pub lines : Appends before after (report_lines form.line archive heads)
 
-    pub SoFar-more : (left now after : Option (List ℕ)) (o : ℕ) (x y : A) (h : HeadView) (text : List ℕ)
-        (w v u : Option (List ℕ)) → SoFar limit line tally left now o x w v
-        → Reads (record_at limit o) (Ok (Some h)) now after → IsLine line left h text → CountsOn tally left h x y
-        → Appends v u text → SoFar limit line tally left after (o + record_length h) y w u
-    SoFar-more left now after o x y h text w v u s r l k a = grind (arith, Walks-more, one_more, Appends-join)
+  -- The lines of the records up to the offset were written.
+  pub record Reporting (left now : Option (List ℕ)) (offset : ℕ) (answer : A) (before after : Option (List ℕ)) : Type 0
+    where
+      pub known : IfSome left (λ archive. Written archive now offset answer before after)
+      pub read : List X
+      pub follow : Follow form.head 0 read offset
+      pub answer_is : answer ≡ form.read_tally read
+      pub text : Appends before after (flat_map form.read_line read)
 
-    pub SoFar-end : (left now after : Option (List ℕ)) (o : ℕ) (x : A) (w v : Option (List ℕ))
-        → SoFar limit line tally left now o x w v → Reads (record_at limit o) (Ok None) now after
-        → Reported limit line tally left x w v
-    SoFar-end left now after o x w v s r = grind (arith, none_at_end)
+  -- what a report owes, by its answer
+  abbrev pub Owes : Option (List ℕ) → Result A IndexFault → Option (List ℕ) → Option (List ℕ) → Type 0
+  Owes left r before after = Reports limit form.line form.tally left r before after
+      × ReportsRecords form.head form.read_line form.read_tally r before after
 
-    -- the output failed in the line of a fault
-    SoFar-cut : (left now after : Option (List ℕ)) (o : ℕ) (x : A) (f : Fault) (w v u : Option (List ℕ))
-        → SoFar limit line tally left now o x w v → Reads (record_at limit o) (Err f.cause) now after → f.offset ≡ o
-        → AppendsPrefix v u (fault_line f) → ReportedInPart limit line left w u
-    SoFar-cut (Some archive) (Some z) after o x f w v u s r e a =
-        let behind = AppendsPrefix-behind w v u (report_lines line archive s.0) (fault_line f) [] s.3 a in
-        (report_lines line archive s.0 ++ fault_line f, grind arith, grind (arith, append-nil))
-    SoFar-cut left now after o x f w v u s r e a = grind arith
+  -- the output failed in the line of a record
+  line_cut : (left now after : Option (List ℕ)) (o : ℕ) (x : A) (h : HeadView) (text : List ℕ)
+      (w v u : Option (List ℕ)) → IfSome left (λ archive. Written archive now o x w v)
+      → Reads (record_at limit o) (Ok (Some h)) now after → IsLine form.line left h text → AppendsPrefix v u text
+      → ReportedInPart limit form.line left w u
+  line_cut (Some archive) now (Some y) o x h text w v u k r l a =
+      let t = report_behind limit form.line archive (k.heads ++ h ∷ []) (o + record_length h) y
+      (grind (arith, Walks-more)) in (
+        report_lines form.line archive k.heads ++ (form.line archive h ++ t.0),
+        grind (arith, one_more, append_assoc),
+        AppendsPrefix-behind w v u (report_lines form.line archive k.heads) (form.line archive h) t.0 k.lines
+            (rw (l archive refl) at a),
+      )
+  line_cut left now after o x h text w v u k r l a = grind arith
 
-    -- the output failed in the line of a record
-    pub SoFar-stopped : (left now after : Option (List ℕ)) (o : ℕ) (x : A) (h : HeadView) (text : List ℕ)
-        (w v u : Option (List ℕ)) → SoFar limit line tally left now o x w v
-        → Reads (record_at limit o) (Ok (Some h)) now after → IsLine line left h text → AppendsPrefix v u text
-        → ReportedInPart limit line left w u
-    SoFar-stopped (Some archive) (Some z) (Some y) o x h text w v u s r l a =
-        let t = report_behind archive (s.0 ++ h ∷ []) (o + record_length h) y
-        (Walks-more limit 0 archive s.0 o z h y s.1 r) in (
-          report_lines line archive s.0 ++ (line archive h ++ t.0),
-          grind (arith, one_more, append_assoc),
-          AppendsPrefix-behind w v u (report_lines line archive s.0) (line archive h) t.0 s.3
-              (rw (l archive refl) at a),
-        )
-    SoFar-stopped left now after o x h text w v u s r l a = grind arith
+  -- the output failed in the line of a fault
+  fault_cut : (left now after : Option (List ℕ)) (o : ℕ) (x : A) (f : Fault) (w v u : Option (List ℕ))
+      → IfSome left (λ archive. Written archive now o x w v) → Reads (record_at limit o) (Err f.cause) now after
+      → f.offset ≡ o → AppendsPrefix v u (fault_line f) → ReportedInPart limit form.line left w u
+  fault_cut (Some archive) now after o x f w v u k r e a =
+      let behind = AppendsPrefix-behind w v u (report_lines form.line archive k.heads) (fault_line f) [] k.lines a in
+      (report_lines form.line archive k.heads ++ fault_line f, grind arith, grind (arith, append-nil))
+  fault_cut None now after o x f w v u k r e a = tt
 
-    -- what the writing of a fault's line leaves
-    pub fault_reported : (fault : Fault) (given : IndexFault) (left now after : Option (List ℕ)) (o : ℕ) (x : A)
-        (w v u : Option (List ℕ)) (k k' : ℕ) → SoFar limit line tally left now o x w v
-        → Reads (record_at limit o) (Err fault.cause) now after → fault.offset ≡ o → WritesFault fault given v u k k'
-        → Reports limit line tally left (Err given) w u
-    fault_reported fault given left now after o x w v u k k' s r e h = grind (arith, Appends-join, SoFar-cut)
+follow_push : {X : Type 0} (head : X → HeadView) (from : ℕ) (read : List X) (to : ℕ) (x : X) → Follow head from read to
+    → RecordBeginsAt to (head x) → Follow head from (read ++ x ∷ []) (to + record_length (head x))
+follow_push head from [] to x h b = grind arith
+follow_push head from (y ∷ read) to x h b =
+    grind (arith, follow_push head (from + record_length (head y)) read to x h.1 b)
+
+one_line : {X : Type 0} (line : X → List ℕ) (read : List X) (x : X) → flat_map line (read ++ x ∷ [])
+    ≡ flat_map line read ++ line x
+one_line line read x = grind (arith, flat_map-append, append-nil)
+
+module _ {A X : Type 0} {limit : ℕ} {form : Form A X} {left now : Option (List ℕ)} {o : ℕ} {x : A}
+    {w v : Option (List ℕ)} (s : Reporting limit form left now o x w v) where
+  pub reporting_more : {after : Option (List ℕ)} {y : A} {u : Option (List ℕ)} (item : X)
+      → Reads (record_at limit o) (Ok (Some (form.head item))) now after → RecordBeginsAt o (form.head item)
+      → IsLine form.line left (form.head item) (form.read_line item) → CountsOn form.tally left (form.head item) x y
+      → ((read : List X) → x ≡ form.read_tally read → y ≡ form.read_tally (read ++ item ∷ []))
+      → Appends v u (form.read_line item)
+      → Reporting limit form left after (o + record_length (form.head item)) y w u
+  reporting_more item r b l k counts a = record {
+    known = grind (arith, Walks-more, one_more, Appends-join);
+    read = s.read ++ item ∷ [];
+    follow = follow_push form.head 0 s.read o item s.follow b;
+    answer_is = counts s.read s.answer_is;
+    text = grind (arith, one_line, Appends-join);
+  }
+
+  -- the archive ended
+  pub reporting_end : (after : Option (List ℕ)) → Reads (record_at limit o) (Ok None) now after
+      → Owes limit form left (Ok x) w v
+  reporting_end after r = (grind (arith, none_at_end), (s.read, o, s.follow, s.answer_is, s.text))
+
+  -- the output failed in the line of a record
+  pub reporting_stopped : (after u : Option (List ℕ)) (item : X)
+      → Reads (record_at limit o) (Ok (Some (form.head item))) now after → RecordBeginsAt o (form.head item)
+      → IsLine form.line left (form.head item) (form.read_line item) → AppendsPrefix v u (form.read_line item)
+      → Owes limit form left (Err faults.Write) w u
+  reporting_stopped after u item r b l a =
+      let f : Fault = record { offset = o + record_length (form.head item); cause = causes.Memory } in (
+        line_cut limit form left now after o x (form.head item) (form.read_line item) w v u s.known r l a,
+        (
+          s.read ++ item ∷ [],
+          f,
+          follow_push form.head 0 s.read o item s.follow b,
+          subst (AppendsPrefix w u) (grind (arith, one_line, append_assoc))
+              (AppendsPrefix-behind w v u (flat_map form.read_line s.read) (form.read_line item) (fault_line f) s.text a),
+        ),
+      )
+
+  -- what the writing of a fault's line leaves
+  pub reporting_fault : (fault : Fault) (given : IndexFault) (after u : Option (List ℕ)) (k k' : ℕ)
+      → Reads (record_at limit o) (Err fault.cause) now after → fault.offset ≡ o → WritesFault fault given v u k k'
+      → Owes limit form left (Err given) w u
+  reporting_fault fault (faults.Capture (Archive f)) after u k k' r e h =
+      (grind (arith, Appends-join), rw h.0 (s.read, rw e s.follow, Appends-join w v u _ _ s.text h.1))
+  reporting_fault fault faults.Write after u k k' r e h = (
+    grind (arith, fault_cut),
+    (
+      s.read,
+      fault,
+      rw e s.follow,
+      rw (← append-nil (fault_line fault))
+          (AppendsPrefix-behind w v u (flat_map form.read_line s.read) (fault_line fault) [] s.text h.0),
+    ),
+  )
+  reporting_fault fault given after u k k' r e h = grind arith
+
+module _ {A X : Type 0} (limit : ℕ) (form : Form A X) where
+  pub reporting_start : (left w : Option (List ℕ)) (x : A) → ((archive : List ℕ) → x ≡ form.tally archive [])
+      → x ≡ form.read_tally [] → Reporting limit form left (prepend_known [] left) 0 x w w
+  reporting_start left w x t k = record {
+    known = grind (arith, Appends-none);
+    read = [];
+    follow = refl;
+    answer_is = k;
+    text = Appends-none w;
+  }
+
+  -- there was no memory for a reader
+  pub reporting_none : (fault : Fault) (given : IndexFault) (left w u : Option (List ℕ)) (x : A) (k k' : ℕ)
+      → ((archive : List ℕ) → x ≡ form.tally archive []) → x ≡ form.read_tally []
+      → fault ≡ record { offset = 0; cause = causes.Memory } → WritesFault fault given w u k k'
+      → Owes limit form left (Err given) w u
+  reporting_none fault given left w u x k k' t r e h =
+      reporting_fault (reporting_start left w x t r) fault given left u k k' (grind arith) (ap (λ f. f.offset) e) h

@@ -68,8 +68,6 @@ pub sound_under : (limit : ℕ) (names new : List (List ℕ)) (name : List ℕ) 
     ++ name ∷ [] → AreSound limit names xs → AreSound limit new xs
 sound_under limit names new name xs e s = record {
   places = s.places;
-  named = each_weaker
-      (λ (y : EntryValue) (k : is_among names y.filename ≡ true). ap (λ ns. is_among ns y.filename) e
-      ∙ among_more names (name ∷ []) y.filename k) xs s.named;
+  named = each_weaker (λ y k. rw e (among_more names (name ∷ []) y.filename k)) xs s.named;
   lines = s.lines;
 }

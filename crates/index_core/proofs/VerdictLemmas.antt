@@ -12,20 +12,15 @@ use Rattle.warc_core.proofs.ArchiveLemmas.{next-spelled}
 use Rattle.warc_core.specs.declared.verdict.Verdict.{Verdict}
 use Rattle.capture_core.specs.BlockDigest.{judge_record}
 use Rattle.index_core.specs.Verifying.{verdict_on, verdict_in, verdict_line, verification_line, differing_by, Judged}
-use Rattle.index_core.specs.Verifying.{verified_in, verified_of}
+use Rattle.index_core.specs.Verifying.{judged_line, verified_in, verified_of}
 use Rattle.index_core.specs.declared.verified.Verified.{Verified}
 use Rattle.index_core.proofs.ArchiveWalks.{from_offset}
-use Rattle.index_core.proofs.ReportLemmas.{IsLine, CountsOn, SoFar}
+use Rattle.index_core.proofs.ReportLemmas.{Form, IsLine, CountsOn, Reporting}
 
 judged_record : (judge : List ℕ → Verdict) (n : ℕ) (z w : List ℕ) (v : Verdict) → judge_record judge n z ≡ Ok (v, w)
     → (after_record n z ≡ Ok (tt, w)) × (v ≡ judge (take n z))
 unfolding judge_record
 judged_record judge n z w v h = grind arith
-
-refused_record : (judge : List ℕ → Verdict) (n : ℕ) (z : List ℕ) (c : Cause) → judge_record judge n z ≡ Err c
-    → after_record n z ≡ Err c
-unfolding judge_record
-refused_record judge n z c h = grind arith
 
 -- a judged record was read
 pub judged_reads : (judge : List ℕ → Verdict) (n : ℕ) (v : Verdict) (before after : Option (List ℕ))
@@ -34,7 +29,8 @@ judged_reads judge n v before after h = grind (arith, judged_record)
 
 pub judged_met : (judge : List ℕ → Verdict) (n : ℕ) (c : Cause) (before after : Option (List ℕ))
     → Reads (judge_record judge n) (Err c) before after → Reads (after_record n) (Err c) before after
-judged_met judge n c before after h = grind (arith, refused_record)
+unfolding judge_record
+judged_met judge n c before after h = grind arith
 
 -- the verdict on a record that begins the bytes
 pub judged_verdict : (limit start : ℕ) (h : HeadView) (v : Verdict) (before mid after : Option (List ℕ))
@@ -46,12 +42,21 @@ judged_verdict limit start h v (Some z) (Some y) (Some w) r j =
     grind (arith, drop-append_seam, judged_record)
 judged_verdict limit start h v before mid after r j = grind arith
 
+abbrev pub verification : Form Verified Judged
+verification = record {
+  line = verification_line;
+  tally = verified_in;
+  head = λ j. j.0;
+  read_line = judged_line;
+  read_tally = verified_of;
+}
+
 -- the line of a verdict is that of the record in the archive
-pub verdict_known : {A : Type 0} (limit : ℕ) (tally : List ℕ → List HeadView → A) (left now : Option (List ℕ)) (o : ℕ)
-    (x : A) (w u : Option (List ℕ)) (h : HeadView) (v : Verdict) → SoFar limit verification_line tally left now o x w u
-    → h.start ≡ o → IfSome now (λ bytes. v ≡ verdict_on h (block_at h bytes)) → (archive : List ℕ) → left ≡ Some archive
+pub verdict_known : {limit : ℕ} {left now : Option (List ℕ)} {o : ℕ} {x : Verified} {w u : Option (List ℕ)}
+    → Reporting limit verification left now o x w u → (h : HeadView) (v : Verdict) → h.start ≡ o
+    → IfSome now (λ bytes. v ≡ verdict_on h (block_at h bytes)) → (archive : List ℕ) → left ≡ Some archive
     → v ≡ verdict_in archive h
-verdict_known limit tally left now o x w u h v s b t archive e = grind (arith, from_offset)
+verdict_known s h v b t archive e = grind (arith, from_offset)
 
 pub is_line : (left : Option (List ℕ)) (h : HeadView) (v : Verdict)
     → ((archive : List ℕ) → left ≡ Some archive → v ≡ verdict_in archive h)

@@ -15,8 +15,7 @@ returns-in-Ok-None-clause-gains g c =
     (s.0, s.1, grind (arith, length-append, AddedSoFar-end))
 
 pub returns-in_err-reader-clause-gains : goal.returns-in_err-reader-clause-gains
-returns-in_err-reader-clause-gains g c =
-    ([], sym (append-nil c.args.captures.now.items), grind arith)
+returns-in_err-reader-clause-gains g c = ([], grind (arith, append-nil), grind arith)
 
 pub returns-in-Err-clause-gains : goal.returns-in-Err-clause-gains
 returns-in-Err-clause-gains g c =

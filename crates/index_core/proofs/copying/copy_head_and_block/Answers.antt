@@ -1,7 +1,6 @@
 use Rattle.std.proofs.Common.{◌-◌, sym, arith}
 use Rattle.std.proofs.lemmas.List.{length-take-le}
 use Rattle.std.proofs.lemmas.Result.{err_from_is_err_and}
-use Rattle.warc_core.specs.HeadView.{record_length}
 use Rattle.index_core.proofs.CopyLemmas.{head_cut, head_copied, copied_more, copied_all, piece_cut, piece_stop}
 use Rattle.index_core.proofs.copying.copy_head_and_block.Goals as goal
 
@@ -13,37 +12,32 @@ loop-count-init g c = grind (arith, head_copied)
 
 pub returns-then-count-eq0-clause-copies : goal.returns-then-count-eq0-clause-copies
 returns-then-count-eq0-clause-copies g c =
-    let i = c.loop-count.invariant in
-    let b = c.in_ok-count.ensures.open i.rest (record_length c.args.head.now) i.copied.stands.phase_is in
+    let b = c.in_ok-count.ensures.open _ _ c.loop-count.invariant.copied.stands.phase_is in
     grind (arith, copied_all)
 
 pub returns-then-count-eq0-clause-reads : goal.returns-then-count-eq0-clause-reads
 returns-then-count-eq0-clause-reads g c =
-    let i = c.loop-count.invariant in
-    let b = c.in_ok-count.ensures.open i.rest (record_length c.args.head.now) i.copied.stands.phase_is in
+    let b = c.in_ok-count.ensures.open _ _ c.loop-count.invariant.copied.stands.phase_is in
     grind arith
 
 pub slice_bounds-piece-end : goal.slice_bounds-piece-end
 slice_bounds-piece-end g c =
-    let i = c.loop-count.invariant in
-    (c.in_ok-count.ensures.open i.rest (record_length c.args.head.now) i.copied.stands.phase_is).bound.1
+    (c.in_ok-count.ensures.open _ _ c.loop-count.invariant.copied.stands.phase_is).bound.1
 
 pub slice_bounds-put_bytes-end : goal.slice_bounds-put_bytes-end
 slice_bounds-put_bytes-end g c =
-    let i = c.loop-count.invariant in
-    let b = c.in_ok-count.ensures.open i.rest (record_length c.args.head.now) i.copied.stands.phase_is in
+    let b = c.in_ok-count.ensures.open _ _ c.loop-count.invariant.copied.stands.phase_is in
     sym (length-take-le _ c.block.new.piece b.bound.1)
 
 pub loop-count-smaller : goal.loop-count-smaller
 loop-count-smaller g c =
-    let i = c.loop-count.invariant in
-    let b = c.in_ok-count.ensures.open i.rest (record_length c.args.head.now) i.copied.stands.phase_is in
+    let b = c.in_ok-count.ensures.open _ _ c.loop-count.invariant.copied.stands.phase_is in
     grind arith
 
 pub loop-count-preserved : goal.loop-count-preserved
 loop-count-preserved g c =
     let i = c.loop-count.invariant in
-    let b = c.in_ok-count.ensures.open i.rest (record_length c.args.head.now) i.copied.stands.phase_is in
+    let b = c.in_ok-count.ensures.open _ _ i.copied.stands.phase_is in
     record {
       rest = i.rest - c.in_ok-count.count;
       copied = copied_more c.args.head.now _ i.rest _ _ _ _ i.copied c.in_ok-count.count c.block.new.piece _ _ _ _ _ b
@@ -55,7 +49,7 @@ loop-count-preserved g c =
 pub returns-in_err-put_bytes-2-clause-copies : goal.returns-in_err-put_bytes-2-clause-copies
 returns-in_err-put_bytes-2-clause-copies g c =
     let i = c.loop-count.invariant in
-    let b = c.in_ok-count.ensures.open i.rest (record_length c.args.head.now) i.copied.stands.phase_is in
+    let b = c.in_ok-count.ensures.open _ _ i.copied.stands.phase_is in
     let p = err_from_is_err_and c.from_residual-in_err-put_bytes-2.result
     c.from_residual-in_err-put_bytes-2.ensures.1 in
     let e = c.in_err-put_bytes-2.ensures in
@@ -64,14 +58,13 @@ returns-in_err-put_bytes-2-clause-copies g c =
 
 pub returns-in_err-put_bytes-2-clause-reads : goal.returns-in_err-put_bytes-2-clause-reads
 returns-in_err-put_bytes-2-clause-reads g c =
-    let i = c.loop-count.invariant in
-    let b = c.in_ok-count.ensures.open i.rest (record_length c.args.head.now) i.copied.stands.phase_is in
+    let b = c.in_ok-count.ensures.open _ _ c.loop-count.invariant.copied.stands.phase_is in
     grind arith
 
 pub returns-in_err-count-clause-copies : goal.returns-in_err-count-clause-copies
 returns-in_err-count-clause-copies g c =
     let i = c.loop-count.invariant in
-    let b = c.in_err-count.ensures.open i.rest (record_length c.args.head.now) i.copied.stands.phase_is in
+    let b = c.in_err-count.ensures.open _ _ i.copied.stands.phase_is in
     let p = err_from_is_err_and c.from_residual-in_err-count.result c.from_residual-in_err-count.ensures.1 in
     rw (p.1, p.2) (piece_stop c.args.head.now _ i.rest _ _ _ _ i.copied c.in_err-count.field-0.0 c.block.new.piece _ _ _ _
     _ b)

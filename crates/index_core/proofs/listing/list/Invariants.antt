@@ -1,10 +1,9 @@
-use Rattle.std.proofs.Common.{◌≡◌, ◌≤◌, ◌-◌, ◌^◌, length}
+use Rattle.std.proofs.Common.{◌≡◌, ◌≤◌, ◌-◌, ◌^◌}
 use Rattle.std.specs.Io.KnownBytes.{prepend_known}
 use Rattle.warc_core.specs.declared.next.TheConstants.{HEAD_LIMIT}
 use Rattle.warc_core.specs.declared.phase.Phase.TheVariants.{Between}
-use Rattle.index_core.specs.Listing.{listing_line, record_count, record_line}
-use Rattle.index_core.proofs.FollowLemmas.{Followed}
-use Rattle.index_core.proofs.ReportLemmas.{SoFar}
+use Rattle.index_core.proofs.ListingLemmas.{listing}
+use Rattle.index_core.proofs.ReportLemmas.{Reporting}
 use Rattle.index_core.proofs.listing.list.Given as goal
 
 abbrev pub invariant-loop-reader : goal.invariant-loop-reader
@@ -12,10 +11,8 @@ invariant-loop-reader g l = record {
   phase : l.reader.phase ≡ Between;
   within : l.reader.offset ≤ 2 ^ 63 - 1;
   fewer : l.count ≤ l.reader.offset;
-  lines : SoFar HEAD_LIMIT listing_line record_count (g.I.Input.remaining l.fn.input)
+  reporting : Reporting HEAD_LIMIT listing (g.I.Input.remaining l.fn.input)
       (prepend_known l.reader.held (g.I.Input.remaining l.input)) l.reader.offset l.count (g.O.Output.written l.fn.out)
-      (g.O.Output.written l.out);
-  records : Followed (λ h. h) record_line length l.reader.offset l.count (g.O.Output.written l.fn.out)
       (g.O.Output.written l.out);
   reads : g.I.Input.failures l.input ≡ g.I.Input.failures l.fn.input;
   writes : g.O.Output.failures l.out ≡ g.O.Output.failures l.fn.out;

@@ -2,9 +2,8 @@ use Rattle.std.proofs.Common.{◌≡◌, ◌≤◌, ◌-◌, ◌^◌}
 use Rattle.std.specs.Io.KnownBytes.{prepend_known}
 use Rattle.warc_core.specs.declared.next.TheConstants.{HEAD_LIMIT}
 use Rattle.warc_core.specs.declared.phase.Phase.TheVariants.{Between}
-use Rattle.index_core.proofs.FollowLemmas.{Followed}
-use Rattle.index_core.proofs.ReportLemmas.{SoFar}
-use Rattle.index_core.specs.Verifying.{judged_line, verification_line, verified_in, verified_of}
+use Rattle.index_core.proofs.ReportLemmas.{Reporting}
+use Rattle.index_core.proofs.VerdictLemmas.{verification}
 use Rattle.index_core.proofs.verifying.verify.Given as goal
 
 abbrev pub invariant-loop-reader : goal.invariant-loop-reader
@@ -13,11 +12,8 @@ invariant-loop-reader g l = record {
   within : l.reader.offset ≤ 2 ^ 63 - 1;
   fewer : l.records ≤ l.reader.offset;
   among : l.differing ≤ l.records;
-  lines : SoFar HEAD_LIMIT verification_line verified_in (g.I.Input.remaining l.fn.input)
+  reporting : Reporting HEAD_LIMIT verification (g.I.Input.remaining l.fn.input)
       (prepend_known l.reader.held (g.I.Input.remaining l.input)) l.reader.offset
-      (record { records = l.records; differing = l.differing }) (g.O.Output.written l.fn.out)
-      (g.O.Output.written l.out);
-  records : Followed (λ j. j.0) judged_line verified_of l.reader.offset
       (record { records = l.records; differing = l.differing }) (g.O.Output.written l.fn.out)
       (g.O.Output.written l.out);
   reads : g.I.Input.failures l.input ≡ g.I.Input.failures l.fn.input;

@@ -1,6 +1,5 @@
 use Rattle.std.proofs.Common.{arith, ◌∙◌}
 use Rattle.std.proofs.lemmas.Result.{err_from_is_err_and}
-use Rattle.warc_core.specs.HeadView.{record_length}
 use Rattle.warc_core.proofs.WalkLemmas.{record-stopped, record-end, record-unclosed, record-whole}
 use Rattle.index_core.proofs.walk.next_record.Goals as goal
 
@@ -10,22 +9,19 @@ returns-in_err-next-clause-bytes g c = grind (arith, err_from_is_err_and, record
 pub returns-in_err-finish-in-Some-clause-bytes : goal.returns-in_err-finish-in-Some-clause-bytes
 returns-in_err-finish-in-Some-clause-bytes g c =
     let n = rw c.in-Some.is at (c.in_ok-next.ensures.between c.requires) in
-    let f = c.in_err-finish-in-Some.ensures.open c.in-Some.head.parts.block_length (record_length c.in-Some.head)
-    n.state.phase_is in
+    let f = c.in_err-finish-in-Some.ensures.open _ _ n.state.phase_is in
     grind (arith, record-unclosed)
 
 pub returns-in_err-finish-in-Some-clause-state : goal.returns-in_err-finish-in-Some-clause-state
 returns-in_err-finish-in-Some-clause-state g c =
     let n = rw c.in-Some.is at (c.in_ok-next.ensures.between c.requires) in
-    let f = c.in_err-finish-in-Some.ensures.open c.in-Some.head.parts.block_length (record_length c.in-Some.head)
-    n.state.phase_is in
+    let f = c.in_err-finish-in-Some.ensures.open _ _ n.state.phase_is in
     grind arith
 
 pub returns-in_err-finish-in-Some-clause-failures : goal.returns-in_err-finish-in-Some-clause-failures
 returns-in_err-finish-in-Some-clause-failures g c =
     let n = rw c.in-Some.is at (c.in_ok-next.ensures.between c.requires) in
-    let f = c.in_err-finish-in-Some.ensures.open c.in-Some.head.parts.block_length (record_length c.in-Some.head)
-    n.state.phase_is in
+    let f = c.in_err-finish-in-Some.ensures.open _ _ n.state.phase_is in
     grind arith
 
 pub returns-in-None-clause-bytes : goal.returns-in-None-clause-bytes
@@ -37,13 +33,11 @@ returns-in_ok-finish-in-Some-clause-bytes g c = grind (arith, record-whole)
 pub returns-in_ok-finish-in-Some-clause-state : goal.returns-in_ok-finish-in-Some-clause-state
 returns-in_ok-finish-in-Some-clause-state g c =
     let n = rw c.in-Some.is at (c.in_ok-next.ensures.between c.requires) in
-    let f = c.in_ok-finish-in-Some.ensures.open c.in-Some.head.parts.block_length (record_length c.in-Some.head)
-    n.state.phase_is in
+    let f = c.in_ok-finish-in-Some.ensures.open _ _ n.state.phase_is in
     grind arith
 
 pub returns-in_ok-finish-in-Some-clause-failures : goal.returns-in_ok-finish-in-Some-clause-failures
 returns-in_ok-finish-in-Some-clause-failures g c =
     let n = rw c.in-Some.is at (c.in_ok-next.ensures.between c.requires) in
-    let f = c.in_ok-finish-in-Some.ensures.open c.in-Some.head.parts.block_length (record_length c.in-Some.head)
-    n.state.phase_is in
+    let f = c.in_ok-finish-in-Some.ensures.open _ _ n.state.phase_is in
     f.failures ∙ n.failures

@@ -1,6 +1,5 @@
 use Rattle.std.proofs.Common.{arith}
 use Rattle.std.proofs.lemmas.Result.{err_from_is_err_and}
-use Rattle.index_core.proofs.AddingLemmas.{held_more}
 use Rattle.index_core.proofs.SoundLemmas.{is_among_kept, sound_under}
 use Rattle.index_core.proofs.indexer.Indexer.add.Goals as goal
 
@@ -15,10 +14,7 @@ invariant_of-self-2 g c =
 -- what is held is seen before and after
 pub returns-in_err-add_captures-clause-adds : goal.returns-in_err-add_captures-clause-adds
 returns-in_err-add_captures-clause-adds g c =
-    let p = err_from_is_err_and c.from_residual.result c.from_residual.ensures.1 in
-    let gains = c.in_err-add_captures.ensures.gains in
-    rw (p.1, p.2, ← c.self.view_is)
-    (gains.0, held_more c.self.inside.types _ _ _ _ gains.0 c.args.name.now c.in-Ok.ensures.ok gains.1, gains.2)
+    rw (← c.self.view_is) (grind (arith, err_from_is_err_and))
 
 pub returns-clause-adds : goal.returns-clause-adds
 returns-clause-adds g c = rw (← c.self.view_is) (grind arith)
