@@ -82,7 +82,7 @@ module _ {S : Type 0} {device : Ghosts S} {past : List ℕ → Bool}
       let known_now = rw (← texts_kept device old ss (feeds begun) (feeds m) before long now.moved) at known in
       let gathered = gathered_now was grouped (told_known device.text old texts known) in
       let there = all_fewer past device ss (feeds m) texts indexes (is_at pair) known_now are aligned.fed in
-      let few = few_of (length ss) m.queue (rw (← aligned.same) at aligned.placed) (few_wait aligned) in
+      let few = few_of (length ss) m.queue (rw (← aligned.same) at aligned.placed) (λ i l. few_wait aligned i) in
       let taken = ap length gathered.taken in
       grind (arith, filter_weaker, each_weaker, at_pair)
 

@@ -5,8 +5,8 @@ use Rattle.merge_core.proofs.Words.{List, Member, NeverFalls, None, Option, Pair
 use Rattle.merge_core.proofs.Words.{append_assoc, arith, done, drop, drop_all, each_join, each_weaker, false, feed_of}
 use Rattle.merge_core.proofs.Words.{filter, filter-append, first_length, flat_map-append, given, inl, inr, length}
 use Rattle.merge_core.proofs.Words.{length-append, length-map, length-take, line_entry, lines, map, map-append}
-use Rattle.merge_core.proofs.Words.{member_pair, not-false, not-true, pair_cmp, pair_cmp_total, read_lines, refl}
-use Rattle.merge_core.proofs.Words.{stays, suc, sym, take, take-append-drop, tied_back, true, true≢false}
+use Rattle.merge_core.proofs.Words.{member_pair, not-true, pair_cmp, pair_cmp_total, read_lines, refl}
+use Rattle.merge_core.proofs.Words.{stays, suc, sym, take, take-append-drop, tied_back, true, nil_from_length}
 use Rattle.std.proofs.Common.{take_all, take_at}
 use Rattle.std.specs.FinMap.{nat_cmp-IsAntisymmetric, slice_cmp-IsAntisymmetric}
 use Rattle.cdxj_core.specs.Lines.{body_of}
@@ -104,11 +104,7 @@ pub done_cut : {past : List ℕ → Bool} {text : Option (List ℕ)} {extent : �
     → Cut f.cursor.count (done past t f) (given t f.cursor)
 done_cut {f = f} fed t e =
     let told = fed.told t e in
-    let long : length (given t f.cursor) ≡ f.cursor.count = grind (arith, length-map) in
-    elim told.last [
-      | inl k ↦ cut_of f.cursor.count _ f.waits _ long fed.few k.0
-      | inr k ↦ cut_of f.cursor.count _ (k.1 ∷ []) _ long (omega arith) k.2
-    ]
+    cut_of f.cursor.count _ told.late _ (grind (arith, length-map)) told.one told.split
 
 module _ {past : List ℕ → Bool} {text : Option (List ℕ)} {extent : ℕ} {old c : CursorState} {m : Member}
     (r : LineRead past text extent old c m) where
@@ -152,19 +148,6 @@ module _ {past : List ℕ → Bool} {text : Option (List ℕ)} {extent : ℕ} {o
       let inside = r.inside t e in
       grind (arith, filter_all, filter-append, append-nil)
 
-  last_of : (ws : List Member) → ws ≡ filter (stays past) (m ∷ []) → (t : List ℕ) → text ≡ Some t
-      → ((given t c ≡ done past t (feed_of c ws) ++ ws) × AllByRecursion (λ m. stays past m ≡ true) ws)
-      ⊎ ((ws ≡ []) × (k : Member) × (given t c ≡ done past t (feed_of c ws) ++ k ∷ [])
-      × (past k.values.key ≡ true))
-  last_of ws is t e =
-      rw (done_next ws is t e) (go ws is (stays past m) refl)
-    where
-      go : (ws : List Member) → ws ≡ filter (stays past) (m ∷ []) → (b : Bool) → stays past m ≡ b
-          → ((given t c ≡ given t old ++ ws) × AllByRecursion (λ m. stays past m ≡ true) ws)
-          ⊎ ((ws ≡ []) × (k : Member) × (given t c ≡ given t old ++ k ∷ []) × (past k.values.key ≡ true))
-      go ws is true s = let one : ws ≡ m ∷ [] = grind arith in rw one (inl (given_next t e, (s, tt)))
-      go ws is false s = inr (grind arith, m, given_next t e, not-false _ s)
-
   pub fed_more : (ws : List Member) → Goes ws → Fed past text extent (feed_of c ws)
   fed_more ws cases = record {
     stands = r.stands;
@@ -184,14 +167,26 @@ module _ {past : List ℕ → Bool} {text : Option (List ℕ)} {extent : ℕ} {o
             entries = grind (arith, map-append);
             ordered = falls_push _ m was.run.ordered (r.low t e);
           });
-          last = elim cases [
-            | inl is ↦ last_of ws is t e
-            | inr k ↦
-                let all = done_all past t c (grind (arith, length-append)) (grind (arith, each_join)) in
-                rw k.0 (inl (rw all (sym (append-nil _)), tt))
-          ];
+          late = (goes t e).0;
+          split = (goes t e).1;
+          one = (goes t e).2;
+          waiting = (goes t e).3;
         };
   }
+    where
+      goes : (t : List ℕ) → text ≡ Some t → (late : List Member)
+          × (given t c ≡ done past t (feed_of c ws) ++ late) × (length late ≤ 1) × (ws ≡ filter (stays past) late)
+      goes t e = elim cases [
+        | inl is ↦ (m ∷ [], rw (done_next ws is t e) (given_next t e), omega arith, is)
+        | inr k ↦
+            let long = (r.was.told t e).as_many in
+            let more = read_more t e in
+            let next = given_next t e in
+            let inside = r.inside t e in
+            let stays_here = k.1 t e in
+            let all = done_all past t c (grind (arith, length-append, r.count)) (grind (arith, each_join)) in
+            ([], rw k.0 (rw all (sym (append-nil _))), omega arith, k.0)
+      ]
 
 -- a line that has the pair of the last one, which lies within the range, lies within it
 pub same_stays : (past : List ℕ → Bool) (pair : Pair) (m : Member) (ms : List Member) → EndsAt past pair ms
@@ -220,11 +215,15 @@ module _ {past : List ℕ → Bool} {text : Option (List ℕ)} {extent : ℕ} {c
   all_upto = low_of past pair (given t c) (fed.told t e).run.ordered end
 
   pub all_taken : done past t (feed_of c []) ≡ given t c
-  all_taken = elim (fed.told t e).last [
-    | inl k ↦ sym (k.0 ∙ append-nil _)
-    | inr k ↦ absurd (true≢false (sym k.3 ∙ ap (λ (m : Member). past m.values.key) (last_same _ _ k.1 end.1 (sym k.2 ∙ end.2))
-        ∙ end.4))
-  ]
+  all_taken = let told = fed.told t e in none_late told.late told.one told.waiting told.split
+    where
+      none_late : (late : List Member) → length late ≤ 1 → [] ≡ filter (stays past) late
+          → given t c ≡ done past t (feed_of c []) ++ late → done past t (feed_of c []) ≡ given t c
+      none_late [] one waiting split = sym (split ∙ append-nil _)
+      none_late (m ∷ ms) one waiting split =
+          let none : ms ≡ [] = grind (arith, nil_from_length) in
+          let last = last_same _ end.0 m end.1 (sym (rw none at split) ∙ end.2) in
+          absurd (grind arith)
 
   pub all_inside : AllByRecursion (λ m. stays past m ≡ true) (given t c)
   all_inside = rw (← all_taken) (filter_passes (stays past) _)
@@ -246,7 +245,10 @@ fed_end fed c stands start count near none = record {
         stood = grind arith;
         as_many = was.as_many;
         run = was.run;
-        last = was.last;
+        late = was.late;
+        split = was.split;
+        one = was.one;
+        waiting = was.waiting;
       });
 }
 

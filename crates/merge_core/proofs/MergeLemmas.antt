@@ -93,25 +93,20 @@ module _ {S : Type 0} {device : Ghosts S} {past : List ℕ → Bool}
 -- a merge that differs in its buffers alone
 pub reached_same : {S : Type 0} {device : Ghosts S} {past : List ℕ → Bool}
     {old ss : List S} {begun m : MergeState} {b : Option Pair} {taken : List Member} (m' : MergeState)
-    → m'.cursors.items ≡ m.cursors.items → m'.queue ≡ m.queue
+    → m' ≡ record m { buffers = m'.buffers; most_lines = m'.most_lines }
     → Reached past device old begun ss m b taken
     → Reached past device old begun ss m' b taken
-reached_same m' cursors queue was =
-    let ready = was.ready in
-    let aligned = ready.aligned in
-    record {
+reached_same m' is was =
+    let aligned = was.ready.aligned in
+    rw is (record {
       ready = record {
-        aligned = record {
-          same = rw cursors aligned.same;
-          placed = rw (cursors, queue) aligned.placed;
-          fed = rw (cursors, queue) aligned.fed;
-        };
-        settled = rw (cursors, queue) ready.settled;
+        aligned = record { same = aligned.same; placed = aligned.placed; fed = aligned.fed };
+        settled = was.ready.settled;
       };
-      moved = rw (cursors, queue) was.moved;
-      above = rw queue was.above;
-      handed = rw (cursors, queue) was.handed;
-    }
+      moved = was.moved;
+      above = was.above;
+      handed = was.handed;
+    })
 
 -- these lines were passed on, when a fault came
 module _ {K S : Type 0} {consumer : SinkGhosts K} {past : List ℕ → Bool} {device : Ghosts S}

@@ -2,21 +2,14 @@
 use Rattle.merge_core.proofs.Words.{[], ℕ, ◌++◌, ◌+◌, ◌<◌, ◌∙◌, ◌∷◌, ◌≡◌, ◌≤◌, AllByRecursion, AllZip, Bool, CameOnce}
 use Rattle.merge_core.proofs.Words.{CameWithin, CursorState, Fed, Feed, Ghosts, IsCutAt, IsLeast, IsNextLine}
 use Rattle.merge_core.proofs.Words.{IsSettled, List, MatchOption, Member, MergeState, None, Option, Pair, Ready, Some}
-use Rattle.merge_core.proofs.Words.{Stands, WaitingLine, arith, done, drop, drop_all, each_weaker, feed_of, feeds}
+use Rattle.merge_core.proofs.Words.{Stands, arith, done, drop, drop_all, each_weaker, feed_of, feeds}
 use Rattle.merge_core.proofs.Words.{filter, first_length, given, inl, length, length-append, lines, map, option_list}
-use Rattle.merge_core.proofs.Words.{refl, set, stays, suc, sum, sum-map, take, take_more_set, text_or, waits_of, zip}
+use Rattle.merge_core.proofs.Words.{refl, set, stays, suc, sum, sum-map, take, take_more_set, text_or, zip}
 use Rattle.std.proofs.lemmas.List.Sums.{sum_by_push}
 use Rattle.merge_core.specs.Openings.{AddedSource, AreOpened}
 use Rattle.merge_core.proofs.FeedLemmas.{LineRead, done_next, fed_end, fed_more, settled_more}
 use Rattle.source_core.specs.IndexLines.{IsLineStart}
-use Rattle.merge_core.proofs.HeapLemmas.{waits_other}
-use Rattle.merge_core.proofs.StateLemmas.{feeds_added, few_of_fed, placed_queued}
-
--- none of a later source waits
-waits_none : (n : ℕ) (ws : List WaitingLine) → AllByRecursion (λ (w : WaitingLine). w.source < n) ws → waits_of n ws
-    ≡ []
-waits_none n [] h = refl
-waits_none n (w ∷ ws) h = grind (arith, waits_other, waits_none n ws h.1)
+use Rattle.merge_core.proofs.StateLemmas.{feeds_added, placed_queued}
 
 zip_push_each : {A B : Type 0} (R : A → B → Type 0) (xs : List A) (ys : List B) (x : A) (y : B) → AllZip R xs ys → R x y
     → AllZip R (xs ++ x ∷ []) (ys ++ y ∷ [])
@@ -32,9 +25,7 @@ module _ {past : List ℕ → Bool} {S : Type 0} {device : Ghosts S} {ss : List 
 
   pub added_feeds : feeds m' ≡ feeds m ++ its_feed ∷ []
   added_feeds =
-      let none = waits_none (length m.cursors.items) m.queue was.aligned.placed in
-      rw added.cursors_are (feeds_added m.cursors.items m.queue m'.queue added.cursor added.first none added.fed.few
-      added.queue_is (few_of_fed past device ss (feeds m) was.aligned.fed))
+      rw added.cursors_are (feeds_added was.aligned added.cursor added.first m'.queue added.fed.few added.queue_is)
 
   pub ready_added : Ready past device (ss ++ s ∷ []) m'
   ready_added =
@@ -98,7 +89,21 @@ pub fed_fresh : (past : List ℕ → Bool) (text : Option (List ℕ)) (extent : 
     → Stands text extent c → c.count ≡ 0 → c.at ≡ c.start
     → ((t : List ℕ) → text ≡ Some t → IsLineStart t c.start)
     → Fed past text extent (feed_of c [])
-fed_fresh past text extent c stands none at begins = grind arith
+fed_fresh past text extent c stands none at begins = record {
+  stands = stands;
+  few = omega arith;
+  counted = omega arith;
+  told = λ t e. record {
+    begins = begins t e;
+    stood = omega arith;
+    as_many = rw none refl;
+    run = rw none (grind arith);
+    late = [];
+    split = rw none refl;
+    one = omega arith;
+    waiting = refl;
+  };
+}
 
 -- its first line was read, if it has one
 pub record FirstRead (past : List ℕ → Bool) (text : Option (List ℕ)) (extent : ℕ) (f : Feed) : Type 0 where

@@ -1,9 +1,11 @@
 -- The lines of one source that were come to, among all that it has from its start on.
+use Rattle.merge_core.proofs.Words.{◌≤◌}
+use Rattle.merge_core.proofs.Words.{length}
 use Rattle.merge_core.proofs.Words.{[], ℕ, ◌++◌, ◌∙◌, ◌∷◌, ◌≡◌, AllByRecursion, Bool, Fed, Feed, IsLower, IsRun}
 use Rattle.merge_core.proofs.Words.{IsSettled, LINE_LIMIT, List, Member, NeverFalls, Some, Upto, ap, append-nil}
 use Rattle.merge_core.proofs.Words.{append_assoc, arith, done, drop, each_rising, each_weaker, false, filter}
 use Rattle.merge_core.proofs.Words.{filter-append, given, inl, inr, is_gt, line_entry, lines, map, member_of}
-use Rattle.merge_core.proofs.Words.{member_pair, member_place, not, pair_cmp, place_cmp, place_cmp_total, refl, rising}
+use Rattle.merge_core.proofs.Words.{member_pair, member_place, not, not-false, pair_cmp, place_cmp, place_cmp_total, refl, rising}
 use Rattle.merge_core.proofs.Words.{rising_split, stays, sym, take, take-append-drop, take-map, true}
 use Rattle.std.proofs.Common.{◌&&◌}
 use Rattle.std.proofs.lemmas.List.{drop-map}
@@ -106,26 +108,30 @@ module _ {past : List ℕ → Bool} (upward : IsUpward past) (upto : Member → 
     past_unread before last cut e =
         rest_unread past upto before last rest ms (grind (arith, append_assoc)) falls (λ k u. unread_past last k e u)
 
-    -- the lines that wait, and those after them
-    tail_unread : (ws : List Member) → ws ≡ f.waits → given t f.cursor ≡ done past t f ++ ws
-        → AllByRecursion (λ m. is_read past upto m ≡ false) (ws ++ rest)
-    tail_unread [] e cut = elim (settled t refl (sym e)) [
+    -- the line that was read and not taken, and those after it
+    tail_unread : (ls : List Member) → length ls ≤ 1 → f.waits ≡ filter (stays past) ls
+        → given t f.cursor ≡ done past t f ++ ls → AllByRecursion (λ m. is_read past upto m ≡ false) (ls ++ rest)
+    tail_unread [] one waiting cut = elim (settled t refl waiting) [
       | inl none ↦ rw (end none) tt
       | inr k ↦ (past_unread k.0 k.1 k.2 k.3).1
     ]
-    tail_unread (w ∷ []) e cut =
-        let here = rw (← e) at late in
-        rest_unread past upto (done past t f) w rest ms (grind (arith, append_assoc)) falls
-        (λ k u. let no = here.0 k u in grind arith)
-    tail_unread (w ∷ v ∷ ws) e cut = let few = rw (← e) at fed.few in absurd (omega arith)
+    tail_unread (m ∷ []) one waiting cut =
+        rest_unread past upto (done past t f) m rest ms (grind (arith, append_assoc)) falls (by (stays past m) refl)
+      where
+        by : (b : Bool) → stays past m ≡ b → (k : Member) → Upto (member_pair m) (member_pair k)
+            → is_read past upto k ≡ false
+        by true s k u =
+            let waits : f.waits ≡ m ∷ [] = grind arith in
+            let no = (rw waits at late).0 k u in
+            grind arith
+        by false s k u = unread_past m k (not-false _ s) u
+    tail_unread (m ∷ k ∷ ls) one waiting cut = absurd (omega arith)
 
     read_of : filter (is_read past upto) ms ≡ done past t f
-    read_of = elim (fed.told t refl).last [
-      | inl k ↦ read_is past upto (done past t f) (f.waits ++ rest) ms (grind (arith, append_assoc)) done_read
-          (tail_unread f.waits refl k.0)
-      | inr k ↦ read_is past upto (done past t f) (k.1 ∷ rest) ms (grind (arith, append_assoc)) done_read
-          (past_unread (done past t f) k.1 k.2 k.3)
-    ]
+    read_of =
+        let told = fed.told t refl in
+        read_is past upto (done past t f) (told.late ++ rest) ms (grind (arith, append_assoc)) done_read
+        (tail_unread told.late told.one told.waiting told.split)
 
   -- Of the lines from the start on, those that were come to are those that were taken
   pub fed_read : (ms : List Member) → IsRun LINE_LIMIT (lines (drop f.cursor.start t)) ms

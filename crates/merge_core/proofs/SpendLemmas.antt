@@ -1,10 +1,10 @@
 -- How far sources were read.
-use Rattle.merge_core.proofs.Words.{[], ℕ, ◌*◌, ◌++◌, ◌+◌, ◌∙◌, ◌∷◌, ◌≡◌, ◌≤◌, AllByRecursion, AreFed, AreReadTo, Bool}
-use Rattle.merge_core.proofs.Words.{CursorState, EndsAt, Fed, Feed, Ghosts, IsUpto, LINE_LIMIT, List, Member, None}
+use Rattle.merge_core.proofs.Words.{[], ℕ, ◌++◌, ◌+◌, ◌∙◌, ◌∷◌, ◌≡◌, ◌≤◌, AllByRecursion, AreFed, AreReadTo, Bool}
+use Rattle.merge_core.proofs.Words.{CursorState, EndsAt, Fed, Feed, Ghosts, IsUpto, LINE_LIMIT, List}
 use Rattle.merge_core.proofs.Words.{Option, Pair, ReadTo, Some, all_done, ap, append-nil, append_assoc, arith}
-use Rattle.merge_core.proofs.Words.{bytes_of, done, drop, drop-set-lt, false, feed_of, first_length, flat_map-append}
-use Rattle.merge_core.proofs.Words.{get_or, given, length, length-append, length-drop, line_entry, lines, longest, map}
-use Rattle.merge_core.proofs.Words.{member_pair, reach, read_lines, refl, set, suc, sym, take, take-append-drop}
+use Rattle.merge_core.proofs.Words.{bytes_of, done, drop, drop-set-lt, feed_of, first_length, flat_map-append}
+use Rattle.merge_core.proofs.Words.{get_or, given, length, length-append, length-drop, line_entry, lines, longest}
+use Rattle.merge_core.proofs.Words.{member_pair, read_lines, refl, set, suc, sym, take, take-append-drop}
 use Rattle.merge_core.proofs.Words.{take-map, text_or}
 use Rattle.std.proofs.lemmas.Grind.{drop_more_same}
 use Rattle.std.proofs.Common.{get_or-drop}
@@ -57,17 +57,6 @@ module _ {past : List ℕ → Bool} {text : Option (List ℕ)} {extent : ℕ} {f
         most = grind (arith, flat_map-append, length-append, longest_later, longest_front, longest_drop, first_most);
       }
 
--- where nothing may be read, little was
-pub read_none : (past : List ℕ → Bool) (t : List ℕ) (c : CursorState) → ReadTo past None t c
-    → reach c ≤ c.start + 2 * longest (lines t) + 8192
-read_none past t c h =
-    let none = no_bytes h.read h.members h.entries h.within in let most = h.most in omega arith
-  where
-    no_bytes : (ls : List (List ℕ)) (ms : List Member) → map (line_entry LINE_LIMIT) ls ≡ map Some ms
-        → AllByRecursion (λ m. (past m.values.key ≡ false) × IsUpto None (member_pair m)) ms → bytes_of ls ≡ 0
-    no_bytes (l ∷ ls) (m ∷ ms) e within = absurd within.0.1
-    no_bytes ls ms e within = grind arith
-
 -- the same where the last line that was read has the pair
 pub group_most : {past : List ℕ → Bool} {text : Option (List ℕ)} {extent : ℕ} {c : CursorState} {pair : Pair}
     → Fed past text extent (feed_of c []) → (t : List ℕ) → text ≡ Some t → EndsAt past pair (given t c)
@@ -75,14 +64,6 @@ pub group_most : {past : List ℕ → Bool} {text : Option (List ℕ)} {extent :
     → length new.ahead ≤ 8192 → ReadTo past (Some pair) t new
 group_most {pair = pair} fed t is end new start near ahead =
     read_to fed (Some pair) t new is (rw (all_taken fed t is end) (all_upto fed t is end)) start near ahead
-
--- the same where no line was read before
-pub opening_most : {past : List ℕ → Bool} {text : Option (List ℕ)} {extent : ℕ} {c : CursorState}
-    → Fed past text extent (feed_of c []) → c.count ≡ 0 → (t : List ℕ) → text ≡ Some t → (new : CursorState)
-    → new.start ≡ c.start → new.at ≤ c.at + first_length (lines (drop c.at t)) → length new.ahead ≤ 8192
-    → reach new ≤ new.start + 2 * longest (lines t) + 8192
-opening_most {past = past} fed none t is new start near ahead =
-    read_none past t new (read_to fed None t new is (rw none tt) start near ahead)
 
 module _ (past : List ℕ → Bool) where
   module _ {S : Type 0} (device : Ghosts S) (b : Option Pair) where

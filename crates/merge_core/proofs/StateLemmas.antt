@@ -1,16 +1,17 @@
 -- Sources and the feeds of a merge, while lines wait.
+use Rattle.merge_core.proofs.Words.{filter}
 use Rattle.merge_core.proofs.Words.{[], ℕ, ◌++◌, ◌+◌, ◌<◌, ◌∙◌, ◌∷◌, ◌≡◌, ◌≢◌, ◌≤◌, Aligned, Alike, AllByRecursion}
-use Rattle.merge_core.proofs.Words.{AllZip, AreFed, Bool, CursorState, Fed, Feed, Ghosts, IsDue, IsPermutation, List}
+use Rattle.merge_core.proofs.Words.{AllZip, Bool, CursorState, Fed, Feed, Ghosts, IsDue, IsPermutation, List}
 use Rattle.merge_core.proofs.Words.{Member, MergeState, Option, Pair, Some, TookOf, WaitingLine, ap, append-nil, arith}
-use Rattle.merge_core.proofs.Words.{done, each_join, feed_of, feeds, feeds_from, filter-append, get_or, get_or_default}
+use Rattle.merge_core.proofs.Words.{done, each_join, each_weaker, feed_of, feeds, feeds_from, filter-append, get_or, get_or_default}
 use Rattle.merge_core.proofs.Words.{given, inl, inr, length, length-append, length-map, length-set, length_permutation}
 use Rattle.merge_core.proofs.Words.{map, nil_from_length, not-true, queued, refl, set, set-get_or, stays, suc, sym}
 use Rattle.merge_core.proofs.Words.{true, waiting_pair, waits_of, zero}
 use Rattle.std.proofs.Common.{take_all}
+use Rattle.std.proofs.lemmas.Bool.{cases_lt}
 use Rattle.merge_core.proofs.FeedLemmas.{filter_passes}
 use Rattle.merge_core.proofs.GroupLemmas.{filter_all}
 use Rattle.merge_core.proofs.HeapLemmas.{each_permuted, waits_beside, waits_here, waits_other, waits_permuted, waits_queued}
-use Rattle.merge_core.proofs.Many.{each_replaced}
 
 pub any_of : {X : Type 0} (xs : List X) (i : ℕ) → i < length xs → X
 any_of [] i l = absurd (omega arith)
@@ -29,12 +30,6 @@ pub zip_put : {A B : Type 0} (R : A → B → Type 0) (xs : List A) (ys : List B
 zip_put R (a ∷ xs) (b ∷ ys) (suc i) x y h r = (h.0, zip_put R xs ys i x y h.1 r)
 zip_put R xs ys i x y h r = grind arith
 
-set_last : {X : Type 0} (xs : List X) (x y : X) (i : ℕ) → i ≡ length xs → set (xs ++ x ∷ []) i y ≡ xs ++ y ∷ []
-set_last [] x y zero e = refl
-set_last [] x y (suc i) e = absurd (omega arith)
-set_last (z ∷ xs) x y zero e = absurd (omega arith)
-set_last (z ∷ xs) x y (suc i) e = ap (λ l. z ∷ l) (set_last xs x y i (omega arith))
-
 -- ---- the feeds
 
 pub feeds_long : (n : ℕ) (cs : List CursorState) (ws : List WaitingLine) → length (feeds_from n cs ws) ≡ length cs
@@ -52,16 +47,21 @@ feed_at n zero m (x ∷ cs) ws c b e l = grind arith
 feed_at n (suc i) m (x ∷ cs) ws c b e l = feed_at (n + 1) i m cs ws c b (omega arith) (omega arith)
 feed_at n i m [] ws c b e l = absurd (omega arith)
 
--- where the waiting lines of all sources but one stay the same
-feeds_other : (n i : ℕ) (cs : List CursorState) (ws ws' : List WaitingLine) → i < n
-    → ((j : ℕ) → j ≢ i → waits_of j ws' ≡ waits_of j ws) → feeds_from n cs ws' ≡ feeds_from n cs ws
-feeds_other n i [] ws ws' l same = refl
-feeds_other n i (c ∷ cs) ws ws' l same = grind (arith, feeds_other (n + 1) i cs ws ws' (omega arith) same)
+-- where the waiting lines of these sources stay the same
+feeds_same : (n : ℕ) (cs : List CursorState) (ws ws' : List WaitingLine)
+    → ((j : ℕ) → n ≤ j → j < n + length cs → waits_of j ws' ≡ waits_of j ws) → feeds_from n cs ws' ≡ feeds_from n cs ws
+feeds_same n [] ws ws' same = refl
+feeds_same n (c ∷ cs) ws ws' same =
+    let here = same n (omega arith) (omega arith) in
+    let rest = feeds_same (n + 1) cs ws ws' (λ j a b. same j (omega arith) (omega arith)) in
+    grind arith
 
 feeds_set : (n i m : ℕ) (cs : List CursorState) (ws ws' : List WaitingLine) (c : CursorState) → m ≡ n + i
     → ((j : ℕ) → j ≢ m → waits_of j ws' ≡ waits_of j ws)
     → feeds_from n (set cs i c) ws' ≡ set (feeds_from n cs ws) i (feed_of c (waits_of m ws'))
-feeds_set n zero m (x ∷ cs) ws ws' c e same = grind (arith, feeds_other)
+feeds_set n zero m (x ∷ cs) ws ws' c e same =
+    let rest = feeds_same (n + 1) cs ws ws' (λ j a b. same j (λ q. absurd (omega arith))) in
+    grind arith
 feeds_set n (suc i) m (x ∷ cs) ws ws' c e same =
     let here = same n (λ q. absurd (omega arith)) in
     let rest = feeds_set (n + 1) i m cs ws ws' c (omega arith) same in
@@ -75,49 +75,11 @@ feeds_push n (x ∷ cs) ws c =
     let e : n + 1 + length cs ≡ n + length (x ∷ cs) = omega arith in
     rw (← e) (ap (λ l. feed_of x (waits_of n ws) ∷ l) (feeds_push (n + 1) cs ws c))
 
--- at most one line of each waits
-abbrev pub AreFew : List Feed → Type 0
-AreFew = AllByRecursion (λ f. length f.waits ≤ 1)
-
-pub feeds_permuted : (n : ℕ) (cs : List CursorState) (ws ws' : List WaitingLine) → IsPermutation ws ws'
-    → AreFew (feeds_from n cs ws) → feeds_from n cs ws' ≡ feeds_from n cs ws
-feeds_permuted n [] ws ws' p few = refl
-feeds_permuted n (c ∷ cs) ws ws' p few =
-    let here = waits_permuted n ws ws' p few.0 in
-    let rest = feeds_permuted (n + 1) cs ws ws' p few.1 in
-    grind arith
-
-pub few_of_fed : (past : List ℕ → Bool) {S : Type 0} (device : Ghosts S) (ss : List S)
-    (fs : List Feed) → AreFed past device ss fs → AreFew fs
-few_of_fed past device (s ∷ ss) (f ∷ fs) h = (h.0.few, few_of_fed past device ss fs h.1)
-few_of_fed past device ss fs h = grind arith
-
--- a source's cursor moves, and these lines of it wait, where none did
-module _ (i : ℕ) (cs : List CursorState) (ws ws' : List WaitingLine) (c : CursorState) (new : List Member)
-    (none : waits_of i ws ≡ []) (most : length new ≤ 1) (p : IsPermutation (queued i new ++ ws) ws')
-    (few : AreFew (feeds_from 0 cs ws)) where
-  pub feeds_queued : feeds_from 0 (set cs i c) ws' ≡ set (feeds_from 0 cs ws) i (feed_of c new)
-  feeds_queued =
-      let here : waits_of i (queued i new ++ ws) ≡ new = rw (waits_queued i new ws, none) (append-nil new) in
-      let now = rw here at (feeds_set 0 i i cs ws (queued i new ++ ws) c (omega arith) (λ j. waits_beside i j new ws)) in
-      feeds_permuted 0 (set cs i c) (queued i new ++ ws) ws' p
-      (rw now (each_replaced (λ (f : Feed). length f.waits ≤ 1) (feeds_from 0 cs ws) i (feed_of c new) few most)) ∙ now
-
--- a source is added behind the others, and these lines of it wait
-pub feeds_added : (cs : List CursorState) (ws ws' : List WaitingLine) (c : CursorState) (new : List Member)
-    → waits_of (length cs) ws ≡ [] → length new ≤ 1 → IsPermutation (queued (length cs) new ++ ws) ws'
-    → AreFew (feeds_from 0 cs ws) → feeds_from 0 (cs ++ c ∷ []) ws' ≡ feeds_from 0 cs ws ++ feed_of c new ∷ []
-feeds_added cs ws ws' c new none most p few =
-    let i = length cs in
-    let fs = feeds_from 0 cs ws in
-    let start : 0 + length cs ≡ length cs = omega arith in
-    let idle : feeds_from 0 (cs ++ c ∷ []) ws ≡ fs ++ feed_of c [] ∷ [] = rw (start, none) at (feeds_push 0 cs ws c) in
-    let few_now : AreFew (feeds_from 0 (cs ++ c ∷ []) ws) =
-    rw idle (each_join (λ (f : Feed). length f.waits ≤ 1) fs (feed_of c [] ∷ []) few (omega arith, tt)) in
-    let now = feeds_queued i (cs ++ c ∷ []) ws ws' c new none most p few_now in
-    let left = set_last cs c c i refl in
-    let right = set_last fs (feed_of c []) (feed_of c new) i (sym (feeds_long 0 cs ws)) in
-    rw (left, idle, right) at now
+-- none of a later source waits
+waits_none : (n : ℕ) (ws : List WaitingLine) → AllByRecursion (λ (w : WaitingLine). w.source < n) ws → waits_of n ws
+    ≡ []
+waits_none n [] h = refl
+waits_none n (w ∷ ws) h = grind (arith, waits_other, waits_none n ws h.1)
 
 pub placed_queued : (n i : ℕ) (ws ws' : List WaitingLine) (new : List Member) → i < n
     → AllByRecursion (λ (w : WaitingLine). w.source < n) ws → IsPermutation (queued i new ++ ws) ws'
@@ -140,10 +102,13 @@ module _ {past : List ℕ → Bool} {text : Option (List ℕ)} {extent : ℕ} {f
     (fed : Fed past text extent f) (one : f.waits ≡ m ∷ []) where
   module _ (t : List ℕ) (e : text ≡ Some t) where
     its_last : (given t f.cursor ≡ done past t f ++ m ∷ []) × (stays past m ≡ true)
-    its_last = elim (fed.told t e).last [
-      | inl k ↦ (k.0 ∙ ap (λ l. done past t f ++ l) one, (rw one at k.1).0)
-      | inr k ↦ let none = k.0 in absurd (cc)
-    ]
+    its_last = let told = fed.told t e in alone told.late told.one (sym one ∙ told.waiting) told.split
+      where
+        alone : (late : List Member) → length late ≤ 1 → m ∷ [] ≡ filter (stays past) late
+            → given t f.cursor ≡ done past t f ++ late
+            → (given t f.cursor ≡ done past t f ++ m ∷ []) × (stays past m ≡ true)
+        alone (k ∷ []) few waiting split = grind arith
+        alone late few waiting split = grind (arith, nil_from_length)
 
     -- then it counts as taken
     done_idle : done past t (idle f) ≡ done past t f ++ m ∷ []
@@ -166,7 +131,10 @@ module _ {past : List ℕ → Bool} {text : Option (List ℕ)} {extent : ℕ} {f
           stood = was.stood;
           as_many = was.as_many;
           run = was.run;
-          last = inl (rw (done_idle t e) ((its_last t e).0 ∙ sym (append-nil _)), tt);
+          late = [];
+          split = rw (done_idle t e) ((its_last t e).0 ∙ sym (append-nil _));
+          one = omega arith;
+          waiting = refl;
         };
   }
 
@@ -176,9 +144,6 @@ module _ {past : List ℕ → Bool} {S : Type 0} {device : Ghosts S} {ss : List 
     {m : MergeState} (was : Aligned past device ss m) where
   pub long_of : length ss ≡ length (feeds m)
   long_of = let same = was.same in grind (arith, feeds_long)
-
-  few : AreFew (feeds m)
-  few = few_of_fed past device ss (feeds m) was.fed
 
   pub fed_at : (i : ℕ) (a : S) (b : Feed) → i < length ss
       → Fed past (device.text (get_or ss i a)) (device.extent (get_or ss i a)) (get_or (feeds m) i b)
@@ -190,10 +155,43 @@ module _ {past : List ℕ → Bool} {S : Type 0} {device : Ghosts S} {ss : List 
       let c = any_of m.cursors.items i (omega arith) in
       ap (λ (f : Feed). f.waits) (feed_at 0 i i m.cursors.items m.queue c b (omega arith) (omega arith))
 
-  pub few_wait : (i : ℕ) → i < length ss → length (waits_of i m.queue) ≤ 1
-  few_wait i l =
-      let b : Feed = feed_of (any_of m.cursors.items i (let same = was.same in omega arith)) [] in
-      rw (waits_at i b l) at (fed_at i (any_of ss i l) b l).few
+  -- at most one line of each source waits
+  pub few_wait : (i : ℕ) → length (waits_of i m.queue) ≤ 1
+  few_wait i = elim (cases_lt i (length ss)) [
+    | inl l ↦
+        let b : Feed = feed_of (any_of m.cursors.items i (let same = was.same in omega arith)) [] in
+        rw (waits_at i b l) at (fed_at i (any_of ss i l) b l).few
+    | inr l ↦
+        let none = waits_none i m.queue
+        (each_weaker (λ (w : WaitingLine) (h : w.source < length m.cursors.items). let same = was.same in omega arith) m.queue was.placed) in
+        omega (arith, ap length none)
+  ]
+
+  -- these lines of a source wait now, of which none waited
+  module _ (i : ℕ) (none : waits_of i m.queue ≡ []) (new : List Member) (most : length new ≤ 1) (queue : List WaitingLine)
+      (p : IsPermutation (queued i new ++ m.queue) queue) where
+    queued_here : waits_of i queue ≡ new
+    queued_here =
+        let is : waits_of i (queued i new ++ m.queue) ≡ new = rw (waits_queued i new m.queue, none) (append-nil new) in
+        waits_permuted i (queued i new ++ m.queue) queue p (rw is most) ∙ is
+
+    queued_beside : (j : ℕ) → j ≢ i → waits_of j queue ≡ waits_of j m.queue
+    queued_beside j other =
+        let is = waits_beside i j new m.queue other in
+        waits_permuted j (queued i new ++ m.queue) queue p (rw is (few_wait j)) ∙ is
+
+  -- a source is added behind the others, and these lines of it wait
+  pub feeds_added : (c : CursorState) (new : List Member) (queue : List WaitingLine) → length new ≤ 1
+      → IsPermutation (queued (length m.cursors.items) new ++ m.queue) queue
+      → feeds_from 0 (m.cursors.items ++ c ∷ []) queue ≡ feeds m ++ feed_of c new ∷ []
+  feeds_added c new queue most p =
+      let i = length m.cursors.items in
+      let none = waits_none i m.queue was.placed in
+      let here = queued_here i none new most queue p in
+      let others = feeds_same 0 m.cursors.items m.queue queue
+      (λ j a b. queued_beside i none new most queue p j (λ e. absurd (omega arith))) in
+      let start : 0 + length m.cursors.items ≡ i = omega arith in
+      rw (start, here, others) at (feeds_push 0 m.cursors.items queue c)
 
   pub aligned_set : (i : ℕ) (s : S) (f : Feed) (m' : MergeState) → feeds m' ≡ set (feeds m) i f
       → length m'.cursors.items ≡ length m.cursors.items
@@ -215,13 +213,15 @@ module _ {past : List ℕ → Bool} {S : Type 0} {device : Ghosts S} {ss : List 
   pub inside_sources : w.source < length ss
   inside_sources = let l = placed.0 in let same = was.same in omega arith
 
+  still : (j : ℕ) → waits_of j (w ∷ m'.queue) ≡ waits_of j m.queue
+  still j = waits_permuted j m.queue (w ∷ m'.queue) p (few_wait was j)
+
   waits_now : waits_of w.source m.queue ≡ w.member ∷ waits_of w.source m'.queue
-  waits_now = sym (waits_permuted w.source m.queue (w ∷ m'.queue) p (few_wait was w.source inside_sources))
-      ∙ waits_here w.source w m'.queue refl
+  waits_now = sym (still w.source) ∙ waits_here w.source w m'.queue refl
 
   pub none_left : waits_of w.source m'.queue ≡ []
   none_left =
-      let few = few_wait was w.source inside_sources in
+      let few = few_wait was w.source in
       let now = waits_now in
       grind (arith, nil_from_length)
 
@@ -233,11 +233,10 @@ module _ {past : List ℕ → Bool} {S : Type 0} {device : Ghosts S} {ss : List 
       let i = w.source in
       let cs = m.cursors.items in
       let c = any_of cs i placed.0 in
-      let all = feeds_permuted 0 cs m.queue (w ∷ m'.queue) p (few was) in
       let here = feed_at 0 i i cs m.queue c b (omega arith) placed.0 in
-      let now = feeds_set 0 i i cs (w ∷ m'.queue) m'.queue (get_or cs i c) (omega arith)
-      (λ j q. sym (waits_other j w m'.queue (λ e. absurd (omega arith)))) in
-      let still = set-get_or cs i c in
+      let now = feeds_set 0 i i cs m.queue m'.queue (get_or cs i c) (omega arith)
+      (λ j q. sym (waits_other j w m'.queue (λ e. absurd (omega arith))) ∙ still j) in
+      let kept = set-get_or cs i c in
       let none = none_left in
       grind arith
 
@@ -305,7 +304,10 @@ module _ {past : List ℕ → Bool} {S : Type 0} {device : Ghosts S} {ss : List 
   module _ (m' : MergeState) (c : CursorState) (cursors : m'.cursors.items ≡ set m.cursors.items i c) (new : List Member)
       (p : IsPermutation (queued i new ++ m.queue) m'.queue) where
     pub waited_feeds : length new ≤ 1 → feeds m' ≡ set (feeds m) i (feed_of c new)
-    waited_feeds most = rw cursors (feeds_queued i m.cursors.items m.queue m'.queue c new none_waits_here most p (few was))
+    waited_feeds most =
+        let now = feeds_set 0 i i m.cursors.items m.queue m'.queue c (omega arith)
+        (queued_beside was i none_waits_here new most m'.queue p) in
+        rw cursors (rw (queued_here was i none_waits_here new most m'.queue p) at now)
 
     pub waited_aligned : (s : S) → Fed past (device.text s) (device.extent s) (feed_of c new)
         → Aligned past device (set ss i s) m'

@@ -1,10 +1,11 @@
 -- Sources of which all lines were read: each that tells its bytes is an index, and all its lines are done.
-use Rattle.merge_core.proofs.Words.{[], ℕ, ◌++◌, ◌∙◌, ◌∷◌, ◌≡◌, AllByRecursion, AllMoved, AllZip, AreFed, AreSettled}
+use Rattle.merge_core.proofs.Words.{[], ℕ, ◌∙◌, ◌∷◌, ◌≡◌, AllByRecursion, AllMoved, AllZip, AreFed, AreSettled}
 use Rattle.merge_core.proofs.Words.{Bool, Fed, Feed, Ghosts, IsIndex, IsSettled, KeepsSources, LINE_LIMIT, List}
 use Rattle.merge_core.proofs.Words.{Member, MergeState, Option, Some, all_done, ap, append-nil, arith, done, drop}
 use Rattle.merge_core.proofs.Words.{false, feeds, flat_map, given, inl, inr, is_some, length, length-drop, lines, map}
-use Rattle.merge_core.proofs.Words.{nil_from_length, refl, sym, take_all, text_or, true, true≢false, zip}
+use Rattle.merge_core.proofs.Words.{nil_from_length, not, refl, stays, sym, take_all, text_or, true, true≢false, zip}
 use Rattle.merge_core.proofs.StateLemmas.{feeds_long}
+use Rattle.merge_core.proofs.GroupLemmas.{filter_all}
 use Rattle.merge_core.proofs.Many.{Move}
 
 module _ (past : List ℕ → Bool) (never : (key : List ℕ) → past key ≡ false) where
@@ -15,6 +16,10 @@ module _ (past : List ℕ → Bool) (never : (key : List ℕ) → past key ≡ f
     | inr last ↦ absurd (true≢false (sym last.3 ∙ never last.1.values.key))
   ]
 
+  each_stays : (ms : List Member) → AllByRecursion (λ m. stays past m ≡ true) ms
+  each_stays [] = tt
+  each_stays (m ∷ ms) = (ap not (never m.values.key), each_stays ms)
+
   -- then it is an index
   index_read : {t : List ℕ} {extent : ℕ} {f : Feed} → f.cursor.start ≡ 0 → f.waits ≡ []
       → IsSettled past (Some t) f → Fed past (Some t) extent f → IsIndex LINE_LIMIT t (done past t f)
@@ -22,10 +27,8 @@ module _ (past : List ℕ → Bool) (never : (key : List ℕ) → past key ≡ f
       let told = fed.told t refl in
       let end = ended t f settled none in
       let stood = fed.stands.rest t refl in
-      let all : done past t f ≡ given t f.cursor = elim told.last [
-        | inl k ↦ sym (k.0 ∙ ap (λ l. done past t f ++ l) none ∙ append-nil _)
-        | inr k ↦ absurd (true≢false (sym k.3 ∙ never k.1.values.key))
-      ] in
+      let stay = filter_all (stays past) told.late (each_stays told.late) in
+      let all : done past t f ≡ given t f.cursor = grind (arith, append-nil) in
       grind (arith, take_all, length-drop {A = List ℕ})
 
   module _ {S : Type 0} (device : Ghosts S) where

@@ -62,16 +62,17 @@ module _ (past : List ℕ → Bool) where
   abbrev pub done : List ℕ → Feed → List Member
   done text f = filter (stays past) (take (f.cursor.count - length f.waits) (given text f.cursor))
 
-  -- What is known of a source with this text: its lines that were read are those that were taken and those that wait,
-  -- or the last of them lies past the range.
+  -- What is known of a source with this text: its lines that were read are those that were taken and one more at most,
+  -- which waits unless it lies past the range.
   pub record FedOf (text : List ℕ) (f : Feed) : Type 0 where
     pub begins : IsLineStart text f.cursor.start
     pub stood : f.cursor.at ≤ f.cursor.start + bytes_of (read_lines text f.cursor)
     pub as_many : length (read_lines text f.cursor) ≡ f.cursor.count
     pub run : IsRun LINE_LIMIT (read_lines text f.cursor) (given text f.cursor)
-    pub last : ((given text f.cursor ≡ done text f ++ f.waits) × AllByRecursion (λ m. stays past m ≡ true) f.waits)
-        ⊎ ((f.waits ≡ []) × (m : Member) × (given text f.cursor ≡ done text f ++ m ∷ [])
-        × (past m.values.key ≡ true))
+    pub late : List Member
+    pub split : given text f.cursor ≡ done text f ++ late
+    pub one : length late ≤ 1
+    pub waiting : f.waits ≡ filter (stays past) late
 
   -- what holds of a feed beside its source
   pub record Fed (text : Option (List ℕ)) (extent : ℕ) (f : Feed) : Type 0 where

@@ -1,12 +1,11 @@
 //! The lines of a source that have one pair.
-ghost use Rattle.std.specs.Prelude.{[], Some, IfOk, IfErr};
+ghost use Rattle.std.specs.Prelude.{[], Some, IfOk};
 ghost use Rattle.source_core.specs.Device.{OverText};
 ghost use Rattle.cdxj_core.specs.Members.{member_pair};
 ghost use Rattle.merge_core.specs.BoxedLines.{boxed_option, boxed_lines};
-ghost use Rattle.merge_core.specs.Failures.{CountsFeed};
+ghost use Rattle.merge_core.specs.Failures.{TellsFeedFault};
 ghost use Rattle.merge_core.specs.Feeds.{Fed, Moved, feed_of};
 ghost use Rattle.merge_core.specs.Gathering.{IsDue, ReadGroup};
-ghost use Rattle.merge_core.specs.LineFaults.{NamesLine};
 ghost use Rattle.merge_core.specs.Spending.{ReadTo};
 
 use crate::fault::FeedFault;
@@ -34,13 +33,12 @@ impl LineBuffers {
         requires due { IsDue (R.past range.now) (member_pair first.now) (S.text source.old)
             (feed_of cursor.old []) }
         ensures moved { Moved S.Source source.old source.new cursor.old cursor.new }
-        ensures failures { CountsFeed S.Source result source.old source.new }
+        ensures fault { TellsFeedFault S.Source result source.old source.new }
         ensures read { IfOk result (λ o. ReadGroup (R.past range.now) (member_pair first.now)
             S.Source source.new cursor.old (feed_of cursor.new (boxed_option o))
             (boxed_lines rest.old.items) (boxed_lines rest.new.items)) }
         ensures most { OverText (S.text source.old) (λ t.
             ReadTo (R.past range.now) (Some (member_pair first.now)) t cursor.new) }
-        ensures fault { OverText (S.text source.old) (λ t. IfErr result (NamesLine t)) }
     {
         let mut begin = cursor.at();
         while let Some(line) = self.next_line(source, cursor)? {

@@ -1,10 +1,9 @@
 //! The merging of whole indexes.
-ghost use Rattle.std.specs.Prelude.{◌≤◌, ◌+◌, ℕ, length, map, IfOk, IfErr};
+ghost use Rattle.std.specs.Prelude.{◌≤◌, ◌+◌, ℕ, length, map, IfOk};
 ghost use Rattle.devices.specs.Device.{AppendsPrefix};
 ghost use Rattle.merge_core.specs.Collections.{KeepsSources, Merged, OverIndexes, OverTexts, collection};
 ghost use Rattle.merge_core.specs.Counts.{OverShares};
-ghost use Rattle.merge_core.specs.Failures.{CountsMerge};
-ghost use Rattle.merge_core.specs.LineFaults.{IsMergeFaultOf};
+ghost use Rattle.merge_core.specs.Failures.{TellsMergeFault};
 ghost use Rattle.merge_core.specs.SourceLines.{WritesLinesOf};
 ghost use Rattle.merge_core.specs.Spending.{AllGaveOnce};
 ghost use Rattle.merge_core.specs.Written.{lines_text};
@@ -39,8 +38,8 @@ pub fn merge_indexes<S: Source, O: Output>(
     out: &mut O,
 ) -> Result<MergedLines, MergeFault>
     ensures kept { KeepsSources S.Source sources.old sources.new }
-    ensures failures { CountsMerge S.Source O.Output result sources.old sources.new out.old out.new }
-    ensures fault { IfErr result (IsMergeFaultOf (map S.text sources.old)) }
+    ensures fault { TellsMergeFault S.Source O.Output result sources.old sources.new
+        out.old out.new }
     ensures merged { OverTexts (map S.text sources.old) (λ texts.
         IfOk result (λ merged. Merged texts (O.written out.old) (O.written out.new) merged.count)) }
     ensures part { OverIndexes (map S.text sources.old) (λ texts indexes.

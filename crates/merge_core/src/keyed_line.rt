@@ -4,7 +4,6 @@ ghost use Rattle.cdxj_core.specs.Members.{member_pair};
 ghost use Rattle.cdxj_places.specs.Pairs.{pair_cmp};
 ghost use Rattle.merge_core.specs.PairStarts.{IsStart};
 
-use crate::pair::compare_pairs;
 use crate::pair_start::{PairStart, pair_start};
 use cdxj_core::Line;
 use std::cmp::Ordering;
@@ -52,7 +51,7 @@ impl<'a> KeyedLine<'a> {
         ensures { result ≡ pair_cmp (member_pair self.now) (member_pair other.now) }
     {
         match self.pair_start.cmp(&other.pair_start) {
-            Ordering::Equal => compare_pairs(self.line, other.line),
+            Ordering::Equal => self.line.pair().cmp(&other.line.pair()),
             decided => decided,
         }
     }

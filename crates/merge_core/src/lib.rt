@@ -12,7 +12,6 @@ mod line_queue;
 mod line_writer;
 mod merging;
 mod opening;
-mod pair;
 mod pair_start;
 mod queued_line;
 mod range;

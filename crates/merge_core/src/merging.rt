@@ -1,8 +1,7 @@
 //! The merging of several sources.
-ghost use Rattle.std.specs.Prelude.{◌≡◌, ◌+◌, [], length, map, IfErr};
+ghost use Rattle.std.specs.Prelude.{◌≡◌, ◌+◌, [], length, map};
 ghost use Rattle.merge_core.specs.Counts.{OverShares, StaysWithin};
-ghost use Rattle.merge_core.specs.Failures.{CountsMerge};
-ghost use Rattle.merge_core.specs.LineFaults.{IsMergeFaultOf};
+ghost use Rattle.merge_core.specs.Failures.{TellsMergeFault};
 ghost use Rattle.merge_core.specs.Feeds.{AllMoved, Ready, feeds};
 ghost use Rattle.merge_core.specs.Gathering.{all_done};
 ghost use Rattle.merge_core.specs.Merging.{EndedMerge};
@@ -29,8 +28,8 @@ pub fn merge<S: Source, R: Range, K: Sink, O: Output>(
     requires ready { Ready (R.past range.now) S.Source sources.old merge.old }
     requires fresh { all_done (R.past range.now) S.text sources.old (feeds merge.old) ≡ [] }
     ensures moved { AllMoved S.Source sources.old merge.old sources.new merge.new }
-    ensures failures { CountsMerge S.Source O.Output result sources.old sources.new out.old out.new }
-    ensures fault { IfErr result (IsMergeFaultOf (map S.text sources.old)) }
+    ensures fault { TellsMergeFault S.Source O.Output result sources.old sources.new
+        out.old out.new }
     ensures most_lines { OverShares (map S.text sources.old) (λ most.
         StaysWithin (length sources.old + most) merge.old.most_lines merge.new.most_lines) }
     ensures ended { EndedMerge K.Sink (R.past range.now) S.Source sources.old merge.old sink.old

@@ -1,15 +1,14 @@
 //! The opening of sources at a key and stamp.
 ghost use Rattle.source_core.specs.Device.{OverText};
-ghost use Rattle.std.specs.Prelude.{◌≡◌, ◌+◌, ◌*◌, ◌≤◌, map, IfOk, IfErr, OnOk};
+ghost use Rattle.std.specs.Prelude.{◌≡◌, ◌+◌, ◌*◌, ◌≤◌, IfOk, OnOk};
 ghost use Rattle.cdxj_places.specs.Pairs.{IsLeast};
 ghost use Rattle.cdxj_places.specs.PairViews.{pair_view};
-ghost use Rattle.source_core.specs.Cursors.{IsFresh, reach};
+ghost use Rattle.source_core.specs.Cursors.{reach};
 ghost use Rattle.source_core.specs.Halving.{digits};
-ghost use Rattle.source_core.specs.IndexLines.{IsLineStart, lines, longest};
-ghost use Rattle.source_core.specs.Reads.{StandsIn};
+ghost use Rattle.source_core.specs.IndexLines.{lines, longest};
+ghost use Rattle.source_core.specs.Reads.{BeginsIn};
 ghost use Rattle.merge_core.specs.Failures.{FeedsFrom, ReadsSources};
 ghost use Rattle.merge_core.specs.Feeds.{Moved};
-ghost use Rattle.merge_core.specs.LineFaults.{NamesLine, IsMergeFaultOf};
 ghost use Rattle.merge_core.specs.Spending.{AllOpenedWithin, AllGaveOnce, GaveOnce, OpenedWithin, search_steps};
 
 use crate::fault::{FeedFault, MergeFault};
@@ -33,17 +32,15 @@ impl MergeState {
     ghost use Rattle.merge_core.specs.Openings.{AddedSource, Begun, OpenedAt};
 
     /// Adds a source, and reads the first line after the cursor.
+    #[tactic(auto, using(source_core::proofs::LongestLines::first_most, source_core::proofs::LongestLines::longest_drop))]
     fn add<S: Source, R: Range>(
         &mut self,
         source: &mut S,
         mut cursor: Cursor,
         range: &R,
     ) -> Result<(), FeedFault>
-        requires stands { StandsIn S.Source source.old cursor }
-        requires fresh { IsFresh cursor cursor.start }
-        requires begins { OverText (S.text source.old) (λ t. IsLineStart t cursor.start) }
+        requires { BeginsIn S.Source source.old cursor }
         ensures source { FeedsFrom S.Source result source.old source.new }
-        ensures fault { OverText (S.text source.old) (λ t. IfErr result (NamesLine t)) }
         ensures most_lines { self.new.most_lines ≡ self.old.most_lines }
         ensures added { OnOk result (AddedSource (R.past range.now) S.Source source.new
             (Moved S.Source source.old source.new cursor) self.old self.new) }
@@ -71,7 +68,6 @@ impl MergeState {
     ) -> Result<u64, FeedFault>
         ensures source { FeedsFrom S.Source result source.old source.new }
         ensures probes { IfOk result (λ n. n ≤ digits (S.extent source.old)) }
-        ensures fault { OverText (S.text source.old) (λ t. IfErr result (NamesLine t)) }
         ensures most_lines { self.new.most_lines ≡ self.old.most_lines }
         ensures added { OnOk result (AddedSource (R.past range.now) S.Source source.new
             (OpenedAt S.Source (pair_view start.entry) source.old source.new) self.old self.new) }
@@ -99,7 +95,6 @@ impl MergeState {
             sources.new }
         ensures begun { IfOk result (λ o. Begun (R.past range.now) S.Source (pair_view start.entry)
             sources.old sources.new o.merge) }
-        ensures fault { IfErr result (IsMergeFaultOf (map S.text sources.old)) }
         ensures probes { IfOk result (λ o. o.probes ≤ search_steps S.Source sources.old) }
     {
         let mut merge = MergeState {

@@ -1,11 +1,10 @@
 //! The state of a merge.
-ghost use Rattle.std.specs.Prelude.{◌≡◌, ◌+◌, ◌-◌, ◌^◌, ◌<◌, [], length, map, max, min, Option, Some, IfErr, OnOk};
+ghost use Rattle.std.specs.Prelude.{◌≡◌, ◌+◌, ◌-◌, ◌^◌, ◌<◌, [], length, map, max, min, Option, Some, OnOk};
 ghost use Rattle.std.specs.List.{sum};
 ghost use Rattle.cdxj_core.specs.Members.{member_pair};
 ghost use Rattle.merge_core.specs.BoxedLines.{boxed_option, boxed_lines};
 ghost use Rattle.merge_core.specs.WaitingLines.{Enqueues, queued};
-ghost use Rattle.merge_core.specs.Failures.{CountsReads};
-ghost use Rattle.merge_core.specs.LineFaults.{IsMergeFaultOf};
+ghost use Rattle.merge_core.specs.Failures.{TellsReadFault};
 
 use crate::fault::MergeFault;
 use crate::keyed_line::KeyedLine;
@@ -41,10 +40,9 @@ impl MergeState {
         line: Option<Box<Line>>,
         source: usize,
     ) -> Result<(), AllocError>
-        ensures cursors { self.new.cursors.items ≡ self.old.cursors.items }
+        ensures kept { self.new ≡ record self.old { queue = self.new.queue } }
         ensures queue { Enqueues result (queued source (boxed_option line)) self.old.queue
             self.new.queue }
-        ensures most_lines { self.new.most_lines ≡ self.old.most_lines }
     {
         match line {
             Some(line) => self.queue.push(QueuedLine::new(line, source)),
@@ -66,8 +64,7 @@ impl MergeState {
         requires due { IsDueAt (R.past range.now) S.text (member_pair first.now) i sources.old
             self.old }
         ensures moved { AllMoved S.Source sources.old self.old sources.new self.new }
-        ensures failures { CountsReads S.Source result sources.old sources.new }
-        ensures fault { IfErr result (IsMergeFaultOf (map S.text sources.old)) }
+        ensures fault { TellsReadFault S.Source result sources.old sources.new }
         ensures read { OnOk result (ReadOn (R.past range.now) S.Source (member_pair first.now) i
             sources.old self.old sources.new self.new (boxed_lines rest.old.items)
             (boxed_lines rest.new.items)) }
@@ -97,8 +94,7 @@ impl MergeState {
         requires ready { Ready (R.past range.now) S.Source sources.old self.old }
         requires empty { rest.old.items ≡ [] }
         ensures moved { AllMoved S.Source sources.old self.old sources.new self.new }
-        ensures failures { CountsReads S.Source result sources.old sources.new }
-        ensures fault { IfErr result (IsMergeFaultOf (map S.text sources.old)) }
+        ensures fault { TellsReadFault S.Source result sources.old sources.new }
         ensures ready { OnOk result (Ready (R.past range.now) S.Source sources.new self.new) }
         ensures gathered { EndedGroup (R.past range.now) S.Source sources.old self.old result
             sources.new self.new (boxed_lines rest.new.items) }
@@ -123,8 +119,10 @@ impl MergeState {
 
     /// Counts the lines that are held, and recycles the buffers of those that were passed on.
     pub fn recycle(&mut self, first: Box<Line>, rest: &mut Vec<Box<Line>>)
-        ensures cursors { self.new.cursors.items ≡ self.old.cursors.items }
-        ensures queue { self.new.queue ≡ self.old.queue }
+        ensures kept { self.new ≡ record self.old {
+          buffers = self.new.buffers;
+          most_lines = self.new.most_lines;
+        } }
         ensures rest { rest.new.items ≡ [] }
         ensures most_lines { self.new.most_lines
             ≡ max self.old.most_lines (min (length self.old.queue + 1 + length rest.old.items)

@@ -10,7 +10,7 @@ use Rattle.source_core.specs.Halved.{Halved, HalvedIn}
 use Rattle.source_core.specs.Halving.{digits, stops}
 use Rattle.source_core.specs.Search.{line_below, IsCut, IsStop}
 use Rattle.source_core.specs.declared.seeking.Span.{Span}
-use Rattle.source_core.proofs.FarLines.{far_first, far_here, far_longest}
+use Rattle.source_core.proofs.LongestLines.{far_first, far_here, far_longest}
 use Rattle.source_core.proofs.Halves.{digits_below, from_line_end, half_step}
 use Rattle.source_core.proofs.SortedCuts.{begins_there, cut_there, lines_are_short}
 

@@ -7,8 +7,16 @@ use Rattle.std.specs.Prelude.{ltb}
 use Rattle.std.proofs.lemmas.List.{drop-take, drop_all, take-take}
 use Rattle.source_core.specs.Windows.{AreBytesAt, HeldBytes, Holds, held_from}
 use Rattle.source_core.specs.LineParts.{BeginsWith, PartOf, ReadsOn}
+use Rattle.source_core.specs.declared.source.Source.{Ghosts}
 use Rattle.source_core.proofs.FrontLemmas.{reads_on}
 use Rattle.source_core.proofs.Parts.{given_out}
+
+-- a source was read and did not fail, and the window holds bytes of it
+pub record HasRead {S : Type 0} (device : Ghosts S) (old new : S) (window : HeldBytes) : Type 0 where
+  pub text : device.text new ≡ device.text old
+  pub extent : device.extent new ≡ device.extent old
+  pub failures : device.failures new ≡ device.failures old
+  pub holds : Holds (device.text new) (device.extent new) window
 
 pub none_held : (text : Option (List ℕ)) (extent at : ℕ) → at ≤ extent → AreBytesAt text extent at []
 none_held text extent at inside = grind arith

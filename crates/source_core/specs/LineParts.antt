@@ -1,5 +1,6 @@
 -- Parts of lines.
-use Rattle.std.specs.Prelude.{◌≡◌, ℕ, ◌+◌, List, [], ◌∷◌, ◌++◌, length, take, drop, Bool, true, false, nat_eq}
+use Rattle.std.specs.Prelude.{◌≡◌, ℕ, ◌+◌, ◌<◌, ◌≤◌, List, [], ◌∷◌, ◌++◌, length, take, drop, Bool, true, false, nat_eq}
+use Rattle.std.specs.Prelude.{Option, Some}
 use Rattle.std.specs.List.{AllByRecursion}
 use Rattle.cdxj_places.specs.TextLines.{lines}
 
@@ -21,3 +22,15 @@ pub record BeginsWith (text : List ℕ) (offset : ℕ) (front : List ℕ) : Type
 abbrev pub ReadsOn : List ℕ → ℕ → List ℕ → Bool → Type 0
 ReadsOn text offset front true = lines (drop offset text) ≡ front ∷ lines (drop (offset + length front) text)
 ReadsOn text offset front false = BeginsWith text offset front
+
+-- these first bytes of the line are held of a source, and whether they are all of it
+pub record IsFront (text : Option (List ℕ)) (extent offset : ℕ) (front : List ℕ) (ends : Bool) : Type 0 where
+  pub within : offset + length front ≤ extent
+  pub short : length front ≤ 8192
+  pub reads : (t : List ℕ) → text ≡ Some t → ReadsOn t offset front ends
+
+-- more first bytes of the line were read, no more than so many, and none beyond the source's end
+pub record FrontGrows (extent offset wanted : ℕ) (old new : List ℕ) : Type 0 where
+  pub within : offset + length new ≤ extent
+  pub some : length old < length new
+  pub most : length new ≤ wanted

@@ -6,14 +6,13 @@ ghost use Rattle.cdxj_core.specs.Indexes.{IsIndex};
 ghost use Rattle.cdxj_core.specs.Members.{Member};
 ghost use Rattle.cdxj_places.specs.Pairs.{IsLeast};
 ghost use Rattle.cdxj_places.specs.PairViews.{pair_view};
-ghost use Rattle.source_core.specs.IndexLines.{IsLineStart, lines, from_line, longest, BeginsFrom, IsAmong};
-ghost use Rattle.source_core.specs.Reads.{StandsIn};
+ghost use Rattle.source_core.specs.IndexLines.{lines, from_line, longest, BeginsFrom, IsAmong};
+ghost use Rattle.source_core.specs.Reads.{BeginsIn};
 ghost use Rattle.source_core.specs.Search.{line_below, IsStop, IsCut, SearchesOver, SearchesSource};
 ghost use Rattle.source_core.specs.Halving.{stops, stops_lines, digits};
 ghost use Rattle.source_core.specs.Halved.{Halved};
-ghost use Rattle.source_core.specs.LineParts.{BeginsWith, ReadsOn};
+ghost use Rattle.source_core.specs.LineParts.{BeginsWith, FrontGrows, IsFront, ReadsOn};
 ghost use Rattle.source_core.specs.Windows.{Holds};
-ghost use Rattle.source_core.specs.Cursors.{IsFresh};
 
 use crate::cursor::Cursor;
 use crate::fault::SearchFault;
@@ -41,13 +40,8 @@ pub struct Found {
 /// Copies the bytes that the window holds of the line that begins at the offset into `front`, whose previous bytes are
 /// dropped. Returns `true` if the line ends with them.
 fn held_front(window: &Window, offset: u64, front: &mut Vec<u8>) -> Result<bool, AllocError>
-    ensures within { (text : Option (List ℕ)) → (extent : ℕ) → Holds text extent window.now
-        → offset ≤ extent → OnOk result (offset + length front.new.items ≤ extent) }
-    ensures short { (text : Option (List ℕ)) → (extent : ℕ) → Holds text extent window.now
-        → OnOk result (length front.new.items ≤ 8192) }
-    ensures reads { (text : Option (List ℕ)) → (extent : ℕ) → Holds text extent window.now
-        → offset ≤ extent → (t : List ℕ) → text ≡ Some t
-        → IfOk result (λ ends. ReadsOn t offset front.new.items ends) }
+    ensures { (text : Option (List ℕ)) → (extent : ℕ) → Holds text extent window.now
+        → offset ≤ extent → IfOk result (IsFront text extent offset front.new.items) }
 {
     let held = window.from(offset);
     let (length, ends) = line_part(held);
@@ -69,9 +63,8 @@ fn read_on<S: Source>(
     requires room { most ≤ 8192 }
     requires inside { offset + length front.old.items < S.extent source.old }
     ensures source { SearchesOver S.Source result source.old source.new window.new }
-    ensures within { OnOk result (offset + length front.new.items ≤ S.extent source.old) }
-    ensures some { OnOk result (length front.old.items < length front.new.items) }
-    ensures most { OnOk result (length front.new.items ≤ length front.old.items + most) }
+    ensures grows { OnOk result (FrontGrows (S.extent source.old) offset
+        (length front.old.items + most) front.old.items front.new.items) }
     ensures reads { OverText (S.text source.old) (λ t. BeginsWith t offset front.old.items
         → IfOk result (λ ends. ReadsOn t offset front.new.items ends)) }
     ensures gave { S.gave source.new ≤ S.gave source.old + most }
@@ -101,9 +94,8 @@ fn read_to<S: Source>(
     requires inside { offset + length front.old.items < S.extent source.old }
     requires more { length front.old.items < wanted }
     ensures source { SearchesOver S.Source result source.old source.new window.new }
-    ensures within { OnOk result (offset + length front.new.items ≤ S.extent source.old) }
-    ensures some { OnOk result (length front.old.items < length front.new.items) }
-    ensures most { OnOk result (length front.new.items ≤ wanted) }
+    ensures grows { OnOk result (FrontGrows (S.extent source.old) offset wanted
+        front.old.items front.new.items) }
     ensures reads { OverText (S.text source.old) (λ t. BeginsWith t offset front.old.items
         → IfOk result (λ ends. ReadsOn t offset front.new.items ends)) }
     ensures gave { OverText (S.text source.old) (λ t. BeginsWith t offset front.old.items
@@ -315,14 +307,10 @@ pub fn search<S: Source>(
     start: Pair<'_>,
 ) -> Result<Found, SearchFault>
     ensures source { SearchesSource S.Source result source.old source.new }
-    ensures stands { IfOk result (λ found. StandsIn S.Source source.new found.cursor) }
-    ensures fresh { IfOk result (λ found. IsFresh found.cursor found.cursor.start) }
-    ensures within { IfOk result (λ found. found.cursor.start ≤ S.extent source.old) }
+    ensures begins { IfOk result (λ found. BeginsIn S.Source source.new found.cursor) }
     ensures first { IsLeast (pair_view start.entry)
         → IfOk result (λ found. found.cursor.start ≡ 0) }
     ensures unread { IsLeast (pair_view start.entry) → source.new ≡ source.old }
-    ensures begins { OverText (S.text source.old) (λ t. IfOk result (λ found.
-        IsLineStart t found.cursor.start)) }
     ensures stops { OverText (S.text source.old) (λ t.
         IfOk result (λ found.
         IsStop LINE_LIMIT (pair_view start.entry) (lines (drop found.cursor.start t)))) }

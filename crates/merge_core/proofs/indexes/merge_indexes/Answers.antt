@@ -143,8 +143,7 @@ returns g c =
     let kept = kept g at.After-merge in
     record {
       kept = kept;
-      failures = grind arith;
-      fault = grind arith;
+      fault = record { counts = grind arith; names = grind arith };
       merged = λ texts known.
           let lines = its_lines never (λ key. refl) device sources (feeds m) in
           let empty : m.queue ≡ [] = grind (arith, cases_Bool) in

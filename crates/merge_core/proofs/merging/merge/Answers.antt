@@ -80,7 +80,7 @@ loop-rest-init g c = record {
 pub loop-rest-preserved : goal.loop-rest-preserved
 loop-rest-preserved g c =
     let here = (goal.at.loop-rest-preserved g c).After-pass_group in
-    let now = reached_same c.recycle.new.self c.recycle.ensures.cursors c.recycle.ensures.queue (reached g here) in
+    let now = reached_same c.recycle.new.self c.recycle.ensures.kept (reached g here) in
     let few = most_lines g here c.recycle.new.self.most_lines c.recycle.ensures.most_lines in
     grind arith
 
@@ -98,8 +98,10 @@ returns-in_err-first g c =
     c.loop-rest.merge c.requires.ready.aligned.same long came.reached.moved in
     record {
       moved = moved_trans device _ _ _ came.reached.moved c.gather.ensures.moved;
-      failures = grind arith;
-      fault = let fault = rw kept.0 at c.gather.ensures.fault in grind arith;
+      fault = record {
+        counts = grind arith;
+        names = let fault = rw kept.0 at c.gather.ensures.fault.names in grind arith;
+      };
       most_lines = rw c.gather.ensures.most_lines c.loop-rest.invariant.most_lines;
       ended = on_fault _ _ _ _ c.from_residual.ensures.1 (
         broken_there came refl,
@@ -114,8 +116,7 @@ returns-in_err-more g c =
     let gathered = grouped g here in
     record {
       moved = grind (arith, moved_trans);
-      failures = grind arith;
-      fault = grind arith;
+      fault = record { counts = grind arith; names = grind arith };
       most_lines = rw c.gather.ensures.most_lines c.loop-rest.invariant.most_lines;
       ended = on_fault _ _ _ _ c.from_residual-in_err-more.ensures.1 (
         elim c.in_err-more.ensures.passed [
@@ -144,12 +145,11 @@ returns-then-not-more g c =
     let here = (goal.at.returns-then-not-more g c).After-pass_group in
     let came = c.loop-rest.invariant.came in
     let gathered = grouped g here in
-    let now = reached_same c.recycle.new.self c.recycle.ensures.cursors c.recycle.ensures.queue (reached g here) in
+    let now = reached_same c.recycle.new.self c.recycle.ensures.kept (reached g here) in
     let above = gathered.above came.bound came.reached.above in
     record {
       moved = grind (arith, moved_trans);
-      failures = grind arith;
-      fault = grind arith;
+      fault = record { counts = grind arith; names = grind arith };
       most_lines = most_lines g here c.recycle.new.self.most_lines c.recycle.ensures.most_lines;
       ended = record {
         so_far = grind (arith, order);

@@ -22,7 +22,7 @@ stands : (g : Over) (c : After-min-count g)
     → AreBytesAt (g.S.Source.text c.hold.new.source) (g.S.Source.extent c.hold.new.source) c.loop-at.at
     c.from-held.result.now
 stands g c = rw c.from-held.ensures (held_stands _ _ c.hold.new.self c.loop-at.at (grind arith)
-    (omega (arith, c.in_ok-hold.ensures.source.0.1, c.loop-at.invariant.extent)))
+    (omega (arith, c.in_ok-hold.ensures.source.0.1, c.loop-at.invariant.read.extent)))
 
 -- and they are its text
 piece : (g : Over) (c : After-min-count g) (t : List ℕ) → g.S.Source.text c.args.source.now ≡ Some t
@@ -34,7 +34,7 @@ piece g c t e =
       is = inv.told t e;
       holds = grind (arith, common_steps);
       long = omega (arith, c.min-count.ensures);
-      inside = omega (arith, held.within, c.in_ok-hold.ensures.source.0.1, inv.extent, c.min-count.ensures);
+      inside = omega (arith, held.within, c.in_ok-hold.ensures.source.0.1, inv.read.extent, c.min-count.ensures);
       before = omega arith;
     }
 

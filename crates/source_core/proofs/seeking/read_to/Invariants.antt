@@ -1,16 +1,13 @@
 use Rattle.std.proofs.Common.{◌≡◌, ◌+◌, ◌-◌, ◌≤◌, ℕ, List, length, Some}
 use Rattle.source_core.specs.LineParts.{BeginsWith}
-use Rattle.source_core.specs.Windows.{Holds}
+use Rattle.source_core.proofs.WindowLemmas.{HasRead}
 use Rattle.source_core.proofs.seeking.read_to.Given as goal
 
 abbrev pub invariant-loop-front : goal.invariant-loop-front
 invariant-loop-front g l = record {
-  text : g.S.Source.text l.source ≡ g.S.Source.text l.fn.source;
-  extent : g.S.Source.extent l.source ≡ g.S.Source.extent l.fn.source;
-  failures : g.S.Source.failures l.source ≡ g.S.Source.failures l.fn.source;
+  read : HasRead g.S.Source l.fn.source l.source l.window;
   gave : g.S.Source.gave l.source + length l.fn.front.items ≤ g.S.Source.gave l.fn.source + length l.front.items;
   size : l.size ≡ g.S.Source.extent l.fn.source;
-  holds : Holds (g.S.Source.text l.source) (g.S.Source.extent l.source) l.window;
   within : l.offset + length l.front.items ≤ l.size;
   short : length l.front.items ≤ l.wanted;
   grown : length l.fn.front.items ≤ length l.front.items;

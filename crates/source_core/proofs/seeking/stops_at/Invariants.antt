@@ -2,20 +2,17 @@ use Rattle.std.proofs.Common.{◌≡◌, ◌+◌, ◌-◌, ◌≤◌, ℕ, List,
 use Rattle.cdxj_core.specs.declared.limit.TheConstants.{LINE_LIMIT}
 use Rattle.source_core.specs.IndexLines.{lines, longest}
 use Rattle.source_core.specs.LineParts.{ReadsOn}
-use Rattle.source_core.specs.Windows.{Holds}
+use Rattle.source_core.proofs.WindowLemmas.{HasRead}
 use Rattle.source_core.proofs.seeking.stops_at.Given as goal
 
 abbrev pub invariant-fronts : goal.invariant-fronts
 invariant-fronts g l = record {
-  text : g.S.Source.text l.source ≡ g.S.Source.text l.fn.source;
-  extent : g.S.Source.extent l.source ≡ g.S.Source.extent l.fn.source;
-  failures : g.S.Source.failures l.source ≡ g.S.Source.failures l.fn.source;
+  read : HasRead g.S.Source l.fn.source l.source l.window;
   gave : l.ends ≡ false → g.S.Source.gave l.source ≤ g.S.Source.gave l.fn.source + length l.front.items;
   bound : g.S.Source.gave l.source ≤ g.S.Source.gave l.fn.source + LINE_LIMIT;
   paid : (t : List ℕ) → g.S.Source.text l.fn.source ≡ Some t
       → g.S.Source.gave l.source ≤ g.S.Source.gave l.fn.source + longest (lines t) + 512;
   size : l.size ≡ g.S.Source.extent l.fn.source;
-  holds : Holds (g.S.Source.text l.source) (g.S.Source.extent l.source) l.window;
   within : l.offset + length l.front.items ≤ l.size;
   short : length l.front.items ≤ LINE_LIMIT;
   long : (t : List ℕ) → g.S.Source.text l.fn.source ≡ Some t → length t ≡ l.size;

@@ -142,13 +142,20 @@ loop-line-preserved g c =
     }
 
 pub returns-in_err-line-clause-fault : goal.returns-in_err-line-clause-fault
-returns-in_err-line-clause-fault g c = λ t e.
-    let fed = rw (c.loop-line.invariant.text ∙ e) at c.loop-line.invariant.fed in
-    grind (arith, if_err, bad_named fed)
+returns-in_err-line-clause-fault g c = record {
+  counts = grind arith;
+  names = λ t e.
+      let fed = rw (c.loop-line.invariant.text ∙ e) at c.loop-line.invariant.fed in
+      grind (arith, if_err, bad_named fed);
+}
 
 pub returns-in-Less-clause-fault : goal.returns-in-Less-clause-fault
-returns-in-Less-clause-fault g c = λ t e.
+returns-in-Less-clause-fault g c =
     let inv = c.loop-line.invariant in
-    rw (← inv.begin) at (order_named (rw (inv.text ∙ e) at inv.fed) (member_pair c.args.first.now)
-    c.next_line.new.cursor
-    c.in-Some.line.value (inv.last t e) (rw c.in-Some.is at (c.in_ok-line.ensures.next t (cc))) (grind arith))
+    record {
+      counts = grind arith;
+      names = λ t e.
+          rw (← inv.begin) at (order_named (rw (inv.text ∙ e) at inv.fed) (member_pair c.args.first.now)
+          c.next_line.new.cursor
+          c.in-Some.line.value (inv.last t e) (rw c.in-Some.is at (c.in_ok-line.ensures.next t (cc))) (grind arith));
+    }

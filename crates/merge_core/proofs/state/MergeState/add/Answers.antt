@@ -1,10 +1,8 @@
-use Rattle.merge_core.proofs.Words.{[], ℕ, ◌*◌, ◌+◌, ◌≡◌, ◌≤◌, Fed, List, Some, arith, boxed_line, feed_of, longest}
-use Rattle.merge_core.proofs.Words.{option_list, reach}
-use Rattle.source_core.specs.IndexLines.{lines}
+use Rattle.merge_core.proofs.Words.{[], Fed, arith, boxed_line, feed_of}
+use Rattle.merge_core.proofs.Words.{option_list}
 use Rattle.merge_core.proofs.FeedLemmas.{bad_named}
 use Rattle.merge_core.proofs.FailLemmas.{if_err}
 use Rattle.merge_core.proofs.OpenLemmas.{fed_fresh, first_read}
-use Rattle.merge_core.proofs.SpendLemmas.{opening_most}
 use Rattle.merge_core.proofs.state.MergeState.add.Given.{Over}
 use Rattle.merge_core.proofs.state.MergeState.add.Goals.{After-next_line}
 use Rattle.merge_core.proofs.state.MergeState.add.Goals as goal
@@ -15,32 +13,15 @@ fresh : (g : Over) (c : After-next_line g) → Fed (g.R.Range.past c.args.range.
 fresh g c = fed_fresh (g.R.Range.past c.args.range.now) _ _ c.args.cursor c.requires.stands c.requires.fresh.none
     c.requires.fresh.there c.requires.begins
 
--- no line was read but the first
-spent : (g : Over) (c : After-next_line g) (t : List ℕ) → g.S.Source.text c.args.source.now ≡ Some t
-    → g.S.Source.gave c.next_line.new.source + reach c.args.cursor
-    ≤ g.S.Source.gave c.args.source.now + c.args.cursor.start + 2 * longest (lines t) + 8192
-spent g c t e =
-    let few = opening_most (fresh g c) c.requires.fresh.none t e c.next_line.new.cursor c.next_line.ensures.moved.start_kept
-    (c.next_line.ensures.most t e) c.next_line.ensures.ahead in
-    omega (arith, few, c.next_line.ensures.moved.spent, c.next_line.ensures.moved.start_kept)
-
-pub returns-in_err-next-clause-fault : goal.returns-in_err-next-clause-fault
-returns-in_err-next-clause-fault g c = λ t e.
-    let at = (goal.at.returns-in_err-next-clause-fault g c).After-next_line in
-    let fed = rw e at (fresh g at) in
-    grind (arith, if_err, bad_named fed)
-
-pub returns-in_err-next-clause-spent : goal.returns-in_err-next-clause-spent
-returns-in_err-next-clause-spent g c = grind (arith, spent)
-
-pub returns-in_err-push-clause-spent : goal.returns-in_err-push-clause-spent
-returns-in_err-push-clause-spent g c = grind (arith, spent)
-
-pub returns-clause-spent : goal.returns-clause-spent
-returns-clause-spent g c = grind (arith, spent)
-
-pub returns-in_err-enqueue-clause-spent : goal.returns-in_err-enqueue-clause-spent
-returns-in_err-enqueue-clause-spent g c = grind (arith, spent)
+pub returns-in_err-next-clause-source : goal.returns-in_err-next-clause-source
+returns-in_err-next-clause-source g c =
+    let at = (goal.at.returns-in_err-next-clause-source g c).After-next_line in (
+      grind arith,
+      record {
+        counts = grind arith;
+        names = λ t e. let fed = rw e at (fresh g at) in grind (arith, if_err, bad_named fed);
+      },
+    )
 
 pub returns-clause-added : goal.returns-clause-added
 returns-clause-added g c =

@@ -144,8 +144,7 @@ returns-in_default-pop_at g c =
     let took = c.in_default-pop_at.ensures in
     record {
       moved = rw took.out.0 now.moved;
-      failures = grind arith;
-      fault = grind arith;
+      fault = record { counts = grind arith; names = grind arith };
       ready = rw took.out.0 (record { aligned = now.aligned; settled = drained_settled g here });
       gathered = rw (← (c.with_start-keyed.ensures ∙ c.deref.ensures), took.out.0) (record {
         above = inv.above;
@@ -168,7 +167,7 @@ returns-in_err-read_on-clause-fault g c =
     let gathers = c.sources.invariant.gathers in
     let kept = all_kept g.S.Source c.args.sources.now c.args.self.now
     c.sources.sources c.sources.self c.requires.ready.aligned.same gathers.as_many gathers.moved in
-    grind arith
+    record { counts = grind arith; names = grind arith }
 
 pub returns-in_err-read_on-clause-gathered : goal.returns-in_err-read_on-clause-gathered
 returns-in_err-read_on-clause-gathered g c =
@@ -191,8 +190,7 @@ returns-in_err-push g c =
     (rw (sym c.next-in-sources.view_is) at took.out) f in
     record {
       moved = t.gathers.moved;
-      failures = grind arith;
-      fault = grind arith;
+      fault = record { counts = grind arith; names = grind arith };
       ready = grind arith;
       gathered = on_fault _ _ _ _ c.from_residual-in_err-push.ensures.1 (record {
         pair = member_pair c.with_start-keyed.result;

@@ -1,5 +1,6 @@
 use Rattle.merge_core.proofs.Words.{◌<◌, ◌≡◌, ap, append-nil, arith, digits, feed_of, feeds, flat_map-append, get_or}
 use Rattle.merge_core.proofs.Words.{length, length-append, map, sum, take, take_all, take_more, take_more_set, zip}
+use Rattle.std.proofs.lemmas.Grind.{common_steps}
 use Rattle.std.proofs.lemmas.Slice.Zip.{all_zipped_more}
 use Rattle.merge_core.proofs.OnceLemmas.{once_none}
 use Rattle.merge_core.proofs.SpendLemmas.{opened_none, left_here, left_after}
@@ -51,7 +52,10 @@ loop-i-preserved g c =
     }
 
 pub returns-in-Err-clause-sources : goal.returns-in-Err-clause-sources
-returns-in-Err-clause-sources g c = grind (arith, map_set_same, raised_by_feed)
+returns-in-Err-clause-sources g c = (
+  grind (arith, map_set_same),
+  record { counts = grind (arith, map_set_same, raised_by_feed); names = grind (arith, common_steps) },
+)
 
 pub returns-in-Err-clause-spent : goal.returns-in-Err-clause-spent
 returns-in-Err-clause-spent g c =

@@ -1,6 +1,7 @@
-use Rattle.merge_core.proofs.Words.{[], ◌≡◌, AllByRecursion, AllMoved, AreReadTo, Feed, List, Member, MergeState, Some}
+use Rattle.merge_core.proofs.Words.{[], ◌≡◌, AllByRecursion, AllMoved, ap, AreReadTo, Feed, List, Member, MergeState, Some}
 use Rattle.merge_core.proofs.Words.{Upto, all_done, arith, boxed_line, feed_of, feeds, get_or, get_or_default, length}
 use Rattle.merge_core.proofs.Words.{member_pair, option_list, refl, set}
+use Rattle.std.proofs.lemmas.Grind.{common_steps}
 use Rattle.std.specs.Vec.{with_item}
 use Rattle.merge_core.proofs.SpendLemmas.{are_read_to, read_on}
 use Rattle.merge_core.proofs.FailLemmas.{raised_by_feed}
@@ -78,8 +79,9 @@ returns-in-Err-clause-moved g c =
     moved_alone g (goal.at.returns-in-Err-clause-moved g c).After-read_group
     (record c.args.self.now { cursors = with_item c.args.self.now.cursors c.args.i c.read_group.new.cursor }) refl refl
 
-pub returns-in-Err-clause-failures : goal.returns-in-Err-clause-failures
-returns-in-Err-clause-failures g c = grind (arith, raised_by_feed)
+pub returns-in-Err-clause-fault : goal.returns-in-Err-clause-fault
+returns-in-Err-clause-fault g c =
+    record { counts = grind (arith, raised_by_feed); names = grind (arith, common_steps) }
 
 pub returns-in-Err-clause-most : goal.returns-in-Err-clause-most
 returns-in-Err-clause-most g c =
@@ -89,15 +91,15 @@ returns-in-Err-clause-most g c =
 pub returns-in_err-enqueue-clause-moved : goal.returns-in_err-enqueue-clause-moved
 returns-in_err-enqueue-clause-moved g c =
     moved_alone g (goal.at.returns-in_err-enqueue-clause-moved g c).After-read_group c.enqueue.new.self
-    c.enqueue.ensures.cursors c.in_err-enqueue.ensures.queue
+    (ap (λ (m : MergeState). m.cursors.items) c.enqueue.ensures.kept) c.in_err-enqueue.ensures.queue
 
-pub returns-in_err-enqueue-clause-failures : goal.returns-in_err-enqueue-clause-failures
-returns-in_err-enqueue-clause-failures g c = grind (arith, map_set_same)
+pub returns-in_err-enqueue-clause-fault : goal.returns-in_err-enqueue-clause-fault
+returns-in_err-enqueue-clause-fault g c = record { counts = grind (arith, map_set_same); names = grind arith }
 
 pub returns-in_err-enqueue-clause-most : goal.returns-in_err-enqueue-clause-most
 returns-in_err-enqueue-clause-most g c =
     most_alone g (goal.at.returns-in_err-enqueue-clause-most g c).After-read_group c.enqueue.new.self
-    c.enqueue.ensures.cursors c.in_err-enqueue.ensures.queue
+    (ap (λ (m : MergeState). m.cursors.items) c.enqueue.ensures.kept) c.in_err-enqueue.ensures.queue
 
 pub returns : goal.returns
 returns g c =
@@ -109,14 +111,13 @@ returns g c =
     let waits : List Member = option_list (boxed_line c.in-Ok.next) in
     let f = feed_of now waits in
     let is = here g at in
-    let cursors = c.enqueue.ensures.cursors in
+    let cursors = (ap (λ (m : MergeState). m.cursors.items) c.enqueue.ensures.kept) in
     let queue = c.in_ok-enqueue.ensures.queue in
     let feeds_now = waited_feeds c.requires.aligned c.requires.inside (was g at) (none g at) c.enqueue.new.self now
     cursors waits queue read.fed.few in
     record {
       moved = moved g at c.enqueue.new.self f refl feeds_now;
-      failures = grind (arith, map_set_same);
-      fault = grind arith;
+      fault = record { counts = grind (arith, map_set_same); names = grind arith };
       read = record {
         aligned = waited_aligned c.requires.aligned c.requires.inside (was g at) (none g at) c.enqueue.new.self now
             cursors waits queue c.read_group.new.source read.fed;

@@ -4,9 +4,8 @@ use Rattle.merge_core.proofs.state.MergeState.recycle.Given as goal
 
 abbrev pub invariant-loop-line : goal.invariant-loop-line
 invariant-loop-line l = record {
-  cursors : l.self.cursors.items ≡ l.fn.self.cursors.items;
+  kept : l.self ≡ record l.fn.self { buffers = l.self.buffers; most_lines = l.self.most_lines };
   most_lines : l.self.most_lines ≡ l.initial.self.most_lines;
-  queue : l.self.queue ≡ l.fn.self.queue;
 }
 
 abbrev pub decreases-loop-line : goal.decreases-loop-line

@@ -4,7 +4,7 @@ use Rattle.std.proofs.Common.{length-append, length-take, length-drop}
 use Rattle.source_core.specs.LineParts.{PartOf, NoFeed}
 use Rattle.source_core.specs.Windows.{AreBytesAt, held_from}
 use Rattle.source_core.proofs.Parts.{ended, goes_on, cut_short, given_more, given_out}
-use Rattle.source_core.proofs.LongLines.{first_at_least, part_of_first}
+use Rattle.source_core.proofs.LongestLines.{first_at_least, part_of_first}
 use Rattle.source_core.proofs.WindowLemmas.{held_behind}
 use Rattle.source_core.proofs.cursor.Cursor.next.Given.{Over}
 use Rattle.source_core.proofs.cursor.Cursor.next.Goals.{After-line_part-length, In_ok-extend_from_slice}
