@@ -2,7 +2,6 @@
 use Rattle.std.proofs.Common.{◌≡◌, ◌∙◌, ℕ, List, [], ◌∷◌, Some, Ok, length, drop, ap, refl, append-nil, arith}
 use Rattle.std.proofs.Math.Seq.{drop-append_seam}
 use Rattle.warc_core.specs.HeadView.{HeadView}
-use Rattle.warc_core.specs.Next.{next_at}
 use Rattle.warc_core.specs.Walk.{record_at, Walks}
 use Rattle.warc_core.proofs.ArchiveLemmas.{walk-front}
 use Rattle.warc_core.proofs.SpelledLemmas.{read-spelled}

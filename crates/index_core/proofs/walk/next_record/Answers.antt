@@ -39,5 +39,4 @@ returns-in_ok-finish-in-Some-clause-state g c =
 pub returns-in_ok-finish-in-Some-clause-failures : goal.returns-in_ok-finish-in-Some-clause-failures
 returns-in_ok-finish-in-Some-clause-failures g c =
     let n = rw c.in-Some.is at (c.in_ok-next.ensures.between c.requires) in
-    let f = c.in_ok-finish-in-Some.ensures.open _ _ n.state.phase_is in
-    f.failures ∙ n.failures
+    (c.in_ok-finish-in-Some.ensures.open _ _ n.state.phase_is).failures ∙ n.failures
