@@ -20,7 +20,7 @@ use Rattle.capture_core.specs.RecordReading.{reading_of}
 use Rattle.index_core.specs.Accepted.{IsCaptureAt, IsCaptured, AreCaptured, IsAccepted, IsAcceptedTo, MayBeRefused}
 use Rattle.capture_core.specs.Fault.{fault_offset}
 use Rattle.index_core.specs.Captures.{TakesRecord}
-use Rattle.index_core.proofs.ArchiveWalks.{from_start}
+use Rattle.index_core.proofs.ArchiveWalks.{from_start, record_rules}
 
 -- what stands behind a head
 behind_head : (limit start : ℕ) (h : HeadView) (z y : List ℕ) → next_at limit start z ≡ Ok (Some h, y)
@@ -79,3 +79,5 @@ module _ (types : Kind → Bool) (limits : Limits) (limit : ℕ) (name : List �
       → (fault_offset fault ≡ o) × IfSome now (λ bytes. MayBeRefused types limits limit name o bytes fault)
       → IfSome left (λ archive. IsAcceptedTo types limits limit name fault archive gained)
   AddedSoFar-refused left now o gained fault s r = grind arith
+
+pub ruleset capture_rules = (record_rules, capture_there, refused_there)

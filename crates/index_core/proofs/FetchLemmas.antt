@@ -1,4 +1,5 @@
 -- The walk to an offset, and what was copied there.
+use Rattle.std.proofs.lemmas.Result.{err_from_is_err_and}
 use Rattle.std.proofs.Common.{◌≡◌, ◌∙◌, ℕ, ◌+◌, ◌-◌, ◌<◌, ◌≤◌, List, [], ◌∷◌, ◌++◌, ◌⊎◌, inr, Option, None, Some}
 use Rattle.std.proofs.Common.{Result, Ok, Err, IfSome, length, take, drop, refl, subst, arith}
 use Rattle.std.specs.Io.KnownBytes.{Appends}
@@ -105,3 +106,7 @@ module _ (limit : ℕ) where
   fetched o (Err faults.NoRecord) (Some archive) (Some z) w u s c = inr
       (s.0, record { end = o; walks = subst (Walks limit 0 archive s.0 o) c s.1 }, omega arith)
   fetched o r left known w u s c = grind (arith, prefix_there, from_offset)
+
+pub ruleset next_rules = (err_from_is_err_and, next_none, next_stopped)
+
+pub ruleset fetch_rules = (err_from_is_err_and, fetched, wrote_nothing)
