@@ -4,7 +4,8 @@ use Rattle.std.proofs.Common.{option_map, ap, arith}
 use Rattle.json.specs.Token.{Token}
 use Rattle.json.specs.Json as json
 use Rattle.json.specs.Json.{parse_map, after_end_array, read_key, items, members, value}
-use Rattle.json.proofs.Grammar.{left, value_is, value-begin_object, items_end as no_more_items}
+use Rattle.json.proofs.Grammar.{left, members_no_key, value_is, value-begin_array, value-begin_object}
+use Rattle.json.proofs.Grammar.{items_end as no_more_items}
 use Rattle.json.proofs.Grammar.{items_more, members_end as no_more_members, members_more}
 use Rattle.serde_json.specs.Data.{Data, null, Members, put}
 use Rattle.serde_json.specs.Read.{number_of, of_json, of_items, of_members, converted}
@@ -103,3 +104,12 @@ no_member depth n found k ts s key e = grind arith
 pub members_end : (depth n : ℕ) (found : Members) (ts r : List Token) → length ts ≤ n → read_key ts ≡ Some (None, r)
     → members_from depth n found ts ≡ Some (found, r)
 members_end depth n found ts r enough e = grind (arith, no_more_members)
+
+-- ---- what the readers cite
+
+pub ruleset value_rules =
+    (read_nothing, read_null, read_number, read_object, no_array, no_object, value_is, value-begin_array)
+
+pub ruleset item_rules = (item_not_passed, items_end)
+
+pub ruleset member_rules = (members_no_key, no_member, members_end)

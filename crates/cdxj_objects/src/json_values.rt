@@ -9,6 +9,7 @@ use json::{Invalid, Reader, Token};
 /// Reads a value, in which arrays and objects nest up to `depth` deep. Returns `Invalid` if there
 /// is no such value, or if a number in it is too large for a 64-bit float.
 #[cycle(values)]
+#[tactic(auto, using(crate::proofs::JsonReading::value_rules))]
 pub(crate) fn read_value<'a>(
     reader: &mut Reader<'a>,
     depth: usize,
@@ -47,6 +48,7 @@ pub(crate) fn read_value<'a>(
 
 // Passes the items of an array and its end.
 #[cycle(values)]
+#[tactic(auto, using(crate::proofs::JsonReading::item_rules))]
 fn pass_items(reader: &mut Reader<'_>, depth: usize) -> Result<(), Invalid>
     ensures value { MatchResult result (λ _. items_passed depth reader.old ≡ Some reader.new)
         (λ _. items_passed depth reader.old ≡ None) }
@@ -60,6 +62,7 @@ fn pass_items(reader: &mut Reader<'_>, depth: usize) -> Result<(), Invalid>
 
 // Passes the members of an object and its end.
 #[cycle(values)]
+#[tactic(auto, using(crate::proofs::JsonReading::member_rules))]
 fn pass_members(reader: &mut Reader<'_>, depth: usize) -> Result<(), Invalid>
     ensures value { MatchResult result (λ _. members_passed depth reader.old ≡ Some reader.new)
         (λ _. members_passed depth reader.old ≡ None) }

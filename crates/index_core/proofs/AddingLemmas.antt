@@ -1,5 +1,5 @@
 -- The captures that are added, one record further, at the end, and at a fault.
-use Rattle.std.proofs.Common.{arith, ◌≡◌, ◌∙◌, ℕ, ◌+◌, ◌≤◌, Bool, List, [], ◌∷◌, ◌++◌, Option, None, Some, Ok}
+use Rattle.std.proofs.Common.{arith, ◌≡◌, ◌∙◌, ℕ, ◌+◌, Bool, List, [], ◌∷◌, ◌++◌, Option, None, Some, Ok}
 use Rattle.std.proofs.Common.{Err, IfSome, option_to_list, length, drop, ap, append_assoc}
 use Rattle.std.specs.Bool.{⊤}
 use Rattle.std.proofs.Math.Seq.{drop-append_seam}
@@ -12,21 +12,15 @@ use Rattle.warc_core.specs.Record.{after_record}
 use Rattle.warc_core.specs.Walk.{record_at, Walks}
 use Rattle.warc_core.proofs.ArchiveLemmas.{next-spelled}
 use Rattle.warc_core.proofs.WalkLemmas.{Walks-more, none_at_end, record-unclosed, record-whole}
-use Rattle.cdxj_core.specs.Entries.{EntryValue, line_text}
+use Rattle.cdxj_core.specs.Entries.{EntryValue}
 use Rattle.capture_core.specs.declared.fault.CaptureFault.{CaptureFault}
 use Rattle.capture_core.specs.Indexed.{url_of}
-use Rattle.capture_core.specs.CaptureAnswer.{Limits, IsEntryOf, Captures}
-use Rattle.capture_core.specs.RecordReading.{IsCaptureFaultAt, reading_of}
+use Rattle.capture_core.specs.CaptureAnswer.{Limits, Captures}
+use Rattle.capture_core.specs.RecordReading.{reading_of}
 use Rattle.index_core.specs.Accepted.{IsCaptureAt, IsCaptured, AreCaptured, IsAccepted, IsAcceptedTo, MayBeRefused}
 use Rattle.capture_core.specs.Fault.{fault_offset}
-use Rattle.capture_core.specs.declared.types.Types.{Types}
-use Rattle.index_core.specs.Adding.{with_archive}
 use Rattle.index_core.specs.Captures.{TakesRecord}
-use Rattle.index_core.specs.Indexing.{Held}
-use Rattle.index_core.proofs.ArchiveWalks.{from_start}
-
-pub fault_at : (start : ℕ) (fault : CaptureFault) → IsCaptureFaultAt start fault → fault_offset fault ≡ start
-fault_at start fault h = grind arith
+use Rattle.index_core.proofs.ArchiveWalks.{from_start, record_rules}
 
 -- what stands behind a head
 behind_head : (limit start : ℕ) (h : HeadView) (z y : List ℕ) → next_at limit start z ≡ Ok (Some h, y)
@@ -65,20 +59,13 @@ module _ (types : Kind → Bool) (limits : Limits) (limit : ℕ) (name : List �
   captured_more archive (g ∷ heads) captures h captured w k =
       grind (arith, append_assoc, captured_more archive heads w.1 h captured w.3 k)
 
-  fits_line : (h : HeadView) (captured : Option EntryValue) → IfSome captured (IsEntryOf h name limits.line)
-      → IfSome captured (λ e. length (line_text e) ≤ limits.line)
-  fits_line h captured e = grind arith
-
   pub AddedSoFar-more : (left now after : Option (List ℕ)) (o : ℕ) (gained : List EntryValue) (h : HeadView)
       (captured : Option EntryValue) (new : ReaderView) → AddedSoFar left now o gained
       → TakesRecord types limits limit name o h captured new now after
       → AddedSoFar left after (o + record_length h) (gained ++ option_to_list captured)
   AddedSoFar-more (Some archive) (Some z) (Some y) o gained h captured new s t =
-      let there : drop h.start archive ≡ z = from_start limit archive s.0 o z s.1 h y t.bytes in (
-        s.0 ++ h ∷ [],
-        Walks-more limit 0 archive s.0 o z h y s.1 t.bytes,
-        grind (arith, captured_more, fits_line),
-      )
+      let there = from_start limit archive s.0 o z s.1 h y t.bytes in
+      (s.0 ++ h ∷ [], Walks-more limit 0 archive s.0 o z h y s.1 t.bytes, grind (arith, captured_more))
   AddedSoFar-more left now after o gained h captured new s t = grind arith
 
   pub AddedSoFar-end : (left now after : Option (List ℕ)) (o : ℕ) (gained : List EntryValue)
@@ -92,3 +79,5 @@ module _ (types : Kind → Bool) (limits : Limits) (limit : ℕ) (name : List �
       → (fault_offset fault ≡ o) × IfSome now (λ bytes. MayBeRefused types limits limit name o bytes fault)
       → IfSome left (λ archive. IsAcceptedTo types limits limit name fault archive gained)
   AddedSoFar-refused left now o gained fault s r = grind arith
+
+pub ruleset capture_rules = (record_rules, capture_there, refused_there)

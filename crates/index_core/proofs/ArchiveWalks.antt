@@ -1,12 +1,12 @@
 -- Walks over the records of an archive.
+use Rattle.std.proofs.lemmas.Result.{err_from_is_err_and}
 use Rattle.std.proofs.Common.{◌≡◌, ◌∙◌, ℕ, List, [], ◌∷◌, Some, Ok, length, drop, ap, refl, append-nil, arith}
 use Rattle.std.proofs.Math.Seq.{drop-append_seam}
 use Rattle.warc_core.specs.HeadView.{HeadView}
-use Rattle.warc_core.specs.Next.{next_at}
 use Rattle.warc_core.specs.Walk.{record_at, Walks}
 use Rattle.warc_core.proofs.ArchiveLemmas.{walk-front}
 use Rattle.warc_core.proofs.SpelledLemmas.{read-spelled}
-use Rattle.warc_core.proofs.WalkLemmas.{two-walks}
+use Rattle.warc_core.proofs.WalkLemmas.{two-walks, record-stopped, record-end, record-unclosed, record-whole}
 
 -- a walk that ends where it began is over no records
 pub walk_nowhere : (limit o : ℕ) (more : List HeadView) (r t : List ℕ) → Walks limit o r more o t → more ≡ []
@@ -31,3 +31,6 @@ module _ (limit : ℕ) (archive : List ℕ) (heads : List HeadView) (o : ℕ) (r
   pub from_start : (h : HeadView) (later : List ℕ) → record_at limit o rest ≡ Ok (Some h, later)
       → drop h.start archive ≡ rest
   from_start h later r = grind (arith, from_offset, read-spelled)
+
+-- how the reading of a record ended
+pub ruleset record_rules = (err_from_is_err_and, record-stopped, record-end, record-unclosed, record-whole)

@@ -1,6 +1,6 @@
 -- The copying of a record, piece by piece.
 use Rattle.std.proofs.Common.{◌≡◌, ◌∙◌, ℕ, ◌+◌, ◌-◌, ◌<◌, ◌≤◌, List, [], ◌++◌, Option, Result, Ok, Err, IfSome, length}
-use Rattle.std.proofs.Common.{take, sym, subst, append_assoc, append-nil, length-append, arith}
+use Rattle.std.proofs.Common.{take, sym, append_assoc, append-nil, length-append, arith}
 use Rattle.std.proofs.lemmas.List.{length-take-le}
 use Rattle.std.specs.Io.KnownBytes.{Appends, Consumes, prepend_known}
 use Rattle.warc_core.specs.declared.fault.Cause.{Cause}
@@ -15,7 +15,7 @@ use Rattle.devices.proofs.DeviceLemmas.{Appends-none, Appends-join}
 use Rattle.warc_core.proofs.ReadingLemmas.{GoesOn-reads, nil_of}
 use Rattle.warc_core.proofs.SpelledLemmas.{block-there}
 use Rattle.capture_core.specs.declared.fault.CaptureFault.TheVariants.{Archive}
-use Rattle.warc_core.proofs.OpenLemmas.{behind-front, found-of-record, zero_of}
+use Rattle.warc_core.proofs.OpenLemmas.{behind-front, found-of-record}
 use Rattle.warc_core.proofs.FillLemmas.{Consumes-none, Consumes-join}
 use Rattle.index_core.specs.declared.fault.IndexFault.{IndexFault}
 use Rattle.index_core.specs.declared.fault.IndexFault.TheVariants as faults
@@ -27,12 +27,6 @@ use Rattle.index_core.specs.Copying.{WroteFront, CopiesRecord, CopiedBut}
 front_there : (known known' : Option (List ℕ)) (a : List ℕ) → Consumes known known' a
     → IfSome known (λ bytes. (more : List ℕ) × (bytes ≡ a ++ more))
 front_there known known' a c = grind arith
-
--- what was taken, and a front of what follows it
-begins_behind : (known known' : Option (List ℕ)) (a front : List ℕ) → Consumes known known' a
-    → IfSome known' (λ bytes. (more : List ℕ) × (bytes ≡ front ++ more))
-    → IfSome known (λ bytes. (more : List ℕ) × (bytes ≡ (a ++ front) ++ more))
-begins_behind known known' a front c b = grind (arith, append_assoc)
 
 -- a head stands in front of what follows it
 consumes_head : (raw : List ℕ) (known : Option (List ℕ)) → Consumes (prepend_known raw known) known raw
@@ -166,7 +160,7 @@ module _ (h : HeadView) (before : Option (List ℕ)) (now : ReaderView) (x w v :
         wrote = record {
           front = front ++ closing;
           most = omega (arith, size);
-          begins = begins_behind _ _ front closing (taken h before 0 now x w v d) (front_there _ _ closing closing_taken);
+          begins = front_there _ _ _ (Consumes-join _ _ _ front closing (taken h before 0 now x w v d) closing_taken);
           grown = Appends-join w v u front closing d.grown p;
         };
         ends = (s.state.0 ∙ sym size, s.state.0, behind_head h before 0 now x w v d (Ok tt) _ s.bytes);

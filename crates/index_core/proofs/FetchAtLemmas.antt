@@ -8,8 +8,7 @@ use Rattle.capture_core.specs.declared.fault.CaptureFault.TheVariants.{Archive}
 use Rattle.devices.proofs.DeviceLemmas.{Appends-none}
 use Rattle.index_core.specs.declared.fault.IndexFault.{IndexFault}
 use Rattle.index_core.specs.declared.fault.IndexFault.TheVariants as faults
-use Rattle.index_core.specs.Counting.{CountsIndexWrite}
-use Rattle.index_core.specs.Copying.{WroteFront, CopiesRecord}
+use Rattle.index_core.specs.Copying.{WroteFront}
 use Rattle.index_core.specs.FetchingAt.{CopiesNextOf, CopiesRecordOf, PassesRecord}
 use Rattle.index_core.proofs.FetchLemmas.{next_copied, record_head}
 

@@ -1,4 +1,5 @@
 -- The walk to an offset, and what was copied there.
+use Rattle.std.proofs.lemmas.Result.{err_from_is_err_and}
 use Rattle.std.proofs.Common.{◌≡◌, ◌∙◌, ℕ, ◌+◌, ◌-◌, ◌<◌, ◌≤◌, List, [], ◌∷◌, ◌++◌, ◌⊎◌, inr, Option, None, Some}
 use Rattle.std.proofs.Common.{Result, Ok, Err, IfSome, length, take, drop, refl, subst, arith}
 use Rattle.std.specs.Io.KnownBytes.{Appends}
@@ -7,9 +8,9 @@ use Rattle.warc_core.specs.declared.fault.Fault.{Fault}
 use Rattle.devices.specs.Device.{AppendsPrefix}
 use Rattle.warc_core.specs.HeadView.{HeadView, record_length}
 use Rattle.warc_core.specs.Next.{next_at}
-use Rattle.warc_core.specs.Reading.{Reads, IsPossibleCause}
+use Rattle.warc_core.specs.Reading.{Reads}
 use Rattle.warc_core.specs.Walk.{record_at, Walks}
-use Rattle.warc_core.proofs.ArchiveLemmas.{next-spelled, walk-front}
+use Rattle.warc_core.proofs.ArchiveLemmas.{next-spelled}
 use Rattle.warc_core.proofs.ReadingLemmas.{front_of}
 use Rattle.warc_core.proofs.WalkLemmas.{Walks-more, none_at_end, record-stopped, record-end, record-unclosed}
 use Rattle.warc_core.proofs.WalkLemmas.{record-whole}
@@ -17,7 +18,7 @@ use Rattle.capture_core.specs.declared.fault.CaptureFault.TheVariants.{Archive}
 use Rattle.warc_core.proofs.DigestLemmas.{take_past}
 use Rattle.index_core.specs.declared.fault.IndexFault.{IndexFault}
 use Rattle.index_core.specs.declared.fault.IndexFault.TheVariants as faults
-use Rattle.index_core.specs.Fetching.{IsInRecord, IsBehindRecords, StopsAt, most_written, most_written_at, Fetches}
+use Rattle.index_core.specs.Fetching.{IsInRecord, IsBehindRecords, most_written, most_written_at, Fetches}
 use Rattle.index_core.specs.Copying.{CopiesRecord, CopiesNext, WalkedTo}
 use Rattle.devices.proofs.WritingLemmas.{wrote_nothing}
 use Rattle.index_core.proofs.ArchiveWalks.{from_offset}
@@ -43,11 +44,6 @@ module _ (limit : ℕ) where
   ends_before o (Some archive) (Some z) (Some y) offset s r l = inr
       (s.0, record { end = o; walks = subst (Walks limit 0 archive s.0 o) (none_at_end limit o z y r) s.1 }, l)
   ends_before o left now after offset s r l = grind arith
-
-  pub stops : (archive : List ℕ) (offset : ℕ) (f : Fault) (heads : List HeadView) (z : List ℕ)
-      → Walks limit 0 archive heads f.offset z → IsPossibleCause f.cause (record_at limit f.offset z) → f.offset ≤ offset
-      → StopsAt limit archive offset f
-  stops archive offset f heads z w i l = grind arith
 
   -- ---- what comes next
 
@@ -79,17 +75,12 @@ module _ (limit : ℕ) where
       → Reads (next_at limit o) (Ok (Some h)) before mid → h.start ≡ o → CopiesRecord h r mid after w u
       → CopiesNext limit o r before w u
   next_copied o h (Err (faults.Capture (Archive f))) (Some z) (Some y) after w u n e c =
-      let b = (next-spelled limit o z y h n).0 ∙ c.wrote.begins.1 in (
-        c.ends.0 ∙ e,
-        (record-unclosed limit o (Some z) (Some y) after h f.cause n c.ends.1, grind (arith, front_written)),
-      )
+      let met = record-unclosed limit o (Some z) (Some y) after h f.cause n c.ends.1 in
+      grind (arith, front_written, next-spelled)
   next_copied o h (Ok l) (Some z) (Some y) (Some x) w u n e c =
-      let b = (next-spelled limit o z y h n).0 ∙ c.wrote.begins.1 in (
-        c.wrote.front,
-        c.ends.0,
-        c.wrote.grown,
-        (h, x, record-whole limit o (Some z) (Some y) (Some x) h n c.ends.2, grind (arith, front_of)),
-      )
+      let b = (next-spelled limit o z y h n).0 ∙ c.wrote.begins.1 in
+      let whole = record-whole limit o (Some z) (Some y) (Some x) h n c.ends.2 in
+      (c.wrote.front, c.ends.0, c.wrote.grown, (h, x, whole, grind (arith, front_of)))
   next_copied o h r before mid after w u n e c = grind (arith, front_written, next-spelled)
 
   -- no record came next
@@ -115,3 +106,7 @@ module _ (limit : ℕ) where
   fetched o (Err faults.NoRecord) (Some archive) (Some z) w u s c = inr
       (s.0, record { end = o; walks = subst (Walks limit 0 archive s.0 o) c s.1 }, omega arith)
   fetched o r left known w u s c = grind (arith, prefix_there, from_offset)
+
+pub ruleset next_rules = (err_from_is_err_and, next_none, next_stopped)
+
+pub ruleset fetch_rules = (err_from_is_err_and, fetched, wrote_nothing)

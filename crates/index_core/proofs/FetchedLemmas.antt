@@ -5,7 +5,6 @@ use Rattle.cdxj_places.specs.Rising.{IsIn}
 use Rattle.cdxj_core.specs.Entries.{EntryValue}
 use Rattle.capture_core.specs.Capture.{IsCaptureUnder}
 use Rattle.capture_core.specs.CaptureAnswer.{Limits}
-use Rattle.capture_core.specs.Fault.{fault_offset}
 use Rattle.capture_core.specs.Indexed.{url_of}
 use Rattle.warc_core.specs.HeadView.{HeadView, record_length, block_at}
 use Rattle.warc_core.specs.Kind.{Kind}
@@ -56,5 +55,4 @@ module _ (types : Kind → Bool) (limits : Limits) (limit : ℕ) (name archive :
   pub fetched : (captures : List EntryValue) → IsIndexed types limits limit name archive captures → IsIn e captures
       → Fetched
   fetched captures (inl a) i = go [] a.heads 0 a.whole.end archive [] captures (refl, refl) a.whole.walks a.captured i
-  fetched captures (inr (fault, a)) i =
-      go [] a.heads 0 (fault_offset fault) archive a.rest captures (refl, refl) a.walks a.captured i
+  fetched captures (inr (fault, a)) i = go [] a.heads 0 _ archive a.rest captures (refl, refl) a.walks a.captured i

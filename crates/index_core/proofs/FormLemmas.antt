@@ -1,6 +1,6 @@
 -- Both forms of `get` do the same where whole records fill the archive up to the offset.
-use Rattle.std.proofs.Common.{◌≡◌, ◌∙◌, ℕ, ◌+◌, ◌-◌, ◌^◌, ◌≤◌, List, [], ◌∷◌, ◌⊎◌, inl, inr, Option, None, Some}
-use Rattle.std.proofs.Common.{Result, Ok, Err, length, take, drop, refl, subst, sym, ap, length-append, arith}
+use Rattle.std.proofs.Common.{◌≡◌, ◌∙◌, ℕ, ◌+◌, ◌-◌, ◌^◌, ◌≤◌, List, [], ◌∷◌, inl, inr, Option, None, Some}
+use Rattle.std.proofs.Common.{Result, Ok, Err, length, take, drop, refl, sym, ap, length-append, arith}
 use Rattle.warc_core.specs.declared.fault.Cause.{Cause}
 use Rattle.warc_core.specs.declared.fault.Fault.{Fault}
 use Rattle.warc_core.specs.HeadView.{HeadView, record_length}
@@ -17,7 +17,6 @@ use Rattle.index_core.specs.FetchingAt.{CopiesNextOf}
 use Rattle.index_core.specs.FetchingLaws.{IsReached, IsFromOffset, LengthAgrees, OffsetAgrees, WroteRecord}
 use Rattle.index_core.specs.FetchingLaws.{CapturesAreFetched}
 use Rattle.index_core.proofs.ArchiveWalks.{from_offset}
-use Rattle.index_core.proofs.FetchLemmas.{stops}
 use Rattle.index_core.proofs.FetchedLemmas.{fetched}
 use Rattle.index_core.proofs.OffsetLemmas.{one_stands}
 
@@ -93,7 +92,7 @@ module _ (limit : ℕ) (archive : List ℕ) (offset : ℕ) where
       from_length (Err faults.NoRecord) before after (inr (h, rest, r, other)) =
           absurd (other (sized h (is_record h rest r)))
       from_length (Err (faults.Capture (Archive f))) before after (at, (met, p)) =
-          let w = walked in (omega arith, (grind (arith, stops), p))
+          let w = walked in (omega arith, (grind arith, p))
       from_length (Err faults.Write) before after c = (a, c)
       from_length result before after c = grind arith
 
@@ -158,7 +157,7 @@ module _ (limit : ℕ) (archive : List ℕ) (offset : ℕ) (h : HeadView) (r : I
   reached : IsReached limit archive offset (record_length h)
   reached = record {
     records = (r.before, r.bytes, r.walks);
-    sized = λ k q. one_length k q;
+    sized = one_length;
   }
 
 pub captures_are_fetched : CapturesAreFetched

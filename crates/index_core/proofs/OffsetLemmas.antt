@@ -92,7 +92,8 @@ abbrev Stands : ℕ → ℕ → List ℕ → Type 0
 Stands limit offset archive = (answer : Result (List ℕ) IndexFault) × StandsIn limit archive offset answer
 
 -- before the end of whole records a record begins, or one that began goes on
-stands_within : (limit offset : ℕ) (archive : List ℕ) (before heads : List HeadView) (start end : ℕ) (bytes rest : List ℕ)
+stands_within : (limit offset : ℕ) (archive : List ℕ) (before heads : List HeadView) (start end : ℕ)
+    (bytes rest : List ℕ)
     → Walks limit 0 archive before start bytes → Walks limit start bytes heads end rest → start ≤ offset
     → offset < end → Stands limit offset archive
 stands_within limit offset archive before [] start end bytes rest w v l m = absurd (grind arith)
@@ -105,8 +106,8 @@ stands_within limit offset archive before (h ∷ heads) start end bytes rest w v
           (Ok (take (record_length h) (drop offset archive)), (h, rw (← same) r, refl)))
       | inl past ↦ (elim (which (nat_lt offset (start + record_length h))) [
         | inl in_it ↦ (Err faults.NoRecord, inl (start, h, r, grind (arith, nat_tests), grind (arith, nat_tests)))
-        | inr behind ↦ stands_within limit offset archive (before ++ h ∷ []) heads (start + record_length h) end v.0 rest
-            (Walks-more limit 0 archive before start bytes h v.0 w v.1) v.2 (grind (arith, nat_tests)) m
+        | inr behind ↦ stands_within limit offset archive (before ++ h ∷ []) heads (start + record_length h) end v.0
+            rest (Walks-more limit 0 archive before start bytes h v.0 w v.1) v.2 (grind (arith, nat_tests)) m
       ])
     ]
 

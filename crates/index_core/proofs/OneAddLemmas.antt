@@ -1,6 +1,6 @@
 -- An archive adds one list of captures, with one result, and their index is one text.
-use Rattle.std.proofs.Common.{◌≡◌, ◌∙◌, ℕ, Bool, List, [], ◌∷◌, ◌++◌, Some, Result, Ok, Err, append_assoc, append-nil}
-use Rattle.std.proofs.Common.{◌⊎◌, inl, inr, refl, sym, arith}
+use Rattle.std.proofs.Common.{◌≡◌, ℕ, Bool, List, [], ◌∷◌, ◌++◌, Some, Result, Ok, Err, append_assoc, append-nil}
+use Rattle.std.proofs.Common.{inl, inr, refl, arith}
 use Rattle.std.specs.List.{AllByRecursion}
 use Rattle.warc_core.specs.HeadView.{HeadView}
 use Rattle.warc_core.specs.Kind.{Kind}
@@ -16,7 +16,7 @@ use Rattle.index_core.specs.declared.fault.IndexFault.{IndexFault}
 use Rattle.index_core.specs.declared.fault.IndexFault.TheVariants as faults
 use Rattle.index_core.specs.Accepted.{AreCaptured, IsTaken, MayBeRefused, IsAcceptedTo}
 use Rattle.index_core.specs.Adding.{Adds}
-use Rattle.index_core.specs.Indexing.{Held, index_text}
+use Rattle.index_core.specs.Indexing.{Held}
 use Rattle.index_core.specs.Laws.{IsNoFaultOfArchive}
 use Rattle.index_core.specs.OneText.{IsFailure, IsOfArchive, HasFirst, AddsOneList, AddsFirst, WritesOneIndex}
 use Rattle.index_core.specs.OneText.{WritesIndexFront}

@@ -1,19 +1,15 @@
 -- An archive decides which record is at an offset, and what is written of it.
 use Rattle.std.proofs.Common.{◌≡◌, ◌∙◌, ℕ, List, [], ◌++◌, ◌⊎◌, inl, inr, Option, Some, Result, Ok}
-use Rattle.std.proofs.Common.{Err, IfOk, length, take, drop, refl, sym, ap, arith}
-use Rattle.warc_core.specs.declared.fault.Cause.{Cause}
-use Rattle.warc_core.specs.HeadView.{HeadView, record_length}
+use Rattle.std.proofs.Common.{Err, IfOk, length, drop, refl, sym, ap, arith}
 use Rattle.warc_core.specs.Next.{next_at}
 use Rattle.warc_core.specs.Walk.{record_at}
-use Rattle.warc_core.proofs.ReadingLemmas.{answered}
 use Rattle.capture_core.specs.declared.fault.CaptureFault.TheVariants.{Archive}
 use Rattle.index_core.specs.declared.fault.IndexFault.{IndexFault}
 use Rattle.index_core.specs.declared.fault.IndexFault.TheVariants as faults
-use Rattle.index_core.specs.Fetching.{StandsIn, most_written_at, Fetches}
+use Rattle.index_core.specs.Fetching.{StandsIn, Fetches}
 use Rattle.index_core.specs.FetchingAt.{BeginsRecord, BeginsOther, CopiesNextOf}
 use Rattle.index_core.specs.FetchingLaws.{WroteRecord}
-use Rattle.index_core.specs.OneText.{IsFailure, IsOfArchive, HasFront, IsUnwritten, IsNotDamagedAt}
-use Rattle.index_core.specs.OneText.{FetchesOneText}
+use Rattle.index_core.specs.OneText.{IsFailure, IsOfArchive, HasFront, IsUnwritten, IsNotDamagedAt, FetchesOneText}
 use Rattle.index_core.specs.OneText.{FetchesFront, FetchesAtOneText, FetchesAtFront}
 use Rattle.index_core.proofs.FormLemmas.{wrote}
 use Rattle.index_core.proofs.OffsetLemmas.{one_stands}

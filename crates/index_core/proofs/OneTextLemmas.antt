@@ -12,12 +12,9 @@ use Rattle.warc_core.proofs.WalkLemmas.{one_list, not_both, one_fault}
 use Rattle.capture_core.specs.declared.fault.CaptureFault.TheVariants.{Archive}
 use Rattle.index_core.specs.declared.fault.IndexFault.{IndexFault}
 use Rattle.index_core.specs.declared.fault.IndexFault.TheVariants as faults
-use Rattle.index_core.specs.declared.verified.Verified.{Verified}
-use Rattle.index_core.specs.Listing.{listing_line, record_count}
 use Rattle.index_core.specs.OneText.{IsFailure, IsOfArchive, HasFront, HasCut, HasPart}
 use Rattle.index_core.specs.OneText.{ListsOneText, ListsPart, VerifiesOneText, VerifiesPart}
 use Rattle.index_core.specs.Report.{IsNoDamage, RecordLine, IsReport, Reports, report_lines, fault_line}
-use Rattle.index_core.specs.Verifying.{verification_line, verified_in}
 use Rattle.index_core.proofs.ReportLemmas.{report_behind}
 
 -- what stands behind known bytes
@@ -68,7 +65,8 @@ module _ (A : Type 0) (limit : ℕ) (line : RecordLine) (tally : List ℕ → Li
     reports_one this that text other i j r s = once this that text other (either this text i r) (either that other j s)
 
     -- the text of a report
-    as_report : (part : List ℕ) (text : Option (List ℕ)) (this : Result A IndexFault) → Whole this text ⊎ Damaged this text
+    as_report : (part : List ℕ) (text : Option (List ℕ)) (this : Result A IndexFault)
+        → Whole this text ⊎ Damaged this text
         → IsReport limit line archive part → text ≡ Some (before ++ part)
     as_report part text this e (inl (heads, whole, is)) =
         let s = once this (Ok (tally archive heads)) text (Some (before ++ part)) e
@@ -94,7 +92,8 @@ module _ (A : Type 0) (limit : ℕ) (line : RecordLine) (tally : List ℕ → Li
         inl (has_front before part text other (as_report part text this (either this text i r) is) p)
     reports_part this (Err faults.Write) text other i j r (part, inr (heads, f, rest, n, walks, is), p) =
         let c = cut_report this text f heads rest (either this text i r) walks in
-        inr (f, Some (before ++ part), n, (c.0, c.1, c.2, ap (λ t. Some (before ++ t)) is ∙ c.3), has_front before part _ other refl p)
+        let cut = ap (λ t. Some (before ++ t)) is ∙ c.3 in
+        inr (f, Some (before ++ part), n, (c.0, c.1, c.2, cut), has_front before part _ other refl p)
     reports_part this that text other i j r s = grind arith
 
 pub lists_one_text : ListsOneText

@@ -1,5 +1,5 @@
 -- A report on an archive, one record further, at the end, and at a fault.
-use Rattle.std.proofs.Common.{arith, ◌≡◌, ◌∙◌, ℕ, ◌+◌, List, [], ◌∷◌, ◌++◌, inl, inr, Option, None, Some, Result}
+use Rattle.std.proofs.Common.{arith, ◌≡◌, ℕ, ◌+◌, List, [], ◌∷◌, ◌++◌, inl, inr, Option, None, Some, Result}
 use Rattle.std.proofs.Common.{Ok, Err, IfSome, ap, refl, subst, append-nil, append_assoc}
 use Rattle.std.proofs.lemmas.List.Concat.{flat_map-append}
 use Rattle.std.specs.List.{flat_map}
@@ -49,7 +49,8 @@ module _ (limit : ℕ) (line : RecordLine) where
         | inr d ↦ (
             let m = walk-extends limit 0 archive heads d.0 o d.1 rest d.3.rest w d.3.walks (inr (d.2, d.3.refused)) in
             let f : Fault = record { offset = d.1; cause = d.2 } in
-            (report_lines line archive m.0 ++ fault_line f, inr (d.0, f, d.3, grind (arith, flat_map-append, append_assoc))))
+            let tail = report_lines line archive m.0 ++ fault_line f in
+            (tail, inr (d.0, f, d.3, grind (arith, flat_map-append, append_assoc))))
       ]
 
   -- the lines with one more
@@ -59,8 +60,8 @@ module _ (limit : ℕ) (line : RecordLine) where
 
 module _ {A X : Type 0} (limit : ℕ) (form : Form A X) where
   -- The lines of these first records of the archive were written.
-  pub record Written (archive : List ℕ) (now : Option (List ℕ)) (offset : ℕ) (answer : A) (before after : Option (List ℕ)) :
-      Type 0 where
+  pub record Written (archive : List ℕ) (now : Option (List ℕ)) (offset : ℕ) (answer : A)
+      (before after : Option (List ℕ)) : Type 0 where
     pub heads : List HeadView
     pub rest : List ℕ
     pub now_is : now ≡ Some rest

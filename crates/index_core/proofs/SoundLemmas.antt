@@ -1,6 +1,5 @@
 -- Captures that stay sound: each has its own place, under a name that was added.
-use Rattle.std.proofs.Common.{◌≡◌, ◌∙◌, ℕ, ◌<◌, true, List, [], ◌∷◌, ◌++◌, Option, IfSome}
-use Rattle.std.proofs.Common.{option_to_list, ap, append-nil, arith}
+use Rattle.std.proofs.Common.{◌≡◌, ℕ, ◌<◌, true, List, [], ◌∷◌, ◌++◌, Option, IfSome, option_to_list, append-nil, arith}
 use Rattle.std.specs.Ordering.{ordering_then}
 use Rattle.std.specs.FinMap.{slice_cmp-IsAntisymmetric, nat_cmp-IsAntisymmetric}
 use Rattle.std.specs.declared.cmp.Ordering.{Ordering}
@@ -58,10 +57,6 @@ among_more names more name h = grind (arith, list_any-append)
 
 pub among_last : (names : List (List ℕ)) (name : List ℕ) → is_among (names ++ name ∷ []) name ≡ true
 among_last names name = grind (arith, list_any-append, bytes_eq-Decides)
-
--- a name that is kept is among the names
-pub is_among_kept : (names new : List (List ℕ)) (name : List ℕ) → new ≡ names ++ name ∷ [] → is_among new name ≡ true
-is_among_kept names new name e = grind (arith, among_last)
 
 -- captures stay sound under more names
 pub sound_under : (limit : ℕ) (names new : List (List ℕ)) (name : List ℕ) (xs : List EntryValue) → new ≡ names

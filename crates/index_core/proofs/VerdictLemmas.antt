@@ -1,6 +1,6 @@
 -- What a verification says of a record, and what it counts.
-use Rattle.std.proofs.Common.{◌≡◌, ◌∙◌, ℕ, ◌+◌, ◌≤◌, List, [], ◌∷◌, ◌++◌, Option, Some, Ok, Err, IfSome}
-use Rattle.std.proofs.Common.{length, take, drop, ap, length-append, arith}
+use Rattle.std.proofs.Common.{◌≡◌, ℕ, ◌+◌, ◌≤◌, List, [], ◌∷◌, ◌++◌, Option, Some, Ok, Err, IfSome}
+use Rattle.std.proofs.Common.{take, length-append, arith}
 use Rattle.std.proofs.lemmas.List.Sums.{sum_by-append}
 use Rattle.std.proofs.Math.Seq.{drop-append_seam}
 use Rattle.warc_core.specs.declared.fault.Cause.{Cause}
@@ -14,7 +14,7 @@ use Rattle.capture_core.specs.BlockDigest.{judge_record}
 use Rattle.index_core.specs.Verifying.{verdict_on, verdict_in, verdict_line, verification_line, differing_by, Judged}
 use Rattle.index_core.specs.Verifying.{judged_line, verified_in, verified_of}
 use Rattle.index_core.specs.declared.verified.Verified.{Verified}
-use Rattle.index_core.proofs.ArchiveWalks.{from_offset}
+use Rattle.index_core.proofs.ArchiveWalks.{from_offset, record_rules}
 use Rattle.index_core.proofs.ReportLemmas.{Form, IsLine, CountsOn, Reporting}
 
 judged_record : (judge : List ℕ → Verdict) (n : ℕ) (z w : List ℕ) (v : Verdict) → judge_record judge n z ≡ Ok (v, w)
@@ -76,3 +76,5 @@ one_judged judged j n d k = grind (arith, judged, length-append, sum_by-append)
 
 pub one_at_most : (v : Verdict) → differing_by v ≤ 1
 one_at_most v = grind arith
+
+pub ruleset verdict_rules = (record_rules, judged_reads, judged_met)

@@ -1,6 +1,6 @@
 -- The walk to an offset of an archive, and the copying of the record there.
-use Rattle.std.specs.Prelude.{◌≡◌, ℕ, ◌+◌, ◌≤◌, ⊤, ◌⊎◌, List, [], ◌++◌, length, take, Option, None, Some, Result, Ok, Err}
-use Rattle.std.specs.Prelude.{IfSome}
+use Rattle.std.specs.Prelude.{◌≡◌, ℕ, ◌+◌, ◌≤◌, ⊤, ◌⊎◌, List, [], ◌++◌, length, take, Option, None, Some, Result, Ok}
+use Rattle.std.specs.Prelude.{Err, IfSome}
 use Rattle.std.specs.Io.KnownBytes.{Appends, Consumes, prepend_known}
 use Rattle.warc_core.specs.declared.fault.Fault.{Fault}
 use Rattle.warc_core.specs.declared.phase.Phase.TheVariants.{Between, Open}
@@ -50,7 +50,8 @@ pub record CopiedBut (rest : ℕ) (h : HeadView) (now : ReaderView) (before afte
 abbrev pub CopiesHeadAndBlock : HeadView → Result (Unit {0}) IndexFault → ReaderView → Option (List ℕ) → Option (List ℕ)
     → Option (List ℕ) → Option (List ℕ) → Type 0
 CopiesHeadAndBlock h (Ok u) now before after written written' = CopiedBut 0 h now before after written written'
-CopiesHeadAndBlock h (Err fault) now before after written written' = CopiesRecord h (Err fault) before after written written'
+CopiesHeadAndBlock h (Err fault) now before after written written' =
+    CopiesRecord h (Err fault) before after written written'
 
 -- what comes next at the offset was copied
 abbrev pub CopiesNext : ℕ → ℕ → Result ℕ IndexFault → Option (List ℕ) → Option (List ℕ) → Option (List ℕ) → Type 0

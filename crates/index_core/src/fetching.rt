@@ -27,6 +27,7 @@ const GREATEST_OFFSET: u64 = (1 << 63) - 1;
 /// `Read` included; and `Write` at the output's first failure. After `NoRecord`, or a fault before
 /// the offset, nothing was written. After any other error, the first bytes from the offset on may
 /// have been written, but none past the end of the record that begins there.
+#[tactic(auto, using(crate::proofs::FetchLemmas::fetch_rules))]
 pub fn get<I: Input, O: Output>(
     alloc: Global,
     offset: u64,
@@ -55,6 +56,7 @@ pub fn get<I: Input, O: Output>(
 /// offset, `Memory` and `Read` included; and `Write` at the output's first failure. After
 /// `NoRecord` nothing was written. After any other error, the first bytes from the offset on may
 /// have been written, but none past the end of the record that begins there.
+#[tactic(auto, using(crate::proofs::FetchLemmas::fetch_rules))]
 pub fn get_at<I: Input, O: Output>(
     alloc: Global,
     offset: u64,
@@ -77,6 +79,7 @@ pub fn get_at<I: Input, O: Output>(
 }
 
 /// Writes the next record if it has this length in bytes, and returns the length.
+#[tactic(auto, using(crate::proofs::FetchLemmas::next_rules))]
 fn copy_next_of<I: Input, O: Output>(
     reader: &mut Reader,
     input: &mut I,
@@ -159,6 +162,7 @@ fn reader_at<I: Input>(alloc: Global, input: &mut I, offset: u64) -> Result<Opti
 }
 
 /// Writes the next record, and returns its length in bytes.
+#[tactic(auto, using(crate::proofs::FetchLemmas::next_rules))]
 fn copy_next<I: Input, O: Output>(
     reader: &mut Reader,
     input: &mut I,

@@ -42,6 +42,7 @@ impl Names {
     }
 
     /// Returns `true` if the name is among these.
+    #[tactic(auto, using(crate::proofs::NameLemmas::among_texts))]
     pub fn contains(&self, name: &str) -> bool
         ensures { result ≡ is_among self.now name.now }
     {

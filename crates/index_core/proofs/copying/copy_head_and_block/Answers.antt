@@ -53,8 +53,8 @@ returns-in_err-put_bytes-2-clause-copies g c =
     let p = err_from_is_err_and c.from_residual-in_err-put_bytes-2.result
     c.from_residual-in_err-put_bytes-2.ensures.1 in
     let e = c.in_err-put_bytes-2.ensures in
-    rw (p.1, p.2) (piece_cut c.args.head.now _ i.rest _ _ _ _ i.copied c.in_err-put_bytes-2.field-0.0 c.in_ok-count.count
-    c.block.new.piece _ _ _ _ _ _ e.refusal b e.bytes)
+    rw (p.1, p.2) (piece_cut c.args.head.now _ i.rest _ _ _ _ i.copied c.in_err-put_bytes-2.field-0.0
+    c.in_ok-count.count c.block.new.piece _ _ _ _ _ _ e.refusal b e.bytes)
 
 pub returns-in_err-put_bytes-2-clause-reads : goal.returns-in_err-put_bytes-2-clause-reads
 returns-in_err-put_bytes-2-clause-reads g c =
@@ -66,5 +66,5 @@ returns-in_err-count-clause-copies g c =
     let i = c.loop-count.invariant in
     let b = c.in_err-count.ensures.open _ _ i.copied.stands.phase_is in
     let p = err_from_is_err_and c.from_residual-in_err-count.result c.from_residual-in_err-count.ensures.1 in
-    rw (p.1, p.2) (piece_stop c.args.head.now _ i.rest _ _ _ _ i.copied c.in_err-count.field-0.0 c.block.new.piece _ _ _ _
-    _ b)
+    rw (p.1, p.2) (piece_stop c.args.head.now _ i.rest _ _ _ _ i.copied c.in_err-count.field-0.0 c.block.new.piece
+    _ _ _ _ _ b)

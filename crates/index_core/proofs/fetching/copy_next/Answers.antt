@@ -7,11 +7,4 @@ use Rattle.index_core.proofs.fetching.copy_next.Goals as goal
 pub returns-in-Some-clause-copies : goal.returns-in-Some-clause-copies
 returns-in-Some-clause-copies g c =
     let n = rw c.in-Some.is at (c.in_ok-head.ensures.between c.requires) in
-    next_copied HEAD_LIMIT c.args.reader.now.offset c.in-Some.head c.copy_record.result _ _ _ _ _ n.bytes
-    n.begins.start_is c.copy_record.ensures.copies
-
-pub returns-in-None-clause-copies : goal.returns-in-None-clause-copies
-returns-in-None-clause-copies g c = grind (arith, next_none)
-
-pub returns-in_err-head-clause-copies : goal.returns-in_err-head-clause-copies
-returns-in_err-head-clause-copies g c = grind (arith, err_from_is_err_and, next_stopped)
+    next_copied HEAD_LIMIT _ c.in-Some.head _ _ _ _ _ _ n.bytes n.begins.start_is c.copy_record.ensures.copies

@@ -1,6 +1,4 @@
-use Rattle.std.proofs.Common.{◌∙◌, ◌+◌, ◌<◌, sym, ap, arith}
-use Rattle.warc_core.specs.declared.next.TheConstants.{HEAD_LIMIT}
-use Rattle.warc_core.specs.HeadView.{record_length}
+use Rattle.std.proofs.Common.{◌<◌, arith}
 use Rattle.index_core.proofs.FetchLemmas.{WalkedTo-more, went_past, ends_before}
 use Rattle.index_core.proofs.fetching.reader_at.Goals as goal
 

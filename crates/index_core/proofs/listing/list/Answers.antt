@@ -9,7 +9,8 @@ use Rattle.index_core.proofs.listing.list.Goals as goal
 pub returns-in-Err-clause-lists : goal.returns-in-Err-clause-lists
 returns-in-Err-clause-lists g c =
     let owed = reporting_none HEAD_LIMIT listing c.in-Err.fault c.put_fault.result
-    (g.I.Input.remaining c.args.input.now) _ _ 0 _ _ (λ archive. refl) refl c.in-Err.ensures.memory c.put_fault.ensures in
+    (g.I.Input.remaining c.args.input.now) _ _ 0 _ _ (λ archive. refl) refl c.in-Err.ensures.memory
+    c.put_fault.ensures in
     record { report = owed.0; records = owed.1 }
 
 pub returns-in-Ok-None-clause-lists : goal.returns-in-Ok-None-clause-lists

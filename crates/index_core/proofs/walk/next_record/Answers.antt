@@ -3,9 +3,6 @@ use Rattle.std.proofs.lemmas.Result.{err_from_is_err_and}
 use Rattle.warc_core.proofs.WalkLemmas.{record-stopped, record-end, record-unclosed, record-whole}
 use Rattle.index_core.proofs.walk.next_record.Goals as goal
 
-pub returns-in_err-next-clause-bytes : goal.returns-in_err-next-clause-bytes
-returns-in_err-next-clause-bytes g c = grind (arith, err_from_is_err_and, record-stopped)
-
 pub returns-in_err-finish-in-Some-clause-bytes : goal.returns-in_err-finish-in-Some-clause-bytes
 returns-in_err-finish-in-Some-clause-bytes g c =
     let n = rw c.in-Some.is at (c.in_ok-next.ensures.between c.requires) in
@@ -24,12 +21,6 @@ returns-in_err-finish-in-Some-clause-failures g c =
     let f = c.in_err-finish-in-Some.ensures.open _ _ n.state.phase_is in
     grind arith
 
-pub returns-in-None-clause-bytes : goal.returns-in-None-clause-bytes
-returns-in-None-clause-bytes g c = grind (arith, record-end)
-
-pub returns-in_ok-finish-in-Some-clause-bytes : goal.returns-in_ok-finish-in-Some-clause-bytes
-returns-in_ok-finish-in-Some-clause-bytes g c = grind (arith, record-whole)
-
 pub returns-in_ok-finish-in-Some-clause-state : goal.returns-in_ok-finish-in-Some-clause-state
 returns-in_ok-finish-in-Some-clause-state g c =
     let n = rw c.in-Some.is at (c.in_ok-next.ensures.between c.requires) in
@@ -39,5 +30,4 @@ returns-in_ok-finish-in-Some-clause-state g c =
 pub returns-in_ok-finish-in-Some-clause-failures : goal.returns-in_ok-finish-in-Some-clause-failures
 returns-in_ok-finish-in-Some-clause-failures g c =
     let n = rw c.in-Some.is at (c.in_ok-next.ensures.between c.requires) in
-    let f = c.in_ok-finish-in-Some.ensures.open _ _ n.state.phase_is in
-    f.failures ∙ n.failures
+    (c.in_ok-finish-in-Some.ensures.open _ _ n.state.phase_is).failures ∙ n.failures

@@ -5,18 +5,6 @@ use Rattle.warc_core.proofs.WalkLemmas.{record-stopped, record-end, record-unclo
 use Rattle.index_core.proofs.VerdictLemmas.{judged_reads, judged_met, judged_verdict}
 use Rattle.index_core.proofs.walk.next_verdict.Goals as goal
 
-pub returns-in_err-next-clause-bytes : goal.returns-in_err-next-clause-bytes
-returns-in_err-next-clause-bytes g c = grind (arith, err_from_is_err_and, record-stopped)
-
-pub returns-in_err-verdict-in-Some-clause-bytes : goal.returns-in_err-verdict-in-Some-clause-bytes
-returns-in_err-verdict-in-Some-clause-bytes g c = grind (arith, err_from_is_err_and, record-unclosed, judged_met)
-
-pub returns-in-None-clause-bytes : goal.returns-in-None-clause-bytes
-returns-in-None-clause-bytes g c = grind (arith, record-end)
-
-pub returns-in_ok-verdict-in-Some-clause-bytes : goal.returns-in_ok-verdict-in-Some-clause-bytes
-returns-in_ok-verdict-in-Some-clause-bytes g c = grind (arith, record-whole, judged_reads)
-
 pub returns-in_ok-verdict-in-Some-clause-verdict : goal.returns-in_ok-verdict-in-Some-clause-verdict
 returns-in_ok-verdict-in-Some-clause-verdict g c h v e =
     let n = rw c.in-Some.is at (c.in_ok-next.ensures.between c.requires) in
