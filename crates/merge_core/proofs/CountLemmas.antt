@@ -1,22 +1,121 @@
--- How many lines were read of indexes, and are held at once.
-use Rattle.merge_core.proofs.Words.{[], ℕ, ◌+◌, ◌<◌, ◌∷◌, ◌≡◌, ◌≤◌, AllByRecursion, AllZip, AreFed, Bool, Fed, Feed}
-use Rattle.merge_core.proofs.Words.{Ghosts, Grouped, IsCut, IsCutAt, IsIndex, IsUpto, Known, LINE_LIMIT, List, Member}
-use Rattle.merge_core.proofs.Words.{MergeState, Option, OverIndexes, Pair, Reached, ShareAtMost, Some, Upto}
-use Rattle.merge_core.proofs.Words.{WaitingLine, all_done, all_lines, ap, arith, done, drop, each_weaker, false, feeds}
-use Rattle.merge_core.proofs.Words.{filter, filter-append, given, is_low, is_of, length, length-append, length-map}
-use Rattle.merge_core.proofs.Words.{length-take, lines, map, map-append, member_of, member_pair, nil_from_length, not}
-use Rattle.merge_core.proofs.Words.{refl, suc, sum, sum_by-cons, take, take-map, text_or, true, waits_of, zero, zip}
+-- How far sources were read: in lines and in bytes.
+use Rattle.merge_core.proofs.Words.{[], ℕ, ◌++◌, ◌+◌, ◌∙◌, ◌∷◌, ◌≡◌, ◌≤◌, AllByRecursion, AreInputs, AreReadTo, Bool}
+use Rattle.merge_core.proofs.Words.{CursorState, EndsAt, IsInput, MergeInput, Ghosts, IsUpto, LINE_LIMIT, List, Option, Pair}
+use Rattle.merge_core.proofs.Words.{ReadTo, Some, all_done, ap, append-nil, append_assoc, arith, bytes_of, done}
+use Rattle.merge_core.proofs.Words.{drop, drop-set-lt, input_of, first_length, flat_map-append, get_or, given, length}
+use Rattle.merge_core.proofs.Words.{length-append, length-drop, line_entry, lines, longest, member_pair, read_lines}
+use Rattle.merge_core.proofs.Words.{refl, set, suc, sym, take, take-append-drop, take-map, text_or, ◌<◌, AllZip}
+use Rattle.merge_core.proofs.Words.{Grouped, IsCut, IsCutAt, IsIndex, Known, Member, MergeState, OverIndexes}
+use Rattle.merge_core.proofs.Words.{Reached, ShareAtMost, Upto, WaitingLine, all_lines, each_weaker, false, inputs}
+use Rattle.merge_core.proofs.Words.{filter, filter-append, is_low, is_of, length-map, length-take, map, map-append}
+use Rattle.merge_core.proofs.Words.{member_of, nil_from_length, not, sum, sum_by-cons, true, waits_of, zero, zip}
+use Rattle.merge_core.proofs.Words.{CameWithin, line_row, lines_text}
+use Rattle.std.proofs.lemmas.Grind.{drop_more_same}
+use Rattle.std.proofs.Common.{get_or-drop}
+use Rattle.source_core.proofs.LongestLines.{first_most, longest_drop}
+use Rattle.merge_core.specs.Spending.{AllOpenedWithin, AllGaveWithin}
+use Rattle.merge_core.proofs.InputLemmas.{all_taken, all_upto, done_cut, done_within}
+use Rattle.merge_core.proofs.Many.{each_both, filter_fewer, filter_weaker, filter_front, filter_back, each_take}
+use Rattle.merge_core.proofs.Many.{zip_set, each_replaced, two_same, Move}
+use Rattle.merge_core.proofs.GroupLemmas.{each_cut, filter_all}
+use Rattle.merge_core.proofs.StateLemmas.{idle, few_wait, inputs_long}
 use Rattle.std.proofs.lemmas.List.{take-take}
-use Rattle.merge_core.proofs.Filters.{filter_fewer, filter_weaker, filter_front, filter_back, each_both, each_take}
 use Rattle.merge_core.specs.Counts.{is_at}
 use Rattle.merge_core.proofs.MergeLemmas.{gathered_now}
-use Rattle.merge_core.proofs.ReadLines.{members_are}
-use Rattle.merge_core.proofs.FeedLemmas.{done_cut, done_within}
-use Rattle.merge_core.proofs.StateLemmas.{few_wait, feeds_long}
-use Rattle.merge_core.proofs.WholeLemmas.{told_known, texts_kept}
+use Rattle.merge_core.proofs.TakenLemmas.{members_are}
+use Rattle.merge_core.proofs.SourceLemmas.{told_known, texts_kept, run_after}
 use Rattle.std.proofs.lemmas.List.Filters.{length-filter_both}
-use Rattle.merge_core.proofs.GroupLemmas.{each_cut, filter_all}
-use Rattle.merge_core.proofs.StartLemmas.{run_after}
+
+-- ---- how far sources were read
+
+longest_later : (k : ℕ) (ls : List (List ℕ)) → longest (drop k ls) ≤ longest ls
+longest_later (suc k) (l ∷ ls) = let h = longest_later k ls in omega arith
+longest_later k ls = omega arith
+
+longest_front : (k : ℕ) (ls : List (List ℕ)) → longest (take k ls) ≤ longest ls
+longest_front (suc k) (l ∷ ls) = let h = longest_front k ls in omega arith
+longest_front k ls = omega arith
+
+-- one line at most
+one_line : (ls : List (List ℕ)) → length ls ≤ 1 → bytes_of ls ≤ longest ls
+one_line (l ∷ []) h = omega (arith, ap length (append-nil l))
+one_line ls h = omega arith
+
+module _ {past : List ℕ → Bool} {text : Option (List ℕ)} {extent : ℕ} {f : MergeInput}
+    (input : IsInput past text extent f) where
+  -- a cursor that passed one line more at most than those that were read
+  pub read_to : (b : Option Pair) (t : List ℕ) (new : CursorState) → text ≡ Some t
+      → AllByRecursion (λ m. IsUpto b (member_pair m)) (done past t f) → new.start ≡ f.cursor.start
+      → new.at ≤ f.cursor.at + first_length (lines (drop f.cursor.at t)) → length new.ahead ≤ 8192
+      → ReadTo past b t new
+  read_to b t new is upto start near ahead =
+      let told = input.told t is in
+      let from = lines (drop f.cursor.start t) in
+      let all = read_lines t f.cursor in
+      let cut = done_cut input t is in
+      let k = cut.0 in
+      let last = one_line (drop k all) (grind (arith, length-drop)) in
+      let whole = ap bytes_of (take-append-drop k all) in
+      let within = done_within past t f in
+      record {
+        read = take k all;
+        rest = drop k all ++ drop f.cursor.count from;
+        cut = rw (start, ← append_assoc, take-append-drop, take-append-drop);
+        members = done past t f;
+        entries = rw cut.3 (sym (take-map (line_entry LINE_LIMIT) k all) ∙ ap (take k) told.run.entries
+            ∙ take-map Some k (given t f.cursor));
+        within = each_both _ _ _ within upto;
+        most = grind (arith, flat_map-append, length-append, longest_later, longest_front, longest_drop, first_most);
+      }
+
+-- the same where the last line that was read has the pair
+pub group_most : {past : List ℕ → Bool} {text : Option (List ℕ)} {extent : ℕ} {c : CursorState} {pair : Pair}
+    → IsInput past text extent (input_of c []) → (t : List ℕ) → text ≡ Some t → EndsAt past pair (given t c)
+    → (new : CursorState) → new.start ≡ c.start → new.at ≤ c.at + first_length (lines (drop c.at t))
+    → length new.ahead ≤ 8192 → ReadTo past (Some pair) t new
+group_most {pair = pair} input t is end new start near ahead =
+    read_to input (Some pair) t new is (rw (all_taken input t is end) (all_upto input t is end)) start near ahead
+
+module _ (past : List ℕ → Bool) where
+  module _ {S : Type 0} (device : Ghosts S) (b : Option Pair) where
+    -- sources of which no line above the bound was taken
+    pub are_read_to : (ss : List S) (fs : List MergeInput) → AreInputs past device ss fs
+        → AllByRecursion (λ m. IsUpto b (member_pair m)) (all_done past device.text ss fs)
+        → AreReadTo past device.text b ss fs
+    are_read_to (s ∷ ss) (f ∷ fs) input upto =
+        let cut = each_cut (λ m. IsUpto b (member_pair m)) (done past (text_or (device.text s)) f) _ upto in (
+          (λ t e. read_to input.0 b t f.cursor e (grind arith) refl (omega arith) input.0.stands.filled.most),
+          are_read_to ss fs input.1 cut.1,
+        )
+    are_read_to ss fs input upto = grind arith
+
+    -- one of them was read on
+    pub read_on : (ss : List S) (fs : List MergeInput) (i : ℕ) (s : S) (f : MergeInput) → AreReadTo past device.text b ss fs
+        → ((t : List ℕ) → device.text s ≡ Some t → ReadTo past b t f.cursor)
+        → AreReadTo past device.text b (set ss i s) (set fs i f)
+    read_on ss fs i s f h k = grind (arith, zip_set, each_replaced)
+
+    -- a line of one of them is taken
+    pub idle_read : (ss : List S) (fs : List MergeInput) (i : ℕ) (d : MergeInput) → AreReadTo past device.text b ss fs
+        → AreReadTo past device.text b ss (set fs i (idle (get_or fs i d)))
+    idle_read (s ∷ ss) (f ∷ fs) (suc i) d h = (h.0, idle_read ss fs i d h.1)
+    idle_read ss fs i d h = grind arith
+
+-- ---- the opening of sources
+
+pub opened_none : {S : Type 0} (device : Ghosts S) (ss : List S)
+    → AllOpenedWithin device ss ss
+opened_none device = grind (arith, two_same)
+
+-- what is left of a list that was gone over up to an index
+pub left_here : {X : Type 0} (old xs : List X) (i : ℕ) (d : X) → drop i xs ≡ drop i old → get_or xs i d ≡ get_or old i d
+left_here old xs i d e = let was = get_or-drop i old 0 d in let now = get_or-drop i xs 0 d in grind arith
+
+pub left_after : {X : Type 0} (old xs : List X) (i : ℕ) (y : X) → drop i xs ≡ drop i old → drop (i + 1) (set xs i y)
+    ≡ drop (i + 1) old
+left_after old xs i y e = grind (arith, drop-set-lt, drop_more_same)
+
+-- ---- how many lines were read of indexes, and are held at once
 
 -- ---- the lines that wait: one of each source at most
 
@@ -38,15 +137,14 @@ few_of zero (w ∷ ws) placed few = grind arith
 -- ---- the lines of a group
 
 -- what was taken of an index is among its lines
-pub done_fewer : {past : List ℕ → Bool} {t : List ℕ} {extent : ℕ} {f : Feed} {ms : List Member}
-    (test : Member → Bool) → Fed past (Some t) extent f → IsIndex LINE_LIMIT t ms
+pub done_fewer : {past : List ℕ → Bool} {t : List ℕ} {extent : ℕ} {f : MergeInput} {ms : List Member}
+    (test : Member → Bool) → IsInput past (Some t) extent f → IsIndex LINE_LIMIT t ms
     → length (filter test (done past t f)) ≤ length (filter test ms)
-done_fewer {past = past} {t = t} {f = f} {ms = ms} test fed index =
-    let told = fed.told t refl in
+done_fewer {past = past} {t = t} {f = f} {ms = ms} test input index =
+    let told = input.told t refl in
     let from = lines (drop f.cursor.start t) in
     let all = members_are (lines t) ms index.entries in
-    let first = told.begins.1.0 in
-    let cut = done_cut fed t refl in
+    let cut = done_cut input t refl in
     let whole = map-append member_of told.begins.0 from in
     let read = take-map member_of f.cursor.count from in
     let a = filter_front test cut.0 (given t f.cursor) in
@@ -55,14 +153,14 @@ done_fewer {past = past} {t = t} {f = f} {ms = ms} test fed index =
     grind arith
 
 module _ (past : List ℕ → Bool) {S : Type 0} (device : Ghosts S) where
-  all_fewer : (ss : List S) (fs : List Feed) (texts : List (List ℕ)) (indexes : List (List Member))
+  all_fewer : (ss : List S) (fs : List MergeInput) (texts : List (List ℕ)) (indexes : List (List Member))
       (test : Member → Bool) → Known (map device.text ss) texts → AllZip (IsIndex LINE_LIMIT) texts indexes
-      → AreFed past device ss fs
+      → AreInputs past device ss fs
       → length (filter test (all_done past device.text ss fs)) ≤ length (filter test (all_lines indexes))
-  all_fewer (s ∷ ss) (f ∷ fs) (t ∷ ts) (i ∷ is) test known are fed =
-      let here = done_fewer test (rw known.0 at fed.0) are.0 in
+  all_fewer (s ∷ ss) (f ∷ fs) (t ∷ ts) (i ∷ is) test known are input =
+      let here = done_fewer test (rw known.0 at input.0) are.0 in
       grind (arith, filter-append, length-append, all_fewer ss fs ts is test)
-  all_fewer ss fs ts is test known are fed = grind arith
+  all_fewer ss fs ts is test known are input = grind arith
 
 at_pair : (pair : Pair) (m : Member) → Upto (member_pair m) pair → not (is_low pair m) ≡ true → is_at pair m ≡ true
 at_pair pair m u = grind arith
@@ -78,10 +176,10 @@ module _ {S : Type 0} {device : Ghosts S} {past : List ℕ → Bool}
       → length m.queue + length group ≤ length old + most)
   held_most texts indexes known are most share =
       let aligned = now.ready.aligned in
-      let before : length old ≡ length (feeds begun) = grind (arith, feeds_long) in
-      let known_now = rw (← texts_kept device old ss (feeds begun) (feeds m) before long now.moved) at known in
+      let before : length old ≡ length (inputs begun) = grind (arith, inputs_long) in
+      let known_now = rw (← texts_kept device old ss (inputs begun) (inputs m) before long now.moved) at known in
       let gathered = gathered_now was grouped (told_known device.text old texts known) in
-      let there = all_fewer past device ss (feeds m) texts indexes (is_at pair) known_now are aligned.fed in
+      let there = all_fewer past device ss (inputs m) texts indexes (is_at pair) known_now are aligned.input in
       let few = few_of (length ss) m.queue (rw (← aligned.same) at aligned.placed) (λ i l. few_wait aligned i) in
       let taken = ap length gathered.taken in
       grind (arith, filter_weaker, each_weaker, at_pair)
@@ -103,21 +201,21 @@ module _ {past : List ℕ → Bool} {start : Pair} {b : Option Pair} {test : Mem
   each_passes (m ∷ ms) within not_low =
       (p.passes m within.0.0 not_low.0 within.0.1, each_passes ms within.1 not_low.1)
 
-  source_most : {t : List ℕ} {extent : ℕ} {f : Feed} {ms : List Member} → Fed past (Some t) extent f
+  source_most : {t : List ℕ} {extent : ℕ} {f : MergeInput} {ms : List Member} → IsInput past (Some t) extent f
       → IsIndex LINE_LIMIT t ms → IsCut start t ms f.cursor.start
       → AllByRecursion (λ m. IsUpto b (member_pair m)) (done past t f)
       → f.cursor.count ≤ length (filter test ms) + 1
-  source_most {t = t} {f = f} {ms = ms} fed index cut upto =
-      let told = fed.told t refl in
+  source_most {t = t} {f = f} {ms = ms} input index cut upto =
+      let told = input.told t refl in
       let run = run_after start t ms f.cursor.start index cut in
       let high : map member_of (lines (drop f.cursor.start t))
       ≡ cut.high = members_are _ cut.high run.0.entries in
-      let done_of = done_cut fed t refl in
+      let done_of = done_cut input t refl in
       let k = done_of.0 in
       let long : length (given t f.cursor) ≡ f.cursor.count = grind (arith, length-map, told.as_many) in
       let front : done past t f ≡ take k cut.high = grind (arith, take-map, take-take) in
       let not_low = rw (← front) at (each_take (λ m. is_low start m ≡ false) k cut.high cut.none_below) in
-      let fewer = done_fewer test fed index in
+      let fewer = done_fewer test input index in
       let within = done_within past t f in
       let pass = filter_all test (done past t f) (each_passes _ (each_both _ _ _ within upto) not_low) in
       let many = length-take k (given t f.cursor) in
@@ -125,17 +223,70 @@ module _ {past : List ℕ → Bool} {start : Pair} {b : Option Pair} {test : Mem
 
   module _ {S : Type 0} (device : Ghosts S) where
     -- No more lines were read than those that pass, and one of each source
-    pub lines_most : (ss : List S) (fs : List Feed) (texts : List (List ℕ)) (indexes : List (List Member))
+    pub lines_most : (ss : List S) (fs : List MergeInput) (texts : List (List ℕ)) (indexes : List (List Member))
         → Known (map device.text ss) texts → AllZip (IsIndex LINE_LIMIT) texts indexes
         → AllByRecursion (λ x. IsCutAt start (device.text x.0) x.1.cursor) (zip ss fs)
-        → AreFed past device ss fs
+        → AreInputs past device ss fs
         → AllByRecursion (λ m. IsUpto b (member_pair m)) (all_done past device.text ss fs)
-        → sum (map (λ (f : Feed). f.cursor.count) fs) ≤ length (filter test (all_lines indexes)) + length indexes
-    lines_most (s ∷ ss) (f ∷ fs) (t ∷ ts) (i ∷ is) known are cut fed upto =
+        → sum (map (λ (f : MergeInput). f.cursor.count) fs) ≤ length (filter test (all_lines indexes)) + length indexes
+    lines_most (s ∷ ss) (f ∷ fs) (t ∷ ts) (i ∷ is) known are cut input upto =
         let parts = each_cut (λ m. IsUpto b (member_pair m)) (done past (text_or (device.text s)) f)
         (all_done past device.text ss fs) upto in
-        let here = source_most (rw known.0 at fed.0) are.0 (cut.0 t i known.0 are.0) (rw known.0 at parts.0) in
-        let rest = lines_most ss fs ts is known.1 are.1 cut.1 fed.1 parts.1 in
-        let count = sum_by-cons (λ (k : ℕ). k) f.cursor.count (map (λ (f : Feed). f.cursor.count) fs) in
+        let here = source_most (rw known.0 at input.0) are.0 (cut.0 t i known.0 are.0) (rw known.0 at parts.0) in
+        let rest = lines_most ss fs ts is known.1 are.1 cut.1 input.1 parts.1 in
+        let count = sum_by-cons (λ (k : ℕ). k) f.cursor.count (map (λ (f : MergeInput). f.cursor.count) fs) in
         grind (arith, length-append, filter-append)
-    lines_most ss fs ts is known are cut fed upto = grind (arith, nil_from_length)
+    lines_most ss fs ts is known are cut input upto = grind (arith, nil_from_length)
+
+-- ---- how many bytes indexes gave
+
+-- a line has no more bytes than its entry with a line input
+row_most : (l : List ℕ) (m : Member) → line_entry LINE_LIMIT l ≡ Some m → length l ≤ length (line_row m)
+row_most l m e = grind (arith, length-append, length-take)
+
+rows_most : (ls : List (List ℕ)) (ms : List Member) → map (line_entry LINE_LIMIT) ls ≡ map Some ms
+    → bytes_of ls ≤ length (lines_text ms)
+rows_most (l ∷ ls) (m ∷ ms) e = grind (arith, row_most, length-append, rows_most ls ms)
+rows_most ls ms e = grind arith
+
+-- of equal lists of entries, the one is a front
+front_of : (us : List Member) (zs : List (Option Member)) (vs : List Member) → map Some us ++ zs ≡ map Some vs
+    → (tail : List Member) × (vs ≡ us ++ tail)
+front_of (u ∷ us) zs (v ∷ vs) e = grind (arith, front_of us zs vs)
+front_of us zs vs e = grind arith
+
+-- sources that tell their bytes, beside their inputs
+pub tell_both : {S : Type 0} (text : S → Option (List ℕ)) (ss : List S) (fs : List MergeInput) (texts : List (List ℕ))
+    → length ss ≡ length fs → Known (map text ss) texts
+    → AllZip (λ (t : List ℕ) (x : S × MergeInput). text x.0 ≡ Some t) texts (zip ss fs)
+tell_both text (s ∷ ss) (f ∷ fs) (t ∷ ts) same known = (known.0, tell_both text ss fs ts (omega arith) known.1)
+tell_both text ss fs ts same known = grind arith
+
+-- indexes were read from where the search for a pair ended
+module _ {past : List ℕ → Bool} {start : Pair} {b : Option Pair} {test : Member → Bool}
+    (p : Passes past start b test) where
+  source_bytes : (t : List ℕ) (ms : List Member) (c : CursorState) → IsIndex LINE_LIMIT t ms → IsCut start t ms c.start
+      → (r : ReadTo past b t c) → bytes_of r.read ≤ length (lines_text (filter test ms))
+  source_bytes t ms c index cut r =
+      let run = run_after start t ms c.start index cut in
+      let tail = front_of r.members (map (line_entry LINE_LIMIT) r.rest) cut.high (grind (arith, map-append)) in
+      let not_low = (each_cut (λ m. is_low start m ≡ false) r.members tail.0 (rw (← tail.1) cut.none_below)).0 in
+      let all_pass = each_passes p r.members r.within not_low in
+      grind (arith, filter-append, filter_all, rows_most, flat_map-append, length-append)
+
+  module _ {S : Type 0} (device : Ghosts S) where
+    -- What sources gave from before they were opened, when they were read up to the bound
+    pub gave_most : (ss0 : List S) (xs1 xs : List (S × MergeInput)) (texts : List (List ℕ)) (indexes : List (List Member))
+        → Known (map device.text ss0) texts → AllZip (λ (t : List ℕ) (x : S × MergeInput). device.text x.0 ≡ Some t) texts xs1
+        → AllZip (IsIndex LINE_LIMIT) texts indexes
+        → AllZip (λ x y. CameWithin device x y.0 y.1.cursor) ss0 xs1
+        → AllZip (Move device) xs1 xs
+        → AllByRecursion (λ x. IsCutAt start (device.text x.0) x.1.cursor) xs1
+        → AllByRecursion (λ x. (t : List ℕ) → device.text x.0 ≡ Some t → ReadTo past b t x.1.cursor) xs
+        → AllGaveWithin device test texts indexes ss0 (map (λ x. x.0) xs)
+    gave_most (s ∷ ss) (y ∷ ys) (x ∷ xs) (t ∷ ts) (i ∷ is) known tells are came moved cut reads =
+        let m = moved.0 in
+        let r = reads.0 t (m.text_kept ∙ tells.0) in
+        let here = source_bytes t i x.1.cursor are.0 (rw m.start_kept (cut.0 t i tells.0 are.0)) r in
+        grind (arith, gave_most ss ys xs ts is)
+    gave_most ss ys xs ts is known tells are came moved cut reads = grind arith

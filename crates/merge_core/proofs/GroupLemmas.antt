@@ -1,16 +1,146 @@
--- The lines of one pair, taken of one source after another.
-use Rattle.merge_core.proofs.Words.{[], ℕ, ◌++◌, ◌+◌, ◌-◌, ◌<◌, ◌∙◌, ◌∷◌, ◌≡◌, ◌≢◌, ◌≤◌, Alike, AllByRecursion, Below}
-use Rattle.merge_core.proofs.Words.{Bool, Gathered, IsFrom, IsPermutation, List, Member, NoneBefore, Pair, Upto}
-use Rattle.merge_core.proofs.Words.{WaitingLine, ap, append-nil, append_assoc, arith, cond-false, cond-true, drop}
-use Rattle.merge_core.proofs.Words.{drop-set-lt, each_join, each_weaker, false, filter, filter-append, flat_map}
-use Rattle.merge_core.proofs.Words.{flat_map-append, get_or, is_lt, length, member_pair, pair_cmp_total, queued, refl}
-use Rattle.merge_core.proofs.Words.{set, sym, take, take-append-drop, take_more, take_more_set, tied_back, true}
-use Rattle.merge_core.proofs.Words.{turn_cmp, waiting_pair, waits_of}
-use Rattle.std.proofs.Common.{drop-drop}
-use Rattle.merge_core.proofs.Filters.{each_both}
-use Rattle.merge_core.proofs.PairOrder.{below_upto, same_upto, same_from, upto_upto, not_below_itself}
-use Rattle.merge_core.proofs.TurnLemmas.{not_before, source_after}
-use Rattle.merge_core.proofs.HeapLemmas.{each_permuted, none_waits}
+-- The lines that wait: whose turn comes first, and the lines of one pair, taken of one source after another.
+use Rattle.merge_core.proofs.Words.{[], ℕ, ◌++◌, ◌<◌, ◌∙◌, ◌∷◌, ◌≡◌, ◌≢◌, ◌≤◌, AllByRecursion, IsPermutation, List}
+use Rattle.merge_core.proofs.Words.{Member, WaitingLine, arith, cond-false, cond-true, each_weaker, false, filter}
+use Rattle.merge_core.proofs.Words.{get_or, is_of, length, map, queued, refl, subst, suc, sum_by-cons, sym, true}
+use Rattle.merge_core.proofs.Words.{waits_of, Alike, AllBeyond, Below, Equal, IsAbove, MatchOption, NoneBefore}
+use Rattle.merge_core.proofs.Words.{NoneBelow, Option, Pair, Upto, is_eq, is_lt, length_permutation, pair_cmp}
+use Rattle.merge_core.proofs.Words.{pair_cmp_total, turn_cmp, waiting_pair, ◌+◌, ◌-◌, Bool, Gathered, IsFrom, ap}
+use Rattle.merge_core.proofs.Words.{append-nil, append_assoc, drop, drop-set-lt, each_join, filter-append, flat_map}
+use Rattle.merge_core.proofs.Words.{flat_map-append, member_pair, set, take, take-append-drop, take_more}
+use Rattle.merge_core.proofs.Words.{take_more_set, tied_back}
+use Rattle.std.proofs.lemmas.Grind.{common_steps}
+use Rattle.std.proofs.Common.{◌==◌, cond, sum_by, IfSome, drop-drop}
+use Rattle.std.specs.List.{All}
+use Rattle.std.proofs.lemmas.List.Sorted.{All-permutation, sum_by-IsPermutation}
+use Rattle.merge_core.proofs.PairOrder.{from_not_below, below_then, below_upto, same_upto, same_from, upto_upto}
+use Rattle.merge_core.proofs.PairOrder.{not_below_itself}
+use Rattle.merge_core.proofs.Many.{each_both}
+
+-- ---- which lines of each source wait, as lines come and go
+
+pub each_get : {X : Type 0} (P : X → Type 0) (xs : List X) (i : ℕ) (d : X) → AllByRecursion P xs → i < length xs
+    → P (get_or xs i d)
+each_get P (x ∷ xs) (suc i) d h l = each_get P xs i d h.1 (omega arith)
+each_get P xs i d h l = grind arith
+
+pub each_of : {X : Type 0} (P : X → Type 0) (xs : List X) → All P xs → AllByRecursion P xs
+each_of P [] h = tt
+each_of P (x ∷ xs) h = (h 0 x (omega arith), each_of P xs (λ k d l. h (suc k) d (omega arith)))
+
+pub each_permuted : {X : Type 0} (P : X → Type 0) (xs ys : List X) → IsPermutation xs ys → AllByRecursion P xs
+    → AllByRecursion P ys
+each_permuted P xs ys p h = each_of P ys (All-permutation P xs ys p (λ k d l. each_get P xs k d h l))
+
+-- ---- one line at most of each source
+
+pub waits_here : (i : ℕ) (w : WaitingLine) (ws : List WaitingLine) → w.source ≡ i → waits_of i (w ∷ ws)
+    ≡ w.member ∷ waits_of i ws
+waits_here i w ws e = grind arith
+
+pub waits_other : (i : ℕ) (w : WaitingLine) (ws : List WaitingLine) → w.source ≢ i → waits_of i (w ∷ ws) ≡ waits_of i ws
+waits_other i w ws n = grind arith
+
+pub waits_queued : (i : ℕ) (ms : List Member) (ws : List WaitingLine) → waits_of i (queued i ms ++ ws)
+    ≡ ms ++ waits_of i ws
+waits_queued i [] ws = refl
+waits_queued i (m ∷ ms) ws = grind (arith, waits_here, waits_queued i ms ws)
+
+pub waits_beside : (i j : ℕ) (ms : List Member) (ws : List WaitingLine) → j ≢ i
+    → waits_of j (queued i ms ++ ws) ≡ waits_of j ws
+waits_beside i j [] ws n = refl
+waits_beside i j (m ∷ ms) ws n = grind (arith, waits_other, waits_beside i j ms ws n)
+
+-- how many are of the source
+abbrev many_of : ℕ → List WaitingLine → ℕ
+many_of i ws = sum_by (λ w. cond (is_of i w) 1 0) ws
+
+length_waits : (i : ℕ) (ws : List WaitingLine) → length (waits_of i ws) ≡ many_of i ws
+length_waits i [] = refl
+length_waits i (w ∷ ws) = grind (arith, common_steps, sum_by-cons, cond-true, cond-false, length_waits i ws)
+
+module _ (P : Member → Type 0) (i : ℕ) where
+  pub each_waits : (ws : List WaitingLine) → AllByRecursion (λ w. is_of i w ≡ true → P w.member) ws
+      → AllByRecursion P (waits_of i ws)
+  each_waits [] h = tt
+  each_waits (w ∷ ws) h = grind (arith, each_waits ws h.1)
+
+  pub waits_each : (ws : List WaitingLine) → AllByRecursion P (waits_of i ws)
+      → AllByRecursion (λ w. is_of i w ≡ true → P w.member) ws
+  waits_each [] h = tt
+  waits_each (w ∷ ws) h =
+      (elim (is_of i w) as (λ b. AllByRecursion P
+      (map (λ (w : WaitingLine). w.member) (cond b (w ∷ filter (is_of i) ws) (filter (is_of i) ws)))
+      → (b ≡ true → P w.member) × AllByRecursion (λ w. is_of i w ≡ true → P w.member) ws)
+      [ true ↦ (λ k. (λ e. k.0, waits_each ws k.1)) | false ↦ (λ k. (λ e. absurd (cc), waits_each ws k)) ]) h
+
+all_same : (us vs : List Member) → length us ≤ 1 → length vs ≡ length us
+    → ((m : Member) → us ≡ m ∷ [] → AllByRecursion (λ k. k ≡ m) vs) → vs ≡ us
+all_same [] vs l e h = grind (arith, common_steps)
+all_same (u ∷ []) [] l e h = absurd (omega arith)
+all_same (u ∷ []) (v ∷ []) l e h = grind arith
+all_same (u ∷ []) (v ∷ w ∷ vs) l e h = absurd (omega arith)
+all_same (u ∷ x ∷ us) vs l e h = absurd (omega arith)
+
+-- where one of a source waits at most, their order doesn't matter
+pub waits_permuted : (i : ℕ) (xs ys : List WaitingLine) → IsPermutation xs ys → length (waits_of i xs) ≤ 1
+    → waits_of i ys ≡ waits_of i xs
+waits_permuted i xs ys p few =
+    let many = sum_by-IsPermutation (λ (w : WaitingLine). cond (is_of i w) 1 0) xs ys p in
+    all_same (waits_of i xs) (waits_of i ys) few (grind (arith, length_waits))
+    (λ m e. each_waits (λ k. k ≡ m) i ys
+    (each_permuted (λ w. is_of i w ≡ true → w.member ≡ m) xs ys p
+    (waits_each (λ k. k ≡ m) i xs (subst (AllByRecursion (λ k. k ≡ m)) (sym e) (refl, tt)))))
+
+-- where none of a source waits, none is of it
+pub none_waits : (i : ℕ) (ws : List WaitingLine) → waits_of i ws ≡ []
+    → AllByRecursion (λ (w : WaitingLine). w.source ≢ i) ws
+none_waits i ws e =
+    each_weaker (λ (w : WaitingLine) (h : is_of i w ≡ true → ⊥). λ (q : w.source ≡ i). h
+    (let t : (w.source == i) ≡ true = grind arith in t)) ws (waits_each (λ k. ⊥) i ws (grind arith))
+
+-- ---- whose turn comes first
+
+pub not_before : (v w : WaitingLine) → is_lt (turn_cmp v w) ≡ false → Upto (waiting_pair w) (waiting_pair v)
+not_before v w h = from_not_below (waiting_pair v) (waiting_pair w)
+    (grind arith)
+
+pub source_after : (v w : WaitingLine) → is_lt (turn_cmp v w) ≡ false → pair_cmp (waiting_pair v) (waiting_pair w)
+    ≡ Equal → w.source ≤ v.source
+source_after v w h e = grind arith
+
+-- where the first in turn is above, all are
+pub all_later : (p : Pair) (w : WaitingLine) (ws : List WaitingLine) → Below p (waiting_pair w)
+    → NoneBefore w ws → AllBeyond p ws
+all_later p w ws b h = each_weaker
+    (λ (v : WaitingLine) (q : is_lt (turn_cmp v w) ≡ false). below_then p (waiting_pair w) (waiting_pair v) b
+    (not_before v w q)) ws h
+
+-- what isn't above and doesn't have the pair is below
+pub below_unless : (p q : Pair) → Upto p q → is_eq (pair_cmp q p) ≡ false → Below p q
+below_unless p q h e = grind (arith, pair_cmp_total)
+
+-- where the first in turn doesn't have the pair, all are above it
+pub all_later_unless : (p : Pair) (w : WaitingLine) (ws : List WaitingLine) → w ≡ get_or ws 0 w
+    → is_eq (pair_cmp (waiting_pair w) p) ≡ false
+    → NoneBelow p ws → NoneBefore w ws
+    → AllBeyond p ws
+all_later_unless p w [] e n u h = tt
+all_later_unless p w (v ∷ ws) e n u h = all_later p w (v ∷ ws)
+    (below_unless p (waiting_pair w) (grind arith) n) h
+
+-- the line that is taken out has the pair that the first in turn has
+pub popped_alike : (p : Pair) (old new : List WaitingLine) (r : Option WaitingLine)
+    → MatchOption r ((old ≡ []) × (new ≡ [])) (λ w. IsPermutation old (w ∷ new)) → IfSome r (λ w. w ≡ get_or old 0 w)
+    → ((d : WaitingLine) → 0 < length old → Alike (waiting_pair (get_or old 0 d)) p)
+    → IfSome r (λ w. Alike (waiting_pair w) p)
+popped_alike p old new r out top h = grind (arith, length_permutation)
+
+-- the least of lines that all stand above a bound
+pub above_popped : (b : Option Pair) (old new : List WaitingLine) (w : WaitingLine) → IsPermutation old (w ∷ new)
+    → AllByRecursion (λ v. IsAbove b (waiting_pair v)) old → IsAbove b (waiting_pair w)
+above_popped b old new w p h = (each_permuted (λ v. IsAbove b (waiting_pair v)) old (w ∷ new) p h).0
+
+-- ---- the lines of one pair, taken of one source after another
 
 abbrev pub AreAt : Pair → List Member → Type 0
 AreAt pair = AllByRecursion (λ m. Alike (member_pair m) pair)
@@ -37,7 +167,6 @@ module _ (pair : Pair) where
       → AreBelow pair later → Gathered pair old (now ++ us ++ later) [] (group ++ us)
   gathered_more old now later group us h at low =
       let high = each_weaker (λ m e. ap is_lt e) us at in
-      let lows = each_weaker (λ m e. ap is_lt e) later low in
       let parts = each_cut (λ m. Upto (member_pair m) pair) now later h.upto in
       record {
         before = grind (arith, filter-append, filter_none, append-nil);

@@ -1,10 +1,52 @@
--- Lists of sources and feeds, seen as one list of pairs.
-use Rattle.merge_core.proofs.Words.{[], ℕ, ◌+◌, ◌-◌, ◌<◌, ◌∷◌, ◌≡◌, AllByRecursion, AllZip, Feed, Ghosts, List, Option}
-use Rattle.merge_core.proofs.Words.{Some, ap, arith, get_or, get_or-map, is_some, length, map, map-set, set}
-use Rattle.merge_core.proofs.Words.{set-get_or, suc, sum-map, text_or, true, unread, zip}
+-- Lists, and lists of sources and inputs, seen as one list of pairs.
+use Rattle.merge_core.proofs.Words.{[], ℕ, ◌++◌, ◌∷◌, ◌≡◌, ◌≤◌, AllByRecursion, Bool, List, arith, cond-true, false}
+use Rattle.merge_core.proofs.Words.{filter, filter-append, length, length-append, not, suc, take, take-append-drop}
+use Rattle.merge_core.proofs.Words.{true, ◌+◌, ◌-◌, ◌<◌, AllZip, MergeInput, Ghosts, Option, Some, ap, get_or, get_or-map}
+use Rattle.merge_core.proofs.Words.{is_some, map, map-set, set, set-get_or, sum-map, text_or, unread, zip}
 use Rattle.std.proofs.lemmas.List.Sums.{sum_by-set}
 use Rattle.std.proofs.lemmas.Slice.Zip.{get_or-zip, length-zip}
-use Rattle.merge_core.specs.Feeds.{Moved}
+use Rattle.merge_core.specs.MergeInputs.{Moved}
+
+-- ---- lists that are filtered, and what holds of each of a list
+
+-- what a filter lets through, of things that have a property
+pub each_filter : {X : Type 0} (A : X → Type 0) (f : X → Bool) (xs : List X) → AllByRecursion A xs
+    → AllByRecursion (λ x. A x × (f x ≡ true)) (filter f xs)
+each_filter A f [] h = tt
+each_filter A f (x ∷ xs) h = grind (arith, each_filter A f xs h.1)
+
+-- what a filter leaves out
+pub filter_out : {X : Type 0} (f : X → Bool) (xs : List X)
+    → AllByRecursion (λ x. f x ≡ false) (filter (λ x. not (f x)) xs)
+filter_out f [] = tt
+filter_out f (x ∷ xs) = grind (arith, filter_out f xs)
+
+pub filter_fewer : {X : Type 0} (f g : X → Bool) (xs : List X) → length (filter g (filter f xs)) ≤ length (filter g xs)
+filter_fewer f g [] = omega arith
+filter_fewer f g (x ∷ xs) = grind (arith, filter_fewer f g xs)
+
+pub filter_weaker : {X : Type 0} (f g : X → Bool) (xs : List X) → AllByRecursion (λ x. f x ≡ true → g x ≡ true) xs
+    → length (filter f xs) ≤ length (filter g xs)
+filter_weaker f g [] h = omega arith
+filter_weaker f g (x ∷ xs) h = grind (arith, cond-true, filter_weaker f g xs h.1)
+
+pub filter_front : {X : Type 0} (f : X → Bool) (n : ℕ) (xs : List X)
+    → length (filter f (take n xs)) ≤ length (filter f xs)
+filter_front f n xs = let whole = take-append-drop n xs in grind (arith, filter-append f (take n xs), length-append)
+
+pub filter_back : {X : Type 0} (f : X → Bool) (us vs : List X) → length (filter f vs) ≤ length (filter f (us ++ vs))
+filter_back f us vs = grind (arith, filter-append, length-append)
+
+pub each_take : {X : Type 0} (A : X → Type 0) (n : ℕ) (xs : List X) → AllByRecursion A xs → AllByRecursion A (take n xs)
+each_take A (suc n) (x ∷ xs) h = (h.0, each_take A n xs h.1)
+each_take A n xs h = tt
+
+pub each_both : {X : Type 0} (A B : X → Type 0) (xs : List X) → AllByRecursion A xs → AllByRecursion B xs
+    → AllByRecursion (λ x. A x × B x) xs
+each_both A B [] h k = tt
+each_both A B (x ∷ xs) h k = ((h.0, k.0), each_both A B xs h.1 k.1)
+
+-- ---- lists of sources and inputs, seen as one list of pairs
 
 pub is_told : (o : Option (List ℕ)) → is_some o ≡ true → o ≡ Some (text_or o)
 is_told o e = grind arith
@@ -39,24 +81,24 @@ two_trans : {X : Type 0} (R : X → X → Type 0) → ((x y z : X) → R x y →
 two_trans R t (x ∷ xs) (y ∷ ys) (z ∷ zs) h k = (t x y z h.0 k.0, two_trans R t xs ys zs h.1 k.1)
 two_trans R t xs ys zs h k = grind arith
 
--- One source and its feed change
+-- One source and its input change
 module _ {S : Type 0} (device : Ghosts S) where
-  abbrev pub Move : S × Feed → S × Feed → Type 0
+  abbrev pub Move : S × MergeInput → S × MergeInput → Type 0
   Move x y = Moved device x.0 y.0 x.1.cursor y.1.cursor
 
-  move_then : (x y z : S × Feed) → Move x y → Move y z → Move x z
+  move_then : (x y z : S × MergeInput) → Move x y → Move y z → Move x z
   move_then x y z a b = grind arith
 
-  pub move_not : (x : S × Feed) → Move x x
+  pub move_not : (x : S × MergeInput) → Move x x
   move_not x = grind arith
 
-  pub moved_trans : (xs ys zs : List (S × Feed)) → AllZip Move xs ys → AllZip Move ys zs → AllZip Move xs zs
+  pub moved_trans : (xs ys zs : List (S × MergeInput)) → AllZip Move xs ys → AllZip Move ys zs → AllZip Move xs zs
   moved_trans = two_trans Move move_then
 
-  pub moved_still : (xs : List (S × Feed)) → AllZip Move xs xs
+  pub moved_still : (xs : List (S × MergeInput)) → AllZip Move xs xs
   moved_still = two_same Move move_not
 
-  pub told_moved : (ss ss' : List S) (fs fs' : List Feed) → length ss' ≡ length fs'
+  pub told_moved : (ss ss' : List S) (fs fs' : List MergeInput) → length ss' ≡ length fs'
       → AllZip Move (zip ss fs) (zip ss' fs') → AllByRecursion (λ s. is_some (device.text s) ≡ true) ss
       → AllByRecursion (λ s. is_some (device.text s) ≡ true) ss'
   told_moved (s ∷ ss) (s' ∷ ss') (f ∷ fs) (f' ∷ fs') e m h =
@@ -64,7 +106,7 @@ module _ {S : Type 0} (device : Ghosts S) where
   told_moved ss [] fs fs' e m h = tt
   told_moved ss (s' ∷ ss') fs fs' e m h = grind arith
 
-  module _ (ss : List S) (fs : List Feed) (i : ℕ) (a s : S) (b f : Feed) (same : length ss ≡ length fs)
+  module _ (ss : List S) (fs : List MergeInput) (i : ℕ) (a s : S) (b f : MergeInput) (same : length ss ≡ length fs)
       (inside : i < length ss) where
     pub moved_set : Move (get_or ss i a, get_or fs i b) (s, f) → AllZip Move (zip ss fs) (zip (set ss i s) (set fs i f))
     moved_set m =
@@ -75,7 +117,7 @@ module _ {S : Type 0} (device : Ghosts S) where
     pub unread_set : unread device.extent (set ss i s) (set fs i f) + (device.extent (get_or ss i a) - (get_or fs i b).cursor.at)
         ≡ unread device.extent ss fs + (device.extent s - f.cursor.at)
     unread_set =
-        let sums = sum_by-set (λ (x : S × Feed). device.extent x.0 - x.1.cursor.at) (zip ss fs) i (s, f) (a, b) in
+        let sums = sum_by-set (λ (x : S × MergeInput). device.extent x.0 - x.1.cursor.at) (zip ss fs) i (s, f) (a, b) in
         grind (arith, zip_set, zip_at, length_zip, sum-map, sums)
 
 -- ---- one of a list is replaced

@@ -1,15 +1,15 @@
 -- The opening of sources, one after another.
-use Rattle.merge_core.proofs.Words.{[], ℕ, ◌++◌, ◌+◌, ◌<◌, ◌∙◌, ◌∷◌, ◌≡◌, ◌≤◌, AllByRecursion, AllZip, Bool, CameOnce}
-use Rattle.merge_core.proofs.Words.{CameWithin, CursorState, Fed, Feed, Ghosts, IsCutAt, IsLeast, IsNextLine}
-use Rattle.merge_core.proofs.Words.{IsSettled, List, MatchOption, Member, MergeState, None, Option, Pair, Ready, Some}
-use Rattle.merge_core.proofs.Words.{Stands, arith, done, drop, drop_all, each_weaker, feed_of, feeds}
+use Rattle.merge_core.proofs.Words.{[], ℕ, ◌++◌, ◌+◌, ◌<◌, ◌∙◌, ◌∷◌, ◌≡◌, ◌≤◌, AllByRecursion, AllZip, Bool}
+use Rattle.merge_core.proofs.Words.{CameOnce, CameWithin, CursorState, IsInput, MergeInput, Ghosts, IsCutAt, IsLeast}
+use Rattle.merge_core.proofs.Words.{IsNextLine, IsSettled, List, MatchOption, Member, MergeState, None, Option, Pair}
+use Rattle.merge_core.proofs.Words.{Ready, Some, Stands, arith, done, drop, drop_all, each_weaker, input_of, inputs}
 use Rattle.merge_core.proofs.Words.{filter, first_length, given, inl, length, length-append, lines, map, option_list}
 use Rattle.merge_core.proofs.Words.{refl, set, stays, suc, sum, sum-map, take, take_more_set, text_or, zip}
 use Rattle.std.proofs.lemmas.List.Sums.{sum_by_push}
 use Rattle.merge_core.specs.Openings.{AddedSource, AreOpened}
-use Rattle.merge_core.proofs.FeedLemmas.{LineRead, done_next, fed_end, fed_more, settled_more}
+use Rattle.merge_core.proofs.InputLemmas.{LineRead, done_next, input_end, input_more, settled_more}
 use Rattle.source_core.specs.IndexLines.{IsLineStart}
-use Rattle.merge_core.proofs.StateLemmas.{feeds_added, placed_queued}
+use Rattle.merge_core.proofs.StateLemmas.{inputs_added, placed_queued}
 
 zip_push_each : {A B : Type 0} (R : A → B → Type 0) (xs : List A) (ys : List B) (x : A) (y : B) → AllZip R xs ys → R x y
     → AllZip R (xs ++ x ∷ []) (ys ++ y ∷ [])
@@ -20,12 +20,12 @@ zip_push_each R xs ys x y h r = grind arith
 module _ {past : List ℕ → Bool} {S : Type 0} {device : Ghosts S} {ss : List S}
     {m m' : MergeState} (was : Ready past device ss m) {s : S} {IsCursor : CursorState → Type 0}
     (added : AddedSource past device s IsCursor m m') where
-  abbrev pub its_feed : Feed
-  its_feed = feed_of added.cursor added.first
+  abbrev pub its_input : MergeInput
+  its_input = input_of added.cursor added.first
 
-  pub added_feeds : feeds m' ≡ feeds m ++ its_feed ∷ []
-  added_feeds =
-      rw added.cursors_are (feeds_added was.aligned added.cursor added.first m'.queue added.fed.few added.queue_is)
+  pub added_inputs : inputs m' ≡ inputs m ++ its_input ∷ []
+  added_inputs =
+      rw added.cursors_are (inputs_added was.aligned added.cursor added.first m'.queue added.input.few added.queue_is)
 
   pub ready_added : Ready past device (ss ++ s ∷ []) m'
   ready_added =
@@ -37,33 +37,33 @@ module _ {past : List ℕ → Bool} {S : Type 0} {device : Ghosts S} {ss : List 
           same = grind (arith, length-append);
           placed = rw long (placed_queued (n + 1) n m.queue m'.queue added.first (omega arith)
               (each_weaker (λ v h. omega arith) m.queue was.aligned.placed) added.queue_is);
-          fed = rw added_feeds (zip_push_each (λ s f. Fed past (device.text s) (device.extent s) f) ss (feeds m) s its_feed
-              was.aligned.fed added.fed);
+          input = rw added_inputs (zip_push_each (λ s f. IsInput past (device.text s) (device.extent s) f) ss (inputs m) s its_input
+              was.aligned.input added.input);
         };
-        settled = rw added_feeds (zip_push_each (λ s f. IsSettled past (device.text s) f) ss (feeds m) s its_feed
+        settled = rw added_inputs (zip_push_each (λ s f. IsSettled past (device.text s) f) ss (inputs m) s its_input
             was.settled added.settled);
       }
 
 module _ {S : Type 0} (device : Ghosts S) (start : Pair) where
-  pub cuts_of : (olds ss : List S) (fs : List Feed) → map device.text ss ≡ map device.text olds → AreOpened device start olds (zip ss fs)
+  pub cuts_of : (olds ss : List S) (fs : List MergeInput) → map device.text ss ≡ map device.text olds → AreOpened device start olds (zip ss fs)
       → AllByRecursion (λ x. IsCutAt start (device.text x.0) x.1.cursor) (zip ss fs)
   cuts_of (x ∷ olds) (s ∷ ss) (f ∷ fs) same h =
       let here : device.text s ≡ device.text x = cc in (rw here h.0.cut, cuts_of olds ss fs (cc) h.1)
   cuts_of olds ss fs same h = grind arith
 
-  pub begun_of : (olds ss : List S) (fs : List Feed) → length ss ≡ length fs → IsLeast start
+  pub begun_of : (olds ss : List S) (fs : List MergeInput) → length ss ≡ length fs → IsLeast start
       → AreOpened device start olds (zip ss fs) → AllByRecursion (λ f. f.cursor.start ≡ 0) fs
   begun_of (x ∷ olds) (s ∷ ss) (f ∷ fs) long least h = (h.0.first least, begun_of olds ss fs (omega arith) least h.1)
   begun_of [] (s ∷ ss) (f ∷ fs) long least h = absurd h
   begun_of olds [] (f ∷ fs) long least h = absurd (omega arith)
   begun_of olds ss [] long least h = tt
 
-  pub came_of : (olds : List S) (ys : List (S × Feed)) → AreOpened device start olds ys
+  pub came_of : (olds : List S) (ys : List (S × MergeInput)) → AreOpened device start olds ys
       → AllZip (λ x y. CameWithin device x y.0 y.1.cursor) olds ys
   came_of (x ∷ olds) (y ∷ ys) h = (h.0.came, came_of olds ys h.1)
   came_of olds ys h = grind arith
 
-  pub came_once_of : (olds : List S) (ys : List (S × Feed)) → IsLeast start → AreOpened device start olds ys
+  pub came_once_of : (olds : List S) (ys : List (S × MergeInput)) → IsLeast start → AreOpened device start olds ys
       → AllZip (λ x y. CameOnce device x y.0 y.1.cursor) olds ys
   came_once_of (x ∷ olds) (y ∷ ys) least h = (h.0.once least, came_once_of olds ys least h.1)
   came_once_of olds ys least h = grind arith
@@ -76,7 +76,7 @@ added_by added is = record {
   first = added.first;
   cursors_are = added.cursors_are;
   queue_is = added.queue_is;
-  fed = added.fed;
+  input = added.input;
   settled = added.settled;
   fresh = added.fresh;
   cursor_is = is;
@@ -85,11 +85,11 @@ added_by added is = record {
 -- ---- the first line of a source
 
 -- what is known of a source of which no line was read yet
-pub fed_fresh : (past : List ℕ → Bool) (text : Option (List ℕ)) (extent : ℕ) (c : CursorState)
+pub input_fresh : (past : List ℕ → Bool) (text : Option (List ℕ)) (extent : ℕ) (c : CursorState)
     → Stands text extent c → c.count ≡ 0 → c.at ≡ c.start
     → ((t : List ℕ) → text ≡ Some t → IsLineStart t c.start)
-    → Fed past text extent (feed_of c [])
-fed_fresh past text extent c stands none at begins = record {
+    → IsInput past text extent (input_of c [])
+input_fresh past text extent c stands none at begins = record {
   stands = stands;
   few = omega arith;
   counted = omega arith;
@@ -106,35 +106,34 @@ fed_fresh past text extent c stands none at begins = record {
 }
 
 -- its first line was read, if it has one
-pub record FirstRead (past : List ℕ → Bool) (text : Option (List ℕ)) (extent : ℕ) (f : Feed) : Type 0 where
-  pub fed : Fed past text extent f
+pub record FirstRead (past : List ℕ → Bool) (text : Option (List ℕ)) (extent : ℕ) (f : MergeInput) : Type 0 where
+  pub input : IsInput past text extent f
   pub settled : IsSettled past text f
   pub fresh : (t : List ℕ) → text ≡ Some t → done past t f ≡ []
 
 pub first_read : {past : List ℕ → Bool} {text : Option (List ℕ)} {extent : ℕ} {old : CursorState}
-    → Fed past text extent (feed_of old []) → old.count ≡ 0 → (c : CursorState) (o : Option Member) (ws : List Member)
+    → IsInput past text extent (input_of old []) → old.count ≡ 0 → (c : CursorState) (o : Option Member) (ws : List Member)
     → Stands text extent c → c.start ≡ old.start
     → MatchOption o (c.count ≡ old.count) (λ m. c.count ≡ old.count + 1)
     → ((t : List ℕ) → text ≡ Some t → c.at ≤ old.at + first_length (lines (drop old.at t)))
     → ((t : List ℕ) → text ≡ Some t → IsNextLine t old.at c.at o) → ws ≡ filter (stays past) (option_list o)
-    → FirstRead past text extent (feed_of c ws)
-first_read {past = past} {text = text} {extent = extent} {old = old} fed fresh c None ws stands start
+    → FirstRead past text extent (input_of c ws)
+first_read {past = past} {text = text} {extent = extent} {old = old} input fresh c None ws stands start
     count near next is =
     let zero_count : c.count ≡ 0 = count ∙ fresh in
     rw is (record {
-      fed = fed_end fed c stands start count near next;
+      input = input_end input c stands start count near next;
       settled = λ t e none.
-          let before = fed.stands.rest t e in
           let now = stands.rest t e in
           let end = next t e in
           inl (grind arith);
       fresh = λ t e. rw zero_count refl;
     })
-first_read {past = past} {text = text} {extent = extent} {old = old} fed fresh c (Some m) ws stands start
+first_read {past = past} {text = text} {extent = extent} {old = old} input fresh c (Some m) ws stands start
     count near next is =
     let none : (t : List ℕ) → given t old ≡ [] = λ t. rw fresh refl in
     let read : LineRead past text extent old c m = record {
-      was = fed;
+      was = input;
       inside = λ t e. rw (none t) tt;
       stands = stands;
       start = start;
@@ -144,7 +143,7 @@ first_read {past = past} {text = text} {extent = extent} {old = old} fed fresh c
       low = λ t e. rw (none t) tt;
     } in
     record {
-      fed = fed_more read ws (inl is);
+      input = input_more read ws (inl is);
       settled = settled_more read ws is;
       fresh = λ t e. done_next read ws is t e ∙ none t;
     }
@@ -153,13 +152,13 @@ pub zip_none : {A B : Type 0} (xs : List A) (ys : List B) → ys ≡ [] → zip 
 zip_none [] ys e = refl
 zip_none (x ∷ xs) ys e = grind arith
 
--- one source more, of those that have feeds
+-- one source more, of those that have inputs
 pub zip_push : {A B : Type 0} (xs : List A) (ys : List B) (i : ℕ) (x : A) (y : B) → length ys ≡ i → i < length xs
     → zip (set xs i x) (ys ++ y ∷ []) ≡ zip xs ys ++ (x, y) ∷ []
 zip_push (a ∷ xs) (b ∷ ys) (suc i) x y e l = grind (arith, zip_push xs ys i x y)
 zip_push xs ys i x y e l = grind (arith, zip_none)
 
-pub fresh_of : (past : List ℕ → Bool) (text : Option (List ℕ)) (f : Feed)
+pub fresh_of : (past : List ℕ → Bool) (text : Option (List ℕ)) (f : MergeInput)
     → ((t : List ℕ) → text ≡ Some t → done past t f ≡ []) → done past (text_or text) f ≡ []
 fresh_of past text f h = grind (arith, drop_all)
 

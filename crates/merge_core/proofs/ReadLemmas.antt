@@ -1,50 +1,49 @@
--- What was taken of sources that are indexes, beside all of their collection.
-use Rattle.merge_core.proofs.Words.{[], ℕ, ◌+◌, ◌∷◌, ◌≡◌, AllByRecursion, AllZip, AreFed, AreSettled, AreTold, Bool}
-use Rattle.merge_core.proofs.Words.{CursorState, Feed, Ghosts, IsCutAt, IsIndex, Known, LINE_LIMIT, List, Member}
+-- What was taken of sources, beside the lines that were read of them, or the collection of indexes.
+use Rattle.merge_core.proofs.Words.{[], ℕ, ◌+◌, ◌∷◌, ◌≡◌, AllByRecursion, AllZip, AreInputs, AreSettled, AreTold, Bool}
+use Rattle.merge_core.proofs.Words.{CursorState, MergeInput, Ghosts, IsCutAt, IsIndex, Known, LINE_LIMIT, List, Member}
 use Rattle.merge_core.proofs.Words.{MergeState, Option, Pair, Reached, WaitingLine, all_done, all_lines, arith}
-use Rattle.merge_core.proofs.Words.{collection, done, each_weaker, false, feeds, feeds_from, filter, filter-append}
-use Rattle.merge_core.proofs.Words.{is_low, length, map, stays, text_or, true, zip}
-use Rattle.merge_core.proofs.GroupLemmas.{each_cut}
-use Rattle.merge_core.proofs.HeapLemmas.{each_waits}
+use Rattle.merge_core.proofs.Words.{collection, done, each_weaker, false, inputs, inputs_from, filter, filter-append}
+use Rattle.merge_core.proofs.Words.{is_low, length, map, stays, text_or, true, zip, IsInput, IsSettled, Some}
+use Rattle.merge_core.proofs.Words.{append_assoc, drop, given, length-map, lines, nil_from_length, read_lines, refl}
+use Rattle.merge_core.proofs.Words.{sum, sum_by-cons, take-append-drop}
+use Rattle.merge_core.proofs.GroupLemmas.{each_cut, each_waits}
 use Rattle.merge_core.proofs.Many.{is_told, told_moved}
 use Rattle.merge_core.proofs.MergeLemmas.{lower_by_pair}
-use Rattle.merge_core.proofs.WholeLemmas.{told_known}
-use Rattle.merge_core.proofs.ReadLines.{IsUpward, is_read, IsLate, fed_read, wanted_high}
-use Rattle.merge_core.proofs.StateLemmas.{feeds_long, long_of}
-use Rattle.merge_core.proofs.TakenLemmas.{Took}
-use Rattle.merge_core.proofs.StartLemmas.{RunsFrom, runs_sought, runs_kept}
+use Rattle.merge_core.proofs.SourceLemmas.{told_known, RunsFrom, runs_sought, runs_kept}
+use Rattle.merge_core.proofs.TakenLemmas.{IsUpward, is_read, IsLate, input_read, wanted_high, given_read, Took}
+use Rattle.merge_core.proofs.StateLemmas.{inputs_long, long_of}
+use Rattle.merge_core.specs.Runs.{IsPart, parts}
+
+-- ---- what was taken of sources that are indexes, beside all of their collection
 
 -- ---- all sources
 
-pub late_feeds : (upto : Member → Bool) (n : ℕ) (cs : List CursorState) (ws : List WaitingLine)
+pub late_inputs : (upto : Member → Bool) (n : ℕ) (cs : List CursorState) (ws : List WaitingLine)
     → AllByRecursion (λ (w : WaitingLine). IsLate upto w.member) ws
-    → AllByRecursion (λ f. AllByRecursion (IsLate upto) f.waits) (feeds_from n cs ws)
-late_feeds upto n [] ws late = tt
-late_feeds upto n (c ∷ cs) ws late = (
-  each_waits (IsLate upto) n ws (each_weaker (λ w h e. h) ws late),
-  late_feeds upto (n + 1) cs ws late,
-)
+    → AllByRecursion (λ f. AllByRecursion (IsLate upto) f.waits) (inputs_from n cs ws)
+late_inputs upto n [] ws late = tt
+late_inputs upto n (c ∷ cs) ws late = grind (arith, each_waits, each_weaker, late_inputs upto (n + 1) cs ws late)
 
 module _ (upto : Member → Bool) (past : List ℕ → Bool) (upward : IsUpward past) {S : Type 0}
     (device : Ghosts S) where
-  all_read : (ss : List S) (fs : List Feed) (highs : List (List Member))
+  all_read : (ss : List S) (fs : List MergeInput) (highs : List (List Member))
       → AllByRecursion (λ f. AllByRecursion (IsLate upto) f.waits) fs → AreTold device.text ss
-      → AllZip (RunsFrom device) (zip ss fs) highs → AreFed past device ss fs
+      → AllZip (RunsFrom device) (zip ss fs) highs → AreInputs past device ss fs
       → AreSettled past device ss fs → AllByRecursion (λ m. upto m ≡ true) (all_done past device.text ss fs)
       → filter (is_read past upto) (all_lines highs) ≡ all_done past device.text ss fs
-  all_read (s ∷ ss) (f ∷ fs) (i ∷ is) late told runs fed settled each =
+  all_read (s ∷ ss) (f ∷ fs) (i ∷ is) late told runs input settled each =
       let is_text = is_told (device.text s) told.0 in
       let cut = each_cut (λ m. upto m ≡ true) (done past (text_or (device.text s)) f) _ each in
-      let here = fed_read upward upto (rw is_text at fed.0) (rw is_text at settled.0) late.0 cut.0 i (runs.0 _ is_text) in
+      let here = input_read upward upto (rw is_text at input.0) (rw is_text at settled.0) late.0 cut.0 i (runs.0 _ is_text) in
       grind (arith, filter-append, all_read ss fs is)
-  all_read ss fs highs late told runs fed settled each = grind arith
+  all_read ss fs highs late told runs input settled each = grind arith
 
 -- Where a merge of indexes came to, which were read from where the search for a pair ended: what was taken of the lines
 -- that are wanted, of which none is below that pair
 pub took_of_indexes : {S : Type 0} {device : Ghosts S}
     {past : List ℕ → Bool} {ss0 ss : List S} {m0 m : MergeState} {b : Option Pair} {taken : List Member}
     → Reached past device ss0 m0 ss m b taken → length ss0 ≡ length m0.cursors.items
-    → (start : Pair) → AllByRecursion (λ x. IsCutAt start (device.text x.0) x.1.cursor) (zip ss0 (feeds m0))
+    → (start : Pair) → AllByRecursion (λ x. IsCutAt start (device.text x.0) x.1.cursor) (zip ss0 (inputs m0))
     → (texts : List (List ℕ)) (indexes : List (List Member)) → Known (map device.text ss0) texts
     → AllZip (IsIndex LINE_LIMIT) texts indexes → IsUpward past → (wanted : Member → Bool)
     → ((m : Member) → wanted m ≡ true → stays past m ≡ true)
@@ -52,8 +51,8 @@ pub took_of_indexes : {S : Type 0} {device : Ghosts S}
     → Took past wanted b m.queue (collection indexes) taken
 took_of_indexes {device = device} {past = past} {ss0 = ss0} {ss = ss} {m0 = m0} {m = m} reached same start cut texts indexes known
     are upward wanted within beyond =
-    let long : length ss0 ≡ length (feeds m0) = grind (arith, feeds_long) in
-    let found = runs_sought device start ss0 (feeds m0) texts indexes long known are cut in
+    let long : length ss0 ≡ length (inputs m0) = grind (arith, inputs_long) in
+    let found = runs_sought device start ss0 (inputs m0) texts indexes long known are cut in
     let told = told_known device.text ss0 texts known in
     record {
       upward = upward;
@@ -61,11 +60,92 @@ took_of_indexes {device = device} {past = past} {ss0 = ss0} {ss = ss} {m0 = m0} 
       above = reached.above;
       all = all_lines found.0;
       wanted_of = rw (← found.2) (wanted_high wanted (is_low start) (lower_by_pair start) beyond (all_lines indexes));
-      done = all_done past device.text ss (feeds m);
+      done = all_done past device.text ss (inputs m);
       handed = reached.handed.told told;
-      read = λ upto late each. all_read upto past upward device ss (feeds m) found.0
-          (late_feeds upto 0 m.cursors.items m.queue late)
-          (told_moved device ss0 ss (feeds m0) (feeds m) (long_of reached.ready.aligned) reached.moved told)
-          (runs_kept device (zip ss0 (feeds m0)) (zip ss (feeds m)) found.0 reached.moved found.1)
-          reached.ready.aligned.fed reached.ready.settled each;
+      read = λ upto late each. all_read upto past upward device ss (inputs m) found.0
+          (late_inputs upto 0 m.cursors.items m.queue late)
+          (told_moved device ss0 ss (inputs m0) (inputs m) (long_of reached.ready.aligned) reached.moved told)
+          (runs_kept device (zip ss0 (inputs m0)) (zip ss (inputs m)) found.0 reached.moved found.1)
+          reached.ready.aligned.input reached.ready.settled each;
     }
+
+-- ---- what was taken of sources of any bytes, beside the lines that were read of them
+
+-- ---- one source
+
+module _ (past : List ℕ → Bool) where
+  part_is : {t : List ℕ} {extent : ℕ} {f : MergeInput} (whole : Bool) → IsInput past (Some t) extent f
+      → IsSettled past (Some t) f → (whole ≡ true → f.waits ≡ []) → IsPart past whole t (given t f.cursor)
+  part_is {t = t} {f = f} whole input settled none =
+      let told = input.told t refl in
+      record {
+        before = told.begins.0;
+        read = read_lines t f.cursor;
+        after = lines (drop f.cursor.at t);
+        cut = grind (arith, take-append-drop, append_assoc);
+        run = told.run;
+        ended = λ e. settled t refl (none e);
+      }
+
+-- ---- all sources
+
+pub none_wait : (n : ℕ) (cs : List CursorState) → AllByRecursion (λ f. f.waits ≡ []) (inputs_from n cs [])
+none_wait n [] = tt
+none_wait n (c ∷ cs) = (refl, none_wait (n + 1) cs)
+
+module _ (past : List ℕ → Bool) {S : Type 0} (device : Ghosts S) where
+  -- each is a part of its source
+  pub parts_are : (ss : List S) (fs : List MergeInput) (texts : List (List ℕ)) (whole : Bool) → Known (map device.text ss) texts
+      → AreInputs past device ss fs → AreSettled past device ss fs
+      → (whole ≡ true → AllByRecursion (λ f. f.waits ≡ []) fs)
+      → AllZip (IsPart past whole) texts (parts device.text ss fs)
+  parts_are (s ∷ ss) (f ∷ fs) (t ∷ ts) whole known input settled none =
+      let here = part_is past whole (rw known.0 at input.0) (rw known.0 at settled.0) (λ e. (none e).0) in
+      let rest = parts_are ss fs ts whole known.1 input.1 settled.1 (λ e. (none e).1) in
+      grind arith
+  parts_are ss fs ts whole known input settled none = grind arith
+
+  -- they have as many lines as were counted
+  pub parts_count : (ss : List S) (fs : List MergeInput) → AreTold device.text ss → AreInputs past device ss fs
+      → sum (map (λ (f : MergeInput). f.cursor.count) fs)
+      ≡ sum (map (λ (ms : List Member). length ms) (parts device.text ss fs))
+  parts_count (s ∷ ss) (f ∷ fs) told input =
+      let t = text_or (device.text s) in
+      let many = (input.0.told t (is_told (device.text s) told.0)).as_many in
+      let a = sum_by-cons (λ (k : ℕ). k) f.cursor.count (map (λ (f : MergeInput). f.cursor.count) fs) in
+      let b = sum_by-cons (λ (k : ℕ). k) (length (given t f.cursor))
+      (map (λ (ms : List Member). length ms) (parts device.text ss fs)) in
+      grind (arith, length-map, parts_count ss fs)
+  parts_count ss fs told input = grind (arith, nil_from_length)
+
+  module _ (upward : IsUpward past) (upto : Member → Bool) where
+    parts_read : (ss : List S) (fs : List MergeInput) → AllByRecursion (λ f. AllByRecursion (IsLate upto) f.waits) fs
+        → AreTold device.text ss → AreInputs past device ss fs → AreSettled past device ss fs
+        → AllByRecursion (λ m. upto m ≡ true) (all_done past device.text ss fs)
+        → filter (is_read past upto) (all_lines (parts device.text ss fs)) ≡ all_done past device.text ss fs
+    parts_read (s ∷ ss) (f ∷ fs) late told input settled each =
+        let is_text = is_told (device.text s) told.0 in
+        let cut = each_cut (λ m. upto m ≡ true) (done past (text_or (device.text s)) f) _ each in
+        let here = given_read upward upto (rw is_text at input.0) (rw is_text at settled.0) late.0 cut.0 in
+        grind (arith, filter-append, parts_read ss fs)
+    parts_read ss fs late told input settled each = grind arith
+
+-- where a merge came to: what was taken of the wanted lines among those that were read
+pub took_of_parts : {S : Type 0} {device : Ghosts S}
+    {past : List ℕ → Bool} {ss0 ss : List S} {m0 m : MergeState} {b : Option Pair} {taken : List Member}
+    → Reached past device ss0 m0 ss m b taken → AreTold device.text ss0
+    → IsUpward past → (wanted : Member → Bool) → ((m : Member) → wanted m ≡ true → stays past m ≡ true)
+    → Took past wanted b m.queue (collection (parts device.text ss (inputs m))) taken
+took_of_parts {device = device} {past = past} {ss0 = ss0} {ss = ss} {m0 = m0} {m = m} reached told upward wanted within = record {
+  upward = upward;
+  within = within;
+  above = reached.above;
+  all = all_lines (parts device.text ss (inputs m));
+  wanted_of = refl;
+  done = all_done past device.text ss (inputs m);
+  handed = reached.handed.told told;
+  read = λ upto late each.
+      parts_read past device upward upto ss (inputs m) (late_inputs upto 0 m.cursors.items m.queue late)
+      (told_moved device ss0 ss (inputs m0) (inputs m) (long_of reached.ready.aligned) reached.moved told) reached.ready.aligned.input
+      reached.ready.settled each;
+}

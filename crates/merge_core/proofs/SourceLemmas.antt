@@ -1,16 +1,189 @@
--- The lines that were taken of sources are lines of theirs.
-use Rattle.merge_core.proofs.Words.{[], ℕ, ◌++◌, ◌∷◌, ◌≡◌, ◌⊎◌, AllByRecursion, AllZip-long, AreFed, AreLinesOf}
-use Rattle.merge_core.proofs.Words.{AreTold, Bool, Fed, Feed, Ghosts, HasEntry, LINE_LIMIT, List, Member, MergeState}
-use Rattle.merge_core.proofs.Words.{Option, Pair, Reached, Some, all_done, arith, done, each_join, each_rising}
-use Rattle.merge_core.proofs.Words.{each_weaker, feeds, given, inl, inr, length, line_entry, lines, map, member_place}
-use Rattle.merge_core.proofs.Words.{place_cmp, place_cmp_total, read_lines, refl, suc, take, text_or}
+-- What was read of sources: from where they are read on, to their ends, and each byte once.
+use Rattle.merge_core.proofs.Words.{[], ℕ, ◌++◌, ◌∙◌, ◌∷◌, ◌≡◌, AllByRecursion, AllZip, MergeInput, Ghosts, IsCut, IsCutAt}
+use Rattle.merge_core.proofs.Words.{IsIndex, IsRun, Known, LINE_LIMIT, List, Member, NeverFalls, Pair, Some}
+use Rattle.merge_core.proofs.Words.{all_lines, ap, arith, drop, each_weaker, false, filter, filter-append, is_low}
+use Rattle.merge_core.proofs.Words.{length, length-map, lines, map, map-append, member_pair, not, pair_cmp, refl}
+use Rattle.merge_core.proofs.Words.{sym, zip, AllMoved, AreInputs, AreSettled, Bool, IsInput, IsSettled, KeepsSources}
+use Rattle.merge_core.proofs.Words.{MergeState, Option, all_done, append-nil, done, inputs, flat_map, given, inl, inr}
+use Rattle.merge_core.proofs.Words.{is_some, length-drop, nil_from_length, stays, take_all, text_or, true}
+use Rattle.merge_core.proofs.Words.{true≢false, ◌⊎◌, AllZip-long, AreLinesOf, AreTold, HasEntry, Reached, each_join}
+use Rattle.merge_core.proofs.Words.{each_rising, line_entry, member_place, place_cmp, place_cmp_total, read_lines}
+use Rattle.merge_core.proofs.Words.{suc, take, AllGaveOnce, CameOnce}
+use Rattle.std.proofs.Common.{ap₂}
+use Rattle.std.proofs.lemmas.List.{drop_at}
+use Rattle.source_core.specs.Search.{is_below}
+use Rattle.merge_core.proofs.GroupLemmas.{filter_none, filter_all}
+use Rattle.merge_core.proofs.Many.{Move, is_told, told_moved, length_zip, each_take}
+use Rattle.merge_core.proofs.StateLemmas.{inputs_long, long_of}
 use Rattle.cdxj_places.specs.Rising.{IsIn}
 use Rattle.merge_core.specs.SourceLines.{IsLineIn, IsLineOf}
-use Rattle.merge_core.proofs.FeedLemmas.{done_cut}
-use Rattle.merge_core.proofs.Filters.{each_take}
-use Rattle.merge_core.proofs.StateLemmas.{feeds_long, long_of}
-use Rattle.merge_core.proofs.Many.{is_told, told_moved, length_zip}
-use Rattle.merge_core.proofs.WholeLemmas.{texts_kept}
+use Rattle.merge_core.proofs.InputLemmas.{done_cut}
+
+-- ---- the lines that the sources have from where they are read on
+
+-- of equal lists, with fronts of one length
+after_front : {X : Type 0} (us vs xs ys : List X) → length us ≡ length xs → us ++ vs ≡ xs ++ ys → vs ≡ ys
+after_front us vs xs ys n e =
+    rw (drop_at us vs (length us) refl, n, drop_at xs ys (length xs) refl) at (ap (drop (length us)) e)
+
+falls_back : (us vs : List Member) → NeverFalls member_pair pair_cmp (us ++ vs) → NeverFalls member_pair pair_cmp vs
+falls_back [] vs h = h
+falls_back (u ∷ us) vs h = falls_back us vs h.1
+
+-- no pair is below the empty one
+pub none_below_empty : (key stamp : List ℕ) → is_below ([], []) (key, stamp) ≡ false
+none_below_empty [] [] = refl
+none_below_empty [] (b ∷ bs) = refl
+none_below_empty (b ∷ bs) stamp = refl
+
+each_from_empty : (ms : List Member) → AllByRecursion (λ m. is_below ([], []) (member_pair m) ≡ false) ms
+each_from_empty [] = tt
+each_from_empty (m ∷ ms) = (none_below_empty (member_pair m).0 (member_pair m).1, each_from_empty ms)
+
+-- an index that was cut: its last lines are a run, and they are those that aren't below
+pub run_after : (start : Pair) (t : List ℕ) (ms : List Member) (offset : ℕ) → IsIndex LINE_LIMIT t ms
+    → (cut : IsCut start t ms offset)
+    → IsRun LINE_LIMIT (lines (drop offset t)) cut.high × (filter (λ m. not (is_low start m)) ms ≡ cut.high)
+run_after start t ms offset index cut =
+    grind (arith, map-append, after_front, length-map, falls_back, filter-append, filter_none, each_weaker, filter_all)
+
+module _ {S : Type 0} (device : Ghosts S) where
+  -- the lines from where the source is read on are these members
+  abbrev pub RunsFrom : S × MergeInput → List Member → Type 0
+  RunsFrom x ms = (t : List ℕ) → device.text x.0 ≡ Some t → IsRun LINE_LIMIT (lines (drop x.1.cursor.start t)) ms
+
+  -- of sources that are read from where a search ended, those that aren't below the start
+  pub runs_sought : (start : Pair) (ss : List S) (fs : List MergeInput) (texts : List (List ℕ)) (indexes : List (List Member))
+      → length ss ≡ length fs → Known (map device.text ss) texts → AllZip (IsIndex LINE_LIMIT) texts indexes
+      → AllByRecursion (λ x. IsCutAt start (device.text x.0) x.1.cursor) (zip ss fs)
+      → (highs : List (List Member)) × AllZip RunsFrom (zip ss fs) highs
+      × (filter (λ m. not (is_low start m)) (all_lines indexes) ≡ all_lines highs)
+  runs_sought start (s ∷ ss) (f ∷ fs) (t ∷ ts) (i ∷ is) same known are cut =
+      let here = cut.0 t i known.0 are.0 in
+      let run = run_after start t i f.cursor.start are.0 here in
+      let others = runs_sought start ss fs ts is (omega arith) known.1 are.1 cut.1 in (
+        here.high ∷ others.0,
+        grind arith,
+        filter-append (λ m. not (is_low start m)) i (all_lines is) ∙ ap₂ (λ u v. u ++ v) run.1 others.2,
+      )
+  runs_sought start ss fs texts is same known are cut = grind arith
+
+  -- inputs that begin at the start of their sources are cut there
+  pub cut_at_start : (ss : List S) (fs : List MergeInput) → AllByRecursion (λ f. f.cursor.start ≡ 0) fs
+      → AllByRecursion (λ x. IsCutAt ([], []) (device.text x.0) x.1.cursor) (zip ss fs)
+  cut_at_start (s ∷ ss) (f ∷ fs) h = (
+    λ t members e index. rw h.0 (record {
+      before = [];
+      begins = (refl, refl);
+      low = [];
+      high = members;
+      members_are = refl;
+      as_many = refl;
+      all_below = tt;
+      none_below = each_from_empty members;
+    }),
+    cut_at_start ss fs h.1,
+  )
+  cut_at_start ss fs h = grind arith
+
+  -- inputs that stand where a search ended do so after more was read
+  pub cuts_kept : (start : Pair) (xs ys : List (S × MergeInput)) → AllZip (Move device) xs ys
+      → AllByRecursion (λ x. IsCutAt start (device.text x.0) x.1.cursor) xs
+      → AllByRecursion (λ x. IsCutAt start (device.text x.0) x.1.cursor) ys
+  cuts_kept start (x ∷ xs) (y ∷ ys) m h = grind (arith, cuts_kept start xs ys m.1 h.1)
+  cuts_kept start xs ys m h = grind arith
+
+  -- the same after more was read
+  pub runs_kept : (xs ys : List (S × MergeInput)) (highs : List (List Member))
+      → AllZip (Move device) xs ys → AllZip RunsFrom xs highs → AllZip RunsFrom ys highs
+  runs_kept (x ∷ xs) (y ∷ ys) (i ∷ is) m h = (
+    λ t e. rw m.0.start_kept (h.0 t (sym m.0.text_kept ∙ e)),
+    runs_kept xs ys is m.1 h.1,
+  )
+  runs_kept xs ys highs m h = grind arith
+
+-- ---- sources of which all lines were read: each that tells its bytes is an index, and all its lines are done
+
+module _ (past : List ℕ → Bool) (never : (key : List ℕ) → past key ≡ false) where
+  -- a source of which no line waits was read to its end
+  ended : (t : List ℕ) (f : MergeInput) → IsSettled past (Some t) f → f.waits ≡ [] → lines (drop f.cursor.at t) ≡ []
+  ended t f settled none = elim (settled t refl none) [
+    | inl end ↦ end
+    | inr last ↦ absurd (true≢false (sym last.3 ∙ never last.1.values.key))
+  ]
+
+  each_stays : (ms : List Member) → AllByRecursion (λ m. stays past m ≡ true) ms
+  each_stays [] = tt
+  each_stays (m ∷ ms) = (ap not (never m.values.key), each_stays ms)
+
+  -- then it is an index
+  index_read : {t : List ℕ} {extent : ℕ} {f : MergeInput} → f.cursor.start ≡ 0 → f.waits ≡ []
+      → IsSettled past (Some t) f → IsInput past (Some t) extent f → IsIndex LINE_LIMIT t (done past t f)
+  index_read {t = t} {f = f} zero_start none settled input =
+      let told = input.told t refl in
+      let stay = filter_all (stays past) told.late (each_stays told.late) in
+      let all : done past t f ≡ given t f.cursor = grind (arith, append-nil) in
+      grind (arith, take_all, length-drop {A = List ℕ})
+
+  module _ {S : Type 0} (device : Ghosts S) where
+    -- the lines of each
+    abbrev pub its_lines : List S → List MergeInput → List (List Member)
+    its_lines ss fs = map (λ x. done past (text_or (device.text x.0)) x.1) (zip ss fs)
+
+    pub are_read : (ss : List S) (fs : List MergeInput) (texts : List (List ℕ))
+        → AllZip (λ told t. told ≡ Some t) (map device.text ss) texts
+        → AllByRecursion (λ (f : MergeInput). f.cursor.start ≡ 0) fs → AllByRecursion (λ (f : MergeInput). f.waits ≡ []) fs
+        → AreSettled past device ss fs → AreInputs past device ss fs
+        → AllZip (IsIndex LINE_LIMIT) texts (its_lines ss fs)
+    are_read (s ∷ ss) (f ∷ fs) (t ∷ texts) known start none settled input = (
+      rw known.0 (index_read start.0 none.0 (rw known.0 at settled.0) (rw known.0 at input.0)),
+      are_read ss fs texts known.1 start.1 none.1 settled.1 input.1,
+    )
+    are_read ss fs texts known start none settled input = grind arith
+
+    pub all_lines_are : (ss : List S) (fs : List MergeInput) → all_done past device.text ss fs
+        ≡ flat_map (λ (members : List Member). members) (its_lines ss fs)
+    all_lines_are (s ∷ ss) (f ∷ fs) = grind (arith, all_lines_are ss fs)
+    all_lines_are ss fs = grind arith
+
+-- ---- what a merge keeps of sources and inputs
+
+pub told_known : {S : Type 0} (text : S → Option (List ℕ)) (ss : List S) (texts : List (List ℕ))
+    → AllZip (λ told t. told ≡ Some t) (map text ss) texts → AllByRecursion (λ s. is_some (text s) ≡ true) ss
+told_known text (s ∷ ss) (t ∷ texts) h = (ap is_some h.0, told_known text ss texts h.1)
+told_known text ss texts h = grind arith
+
+module _ {S : Type 0} (device : Ghosts S) where
+  kept : {Y : Type 0} (f : S → Y) → ((x y : S × MergeInput) → Move device x y → f y.0 ≡ f x.0)
+      → (ss ss' : List S) (fs fs' : List MergeInput) → length ss ≡ length fs → length ss' ≡ length ss
+      → AllZip (Move device) (zip ss fs) (zip ss' fs') → map f ss' ≡ map f ss
+  kept f k (s ∷ ss) (s' ∷ ss') (u ∷ fs) (u' ∷ fs') e e' h =
+      let same = k (s, u) (s', u') h.0 in
+      grind (arith, kept f k ss ss' fs fs' (omega arith) (omega arith) h.1)
+  kept f k ss ss' fs fs' e e' h = grind (arith, nil_from_length)
+
+  pub texts_kept : (ss ss' : List S) (fs fs' : List MergeInput) → length ss ≡ length fs → length ss' ≡ length ss
+      → AllZip (Move device) (zip ss fs) (zip ss' fs') → map device.text ss' ≡ map device.text ss
+  texts_kept = kept device.text (λ x y m. m.text_kept)
+
+  pub extents_kept : (ss ss' : List S) (fs fs' : List MergeInput) → length ss ≡ length fs → length ss' ≡ length ss
+      → AllZip (Move device) (zip ss fs) (zip ss' fs') → map device.extent ss' ≡ map device.extent ss
+  extents_kept = kept device.extent (λ x y m. m.extent_kept)
+
+  pub starts_kept : (ss ss' : List S) (fs fs' : List MergeInput) → length ss ≡ length fs → length ss' ≡ length fs'
+      → AllZip (Move device) (zip ss fs) (zip ss' fs')
+      → AllByRecursion (λ (f : MergeInput). f.cursor.start ≡ 0) fs → AllByRecursion (λ (f : MergeInput). f.cursor.start ≡ 0) fs'
+  starts_kept (s ∷ ss) (s' ∷ ss') (f ∷ fs) (f' ∷ fs') e e' h z =
+      grind (arith, starts_kept ss ss' fs fs' (omega arith) (omega arith) h.1 z.1)
+  starts_kept ss [] fs fs' e e' h z = grind (arith, nil_from_length)
+  starts_kept ss (s' ∷ ss') fs fs' e e' h z = grind arith
+
+  -- what is kept of the sources of a merge
+  pub all_kept : (olds : List S) (old : MergeState) (news : List S) (new : MergeState) → length olds ≡ length old.cursors.items
+      → length news ≡ length olds → AllMoved device olds old news new → KeepsSources device olds news
+  all_kept olds old news new same long moved = grind (arith, inputs_long, texts_kept, extents_kept)
+
+-- ---- the lines that were taken of sources are lines of theirs
 
 in_take : {X : Type 0} (x : X) (n : ℕ) (xs : List X) → IsIn x (take n xs) → IsIn x xs
 in_take x (suc n) (y ∷ ys) (inl e) = inl e
@@ -30,11 +203,11 @@ each_entry ls all [] e f = tt
 each_entry ls all ms e f = cc
 
 -- what was taken of a source are lines of it
-done_lines : {past : List ℕ → Bool} {t : List ℕ} {extent : ℕ} {f : Feed} → Fed past (Some t) extent f
+done_lines : {past : List ℕ → Bool} {t : List ℕ} {extent : ℕ} {f : MergeInput} → IsInput past (Some t) extent f
     → AllByRecursion (IsLineIn t) (done past t f)
-done_lines {t = t} {f = f} fed =
-    let told = fed.told t refl in
-    let cut = done_cut fed t refl in
+done_lines {t = t} {f = f} input =
+    let told = input.told t refl in
+    let cut = done_cut input t refl in
     rw cut.3 (each_take (IsLineIn t) _ (given t f.cursor)
     (each_entry (read_lines t f.cursor) (lines t) (given t f.cursor) told.run.entries
     (grind (arith, in_later, in_take))))
@@ -48,14 +221,14 @@ first_source : (o : Option (List ℕ)) (sources : List (Option (List ℕ))) (m :
 first_source o sources m h = grind arith
 
 module _ {S : Type 0} (device : Ghosts S) where
-  all_lines_of : (past : List ℕ → Bool) (ss : List S) (fs : List Feed) → AreTold device.text ss
-      → AreFed past device ss fs
+  all_lines_of : (past : List ℕ → Bool) (ss : List S) (fs : List MergeInput) → AreTold device.text ss
+      → AreInputs past device ss fs
       → AllByRecursion (IsLineOf (map device.text ss)) (all_done past device.text ss fs)
-  all_lines_of past (s ∷ ss) (f ∷ fs) told fed =
-      let others = all_lines_of past ss fs told.1 fed.1 in
-      let here = done_lines (rw (is_told (device.text s) told.0) at fed.0) in
+  all_lines_of past (s ∷ ss) (f ∷ fs) told input =
+      let others = all_lines_of past ss fs told.1 input.1 in
+      let here = done_lines (rw (is_told (device.text s) told.0) at input.0) in
       grind (arith, each_join, each_weaker, first_source, later_source)
-  all_lines_of past ss fs told fed = grind arith
+  all_lines_of past ss fs told input = grind arith
 
   -- all sources tell their bytes, or one doesn't
   told_or : (ss : List S) → AreTold device.text ss ⊎ ((m : Member) → HasEntry m → IsLineOf (map device.text ss) m)
@@ -71,13 +244,39 @@ module _ {S : Type 0} (device : Ghosts S) where
     each = elim (told_or ss0) [
       | inl told ↦
           let aligned = reached.ready.aligned in
-          let before : length ss0 ≡ length (feeds m0) = grind (arith, feeds_long) in
+          let before : length ss0 ≡ length (inputs m0) = grind (arith, inputs_long) in
           let now = long_of aligned in
           let long : length ss ≡ length ss0 = grind (arith, AllZip-long, length_zip) in
-          let texts = texts_kept device ss0 ss (feeds m0) (feeds m) before long reached.moved in
-          let told_now = told_moved device ss0 ss (feeds m0) (feeds m) now reached.moved told in
+          let texts = texts_kept device ss0 ss (inputs m0) (inputs m) before long reached.moved in
+          let told_now = told_moved device ss0 ss (inputs m0) (inputs m) now reached.moved told in
           rw ((reached.handed.told told).0, ← texts)
-          (each_rising member_place place_cmp place_cmp_total (IsLineOf (map device.text ss)) _ (all_lines_of past ss (feeds m) told_now aligned.fed))
+          (each_rising member_place place_cmp place_cmp_total (IsLineOf (map device.text ss)) _ (all_lines_of past ss (inputs m) told_now aligned.input))
       | inr f ↦ each_weaker f taken reached.handed.entries
     ];
   }
+
+-- ---- each byte of a source is given at most once
+
+module _ {S : Type 0} (device : Ghosts S) where
+  -- sources before they were opened, when they were, and after they were read
+  pub gave_once : (olds ss : List S) (fs : List MergeInput) (news : List S) (fs' : List MergeInput)
+      (past : List ℕ → Bool) → map device.extent ss ≡ map device.extent olds → AreInputs past device ss fs
+      → AllZip (λ x y. CameOnce device x y.0 y.1.cursor) olds (zip ss fs)
+      → AllZip (Move device) (zip ss fs) (zip news fs') → length news ≡ length ss
+      → AllGaveOnce device olds news
+  gave_once (x ∷ olds) (s ∷ ss) (f ∷ fs) (y ∷ news) (f' ∷ fs') past same input came moved longer =
+      let within = input.0.stands.filled.within in
+      let inside = moved.0.inside within in (
+        grind arith,
+        gave_once olds ss fs news fs' past (cc) input.1 came.1 moved.1 (omega arith),
+      )
+  gave_once [] [] fs [] fs' past same input came moved longer = tt
+  gave_once olds ss fs [] fs' past same input came moved longer = grind arith
+  gave_once olds [] fs news fs' past same input came moved longer = absurd (grind arith)
+  gave_once olds ss [] news fs' past same input came moved longer = absurd (grind arith)
+  gave_once olds ss fs news [] past same input came moved longer = absurd (grind arith)
+  gave_once [] ss fs news fs' past same input came moved longer = absurd (grind arith)
+
+  pub once_none : (ss : List S) → AllGaveOnce device ss ss
+  once_none [] = tt
+  once_none (s ∷ ss) = (omega arith, once_none ss)

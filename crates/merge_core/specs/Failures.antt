@@ -21,7 +21,7 @@ abbrev pub merge_fault : WriteFault → MergeFault
 merge_fault sink.Memory = fault.Memory
 merge_fault sink.Write = fault.Write
 
--- the fault of a feed whose search has this fault
+-- the fault of a source whose search has this fault
 abbrev pub search_fault : SearchFault → FeedFault
 search_fault search.Memory = feed.Memory
 search_fault search.Read = feed.Read
@@ -30,7 +30,7 @@ search_fault search.Read = feed.Read
 abbrev pub RaisedAt : ℕ → List ℕ → List ℕ → Type 0
 RaisedAt i old new = (i < length old) × (new ≡ set old i (next_count (get_or old i 0)))
 
--- the count of a source, before and after a fault of its feed
+-- the count of a source, before and after a fault of its lines
 abbrev pub RaisedByFeed : FeedFault → ℕ → ℕ → Type 0
 RaisedByFeed feed.Read old new = new ≡ next_count old
 RaisedByFeed other old new = new ≡ old

@@ -11,7 +11,7 @@ use Rattle.source_core.specs.declared.source.Source.{Ghosts}
 use Rattle.merge_core.specs.declared.state.MergeState.{MergeState}
 use Rattle.merge_core.specs.PairOrders.{Alike, Below, Upto, IsAbove, is_low}
 use Rattle.merge_core.specs.WaitingLines.{AllBeyond, NoneBelow, WaitingLine, queued, waiting_pair}
-use Rattle.merge_core.specs.Feeds.{Aligned, Fed, Feed, IsSettled, done, feed_of, feeds, given}
+use Rattle.merge_core.specs.MergeInputs.{Aligned, IsInput, MergeInput, IsSettled, done, input_of, inputs, given}
 
 -- the lines below the pair were done before, and the others went into the group
 pub record Gathered (pair : Pair) (old_done done old_group group : List Member) : Type 0 where
@@ -28,11 +28,11 @@ abbrev pub AreTold : {S : Type 0} → (S → Option (List ℕ)) → List S → T
 AreTold text = AllByRecursion (λ s. is_some (text s) ≡ true)
 
 -- the lines of all sources that were taken, source by source
-abbrev pub all_done : {S : Type 0} → (List ℕ → Bool) → (S → Option (List ℕ)) → List S → List Feed → List Member
+abbrev pub all_done : {S : Type 0} → (List ℕ → Bool) → (S → Option (List ℕ)) → List S → List MergeInput → List Member
 all_done past text ss fs = flat_map (λ x. done past (text_or (text x.0)) x.1) (zip ss fs)
 
 -- the bytes of all sources that weren't read
-abbrev pub unread : {S : Type 0} → (S → ℕ) → List S → List Feed → ℕ
+abbrev pub unread : {S : Type 0} → (S → ℕ) → List S → List MergeInput → ℕ
 unread extent ss fs = sum (map (λ x. extent x.0 - x.1.cursor.at) (zip ss fs))
 
 -- the turn of this line comes at the pair and the source's number, or later
@@ -45,52 +45,52 @@ EndsAt past pair ms = (before : List Member) × (last : Member) × (ms ≡ befor
     × Alike (member_pair last) pair × (past last.values.key ≡ false)
 
 -- no line of the source waits, and the last that was read has the pair
-pub record IsDue (past : List ℕ → Bool) (pair : Pair) (text : Option (List ℕ)) (f : Feed) : Type 0 where
+pub record IsDue (past : List ℕ → Bool) (pair : Pair) (text : Option (List ℕ)) (f : MergeInput) : Type 0 where
   pub none : f.waits ≡ []
   pub last : (t : List ℕ) → text ≡ Some t → EndsAt past pair (given t f.cursor)
 
 -- the same of the source of this number
 abbrev pub IsDueAt : {S : Type 0} → (List ℕ → Bool) → (S → Option (List ℕ)) → Pair → ℕ → List S → MergeState → Type 0
 IsDueAt {S = S} past text pair i ss m =
-    (a : S) → (d : Feed) → IsDue past pair (text (slice_index_or ss i a)) (slice_index_or (feeds m) i d)
+    (a : S) → (d : MergeInput) → IsDue past pair (text (slice_index_or ss i a)) (slice_index_or (inputs m) i d)
 
 -- The further lines of a source with the pair were read and taken, and the line after them, which waits unless it lies
 -- past the range.
 pub record ReadGroup {S : Type 0} (past : List ℕ → Bool) (pair : Pair) (device : Ghosts S) (source : S)
-    (old : CursorState) (f : Feed) (old_rest rest : List Member) : Type 0 where
-  pub fed : Fed past (device.text source) (device.extent source) f
+    (old : CursorState) (f : MergeInput) (old_rest rest : List Member) : Type 0 where
+  pub input : IsInput past (device.text source) (device.extent source) f
   pub settled : IsSettled past (device.text source) f
   pub later : AllByRecursion (λ m. Below pair (member_pair m)) f.waits
   pub fewer : (device.extent source - f.cursor.at) + length f.waits ≤ device.extent source - old.at
   pub taken : List Member
   pub rest_is : rest ≡ old_rest ++ taken
   pub alike : AllByRecursion (λ m. Alike (member_pair m) pair) taken
-  pub done_is : (t : List ℕ) → device.text source ≡ Some t → done past t f ≡ done past t (feed_of old []) ++ taken
+  pub done_is : (t : List ℕ) → device.text source ≡ Some t → done past t f ≡ done past t (input_of old []) ++ taken
 
 -- further lines with the pair were taken of the source of this number, and of no other
 pub record TookOf {S : Type 0} (past : List ℕ → Bool) (text : S → Option (List ℕ)) (pair : Pair) (i : ℕ)
-    (olds news : List S) (old_feeds new_feeds : List Feed) (old_rest rest : List Member) : Type 0 where
+    (olds news : List S) (old_inputs new_inputs : List MergeInput) (old_rest rest : List Member) : Type 0 where
   pub source : S
-  pub feed : Feed
+  pub input : MergeInput
   pub source_is : news ≡ slice_set olds i source
-  pub feeds_are : new_feeds ≡ slice_set old_feeds i feed
+  pub inputs_are : new_inputs ≡ slice_set old_inputs i input
   pub text_is : (other : S) → text source ≡ text (slice_index_or olds i other)
   pub taken : List Member
   pub rest_is : rest ≡ old_rest ++ taken
   pub alike : AllByRecursion (λ m. Alike (member_pair m) pair) taken
-  pub done_is : (old : Feed) → (t : List ℕ) → text source ≡ Some t
-      → done past t feed ≡ done past t (slice_index_or old_feeds i old) ++ taken
+  pub done_is : (old : MergeInput) → (t : List ℕ) → text source ≡ Some t
+      → done past t input ≡ done past t (slice_index_or old_inputs i old) ++ taken
 
 -- A source was read on, which was due: its further lines with the pair were taken
 pub record ReadOn {S : Type 0} (past : List ℕ → Bool) (device : Ghosts S) (pair : Pair) (i : ℕ)
     (olds : List S) (old : MergeState) (news : List S) (new : MergeState) (old_rest rest : List Member) : Type 0 where
   pub aligned : Aligned past device news new
-  pub fewer : unread device.extent news (feeds new) + length new.queue
-      ≤ unread device.extent olds (feeds old) + length old.queue
-  pub took : TookOf past device.text pair i olds news (feeds old) (feeds new) old_rest rest
-  pub settled : IsSettled past (device.text took.source) took.feed
-  pub later : AllByRecursion (λ m. Below pair (member_pair m)) took.feed.waits
-  pub queue_is : IsPermutation (queued i took.feed.waits ++ old.queue) new.queue
+  pub fewer : unread device.extent news (inputs new) + length new.queue
+      ≤ unread device.extent olds (inputs old) + length old.queue
+  pub took : TookOf past device.text pair i olds news (inputs old) (inputs new) old_rest rest
+  pub settled : IsSettled past (device.text took.source) took.input
+  pub later : AllByRecursion (λ m. Below pair (member_pair m)) took.input.waits
+  pub queue_is : IsPermutation (queued i took.input.waits ++ old.queue) new.queue
 
 -- The lines of the least pair were taken from all sources: of those that are done now, the ones that weren't
 pub record Grouped {S : Type 0} (past : List ℕ → Bool) (device : Ghosts S) (olds : List S)
@@ -99,12 +99,12 @@ pub record Grouped {S : Type 0} (past : List ℕ → Bool) (device : Ghosts S) (
   pub least : NoneBelow pair old.queue
   pub later : AllBeyond pair new.queue
   pub each : AllByRecursion (λ m. Alike (member_pair m) pair) group
-  pub fewer : unread device.extent news (feeds new) + length new.queue
-      < unread device.extent olds (feeds old) + length old.queue
+  pub fewer : unread device.extent news (inputs new) + length new.queue
+      < unread device.extent olds (inputs old) + length old.queue
   pub gathered : AreTold device.text olds
-      → AllByRecursion (λ m. Below (member_pair m) pair) (all_done past device.text olds (feeds old))
-      → Gathered pair (all_done past device.text olds (feeds old))
-      (all_done past device.text news (feeds new)) [] group
+      → AllByRecursion (λ m. Below (member_pair m) pair) (all_done past device.text olds (inputs old))
+      → Gathered pair (all_done past device.text olds (inputs old))
+      (all_done past device.text news (inputs new)) [] group
 
 -- a group was taken, which begins with this line, or no line waited
 abbrev pub IsGroup : {S : Type 0} → (List ℕ → Bool) → Ghosts S → List S → MergeState → List S → MergeState

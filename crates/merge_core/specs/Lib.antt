@@ -3,7 +3,7 @@ pub mod WaitingLines
 pub mod PairOrders
 pub mod TurnOrder
 pub mod PairStarts
-pub mod Feeds
+pub mod MergeInputs
 pub mod Gathering
 pub mod Failures
 pub mod LineFaults

@@ -10,7 +10,7 @@ use Rattle.merge_core.specs.WaitingLines.{NoneBelow, waiting_pair}
 use Rattle.source_core.specs.declared.source.Source.{Ghosts}
 use Rattle.merge_core.specs.declared.sink.Sink.{Ghosts as SinkGhosts}
 use Rattle.merge_core.specs.declared.state.MergeState.{MergeState}
-use Rattle.merge_core.specs.Feeds.{feeds}
+use Rattle.merge_core.specs.MergeInputs.{inputs}
 use Rattle.merge_core.specs.BoxedLines.{boxed_line}
 use Rattle.merge_core.specs.Gathering.{AreTold, IsGroup, all_done}
 use Rattle.devices.specs.Device.{Grows}
@@ -25,8 +25,8 @@ pub record HaltedGroup {S : Type 0} (past : List ℕ → Bool) (text : S → Opt
   pub above : (b : Option Pair) → AllByRecursion (λ w. IsAbove b (waiting_pair w)) begun.queue → IsAbove b pair
   pub least : NoneBelow pair begun.queue
   pub read : AreTold text olds
-      → AllByRecursion (λ m. Below (member_pair m) pair) (all_done past text olds (feeds begun))
-      → AreReadTo past text (Some pair) news (feeds merge)
+      → AllByRecursion (λ m. Below (member_pair m) pair) (all_done past text olds (inputs begun))
+      → AreReadTo past text (Some pair) news (inputs merge)
 
 -- A sink, by what it wrote of lines: it came from this state and output to others by these lines
 module _ {K : Type 0} (consumer : SinkGhosts K) (sink : K) (old : Option (List ℕ)) where
@@ -42,64 +42,71 @@ EndedGroup past device olds old result news new rest =
     MatchResult result (λ first. IsGroup past device olds old news new (boxed_line first) rest)
     (λ _. HaltedGroup past device.text olds old news new)
 
--- What a sink says of itself, and what sources say. The sources, and the merge that reads them; the sink and what was
--- written, before the merge.
-module _ {K S : Type 0} (consumer : SinkGhosts K) (past : List ℕ → Bool) (device : Ghosts S) (olds : List S)
-    (begun : MergeState) (sink : K) (old : Option (List ℕ)) where
-  -- these lines were passed on when the merge stood here
-  pub record SoFar (news : List S) (merge : MergeState) (state : K) (now : Option (List ℕ)) : Type 0 where
-    pub bound : Option Pair
-    pub taken : List Member
-    pub reached : Reached past device olds begun news merge bound taken
-    pub came : CameTo consumer sink old state now taken
+-- where a merge stands: its sources, what it knows of them, its sink, and what was written
+pub record MergeStand (S K : Type 0) : Type 0 where
+  pub sources : List S
+  pub merge : MergeState
+  pub sink : K
+  pub written : Option (List ℕ)
 
-  -- of these lines the last ones share a pair, and before them the sink wanted more
-  pub record LastGroup (bound : Option Pair) (taken : List Member) : Type 0 where
-    pub pair : Pair
-    pub earlier : List Member
-    pub group : List Member
-    pub state : K
-    pub middle : Option (List ℕ)
-    pub bound_is : bound ≡ Some pair
-    pub split : taken ≡ earlier ++ group
-    pub below : AllByRecursion (λ m. Below (member_pair m) pair) earlier
-    pub alike : AllByRecursion (λ m. Alike (member_pair m) pair) group
-    pub more : (consumer.Enough sink → ⊥) → consumer.Enough state → ⊥
-    pub came : CameTo consumer sink old state middle earlier
+-- What a sink says of itself, and what sources say; where the merge stood before
+module _ {K S : Type 0} (consumer : SinkGhosts K) (past : List ℕ → Bool) (device : Ghosts S) (before : MergeStand S K)
+  where
+    -- these lines were passed on when the merge stood here
+    pub record SoFar (now : MergeStand S K) : Type 0 where
+      pub bound : Option Pair
+      pub taken : List Member
+      pub reached : Reached past device before.sources before.merge now.sources now.merge bound taken
+      pub came : CameTo consumer before.sink before.written now.sink now.written taken
 
-  -- all lines were passed on and none waits, or the sink has enough, which it got with the last lines
-  pub record Passed (news : List S) (merge : MergeState) (state : K) (now : Option (List ℕ)) (all : Bool) : Type 0 where
-    pub so_far : SoFar news merge state now
-    pub last : all ≡ false → LastGroup so_far.bound so_far.taken
-    pub ended : all ≡ true → merge.queue ≡ []
-    pub enough : all ≡ false → consumer.Enough state
-    pub further : all ≡ true → (consumer.Enough sink → ⊥) → consumer.Enough state → ⊥
+    -- the sink wants more lines, if it did before
+    abbrev pub StillWants : K → Type 0
+    StillWants sink = (consumer.Enough before.sink → ⊥) → consumer.Enough sink → ⊥
 
-  -- these lines were taken before a fault, or while the sink failed
-  pub record BrokenMerge (now : Option (List ℕ)) : Type 0 where
-    pub sources : List S
-    pub merge : MergeState
-    pub bound : Option Pair
-    pub taken : List Member
-    pub reached : Reached past device olds begun sources merge bound taken
-    pub wrote : (begin : K) → (start : Option (List ℕ)) → consumer.Wrote begin sink [] start old
-        → ((state : K) × consumer.Wrote begin state taken start now) ⊎ consumer.Broke begin taken start now
+    -- of these lines the last ones share a pair, and before them the sink wanted more
+    pub record LastGroup (bound : Option Pair) (taken : List Member) : Type 0 where
+      pub pair : Pair
+      pub earlier : List Member
+      pub group : List Member
+      pub state : K
+      pub middle : Option (List ℕ)
+      pub bound_is : bound ≡ Some pair
+      pub split : taken ≡ earlier ++ group
+      pub below : AllByRecursion (λ m. Below (member_pair m) pair) earlier
+      pub alike : AllByRecursion (λ m. Alike (member_pair m) pair) group
+      pub more : StillWants state
+      pub came : CameTo consumer before.sink before.written state middle earlier
 
-  -- lines were passed on before a fault, and those of the next pair were being read
-  pub record HaltedMerge (news : List S) (merge : MergeState) (now : Option (List ℕ)) : Type 0 where
-    pub sources : List S
-    pub stood : MergeState
-    pub state : K
-    pub middle : Option (List ℕ)
-    pub so_far : SoFar sources stood state middle
-    pub more : (consumer.Enough sink → ⊥) → consumer.Enough state → ⊥
-    pub grows : Grows middle now
-    pub next : Pair
-    pub above : IsAbove so_far.bound next
-    pub least : NoneBelow next stood.queue
-    pub read : AreTold device.text olds → AreReadTo past device.text (Some next) news (feeds merge)
+    -- all lines were passed on and none waits, or the sink has enough, which it got with the last lines
+    pub record Passed (now : MergeStand S K) (all : Bool) : Type 0 where
+      pub so_far : SoFar now
+      pub last : all ≡ false → LastGroup so_far.bound so_far.taken
+      pub ended : all ≡ true → now.merge.queue ≡ []
+      pub enough : all ≡ false → consumer.Enough now.sink
+      pub further : all ≡ true → StillWants now.sink
 
-  -- a merge ended, or broke off at a fault
-  abbrev pub EndedMerge : {E : Type 0} → Result Bool E → List S → MergeState → K → Option (List ℕ) → Type 0
-  EndedMerge result news merge state now = MatchResult result (Passed news merge state now)
-      (λ _. BrokenMerge now × HaltedMerge news merge now)
+    -- these lines were taken before a fault, or while the sink failed
+    pub record BrokenMerge (written : Option (List ℕ)) : Type 0 where
+      pub sources : List S
+      pub merge : MergeState
+      pub bound : Option Pair
+      pub taken : List Member
+      pub reached : Reached past device before.sources before.merge sources merge bound taken
+      pub wrote : (begin : K) → (start : Option (List ℕ)) → consumer.Wrote begin before.sink [] start before.written
+          → ((state : K) × consumer.Wrote begin state taken start written) ⊎ consumer.Broke begin taken start written
+
+    -- lines were passed on before a fault, and those of the next pair were being read
+    pub record HaltedMerge (now : MergeStand S K) : Type 0 where
+      pub stood : MergeStand S K
+      pub so_far : SoFar stood
+      pub more : StillWants stood.sink
+      pub grows : Grows stood.written now.written
+      pub next : Pair
+      pub above : IsAbove so_far.bound next
+      pub least : NoneBelow next stood.merge.queue
+      pub read : AreTold device.text before.sources
+          → AreReadTo past device.text (Some next) now.sources (inputs now.merge)
+
+    -- a merge ended, or broke off at a fault
+    abbrev pub EndedMerge : {E : Type 0} → Result Bool E → MergeStand S K → Type 0
+    EndedMerge result now = MatchResult result (Passed now) (λ _. BrokenMerge now.written × HaltedMerge now)

@@ -10,7 +10,7 @@ use Rattle.source_core.specs.Cursors.{CursorState}
 use Rattle.source_core.specs.Search.{IsCut}
 use Rattle.source_core.specs.declared.source.Source.{Ghosts}
 use Rattle.merge_core.specs.declared.state.MergeState.{MergeState}
-use Rattle.merge_core.specs.Feeds.{Fed, Feed, IsSettled, Ready, done, feed_of, feeds}
+use Rattle.merge_core.specs.MergeInputs.{IsInput, MergeInput, IsSettled, Ready, done, input_of, inputs}
 use Rattle.merge_core.specs.Gathering.{all_done}
 use Rattle.merge_core.specs.Spending.{CameOnce, CameWithin}
 use Rattle.merge_core.specs.WaitingLines.{queued}
@@ -28,15 +28,15 @@ pub record OpenedAt {S : Type 0} (device : Ghosts S) (start : Pair) (old new : S
   pub once : IsLeast start → CameOnce device old new c
 
 -- the cursors of the sources of a merge that were opened at a pair
-abbrev pub AreOpened : {S : Type 0} → Ghosts S → Pair → List S → List (S × Feed) → Type 0
+abbrev pub AreOpened : {S : Type 0} → Ghosts S → Pair → List S → List (S × MergeInput) → Type 0
 AreOpened device start = AllZip (λ x y. OpenedAt device start x y.0 y.1.cursor)
 
 -- A merge was begun of sources that were opened at a pair: no line was taken yet, and none is held for a group
 pub record Begun {S : Type 0} (past : List ℕ → Bool) (device : Ghosts S) (start : Pair) (olds news : List S)
     (m : MergeState) : Type 0 where
   pub ready : Ready past device news m
-  pub opened : AreOpened device start olds (zip news (feeds m))
-  pub fresh : all_done past device.text news (feeds m) ≡ []
+  pub opened : AreOpened device start olds (zip news (inputs m))
+  pub fresh : all_done past device.text news (inputs m) ≡ []
   pub none_held : m.most_lines ≡ 0
 
 -- A source was added, whose cursor is this; its first line waits, if it lies within the range
@@ -46,7 +46,7 @@ pub record AddedSource {S : Type 0} (past : List ℕ → Bool) (device : Ghosts 
   pub first : List Member
   pub cursors_are : new.cursors.items ≡ old.cursors.items ++ cursor ∷ []
   pub queue_is : IsPermutation (queued (length old.cursors.items) first ++ old.queue) new.queue
-  pub fed : Fed past (device.text source) (device.extent source) (feed_of cursor first)
-  pub settled : IsSettled past (device.text source) (feed_of cursor first)
-  pub fresh : (t : List ℕ) → device.text source ≡ Some t → done past t (feed_of cursor first) ≡ []
+  pub input : IsInput past (device.text source) (device.extent source) (input_of cursor first)
+  pub settled : IsSettled past (device.text source) (input_of cursor first)
+  pub fresh : (t : List ℕ) → device.text source ≡ Some t → done past t (input_of cursor first) ≡ []
   pub cursor_is : IsCursor cursor

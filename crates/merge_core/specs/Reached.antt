@@ -10,13 +10,13 @@ use Rattle.merge_core.specs.declared.state.MergeState.{MergeState}
 use Rattle.merge_core.specs.PairOrders.{IsAbove, IsUpto}
 use Rattle.merge_core.specs.SourceLines.{HasEntry}
 use Rattle.merge_core.specs.WaitingLines.{waiting_pair}
-use Rattle.merge_core.specs.Feeds.{AllMoved, Feed, Ready, feeds}
+use Rattle.merge_core.specs.MergeInputs.{AllMoved, MergeInput, Ready, inputs}
 use Rattle.merge_core.specs.Gathering.{AreTold, all_done}
 
 module _ {S : Type 0} (past : List ℕ → Bool) (device : Ghosts S) where
   -- These lines were handed on: each was read as an entry, they rise, and none is above the bound. If the bytes of all
   -- sources are known, they are all that are done
-  pub record Handed (old ss : List S) (fs : List Feed) (bound : Option Pair) (taken : List Member) : Type 0 where
+  pub record Handed (old ss : List S) (fs : List MergeInput) (bound : Option Pair) (taken : List Member) : Type 0 where
     pub entries : AllByRecursion HasEntry taken
     pub upto : AllByRecursion (λ m. IsUpto bound (member_pair m)) taken
     pub rises : Rises member_place place_cmp taken
@@ -29,4 +29,4 @@ module _ {S : Type 0} (past : List ℕ → Bool) (device : Ghosts S) where
     pub ready : Ready past device ss m
     pub moved : AllMoved device old begun ss m
     pub above : AllByRecursion (λ w. IsAbove bound (waiting_pair w)) m.queue
-    pub handed : Handed old ss (feeds m) bound taken
+    pub handed : Handed old ss (inputs m) bound taken

@@ -5,7 +5,7 @@ use Rattle.cdxj_core.specs.declared.limit.TheConstants.{LINE_LIMIT}
 use Rattle.cdxj_places.specs.TextLines.{lines}
 use Rattle.cdxj_core.specs.Indexes.{IsRun}
 use Rattle.cdxj_core.specs.Members.{Member}
-use Rattle.merge_core.specs.Feeds.{EndsPast, Feed, given}
+use Rattle.merge_core.specs.MergeInputs.{EndsPast, MergeInput, given}
 use Rattle.merge_core.specs.Gathering.{text_or}
 
 -- Consecutive lines of a text are these members, whose pairs never fall. Where they are to be all of the range, they go
@@ -20,5 +20,5 @@ pub record IsPart (past : List ℕ → Bool) (whole : Bool) (text : List ℕ) (m
     pub ended : whole ≡ true → (after ≡ []) ⊎ EndsPast past members
 
 -- the lines that were read, source by source
-abbrev pub parts : {S : Type 0} → (S → Option (List ℕ)) → List S → List Feed → List (List Member)
+abbrev pub parts : {S : Type 0} → (S → Option (List ℕ)) → List S → List MergeInput → List (List Member)
 parts text ss fs = map (λ x. given (text_or (text x.0)) x.1.cursor) (zip ss fs)

@@ -10,7 +10,7 @@ use Rattle.source_core.specs.Halving.{digits}
 use Rattle.source_core.specs.IndexLines.{longest}
 use Rattle.source_core.specs.declared.source.Source.{Ghosts}
 use Rattle.merge_core.specs.declared.state.MergeState.{MergeState}
-use Rattle.merge_core.specs.Feeds.{Feed, bytes_of, feeds}
+use Rattle.merge_core.specs.MergeInputs.{MergeInput, bytes_of, inputs}
 use Rattle.merge_core.specs.Gathering.{all_done}
 use Rattle.merge_core.specs.PairOrders.{IsUpto, Upto}
 use Rattle.merge_core.specs.Written.{lines_text}
@@ -27,7 +27,7 @@ pub record ReadTo (past : List ℕ → Bool) (b : Option Pair) (text : List ℕ)
   pub most : reach c ≤ c.start + bytes_of read + 2 * longest (lines text) + 8192
 
 -- the same of each source that tells its bytes
-abbrev pub AreReadTo : {S : Type 0} → (List ℕ → Bool) → (S → Option (List ℕ)) → Option Pair → List S → List Feed
+abbrev pub AreReadTo : {S : Type 0} → (List ℕ → Bool) → (S → Option (List ℕ)) → Option Pair → List S → List MergeInput
     → Type 0
 AreReadTo past text b ss fs = AllByRecursion (λ x. (t : List ℕ) → text x.0 ≡ Some t
     → ReadTo past b t x.1.cursor) (zip ss fs)
@@ -36,8 +36,8 @@ AreReadTo past text b ss fs = AllByRecursion (λ x. (t : List ℕ) → text x.0 
 abbrev pub ReadUpto : {S : Type 0} → (List ℕ → Bool) → (S → Option (List ℕ)) → Pair → List S → MergeState → List S
     → MergeState → Type 0
 ReadUpto past text pair olds old news new =
-    AllByRecursion (λ m. Upto (member_pair m) pair) (all_done past text olds (feeds old))
-    → AreReadTo past text (Some pair) news (feeds new)
+    AllByRecursion (λ m. Upto (member_pair m) pair) (all_done past text olds (inputs old))
+    → AreReadTo past text (Some pair) news (inputs new)
 
 -- what a search in a source of so many bytes, with this text, takes at most
 abbrev pub search_most : ℕ → List ℕ → ℕ

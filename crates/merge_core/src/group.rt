@@ -4,7 +4,7 @@ ghost use Rattle.source_core.specs.Device.{OverText};
 ghost use Rattle.cdxj_core.specs.Members.{member_pair};
 ghost use Rattle.merge_core.specs.BoxedLines.{boxed_option, boxed_lines};
 ghost use Rattle.merge_core.specs.Failures.{TellsFeedFault};
-ghost use Rattle.merge_core.specs.Feeds.{Fed, Moved, feed_of};
+ghost use Rattle.merge_core.specs.MergeInputs.{IsInput, Moved, input_of};
 ghost use Rattle.merge_core.specs.Gathering.{IsDue, ReadGroup};
 ghost use Rattle.merge_core.specs.Spending.{ReadTo};
 
@@ -28,14 +28,14 @@ impl LineBuffers {
         range: &R,
         rest: &mut Vec<Box<Line>>,
     ) -> Result<Option<Box<Line>>, FeedFault>
-        requires fed { Fed (R.past range.now) (S.text source.old) (S.extent source.old)
-            (feed_of cursor.old []) }
+        requires input { IsInput (R.past range.now) (S.text source.old) (S.extent source.old)
+            (input_of cursor.old []) }
         requires due { IsDue (R.past range.now) (member_pair first.now) (S.text source.old)
-            (feed_of cursor.old []) }
+            (input_of cursor.old []) }
         ensures moved { Moved S.Source source.old source.new cursor.old cursor.new }
         ensures fault { TellsFeedFault S.Source result source.old source.new }
         ensures read { IfOk result (λ o. ReadGroup (R.past range.now) (member_pair first.now)
-            S.Source source.new cursor.old (feed_of cursor.new (boxed_option o))
+            S.Source source.new cursor.old (input_of cursor.new (boxed_option o))
             (boxed_lines rest.old.items) (boxed_lines rest.new.items)) }
         ensures most { OverText (S.text source.old) (λ t.
             ReadTo (R.past range.now) (Some (member_pair first.now)) t cursor.new) }

@@ -10,7 +10,7 @@ ghost use Rattle.cdxj_places.specs.TextLines.{lines};
 ghost use Rattle.merge_core.specs.Failures.{CountsFeed};
 ghost use Rattle.source_core.specs.IndexLines.{first_length};
 ghost use Rattle.source_core.specs.Reads.{StandsIn};
-ghost use Rattle.merge_core.specs.Feeds.{Moved, stays};
+ghost use Rattle.merge_core.specs.MergeInputs.{Moved, stays};
 ghost use Rattle.std.specs.List.{filter};
 ghost use Rattle.merge_core.specs.LineFaults.{IsFeedFaultAt, line_fault};
 ghost use Rattle.merge_core.specs.NextLine.{IsNextLine, MovesOn};
@@ -32,7 +32,7 @@ fn boxed(alloc: Global, line: Line) -> Result<Box<Line>, LineFault>
 }
 
 /// Returns the line of these bytes, in the buffer of a line that isn't needed any more if there is one.
-#[tactic(auto, using(crate::proofs::FeedLemmas::no_entry))]
+#[tactic(auto, using(crate::proofs::InputLemmas::no_entry))]
 fn line_of(
     alloc: Global,
     spare: &mut Vec<Box<Line>>,

@@ -2,7 +2,7 @@
 ghost use Rattle.std.specs.Prelude.{◌≡◌, ◌+◌, [], length, map};
 ghost use Rattle.merge_core.specs.Counts.{OverShares, StaysWithin};
 ghost use Rattle.merge_core.specs.Failures.{TellsMergeFault};
-ghost use Rattle.merge_core.specs.Feeds.{AllMoved, Ready, feeds};
+ghost use Rattle.merge_core.specs.MergeInputs.{AllMoved, Ready, inputs};
 ghost use Rattle.merge_core.specs.Gathering.{all_done};
 ghost use Rattle.merge_core.specs.Merging.{EndedMerge};
 
@@ -26,14 +26,26 @@ pub fn merge<S: Source, R: Range, K: Sink, O: Output>(
     out: &mut O,
 ) -> Result<bool, MergeFault>
     requires ready { Ready (R.past range.now) S.Source sources.old merge.old }
-    requires fresh { all_done (R.past range.now) S.text sources.old (feeds merge.old) ≡ [] }
+    requires fresh { all_done (R.past range.now) S.text sources.old (inputs merge.old) ≡ [] }
     ensures moved { AllMoved S.Source sources.old merge.old sources.new merge.new }
     ensures fault { TellsMergeFault S.Source O.Output result sources.old sources.new
         out.old out.new }
     ensures most_lines { OverShares (map S.text sources.old) (λ most.
         StaysWithin (length sources.old + most) merge.old.most_lines merge.new.most_lines) }
-    ensures ended { EndedMerge K.Sink (R.past range.now) S.Source sources.old merge.old sink.old
-        (O.written out.old) result sources.new merge.new sink.new (O.written out.new) }
+    ensures ended { EndedMerge K.Sink (R.past range.now) S.Source
+        (record {
+          sources = sources.old;
+          merge = merge.old;
+          sink = sink.old;
+          written = O.written out.old;
+        })
+        result
+        (record {
+          sources = sources.new;
+          merge = merge.new;
+          sink = sink.new;
+          written = O.written out.new;
+        }) }
 {
     let mut rest = Vec::new(alloc);
     while let Some(first) = merge.gather(sources, range, &mut rest)? {

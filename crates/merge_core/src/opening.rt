@@ -8,7 +8,7 @@ ghost use Rattle.source_core.specs.Halving.{digits};
 ghost use Rattle.source_core.specs.IndexLines.{lines, longest};
 ghost use Rattle.source_core.specs.Reads.{BeginsIn};
 ghost use Rattle.merge_core.specs.Failures.{FeedsFrom, ReadsSources};
-ghost use Rattle.merge_core.specs.Feeds.{Moved};
+ghost use Rattle.merge_core.specs.MergeInputs.{Moved};
 ghost use Rattle.merge_core.specs.Spending.{AllOpenedWithin, AllGaveOnce, GaveOnce, OpenedWithin, search_steps};
 
 use crate::fault::{FeedFault, MergeFault};

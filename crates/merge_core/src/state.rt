@@ -29,7 +29,7 @@ pub struct MergeState {
 }
 
 impl MergeState {
-    ghost use Rattle.merge_core.specs.Feeds.{Aligned, AllMoved, Feed, Ready};
+    ghost use Rattle.merge_core.specs.MergeInputs.{Aligned, AllMoved, MergeInput, Ready};
     ghost use Rattle.merge_core.specs.Gathering.{IsDueAt, ReadOn};
     ghost use Rattle.merge_core.specs.Merging.{EndedGroup};
     ghost use Rattle.merge_core.specs.Spending.{ReadUpto};

@@ -14,8 +14,8 @@ use Rattle.merge_core.specs.LineFaults.{IsFeedFaultAt}
 use Rattle.merge_core.specs.declared.fault.FeedFault.{FeedFault}
 use Rattle.query_core.specs.Conversions.{fault_of_index}
 use Rattle.query_core.specs.Checking.{IsLastOf, FallsAfter, EndsOutOfOrder, IsChecked}
-use Rattle.merge_core.proofs.FeedLemmas.{falls_push, take_next}
-use Rattle.merge_core.proofs.FeedLemmas.{falls_last}
+use Rattle.merge_core.proofs.InputLemmas.{falls_push, take_next}
+use Rattle.merge_core.proofs.InputLemmas.{falls_last}
 
 all_upto : (members : List Member) (previous : Option Member) (m : Member) → IsLastOf members previous
     → (FallsAfter previous m → ⊥) → NeverFalls member_pair pair_cmp members

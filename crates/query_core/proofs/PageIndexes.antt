@@ -5,7 +5,7 @@ use Rattle.query_core.proofs.Words.{each_filter, each_kept, filter, is_above, li
 use Rattle.query_core.proofs.Words.{place_cmp, place_cmp_total, query_captures, query_page, rises_collapsed}
 use Rattle.query_core.proofs.Words.{rises_filter, rises_rising, same_part, selected, shown_key, suc, take}
 use Rattle.query_text.specs.declared.output.OutputFormat.TheVariants.{Cdxj}
-use Rattle.merge_core.proofs.Filters.{each_take}
+use Rattle.merge_core.proofs.Many.{each_take}
 use Rattle.query_core.proofs.MergedLemmas.{IsRow, collection_rows, rows_index}
 
 rises_take : (n : ℕ) (ms : List Member) → Rises member_place place_cmp ms → Rises member_place place_cmp (take n ms)

@@ -3,7 +3,7 @@ use Rattle.query_core.proofs.Words.{[], ℕ, ◌&&◌, ◌++◌, ◌∷◌, ◌�
 use Rattle.query_core.proofs.Words.{AreLinesOf, Bool, Ghosts, IsAbove, IsIndex, Known, LINE_LIMIT, List, Member, None}
 use Rattle.query_core.proofs.Words.{NoneBelow, Option, Ordering, Pair, PlaceValue, QueryValue, Some, Upto, all_lines}
 use Rattle.query_core.proofs.Words.{and_parts, arith, begins_with_pair, collection, cond, each_join, each_kept}
-use Rattle.query_core.proofs.Words.{each_rising, each_weaker, entry_pair_is, eqb-true, false, feeds, filter, inl, inr}
+use Rattle.query_core.proofs.Words.{each_rising, each_weaker, entry_pair_is, eqb-true, false, inputs, filter, inl, inr}
 use Rattle.query_core.proofs.Words.{is_above, is_gt, is_low, is_past, is_stamp, is_wanted, key_part, later_pair}
 use Rattle.query_core.proofs.Words.{length, lines, map, member_pair, member_place, nat_cmp, nat_tests, not, pair_cmp}
 use Rattle.query_core.proofs.Words.{pair_cmp_total, past_upward, place_before, place_cmp, place_cmp_total, refl}
@@ -20,7 +20,7 @@ use Rattle.merge_core.proofs.TakenLemmas.{Took, taken_before}
 use Rattle.merge_core.specs.SourceLines.{IsLineIn, IsLineOf}
 use Rattle.merge_core.specs.Gathering.{AreTold}
 use Rattle.merge_core.specs.Spending.{CameWithin}
-use Rattle.merge_core.proofs.WholeLemmas.{told_known}
+use Rattle.merge_core.proofs.SourceLemmas.{told_known}
 use Rattle.query_core.specs.Starts.{first_stamp}
 use Rattle.query_core.proofs.CaptureLemmas.{kept_after, captures_split}
 use Rattle.merge_core.proofs.SourceLemmas.{each_entry, taken_lines}
@@ -105,9 +105,9 @@ module _ {S : Type 0} (device : Ghosts S) (q : QueryValue) (olds : List S) where
     pub kept : map device.text opened ≡ map device.text olds
     pub same : length opened ≡ length begun.cursors.items
     pub came : AllZip (λ x y. CameWithin device x y.0 y.1.cursor) olds
-        (zip opened (feeds begun))
+        (zip opened (inputs begun))
     pub cut : AllByRecursion (λ x. IsCutAt (start_pair q q.resume) (device.text x.0) x.1.cursor)
-        (zip opened (feeds begun))
+        (zip opened (inputs begun))
 
   -- these lines were taken
   pub record Reading : Type 0 where

@@ -4,7 +4,7 @@ use Rattle.query_core.proofs.Words.{AreAtMost, Bool, GaveFor, Ghosts, IsAbove, I
 use Rattle.query_core.proofs.Words.{Member, NoneBelow, Option, OverIndexes, Pair, PlaceValue, QueryValue, ReadFor}
 use Rattle.query_core.proofs.Words.{Some, TargetValue, Upto, all_kept, ap, append-nil, append_assoc, arith}
 use Rattle.query_core.proofs.Words.{bytes_eq-Decides, collection, each_join, each_kept, each_weaker, false}
-use Rattle.query_core.proofs.Words.{false_from_ne_true, feeds, filter, in_reach, is_gt, is_low, is_past, is_wanted}
+use Rattle.query_core.proofs.Words.{false_from_ne_true, inputs, filter, in_reach, is_gt, is_low, is_past, is_wanted}
 use Rattle.query_core.proofs.Words.{later_pair, length, map, member_pair, member_place, min, nat_cmp, not, pair_cmp}
 use Rattle.query_core.proofs.Words.{pair_cmp_total, past_upward, place_before, place_cmp, place_cmp_total, refl}
 use Rattle.query_core.proofs.Words.{same_part, slice_cmp, start_pair, suc, sum, sym, taken_first, taken_whole, true}
@@ -15,22 +15,22 @@ use Rattle.std.proofs.lemmas.Slice.Zip.{AllZip-long}
 use Rattle.cdxj_places.proofs.PlaceLaw.{both}
 use Rattle.query_text.specs.Matching.{begins, covers}
 use Rattle.source_core.specs.Cursors.{CursorState}
-use Rattle.merge_core.specs.Feeds.{Feed}
-use Rattle.merge_core.proofs.RunLemmas.{none_wait}
-use Rattle.merge_core.proofs.StateLemmas.{counts_of, feeds_long, long_of}
+use Rattle.merge_core.specs.MergeInputs.{MergeInput}
+use Rattle.merge_core.proofs.ReadLemmas.{none_wait}
+use Rattle.merge_core.proofs.StateLemmas.{counts_of, inputs_long, long_of}
 use Rattle.merge_core.specs.PairOrders.{Alike, IsUpto}
 use Rattle.merge_core.specs.Collections.{OverTexts}
 use Rattle.merge_core.specs.Runs.{parts}
 use Rattle.merge_core.specs.Spending.{AreReadTo, OpenedWithin}
 use Rattle.merge_core.proofs.CountLemmas.{Passes, lines_most}
-use Rattle.merge_core.proofs.Filters.{each_filter}
-use Rattle.merge_core.proofs.ByteLemmas.{gave_most, tell_both}
+use Rattle.merge_core.proofs.Many.{each_filter}
+use Rattle.merge_core.proofs.CountLemmas.{gave_most, tell_both}
 use Rattle.merge_core.proofs.Many.{Move, length_zip, told_moved}
-use Rattle.merge_core.proofs.StartLemmas.{cuts_kept}
+use Rattle.merge_core.proofs.SourceLemmas.{cuts_kept}
 use Rattle.merge_core.proofs.PairOrder.{below_below, below_upto, from_not_below, not_below_itself, same_from}
 use Rattle.merge_core.proofs.MergeLemmas.{is_less}
-use Rattle.merge_core.proofs.RunLemmas.{parts_are, parts_count, took_of_parts}
-use Rattle.merge_core.proofs.SpendLemmas.{are_read_to}
+use Rattle.merge_core.proofs.ReadLemmas.{parts_are, parts_count, took_of_parts}
+use Rattle.merge_core.proofs.CountLemmas.{are_read_to}
 use Rattle.query_core.proofs.AskedLemmas.{captures}
 use Rattle.query_core.specs.Reach.{pair_after, is_within}
 use Rattle.query_core.specs.Passes.{IsOfParts, Took}
@@ -138,10 +138,10 @@ module _ {S : Type 0} {device : Ghosts S} {q : QueryValue} {olds : List S}
         later = λ m upto. each_weaker (λ v. upto_upto (member_pair m) next (member_pair v) upto) before.0 before.2;
       }
 
-  long_before : length r.opened ≡ length (feeds r.begun)
-  long_before = let same = r.start.same in grind (arith, feeds_long)
+  long_before : length r.opened ≡ length (inputs r.begun)
+  long_before = let same = r.start.same in grind (arith, inputs_long)
 
-  long_now : length r.sources ≡ length (feeds r.merge)
+  long_now : length r.sources ≡ length (inputs r.merge)
   long_now = long_of r.reached.ready.aligned
 
   as_long : length r.sources ≡ length r.opened
@@ -152,37 +152,37 @@ module _ {S : Type 0} {device : Ghosts S} {q : QueryValue} {olds : List S}
       (all_kept device r.opened r.begun r.sources r.merge r.start.same as_long r.reached.moved).0 ∙ r.start.kept
 
   -- what sources gave that were read up to the bound
-  pub gave_upto : (bound : Option Pair) (earlier : List Member) (news : List S) (fs : List Feed) → Cuts bound earlier
-      → AllZip (Move device) (zip r.opened (feeds r.begun)) (zip news fs) → length news ≡ length r.opened
+  pub gave_upto : (bound : Option Pair) (earlier : List Member) (news : List S) (fs : List MergeInput) → Cuts bound earlier
+      → AllZip (Move device) (zip r.opened (inputs r.begun)) (zip news fs) → length news ≡ length r.opened
       → OverTexts (map device.text olds) (λ texts. AreReadTo (is_past q.target) device.text bound news fs)
       → GaveFor q (map device.text olds) device earlier olds news
   gave_upto bound earlier news fs cuts moved long reads = λ texts indexes known are limit most.
-      let all = AllZip-long (Move device) (zip r.opened (feeds r.begun)) (zip news fs) moved in
+      let all = AllZip-long (Move device) (zip r.opened (inputs r.begun)) (zip news fs) moved in
       let pass = passes q indexes bound earlier (cuts texts indexes known are) limit most in
-      let tells = tell_both device.text r.opened (feeds r.begun) texts long_before (known_opened r texts known) in
-      rw (firsts news fs (omega (arith, all, long, length_zip r.opened (feeds r.begun) long_before))) at
+      let tells = tell_both device.text r.opened (inputs r.begun) texts long_before (known_opened r texts known) in
+      rw (firsts news fs (omega (arith, all, long, length_zip r.opened (inputs r.begun) long_before))) at
       (gave_most pass device olds _ (zip news fs) _ _ known tells are r.start.came moved
       r.start.cut (reads texts known))
 
   -- what they gave of which these lines were taken
   pub gave_within : (earlier : List Member) → Cuts r.bound earlier
       → GaveFor q (map device.text olds) device earlier olds r.sources
-  gave_within earlier cuts = gave_upto r.bound earlier r.sources (feeds r.merge) cuts r.reached.moved as_long
-      (λ texts known. are_read_to _ device _ _ _ r.reached.ready.aligned.fed
+  gave_within earlier cuts = gave_upto r.bound earlier r.sources (inputs r.merge) cuts r.reached.moved as_long
+      (λ texts known. are_read_to _ device _ _ _ r.reached.ready.aligned.input
       (r.reached.handed.told (told r texts known)).1)
 
   module _ (lines : ℕ) (counted : lines ≡ min (sum (map (λ (c : CursorState). c.count) r.merge.cursors.items)) (2 ^ 64 - 1)) where
-    -- the same count, by feeds
+    -- the same count, by inputs
     many : sum (map (λ (c : CursorState). c.count) r.merge.cursors.items)
-        ≡ sum (map (λ (f : Feed). f.cursor.count) (feeds r.merge))
+        ≡ sum (map (λ (f : MergeInput). f.cursor.count) (inputs r.merge))
     many = ap sum (sym (counts_of 0 r.merge.cursors.items r.merge.queue))
 
     -- no more lines were read than are in reach, and one of each index
     pub lines_within : (earlier : List Member) → Cuts r.bound earlier → ReadFor q (map device.text olds) earlier lines
     lines_within earlier cuts = λ texts indexes known are limit most.
         let h = lines_most (passes q indexes r.bound earlier (cuts texts indexes known are) limit most) device
-        r.sources (feeds r.merge) texts indexes (rw kept_now known) are
-        (cuts_kept device _ _ _ r.reached.moved r.start.cut) r.reached.ready.aligned.fed
+        r.sources (inputs r.merge) texts indexes (rw kept_now known) are
+        (cuts_kept device _ _ _ r.reached.moved r.start.cut) r.reached.ready.aligned.input
         (r.reached.handed.told (told r texts known)).1 in
         let same = many in
         grind (arith, AllZip-long)
@@ -191,18 +191,18 @@ module _ {S : Type 0} {device : Ghosts S} {q : QueryValue} {olds : List S}
     pub of_parts : (all : Bool) → (all ≡ true → r.merge.queue ≡ [])
         → OverTexts (map device.text olds) (λ texts. IsOfParts q texts r.taken all lines)
     of_parts all ended = λ texts known.
-        let read = parts device.text r.sources (feeds r.merge) in
+        let read = parts device.text r.sources (inputs r.merge) in
         let told_all = told r texts known in
         let all_took = took_of_parts r.reached told_all (past_upward q.target) (is_wanted q q.resume)
         (λ m h. grind arith) in
         let found = taken_first all_took in
         let same = many in
-        let count = parts_count _ device r.sources (feeds r.merge)
-        (told_moved device r.opened r.sources (feeds r.begun) (feeds r.merge) long_now r.reached.moved told_all)
-        r.reached.ready.aligned.fed in
+        let count = parts_count _ device r.sources (inputs r.merge)
+        (told_moved device r.opened r.sources (inputs r.begun) (inputs r.merge) long_now r.reached.moved told_all)
+        r.reached.ready.aligned.input in
         record {
           parts = read;
-          each = λ whole is. parts_are _ device _ _ _ _ (rw kept_now known) r.reached.ready.aligned.fed
+          each = λ whole is. parts_are _ device _ _ _ _ (rw kept_now known) r.reached.ready.aligned.input
               r.reached.ready.settled (λ e. rw (ended (is e)) (none_wait 0 r.merge.cursors.items));
           count = cc;
           first = (_, captures_split q q.resume (collection read) r.taken found.0 found.1);

@@ -3,7 +3,7 @@ use Rattle.query_core.proofs.Words.{[], ℕ, ◌++◌, ◌<◌, ◌∙◌, ◌�
 use Rattle.query_core.proofs.Words.{LINE_LIMIT, List, Member, None, Option, Some, Upto, append_assoc, arith, get_or}
 use Rattle.query_core.proofs.Words.{length, line_entry, map, member_pair, refl}
 use Rattle.source_core.specs.LinesAtFault.{IsBadLine, IsOutOfOrder}
-use Rattle.merge_core.proofs.ReadLines.{falls_after}
+use Rattle.merge_core.proofs.TakenLemmas.{falls_after}
 use Rattle.query_core.specs.declared.fault.AnswerFault.TheVariants as fault
 use Rattle.query_core.specs.QueryLaws.{NoLineIsAtFault}
 

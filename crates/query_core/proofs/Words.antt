@@ -23,9 +23,9 @@ pub use Rattle.devices.specs.LineReading.{CountsTaken, TakesLine}
 pub use Rattle.merge_core.proofs.Many.{two_same}
 pub use Rattle.merge_core.proofs.PairOrder.{upto_upto}
 pub use Rattle.merge_core.proofs.TakenLemmas.{taken_first, taken_whole}
-pub use Rattle.merge_core.proofs.WholeLemmas.{all_kept}
+pub use Rattle.merge_core.proofs.SourceLemmas.{all_kept}
 pub use Rattle.merge_core.specs.Collections.{KeepsSources, Known, OverIndexes, all_lines, collection}
-pub use Rattle.merge_core.specs.Feeds.{feeds}
+pub use Rattle.merge_core.specs.MergeInputs.{inputs}
 pub use Rattle.merge_core.specs.PairOrders.{IsAbove, Upto, is_low}
 pub use Rattle.merge_core.specs.SourceLines.{AreLinesOf, HasEntry}
 pub use Rattle.merge_core.specs.Spending.{AllGaveWithin}

@@ -14,7 +14,7 @@ use Rattle.capture_core.specs.Types.{includes}
 use Rattle.cdxj_core.specs.declared.limit.TheConstants.{LINE_LIMIT}
 use Rattle.merge_core.proofs.Many.{map_set_same}
 use Rattle.cdxj_places.proofs.RisingLaws.{each_join}
-use Rattle.merge_core.proofs.SpendLemmas.{left_here, left_after}
+use Rattle.merge_core.proofs.CountLemmas.{left_here, left_after}
 use Rattle.scan_core.specs.declared.fault.ScanFault.TheVariants.{Archive}
 use Rattle.scan_core.specs.Archives.{IsNewName, AreNewNames, AreCapturesOf, AreCapturesOfEach, HaveLines, AreIndexed}
 use Rattle.scan_core.specs.Archives.{HasIndex, HaveIndexes, IsFaultOfArchive, IsFirstFault, IsNameFault, index_members}

@@ -58,9 +58,7 @@ not_below_least start line least = go (begins_with_pair line) refl
     go : (b : Bool) → begins_with_pair line ≡ b
         → is_some_below start (cond b (Some (key_part line, stamp_part line)) None) ≡ false
     go false e = refl
-    go true e =
-        let is_key : is_key (key_part line) ≡ true = grind (arith, and_parts) in
-        none_below_least start (key_part line) (stamp_part line) least is_key
+    go true e = grind (arith, and_parts, none_below_least)
 
 pub least_stops : (limit : ℕ) (start : Pair) (ls : List (List ℕ)) → IsLeast start
     → stops_lines (line_below limit start) ls ≡ true

@@ -1,22 +1,18 @@
 use Rattle.merge_core.proofs.Words.{[], ℕ, ◌++◌, ◌-◌, ◌^◌, ◌∙◌, ◌∷◌, ◌≡◌, AllByRecursion, AllGaveOnce, Appends}
-use Rattle.merge_core.proofs.Words.{AppendsPrefix, AreLinesOf, Bool, Feed, KeepsSources, List, Member, MergeState}
+use Rattle.merge_core.proofs.Words.{AppendsPrefix, AreLinesOf, Bool, MergeInput, KeepsSources, List, Member, MergeState}
 use Rattle.merge_core.proofs.Words.{Option, OverIndexes, Pair, Reached, ap, append-nil, arith, collection}
-use Rattle.merge_core.proofs.Words.{err_from_is_err_and, false, feeds, filter, flat_map-append, inl, inr, length}
+use Rattle.merge_core.proofs.Words.{err_from_is_err_and, false, inputs, filter, flat_map-append, inl, inr, length}
 use Rattle.merge_core.proofs.Words.{length-map, lines_text, map, member_pair, member_place, min, place_cmp}
 use Rattle.merge_core.proofs.Words.{prefix_longer, refl, rising, sym, true, true≢false}
 use Rattle.std.proofs.lemmas.Bool.{cases_Bool}
 use Rattle.devices.proofs.DeviceLemmas.{Appends-none}
 use Rattle.devices.proofs.WritingLemmas.{prefix_whole, wrote_nothing}
-use Rattle.merge_core.proofs.ReadLemmas.{took_of_indexes}
-use Rattle.merge_core.proofs.OnceLemmas.{gave_once}
-use Rattle.merge_core.proofs.RunLemmas.{none_wait}
+use Rattle.merge_core.proofs.ReadLemmas.{took_of_indexes, none_wait}
+use Rattle.merge_core.proofs.SourceLemmas.{gave_once, cut_at_start, none_below_empty, taken_lines, all_kept}
+use Rattle.merge_core.proofs.SourceLemmas.{all_lines_are, are_read, its_lines, told_known, starts_kept}
 use Rattle.merge_core.proofs.OpenLemmas.{begun_of, came_once_of}
 use Rattle.merge_core.proofs.StateLemmas.{long_of}
 use Rattle.merge_core.proofs.TakenLemmas.{taken_first}
-use Rattle.merge_core.proofs.StartLemmas.{cut_at_start, none_below_empty}
-use Rattle.merge_core.proofs.SourceLemmas.{taken_lines}
-use Rattle.merge_core.proofs.WholeLemmas.{all_kept, all_lines_are, are_read, its_lines, told_known}
-use Rattle.merge_core.proofs.WholeLemmas.{starts_kept}
 use Rattle.merge_core.proofs.indexes.merge_indexes.Given.{Over}
 use Rattle.merge_core.proofs.indexes.merge_indexes.Goals.{After-merge, In_err-merge, In_ok-merge}
 use Rattle.merge_core.proofs.indexes.merge_indexes.Goals as goal
@@ -30,11 +26,11 @@ filter_every (x ∷ xs) = ap (λ l. x ∷ l) (filter_every xs)
 
 -- each source is read from its start on
 begun : (g : Over) (c : After-merge g)
-    → AllByRecursion (λ (f : Feed). f.cursor.start ≡ 0) (feeds c.in_ok-opened.opened.merge)
+    → AllByRecursion (λ (f : MergeInput). f.cursor.start ≡ 0) (inputs c.in_ok-opened.opened.merge)
 begun g c =
     let opened = c.in_ok-opened.ensures in
     begun_of g.S.Source _
-    c.args.sources.now c.open_at.new.sources (feeds c.in_ok-opened.opened.merge)
+    c.args.sources.now c.open_at.new.sources (inputs c.in_ok-opened.opened.merge)
     (long_of opened.begun.ready.aligned) refl opened.begun.opened
 
 module _ (g : Over) (c : After-merge g) {ss : List g.row.S.Denot} {m : MergeState} {b : Option Pair}
@@ -46,7 +42,7 @@ module _ (g : Over) (c : After-merge g) {ss : List g.row.S.Denot} {m : MergeStat
       (λ texts indexes. AppendsPrefix old new (lines_text (collection indexes)))
   front old new p texts indexes known are =
       let opened = c.in_ok-opened.ensures in
-      let cut = cut_at_start g.S.Source c.open_at.new.sources (feeds c.in_ok-opened.opened.merge)
+      let cut = cut_at_start g.S.Source c.open_at.new.sources (inputs c.in_ok-opened.opened.merge)
       (begun g c) in
       let first = taken_first (took_of_indexes reached opened.begun.ready.aligned.same ([], []) cut texts indexes
       (rw (← opened.sources.0.0) at known) are (λ key later e h. absurd (true≢false (sym e))) (λ m. true) (λ m e. refl)
@@ -97,7 +93,7 @@ returns-in_err-merge-clause-lines g c =
     grind (arith, err_from_is_err_and, lines, broke)
 
 -- as many sources
-long_before : (g : Over) (c : After-merge g) → length c.open_at.new.sources ≡ length (feeds c.in_ok-opened.opened.merge)
+long_before : (g : Over) (c : After-merge g) → length c.open_at.new.sources ≡ length (inputs c.in_ok-opened.opened.merge)
 long_before g c = long_of c.in_ok-opened.ensures.begun.ready.aligned
 
 kept_long : (g : Over) (c : After-merge g) → length c.merge.new.sources ≡ length c.open_at.new.sources
@@ -118,8 +114,8 @@ once g c =
     let opened = c.in_ok-opened.ensures in
     let long : length c.merge.new.sources ≡ length c.open_at.new.sources = kept_long g c in
     gave_once g.S.Source c.args.sources.now c.open_at.new.sources
-    (feeds c.in_ok-opened.opened.merge) c.merge.new.sources (feeds c.merge.new.merge) never opened.sources.0.1
-    opened.begun.ready.aligned.fed (came_once_of g.S.Source _ c.args.sources.now _ refl opened.begun.opened) c.merge.ensures.moved long
+    (inputs c.in_ok-opened.opened.merge) c.merge.new.sources (inputs c.merge.new.merge) never opened.sources.0.1
+    opened.begun.ready.aligned.input (came_once_of g.S.Source _ c.args.sources.now _ refl opened.begun.opened) c.merge.ensures.moved long
 
 pub returns-in_err-opened-clause-bytes : goal.returns-in_err-opened-clause-bytes
 returns-in_err-opened-clause-bytes g c = c.open_at.ensures.once refl
@@ -145,19 +141,19 @@ returns g c =
       kept = kept;
       fault = record { counts = grind arith; names = grind arith };
       merged = λ texts known.
-          let lines = its_lines never (λ key. refl) device sources (feeds m) in
+          let lines = its_lines never (λ key. refl) device sources (inputs m) in
           let empty : m.queue ≡ [] = grind (arith, cases_Bool) in
           let long_now = long_of reached.ready.aligned in
           let starts = starts_kept device _ _ _ _ (long_before g at.After-merge) long_now
           c.merge.ensures.moved (begun g at.After-merge) in
-          let none : AllByRecursion (λ (f : Feed). f.waits ≡ []) (feeds m) = rw empty (none_wait 0 m.cursors.items) in
+          let none : AllByRecursion (λ (f : MergeInput). f.waits ≡ []) (inputs m) = rw empty (none_wait 0 m.cursors.items) in
           let all : taken ≡ collection lines =
           (reached.handed.told (told_known _ _ texts (rw (← opened.sources.0.0) at known))).0
-          ∙ ap (rising member_place place_cmp) (all_lines_are never (λ key. refl) device sources (feeds m)) in
+          ∙ ap (rising member_place place_cmp) (all_lines_are never (λ key. refl) device sources (inputs m)) in
           record {
             indexes = lines;
-            are = are_read never (λ key. refl) device sources (feeds m) texts (rw (← kept.0) at known)
-                starts none reached.ready.settled reached.ready.aligned.fed;
+            are = are_read never (λ key. refl) device sources (inputs m) texts (rw (← kept.0) at known)
+                starts none reached.ready.settled reached.ready.aligned.input;
             text = rw (← all) wrote.0;
             count = rw (← all) wrote.1;
           };

@@ -3,13 +3,12 @@ use Rattle.merge_core.proofs.Words.{None, OverIndexes, Reached, ShareAtMost, Som
 use Rattle.merge_core.proofs.Words.{each_rising, inl, inr, length, length-map, map, member_pair, member_place, min}
 use Rattle.merge_core.proofs.Words.{place_cmp, place_cmp_total, refl, rising}
 use Rattle.std.proofs.Common.{max}
-use Rattle.merge_core.proofs.SpendLemmas.{are_read_to}
-use Rattle.merge_core.proofs.WholeLemmas.{all_kept}
+use Rattle.merge_core.proofs.CountLemmas.{are_read_to, held_most}
+use Rattle.merge_core.proofs.SourceLemmas.{all_kept}
 use Rattle.merge_core.proofs.Many.{Move, length_zip, moved_trans, moved_still}
-use Rattle.merge_core.proofs.StateLemmas.{feeds_long}
-use Rattle.merge_core.proofs.CountLemmas.{held_most}
-use Rattle.merge_core.proofs.MergeLemmas.{above_none, below_next, broken_there, halted_there, reached_next, reached_same}
-use Rattle.merge_core.proofs.MergeLemmas.{on_fault}
+use Rattle.merge_core.proofs.StateLemmas.{inputs_long}
+use Rattle.merge_core.proofs.MergeLemmas.{above_none, below_next, broken_there, halted_there, reached_next}
+use Rattle.merge_core.proofs.MergeLemmas.{reached_same, on_fault}
 use Rattle.devices.proofs.DeviceLemmas.{grows_not}
 use Rattle.merge_core.proofs.merging.merge.Given.{Over}
 use Rattle.merge_core.proofs.merging.merge.Goals.{After-pass_group}
@@ -93,7 +92,7 @@ returns-in_err-first g c =
     let device = g.S.Source in
     let long : length c.loop-rest.sources ≡ length c.args.sources.now =
     let all = AllZip-long (Move device) _ _ came.reached.moved in
-    let same = came.reached.ready.aligned.same in grind (arith, length_zip, feeds_long) in
+    let same = came.reached.ready.aligned.same in grind (arith, length_zip, inputs_long) in
     let kept = all_kept device c.args.sources.now c.args.merge.now c.loop-rest.sources
     c.loop-rest.merge c.requires.ready.aligned.same long came.reached.moved in
     record {
@@ -104,8 +103,8 @@ returns-in_err-first g c =
       };
       most_lines = rw c.gather.ensures.most_lines c.loop-rest.invariant.most_lines;
       ended = on_fault _ _ _ _ c.from_residual.ensures.1 (
-        broken_there came refl,
-        halted_there came c.loop-rest.invariant.further c.in_err-first.ensures.gathered (grows_not _),
+        broken_there came _ refl,
+        halted_there came _ c.loop-rest.invariant.further c.in_err-first.ensures.gathered (grows_not _),
       );
     }
 
@@ -120,7 +119,7 @@ returns-in_err-more g c =
       most_lines = rw c.gather.ensures.most_lines c.loop-rest.invariant.most_lines;
       ended = on_fault _ _ _ _ c.from_residual-in_err-more.ensures.1 (
         elim c.in_err-more.ensures.passed [
-          | inl k ↦ broken_there came (grind arith)
+          | inl k ↦ broken_there came _ (grind arith)
           | inr k ↦ record {
             sources = c.gather.new.sources;
             merge = c.gather.new.self;
@@ -130,11 +129,11 @@ returns-in_err-more g c =
             wrote = grind (arith, order g here);
           }
         ],
-        halted_there came c.loop-rest.invariant.further (record {
+        halted_there came _ c.loop-rest.invariant.further (record {
           pair = member_pair c.in-Some.first.value;
           above = gathered.above;
           least = gathered.least;
-          read = λ told low. are_read_to _ g.S.Source _ _ _ (reached g here).ready.aligned.fed
+          read = λ told low. are_read_to _ g.S.Source _ _ _ (reached g here).ready.aligned.input
               (gathered.gathered told low).upto;
         }) c.pass_group.ensures.grows,
       );

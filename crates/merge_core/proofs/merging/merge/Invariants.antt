@@ -1,4 +1,4 @@
-use Rattle.merge_core.proofs.Words.{[], ℕ, ◌+◌, ◌≡◌, ◌≤◌, OverIndexes, ShareAtMost, SoFar, all_lines, feeds, length}
+use Rattle.merge_core.proofs.Words.{[], ℕ, ◌+◌, ◌≡◌, ◌≤◌, OverIndexes, ShareAtMost, SoFar, all_lines, inputs, length}
 use Rattle.merge_core.proofs.Words.{map, unread}
 use Rattle.merge_core.proofs.merging.merge.Given as goal
 
@@ -11,9 +11,10 @@ invariant-loop-rest g l = record {
   most_lines : OverIndexes (map g.S.Source.text l.fn.sources) (λ texts indexes. (most : ℕ)
       → ShareAtMost most (all_lines indexes)
       → l.fn.merge.most_lines ≤ length l.fn.sources + most → l.merge.most_lines ≤ length l.fn.sources + most);
-  came : SoFar g.K.Sink (g.R.Range.past l.range) g.S.Source l.fn.sources l.fn.merge l.fn.sink (g.O.Output.written l.fn.out) l.sources l.merge l.sink
-      (g.O.Output.written l.out);
+  came : SoFar g.K.Sink (g.R.Range.past l.range) g.S.Source
+      (record { sources = l.fn.sources; merge = l.fn.merge; sink = l.fn.sink; written = g.O.Output.written l.fn.out })
+      (record { sources = l.sources; merge = l.merge; sink = l.sink; written = g.O.Output.written l.out });
 }
 
 abbrev pub decreases-loop-rest : goal.decreases-loop-rest
-decreases-loop-rest g l = unread g.S.Source.extent l.sources (feeds l.merge) + length l.merge.queue
+decreases-loop-rest g l = unread g.S.Source.extent l.sources (inputs l.merge) + length l.merge.queue

@@ -1,5 +1,5 @@
 use Rattle.merge_core.proofs.Words.{arith}
-use Rattle.merge_core.proofs.PairStarts.{begins}
+use Rattle.merge_core.proofs.PairOrder.{begins}
 use Rattle.merge_core.proofs.pair_start.pair_start.Goals as goal
 
 pub slice_bounds-start_of-end : goal.slice_bounds-start_of-end

@@ -1,5 +1,5 @@
 use Rattle.query_core.proofs.Words.{[], arith, wrote_nothing}
-use Rattle.merge_core.proofs.OnceLemmas.{once_none}
+use Rattle.merge_core.proofs.SourceLemmas.{once_none}
 use Rattle.query_core.proofs.merging.merge.Goals as goal
 
 pub returns-then-sources-gt-SOURCES_LIMIT-clause-bytes : goal.returns-then-sources-gt-SOURCES_LIMIT-clause-bytes

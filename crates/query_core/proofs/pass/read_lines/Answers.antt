@@ -1,5 +1,5 @@
 use Rattle.query_core.proofs.Words.{[], ◌++◌, ◌∙◌, ◌≡◌, Bool, KeepsSources, List, Member, ReadFor, Some, all_kept, ap}
-use Rattle.query_core.proofs.Words.{append-nil, arith, err_from_is_err_and, false, feeds, grows_not, inl, length-map}
+use Rattle.query_core.proofs.Words.{append-nil, arith, err_from_is_err_and, false, inputs, grows_not, inl, length-map}
 use Rattle.query_core.proofs.Words.{map, refl, sym, true}
 use Rattle.query_core.proofs.AskedLemmas.{captures}
 use Rattle.query_core.proofs.CaptureLemmas.{captures_append}
@@ -63,7 +63,7 @@ start g c = record {
   same = c.in_ok-opened.ensures.begun.ready.aligned.same;
   came = came_of _ _ _ _ c.in_ok-opened.ensures.begun.opened;
   cut = rw c.start_pair.ensures at (cuts_of g.S.Source _
-      c.args.sources.now c.open_at.new.sources (feeds c.in_ok-opened.opened.merge) c.open_at.ensures.sources.0.0
+      c.args.sources.now c.open_at.new.sources (inputs c.in_ok-opened.opened.merge) c.open_at.ensures.sources.0.0
       c.in_ok-opened.ensures.begun.opened);
 }
 
@@ -83,11 +83,11 @@ returns-in_err-all-clause-ended g c =
         earlier = h.so_far.taken;
         first = (took r).first;
         before = record {
-          state = h.state;
-          middle = h.middle;
+          state = h.stood.sink;
+          middle = h.stood.written;
           more = h.more;
           came = h.so_far.came;
-          within = gave_upto r (Some h.next) r.taken c.merge.new.sources (feeds c.merge.new.merge)
+          within = gave_upto r (Some h.next) r.taken c.merge.new.sources (inputs c.merge.new.merge)
               (cut_before r h.next h.above h.least) c.merge.ensures.moved (omega arith)
               (λ texts known. rw c.target.ensures at (h.read (told r texts known)));
         };

@@ -1,5 +1,5 @@
 use Rattle.merge_core.proofs.Words.{◌∷◌, ◌≡◌, arith, drop, lines}
-use Rattle.merge_core.proofs.FeedLemmas.{first_long}
+use Rattle.merge_core.proofs.InputLemmas.{first_long}
 use Rattle.merge_core.proofs.line_buffers.LineBuffers.next_line.Goals as goal
 
 pub returns-in-Err-clause-fault : goal.returns-in-Err-clause-fault
@@ -12,7 +12,6 @@ pub returns-in-Err-line_of-clause-fault : goal.returns-in-Err-line_of-clause-fau
 returns-in-Err-line_of-clause-fault g c = λ t e.
     let line : lines (drop c.args.cursor.now.at t) ≡ c.next.new.line.items ∷ lines (drop c.next.new.self.at t) =
     grind arith in
-    let bytes = c.deref.ensures.value in
     grind arith
 
 pub returns-in-Err-Long-clause-fault : goal.returns-in-Err-Long-clause-fault

@@ -1,11 +1,11 @@
-use Rattle.merge_core.proofs.Words.{[], ℕ, ◌++◌, ◌∙◌, ◌∷◌, ◌≡◌, ◌≤◌, Alike, AllByRecursion, Below, Bool, EndsAt, Fed}
+use Rattle.merge_core.proofs.Words.{[], ℕ, ◌++◌, ◌∙◌, ◌∷◌, ◌≡◌, ◌≤◌, Alike, AllByRecursion, Below, Bool, EndsAt, IsInput}
 use Rattle.merge_core.proofs.Words.{List, Member, Pair, Some, Upto, append_assoc, arith, boxed_lines, done, drop}
-use Rattle.merge_core.proofs.Words.{each_join, each_weaker, false, feed_of, filter, given, inl, inr, is_lt, length}
+use Rattle.merge_core.proofs.Words.{each_join, each_weaker, false, input_of, filter, given, inl, inr, is_lt, length}
 use Rattle.merge_core.proofs.Words.{lines, map-append, member_pair, pair_cmp_total, refl, stays, true}
-use Rattle.merge_core.proofs.SpendLemmas.{group_most}
-use Rattle.merge_core.proofs.FeedLemmas.{LineRead, all_inside, all_taken, all_upto, bad_named, done_next, fed_end, fed_more, given_next}
-use Rattle.merge_core.proofs.FeedLemmas.{order_named, same_stays, settled_more}
-use Rattle.merge_core.proofs.FailLemmas.{if_err}
+use Rattle.merge_core.proofs.CountLemmas.{group_most}
+use Rattle.merge_core.proofs.InputLemmas.{LineRead, all_inside, all_taken, all_upto, bad_named, done_next, input_end}
+use Rattle.merge_core.proofs.InputLemmas.{input_more, given_next, order_named, same_stays, settled_more}
+use Rattle.merge_core.proofs.MergeLemmas.{if_err}
 use Rattle.merge_core.proofs.PairOrder.{from_not_below, upto_upto}
 use Rattle.merge_core.proofs.line_buffers.LineBuffers.read_group.Given.{Over}
 use Rattle.merge_core.proofs.line_buffers.LineBuffers.read_group.Goals.{After-compare_pair, After-next_line}
@@ -29,8 +29,8 @@ was_read g c not_less =
     let first = member_pair c.args.first.now in
     let next = member_pair c.in-Some.line.value in
     let up = from_not_below next first (grind arith) in
-    let was : Fed past (g.S.Source.text c.next_line.new.source) (g.S.Source.extent c.next_line.new.source)
-    (feed_of c.loop-line.cursor []) = grind arith in
+    let was : IsInput past (g.S.Source.text c.next_line.new.source) (g.S.Source.extent c.next_line.new.source)
+    (input_of c.loop-line.cursor []) = grind arith in
     let last : (t : List ℕ) → g.S.Source.text c.next_line.new.source ≡ Some t
     → EndsAt past first (given t c.loop-line.cursor) = λ t e. inv.last t (cc) in
     let inside : (t : List ℕ) → g.S.Source.text c.next_line.new.source ≡ Some t
@@ -44,9 +44,9 @@ was_read g c not_less =
 
 -- before the call, all lines that were read had been taken
 taken_before : (g : Over) (c : After-next_line g) (t : List ℕ) → g.S.Source.text c.args.source.now ≡ Some t
-    → done (g.R.Range.past c.args.range.now) t (feed_of c.args.cursor.now [])
+    → done (g.R.Range.past c.args.range.now) t (input_of c.args.cursor.now [])
     ≡ given t c.args.cursor.now
-taken_before g c t e = all_taken c.requires.fed t e (c.requires.due.last t e)
+taken_before g c t e = all_taken c.requires.input t e (c.requires.due.last t e)
 
 pub returns-in-Greater-clause-read : goal.returns-in-Greater-clause-read
 returns-in-Greater-clause-read g c =
@@ -58,7 +58,7 @@ returns-in-Greater-clause-read g c =
     let is = c.within.ensures in
     let above : Below (member_pair c.args.first.now) (member_pair c.in-Some.line.value) = grind arith in
     record {
-      fed = fed_more read _ (inl is);
+      input = input_more read _ (inl is);
       settled = settled_more read _ is;
       later = rw is (above_waits past (member_pair c.args.first.now) c.in-Some.line.value above);
       fewer = rw is (let few : length (filter (stays past) (c.in-Some.line.value ∷ [])) ≤ 1 = length_waits past c.in-Some.line.value in grind arith);
@@ -73,19 +73,19 @@ returns-in-Greater-clause-read g c =
     }
 
 pub returns-in-Greater-clause-most : goal.returns-in-Greater-clause-most
-returns-in-Greater-clause-most g c = grind (arith, group_most {pair = member_pair c.args.first.now} c.loop-line.invariant.fed)
+returns-in-Greater-clause-most g c = grind (arith, group_most {pair = member_pair c.args.first.now} c.loop-line.invariant.input)
 
 pub returns-clause-read : goal.returns-clause-read
 returns-clause-read g c =
     let inv = c.loop-line.invariant in
     let past = g.R.Range.past c.args.range.now in
     let here = goal.at.returns-clause-read g c in
-    let was : Fed past (g.S.Source.text c.next_line.new.source) (g.S.Source.extent c.next_line.new.source)
-    (feed_of c.loop-line.cursor []) = grind arith in
+    let was : IsInput past (g.S.Source.text c.next_line.new.source) (g.S.Source.extent c.next_line.new.source)
+    (input_of c.loop-line.cursor []) = grind arith in
     let ended : (t : List ℕ) → g.S.Source.text c.next_line.new.source ≡ Some t
     → lines (drop c.loop-line.cursor.at t) ≡ [] = λ t e. grind arith in
     record {
-      fed = fed_end was c.next_line.new.cursor (grind arith) (grind arith) (grind arith) (λ t e. grind arith) ended;
+      input = input_end was c.next_line.new.cursor (grind arith) (grind arith) (grind arith) (λ t e. grind arith) ended;
       settled = λ t e none. inl (grind arith);
       later = tt;
       fewer = grind arith;
@@ -100,16 +100,16 @@ returns-clause-read g c =
     }
 
 pub returns-in_err-line-clause-most : goal.returns-in_err-line-clause-most
-returns-in_err-line-clause-most g c = grind (arith, group_most {pair = member_pair c.args.first.now} c.loop-line.invariant.fed)
+returns-in_err-line-clause-most g c = grind (arith, group_most {pair = member_pair c.args.first.now} c.loop-line.invariant.input)
 
 pub returns-in-Less-clause-most : goal.returns-in-Less-clause-most
-returns-in-Less-clause-most g c = grind (arith, group_most {pair = member_pair c.args.first.now} c.loop-line.invariant.fed)
+returns-in-Less-clause-most g c = grind (arith, group_most {pair = member_pair c.args.first.now} c.loop-line.invariant.input)
 
 pub returns-in_err-push-in-Equal-clause-most : goal.returns-in_err-push-in-Equal-clause-most
-returns-in_err-push-in-Equal-clause-most g c = grind (arith, group_most {pair = member_pair c.args.first.now} c.loop-line.invariant.fed)
+returns-in_err-push-in-Equal-clause-most g c = grind (arith, group_most {pair = member_pair c.args.first.now} c.loop-line.invariant.input)
 
 pub returns-clause-most : goal.returns-clause-most
-returns-clause-most g c = grind (arith, group_most {pair = member_pair c.args.first.now} c.loop-line.invariant.fed)
+returns-clause-most g c = grind (arith, group_most {pair = member_pair c.args.first.now} c.loop-line.invariant.input)
 
 pub loop-line-preserved : goal.loop-line-preserved
 loop-line-preserved g c =
@@ -130,7 +130,7 @@ loop-line-preserved g c =
       gave = omega arith;
       start = cc;
       there = grind arith;
-      fed = fed_more read [] (inr (refl, λ t e. let stays = last t (cc) in grind arith));
+      input = input_more read [] (inr (refl, λ t e. let stays = last t (cc) in grind arith));
       begin = c.at-begin-in-Some.ensures;
       last = λ t e. (given t c.loop-line.cursor, m, given_next read t (cc), alike, last t e);
       taken = (
@@ -145,8 +145,8 @@ pub returns-in_err-line-clause-fault : goal.returns-in_err-line-clause-fault
 returns-in_err-line-clause-fault g c = record {
   counts = grind arith;
   names = λ t e.
-      let fed = rw (c.loop-line.invariant.text ∙ e) at c.loop-line.invariant.fed in
-      grind (arith, if_err, bad_named fed);
+      let input = rw (c.loop-line.invariant.text ∙ e) at c.loop-line.invariant.input in
+      grind (arith, if_err, bad_named input);
 }
 
 pub returns-in-Less-clause-fault : goal.returns-in-Less-clause-fault
@@ -155,7 +155,7 @@ returns-in-Less-clause-fault g c =
     record {
       counts = grind arith;
       names = λ t e.
-          rw (← inv.begin) at (order_named (rw (inv.text ∙ e) at inv.fed) (member_pair c.args.first.now)
+          rw (← inv.begin) at (order_named (rw (inv.text ∙ e) at inv.input) (member_pair c.args.first.now)
           c.next_line.new.cursor
           c.in-Some.line.value (inv.last t e) (rw c.in-Some.is at (c.in_ok-line.ensures.next t (cc))) (grind arith));
     }

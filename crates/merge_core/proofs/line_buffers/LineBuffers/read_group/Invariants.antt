@@ -1,5 +1,5 @@
-use Rattle.merge_core.proofs.Words.{[], ℕ, ◌++◌, ◌+◌, ◌-◌, ◌≡◌, ◌≤◌, Alike, AllByRecursion, EndsAt, Fed, List, Member}
-use Rattle.merge_core.proofs.Words.{Some, boxed_lines, feed_of, given, member_pair, reach}
+use Rattle.merge_core.proofs.Words.{[], ℕ, ◌++◌, ◌+◌, ◌-◌, ◌≡◌, ◌≤◌, Alike, AllByRecursion, EndsAt, IsInput, List}
+use Rattle.merge_core.proofs.Words.{Member, Some, boxed_lines, input_of, given, member_pair, reach}
 use Rattle.merge_core.proofs.line_buffers.LineBuffers.read_group.Given as goal
 
 abbrev pub invariant-loop-line : goal.invariant-loop-line
@@ -10,8 +10,8 @@ invariant-loop-line g l = record {
   gave : g.S.Source.gave l.source + reach l.fn.cursor ≤ g.S.Source.gave l.fn.source + reach l.cursor;
   start : l.cursor.start ≡ l.fn.cursor.start;
   there : l.fn.cursor.at ≤ l.cursor.at;
-  fed : Fed (g.R.Range.past l.range) (g.S.Source.text l.source) (g.S.Source.extent l.source)
-      (feed_of l.cursor []);
+  input : IsInput (g.R.Range.past l.range) (g.S.Source.text l.source) (g.S.Source.extent l.source)
+      (input_of l.cursor []);
   begin : l.begin ≡ l.cursor.at;
   last : (t : List ℕ) → g.S.Source.text l.fn.source ≡ Some t
       → EndsAt (g.R.Range.past l.range) (member_pair l.first) (given t l.cursor);

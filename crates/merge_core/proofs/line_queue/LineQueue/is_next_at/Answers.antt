@@ -1,6 +1,6 @@
-use Rattle.merge_core.proofs.Words.{◌∙◌, ◌≡◌, List, NoneBefore, WaitingLine, ap, false, get_or, is_eq}
-use Rattle.merge_core.proofs.Words.{member_pair, pair_cmp, subst, sym, waiting_pair}
-use Rattle.merge_core.proofs.TurnLemmas.{all_later_unless}
+use Rattle.merge_core.proofs.Words.{◌∙◌, ◌≡◌, List, NoneBefore, WaitingLine, ap, false, get_or, is_eq, member_pair}
+use Rattle.merge_core.proofs.Words.{pair_cmp, subst, sym, waiting_pair}
+use Rattle.merge_core.proofs.GroupLemmas.{all_later_unless}
 use Rattle.merge_core.proofs.line_queue.LineQueue.is_next_at.Goals as goal
 
 pub returns-in-Some-clause-later : goal.returns-in-Some-clause-later

@@ -1,5 +1,5 @@
 use Rattle.merge_core.proofs.Words.{member_pair}
-use Rattle.merge_core.proofs.TurnLemmas.{popped_alike}
+use Rattle.merge_core.proofs.GroupLemmas.{popped_alike}
 use Rattle.merge_core.proofs.line_queue.LineQueue.pop_at.Goals as goal
 
 pub returns-then-is_next_at-clause-alike : goal.returns-then-is_next_at-clause-alike

@@ -12,9 +12,7 @@ pub returns-in_err-put-clause-text : goal.returns-in_err-put-clause-text
 returns-in_err-put-clause-text g c = grind (arith, on_fault, prefix_longer)
 
 pub returns-in_err-write-clause-grows : goal.returns-in_err-write-clause-grows
-returns-in_err-write-clause-grows g c =
-    grows_by _ _ c.args.line.now.line (still_appends _ (g.O.Output.written c.put.new.out) _ _ (grind arith)
-    c.in_err-write.ensures.bytes)
+returns-in_err-write-clause-grows g c = grind (arith, grows_by, still_appends)
 
 pub returns-clause-grows : goal.returns-clause-grows
 returns-clause-grows g c =

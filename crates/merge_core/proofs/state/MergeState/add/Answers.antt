@@ -1,16 +1,15 @@
-use Rattle.merge_core.proofs.Words.{[], Fed, arith, boxed_line, feed_of}
-use Rattle.merge_core.proofs.Words.{option_list}
-use Rattle.merge_core.proofs.FeedLemmas.{bad_named}
-use Rattle.merge_core.proofs.FailLemmas.{if_err}
-use Rattle.merge_core.proofs.OpenLemmas.{fed_fresh, first_read}
+use Rattle.merge_core.proofs.Words.{[], IsInput, arith, boxed_line, input_of, option_list}
+use Rattle.merge_core.proofs.InputLemmas.{bad_named}
+use Rattle.merge_core.proofs.MergeLemmas.{if_err}
+use Rattle.merge_core.proofs.OpenLemmas.{input_fresh, first_read}
 use Rattle.merge_core.proofs.state.MergeState.add.Given.{Over}
 use Rattle.merge_core.proofs.state.MergeState.add.Goals.{After-next_line}
 use Rattle.merge_core.proofs.state.MergeState.add.Goals as goal
 
 -- before the first line is read
-fresh : (g : Over) (c : After-next_line g) → Fed (g.R.Range.past c.args.range.now)
-    (g.S.Source.text c.args.source.now) (g.S.Source.extent c.args.source.now) (feed_of c.args.cursor [])
-fresh g c = fed_fresh (g.R.Range.past c.args.range.now) _ _ c.args.cursor c.requires.stands c.requires.fresh.none
+fresh : (g : Over) (c : After-next_line g) → IsInput (g.R.Range.past c.args.range.now)
+    (g.S.Source.text c.args.source.now) (g.S.Source.extent c.args.source.now) (input_of c.args.cursor [])
+fresh g c = input_fresh (g.R.Range.past c.args.range.now) _ _ c.args.cursor c.requires.stands c.requires.fresh.none
     c.requires.fresh.there c.requires.begins
 
 pub returns-in_err-next-clause-source : goal.returns-in_err-next-clause-source
@@ -19,7 +18,7 @@ returns-in_err-next-clause-source g c =
       grind arith,
       record {
         counts = grind arith;
-        names = λ t e. let fed = rw e at (fresh g at) in grind (arith, if_err, bad_named fed);
+        names = λ t e. let input = rw e at (fresh g at) in grind (arith, if_err, bad_named input);
       },
     )
 
@@ -27,8 +26,8 @@ pub returns-clause-added : goal.returns-clause-added
 returns-clause-added g c =
     let here = (goal.at.returns-clause-added g c).After-next_line in
     let ok = c.in_ok-next.ensures in
-    let was : Fed (g.R.Range.past c.args.range.now) (g.S.Source.text c.next_line.new.source)
-    (g.S.Source.extent c.next_line.new.source) (feed_of c.args.cursor []) = let f = fresh g here in grind arith in
+    let was : IsInput (g.R.Range.past c.args.range.now) (g.S.Source.text c.next_line.new.source)
+    (g.S.Source.extent c.next_line.new.source) (input_of c.args.cursor []) = let f = fresh g here in grind arith in
     let read = first_read was c.requires.fresh.none c.next_line.new.cursor (boxed_line c.in_ok-next.next) _ ok.stands
     c.next_line.ensures.moved.start_kept (grind arith) (λ t e. c.next_line.ensures.most t (grind arith))
     (λ t e. ok.next t (grind arith)) c.within-first.ensures in
@@ -37,7 +36,7 @@ returns-clause-added g c =
       first = option_list (boxed_line c.within-first.result);
       cursors_are = grind arith;
       queue_is = grind arith;
-      fed = read.fed;
+      input = read.input;
       settled = read.settled;
       fresh = read.fresh;
       cursor_is = c.next_line.ensures.moved;

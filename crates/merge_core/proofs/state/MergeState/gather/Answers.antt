@@ -1,17 +1,14 @@
 use Rattle.merge_core.proofs.Words.{[], ◌+◌, ◌∙◌, ◌∷◌, ◌≡◌, AreReadTo, AreSettled, AreTold, Member, MergeState, Some}
-use Rattle.merge_core.proofs.Words.{Upto, WaitingLine, all_done, ap, arith, boxed_lines, each_weaker, feeds}
+use Rattle.merge_core.proofs.Words.{Upto, WaitingLine, all_done, ap, arith, boxed_lines, each_weaker, inputs}
 use Rattle.merge_core.proofs.Words.{map-append, member_pair, pair_cmp_total, refl, sym, tied_itself, waiting_pair}
 use Rattle.std.proofs.lemmas.List.Sorted.{IsPermutation-sym}
 use Rattle.merge_core.proofs.PairOrder.{upto_itself}
-use Rattle.merge_core.proofs.MergeLemmas.{on_fault}
-use Rattle.merge_core.proofs.SpendLemmas.{idle_read}
-use Rattle.merge_core.proofs.WholeLemmas.{all_kept}
-use Rattle.merge_core.proofs.GroupLemmas.{AreBelow, from_waited}
-use Rattle.merge_core.proofs.GatherSteps.{Gathers, TakenNext, gathers_start, taken_next, gathers_on}
-use Rattle.merge_core.proofs.HeapLemmas.{each_permuted}
+use Rattle.merge_core.proofs.MergeLemmas.{on_fault, Gathers, TakenNext, gathers_start, taken_next, gathers_on}
+use Rattle.merge_core.proofs.CountLemmas.{idle_read}
+use Rattle.merge_core.proofs.SourceLemmas.{all_kept}
+use Rattle.merge_core.proofs.GroupLemmas.{AreBelow, from_waited, each_permuted, above_popped, not_before}
 use Rattle.merge_core.proofs.Many.{moved_trans, moved_still}
-use Rattle.merge_core.proofs.StateLemmas.{popped_feeds}
-use Rattle.merge_core.proofs.TurnLemmas.{above_popped, not_before}
+use Rattle.merge_core.proofs.StateLemmas.{popped_inputs}
 use Rattle.merge_core.proofs.state.MergeState.gather.Given.{Over}
 use Rattle.merge_core.proofs.state.MergeState.gather.Goals.{After-read_on, After-push, In_ok-read_on}
 use Rattle.merge_core.proofs.state.MergeState.gather.Goals as goal
@@ -27,16 +24,16 @@ drained g c =
     let pair = member_pair c.with_start-keyed.result in
     gathers_on inv.gathers {m' = c.read_on.new.self} (c.with_start-keyed.result ∷ []) refl read.took (omega arith) inv.inside
     read.aligned c.read_on.ensures.moved
-    (from_waited pair (c.sources.i + 1) c.sources.i read.took.feed.waits _ _ read.later read.queue_is inv.gathers.from)
+    (from_waited pair (c.sources.i + 1) c.sources.i read.took.input.waits _ _ read.later read.queue_is inv.gathers.from)
 
--- and of the feeds
+-- and of the inputs
 drained_settled : (g : Over) (c : In_ok-read_on g)
     → AreSettled (g.R.Range.past c.args.range.now) g.S.Source c.read_on.new.sources
-    (feeds c.read_on.new.self)
+    (inputs c.read_on.new.self)
 drained_settled g c =
     let read = c.in_ok-read_on.ensures.read in
-    rw (read.took.source_is, read.took.feeds_are)
-    (c.sources.invariant.settled read.took.source read.took.feed read.settled)
+    rw (read.took.source_is, read.took.inputs_are)
+    (c.sources.invariant.settled read.took.source read.took.input read.settled)
 
 -- the line that is taken next
 abbrev taken_line : (g : Over) → After-push g → WaitingLine
@@ -129,9 +126,9 @@ sources-preserved g c =
 -- the sources were read up to the pair
 read_to : (g : Over) (c : After-read_on g) → AreTold g.S.Source.text c.args.sources.now
     → AreBelow (member_pair c.with_start-keyed.result) (all_done (g.R.Range.past c.args.range.now) g.S.Source.text
-    c.args.sources.now (feeds c.args.self.now))
+    c.args.sources.now (inputs c.args.self.now))
     → AreReadTo (g.R.Range.past c.args.range.now) g.S.Source.text (Some (member_pair c.with_start-keyed.result))
-    c.read_on.new.sources (feeds c.read_on.new.self)
+    c.read_on.new.sources (inputs c.read_on.new.self)
 read_to g c told low =
     c.read_on.ensures.most (c.sources.invariant.gathers.gathered told low).0.upto
 
@@ -185,8 +182,8 @@ returns-in_err-push g c =
     let t = taken g here.After-push now in
     let took = c.in-Some-pop_at.ensures in
     let w = taken_line g here.After-push in
-    let f = c.in_ok-read_on.ensures.read.took.feed in
-    let feeds_now = popped_feeds (popped_merge g here.After-push) {w = w} now.aligned refl
+    let f = c.in_ok-read_on.ensures.read.took.input in
+    let inputs_now = popped_inputs (popped_merge g here.After-push) {w = w} now.aligned refl
     (rw (sym c.next-in-sources.view_is) at took.out) f in
     record {
       moved = t.gathers.moved;
@@ -196,7 +193,7 @@ returns-in_err-push g c =
         pair = member_pair c.with_start-keyed.result;
         above = c.sources.invariant.above;
         least = c.sources.invariant.least;
-        read = λ told low. rw feeds_now (idle_read _ g.S.Source _ _ _ _ f
+        read = λ told low. rw inputs_now (idle_read _ g.S.Source _ _ _ _ f
             (read_to g here.After-read_on told low));
       });
       most_lines = grind arith;

@@ -1,7 +1,7 @@
-use Rattle.merge_core.proofs.Words.{◌+◌, ◌<◌, ◌∷◌, ◌≡◌, AllByRecursion, AreSettled, Feed, IsAbove, IsDue, IsSettled}
-use Rattle.merge_core.proofs.Words.{NoneBelow, Option, Pair, boxed_lines, feeds, get_or, length, map}
-use Rattle.merge_core.proofs.Words.{member_pair, set, unread, waiting_pair}
-use Rattle.merge_core.proofs.GatherSteps.{Gathers}
+use Rattle.merge_core.proofs.Words.{◌+◌, ◌<◌, ◌∷◌, ◌≡◌, AllByRecursion, AreSettled, MergeInput, IsAbove, IsDue, IsSettled}
+use Rattle.merge_core.proofs.Words.{NoneBelow, Option, Pair, boxed_lines, inputs, get_or, length, map, member_pair}
+use Rattle.merge_core.proofs.Words.{set, unread, waiting_pair}
+use Rattle.merge_core.proofs.MergeLemmas.{Gathers}
 use Rattle.merge_core.proofs.state.MergeState.gather.Given as goal
 
 abbrev pub invariant-sources : goal.invariant-sources
@@ -10,19 +10,19 @@ invariant-sources g l = record {
       l.fn.self (member_pair l.keyed) (l.i + 1) l.sources l.self (l.keyed ∷ boxed_lines l.rest.items);
   most_lines : l.self.most_lines ≡ l.fn.self.most_lines;
   inside : l.i < length l.sources;
-  due : (a : g.row.S.Denot) → (d : Feed)
+  due : (a : g.row.S.Denot) → (d : MergeInput)
       → IsDue (g.R.Range.past l.range) (member_pair l.keyed) (g.S.Source.text (get_or l.sources l.i a))
-      (get_or (feeds l.self) l.i d);
-  settled : (s : g.row.S.Denot) → (f : Feed) → IsSettled (g.R.Range.past l.range) (g.S.Source.text s) f
+      (get_or (inputs l.self) l.i d);
+  settled : (s : g.row.S.Denot) → (f : MergeInput) → IsSettled (g.R.Range.past l.range) (g.S.Source.text s) f
       → AreSettled (g.R.Range.past l.range) g.S.Source (set l.sources l.i s)
-      (set (feeds l.self) l.i f);
+      (set (inputs l.self) l.i f);
   failures : map g.S.Source.failures l.sources ≡ map g.S.Source.failures l.fn.sources;
   above : (b : Option Pair) → AllByRecursion (λ w. IsAbove b (waiting_pair w)) l.fn.self.queue
       → IsAbove b (member_pair l.keyed);
   least : NoneBelow (member_pair l.keyed) l.fn.self.queue;
-  fewer : unread g.S.Source.extent l.sources (feeds l.self) + length l.self.queue < unread g.S.Source.extent
-      l.fn.sources (feeds l.fn.self) + length l.fn.self.queue;
+  fewer : unread g.S.Source.extent l.sources (inputs l.self) + length l.self.queue < unread g.S.Source.extent
+      l.fn.sources (inputs l.fn.self) + length l.fn.self.queue;
 }
 
 abbrev pub decreases-sources : goal.decreases-sources
-decreases-sources g l = unread g.S.Source.extent l.sources (feeds l.self) + length l.self.queue
+decreases-sources g l = unread g.S.Source.extent l.sources (inputs l.self) + length l.self.queue

@@ -1,14 +1,14 @@
-use Rattle.merge_core.proofs.Words.{◌<◌, ◌≡◌, ap, append-nil, arith, digits, feed_of, feeds, flat_map-append, get_or}
+use Rattle.merge_core.proofs.Words.{◌<◌, ◌≡◌, ap, append-nil, arith, digits, input_of, inputs, flat_map-append, get_or}
 use Rattle.merge_core.proofs.Words.{length, length-append, map, sum, take, take_all, take_more, take_more_set, zip}
 use Rattle.std.proofs.lemmas.Grind.{common_steps}
 use Rattle.std.proofs.lemmas.Slice.Zip.{all_zipped_more}
-use Rattle.merge_core.proofs.OnceLemmas.{once_none}
-use Rattle.merge_core.proofs.SpendLemmas.{opened_none, left_here, left_after}
-use Rattle.merge_core.proofs.FailLemmas.{raised_by_feed}
+use Rattle.merge_core.proofs.SourceLemmas.{once_none}
+use Rattle.merge_core.proofs.CountLemmas.{opened_none, left_here, left_after}
+use Rattle.merge_core.proofs.MergeLemmas.{raised_by_feed}
 use Rattle.merge_core.proofs.Many.{map_set_same, two_put}
 use Rattle.std.proofs.lemmas.Simd.{map-map}
-use Rattle.merge_core.proofs.OpenLemmas.{added_feeds, fresh_of, ready_added, sum_turn, zip_none, zip_push}
-use Rattle.merge_core.proofs.StateLemmas.{feeds_long}
+use Rattle.merge_core.proofs.OpenLemmas.{added_inputs, fresh_of, ready_added, sum_turn, zip_none, zip_push}
+use Rattle.merge_core.proofs.StateLemmas.{inputs_long}
 use Rattle.merge_core.proofs.state.MergeState.open_at.Goals as goal
 
 pub loop-i-init : goal.loop-i-init
@@ -23,13 +23,13 @@ loop-i-preserved g c =
     let added = ok.added in
     let past = g.R.Range.past c.args.range.now in
     let olds = c.args.sources.now in let ss = c.loop-i.sources in let m = c.loop-i.merge in
-    let fs = feeds m in
+    let fs = inputs m in
     let i = c.loop-i.i in let a = c.index-sources-i.result in let s = c.add_from.new.source in
-    let f = feed_of added.cursor added.first in
+    let f = input_of added.cursor added.first in
     let inside : i < length ss = omega arith in
     let text = g.S.Source.text in let extent = g.S.Source.extent in
-    let now = added_feeds inv.ready added in
-    let count : length fs ≡ i = let n = inv.count in grind (arith, feeds_long) in
+    let now = added_inputs inv.ready added in
+    let count : length fs ≡ i = let n = inv.count in grind (arith, inputs_long) in
     let ready = ready_added inv.ready added in
     let front = take_more_set ss i s inside in
     let zipped = zip_push ss fs i s f count inside in

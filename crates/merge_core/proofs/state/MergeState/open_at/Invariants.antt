@@ -1,9 +1,8 @@
-use Rattle.merge_core.proofs.Words.{[], ◌≡◌, ◌≤◌, AllGaveOnce, IsLeast, Ready, all_done, drop, feeds, length}
-use Rattle.merge_core.proofs.Words.{map, take, zip}
+use Rattle.merge_core.proofs.Words.{[], ◌≡◌, ◌≤◌, AllGaveOnce, IsLeast, Ready, all_done, drop, inputs, length, map}
+use Rattle.merge_core.proofs.Words.{take, zip}
 use Rattle.cdxj_places.specs.PairViews.{pair_view}
 use Rattle.merge_core.specs.Openings.{AreOpened}
-use Rattle.merge_core.specs.Spending.{AllOpenedWithin}
-use Rattle.merge_core.specs.Spending.{search_steps}
+use Rattle.merge_core.specs.Spending.{AllOpenedWithin, search_steps}
 use Rattle.merge_core.proofs.state.MergeState.open_at.Given as goal
 
 abbrev pub invariant-loop-i : goal.invariant-loop-i
@@ -14,11 +13,11 @@ invariant-loop-i g l = record {
   most_lines : l.merge.most_lines ≡ 0;
   count : length l.merge.cursors.items ≡ l.i;
   ready : Ready (g.R.Range.past l.range) g.S.Source (take l.i l.sources) l.merge;
-  fresh : all_done (g.R.Range.past l.range) g.S.Source.text l.sources (feeds l.merge) ≡ [];
+  fresh : all_done (g.R.Range.past l.range) g.S.Source.text l.sources (inputs l.merge) ≡ [];
   probes : l.probes ≤ search_steps g.S.Source (take l.i l.sources);
   left : drop l.i l.sources ≡ drop l.i l.fn.sources;
   spent : AllOpenedWithin g.S.Source l.fn.sources l.sources;
   opened : AreOpened g.S.Source (pair_view l.start)
-      (take l.i l.fn.sources) (zip l.sources (feeds l.merge));
+      (take l.i l.fn.sources) (zip l.sources (inputs l.merge));
   once : IsLeast (pair_view l.start) → AllGaveOnce g.S.Source l.fn.sources l.sources;
 }

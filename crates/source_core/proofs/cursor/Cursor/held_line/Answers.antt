@@ -12,6 +12,4 @@ returns-then-held-body-eq10-clause-line c =
     rw (size, there) (refl, line.0)
 
 pub returns-then-held-body-eq10-clause-unescaped : goal.returns-then-held-body-eq10-clause-unescaped
-returns-then-held-body-eq10-clause-unescaped c = λ _.
-    let line = unescaped_line c.from-held.result.now c.unescaped_length-body.result c.unescaped_length-body.ensures
-    c.if-body-held.true c.if-held-body-eq10.true in line.1
+returns-then-held-body-eq10-clause-unescaped c = grind (arith, unescaped_line)

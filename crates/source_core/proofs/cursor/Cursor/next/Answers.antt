@@ -77,13 +77,11 @@ pub returns-then-ends-clause-gave : goal.returns-then-ends-clause-gave
 returns-then-ends-clause-gave g c =
     let here = (goal.at.returns-then-ends-clause-gave g c).After-line_part-length in
     let rest = left g here in
-    let within = inside g here in
     omega arith
 
 pub loop-self-preserved : goal.loop-self-preserved
 loop-self-preserved g c =
     let inv = c.loop-self.invariant in
-    let ok = c.in_ok-hold.ensures in
     let here = (goal.at.loop-self-preserved g c).After-line_part-length in
     let then = (goal.at.loop-self-preserved g c).In_ok-extend_from_slice in
     let long = longer g then in

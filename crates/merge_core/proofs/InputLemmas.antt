@@ -1,12 +1,12 @@
--- What one line more makes of a feed.
-use Rattle.merge_core.proofs.Words.{[], ℕ, ◌++◌, ◌+◌, ◌-◌, ◌<◌, ◌∙◌, ◌∷◌, ◌≡◌, ◌≤◌, ◌⊎◌, Alike, AllByRecursion, Below}
-use Rattle.merge_core.proofs.Words.{Bool, CursorState, EndsAt, Fed, Feed, FeedFault, IsNextLine, IsSettled, LINE_LIMIT}
-use Rattle.merge_core.proofs.Words.{List, Member, NeverFalls, None, Option, Pair, Some, Stands, Upto, ap, append-nil}
-use Rattle.merge_core.proofs.Words.{append_assoc, arith, done, drop, drop_all, each_join, each_weaker, false, feed_of}
-use Rattle.merge_core.proofs.Words.{filter, filter-append, first_length, flat_map-append, given, inl, inr, length}
-use Rattle.merge_core.proofs.Words.{length-append, length-map, length-take, line_entry, lines, map, map-append}
-use Rattle.merge_core.proofs.Words.{member_pair, not-true, pair_cmp, pair_cmp_total, read_lines, refl}
-use Rattle.merge_core.proofs.Words.{stays, suc, sym, take, take-append-drop, tied_back, true, nil_from_length}
+-- What one line more makes of an input.
+use Rattle.merge_core.proofs.Words.{[], ℕ, ◌++◌, ◌+◌, ◌-◌, ◌<◌, ◌∙◌, ◌∷◌, ◌≡◌, ◌≤◌, ◌⊎◌, Alike, AllByRecursion}
+use Rattle.merge_core.proofs.Words.{Below, Bool, CursorState, EndsAt, IsInput, MergeInput, FeedFault, IsNextLine, IsSettled}
+use Rattle.merge_core.proofs.Words.{LINE_LIMIT, List, Member, NeverFalls, None, Option, Pair, Some, Stands, Upto, ap}
+use Rattle.merge_core.proofs.Words.{append-nil, append_assoc, arith, done, drop, drop_all, each_join, each_weaker}
+use Rattle.merge_core.proofs.Words.{false, input_of, filter, filter-append, first_length, flat_map-append, given, inl}
+use Rattle.merge_core.proofs.Words.{inr, length, length-append, length-map, length-take, line_entry, lines, map}
+use Rattle.merge_core.proofs.Words.{map-append, member_pair, not-true, pair_cmp, pair_cmp_total, read_lines, refl}
+use Rattle.merge_core.proofs.Words.{stays, suc, sym, take, take-append-drop, true, nil_from_length}
 use Rattle.std.proofs.Common.{take_all, take_at}
 use Rattle.std.specs.FinMap.{nat_cmp-IsAntisymmetric, slice_cmp-IsAntisymmetric}
 use Rattle.cdxj_core.specs.Lines.{body_of}
@@ -76,20 +76,20 @@ filter_passes test (x ∷ xs) = grind (arith, filter_passes test xs)
 
 -- which keys lie past the range
 module _ (past : List ℕ → Bool) where
-  pub done_within : (t : List ℕ) (f : Feed)
+  pub done_within : (t : List ℕ) (f : MergeInput)
       → AllByRecursion (λ (m : Member). past m.values.key ≡ false) (done past t f)
   done_within t f = each_weaker (λ (m : Member) (e : stays past m ≡ true). not-true _ e) _ (filter_passes (stays past) _)
 
   -- where all lines lie within the range and none waits, all were taken
   pub done_all : (t : List ℕ) (c : CursorState) → length (read_lines t c) ≡ c.count
-      → AllByRecursion (λ m. stays past m ≡ true) (given t c) → done past t (feed_of c []) ≡ given t c
+      → AllByRecursion (λ m. stays past m ≡ true) (given t c) → done past t (input_of c []) ≡ given t c
   done_all t c long each =
       let whole = take_all c.count (given t c) (grind (arith, length-map)) in
       grind (arith, filter_all)
 
   -- the next line of a source was read, which is this one
   pub record LineRead (text : Option (List ℕ)) (extent : ℕ) (old c : CursorState) (m : Member) : Type 0 where
-    pub was : Fed past text extent (feed_of old [])
+    pub was : IsInput past text extent (input_of old [])
     pub inside : (t : List ℕ) → text ≡ Some t → AllByRecursion (λ m. stays past m ≡ true) (given t old)
     pub stands : Stands text extent c
     pub start : c.start ≡ old.start
@@ -99,11 +99,11 @@ module _ (past : List ℕ → Bool) where
     pub low : (t : List ℕ) → text ≡ Some t
         → AllByRecursion (λ k. Upto (member_pair k) (member_pair m)) (given t old)
 
-pub done_cut : {past : List ℕ → Bool} {text : Option (List ℕ)} {extent : ℕ} {f : Feed}
-    → Fed past text extent f → (t : List ℕ) → text ≡ Some t
+pub done_cut : {past : List ℕ → Bool} {text : Option (List ℕ)} {extent : ℕ} {f : MergeInput}
+    → IsInput past text extent f → (t : List ℕ) → text ≡ Some t
     → Cut f.cursor.count (done past t f) (given t f.cursor)
-done_cut {f = f} fed t e =
-    let told = fed.told t e in
+done_cut {f = f} input t e =
+    let told = input.told t e in
     cut_of f.cursor.count _ told.late _ (grind (arith, length-map)) told.one told.split
 
 module _ {past : List ℕ → Bool} {text : Option (List ℕ)} {extent : ℕ} {old c : CursorState} {m : Member}
@@ -136,20 +136,19 @@ module _ {past : List ℕ → Bool} {text : Option (List ℕ)} {extent : ℕ} {o
       ⊎ ((ws ≡ []) × ((t : List ℕ) → text ≡ Some t → stays past m ≡ true))
 
   pub settled_more : (ws : List Member) → ws ≡ filter (stays past) (m ∷ [])
-      → IsSettled past text (feed_of c ws)
+      → IsSettled past text (input_of c ws)
   settled_more ws is t e none = inr (given t old, m, given_next t e, grind arith)
 
   pub done_next : (ws : List Member) → ws ≡ filter (stays past) (m ∷ []) → (t : List ℕ) → text ≡ Some t
-      → done past t (feed_of c ws) ≡ given t old
+      → done past t (input_of c ws) ≡ given t old
   done_next ws is t e =
       let next = given_next t e in
       let front = front t e in
       let whole = whole t e in
-      let inside = r.inside t e in
       grind (arith, filter_all, filter-append, append-nil)
 
-  pub fed_more : (ws : List Member) → Goes ws → Fed past text extent (feed_of c ws)
-  fed_more ws cases = record {
+  pub input_more : (ws : List Member) → Goes ws → IsInput past text extent (input_of c ws)
+  input_more ws cases = record {
     stands = r.stands;
     few = grind arith;
     counted = grind arith;
@@ -157,7 +156,6 @@ module _ {past : List ℕ → Bool} {text : Option (List ℕ)} {extent : ℕ} {o
         let was = r.was.told t e in
         let more = read_more t e in
         let next = given_next t e in
-        let front = front t e in
         let whole = whole t e in
         record {
           begins = rw r.start was.begins;
@@ -175,7 +173,7 @@ module _ {past : List ℕ → Bool} {text : Option (List ℕ)} {extent : ℕ} {o
   }
     where
       goes : (t : List ℕ) → text ≡ Some t → (late : List Member)
-          × (given t c ≡ done past t (feed_of c ws) ++ late) × (length late ≤ 1) × (ws ≡ filter (stays past) late)
+          × (given t c ≡ done past t (input_of c ws) ++ late) × (length late ≤ 1) × (ws ≡ filter (stays past) late)
       goes t e = elim cases [
         | inl is ↦ (m ∷ [], rw (done_next ws is t e) (given_next t e), omega arith, is)
         | inr k ↦
@@ -192,9 +190,6 @@ module _ {past : List ℕ → Bool} {text : Option (List ℕ)} {extent : ℕ} {o
 pub same_stays : (past : List ℕ → Bool) (pair : Pair) (m : Member) (ms : List Member) → EndsAt past pair ms
     → Alike (member_pair m) pair → past m.values.key ≡ false
 same_stays past pair m ms end alike =
-    let last = end.1 in
-    let both = pair_cmp_total.congr (member_pair m) pair (member_pair last) alike in
-    let back = tied_back pair_cmp_total (member_pair last) pair end.3 in
     grind (arith, slice_cmp-IsAntisymmetric, nat_cmp-IsAntisymmetric, pair_cmp_total)
 
 -- none of lines that never fall is above the last
@@ -209,16 +204,16 @@ low_of past pair ms falls end =
 
 -- where the last line has the pair and lies within the range, all lines were taken
 module _ {past : List ℕ → Bool} {text : Option (List ℕ)} {extent : ℕ} {c : CursorState} {pair : Pair}
-    (fed : Fed past text extent (feed_of c [])) (t : List ℕ) (e : text ≡ Some t)
+    (input : IsInput past text extent (input_of c [])) (t : List ℕ) (e : text ≡ Some t)
     (end : EndsAt past pair (given t c)) where
   pub all_upto : AllByRecursion (λ k. Upto (member_pair k) pair) (given t c)
-  all_upto = low_of past pair (given t c) (fed.told t e).run.ordered end
+  all_upto = low_of past pair (given t c) (input.told t e).run.ordered end
 
-  pub all_taken : done past t (feed_of c []) ≡ given t c
-  all_taken = let told = fed.told t e in none_late told.late told.one told.waiting told.split
+  pub all_taken : done past t (input_of c []) ≡ given t c
+  all_taken = let told = input.told t e in none_late told.late told.one told.waiting told.split
     where
       none_late : (late : List Member) → length late ≤ 1 → [] ≡ filter (stays past) late
-          → given t c ≡ done past t (feed_of c []) ++ late → done past t (feed_of c []) ≡ given t c
+          → given t c ≡ done past t (input_of c []) ++ late → done past t (input_of c []) ≡ given t c
       none_late [] one waiting split = sym (split ∙ append-nil _)
       none_late (m ∷ ms) one waiting split =
           let none : ms ≡ [] = grind (arith, nil_from_length) in
@@ -229,17 +224,16 @@ module _ {past : List ℕ → Bool} {text : Option (List ℕ)} {extent : ℕ} {c
   all_inside = rw (← all_taken) (filter_passes (stays past) _)
 
 -- a source ended
-pub fed_end : {past : List ℕ → Bool} {text : Option (List ℕ)} {extent : ℕ} {old : CursorState}
-    → Fed past text extent (feed_of old []) → (c : CursorState) → Stands text extent c → c.start ≡ old.start
+pub input_end : {past : List ℕ → Bool} {text : Option (List ℕ)} {extent : ℕ} {old : CursorState}
+    → IsInput past text extent (input_of old []) → (c : CursorState) → Stands text extent c → c.start ≡ old.start
     → c.count ≡ old.count → ((t : List ℕ) → text ≡ Some t → c.at ≤ old.at + first_length (lines (drop old.at t)))
-    → ((t : List ℕ) → text ≡ Some t → lines (drop old.at t) ≡ []) → Fed past text extent (feed_of c [])
-fed_end fed c stands start count near none = record {
+    → ((t : List ℕ) → text ≡ Some t → lines (drop old.at t) ≡ []) → IsInput past text extent (input_of c [])
+input_end input c stands start count near none = record {
   stands = stands;
   few = omega arith;
   counted = omega arith;
   told = λ t e.
-      let was = fed.told t e in
-      let nearer = rw (none t e) at (near t e) in
+      let was = input.told t e in
       rw (start, count) (record {
         begins = was.begins;
         stood = grind arith;
@@ -267,13 +261,13 @@ last_line (l ∷ ls) (m ∷ before) last e =
 last_line (l ∷ []) [] last e = ([], l, refl, grind arith)
 last_line ls before last e = absurd (cc)
 
-module _ {past : List ℕ → Bool} {t : List ℕ} {extent : ℕ} {f : Feed}
-    (fed : Fed past (Some t) extent f) where
+module _ {past : List ℕ → Bool} {t : List ℕ} {extent : ℕ} {f : MergeInput}
+    (input : IsInput past (Some t) extent f) where
   -- the line at which the cursor stands, after those before it
   begins_here : (line : List ℕ) (after : List (List ℕ)) → lines (drop f.cursor.at t) ≡ line ∷ after
-      → LineBeginsAt t f.cursor.at ((fed.told t refl).begins.0 ++ read_lines t f.cursor) line
+      → LineBeginsAt t f.cursor.at ((input.told t refl).begins.0 ++ read_lines t f.cursor) line
   begins_here line after e =
-      let told = fed.told t refl in
+      let told = input.told t refl in
       let cut : lines t ≡ (told.begins.0 ++ read_lines t f.cursor) ++ lines (drop f.cursor.at t) =
       grind (arith, take-append-drop, append_assoc) in
       record {
@@ -289,7 +283,7 @@ module _ {past : List ℕ → Bool} {t : List ℕ} {extent : ℕ} {f : Feed}
   pub order_named : (pair : Pair) (new : CursorState) (m : Member) → EndsAt past pair (given t f.cursor)
       → IsNextLine t f.cursor.at new.at (Some m) → Below (member_pair m) pair → IsOutOfOrder LINE_LIMIT t f.cursor.at
   order_named pair new m end next below =
-      let told = fed.told t refl in
+      let told = input.told t refl in
       let last = last_line (read_lines t f.cursor) end.0 end.1 (grind arith) in
       let turned = pair_cmp_total.antisymm (member_pair end.1) (member_pair m) in
       let lower = below_then (member_pair m) pair (member_pair end.1) below (same_from (member_pair end.1) pair end.3) in

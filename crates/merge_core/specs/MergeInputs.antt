@@ -16,20 +16,20 @@ pub use Rattle.merge_core.specs.BoxedLines.{option_list}
 use Rattle.merge_core.specs.WaitingLines.{WaitingLine, waits_of}
 
 -- a source that is read: its cursor, and those of its lines that wait
-pub record Feed : Type 0 where
+pub record MergeInput : Type 0 where
   pub cursor : CursorState
   pub waits : List Member
 
-abbrev pub feed_of : CursorState → List Member → Feed
-feed_of c ws = record { cursor = c; waits = ws }
+abbrev pub input_of : CursorState → List Member → MergeInput
+input_of c ws = record { cursor = c; waits = ws }
 
 -- those of the sources from this number on, which have these cursors
-abbrev pub feeds_from : ℕ → List CursorState → List WaitingLine → List Feed
-feeds_from n [] ws = []
-feeds_from n (c ∷ cs) ws = feed_of c (waits_of n ws) ∷ feeds_from (n + 1) cs ws
+abbrev pub inputs_from : ℕ → List CursorState → List WaitingLine → List MergeInput
+inputs_from n [] ws = []
+inputs_from n (c ∷ cs) ws = input_of c (waits_of n ws) ∷ inputs_from (n + 1) cs ws
 
-abbrev pub feeds : MergeState → List Feed
-feeds m = feeds_from 0 m.cursors.items m.queue
+abbrev pub inputs : MergeState → List MergeInput
+inputs m = inputs_from 0 m.cursors.items m.queue
 
 -- the lines that were read, of a source with this text
 abbrev pub read_lines : List ℕ → CursorState → List (List ℕ)
@@ -59,12 +59,12 @@ given text c = map member_of (read_lines text c)
 -- which keys lie past the range that is read
 module _ (past : List ℕ → Bool) where
   -- those of them that were taken: they lie within the range and don't wait
-  abbrev pub done : List ℕ → Feed → List Member
+  abbrev pub done : List ℕ → MergeInput → List Member
   done text f = filter (stays past) (take (f.cursor.count - length f.waits) (given text f.cursor))
 
   -- What is known of a source with this text: its lines that were read are those that were taken and one more at most,
   -- which waits unless it lies past the range.
-  pub record FedOf (text : List ℕ) (f : Feed) : Type 0 where
+  pub record IsInputOf (text : List ℕ) (f : MergeInput) : Type 0 where
     pub begins : IsLineStart text f.cursor.start
     pub stood : f.cursor.at ≤ f.cursor.start + bytes_of (read_lines text f.cursor)
     pub as_many : length (read_lines text f.cursor) ≡ f.cursor.count
@@ -74,35 +74,35 @@ module _ (past : List ℕ → Bool) where
     pub one : length late ≤ 1
     pub waiting : f.waits ≡ filter (stays past) late
 
-  -- what holds of a feed beside its source
-  pub record Fed (text : Option (List ℕ)) (extent : ℕ) (f : Feed) : Type 0 where
+  -- what holds of an input beside its source
+  pub record IsInput (text : Option (List ℕ)) (extent : ℕ) (f : MergeInput) : Type 0 where
     pub stands : Stands text extent f.cursor
     pub few : length f.waits ≤ 1
     pub counted : length f.waits ≤ f.cursor.count
-    pub told : (t : List ℕ) → text ≡ Some t → FedOf t f
+    pub told : (t : List ℕ) → text ≡ Some t → IsInputOf t f
 
   -- a line of the source waits, or its lines were read to the end of the range
-  abbrev pub IsSettled : Option (List ℕ) → Feed → Type 0
+  abbrev pub IsSettled : Option (List ℕ) → MergeInput → Type 0
   IsSettled text f = (t : List ℕ) → text ≡ Some t → f.waits ≡ []
       → (lines (drop f.cursor.at t) ≡ []) ⊎ EndsPast past (given t f.cursor)
 
   module _ {S : Type 0} (device : Ghosts S) where
-    abbrev pub AreFed : List S → List Feed → Type 0
-    AreFed = AllZip (λ s f. Fed (device.text s) (device.extent s) f)
+    abbrev pub AreInputs : List S → List MergeInput → Type 0
+    AreInputs = AllZip (λ s f. IsInput (device.text s) (device.extent s) f)
 
-    abbrev pub AreSettled : List S → List Feed → Type 0
+    abbrev pub AreSettled : List S → List MergeInput → Type 0
     AreSettled = AllZip (λ s f. IsSettled (device.text s) f)
 
     -- a cursor for each source, and each line that waits is of one of them
     pub record Aligned (ss : List S) (m : MergeState) : Type 0 where
       pub same : length ss ≡ length m.cursors.items
       pub placed : AllByRecursion (λ (w : WaitingLine). w.source < length m.cursors.items) m.queue
-      pub fed : AreFed ss (feeds m)
+      pub input : AreInputs ss (inputs m)
 
     -- and a line of each source waits whose range has more lines
     pub record Ready (ss : List S) (m : MergeState) : Type 0 where
       pub aligned : Aligned ss m
-      pub settled : AreSettled ss (feeds m)
+      pub settled : AreSettled ss (inputs m)
 
 -- what may change of a source and its cursor in a call, whatever it answers
 pub record Moved {S : Type 0} (device : Ghosts S) (old new : S) (before now : CursorState) : Type 0 where
@@ -115,4 +115,4 @@ pub record Moved {S : Type 0} (device : Ghosts S) (old new : S) (before now : Cu
 -- the same of each source and its cursor
 abbrev pub AllMoved : {S : Type 0} → Ghosts S → List S → MergeState → List S → MergeState → Type 0
 AllMoved device olds old news new =
-    AllZip (λ x y. Moved device x.0 y.0 x.1.cursor y.1.cursor) (zip olds (feeds old)) (zip news (feeds new))
+    AllZip (λ x y. Moved device x.0 y.0 x.1.cursor y.1.cursor) (zip olds (inputs old)) (zip news (inputs new))
