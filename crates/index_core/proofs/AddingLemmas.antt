@@ -38,7 +38,8 @@ module _ (types : Kind → Bool) (limits : Limits) (limit : ℕ) (name : List �
 
   -- a record's capture is that of the record which begins the bytes
   pub capture_there : (start : ℕ) (h : HeadView) (captured : Option EntryValue) (before mid after : Option (List ℕ))
-      → Reads (next_at limit start) (Ok (Some h)) before mid → Reads (after_record h.parts.block_length) (Ok tt) mid after
+      → Reads (next_at limit start) (Ok (Some h)) before mid
+      → Reads (after_record h.parts.block_length) (Ok tt) mid after
       → Captures (url_of types h) limits h name mid (Ok captured)
       → IfSome before (λ bytes. IsCaptureAt types limits limit name h bytes captured)
   capture_there start h captured before mid after r s k = grind (arith, behind_head)

@@ -151,7 +151,8 @@ module _ {A X : Type 0} {limit : ℕ} {form : Form A X} {left now : Option (List
           f,
           follow_push form.head 0 s.read o item s.follow b,
           subst (AppendsPrefix w u) (grind (arith, one_line, append_assoc))
-              (AppendsPrefix-behind w v u (flat_map form.read_line s.read) (form.read_line item) (fault_line f) s.text a),
+              (AppendsPrefix-behind w v u (flat_map form.read_line s.read) (form.read_line item) (fault_line f) s.text
+              a),
         ),
       )
 

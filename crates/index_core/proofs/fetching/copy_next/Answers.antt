@@ -1,7 +1,5 @@
-use Rattle.std.proofs.Common.{arith}
-use Rattle.std.proofs.lemmas.Result.{err_from_is_err_and}
 use Rattle.warc_core.specs.declared.next.TheConstants.{HEAD_LIMIT}
-use Rattle.index_core.proofs.FetchLemmas.{next_copied, next_none, next_stopped}
+use Rattle.index_core.proofs.FetchLemmas.{next_copied}
 use Rattle.index_core.proofs.fetching.copy_next.Goals as goal
 
 pub returns-in-Some-clause-copies : goal.returns-in-Some-clause-copies

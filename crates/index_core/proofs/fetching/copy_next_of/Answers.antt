@@ -1,6 +1,4 @@
 use Rattle.std.proofs.Common.{arith}
-use Rattle.std.proofs.lemmas.Result.{err_from_is_err_and}
-use Rattle.index_core.proofs.FetchLemmas.{next_none, next_stopped}
 use Rattle.index_core.proofs.FetchAtLemmas.{next_copied_of}
 use Rattle.index_core.proofs.fetching.copy_next_of.Goals as goal
 

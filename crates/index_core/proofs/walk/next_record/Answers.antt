@@ -1,6 +1,5 @@
 use Rattle.std.proofs.Common.{arith, ◌∙◌}
-use Rattle.std.proofs.lemmas.Result.{err_from_is_err_and}
-use Rattle.warc_core.proofs.WalkLemmas.{record-stopped, record-end, record-unclosed, record-whole}
+use Rattle.warc_core.proofs.WalkLemmas.{record-unclosed}
 use Rattle.index_core.proofs.walk.next_record.Goals as goal
 
 pub returns-in_err-finish-in-Some-clause-bytes : goal.returns-in_err-finish-in-Some-clause-bytes

@@ -1,8 +1,6 @@
 use Rattle.std.proofs.Common.{arith}
-use Rattle.std.proofs.lemmas.Result.{err_from_is_err_and}
 use Rattle.warc_core.specs.declared.next.TheConstants.{HEAD_LIMIT}
-use Rattle.warc_core.proofs.WalkLemmas.{record-stopped, record-end, record-unclosed, record-whole}
-use Rattle.index_core.proofs.VerdictLemmas.{judged_reads, judged_met, judged_verdict}
+use Rattle.index_core.proofs.VerdictLemmas.{judged_verdict}
 use Rattle.index_core.proofs.walk.next_verdict.Goals as goal
 
 pub returns-in_ok-verdict-in-Some-clause-verdict : goal.returns-in_ok-verdict-in-Some-clause-verdict
