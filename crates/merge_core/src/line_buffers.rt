@@ -1,5 +1,6 @@
 //! The reading of lines into reused buffers.
-ghost use Rattle.std.specs.Prelude.{◌≡◌, ◌≢◌, ◌+◌, ◌<◌, ◌≤◌, true, length, drop, Some, None, MatchResult, IfOk, IfErr, OnOk};
+ghost use Rattle.std.specs.Prelude.{◌≡◌, ◌≢◌, ◌+◌, ◌<◌, ◌≤◌, true, length, drop, Some, None};
+ghost use Rattle.std.specs.Prelude.{MatchResult, IfOk, IfErr, OnOk};
 ghost use Rattle.source_core.specs.Device.{OverText};
 ghost use Rattle.cdxj_core.specs.declared.limit.TheConstants.{LINE_LIMIT};
 ghost use Rattle.std.specs.List.{list_all};
@@ -31,7 +32,8 @@ fn boxed(alloc: Global, line: Line) -> Result<Box<Line>, LineFault>
     }
 }
 
-/// Returns the line of these bytes, in the buffer of a line that isn't needed any more if there is one.
+/// Returns the line of these bytes, in the buffer of a line that isn't needed any more if there is
+/// one.
 #[tactic(auto, using(crate::proofs::InputLemmas::no_entry))]
 fn line_of(
     alloc: Global,

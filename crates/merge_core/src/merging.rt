@@ -14,8 +14,8 @@ use devices::Output;
 use source_core::Source;
 use std::alloc::Global;
 
-/// Passes the lines of all sources to the sink, one pair after another. Returns `false` if the sink wanted no more
-/// lines.
+/// Passes the lines of all sources to the sink, one pair after another. Returns `false` if the sink
+/// wanted no more lines.
 /// Errors are those of the sources and of the sink.
 pub fn merge<S: Source, R: Range, K: Sink, O: Output>(
     alloc: Global,

@@ -9,7 +9,8 @@ ghost use Rattle.source_core.specs.IndexLines.{lines, longest};
 ghost use Rattle.source_core.specs.Reads.{BeginsIn};
 ghost use Rattle.merge_core.specs.Failures.{FeedsFrom, ReadsSources};
 ghost use Rattle.merge_core.specs.MergeInputs.{Moved};
-ghost use Rattle.merge_core.specs.Spending.{AllOpenedWithin, AllGaveOnce, GaveOnce, OpenedWithin, search_steps};
+ghost use Rattle.merge_core.specs.Spending.{AllOpenedWithin, AllGaveOnce, GaveOnce, OpenedWithin};
+ghost use Rattle.merge_core.specs.Spending.{search_steps};
 
 use crate::fault::{FeedFault, MergeFault};
 use crate::line_buffers::LineBuffers;
@@ -32,7 +33,7 @@ impl MergeState {
     ghost use Rattle.merge_core.specs.Openings.{AddedSource, Begun, OpenedAt};
 
     /// Adds a source, and reads the first line after the cursor.
-    #[tactic(auto, using(source_core::proofs::LongestLines::first_most, source_core::proofs::LongestLines::longest_drop))]
+    #[tactic(auto, using(source_core::proofs::LongestLines::first_within))]
     fn add<S: Source, R: Range>(
         &mut self,
         source: &mut S,
@@ -57,8 +58,8 @@ impl MergeState {
         Ok(())
     }
 
-    /// Adds a source, and reads its first line whose pair isn't below this one. Returns the number of steps of the search
-    /// for that line.
+    /// Adds a source, and reads its first line whose pair isn't below this one. Returns the number
+    /// of steps of the search for that line.
     fn add_from<S: Source, R: Range>(
         &mut self,
         alloc: Global,
@@ -79,8 +80,8 @@ impl MergeState {
         Ok(probes)
     }
 
-    /// Opens each source at its first line whose pair isn't below this one, and reads that line. With an empty key that is
-    /// the first line of each source, and no search is made for it.
+    /// Opens each source at its first line whose pair isn't below this one, and reads that line.
+    /// With an empty key that is the first line of each source, and no search is made for it.
     ///
     /// Errors are `Memory`, and `Read`, `BadLine` and `OutOfOrder` with the number of the source.
     pub fn open_at<S: Source, R: Range>(

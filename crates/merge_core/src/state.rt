@@ -1,5 +1,6 @@
 //! The state of a merge.
-ghost use Rattle.std.specs.Prelude.{◌≡◌, ◌+◌, ◌-◌, ◌^◌, ◌<◌, [], length, map, max, min, Option, Some, OnOk};
+ghost use Rattle.std.specs.Prelude.{◌≡◌, ◌+◌, ◌-◌, ◌^◌, ◌<◌, [], length, map, max, min, Option};
+ghost use Rattle.std.specs.Prelude.{Some, OnOk};
 ghost use Rattle.std.specs.List.{sum};
 ghost use Rattle.cdxj_core.specs.Members.{member_pair};
 ghost use Rattle.merge_core.specs.BoxedLines.{boxed_option, boxed_lines};
@@ -24,7 +25,8 @@ pub struct MergeState {
     /// The next line of each source whose range has more lines.
     pub queue: LineQueue,
     pub buffers: LineBuffers,
-    /// The greatest number of lines held at once: those in the queue, and those of a group. It saturates at 2^64 - 1.
+    /// The greatest number of lines held at once: those in the queue, and those of a group. It
+    /// saturates at 2^64 - 1.
     pub most_lines: u64,
 }
 
@@ -83,7 +85,8 @@ impl MergeState {
         Ok(())
     }
 
-    /// Takes the lines of the least pair from all sources. Returns the first of them, and appends the others to `rest`.
+    /// Takes the lines of the least pair from all sources. Returns the first of them, and appends
+    /// the others to `rest`.
     /// Errors are `Memory`, and `Read`, `BadLine` and `OutOfOrder` with the number of the source.
     pub fn gather<S: Source, R: Range>(
         &mut self,
