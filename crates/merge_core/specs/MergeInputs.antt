@@ -31,6 +31,10 @@ inputs_from n (c ∷ cs) ws = input_of c (waits_of n ws) ∷ inputs_from (n + 1)
 abbrev pub inputs : MergeState → List MergeInput
 inputs m = inputs_from 0 m.cursors.items m.queue
 
+-- a merge has the same cursors as before, and the same lines wait
+abbrev pub KeepsInputs : MergeState → MergeState → Type 0
+KeepsInputs old new = new ≡ record old { buffers = new.buffers; most_lines = new.most_lines }
+
 -- the lines that were read, of a source with this text
 abbrev pub read_lines : List ℕ → CursorState → List (List ℕ)
 read_lines text c = take c.count (lines (drop c.start text))

@@ -1,5 +1,5 @@
 //! The merging of whole indexes.
-ghost use Rattle.std.specs.Prelude.{◌≤◌, ◌+◌, ℕ, length, map, IfOk};
+ghost use Rattle.std.specs.Prelude.{◌≤◌, ◌+◌, length, map, IfOk};
 ghost use Rattle.devices.specs.Device.{AppendsPrefix};
 ghost use Rattle.merge_core.specs.Collections.{KeepsSources, Merged, OverIndexes, OverTexts};
 ghost use Rattle.merge_core.specs.Collections.{collection};

@@ -1,15 +1,12 @@
 //! The opening of sources at a key and stamp.
-ghost use Rattle.source_core.specs.Device.{OverText};
-ghost use Rattle.std.specs.Prelude.{◌≡◌, ◌+◌, ◌*◌, ◌≤◌, IfOk, OnOk};
+ghost use Rattle.std.specs.Prelude.{◌≡◌, ◌≤◌, IfOk, OnOk};
 ghost use Rattle.cdxj_places.specs.Pairs.{IsLeast};
 ghost use Rattle.cdxj_places.specs.PairViews.{pair_view};
-ghost use Rattle.source_core.specs.Cursors.{reach};
 ghost use Rattle.source_core.specs.Halving.{digits};
-ghost use Rattle.source_core.specs.IndexLines.{lines, longest};
 ghost use Rattle.source_core.specs.Reads.{BeginsIn};
 ghost use Rattle.merge_core.specs.Failures.{FeedsFrom, ReadsSources};
 ghost use Rattle.merge_core.specs.MergeInputs.{Moved};
-ghost use Rattle.merge_core.specs.Spending.{AllOpenedWithin, AllGaveOnce, GaveOnce, OpenedWithin};
+ghost use Rattle.merge_core.specs.Spending.{AllOpenedWithin, AllGaveOnce, GaveOnce, OpenedWithin, CameFirst};
 ghost use Rattle.merge_core.specs.Spending.{search_steps};
 
 use crate::fault::{FeedFault, MergeFault};
@@ -45,9 +42,7 @@ impl MergeState {
         ensures most_lines { self.new.most_lines ≡ self.old.most_lines }
         ensures added { OnOk result (AddedSource (R.past range.now) S.Source source.new
             (Moved S.Source source.old source.new cursor) self.old self.new) }
-        ensures spent { OverText (S.text source.old) (λ t.
-            S.gave source.new + reach cursor
-            ≤ S.gave source.old + cursor.start + 2 * longest (lines t) + 8192) }
+        ensures spent { CameFirst S.Source source.old source.new cursor }
         ensures once { GaveOnce S.Source source.old source.new }
     {
         let next = self.buffers.next_line(source, &mut cursor)?;

@@ -31,7 +31,7 @@ pub struct MergeState {
 }
 
 impl MergeState {
-    ghost use Rattle.merge_core.specs.MergeInputs.{Aligned, AllMoved, MergeInput, Ready};
+    ghost use Rattle.merge_core.specs.MergeInputs.{Aligned, AllMoved, KeepsInputs, Ready};
     ghost use Rattle.merge_core.specs.Gathering.{IsDueAt, ReadOn};
     ghost use Rattle.merge_core.specs.Merging.{EndedGroup};
     ghost use Rattle.merge_core.specs.Spending.{ReadUpto};
@@ -122,10 +122,7 @@ impl MergeState {
 
     /// Counts the lines that are held, and recycles the buffers of those that were passed on.
     pub fn recycle(&mut self, first: Box<Line>, rest: &mut Vec<Box<Line>>)
-        ensures kept { self.new ≡ record self.old {
-          buffers = self.new.buffers;
-          most_lines = self.new.most_lines;
-        } }
+        ensures kept { KeepsInputs self.old self.new }
         ensures rest { rest.new.items ≡ [] }
         ensures most_lines { self.new.most_lines
             ≡ max self.old.most_lines (min (length self.old.queue + 1 + length rest.old.items)
