@@ -6,8 +6,8 @@ ghost use Rattle.source_core.specs.Halving.{digits};
 ghost use Rattle.source_core.specs.Reads.{BeginsIn};
 ghost use Rattle.merge_core.specs.Failures.{FeedsFrom, ReadsSources};
 ghost use Rattle.merge_core.specs.MergeInputs.{Moved};
-ghost use Rattle.merge_core.specs.Spending.{AllOpenedWithin, AllGaveOnce, GaveOnce, OpenedWithin, CameFirst};
-ghost use Rattle.merge_core.specs.Spending.{search_steps};
+ghost use Rattle.merge_core.specs.Spending.{AllGaveOnce, AllOpenedWithin, CameFirst, GaveOnce};
+ghost use Rattle.merge_core.specs.Spending.{OpenedWithin, search_steps};
 
 use crate::fault::{FeedFault, MergeFault};
 use crate::line_buffers::LineBuffers;
