@@ -1,6 +1,7 @@
 -- How far sources were read: in lines and in bytes.
 use Rattle.merge_core.proofs.Words.{[], ℕ, ◌++◌, ◌+◌, ◌∙◌, ◌∷◌, ◌≡◌, ◌≤◌, AllByRecursion, AreInputs, AreReadTo, Bool}
-use Rattle.merge_core.proofs.Words.{CursorState, EndsAt, IsInput, MergeInput, Ghosts, IsUpto, LINE_LIMIT, List, Option, Pair}
+use Rattle.merge_core.proofs.Words.{CursorState, EndsAt, IsInput, MergeInput, Ghosts, IsUpto, LINE_LIMIT, List}
+use Rattle.merge_core.proofs.Words.{Option, Pair}
 use Rattle.merge_core.proofs.Words.{ReadTo, Some, all_done, ap, append-nil, append_assoc, arith, bytes_of, done}
 use Rattle.merge_core.proofs.Words.{drop, drop-set-lt, input_of, first_length, flat_map-append, get_or, given, length}
 use Rattle.merge_core.proofs.Words.{length-append, length-drop, line_entry, lines, longest, member_pair, read_lines}

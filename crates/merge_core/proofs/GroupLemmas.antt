@@ -1,4 +1,5 @@
 -- The lines that wait: whose turn comes first, and the lines of one pair, taken of one source after another.
+use Rattle.merge_core.proofs.Words.{nil_from_length}
 use Rattle.merge_core.proofs.Words.{[], ℕ, ◌++◌, ◌<◌, ◌∙◌, ◌∷◌, ◌≡◌, ◌≢◌, ◌≤◌, AllByRecursion, IsPermutation, List}
 use Rattle.merge_core.proofs.Words.{Member, WaitingLine, arith, cond-false, cond-true, each_weaker, false, filter}
 use Rattle.merge_core.proofs.Words.{get_or, is_of, length, map, queued, refl, subst, suc, sum_by-cons, sym, true}
@@ -75,11 +76,8 @@ module _ (P : Member → Type 0) (i : ℕ) where
 
 all_same : (us vs : List Member) → length us ≤ 1 → length vs ≡ length us
     → ((m : Member) → us ≡ m ∷ [] → AllByRecursion (λ k. k ≡ m) vs) → vs ≡ us
-all_same [] vs l e h = grind (arith, common_steps)
-all_same (u ∷ []) [] l e h = absurd (omega arith)
 all_same (u ∷ []) (v ∷ []) l e h = grind arith
-all_same (u ∷ []) (v ∷ w ∷ vs) l e h = absurd (omega arith)
-all_same (u ∷ x ∷ us) vs l e h = absurd (omega arith)
+all_same us vs l e h = grind (arith, common_steps, nil_from_length)
 
 -- where one of a source waits at most, their order doesn't matter
 pub waits_permuted : (i : ℕ) (xs ys : List WaitingLine) → IsPermutation xs ys → length (waits_of i xs) ≤ 1

@@ -1,6 +1,7 @@
 -- What one line more makes of an input.
 use Rattle.merge_core.proofs.Words.{[], ℕ, ◌++◌, ◌+◌, ◌-◌, ◌<◌, ◌∙◌, ◌∷◌, ◌≡◌, ◌≤◌, ◌⊎◌, Alike, AllByRecursion}
-use Rattle.merge_core.proofs.Words.{Below, Bool, CursorState, EndsAt, IsInput, MergeInput, FeedFault, IsNextLine, IsSettled}
+use Rattle.merge_core.proofs.Words.{Below, Bool, CursorState, EndsAt, IsInput, MergeInput, FeedFault, IsNextLine}
+use Rattle.merge_core.proofs.Words.{IsSettled}
 use Rattle.merge_core.proofs.Words.{LINE_LIMIT, List, Member, NeverFalls, None, Option, Pair, Some, Stands, Upto, ap}
 use Rattle.merge_core.proofs.Words.{append-nil, append_assoc, arith, done, drop, drop_all, each_join, each_weaker}
 use Rattle.merge_core.proofs.Words.{false, input_of, filter, filter-append, first_length, flat_map-append, given, inl}

@@ -1,7 +1,8 @@
 -- The steps of a merge: how a group is gathered, and what one group more makes of it.
 use Rattle.merge_core.proofs.Words.{ℕ, ◌<◌, ◌≡◌, FeedFault, IsErrAnd, List, Result, arith, get_or, get_or-map}
 use Rattle.merge_core.proofs.Words.{length, length-map, map, map-set, set, [], ◌++◌, ◌+◌, ◌∷◌, ◌≤◌, Aligned, Alike}
-use Rattle.merge_core.proofs.Words.{AllByRecursion, AllZip, AreSettled, AreTold, Bool, MergeInput, Gathered, Ghosts, IsDue}
+use Rattle.merge_core.proofs.Words.{AllByRecursion, AllZip, AreSettled, AreTold, Bool, MergeInput, Gathered, Ghosts}
+use Rattle.merge_core.proofs.Words.{IsDue}
 use Rattle.merge_core.proofs.Words.{IsFrom, IsPermutation, IsSettled, Member, MergeState, NoneBefore, NoneBelow}
 use Rattle.merge_core.proofs.Words.{Option, Pair, TookOf, WaitingLine, all_done, append-nil, append_assoc, done}
 use Rattle.merge_core.proofs.Words.{drop, each_join, each_weaker, inputs, flat_map, is_some, length-set}

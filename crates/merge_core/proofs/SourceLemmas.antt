@@ -1,5 +1,6 @@
 -- What was read of sources: from where they are read on, to their ends, and each byte once.
-use Rattle.merge_core.proofs.Words.{[], ℕ, ◌++◌, ◌∙◌, ◌∷◌, ◌≡◌, AllByRecursion, AllZip, MergeInput, Ghosts, IsCut, IsCutAt}
+use Rattle.merge_core.proofs.Words.{[], ℕ, ◌++◌, ◌∙◌, ◌∷◌, ◌≡◌, AllByRecursion, AllZip, MergeInput, Ghosts, IsCut}
+use Rattle.merge_core.proofs.Words.{IsCutAt}
 use Rattle.merge_core.proofs.Words.{IsIndex, IsRun, Known, LINE_LIMIT, List, Member, NeverFalls, Pair, Some}
 use Rattle.merge_core.proofs.Words.{all_lines, ap, arith, drop, each_weaker, false, filter, filter-append, is_low}
 use Rattle.merge_core.proofs.Words.{length, length-map, lines, map, map-append, member_pair, not, pair_cmp, refl}

@@ -17,8 +17,10 @@ pub use Rattle.devices.specs.Device.{AppendsPrefix, Grows}
 pub use Rattle.merge_core.specs.BoxedLines.{boxed_line, boxed_lines}
 pub use Rattle.merge_core.specs.Collections.{KeepsSources, Known, OverIndexes, all_lines, collection}
 pub use Rattle.merge_core.specs.Counts.{ShareAtMost}
-pub use Rattle.merge_core.specs.MergeInputs.{Aligned, AllMoved, AreInputs, AreSettled, IsInput, MergeInput, IsSettled, Ready, bytes_of}
-pub use Rattle.merge_core.specs.MergeInputs.{done, input_of, inputs, inputs_from, given, member_of, option_list, read_lines}
+pub use Rattle.merge_core.specs.MergeInputs.{Aligned, AllMoved, AreInputs, AreSettled, IsInput, MergeInput, IsSettled}
+pub use Rattle.merge_core.specs.MergeInputs.{Ready, bytes_of}
+pub use Rattle.merge_core.specs.MergeInputs.{done, input_of, inputs, inputs_from, given, member_of, option_list}
+pub use Rattle.merge_core.specs.MergeInputs.{read_lines}
 pub use Rattle.merge_core.specs.MergeInputs.{stays}
 pub use Rattle.merge_core.specs.Gathering.{AreTold, EndsAt, Gathered, Grouped, IsDue, IsFrom, TookOf, all_done, text_or}
 pub use Rattle.merge_core.specs.Gathering.{unread}

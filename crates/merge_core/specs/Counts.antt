@@ -1,9 +1,10 @@
 -- How many lines share a pair.
-use Rattle.std.specs.Prelude.{ℕ, ◌≤◌, List, length, Bool, Option}
+use Rattle.std.specs.Prelude.{ℕ, ◌+◌, ◌≤◌, List, length, map, Bool, Option}
 use Rattle.std.specs.List.{filter}
 use Rattle.std.specs.Ordering.{is_eq}
 use Rattle.cdxj_places.specs.Pairs.{Pair, pair_cmp}
 use Rattle.cdxj_core.specs.Members.{Member, member_pair}
+use Rattle.source_core.specs.declared.source.Source.{Ghosts}
 use Rattle.merge_core.specs.Collections.{OverIndexes, all_lines}
 
 -- the line has the pair
@@ -22,3 +23,7 @@ OverShares told P =
 -- a number that was at most so many still is
 abbrev pub StaysWithin : ℕ → ℕ → ℕ → Type 0
 StaysWithin most old new = old ≤ most → new ≤ most
+
+-- no more lines are held than one of each source and those of a pair, if so before, where the sources are indexes
+abbrev pub HoldsFew : {S : Type 0} → Ghosts S → List S → ℕ → ℕ → Type 0
+HoldsFew device ss old new = OverShares (map device.text ss) (λ most. StaysWithin (length ss + most) old new)

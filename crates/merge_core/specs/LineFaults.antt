@@ -1,5 +1,8 @@
 -- Faults that name lines.
-use Rattle.std.specs.Prelude.{◌≡◌, ℕ, ◌<◌, ⊤, List, ◌∷◌, length, get_or, Option, None, Some}
+use Rattle.std.specs.Prelude.{◌≡◌, ◌≢◌, ℕ, ◌<◌, ⊤, List, ◌∷◌, length, get_or, Box, Option, None, Some, Result}
+use Rattle.std.specs.Prelude.{MatchResult}
+use Rattle.std.specs.Global.{Global}
+use Rattle.cdxj_core.specs.declared.line.Line.{Line}
 use Rattle.cdxj_core.specs.Members.{line_entry}
 use Rattle.cdxj_core.specs.declared.fault.LineFault.{LineFault}
 use Rattle.cdxj_core.specs.declared.fault.LineFault.TheVariants as reading
@@ -9,6 +12,11 @@ use Rattle.merge_core.specs.declared.fault.FeedFault.{FeedFault}
 use Rattle.merge_core.specs.declared.fault.FeedFault.TheVariants as feed
 use Rattle.merge_core.specs.declared.fault.MergeFault.{MergeFault}
 use Rattle.merge_core.specs.declared.fault.MergeFault.TheVariants as fault
+
+-- the line with the entry of these bytes, or a fault, which is a lack of memory if they have an entry
+abbrev pub GivesEntry : Result (Box Line Global) LineFault → List ℕ → Type 0
+GivesEntry result bytes = MatchResult result (λ line. line_entry LINE_LIMIT bytes ≡ Some line.value)
+    (λ fault. fault ≢ reading.Memory → line_entry LINE_LIMIT bytes ≡ None)
 
 -- the first of these lines has no entry
 abbrev pub IsBadFirst : List (List ℕ) → Type 0

@@ -1,5 +1,6 @@
 -- What was read of a source.
-use Rattle.std.specs.Prelude.{◌≡◌, ◌⊎◌, ℕ, ◌+◌, ◌-◌, ◌≤◌, ◌<◌, List, [], ◌∷◌, ◌++◌, flat_map, length, take, drop, map, Bool, not}
+use Rattle.std.specs.Prelude.{◌≡◌, ◌⊎◌, ℕ, ◌+◌, ◌-◌, ◌≤◌, ◌<◌, List, [], ◌∷◌, ◌++◌, flat_map, length, take, drop, map}
+use Rattle.std.specs.Prelude.{Bool, not}
 use Rattle.std.specs.Prelude.{true, Option, Some}
 use Rattle.std.specs.List.{AllByRecursion, AllZip, filter, zip}
 use Rattle.cdxj_core.specs.declared.limit.TheConstants.{LINE_LIMIT}
@@ -30,6 +31,10 @@ inputs_from n (c ∷ cs) ws = input_of c (waits_of n ws) ∷ inputs_from (n + 1)
 
 abbrev pub inputs : MergeState → List MergeInput
 inputs m = inputs_from 0 m.cursors.items m.queue
+
+-- a merge has the same cursors as before, and the same lines wait
+abbrev pub KeepsInputs : MergeState → MergeState → Type 0
+KeepsInputs old new = new ≡ record old { buffers = new.buffers; most_lines = new.most_lines }
 
 -- the lines that were read, of a source with this text
 abbrev pub read_lines : List ℕ → CursorState → List (List ℕ)

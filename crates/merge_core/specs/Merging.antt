@@ -49,6 +49,9 @@ pub record MergeStand (S K : Type 0) : Type 0 where
   pub sink : K
   pub written : Option (List ℕ)
 
+abbrev pub stand_of : {S K : Type 0} → List S → MergeState → K → Option (List ℕ) → MergeStand S K
+stand_of ss m sink written = record { sources = ss; merge = m; sink = sink; written = written }
+
 -- What a sink says of itself, and what sources say; where the merge stood before
 module _ {K S : Type 0} (consumer : SinkGhosts K) (past : List ℕ → Bool) (device : Ghosts S) (before : MergeStand S K)
   where

@@ -56,6 +56,11 @@ OpenedWithin device old new = (t : List ℕ) → device.text old ≡ Some t
 abbrev pub AllOpenedWithin : {S : Type 0} → Ghosts S → List S → List S → Type 0
 AllOpenedWithin device = AllZip (OpenedWithin device)
 
+-- when the first line after the cursor was read, a source gave no more than two lines and a piece beyond what was held
+abbrev pub CameFirst : {S : Type 0} → Ghosts S → S → S → CursorState → Type 0
+CameFirst device old new c = (t : List ℕ) → device.text old ≡ Some t
+    → device.gave new + reach c ≤ device.gave old + c.start + 2 * longest (lines t) + 8192
+
 -- a source gave no more than a search takes, and what lies between the cursor's start and the offset up to which it was
 -- read
 abbrev pub CameWithin : {S : Type 0} → Ghosts S → S → S → CursorState → Type 0

@@ -17,8 +17,8 @@ use source_core::{Cursor, Source};
 use std::cmp::Ordering;
 
 impl LineBuffers {
-    /// Reads the further lines of a source that have the pair of this one into `rest`. Returns the line after them,
-    /// unless its key is past the range.
+    /// Reads the further lines of a source that have the pair of this one into `rest`. Returns the
+    /// line after them, unless its key is past the range.
     /// Errors are `Memory`, `Read`, `BadLine` and `OutOfOrder`.
     pub fn read_group<S: Source, R: Range>(
         &mut self,

@@ -1,7 +1,8 @@
 //! The merging of whole indexes.
-ghost use Rattle.std.specs.Prelude.{◌≤◌, ◌+◌, ℕ, length, map, IfOk};
+ghost use Rattle.std.specs.Prelude.{◌≤◌, ◌+◌, length, map, IfOk};
 ghost use Rattle.devices.specs.Device.{AppendsPrefix};
-ghost use Rattle.merge_core.specs.Collections.{KeepsSources, Merged, OverIndexes, OverTexts, collection};
+ghost use Rattle.merge_core.specs.Collections.{KeepsSources, Merged, OverIndexes, OverTexts};
+ghost use Rattle.merge_core.specs.Collections.{collection};
 ghost use Rattle.merge_core.specs.Counts.{OverShares};
 ghost use Rattle.merge_core.specs.Failures.{TellsMergeFault};
 ghost use Rattle.merge_core.specs.SourceLines.{WritesLinesOf};
@@ -27,11 +28,13 @@ pub struct MergedLines {
     pub most_lines: u64,
 }
 
-/// Writes the collection of the indexes: their lines in the order of places, only the first line at each place.
+/// Writes the collection of the indexes: their lines in the order of places, only the first line at
+/// each place.
 ///
-/// One line of each source is held, and the lines of one key and stamp. After an error, lines that rise by place were
-/// written, the last of them in whole or in part. If all sources are indexes, they are the first lines of the
-/// collection. Errors are `Memory`, `Write` if the output failed, and those of a source, with its number.
+/// One line of each source is held, and the lines of one key and stamp. After an error, lines that
+/// rise by place were written, the last of them in whole or in part. If all sources are indexes,
+/// they are the first lines of the collection. Errors are `Memory`, `Write` if the output failed,
+/// and those of a source, with its number.
 pub fn merge_indexes<S: Source, O: Output>(
     alloc: Global,
     sources: &mut [S],

@@ -1,18 +1,17 @@
 //! The reading of lines into reused buffers.
-ghost use Rattle.std.specs.Prelude.{◌≡◌, ◌≢◌, ◌+◌, ◌<◌, ◌≤◌, true, length, drop, Some, None, MatchResult, IfOk, IfErr, OnOk};
+ghost use Rattle.std.specs.Prelude.{◌≡◌, ◌+◌, ◌<◌, ◌≤◌, true, length, drop, Some, None};
+ghost use Rattle.std.specs.Prelude.{MatchResult, IfOk, IfErr, OnOk};
 ghost use Rattle.source_core.specs.Device.{OverText};
-ghost use Rattle.cdxj_core.specs.declared.limit.TheConstants.{LINE_LIMIT};
 ghost use Rattle.std.specs.List.{list_all};
 ghost use Rattle.cdxj_core.specs.Plain.{is_unescaped_ascii};
 ghost use Rattle.cdxj_core.specs.Lines.{body_of};
-ghost use Rattle.cdxj_core.specs.Members.{line_entry};
 ghost use Rattle.cdxj_places.specs.TextLines.{lines};
 ghost use Rattle.merge_core.specs.Failures.{CountsFeed};
 ghost use Rattle.source_core.specs.IndexLines.{first_length};
 ghost use Rattle.source_core.specs.Reads.{StandsIn};
 ghost use Rattle.merge_core.specs.MergeInputs.{Moved, stays};
 ghost use Rattle.std.specs.List.{filter};
-ghost use Rattle.merge_core.specs.LineFaults.{IsFeedFaultAt, line_fault};
+ghost use Rattle.merge_core.specs.LineFaults.{GivesEntry, IsFeedFaultAt, line_fault};
 ghost use Rattle.merge_core.specs.NextLine.{IsNextLine, MovesOn};
 ghost use Rattle.merge_core.specs.BoxedLines.{boxed_option, boxed_line};
 
@@ -31,7 +30,8 @@ fn boxed(alloc: Global, line: Line) -> Result<Box<Line>, LineFault>
     }
 }
 
-/// Returns the line of these bytes, in the buffer of a line that isn't needed any more if there is one.
+/// Returns the line of these bytes, in the buffer of a line that isn't needed any more if there is
+/// one.
 #[tactic(auto, using(crate::proofs::InputLemmas::no_entry))]
 fn line_of(
     alloc: Global,
@@ -40,8 +40,7 @@ fn line_of(
     kind: LineBytes,
 ) -> Result<Box<Line>, LineFault>
     requires { kind ≡ LineBytes.Unescaped → list_all is_unescaped_ascii (body_of bytes.now) ≡ true }
-    ensures { MatchResult result (λ line. line_entry LINE_LIMIT bytes.now ≡ Some line.value)
-        (λ fault. fault ≢ LineFault.Memory → line_entry LINE_LIMIT bytes.now ≡ None) }
+    ensures { GivesEntry result bytes.now }
 {
     match spare.pop() {
         Some(mut line) => {

@@ -1,9 +1,11 @@
 //! The queue of the lines that wait to be merged.
-ghost use Rattle.std.specs.Prelude.{◌≡◌, ◌<◌, true, false, [], ◌∷◌, length, slice_index_or, MatchOption, IfSome};
+ghost use Rattle.std.specs.Prelude.{◌≡◌, ◌<◌, true, false, [], ◌∷◌, length, slice_index_or};
+ghost use Rattle.std.specs.Prelude.{MatchOption, IfSome};
 ghost use Rattle.std.specs.List.Sorted.{IsPermutation};
 ghost use Rattle.cdxj_core.specs.Members.{member_pair};
 ghost use Rattle.merge_core.specs.PairOrders.{Alike};
-ghost use Rattle.merge_core.specs.WaitingLines.{AllBeyond, Enqueues, NoneBefore, NoneBelow, WaitingLine, waiting_pair};
+ghost use Rattle.merge_core.specs.WaitingLines.{AllBeyond, Enqueues, NoneBefore, NoneBelow};
+ghost use Rattle.merge_core.specs.WaitingLines.{WaitingLine, waiting_pair};
 
 use crate::keyed_line::KeyedLine;
 use crate::queued_line::QueuedLine;

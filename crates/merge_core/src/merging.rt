@@ -1,10 +1,10 @@
 //! The merging of several sources.
-ghost use Rattle.std.specs.Prelude.{◌≡◌, ◌+◌, [], length, map};
-ghost use Rattle.merge_core.specs.Counts.{OverShares, StaysWithin};
+ghost use Rattle.std.specs.Prelude.{◌≡◌, []};
+ghost use Rattle.merge_core.specs.Counts.{HoldsFew};
 ghost use Rattle.merge_core.specs.Failures.{TellsMergeFault};
 ghost use Rattle.merge_core.specs.MergeInputs.{AllMoved, Ready, inputs};
 ghost use Rattle.merge_core.specs.Gathering.{all_done};
-ghost use Rattle.merge_core.specs.Merging.{EndedMerge};
+ghost use Rattle.merge_core.specs.Merging.{EndedMerge, stand_of};
 
 use crate::fault::MergeFault;
 use crate::range::Range;
@@ -14,8 +14,8 @@ use devices::Output;
 use source_core::Source;
 use std::alloc::Global;
 
-/// Passes the lines of all sources to the sink, one pair after another. Returns `false` if the sink wanted no more
-/// lines.
+/// Passes the lines of all sources to the sink, one pair after another. Returns `false` if the sink
+/// wanted no more lines.
 /// Errors are those of the sources and of the sink.
 pub fn merge<S: Source, R: Range, K: Sink, O: Output>(
     alloc: Global,
@@ -30,22 +30,10 @@ pub fn merge<S: Source, R: Range, K: Sink, O: Output>(
     ensures moved { AllMoved S.Source sources.old merge.old sources.new merge.new }
     ensures fault { TellsMergeFault S.Source O.Output result sources.old sources.new
         out.old out.new }
-    ensures most_lines { OverShares (map S.text sources.old) (λ most.
-        StaysWithin (length sources.old + most) merge.old.most_lines merge.new.most_lines) }
+    ensures most_lines { HoldsFew S.Source sources.old merge.old.most_lines merge.new.most_lines }
     ensures ended { EndedMerge K.Sink (R.past range.now) S.Source
-        (record {
-          sources = sources.old;
-          merge = merge.old;
-          sink = sink.old;
-          written = O.written out.old;
-        })
-        result
-        (record {
-          sources = sources.new;
-          merge = merge.new;
-          sink = sink.new;
-          written = O.written out.new;
-        }) }
+        (stand_of sources.old merge.old sink.old (O.written out.old)) result
+        (stand_of sources.new merge.new sink.new (O.written out.new)) }
 {
     let mut rest = Vec::new(alloc);
     while let Some(first) = merge.gather(sources, range, &mut rest)? {

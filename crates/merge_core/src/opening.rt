@@ -1,15 +1,13 @@
 //! The opening of sources at a key and stamp.
-ghost use Rattle.source_core.specs.Device.{OverText};
-ghost use Rattle.std.specs.Prelude.{◌≡◌, ◌+◌, ◌*◌, ◌≤◌, IfOk, OnOk};
+ghost use Rattle.std.specs.Prelude.{◌≡◌, ◌≤◌, IfOk, OnOk};
 ghost use Rattle.cdxj_places.specs.Pairs.{IsLeast};
 ghost use Rattle.cdxj_places.specs.PairViews.{pair_view};
-ghost use Rattle.source_core.specs.Cursors.{reach};
 ghost use Rattle.source_core.specs.Halving.{digits};
-ghost use Rattle.source_core.specs.IndexLines.{lines, longest};
 ghost use Rattle.source_core.specs.Reads.{BeginsIn};
 ghost use Rattle.merge_core.specs.Failures.{FeedsFrom, ReadsSources};
 ghost use Rattle.merge_core.specs.MergeInputs.{Moved};
-ghost use Rattle.merge_core.specs.Spending.{AllOpenedWithin, AllGaveOnce, GaveOnce, OpenedWithin, search_steps};
+ghost use Rattle.merge_core.specs.Spending.{AllGaveOnce, AllOpenedWithin, CameFirst, GaveOnce};
+ghost use Rattle.merge_core.specs.Spending.{OpenedWithin, search_steps};
 
 use crate::fault::{FeedFault, MergeFault};
 use crate::line_buffers::LineBuffers;
@@ -32,7 +30,7 @@ impl MergeState {
     ghost use Rattle.merge_core.specs.Openings.{AddedSource, Begun, OpenedAt};
 
     /// Adds a source, and reads the first line after the cursor.
-    #[tactic(auto, using(source_core::proofs::LongestLines::first_most, source_core::proofs::LongestLines::longest_drop))]
+    #[tactic(auto, using(source_core::proofs::LongestLines::first_within))]
     fn add<S: Source, R: Range>(
         &mut self,
         source: &mut S,
@@ -44,9 +42,7 @@ impl MergeState {
         ensures most_lines { self.new.most_lines ≡ self.old.most_lines }
         ensures added { OnOk result (AddedSource (R.past range.now) S.Source source.new
             (Moved S.Source source.old source.new cursor) self.old self.new) }
-        ensures spent { OverText (S.text source.old) (λ t.
-            S.gave source.new + reach cursor
-            ≤ S.gave source.old + cursor.start + 2 * longest (lines t) + 8192) }
+        ensures spent { CameFirst S.Source source.old source.new cursor }
         ensures once { GaveOnce S.Source source.old source.new }
     {
         let next = self.buffers.next_line(source, &mut cursor)?;
@@ -57,8 +53,8 @@ impl MergeState {
         Ok(())
     }
 
-    /// Adds a source, and reads its first line whose pair isn't below this one. Returns the number of steps of the search
-    /// for that line.
+    /// Adds a source, and reads its first line whose pair isn't below this one. Returns the number
+    /// of steps of the search for that line.
     fn add_from<S: Source, R: Range>(
         &mut self,
         alloc: Global,
@@ -79,8 +75,8 @@ impl MergeState {
         Ok(probes)
     }
 
-    /// Opens each source at its first line whose pair isn't below this one, and reads that line. With an empty key that is
-    /// the first line of each source, and no search is made for it.
+    /// Opens each source at its first line whose pair isn't below this one, and reads that line.
+    /// With an empty key that is the first line of each source, and no search is made for it.
     ///
     /// Errors are `Memory`, and `Read`, `BadLine` and `OutOfOrder` with the number of the source.
     pub fn open_at<S: Source, R: Range>(

@@ -21,8 +21,8 @@ use std::cmp::Ordering;
 pub trait Sink {
     ghost use Rattle.cdxj_core.specs.Members.{Member};
 
-    /// What was written of the lines that were taken. The first sink and output are those before the lines, the second
-    /// those after them.
+    /// What was written of the lines that were taken. The first sink and output are those before
+    /// the lines, the second those after them.
     ghost Wrote: { Self → Self → List Member → Option (List ℕ) → Option (List ℕ) → Type 0 };
 
     /// What was written if an error came before the last of these lines was taken.
@@ -107,8 +107,8 @@ fn take_two<K: Sink, O: Output>(
     }
 }
 
-/// Passes on the lines of a pair, in the order of places, only the first line at each place. Returns `false` if no more
-/// are wanted.
+/// Passes on the lines of a pair, in the order of places, only the first line at each place.
+/// Returns `false` if no more are wanted.
 /// Errors are `Memory`, and `Write` if the sink returns it.
 #[tactic(auto, using(devices::proofs::DeviceLemmas::grows_not))]
 pub fn pass_group<K: Sink, O: Output>(

@@ -1,5 +1,6 @@
 //! The state of a merge.
-ghost use Rattle.std.specs.Prelude.{◌≡◌, ◌+◌, ◌-◌, ◌^◌, ◌<◌, [], length, map, max, min, Option, Some, OnOk};
+ghost use Rattle.std.specs.Prelude.{◌≡◌, ◌+◌, ◌-◌, ◌^◌, ◌<◌, [], length, map, max, min, Option};
+ghost use Rattle.std.specs.Prelude.{Some, OnOk};
 ghost use Rattle.std.specs.List.{sum};
 ghost use Rattle.cdxj_core.specs.Members.{member_pair};
 ghost use Rattle.merge_core.specs.BoxedLines.{boxed_option, boxed_lines};
@@ -24,12 +25,13 @@ pub struct MergeState {
     /// The next line of each source whose range has more lines.
     pub queue: LineQueue,
     pub buffers: LineBuffers,
-    /// The greatest number of lines held at once: those in the queue, and those of a group. It saturates at 2^64 - 1.
+    /// The greatest number of lines held at once: those in the queue, and those of a group. It
+    /// saturates at 2^64 - 1.
     pub most_lines: u64,
 }
 
 impl MergeState {
-    ghost use Rattle.merge_core.specs.MergeInputs.{Aligned, AllMoved, MergeInput, Ready};
+    ghost use Rattle.merge_core.specs.MergeInputs.{Aligned, AllMoved, KeepsInputs, Ready};
     ghost use Rattle.merge_core.specs.Gathering.{IsDueAt, ReadOn};
     ghost use Rattle.merge_core.specs.Merging.{EndedGroup};
     ghost use Rattle.merge_core.specs.Spending.{ReadUpto};
@@ -83,7 +85,8 @@ impl MergeState {
         Ok(())
     }
 
-    /// Takes the lines of the least pair from all sources. Returns the first of them, and appends the others to `rest`.
+    /// Takes the lines of the least pair from all sources. Returns the first of them, and appends
+    /// the others to `rest`.
     /// Errors are `Memory`, and `Read`, `BadLine` and `OutOfOrder` with the number of the source.
     pub fn gather<S: Source, R: Range>(
         &mut self,
@@ -119,10 +122,7 @@ impl MergeState {
 
     /// Counts the lines that are held, and recycles the buffers of those that were passed on.
     pub fn recycle(&mut self, first: Box<Line>, rest: &mut Vec<Box<Line>>)
-        ensures kept { self.new ≡ record self.old {
-          buffers = self.new.buffers;
-          most_lines = self.new.most_lines;
-        } }
+        ensures kept { KeepsInputs self.old self.new }
         ensures rest { rest.new.items ≡ [] }
         ensures most_lines { self.new.most_lines
             ≡ max self.old.most_lines (min (length self.old.queue + 1 + length rest.old.items)

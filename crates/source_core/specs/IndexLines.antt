@@ -1,5 +1,6 @@
 -- The lines of a text, cut after each line feed.
-use Rattle.std.specs.Prelude.{◌≡◌, ◌<◌, ◌≤◌, ℕ, zero, suc, List, [], ◌∷◌, ◌++◌, length, flat_map, max, cond, drop, nat_eq, Bool}
+use Rattle.std.specs.Prelude.{◌≡◌, ◌<◌, ◌≤◌, ℕ, zero, suc, List, [], ◌∷◌, ◌++◌, length, flat_map, max, cond, drop}
+use Rattle.std.specs.Prelude.{nat_eq, Bool}
 use Rattle.std.specs.Prelude.{true, false, Option, Some, None}
 pub use Rattle.cdxj_places.specs.TextLines.{lines}
 

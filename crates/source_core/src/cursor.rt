@@ -1,5 +1,6 @@
 //! The lines of a source, one after another.
-ghost use Rattle.std.specs.Prelude.{◌≡◌, ◌+◌, ◌<◌, ◌≤◌, ◌∷◌, ℕ, Option, List, true, length, take, drop, IfOk, IfErr, OnOk, MatchOption, IfSome, IfNone, Some};
+ghost use Rattle.std.specs.Prelude.{◌≡◌, ◌+◌, ◌<◌, ◌≤◌, ◌∷◌, ℕ, Option, List, true, length, take};
+ghost use Rattle.std.specs.Prelude.{drop, IfOk, IfErr, OnOk, MatchOption, IfSome, IfNone, Some};
 ghost use Rattle.source_core.specs.Device.{OverText};
 ghost use Rattle.source_core.specs.Reads.{KeepsSource, StandsIn};
 ghost use Rattle.cdxj_core.specs.declared.limit.TheConstants.{LINE_LIMIT};
@@ -53,11 +54,13 @@ impl Cursor {
     ghost use Rattle.cdxj_core.specs.Lines.{body_of};
     ghost use Rattle.cdxj_core.specs.Plain.{is_unescaped_ascii};
     ghost use Rattle.source_core.specs.IndexLines.{lines, first_length, first_then, line_found};
-    ghost use Rattle.source_core.specs.Cursors.{Filled, IsFresh, Stands, reach, CountsLineRead, IsHeldLine};
+    ghost use Rattle.source_core.specs.Cursors.{Filled, IsFresh, Stands, reach, CountsLineRead};
+    ghost use Rattle.source_core.specs.Cursors.{IsHeldLine};
     ghost use Rattle.source_core.specs.Windows.{Holds};
     ghost use Rattle.source_core.specs.LineParts.{NoFeed};
 
-    /// Creates a cursor at the offset `start`, in bytes from the source's start. A line begins there.
+    /// Creates a cursor at the offset `start`, in bytes from the source's start. A line begins
+    /// there.
     /// The only error is refused memory.
     pub fn new(alloc: Global, start: u64) -> Result<Cursor, AllocError>
         ensures stands { IfOk result (λ c.
@@ -73,7 +76,8 @@ impl Cursor {
         })
     }
 
-    /// Creates a cursor at the offset `start`, where a line begins. It goes on with the bytes that the window holds.
+    /// Creates a cursor at the offset `start`, where a line begins. It goes on with the bytes that
+    /// the window holds.
     pub(crate) fn over(window: Window, start: u64) -> Cursor
         ensures stands { (text : Option (List ℕ)) → (extent : ℕ) → Holds text extent window
             → start ≤ extent → Stands text extent result }
@@ -101,15 +105,15 @@ impl Cursor {
         self.count
     }
 
-    /// Returns the next line, with its line feed, if all of it was read ahead, and which bytes it may have. That may be
-    /// `Any` for any line.
+    /// Returns the next line, with its line feed, if all of it was read ahead, and which bytes it
+    /// may have. That may be `Any` for any line.
     #[inline(always)]
     pub fn held_line(&self) -> Option<(&[u8], LineBytes)>
         ensures line { IfSome result (λ l. (l.0.now ≡ take (length l.0.now) self.now.ahead)
             × IsHeldLine self.now.ahead (length l.0.now)) }
         ensures none { IfNone result (NoFeed self.now.ahead) }
-        ensures unescaped { IfSome result
-            (λ l. l.1 ≡ LineBytes.Unescaped → list_all is_unescaped_ascii (body_of l.0.now) ≡ true) }
+        ensures unescaped { IfSome result (λ l. l.1 ≡ LineBytes.Unescaped
+            → list_all is_unescaped_ascii (body_of l.0.now) ≡ true) }
     {
         let held = self.window.from(self.at);
         let body = unescaped_length(held);
@@ -142,11 +146,12 @@ impl Cursor {
         self.count += 1;
     }
 
-    /// Reads the next line, with its line feed, into `line`, whose previous bytes are dropped. Returns `true` if there
-    /// was one.
+    /// Reads the next line, with its line feed, into `line`, whose previous bytes are dropped.
+    /// Returns `true` if there was one.
     ///
-    /// Whatever is returned, `line` holds at most [`LINE_LIMIT`] bytes, and at most 8,192 more were read for it. Errors are
-    /// `Memory`, `Read` if the source failed, and `Long`. After an error the cursor must not be used again.
+    /// Whatever is returned, `line` holds at most [`LINE_LIMIT`] bytes, and at most 8,192 more were
+    /// read for it. Errors are `Memory`, `Read` if the source failed, and `Long`. After an error
+    /// the cursor must not be used again.
     pub fn next<S: Source>(
         &mut self,
         source: &mut S,

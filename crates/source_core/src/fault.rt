@@ -12,7 +12,8 @@ pub enum LineReadFault {
     /// The source failed.
     #[error("the source can't be read")]
     Read,
-    /// The line is longer than [`LINE_LIMIT`](cdxj_core::LINE_LIMIT) bytes, including its line feed, if it has one.
+    /// The line is longer than [`LINE_LIMIT`](cdxj_core::LINE_LIMIT) bytes, including its line
+    /// feed, if it has one.
     #[error("the line is too long")]
     Long,
 }

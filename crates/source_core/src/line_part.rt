@@ -4,8 +4,8 @@ ghost use Rattle.source_core.specs.LineParts.{PartOf};
 
 use memchr::memchr;
 
-/// Returns how many bytes of a piece belong to its first line, and whether that line ends with a line feed in the
-/// piece.
+/// Returns how many bytes of a piece belong to its first line, and whether that line ends with a
+/// line feed in the piece.
 pub(crate) fn line_part(piece: &[u8]) -> (usize, bool)
     ensures within { result.0 ≤ length piece.now }
     ensures some { 0 < length piece.now → 0 < result.0 }

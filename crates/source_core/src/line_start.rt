@@ -9,9 +9,9 @@ use crate::source::{Source, SourceFault};
 use crate::window::{SEARCH_PIECE, Window};
 use memchr::memchr;
 
-/// Returns the offset of the first line that begins at the offset `from` or after it, if it begins before `until`.
-/// Looks through the bytes from the one before `from` on, and through none if `from` is 0. What the window doesn't hold
-/// is read piece by piece.
+/// Returns the offset of the first line that begins at the offset `from` or after it, if it begins
+/// before `until`. Looks through the bytes from the one before `from` on, and through none if
+/// `from` is 0. What the window doesn't hold is read piece by piece.
 pub(crate) fn next_line_start<S: Source>(
     source: &mut S,
     window: &mut Window,

@@ -1,5 +1,6 @@
 //! The binary search for the line where the reading of an index begins.
-ghost use Rattle.std.specs.Prelude.{◌≡◌, ◌+◌, ◌-◌, ◌*◌, ◌<◌, ◌≤◌, ℕ, Option, List, length, drop, false, IfOk, OnOk, OnErr, IfSome, IfNone, Some};
+ghost use Rattle.std.specs.Prelude.{◌≡◌, ◌+◌, ◌-◌, ◌*◌, ◌<◌, ◌≤◌, ℕ, Option, List, length, drop};
+ghost use Rattle.std.specs.Prelude.{false, IfOk, OnOk, OnErr, IfSome, IfNone, Some};
 ghost use Rattle.source_core.specs.Device.{OverText};
 ghost use Rattle.cdxj_core.specs.declared.limit.TheConstants.{LINE_LIMIT};
 ghost use Rattle.cdxj_core.specs.Indexes.{IsIndex};
@@ -25,20 +26,22 @@ use cdxj_core::{LINE_LIMIT, Pair};
 use devices::PIECE;
 use std::alloc::{AllocError, Global};
 
-/// How many offsets are few: a piece of [`PIECE`] bytes holds them, and 512 bytes of a line that begins at the last.
+/// How many offsets are few: a piece of [`PIECE`] bytes holds them, and 512 bytes of a line that
+/// begins at the last.
 const FEW: u64 = 7680;
 
 /// The result of a search.
 #[derive(Debug, Drop)]
 pub struct Found {
-    /// Stands at the line found, or at the source's end if there is none. It holds what the search has read there.
+    /// Stands at the line found, or at the source's end if there is none. It holds what the search
+    /// has read there.
     pub cursor: Cursor,
     /// The number of steps of the search.
     pub probes: u64,
 }
 
-/// Copies the bytes that the window holds of the line that begins at the offset into `front`, whose previous bytes are
-/// dropped. Returns `true` if the line ends with them.
+/// Copies the bytes that the window holds of the line that begins at the offset into `front`, whose
+/// previous bytes are dropped. Returns `true` if the line ends with them.
 fn held_front(window: &Window, offset: u64, front: &mut Vec<u8>) -> Result<bool, AllocError>
     ensures { (text : Option (List ℕ)) → (extent : ℕ) → Holds text extent window.now
         → offset ≤ extent → IfOk result (IsFront text extent offset front.new.items) }
@@ -50,8 +53,8 @@ fn held_front(window: &Window, offset: u64, front: &mut Vec<u8>) -> Result<bool,
     Ok(ends)
 }
 
-/// Reads more of the line that begins at the offset, at most `most` bytes; its first bytes are in `front`. Returns
-/// whether the line ends with the bytes in `front`.
+/// Reads more of the line that begins at the offset, at most `most` bytes; its first bytes are in
+/// `front`. Returns whether the line ends with the bytes in `front`.
 fn read_on<S: Source>(
     source: &mut S,
     window: &mut Window,
@@ -81,8 +84,8 @@ fn read_on<S: Source>(
     Ok(ends)
 }
 
-/// Reads more of the line that begins at the offset, until `front` holds `wanted` of its bytes, or the line or the
-/// source ends. Returns `true` if the line ends with the bytes in `front`.
+/// Reads more of the line that begins at the offset, until `front` holds `wanted` of its bytes, or
+/// the line or the source ends. Returns `true` if the line ends with the bytes in `front`.
 fn read_to<S: Source>(
     source: &mut S,
     window: &mut Window,
@@ -116,11 +119,12 @@ fn read_to<S: Source>(
     Ok(false)
 }
 
-/// Returns `true` if the line that begins at the offset isn't below the pair, or the text ends there. Looks at its first
-/// [`LINE_LIMIT`] bytes at most; a line that shows no pair in them isn't below.
+/// Returns `true` if the line that begins at the offset isn't below the pair, or the text ends
+/// there. Looks at its first [`LINE_LIMIT`] bytes at most; a line that shows no pair in them isn't
+/// below.
 ///
-/// It looks first at what the window holds of the line. Each comparison begins at the line's start, so twice as many
-/// bytes are read before the next one.
+/// It looks first at what the window holds of the line. Each comparison begins at the line's start,
+/// so twice as many bytes are read before the next one.
 fn stops_at<S: Source>(
     source: &mut S,
     window: &mut Window,
@@ -215,7 +219,8 @@ struct Span {
     probes: u64,
 }
 
-/// Takes one step of a search: looks at the first line that begins in the upper half of the offsets that are left.
+/// Takes one step of a search: looks at the first line that begins in the upper half of the offsets
+/// that are left.
 fn halve<S: Source>(
     source: &mut S,
     window: &mut Window,
@@ -288,18 +293,20 @@ fn hold_few<S: Source>(source: &mut S, window: &mut Window, span: Span) -> Resul
     Ok(())
 }
 
-/// Finds the first line of an index whose pair isn't below this one, by a binary search over the byte offsets. A step
-/// looks at the first line that begins in the upper half of the offsets that are left. For a pair of an empty key, which
-/// none is below, nothing is read.
+/// Finds the first line of an index whose pair isn't below this one, by a binary search over the
+/// byte offsets. A step looks at the first line that begins in the upper half of the offsets that
+/// are left. For a pair of an empty key, which none is below, nothing is read.
 ///
-/// Of a line it looks at the first [`LINE_LIMIT`] bytes at most; a line that shows no pair in them isn't below. It looks
-/// through as many bytes at most for the end of a line. If they have no line feed, the line is too long, and what
-/// follows it counts as not below.
+/// Of a line it looks at the first [`LINE_LIMIT`] bytes at most; a line that shows no pair in them
+/// isn't below. It looks through as many bytes at most for the end of a line. If they have no line
+/// feed, the line is too long, and what follows it counts as not below.
 ///
-/// A step reads pieces of at most 512 bytes, and nothing that it holds. Once few offsets are left, one read of at most
-/// [`PIECE`] bytes gives them all, and the further steps read nothing but what a long line has beyond it.
+/// A step reads pieces of at most 512 bytes, and nothing that it holds. Once few offsets are left,
+/// one read of at most [`PIECE`] bytes gives them all, and the further steps read nothing but what
+/// a long line has beyond it.
 ///
-/// In a text that isn't an index it finds the start of some line that isn't below or is too long, or the size.
+/// In a text that isn't an index it finds the start of some line that isn't below or is too long,
+/// or the size.
 /// Errors are `Memory`, and `Read` if the source failed.
 pub fn search<S: Source>(
     alloc: Global,

@@ -1,5 +1,6 @@
 //! Bytes that are read at any offset.
-ghost use Rattle.std.specs.Prelude.{◌≡◌, ◌-◌, ◌^◌, ◌<◌, ◌≤◌, ℕ, Option, List, length, IfSome, IfOk, MatchResult};
+ghost use Rattle.std.specs.Prelude.{◌≡◌, ◌-◌, ◌^◌, ◌<◌, ◌≤◌, ℕ, Option, List, length, IfSome, IfOk};
+ghost use Rattle.std.specs.Prelude.{MatchResult};
 ghost use Rattle.devices.specs.Device.{CountsFailure};
 ghost use Rattle.source_core.specs.Device.{count_on, HoldsPart};
 
@@ -30,8 +31,9 @@ pub trait Source {
         ensures extent { result ≡ extent self.now }
         ensures told { IfSome (text self.now) (λ t. length t ≡ extent self.now) };
 
-    /// Reads from the offset `at` on, in bytes from the start, into the first bytes of `piece`. Returns how many bytes
-    /// were read: at least one below the size if `piece` isn't empty, none from the size on. A failed read gives none.
+    /// Reads from the offset `at` on, in bytes from the start, into the first bytes of `piece`.
+    /// Returns how many bytes were read: at least one below the size if `piece` isn't empty, none
+    /// from the size on. A failed read gives none.
     fn read_at(&mut self, at: u64, piece: &mut [u8]) -> Result<usize, SourceFault>
         ensures text { text self.new ≡ text self.old }
         ensures extent { extent self.new ≡ extent self.old }

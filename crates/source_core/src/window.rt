@@ -32,7 +32,8 @@ fn read_part<S: Source>(
     source.read_at(at, &mut buffer[..most])
 }
 
-/// Bytes of a source from an offset on, at most [`PIECE`] of them, which stay held until others are read.
+/// Bytes of a source from an offset on, at most [`PIECE`] of them, which stay held until others are
+/// read.
 #[derive(Debug, Drop)]
 pub(crate) struct Window {
     buffer: Vec<u8>,

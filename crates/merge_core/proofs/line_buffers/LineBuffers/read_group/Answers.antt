@@ -1,4 +1,5 @@
-use Rattle.merge_core.proofs.Words.{[], ℕ, ◌++◌, ◌∙◌, ◌∷◌, ◌≡◌, ◌≤◌, Alike, AllByRecursion, Below, Bool, EndsAt, IsInput}
+use Rattle.merge_core.proofs.Words.{[], ℕ, ◌++◌, ◌∙◌, ◌∷◌, ◌≡◌, ◌≤◌, Alike, AllByRecursion, Below, Bool, EndsAt}
+use Rattle.merge_core.proofs.Words.{IsInput}
 use Rattle.merge_core.proofs.Words.{List, Member, Pair, Some, Upto, append_assoc, arith, boxed_lines, done, drop}
 use Rattle.merge_core.proofs.Words.{each_join, each_weaker, false, input_of, filter, given, inl, inr, is_lt, length}
 use Rattle.merge_core.proofs.Words.{lines, map-append, member_pair, pair_cmp_total, refl, stays, true}

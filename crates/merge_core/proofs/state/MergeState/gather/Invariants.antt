@@ -1,4 +1,5 @@
-use Rattle.merge_core.proofs.Words.{◌+◌, ◌<◌, ◌∷◌, ◌≡◌, AllByRecursion, AreSettled, MergeInput, IsAbove, IsDue, IsSettled}
+use Rattle.merge_core.proofs.Words.{◌+◌, ◌<◌, ◌∷◌, ◌≡◌, AllByRecursion, AreSettled, MergeInput, IsAbove, IsDue}
+use Rattle.merge_core.proofs.Words.{IsSettled}
 use Rattle.merge_core.proofs.Words.{NoneBelow, Option, Pair, boxed_lines, inputs, get_or, length, map, member_pair}
 use Rattle.merge_core.proofs.Words.{set, unread, waiting_pair}
 use Rattle.merge_core.proofs.MergeLemmas.{Gathers}

@@ -1,4 +1,5 @@
-use Rattle.merge_core.proofs.Words.{[], ◌≡◌, AllByRecursion, AllMoved, ap, AreReadTo, MergeInput, List, Member, MergeState}
+use Rattle.merge_core.proofs.Words.{[], ◌≡◌, AllByRecursion, AllMoved, ap, AreReadTo, MergeInput, List, Member}
+use Rattle.merge_core.proofs.Words.{MergeState}
 use Rattle.merge_core.proofs.Words.{Some, Upto, all_done, arith, boxed_line, input_of, inputs, get_or, get_or_default}
 use Rattle.merge_core.proofs.Words.{length, member_pair, option_list, refl, set}
 use Rattle.std.proofs.lemmas.Grind.{common_steps}
