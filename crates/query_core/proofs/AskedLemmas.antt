@@ -1,19 +1,19 @@
 -- One page of a query, by what was taken of its sources, and by what a writer has written.
-use Rattle.query_core.proofs.Words.{[], ℕ, ◌++◌, ◌≡◌, ◌⊎◌, Appends, AppendsPrefix, Bool, Broke, IsWriterOf, List}
-use Rattle.query_core.proofs.Words.{Member, Option, Page, PageStands, PageWriter, PlaceValue, QueryValue, Wrote}
-use Rattle.query_core.proofs.Words.{answer_text, arith, begun, begun_is_front, captures_over, false, form_of}
-use Rattle.query_core.proofs.Words.{from_view, inl, inr, is_some, next_of, page_end, page_over, page_text}
-use Rattle.query_core.proofs.Words.{prefix_longer, query_page, shown_key, true}
+use Rattle.query_core.proofs.Words.{[], ◌++◌, ◌≡◌, ◌⊎◌, Appends, AppendsPrefix, Bool, Broke, Ghosts, IsWriterOf, List}
+use Rattle.query_core.proofs.Words.{Member, Option, Page, PageStands, PageWriter, PlaceValue, QueryValue, Rises, Wrote}
+use Rattle.query_core.proofs.Words.{ℕ, answer_text, append-nil, arith, begun, begun_is_front, collection, false}
+use Rattle.query_core.proofs.Words.{form_of, from_view, inl, inr, is_some, map, member_place, next_of, not, page_end}
+use Rattle.query_core.proofs.Words.{page_over, page_text, place_cmp, place_cmp_total, prefix_longer, query_page, refl}
+use Rattle.query_core.proofs.Words.{rises_rising, shown_key, sym, true}
+use Rattle.merge_core.specs.declared.sink.Sink.{Ghosts as SinkGhosts}
+use Rattle.query_core.specs.declared.pass.Pass.{Pass}
+use Rattle.query_core.specs.Answering.{HoldsOfLines, Answered}
+use Rattle.query_core.specs.Passes.{Took, TookLines}
 use Rattle.page_core.proofs.PageLemmas.{written-whole, front-end}
 use Rattle.query_core.specs.declared.page_writer.PageEnd.{PageEnd}
-use Rattle.query_core.proofs.CaptureLemmas.{filter_and}
-use Rattle.query_core.proofs.WriterLemmas.{page, decided, next_is, page_front, whole_prefix}
-use Rattle.query_core.specs.Answering.{Answered}
+use Rattle.query_core.specs.WriterView.{IsEndOf}
+use Rattle.query_core.proofs.WriterLemmas.{captures, filter_and, page, decided, next_is, page_front, whole_prefix}
 use Rattle.query_core.specs.declared.report.Report.{Report}
-
--- what is wanted of these lines, collapsed
-abbrev pub captures : QueryValue → List Member → List Member
-captures q lines = captures_over q q.resume lines
 
 -- the query's page is that of the lines that are wanted
 pub asked_is : (q : QueryValue) (lines : List Member) → query_page q lines ≡ page_over q q.resume q.limit lines
@@ -26,6 +26,40 @@ pub record Writing (q : QueryValue) (limit : Option ℕ) (sizes : List ℕ) (sta
   pub is : IsWriterOf q limit sizes first
   pub writer : PageWriter
   pub wrote : Wrote first writer taken start now
+
+pub collection_rises : (indexes : List (List Member)) → Rises member_place place_cmp (collection indexes)
+collection_rises indexes = grind (arith, rises_rising, place_cmp_total)
+
+-- ---- what holds of lines of the sources
+
+module _ {told : List (Option (List ℕ))} {Holds : List Member → Type 0} where
+  -- no line was taken
+  pub of_none : ((all : List Member) → Rises member_place place_cmp all → Holds all) → HoldsOfLines told Holds
+  of_none holds =
+      record { any = ([], grind arith, holds [] tt); over = λ texts indexes known are. holds _ (collection_rises indexes) }
+
+  -- those that were taken come first
+  pub of_taken : {q : QueryValue} {taken : List Member} → Took q told taken
+      → ((all rest : List Member) → Rises member_place place_cmp all → captures q all ≡ captures q taken ++ rest
+      → Holds all) → HoldsOfLines told Holds
+  of_taken t holds = record {
+    any = (_, t.lines, holds _ [] t.lines.rise (sym (append-nil _)));
+    over = λ texts indexes known are.
+        let first = t.first texts indexes known are in holds _ first.0 (collection_rises indexes) first.1;
+  }
+
+-- all lines were taken, or enough
+pub of_whole : {K S : Type 0} {consumer : SinkGhosts K} {device : Ghosts S} {q : QueryValue} {olds news : List S}
+    {sink last : K} {old new : Option (List ℕ)} {pass : Pass} {Holds : List Member → Type 0}
+    (t : TookLines consumer device q olds news sink old last new pass)
+    → ((all rest : List Member) → Rises member_place place_cmp all → captures q all ≡ captures q t.lines ++ rest
+    → (pass.all ≡ true → captures q all ≡ captures q t.lines) → Holds all) → HoldsOfLines (map device.text olds) Holds
+of_whole t holds = record {
+  any = (_, t.took.lines, holds _ [] t.took.lines.rise (sym (append-nil _)) (λ e. refl));
+  over = λ texts indexes known are.
+      let first = t.took.first texts indexes known are in
+      holds _ first.0 (collection_rises indexes) first.1 (λ e. t.whole e texts indexes known are);
+}
 
 module _ {q : QueryValue} {limit : Option ℕ} {sizes : List ℕ} {start mid : Option (List ℕ)} {taken : List Member}
     (w : Writing q limit sizes start mid taken) where
@@ -52,6 +86,11 @@ module _ {q : QueryValue} {start mid : Option (List ℕ)} {taken : List Member}
   abbrev key_of : QueryValue → Option (List ℕ)
   key_of r = shown_key r.show_resume_key (next_of w.writer.more w.writer.last)
 
+  -- where no capture follows the page, no line was left
+  pub no_more : (whole more : Bool) → (whole ≡ false → w.writer.more ≡ true)
+      → more ≡ is_some (next_of w.writer.more w.writer.last) → not more ≡ true → whole ≡ true
+  no_more whole more enough is none = grind (arith, next_is, stood)
+
   module _ (all : List Member) where
     -- of all lines those that were taken settle the page
     pub settles : (whole : Bool) (rest : List Member) → captures q all ≡ captures q taken ++ rest
@@ -66,11 +105,8 @@ module _ {q : QueryValue} {start mid : Option (List ℕ)} {taken : List Member}
       -- with its end it is written
       pub page_ended : (end : PageEnd) (report : Report)
           → Appends mid new (page_end (form_of w.writer.selection.query.now) (key_of w.writer.selection.query.now))
-          → (end.given ≡ w.writer.given) × (end.next ≡ next_of w.writer.more w.writer.last)
-          → report.given ≡ end.given → report.more ≡ is_some end.next → Answered q all start new report
-      page_ended end report a of_end given more =
-          let b = rw (query_is w) at a in
-          grind (arith, text_same, written-whole, next_is, stood)
+          → IsEndOf w.writer end → report.given ≡ end.given → report.more ≡ is_some end.next → Answered q all start new report
+      page_ended end report a of_end given more = grind (arith, query_is, text_same, written-whole, next_is, stood)
 
       pub end_front : AppendsPrefix mid new
           (page_end (form_of w.writer.selection.query.now) (key_of w.writer.selection.query.now))

@@ -1,9 +1,9 @@
 -- How far a check has come.
-use Rattle.query_core.proofs.Words.{[], ℕ, ◌++◌, ◌+◌, ◌∙◌, ◌∷◌, ◌≡◌, ◌≤◌, AllByRecursion, IsIndex, LINE_LIMIT, List}
-use Rattle.query_core.proofs.Words.{Member, NeverFalls, None, Option, Some, Upto, ap, arith, drop, each_join}
+use Rattle.query_core.proofs.Words.{[], ◌++◌, ◌+◌, ◌∙◌, ◌∷◌, ◌≡◌, ◌≤◌, AllByRecursion, Err, IsIndex, LINE_LIMIT, List}
+use Rattle.query_core.proofs.Words.{Member, NeverFalls, None, Option, Some, Upto, ℕ, ap, arith, drop, each_join}
 use Rattle.query_core.proofs.Words.{each_weaker, length, length-append, length-drop, line_entry, map-append}
 use Rattle.query_core.proofs.Words.{member_pair, pair_cmp, refl, sym, take, take-append-drop, take_all, upto_upto}
-use Rattle.std.specs.Prelude.{Err, MatchOption}
+use Rattle.std.specs.Prelude.{MatchOption}
 use Rattle.std.proofs.lemmas.List.{drop-drop}
 use Rattle.cdxj_core.specs.Indexes.{IsRun}
 use Rattle.source_core.specs.IndexLines.{lines}
@@ -14,8 +14,7 @@ use Rattle.merge_core.specs.LineFaults.{IsFeedFaultAt}
 use Rattle.merge_core.specs.declared.fault.FeedFault.{FeedFault}
 use Rattle.query_core.specs.Conversions.{fault_of_index}
 use Rattle.query_core.specs.Checking.{IsLastOf, FallsAfter, EndsOutOfOrder, IsChecked}
-use Rattle.merge_core.proofs.InputLemmas.{falls_push, take_next}
-use Rattle.merge_core.proofs.InputLemmas.{falls_last}
+use Rattle.merge_core.proofs.InputLemmas.{falls_push, take_next, falls_last}
 
 all_upto : (members : List Member) (previous : Option Member) (m : Member) → IsLastOf members previous
     → (FallsAfter previous m → ⊥) → NeverFalls member_pair pair_cmp members

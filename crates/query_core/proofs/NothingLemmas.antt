@@ -1,17 +1,15 @@
 -- The query that selects nothing, and is refused as another.
-use Rattle.query_core.proofs.Words.{[], ℕ, ◌++◌, ◌<◌, ◌∙◌, ◌∷◌, ◌≡◌, ◌≤◌, Err, LineValue, List, Member, Ok}
-use Rattle.query_core.proofs.Words.{QUERY_LIMIT, QueryValue, TargetValue, ap, arith, false, le-ltb, length}
-use Rattle.query_core.proofs.Words.{length-append, list_all, list_all-append, nat_lt, query_of, refl, selected, true}
-use Rattle.std.proofs.Common.{codes}
+use Rattle.query_core.proofs.Words.{[], ◌++◌, ◌<◌, ◌∙◌, ◌∷◌, ◌≡◌, ◌≤◌, Err, List, Member, Ok, QUERY_LIMIT, QueryValue}
+use Rattle.query_core.proofs.Words.{TargetValue, ℕ, ap, arith, codes, le-ltb, length, length-append, list_all-append}
+use Rattle.query_core.proofs.Words.{refl, selected, true}
 use Rattle.std.proofs.Common.{◌==◌}
 use Rattle.std.specs.Prelude.{MatchResult}
 use Rattle.std.specs.List.{onto_first, slice_split}
-use Rattle.std.proofs.lemmas.Bool.{cond-false}
 use Rattle.std.proofs.lemmas.Str.{IsUtf8-from_ascii}
 use Rattle.cdxj_core.specs.declared.field.Field.TheVariants.{Urlkey}
 use Rattle.cdxj_core.specs.Fields.{field_named}
 use Rattle.query_text.specs.declared.filter.Test.TheVariants.{HasNot}
-use Rattle.query_text.specs.Filters.{FilterValue, filter_of, holds, occurs}
+use Rattle.query_text.specs.Filters.{FilterValue, filter_of, occurs}
 use Rattle.query_text.specs.ParameterNames.{parameter_named}
 use Rattle.query_text.specs.Parameters.{ParameterValues, no_values, pieces_of, with_filter, with_parameter, with_piece}
 use Rattle.query_text.specs.Parameters.{with_pieces}
@@ -83,21 +81,15 @@ occurs_always : (value : List ℕ) → occurs [] value ≡ true
 occurs_always [] = refl
 occurs_always (b ∷ value) = refl
 
-none_pass : (filters : List FilterValue) (line : LineValue) → list_all (holds line) (filters ++ no_key ∷ []) ≡ false
-none_pass filters line = grind (arith, list_all-append, occurs_always)
-
 none_selected : (q : QueryValue) (filters : List FilterValue) → q.filters ≡ filters ++ no_key ∷ []
     → (lines : List Member) → selected q lines ≡ []
 none_selected q filters is [] = refl
-none_selected q filters is (m ∷ lines) = grind (arith, none_pass, none_selected q filters is lines)
+none_selected q filters is (m ∷ lines) = grind (arith, list_all-append, occurs_always, none_selected q filters is lines)
 
 -- the second is read as a query that selects nothing if the first is read, and else is refused alike
 abbrev Follows : Read QueryValue → Read QueryValue → Type 0
 Follows one other = MatchResult one (λ q. (none : QueryValue) × (other ≡ Ok none)
     × ((lines : List Member) → selected none lines ≡ [])) (λ refusal. other ≡ Err refusal)
-
-carried : (a b c d : Read QueryValue) → a ≡ b → c ≡ d → Follows b d → Follows a c
-carried a b c d e k h = rw (e, k) h
 
 of_target : (w : ParameterValues) (t : Read TargetValue) → Follows (and_then t (λ x. Ok (with_target w x)))
     (and_then t (λ x. Ok (with_target (with_filter w no_key) x)))
@@ -106,21 +98,15 @@ of_target w (Err e) = refl
 
 of_values : (m : Read ParameterValues) → Follows (and_then m query_with)
     (and_then (and_then m (λ w. with_piece w (codes "hasnot=urlkey:"))) query_with)
-of_values (Ok w) =
-    carried (query_with w) (query_with w) (and_then (with_piece w (codes "hasnot=urlkey:")) query_with)
-    (query_with (with_filter w no_key)) refl (ap (λ m. and_then m query_with) (condition_read w))
-    (of_target w (target_of w.url w.key w.kind))
+of_values (Ok w) = rw (condition_read w) (of_target w (target_of w.url w.key w.kind))
 of_values (Err e) = refl
 
 pub appended : AppendedSelectsNothing
 appended text short =
-    let m = with_pieces no_values (pieces_of text) in
     let within : length text ≤ QUERY_LIMIT = omega (arith, short, length-append text nothing) in
-    carried (query_of QUERY_LIMIT text) (and_then m query_with) (query_of QUERY_LIMIT (text ++ nothing))
-    (and_then (and_then m (λ w. with_piece w (codes "hasnot=urlkey:"))) query_with)
-    (cond-false (nat_lt QUERY_LIMIT (length text)) _ _ (le-ltb QUERY_LIMIT (length text) within))
-    (cond-false (nat_lt QUERY_LIMIT (length (text ++ nothing))) _ _
-    (le-ltb QUERY_LIMIT (length (text ++ nothing)) short)
-    ∙ ap (λ ps. and_then (with_pieces no_values ps) query_with) (pieces_more text)
-    ∙ ap (λ r. and_then r query_with) (with_more no_values (pieces_of text) (codes "hasnot=urlkey:")))
-    (of_values m)
+    rw (
+      le-ltb QUERY_LIMIT (length text) within,
+      le-ltb QUERY_LIMIT (length (text ++ nothing)) short,
+      pieces_more text,
+      with_more no_values (pieces_of text) (codes "hasnot=urlkey:"),
+    ) (of_values (with_pieces no_values (pieces_of text)))

@@ -1,6 +1,6 @@
 -- Over known indexes and a known output, a call that succeeds writes one text.
-use Rattle.query_core.proofs.Words.{ℕ, ◌∷◌, ◌≡◌, AllZip, Appends, IsIndex, LINE_LIMIT, List, Member, Option}
-use Rattle.query_core.proofs.Words.{QueryValue, Some, WrotePages, arith, collection, place_cmp_total}
+use Rattle.query_core.proofs.Words.{◌∷◌, ◌≡◌, AllZip, Appends, IsIndex, LINE_LIMIT, List, Member, Option, QueryValue}
+use Rattle.query_core.proofs.Words.{Some, WrotePages, ℕ, arith, collection, place_cmp_total}
 use Rattle.cdxj_core.proofs.IndexLemmas.{one_index}
 use Rattle.page_core.proofs.PageLaws.{chain_one}
 use Rattle.query_core.specs.OneText.{AnswerIsOne, MergeIsOne, PagesAreOne}
@@ -16,9 +16,7 @@ one_written : (old text : List ℕ) (new new' : Option (List ℕ)) → Appends (
 one_written old text new new' a b = grind arith
 
 pub answer_one : AnswerIsOne
-answer_one texts these those q old new new' report report' are a b =
-    let same = one_indexes texts these those are.0 are.1 in
-    grind (arith, one_written)
+answer_one texts these those q old new new' report report' are a b = grind (arith, one_indexes, one_written)
 
 -- pages of the same lines
 pub wrote_one : (q : QueryValue) (lines : List Member) (sizes old : List ℕ) (new new' : Option (List ℕ))
@@ -32,6 +30,4 @@ pages_one texts these those q sizes old new new' number number' are a b =
     wrote_one q (collection these) sizes old new new' number number' a (rw same b)
 
 pub merge_one : MergeIsOne
-merge_one texts old new new' number number' a b =
-    let same = one_indexes texts a.indexes b.indexes a.are b.are in
-    grind (arith, one_written)
+merge_one texts old new new' number number' a b = grind (arith, one_indexes, one_written)

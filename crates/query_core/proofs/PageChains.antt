@@ -1,17 +1,43 @@
 -- The pages of a query, by how its captures are cut.
-use Rattle.query_core.proofs.Words.{ℕ, ◌++◌, ◌∙◌, ◌∷◌, ◌≡◌, AllPositive, AreCut, Bool, IsChain, IsFront, List, Member}
-use Rattle.query_core.proofs.Words.{None, Option, Page, PlaceValue, QueryValue, Rises, Some, WrotePages}
-use Rattle.query_core.proofs.Words.{WrotePagesInPart, ap, arith, captures_over, chain_law, collapsed, drop, end_place}
-use Rattle.query_core.proofs.Words.{first_size, later_sizes, member_place, next_after, place_cmp, place_cmp_total}
-use Rattle.query_core.proofs.Words.{rises_collapsed, rises_filter, same_part, selected, sym, take, take_all}
-use Rattle.query_core.proofs.Words.{wrote_nothing}
+use Rattle.query_core.proofs.Words.{[], ◌++◌, ◌∙◌, ◌∷◌, ◌≡◌, AllByRecursion, AllPositive, AreCut, Bool, HasReadKey}
+use Rattle.query_core.proofs.Words.{IsChain, IsFront, List, Member, None, Option, Page, PlaceValue, QueryValue, Rises}
+use Rattle.query_core.proofs.Words.{Some, WrotePages, WrotePagesInPart, ℕ, ap, arith, captures_over, chain_law}
+use Rattle.query_core.proofs.Words.{collapsed, drop, each_kept, end_place, filter, first_size, is_wanted, later_sizes}
+use Rattle.query_core.proofs.Words.{member_place, next_after, place_cmp, place_cmp_total, rises_collapsed, rises_filter}
+use Rattle.query_core.proofs.Words.{same_part, selected, sym, take, take_all, true, wrote_nothing}
 use Rattle.page_core.proofs.PageLaws.{split_there, collapse_resumes}
 use Rattle.query_core.specs.QueryPages.{IsQueryChain}
-use Rattle.query_core.proofs.PageKeys.{keys_but_last, one_empty}
-use Rattle.query_core.proofs.CaptureLemmas.{end_last, filter_and}
-use Rattle.query_core.proofs.PagesLemmas.{Ended, EndedInPart, Pages, cut_there}
-use Rattle.query_core.proofs.WriterLemmas.{ends_at, next_place, next_short}
-use Rattle.query_core.proofs.SizeLemmas.{first_positive, later_positive}
+use Rattle.query_core.proofs.WriterLemmas.{captures_are, end_last, ends_at, next_place, next_short}
+use Rattle.query_core.proofs.PagesLemmas.{Ended, EndedInPart, Pages, cut_there, first_positive, later_positive}
+use Rattle.query_core.specs.WrittenPages.{KeysButLast, empty_page}
+
+-- ---- captures that are cut
+
+-- every page but the last has its key, where keys are read as their places
+keys_but_last : (sizes : List ℕ) (pages : Pages) (c : List Member) → AllPositive sizes → AreCut sizes pages c
+    → AllByRecursion HasReadKey pages → KeysButLast pages
+keys_but_last sizes (page ∷ other ∷ rest) c z cut keyed =
+    let r = ends_at (first_size sizes) c (first_positive sizes z) (omega (arith, cut.1)) in
+    let next : page.next ≡ Some (member_place r.last) = grind (arith, r.taken, end_last) in (
+      record { before = r.before; last = r.last; members = grind (arith, r.taken); next = next; read = grind arith },
+      keys_but_last (later_sizes sizes) (other ∷ rest) _ (later_positive sizes z) cut.2 keyed.1,
+    )
+keys_but_last sizes pages c z cut keyed = grind arith
+
+-- where there are none, there is one empty page
+one_empty : (sizes : List ℕ) (pages : Pages) → AreCut sizes pages [] → pages ≡ empty_page ∷ []
+one_empty sizes (page ∷ other ∷ rest) cut = absurd (omega (arith, cut.1))
+one_empty sizes pages cut = grind arith
+
+-- ---- the captures of a query are wanted
+
+filter_holds : {X : Type 0} (f : X → Bool) (xs : List X) → AllByRecursion (λ x. f x ≡ true) (filter f xs)
+filter_holds f [] = tt
+filter_holds f (x ∷ xs) = grind (arith, filter_holds f xs)
+
+pub captures_wanted : (from : Option PlaceValue) (q : QueryValue) (lines : List Member)
+    → AllByRecursion (λ m. is_wanted q from m ≡ true) (captures_over q from lines)
+captures_wanted from q lines = grind (arith, each_kept, place_cmp_total, filter_holds)
 
 module _ (same : PlaceValue → PlaceValue → Bool) (l : List Member) (rises : Rises member_place place_cmp l) where
   abbrev shown : Option PlaceValue → List Member
@@ -37,10 +63,6 @@ module _ (same : PlaceValue → PlaceValue → Bool) (l : List Member) (rises : 
 
 module _ (q : QueryValue) (sizes : List ℕ) (positive : AllPositive sizes) (lines : List Member)
     (rise : Rises member_place place_cmp lines) where
-  pub captures_are : captures_over q q.resume lines
-      ≡ collapsed member_place place_cmp (same_part q.collapse) (selected q lines) q.resume
-  captures_are = grind (arith, filter_and)
-
   selects : Rises member_place place_cmp (selected q lines)
   selects = grind (arith, rises_filter, place_cmp_total)
 
@@ -73,8 +95,8 @@ module _ (q : QueryValue) (sizes : List ℕ) (positive : AllPositive sizes) (lin
             joined = law.0;
             rises = rises_collapsed member_place place_cmp same place_cmp_total (selected q lines) q.resume selects;
             full = law.1;
-            keys = keys_but_last same (selected q lines) q.resume sizes found.0 found.4 chain;
-            empty = λ none. one_empty same (selected q lines) q.resume sizes found.0 none chain;
+            keys = keys_but_last sizes found.0 captures positive found.1 found.4;
+            empty = λ none. one_empty sizes found.0 (rw (sym all ∙ sym (captures_are q lines) ∙ none) at found.1);
             text = found.2;
             count = found.3;
           }

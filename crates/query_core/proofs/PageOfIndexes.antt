@@ -1,15 +1,14 @@
 -- What was taken of indexes, beside all that is wanted of their collection.
-use Rattle.query_core.proofs.Words.{[], ℕ, ◌&&◌, ◌++◌, ◌∷◌, ◌≡◌, ◌≤◌, All, All-head, All-tail, AllByRecursion, AllZip}
-use Rattle.query_core.proofs.Words.{AreLinesOf, Bool, Ghosts, IsAbove, IsIndex, Known, LINE_LIMIT, List, Member, None}
-use Rattle.query_core.proofs.Words.{NoneBelow, Option, Ordering, Pair, PlaceValue, QueryValue, Some, Upto, all_lines}
-use Rattle.query_core.proofs.Words.{and_parts, arith, begins_with_pair, collection, cond, each_join, each_kept}
-use Rattle.query_core.proofs.Words.{each_rising, each_weaker, entry_pair_is, eqb-true, false, inputs, filter, inl, inr}
-use Rattle.query_core.proofs.Words.{is_above, is_gt, is_low, is_past, is_stamp, is_wanted, key_part, later_pair}
-use Rattle.query_core.proofs.Words.{length, lines, map, member_pair, member_place, nat_cmp, nat_tests, not, pair_cmp}
-use Rattle.query_core.proofs.Words.{pair_cmp_total, past_upward, place_before, place_cmp, place_cmp_total, refl}
-use Rattle.query_core.proofs.Words.{slice_cmp, stamp_part, start_pair, suc, taken_first, taken_whole, true}
-use Rattle.query_core.proofs.Words.{zip}
-use Rattle.query_core.proofs.AskedLemmas.{captures}
+use Rattle.query_core.proofs.Words.{[], ◌&&◌, ◌++◌, ◌∷◌, ◌≡◌, ◌≤◌, All, All-head, All-tail, AllByRecursion, AllZip}
+use Rattle.query_core.proofs.Words.{AreLinesOf, Bool, Ghosts, IsAbove, IsIndex, Known, LINE_LIMIT, List, Member}
+use Rattle.query_core.proofs.Words.{NoneBelow, Option, Ordering, Pair, PlaceValue, QueryValue, Upto, ℕ, all_lines}
+use Rattle.query_core.proofs.Words.{and_parts, arith, collection, each_join, each_kept, each_rising, each_weaker}
+use Rattle.query_core.proofs.Words.{eqb-true, false, inputs, filter, inl, inr, is_above, is_gt, is_low, is_past}
+use Rattle.query_core.proofs.Words.{is_stamp, is_wanted, later_pair, length, lines, map, member_pair, member_place}
+use Rattle.query_core.proofs.Words.{nat_cmp, nat_tests, not, pair_cmp, pair_cmp_total, past_upward, place_before}
+use Rattle.query_core.proofs.Words.{place_cmp, place_cmp_total, refl, slice_cmp, start_pair, suc, taken_first}
+use Rattle.query_core.proofs.Words.{taken_whole, true, zip}
+use Rattle.query_core.proofs.WriterLemmas.{captures, kept_after, captures_split}
 use Rattle.std.proofs.Common.{replicate}
 use Rattle.query_text.proofs.RangeLaw.{match_not_below}
 use Rattle.merge_core.specs.declared.state.MergeState.{MergeState}
@@ -22,7 +21,7 @@ use Rattle.merge_core.specs.Gathering.{AreTold}
 use Rattle.merge_core.specs.Spending.{CameWithin}
 use Rattle.merge_core.proofs.SourceLemmas.{told_known}
 use Rattle.query_core.specs.Starts.{first_stamp}
-use Rattle.query_core.proofs.CaptureLemmas.{kept_after, captures_split}
+use Rattle.cdxj_core.proofs.MemberLemmas.{entry_valued}
 use Rattle.merge_core.proofs.SourceLemmas.{each_entry, taken_lines}
 use Rattle.std.specs.Char.{is_ascii_digit}
 use Rattle.std.specs.Ordering.{ordering_then}
@@ -64,14 +63,7 @@ start_not_above q from m s h =
 
 -- a line has a stamp
 line_stamp : (t : List ℕ) (m : Member) → IsLineIn t m → is_stamp m.values.stamp ≡ true
-line_stamp t m h =
-    let found = some_pair (begins_with_pair h.0) (key_part h.0) (stamp_part h.0) (member_pair m)
-    (entry_pair_is LINE_LIMIT h.0 m h.2) in
-    grind (arith, and_parts)
-  where
-    some_pair : (b : Bool) (key stamp : List ℕ) (pair : Pair) → cond b (Some (key, stamp)) None ≡ Some pair → (b ≡ true)
-        × (stamp ≡ pair.1)
-    some_pair b key stamp pair e = grind arith
+line_stamp t m h = (entry_valued LINE_LIMIT h.0 m h.2).stamp_rule
 
 -- every line has a stamp
 stamped : (f : Member → Bool) (xs : List Member) → AllByRecursion (λ m. is_stamp m.values.stamp ≡ true) xs

@@ -1,8 +1,8 @@
 -- What was read of indexes, beside the reach of a page.
-use Rattle.query_core.proofs.Words.{[], ℕ, ◌++◌, ◌-◌, ◌^◌, ◌∙◌, ◌∷◌, ◌≡◌, ◌≤◌, AllByRecursion, AllGaveWithin, AllZip}
-use Rattle.query_core.proofs.Words.{AreAtMost, Bool, GaveFor, Ghosts, IsAbove, IsIndex, Known, LINE_LIMIT, List}
-use Rattle.query_core.proofs.Words.{Member, NoneBelow, Option, OverIndexes, Pair, PlaceValue, QueryValue, ReadFor}
-use Rattle.query_core.proofs.Words.{Some, TargetValue, Upto, all_kept, ap, append-nil, append_assoc, arith}
+use Rattle.query_core.proofs.Words.{[], ◌++◌, ◌-◌, ◌^◌, ◌∙◌, ◌∷◌, ◌≡◌, ◌≤◌, AllByRecursion, AllGaveWithin, AllZip}
+use Rattle.query_core.proofs.Words.{AreAtMost, Bool, GaveFor, Ghosts, IsAbove, IsIndex, Known, LINE_LIMIT, List, Member}
+use Rattle.query_core.proofs.Words.{NoneBelow, Option, OverIndexes, Pair, PlaceValue, QueryValue, ReadFor, Some}
+use Rattle.query_core.proofs.Words.{TargetValue, Upto, ℕ, all_kept, ap, append-nil, append_assoc, arith}
 use Rattle.query_core.proofs.Words.{bytes_eq-Decides, collection, each_join, each_kept, each_weaker, false}
 use Rattle.query_core.proofs.Words.{false_from_ne_true, inputs, filter, in_reach, is_gt, is_low, is_past, is_wanted}
 use Rattle.query_core.proofs.Words.{later_pair, length, map, member_pair, member_place, min, nat_cmp, not, pair_cmp}
@@ -16,7 +16,7 @@ use Rattle.cdxj_places.proofs.PlaceLaw.{both}
 use Rattle.query_text.specs.Matching.{begins, covers}
 use Rattle.source_core.specs.Cursors.{CursorState}
 use Rattle.merge_core.specs.MergeInputs.{MergeInput}
-use Rattle.merge_core.proofs.ReadLemmas.{none_wait}
+use Rattle.merge_core.proofs.ReadLemmas.{none_wait, parts_are, parts_count, took_of_parts}
 use Rattle.merge_core.proofs.StateLemmas.{counts_of, inputs_long, long_of}
 use Rattle.merge_core.specs.PairOrders.{Alike, IsUpto}
 use Rattle.merge_core.specs.Collections.{OverTexts}
@@ -29,12 +29,10 @@ use Rattle.merge_core.proofs.Many.{Move, length_zip, told_moved}
 use Rattle.merge_core.proofs.SourceLemmas.{cuts_kept}
 use Rattle.merge_core.proofs.PairOrder.{below_below, below_upto, from_not_below, not_below_itself, same_from}
 use Rattle.merge_core.proofs.MergeLemmas.{is_less}
-use Rattle.merge_core.proofs.ReadLemmas.{parts_are, parts_count, took_of_parts}
 use Rattle.merge_core.proofs.CountLemmas.{are_read_to}
-use Rattle.query_core.proofs.AskedLemmas.{captures}
+use Rattle.query_core.proofs.WriterLemmas.{captures, kept_after, captures_append, captures_split}
 use Rattle.query_core.specs.Reach.{pair_after, is_within}
 use Rattle.query_core.specs.Passes.{IsOfParts, Took}
-use Rattle.query_core.proofs.CaptureLemmas.{kept_after, captures_append, captures_split}
 use Rattle.query_core.proofs.PageOfIndexes.{Reading, known_opened, lines_taken, told, wanted_before, wanted_first}
 use Rattle.query_core.proofs.PageOfIndexes.{wanted_whole}
 

@@ -1,11 +1,11 @@
 -- What sources give for the lines of an input, one after another.
-use Rattle.query_core.proofs.Words.{[], ℕ, ◌++◌, ◌+◌, ◌∷◌, ◌≡◌, ◌≤◌, AllGaveWithin, AllZip, Appends, AppendsPrefix}
-use Rattle.query_core.proofs.Words.{Ghosts, IsIndex, IsMarkedReply, IsOneReply, Known, LINE_LIMIT, List, Member}
-use Rattle.query_core.proofs.Words.{Option, QueryFault, QueryValue, TakesLine, ap, append-nil, arith, asked_most}
-use Rattle.query_core.proofs.Words.{collection, flat_map, grows_not, grows_part, in_reach, is_utf8, le-ltb, length}
-use Rattle.query_core.proofs.Words.{line_most, lt-ltb, map, map-append, nat_lt, prepend_known, query_of, reply_of, sum}
-use Rattle.query_core.proofs.Words.{true, without_carriage_return}
-use Rattle.std.specs.Prelude.{Result, Ok}
+use Rattle.query_core.proofs.Words.{[], ◌++◌, ◌+◌, ◌∷◌, ◌≡◌, ◌≤◌, AllGaveWithin, AllZip, Appends, AppendsPrefix, Ghosts}
+use Rattle.query_core.proofs.Words.{IsIndex, IsMarkedReply, IsOneReply, Known, LINE_LIMIT, List, Member, Ok, Option}
+use Rattle.query_core.proofs.Words.{QueryFault, QueryValue, TakesLine, ℕ, ap, append-nil, arith, asked_most, collection}
+use Rattle.query_core.proofs.Words.{flat_map, grows_not, grows_part, in_reach, is_utf8, le-ltb, length, line_most}
+use Rattle.query_core.proofs.Words.{lt-ltb, map, map-append, nat_lt, prepend_known, query_of, reply_of, sum, true}
+use Rattle.query_core.proofs.Words.{without_carriage_return}
+use Rattle.std.specs.Prelude.{Result}
 use Rattle.std.proofs.lemmas.List.Sums.{sum_by_push}
 use Rattle.query_core.specs.Conversations.{RepliedInPart}
 use Rattle.query_core.specs.Replies.{marked_reply}
@@ -38,22 +38,21 @@ gave_more device f h fits (t ∷ ts) (i ∷ is) (o ∷ os) (n ∷ ns) a =
     (omega (arith, a.0, fits (device.extent o) t i), gave_more device f h fits ts is os ns a.1)
 gave_more device f h fits texts indexes olds news a = grind arith
 
--- a text that means a query
-pub gave_asked : {S : Type 0} (device : Ghosts S) (q : QueryValue) (read : Result QueryValue QueryFault)
-    (all : List Member) → read ≡ Ok q → (texts : List (List ℕ)) (indexes : List (List Member)) (olds news : List S)
+-- a line that means a query within the limit
+pub gave_line : {S : Type 0} (device : Ghosts S) (limit : ℕ) (line : List ℕ) (q : QueryValue) (all : List Member)
+    → length line ≤ limit → is_utf8 line ≡ true → query_of limit line ≡ Ok q → (texts : List (List ℕ))
+    (indexes : List (List Member)) (olds news : List S)
     → AllGaveAtMost device (query_most q all) texts indexes olds news
-    → AllGaveAtMost device (asked_most read all) texts indexes olds news
-gave_asked device q read all is = gave_more device (query_most q all) (asked_most read all)
-    (λ e t i. rw is (omega arith))
-
--- a line that is a text within the limit
-pub gave_line : {S : Type 0} (device : Ghosts S) (limit : ℕ) (line : List ℕ) (all : List Member)
-    → length line ≤ limit → is_utf8 line ≡ true → (texts : List (List ℕ)) (indexes : List (List Member))
-    (olds news : List S) → AllGaveAtMost device (asked_most (query_of limit line) all) texts indexes olds news
     → AllGaveAtMost device (line_most limit all line) texts indexes olds news
-gave_line device limit line all short utf8 =
-    gave_more device (asked_most (query_of limit line) all) (line_most limit all line)
-    (λ e t i. rw (le-ltb limit (length line) short, utf8) (omega arith))
+gave_line device limit line q all short utf8 is =
+    gave_more device (query_most q all) (line_most limit all line)
+    (λ e t i.
+    let within = le-ltb limit (length line) short in
+    rw (within, utf8) (rw within at (asked (query_of limit line) is e t i)))
+  where
+    asked : (read : Result QueryValue QueryFault) → read ≡ Ok q → (e : ℕ) (t : List ℕ) (i : List Member)
+        → query_most q all e t i ≤ asked_most read all e t i
+    asked read is e t i = rw is (omega arith)
 
 gave_join : {S : Type 0} (device : Ghosts S) (f g h : Amount)
     → ((e : ℕ) (t : List ℕ) (i : List Member) → f e t i + g e t i ≤ h e t i)

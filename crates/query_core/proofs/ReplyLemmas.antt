@@ -1,24 +1,81 @@
 -- The replies to the lines of an input, so far and at its end.
-use Rattle.query_core.proofs.Words.{[], ℕ, ⊤, ◌++◌, ◌+◌, ◌-◌, ◌<◌, ◌^◌, ◌∙◌, ◌∷◌, ◌≡◌, ◌≤◌, ◌⊎◌, AllZip, AnswerFault}
-use Rattle.query_core.proofs.Words.{Appends, Appends-join, Appends-none, AppendsPrefix, Bool, CountsTaken, Err}
-use Rattle.query_core.proofs.Words.{IsMarkedReply, IsOneReply, List, None, Option, Some, TakesLine, ap, append-nil}
-use Rattle.query_core.proofs.Words.{append_assoc, arith, cases_lt, cond, cut_lines, err_from_is_err_and, false}
-use Rattle.query_core.proofs.Words.{flat_map-append, inl, inr, length, length-append, length-take, lt-ltb, map}
-use Rattle.query_core.proofs.Words.{map-append, nat_lt, prefix_after, prefix_longer, prepend_known, refl, subst, sym}
-use Rattle.query_core.proofs.Words.{take, take_all, true, without_carriage_return}
+use Rattle.query_core.proofs.Words.{[], ⊤, ◌++◌, ◌+◌, ◌-◌, ◌<◌, ◌^◌, ◌∙◌, ◌∷◌, ◌≡◌, ◌⊎◌, AllZip, AnswerFault, Appends}
+use Rattle.query_core.proofs.Words.{Appends-join, Appends-none, AppendsPrefix, AreLinesOf, Bool, CountsTaken, Err}
+use Rattle.query_core.proofs.Words.{IsAnswerFaultOf, IsMarkedReply, IsOneReply, List, Member, None, Ok, Option}
+use Rattle.query_core.proofs.Words.{QueryFault, QueryValue, Some, TakesLine, ℕ, answer_text, ap, append-nil}
+use Rattle.query_core.proofs.Words.{append_assoc, arith, cases_lt, codes, cut_lines, err_from_is_err_and, false}
+use Rattle.query_core.proofs.Words.{false_from_ne_true, flat_map, flat_map-append, inl, inr, is_utf8-from_IsUtf8}
+use Rattle.query_core.proofs.Words.{le-ltb, length, length-append, length-take, lt-ltb, map, map-append, nat_lt}
+use Rattle.query_core.proofs.Words.{prefix_after, prefix_longer, prepend_known, query_page, refl, subst, sym, take}
+use Rattle.query_core.proofs.Words.{take_all, true, without_carriage_return}
 use Rattle.std.proofs.Common.{Result}
-use Rattle.std.specs.Prelude.{IsErrAnd, flat_map}
+use Rattle.std.specs.Prelude.{IsErrAnd}
 use Rattle.std.proofs.lemmas.List.Elements.{AllZip-push}
 use Rattle.devices.specs.LineReading.{IsInputLineFault, IsTooLong, StopsInLine}
 use Rattle.devices.specs.declared.input_lines.InputLineFault.{InputLineFault}
-use Rattle.devices.specs.declared.input_lines.InputLineFault.TheVariants as input
-use Rattle.query_core.specs.declared.fault.AnswerFault.TheVariants as fault
 use Rattle.query_core.specs.Conversions.{fault_of_line}
 use Rattle.query_core.specs.Replies.{marked_reply}
 use Rattle.query_core.specs.ReplyReach.{AreFirstLines}
-use Rattle.query_core.specs.Conversations.{AreLeft, Replied, RepliedInPart}
-use Rattle.query_core.specs.Conversations.{RepliedToAll, RepliedToFirst, RepliedToTaken}
+use Rattle.query_core.specs.Conversations.{AreLeft, Replied, RepliedInPart, RepliedToAll, RepliedToFirst}
+use Rattle.query_core.specs.Conversations.{RepliedToTaken, HoldsOfReplies, IsLineReply, WritesSome}
 use Rattle.query_core.proofs.WriterLemmas.{whole_prefix}
+use Rattle.std.proofs.lemmas.Str.{IsUtf8-from_is_utf8}
+use Rattle.devices.specs.Writing.{WritesText}
+use Rattle.query_core.specs.AnyReplies.{IsPageReply, IsQueryReply, fault_text}
+use Rattle.devices.specs.declared.input_lines.InputLineFault.TheVariants as input
+use Rattle.query_core.specs.declared.fault.AnswerFault.TheVariants as fault
+
+-- ---- a line
+
+-- ---- what was written
+
+pub writes_some : {A E : Type 0} (r : Result A E) (old new : Option (List ℕ)) (Is : List ℕ → Type 0) (text : List ℕ)
+    → Is text → WritesText r old new text → WritesSome r old new Is
+writes_some r old new Is text is w = grind arith
+
+-- a text and then another
+pub marked : {A E : Type 0} (r : Result A E) (old mid new : Option (List ℕ)) (text mark : List ℕ) → Appends old mid text
+    → WritesText r mid new mark → WritesText r old new (text ++ mark)
+marked (Ok x) old mid new text mark a w = Appends-join old mid new text mark a w
+marked (Err e) old mid new text mark a w = prefix_after old mid new text mark a w
+
+-- what follows whatever is a reply to a text
+pub each_reply : {told : List (Option (List ℕ))} {F G : (List ℕ → List ℕ → Type 0) → Type 0}
+    → ((IsReply : List ℕ → List ℕ → Type 0) → F IsReply → G IsReply) → HoldsOfReplies told F → HoldsOfReplies told G
+each_reply f h = record { any = f _ h.any; over = λ texts indexes known are. f _ (h.over texts indexes known are) }
+
+-- ---- the reply to a query
+
+-- the fault of a line after a front of the page
+pub fault_reply : {A E : Type 0} (told : List (Option (List ℕ))) (q : QueryValue) (lines : List Member) (r : Result A E)
+    (old mid new : Option (List ℕ)) (fault : AnswerFault) (line : List ℕ) → AreLinesOf told lines
+    → AppendsPrefix old mid (answer_text q (query_page q lines)) → IsAnswerFaultOf told fault
+    → fault_text fault ≡ Some line → WritesText r mid new line → WritesSome r old new (IsPageReply told q)
+fault_reply told q lines r old mid new fault line are (rest, wrote) named is w =
+    let m = marked r old mid new wrote.front line wrote.grown w in
+    grind arith
+
+-- there is one
+pub some_reply : (told : List (Option (List ℕ))) (r : Result QueryValue QueryFault) → (reply : List ℕ)
+    × IsQueryReply told r reply
+some_reply told (Ok q) = (answer_text q (query_page q []), record { lines = []; are = grind arith; page = grind arith })
+some_reply told (Err fault) = grind arith
+
+-- ---- the reply to a line
+
+-- whether a line is a text within the limit
+pub ruleset line_tests = (le-ltb, false_from_ne_true, IsUtf8-from_is_utf8, is_utf8-from_IsUtf8)
+
+-- with the line `.`
+module _ (limit : ℕ) (IsReply : List ℕ → List ℕ → Type 0) (line : List ℕ) (old mid : Option (List ℕ)) where
+  pub reply_marked : {A E : Type 0} (r : Result A E) (new : Option (List ℕ)) → (reply : List ℕ)
+      × IsLineReply limit IsReply line reply × Appends old mid reply
+      → WritesText r mid new (codes ".\n") → WritesSome r old new (IsMarkedReply limit IsReply line)
+  reply_marked r new (reply, is, a) w = let m = marked r old mid new reply (codes ".\n") a w in grind arith
+
+  pub unmarked_reply : (reply : List ℕ) × IsLineReply limit IsReply line reply × AppendsPrefix old mid reply
+      → (text : List ℕ) × IsMarkedReply limit IsReply line text × AppendsPrefix old mid text
+  unmarked_reply (reply, is, p) = (reply ++ codes ".\n", (reply, is, refl), prefix_longer old mid reply (codes ".\n") p)
 
 abbrev joined : List (List ℕ) → List ℕ
 joined texts = flat_map (λ text. text) texts
@@ -32,12 +89,9 @@ joined_more texts text = grind (arith, flat_map-append, append-nil)
 abbrev pub AreAlike : ℕ → List ℕ → List ℕ → Type 0
 AreAlike limit line shown = (line ≡ shown) ⊎ ((limit < length line) × (limit < length shown))
 
-shorter : (t : Bool) (l : List ℕ) → length l ≤ length (cond t (take (length l - 1) l) l) + 1
-shorter t l = grind (arith, length-take)
-
 alike : (limit : ℕ) (seen : List ℕ)
     → AreAlike limit (without_carriage_return (take (limit + 2) seen)) (without_carriage_return seen)
-alike limit seen = grind (arith, cases_lt, length-take, shorter, take_all)
+alike limit seen = grind (arith, cases_lt, length-take, length-take, take_all)
 
 -- ---- the lines so far
 
@@ -118,9 +172,7 @@ module _ (limit : ℕ) (IsReply : List ℕ → List ℕ → Type 0) where
 
   pub replied_front : (input now : Option (List ℕ)) (count : ℕ) (old new : Option (List ℕ))
       → RepliedSoFar input now count old new → RepliedToFirst limit IsReply input old new
-  replied_front input now count old new s =
-      first_replied input s.done s.texts old new (taken_first input now s.done s.taken) s.each
-      (whole_prefix old new (joined s.texts) s.written)
+  replied_front input now count old new s = grind (arith, first_replied, taken_first, whole_prefix)
 
   marked_alike : (line shown text : List ℕ) → AreAlike limit line shown → IsMarkedReply limit IsReply line text
       → IsMarkedReply limit IsReply shown text

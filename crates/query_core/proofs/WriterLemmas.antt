@@ -1,15 +1,98 @@
 -- A page by the lines that were taken for it.
-use Rattle.query_core.proofs.Words.{[], ℕ, ◌++◌, ◌+◌, ◌-◌, ◌<◌, ◌^◌, ◌∙◌, ◌∷◌, ◌≡◌, ◌≤◌, ◌⊎◌, Appends, AppendsPrefix}
-use Rattle.query_core.proofs.Words.{Bool, FitsWord, FormValue, List, Member, None, Option, Page, PageStands}
-use Rattle.query_core.proofs.Words.{PlaceValue, QueryValue, Some, ap, append-nil, arith, at_most, begun, begun-more}
-use Rattle.query_core.proofs.Words.{captures_over, cases_lt, eqb-false, false, filter, form_of, inl, inr, is_full}
-use Rattle.query_core.proofs.Words.{is_some, is_wanted, last_after, length, length-append, length-take, member_place}
-use Rattle.query_core.proofs.Words.{min, next_after, next_of, page_over, page_start, place_before, prefix_after}
-use Rattle.query_core.proofs.Words.{prefix_longer, refl, row_text, suc, sym, take, take_all, true, true≢false, zero}
-use Rattle.std.proofs.lemmas.List.{take-append-le}
+use Rattle.query_core.proofs.Words.{[], ◌&&◌, ◌++◌, ◌+◌, ◌-◌, ◌<◌, ◌^◌, ◌∙◌, ◌∷◌, ◌≡◌, ◌≤◌, ◌⊎◌, Appends, AppendsPrefix}
+use Rattle.query_core.proofs.Words.{Bool, FitsWord, FormValue, List, Member, None, Option, Page, PageStands, PlaceValue}
+use Rattle.query_core.proofs.Words.{QueryValue, Some, ℕ, ap, append-nil, append_assoc, arith, at_most, begun}
+use Rattle.query_core.proofs.Words.{begun-more, bytes_eq-Decides, captures_over, cases_lt, drop, end_place, eqb-false}
+use Rattle.query_core.proofs.Words.{false, filter, form_of, get_or, inl, inr, is_full, is_some, is_wanted, kept}
+use Rattle.query_core.proofs.Words.{last_after, length, length-append, length-take, map, map-append, member_place, min}
+use Rattle.query_core.proofs.Words.{next_after, next_of, page_over, page_start, place_before, place_cmp_total}
+use Rattle.query_core.proofs.Words.{prefix_after, prefix_longer, query_captures, refl, row_text, same_part, suc, sym}
+use Rattle.query_core.proofs.Words.{take, take-append-drop, take_all, true, true≢false, zero}
+use Rattle.std.proofs.lemmas.List.{take-append-le, map_more}
 use Rattle.page_core.proofs.PageLemmas.{written-start, written-more, begun-append}
 use Rattle.query_core.specs.PageWriting.{place_at, last_place}
-use Rattle.query_core.proofs.CaptureLemmas.{end_last, kept_after, captures_append}
+use Rattle.std.proofs.Common.{drop-cons}
+use Rattle.std.proofs.lemmas.Bool.{cond-true}
+use Rattle.std.proofs.lemmas.List.Elements.{filter-append}
+use Rattle.page_core.specs.Pages.{repeats}
+use Rattle.page_core.proofs.PageLaws.{kept_append}
+use Rattle.query_core.specs.Collapsings.{CollapsingValue, collapsing_at, collapsing_after, repeats_part}
+
+-- ---- two tests
+
+pub filter_and : (f g : Member → Bool) (xs : List Member) → filter g (filter f xs) ≡ filter (λ m. f m && g m) xs
+filter_and f g [] = refl
+filter_and f g (x ∷ xs) = grind (arith, filter_and f g xs)
+
+-- ---- the captures of more lines
+
+-- what is wanted of these lines, collapsed
+abbrev pub captures : QueryValue → List Member → List Member
+captures q lines = captures_over q q.resume lines
+
+pub captures_are : (q : QueryValue) (lines : List Member) → query_captures q lines ≡ captures q lines
+captures_are q lines = grind (arith, filter_and)
+
+pub end_last : (p : Option PlaceValue) (us : List Member) (m : Member) → end_place member_place p (us ++ m ∷ [])
+    ≡ Some (member_place m)
+end_last p [] m = refl
+end_last p (u ∷ us) m = end_last (Some (member_place u)) us m
+
+module _ (q : QueryValue) (from : Option PlaceValue) where
+  abbrev pub kept_after : Option PlaceValue → List Member → List Member
+  kept_after = kept member_place (same_part q.collapse)
+
+  pub captures_split : (all taken rest : List Member) → filter (is_wanted q from) all ≡ filter (is_wanted q from) taken
+      ++ rest
+      → captures_over q from all ≡ captures_over q from taken ++ kept_after (place_before q from taken) rest
+  captures_split all taken rest h = grind (arith, kept_append, place_cmp_total)
+
+  pub captures_append : (us vs : List Member) → captures_over q from (us ++ vs) ≡ captures_over q from us
+      ++ kept_after (place_before q from us) (filter (is_wanted q from) vs)
+  captures_append us vs = grind (arith, captures_split, filter-append)
+
+  module _ (taken : List Member) (m : Member) where
+    joined : is_wanted q from m ≡ true → filter (is_wanted q from) (taken ++ m ∷ []) ≡ filter (is_wanted q from) taken
+        ++ m ∷ []
+    joined h = grind (arith, filter-append, cond-true)
+
+    pub captures_repeated : is_wanted q from m ≡ true
+        → repeats member_place (same_part q.collapse) (place_before q from taken) m ≡ true
+        → captures_over q from (taken ++ m ∷ []) ≡ captures_over q from taken ++ []
+    captures_repeated h r =
+        let split = captures_split (taken ++ m ∷ []) taken (m ∷ []) (joined h) in grind (arith, append-nil)
+
+    pub captures_joined : is_wanted q from m ≡ true
+        → repeats member_place (same_part q.collapse) (place_before q from taken) m ≡ false
+        → captures_over q from (taken ++ m ∷ []) ≡ captures_over q from taken ++ m ∷ []
+    captures_joined h r =
+        let split = captures_split (taken ++ m ∷ []) taken (m ∷ []) (joined h) in grind arith
+
+-- ---- what a selection takes
+
+-- what the next line is compared with after these
+abbrev ComparesAfter : QueryValue → Option PlaceValue → Option CollapsingValue → List Member → Type 0
+ComparesAfter q from c taken = c ≡ collapsing_at q.collapse (place_before q from taken)
+
+module _ (q : QueryValue) (from : Option PlaceValue) (c : Option CollapsingValue) (taken : List Member) (m : Member)
+    (s : ComparesAfter q from c taken) where
+  repeats_told : (b : Bool) → repeats_part c (member_place m) ≡ b
+      → repeats member_place (same_part q.collapse) (place_before q from taken) m ≡ b
+  repeats_told b r = grind arith
+
+  -- one that repeats the part of the one before
+  pub repeated_compares : is_wanted q from m ≡ true → repeats_part c (member_place m) ≡ true
+      → ComparesAfter q from c (taken ++ m ∷ [])
+  repeated_compares w r = grind (arith, true≢false, bytes_eq-Decides, joined, end_last)
+
+  -- a capture
+  pub capture_compares : (d : Option CollapsingValue) → is_wanted q from m ≡ true → d
+      ≡ collapsing_after c (member_place m) → ComparesAfter q from d (taken ++ m ∷ [])
+  capture_compares d w next = grind (arith, joined, end_last)
+
+  pub capture_is_one : is_wanted q from m ≡ true → repeats_part c (member_place m) ≡ false
+      → captures_over q from (taken ++ m ∷ []) ≡ captures_over q from taken ++ m ∷ []
+  capture_is_one w r = captures_joined q from taken m w (repeats_told false r)
 
 abbrev next : ℕ → List Member → Option PlaceValue
 next = next_after member_place
@@ -56,10 +139,6 @@ place_same : (n : ℕ) (c vs : List Member) → n ≤ length c → place_at n (c
 place_same (suc (suc n)) (x ∷ xs) vs h = place_same (suc n) xs vs (omega arith)
 place_same n c vs h = grind arith
 
--- what follows more than n changes nothing
-next_same : (n : ℕ) (c vs : List Member) → n < length c → next n (c ++ vs) ≡ next n c
-next_same n c vs h = grind (arith, next_place, place_same, length-append)
-
 place_short : (n : ℕ) (c : List Member) → length c < n → place_at n c ≡ None
 place_short (suc (suc n)) (x ∷ xs) h = place_short (suc n) xs (omega arith)
 place_short n c h = grind arith
@@ -74,7 +153,7 @@ place_last n c m h =
 -- ---- one line more
 
 at_end : (n : ℕ) (c vs : List Member) → n < length c → page (Some n) (c ++ vs) ≡ page (Some n) c
-at_end n c vs h = grind (arith, take-append-le, next_same)
+at_end n c vs h = grind (arith, take-append-le, next_place, place_same, length-append)
 
 -- where a page is full and has no next yet, its last is the n-th
 full_is : (n : ℕ) (c : List Member) (given : ℕ) → is_full (Some n) given ≡ true → given
@@ -166,3 +245,17 @@ decided limit us vs h = grind (arith, true≢false, at_end, next_some)
 pub next_is : (limit : Option ℕ) (c : List Member) (more : Bool) (last : Option PlaceValue) → more
     ≡ is_some (page limit c).next → last ≡ last_place limit c → next_of more last ≡ (page limit c).next
 next_is limit c more last h k = grind (arith, true≢false, next_some, next_place, next_short, ends_at, cases_lt)
+
+-- ---- lines that are taken one after another
+
+module _ {B : Type 0} (seen : B → Member) (taken : List Member) (ls : List B) (k : ℕ) (b : B) (inside : k < length ls)
+    (is : b ≡ get_or ls k b) where
+  -- one line more
+  pub one_more : (taken ++ map seen (take k ls)) ++ seen b ∷ [] ≡ taken ++ map seen (take (k + 1) ls)
+  one_more = grind (arith, append_assoc, map_more)
+
+  -- and those after it
+  pub parted : (rest : List Member) × (taken ++ map seen ls ≡ ((taken ++ map seen (take k ls)) ++ seen b ∷ []) ++ rest)
+  parted =
+      let split : take k ls ++ b ∷ drop (suc k) ls ≡ ls = grind (arith, take-append-drop, drop-cons) in
+      (map seen (drop (suc k) ls), grind (arith, append_assoc, map-append seen (take k ls) (b ∷ drop (suc k) ls)))

@@ -7,7 +7,10 @@ use Rattle.std.specs.Io.KnownBytes.{Appends}
 use Rattle.devices.specs.Device.{AppendsPrefix}
 use Rattle.devices.specs.LineCuts.{HasNoLineFeed, input_lines, cut_lines, without_carriage_return}
 use Rattle.query_core.specs.declared.fault.AnswerFault.{AnswerFault}
-use Rattle.query_core.specs.Replies.{refusal_text, replies}
+use Rattle.query_core.specs.AnyReplies.{IsTextReply}
+use Rattle.query_core.specs.Replies.{refusal_text, replies, reply_of}
+use Rattle.query_text.specs.declared.query.TheConstants.{QUERY_LIMIT}
+use Rattle.merge_core.specs.Collections.{OverIndexes, collection}
 
 -- ---- where each text has one reply
 
@@ -82,3 +85,10 @@ abbrev pub WritesSome : {A E : Type 0} → Result A E → Option (List ℕ) → 
 WritesSome result old new Is =
     MatchResult result (λ _. (text : List ℕ) × Is text × Appends old new text) (λ _. (text : List ℕ) × Is text
     × AppendsPrefix old new text)
+
+-- ---- what is a reply to a text
+
+-- this holds by the pages of lines of the sources, whatever their bytes; over indexes, by that of their collection
+pub record HoldsOfReplies (told : List (Option (List ℕ))) (Holds : (List ℕ → List ℕ → Type 0) → Type 0) : Type 0 where
+  pub any : Holds (IsTextReply told)
+  pub over : OverIndexes told (λ texts indexes. Holds (IsOneReply (reply_of QUERY_LIMIT (collection indexes))))

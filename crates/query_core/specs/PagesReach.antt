@@ -21,10 +21,11 @@ pub record WroteInPages (q : QueryValue) (sizes : List ℕ) (captures : List Mem
     pub wrote : WroteFirst old new (pages_text q pages ++ captures_text (form_of q) rows)
 
 -- So many captures were written whole. Each source gave no more bytes than its lines have that a page of so many
--- reaches, and what a search takes, two lines and a piece.
+-- reaches, and what a search takes, two lines and a piece. So it gave no more than all pages reach.
 pub record GaveInPages {S : Type 0} (device : Ghosts S) (q : QueryValue) (sizes : List ℕ) (texts : List (List ℕ))
     (indexes : List (List Member)) (old new : Option (List ℕ)) (olds news : List S) : Type 0 where
   pub whole : ℕ
   pub most : whole ≤ length (query_captures q (collection indexes))
   pub wrote : WroteInPages q sizes (take whole (query_captures q (collection indexes))) old new
   pub within : AllGaveWithin device (in_reach q q.resume (Some whole) (collection indexes)) texts indexes olds news
+  pub all : AllGaveWithin device (in_reach q q.resume None (collection indexes)) texts indexes olds news

@@ -33,13 +33,11 @@ HasReadKey page = IfSome page.next IsReadBack
 abbrev pub HasNext : List (Page Member PlaceValue) → List Member → Type 0
 HasNext pages captures = (pages ≡ []) ⊎ (0 < length captures)
 
--- What stands written of the pages of these captures: whole pages, so many, and the front of a page of the first of the
--- sizes that are left, which has so many captures; where it is full, the place of the last of them
-pub record PagesStand (q : QueryValue) (sizes : List ℕ) (captures : List Member) (start now : Option (List ℕ))
-    (left : List ℕ) (given : ℕ)
-    (last : Option PlaceValue) (count : ℕ) : Type 0 where
-  pub whole : List (Page Member PlaceValue)
-  pub rows : List Member
+-- These whole pages of the captures stand written, so many, and these rows of a page of the first of the sizes that are
+-- left, which are so many; where it is full, the place of the last of them.
+pub record AreWritten (q : QueryValue) (sizes : List ℕ) (captures : List Member) (start now : Option (List ℕ))
+    (left : List ℕ) (given : ℕ) (last : Option PlaceValue) (count : ℕ)
+    (whole : List (Page Member PlaceValue)) (rows : List Member) : Type 0 where
   pub goes_on : (later : List Member) (rest : List (Page Member PlaceValue)) → HasNext whole (rows ++ later)
       → AreCut left rest (rows ++ later) → AreCut sizes (whole ++ rest) (captures ++ later)
   pub positive : AllPositive left
@@ -49,3 +47,10 @@ pub record PagesStand (q : QueryValue) (sizes : List ℕ) (captures : List Membe
   pub room : length rows ≤ first_size left
   pub last_is : length rows ≡ first_size left → last ≡ last_of rows
   pub count_is : count ≡ min (length whole) (2 ^ 64 - 1)
+
+-- some whole pages and rows of these captures stand written
+pub record PagesStand (q : QueryValue) (sizes : List ℕ) (captures : List Member) (start now : Option (List ℕ))
+    (left : List ℕ) (given : ℕ) (last : Option PlaceValue) (count : ℕ) : Type 0 where
+  pub whole : List (Page Member PlaceValue)
+  pub rows : List Member
+  pub written : AreWritten q sizes captures start now left given last count whole rows

@@ -1,6 +1,6 @@
 -- What one pass over sources reads of the lines of a query.
 use Rattle.std.specs.Prelude.{◌≡◌, ◌⊎◌, ℕ, ◌-◌, ◌^◌, ◌+◌, ◌≤◌, ⊤, List, [], ◌++◌, length, map, min, Bool, true, Option}
-use Rattle.std.specs.Prelude.{None, Some, Result, MatchResult}
+use Rattle.std.specs.Prelude.{None, Some, Result, MatchResult, false}
 use Rattle.std.specs.List.{AllZip, filter, sum}
 use Rattle.cdxj_core.specs.Members.{Member}
 use Rattle.source_core.specs.declared.source.Source.{Ghosts}
@@ -11,7 +11,8 @@ use Rattle.merge_core.specs.Merging.{CameTo}
 use Rattle.devices.specs.Device.{Grows}
 use Rattle.merge_core.specs.Runs.{IsPart}
 use Rattle.merge_core.specs.SourceLines.{AreLinesOf}
-use Rattle.merge_core.specs.Spending.{AllGaveWithin}
+use Rattle.merge_core.specs.Spending.{AllGaveWithin, search_steps}
+use Rattle.merge_core.specs.Counts.{OverShares}
 use Rattle.merge_core.specs.declared.sink.Sink.{Ghosts as SinkGhosts}
 use Rattle.query_core.specs.declared.pass.Pass.{Pass}
 use Rattle.query_core.specs.PageWriting.{captures_over}
@@ -80,6 +81,9 @@ module _ {K S : Type 0} (consumer : SinkGhosts K) (device : Ghosts S) (q : Query
     pub split : captures_over q q.resume lines ≡ captures_over q q.resume earlier ++ later
     pub before : WantedMore earlier
     pub few : ReadFor q (map device.text olds) earlier pass.lines
+    pub enough : pass.all ≡ false → consumer.Enough last
+    pub probes : pass.probes ≤ search_steps device olds
+    pub held : OverShares (map device.text olds) (λ most. pass.held ≤ length olds + most)
 
   -- these lines were taken before a fault, or while the sink failed
   pub record BrokeOff (new : Option (List ℕ)) : Type 0 where

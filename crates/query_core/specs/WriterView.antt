@@ -1,19 +1,21 @@
 -- What contracts see of pages that are being written.
-use Rattle.std.specs.Prelude.{◌≡◌, ℕ, ◌+◌, ◌-◌, ◌^◌, min, List, [], ◌++◌, false, Option, Some, option_map}
+use Rattle.std.specs.Prelude.{◌≡◌, ℕ, ◌+◌, ◌-◌, ◌^◌, ◌<◌, min, List, [], ◌∷◌, ◌++◌, Bool, false, cond, Option, Some}
+use Rattle.std.specs.Prelude.{option_map}
 use Rattle.devices.specs.Device.{AppendsPrefix}
 use Rattle.cdxj_places.specs.declared.place.Place.{Place}
 use Rattle.cdxj_places.specs.Places.{PlaceValue}
 use Rattle.cdxj_places.specs.PlaceViews.{place_view}
 use Rattle.cdxj_core.specs.Members.{Member}
-use Rattle.page_core.specs.Pages.{Page, AllPositive, first_size, later_sizes}
+use Rattle.page_core.specs.Pages.{Page, AllPositive, first_size}
 use Rattle.page_core.specs.PageText.{begun}
 use Rattle.query_core.specs.declared.selection.Selection.{Selection}
+use Rattle.query_core.specs.declared.page_writer.PageEnd.{PageEnd}
 use Rattle.query_core.specs.declared.page_writer.PageWriter.{PageWriter}
 use Rattle.query_text.specs.Queries.{QueryValue}
 use Rattle.query_core.specs.Collapsings.{collapsing_at}
 use Rattle.query_core.specs.WrittenPages.{pages_text}
 use Rattle.query_core.specs.QueryPages.{form_of}
-use Rattle.query_core.specs.PageWriting.{PageStands, captures_over, place_before, page_over}
+use Rattle.query_core.specs.PageWriting.{FitsWord, PageStands, captures_over, last_after, next_of, place_before, page_over}
 use Rattle.query_core.specs.PagesWriting.{AreCut, HasNext, PagesStand}
 
 abbrev pub from_view : Option Place → Option PlaceValue
@@ -32,6 +34,11 @@ captures_of s taken = captures_over s.query.now (from_view s.from) taken
 -- these lines were taken: the next is compared with the last of them that is wanted
 abbrev pub Selects : Selection → List Member → Type 0
 Selects s taken = s.collapsing ≡ collapsing_at s.query.now.collapse (place_before s.query.now (from_view s.from) taken)
+
+-- after these lines one more was taken, which is a capture or not
+pub record TookNext (old new : Selection) (taken : List Member) (m : Member) (is : Bool) : Type 0 where
+  pub selects : Selects new (taken ++ m ∷ [])
+  pub captures : captures_of old (taken ++ m ∷ []) ≡ captures_of old taken ++ cond is (m ∷ []) []
 
 -- ---- a writer
 
@@ -54,18 +61,29 @@ pub record SamePage (old new : PageWriter) : Type 0 where
   pub sizes : new.sizes ≡ old.sizes
   pub count : new.count ≡ old.count
 
--- it has begun the next page
-pub record Turned (old new : PageWriter) : Type 0 where
-  pub sizes : new.sizes.now ≡ later_sizes old.sizes.now
-  pub limit : new.limit ≡ Some (first_size new.sizes.now)
-  pub given : new.given ≡ 0
-  pub count : new.count ≡ min (old.count + 1) (2 ^ 64 - 1)
+-- a capture at this place was written
+pub record GaveOne (old new : PageWriter) (place : PlaceValue) : Type 0 where
+  pub fits : FitsWord old.limit
+  pub given : new.given ≡ min (old.given + 1) (2 ^ 64 - 1)
+  pub last : new.last ≡ last_after old.limit new.given old.last place
+
+-- how its last page ends
+pub record IsEndOf (w : PageWriter) (end : PageEnd) : Type 0 where
+  pub given : end.given ≡ w.given
+  pub next : end.next ≡ next_of w.more w.last
+  pub count : end.count ≡ min (w.count + 1) (2 ^ 64 - 1)
 
 -- what stands written of these captures, in pages of these sizes
 pub record AreInPages (sizes : List ℕ) (w : PageWriter) (captures : List Member) (start now : Option (List ℕ)) : Type 0
   where
     pub size : w.limit ≡ Some (first_size w.sizes.now)
     pub stand : PagesStand w.selection.query.now sizes captures start now w.sizes.now w.given w.last w.count
+
+-- the same where the page has room for one more
+pub record HaveRoom (sizes : List ℕ) (w : PageWriter) (captures : List Member) (start now : Option (List ℕ)) : Type 0
+  where
+    pub pages : AreInPages sizes w captures start now
+    pub room : w.given < first_size w.sizes.now
 
 -- the same between two lines
 abbrev pub pages_stand : List ℕ → PageWriter → List Member → Option (List ℕ) → Option (List ℕ) → Type 0

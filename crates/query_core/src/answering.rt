@@ -1,10 +1,8 @@
 //! The answer to a query over indexes.
-ghost use Rattle.std.specs.Prelude.{◌≡◌, length, map, IfOk, IfErr, List};
-ghost use Rattle.cdxj_core.specs.Members.{Member};
-ghost use Rattle.merge_core.specs.Collections.{KeepsSources, OverIndexes, OverTexts, collection};
-ghost use Rattle.merge_core.specs.SourceLines.{AreLinesOf};
+ghost use Rattle.std.specs.Prelude.{◌≡◌, length, map, IfOk, IfErr};
+ghost use Rattle.merge_core.specs.Collections.{KeepsSources, OverTexts};
 ghost use Rattle.query_core.specs.AnswerCounts.{CountsAnswer};
-ghost use Rattle.query_core.specs.Answering.{AnsweredParts, ReadsInReach, WritesAnswer};
+ghost use Rattle.query_core.specs.Answering.{AnsweredParts, HoldsOfLines, ReadsInReach, WritesAnswer};
 ghost use Rattle.query_core.specs.IndexFaults.{IsAnswerFaultOf};
 ghost use Rattle.query_core.specs.Refusals.{Refuses, too_many};
 
@@ -32,7 +30,7 @@ use std::alloc::Global;
 /// A binary search finds where the page begins in each index. From there on, lines of the target's range are read, up
 /// to the key and stamp of the first capture after the page, and at most one more line of each index. Each capture is
 /// written before a line is read that stands behind the next key and stamp of its index.
-#[tactic(auto, using(crate::proofs::PageReach::page_not_reached, devices::proofs::DeviceLemmas::grows_not, devices::proofs::DeviceLemmas::grows_part, std::proofs::lemmas::Result::err_from_is_err_and, devices::proofs::WritingLemmas::wrote_nothing))]
+#[tactic(auto, using(crate::proofs::PagesReach::page_not_reached, devices::proofs::DeviceLemmas::grows_not, devices::proofs::DeviceLemmas::grows_part, std::proofs::lemmas::Result::err_from_is_err_and, devices::proofs::WritingLemmas::wrote_nothing))]
 pub fn answer<S: Source, O: Output>(
     alloc: Global,
     sources: &mut [S],
@@ -45,13 +43,10 @@ pub fn answer<S: Source, O: Output>(
     ensures failures { CountsAnswer result (map S.failures sources.old) (map S.failures sources.new)
         (O.failures out.old) (O.failures out.new) }
     ensures fault { IfErr result (IsAnswerFaultOf (map S.text sources.old)) }
-    // Whatever the sources' bytes, these are lines of theirs that rise by place.
-    ensures lines { (lines : List Member) × AreLinesOf (map S.text sources.old) lines
-        × WritesAnswer query.now lines result (O.written out.old) (O.written out.new) }
+    ensures page { HoldsOfLines (map S.text sources.old) (λ lines.
+        WritesAnswer query.now lines result (O.written out.old) (O.written out.new)) }
     ensures parts { OverTexts (map S.text sources.old) (λ texts.
         IfOk result (AnsweredParts query.now texts (O.written out.old) (O.written out.new))) }
-    ensures page { OverIndexes (map S.text sources.old) (λ texts indexes.
-        WritesAnswer query.now (collection indexes) result (O.written out.old) (O.written out.new)) }
     ensures reads { ReadsInReach S.Source query.now (O.written out.old) (O.written out.new)
         sources.old sources.new result }
 {

@@ -1,5 +1,5 @@
 //! The checking of an index.
-ghost use Rattle.std.specs.Prelude.{◌≡◌, ◌+◌, ◌≤◌, ℕ, List, true, false, option_map, IfErr, Some};
+ghost use Rattle.std.specs.Prelude.{◌≡◌, ◌↔◌, ◌+◌, ◌≤◌, ℕ, List, true, option_map, IfErr, Some};
 ghost use Rattle.source_core.specs.Reads.{KeepsSource};
 ghost use Rattle.query_core.specs.AnswerCounts.{CountsSource};
 ghost use Rattle.query_core.specs.Checking.{FallsAfter, IsChecked, IsCheckFault};
@@ -12,9 +12,7 @@ use source_core::{Cursor, Source};
 use std::alloc::Global;
 
 fn falls_after(previous: &Option<Box<Line>>, line: &Line) -> bool
-    ensures falls { result ≡ true → FallsAfter (option_map (λ b. b.value) previous.now) line.now }
-    ensures stays { result ≡ false → FallsAfter (option_map (λ b. b.value) previous.now) line.now
-        → ⊥ }
+    ensures { (result ≡ true) ↔ FallsAfter (option_map (λ b. b.value) previous.now) line.now }
 {
     match previous {
         Some(previous) => previous.pair().cmp(&line.pair()).is_gt(),

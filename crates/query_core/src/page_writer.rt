@@ -64,6 +64,7 @@ fn key_is_read(place: Option<&OwnedPlace>)
 
 /// Writes what follows the last capture of a page, with the resume key of this place if it is to be shown and there is
 /// one.
+#[tactic(auto, using(devices::proofs::WritingLemmas::writes_nothing))]
 fn put_end<O: Output>(
     alloc: Global,
     output: &mut PageOutput<'_>,
@@ -114,17 +115,18 @@ pub(crate) struct PageWriter<'q> {
 }
 
 impl<'q> PageWriter<'q> {
-    ghost use Rattle.std.specs.Prelude.{◌+◌, ◌-◌, ◌^◌, ◌<◌, min, true, false, IsOkAnd};
+    ghost use Rattle.std.specs.Prelude.{false, IsOkAnd};
     ghost use Rattle.devices.specs.Device.{AppendsPrefix, Grows};
     ghost use Rattle.page_core.specs.Pages.{AllPositive, first_size};
     ghost use Rattle.page_core.specs.PageText.{page_start, row_text};
     ghost use Rattle.merge_core.specs.Sinks.{TakesOrBreaks};
-    ghost use Rattle.query_core.specs.PageWriting.{is_full, last_after, next_of, FitsWord};
-    ghost use Rattle.query_core.specs.WriterView.{AreInPages, Broke, IsFront, IsWriterOf, KeepsLines, SamePage, Turned, Wrote};
+    ghost use Rattle.query_core.specs.PageWriting.{is_full, next_of, FitsWord};
+    ghost use Rattle.query_core.specs.WriterView.{AreInPages, Broke, GaveOne, HaveRoom, IsEndOf, IsFront, IsWriterOf, KeepsLines, SamePage, Wrote};
 
     /// Writes what precedes the first capture of a page of at most `limit` captures, or of pages of these sizes if there
     /// are any. Then `limit` is the first of them.
     /// Errors are `Memory`, and `Write` if the output failed.
+    #[tactic(auto, using(devices::proofs::WritingLemmas::wrote_nothing))]
     pub fn begin<O: Output>(
         alloc: Global,
         query: &'q Query,
@@ -164,55 +166,27 @@ impl<'q> PageWriter<'q> {
         }
     }
 
-    /// Returns `true` if the page is full, and no page follows.
-    fn ends_here(&self) -> bool
-        ensures only { result ≡ true → self.now.sizes.now ≡ [] }
-        ensures full { result ≡ true → is_full self.now.limit self.now.given ≡ true }
-        ensures room { result ≡ false → self.now.sizes.now ≡ []
-            → is_full self.now.limit self.now.given ≡ false }
-    {
-        self.sizes.is_empty() && self.is_full()
-    }
-
-    /// Ends the page, which is full, and begins the next.
-    fn turn<O: Output>(&mut self, alloc: Global, out: &mut O) -> Result<(), WriteFault>
-        ensures text { WritesText result (O.written out.old) (O.written out.new)
-            (page_end (form_of self.old.selection.query.now)
-            (shown_key true self.old.last) ++ page_start (form_of self.old.selection.query.now)) }
-        ensures lines { KeepsLines self.old self.new }
-        ensures key { IfSome self.old.last IsReadBack }
-        ensures next { OnOk result (Turned self.old self.new) }
-        ensures failures { CountsWriteFault result (O.failures out.old) (O.failures out.new) }
-    {
-        key_is_read(self.last.as_ref());
-        put_end(alloc, &mut self.output, true, self.last.as_ref(), out)?;
-        self.output.put_start(out)?;
-        self.sizes = later_sizes(self.sizes);
-        self.limit = Some(first_size(self.sizes));
-        self.given = 0;
-        self.count = self.count.saturating_add(1);
-        Ok(())
-    }
-
     /// Ends the page if it is full, and begins the next.
     fn make_room<O: Output>(&mut self, alloc: Global, out: &mut O) -> Result<(), WriteFault>
         ensures pages { (sizes : List ℕ) → (captures : List Member) → (start : Option (List ℕ))
             → AreInPages sizes self.old captures start (O.written out.old)
-            → OnOk result (AreInPages sizes self.new captures start (O.written out.new)
-            × (self.new.given < first_size self.new.sizes.now)) }
-        ensures front { (sizes : List ℕ) → (captures : List Member) → (start : Option (List ℕ))
-            → (next : Member) → AreInPages sizes self.old captures start (O.written out.old)
-            → OnErr result (IsFront self.old.selection.query.now sizes (captures ++ next ∷ []) start
-            (O.written out.new)) }
+            → MatchResult result (λ _. HaveRoom sizes self.new captures start (O.written out.new))
+            (λ _. (next : Member) → IsFront self.old.selection.query.now sizes
+            (captures ++ next ∷ []) start (O.written out.new)) }
         ensures room { is_full self.old.limit self.old.given ≡ false
             → IsOkAnd result (λ _. (self.new ≡ self.old) × (out.new ≡ out.old)) }
-        ensures fits { FitsWord self.old.limit }
         ensures lines { KeepsLines self.old self.new }
         ensures grows { Grows (O.written out.old) (O.written out.new) }
         ensures failures { CountsWriteFault result (O.failures out.old) (O.failures out.new) }
     {
         if self.is_full() {
-            self.turn(alloc, out)?;
+            key_is_read(self.last.as_ref());
+            put_end(alloc, &mut self.output, true, self.last.as_ref(), out)?;
+            self.output.put_start(out)?;
+            self.sizes = later_sizes(self.sizes);
+            self.limit = Some(first_size(self.sizes));
+            self.given = 0;
+            self.count = self.count.saturating_add(1);
         }
         Ok(())
     }
@@ -226,11 +200,7 @@ impl<'q> PageWriter<'q> {
         ensures text { WritesText result (O.written out.old) (O.written out.new)
             (row_text (form_of self.old.selection.query.now) line.now) }
         ensures same { SamePage self.old self.new }
-        ensures fits { OnOk result (FitsWord self.old.limit) }
-        ensures given { OnOk result (self.new.given ≡ min (self.old.given + 1) (2 ^ 64 - 1)) }
-        ensures last { OnOk result
-            (self.new.last ≡ last_after self.old.limit self.new.given self.old.last
-            (member_place line.now)) }
+        ensures gave { OnOk result (GaveOne self.old self.new (member_place line.now)) }
         ensures failures { CountsWriteFault result (O.failures out.old) (O.failures out.new) }
     {
         self.output.put_row(line, out)?;
@@ -262,7 +232,8 @@ impl<'q> PageWriter<'q> {
         if !self.selection.takes(line)? {
             return Ok(());
         }
-        if self.ends_here() {
+        if self.sizes.is_empty() && self.is_full() {
+            // No page follows.
             self.more = self.last.is_some();
             return Ok(());
         }
@@ -278,12 +249,10 @@ impl<'q> PageWriter<'q> {
             (page_end (form_of self.old.selection.query.now)
             (shown_key self.old.selection.query.now.show_resume_key
             (next_of self.old.more self.old.last))) }
-        ensures end { IfOk result (λ end.
-            (end.given ≡ self.old.given) × (end.next ≡ next_of self.old.more self.old.last)) }
-        ensures count { IfOk result (λ end. end.count ≡ min (self.old.count + 1) (2 ^ 64 - 1)) }
+        ensures end { IfOk result (IsEndOf self.old) }
         ensures failures { CountsWriteFault result (O.failures out.old) (O.failures out.new) }
     {
-        let next = self.take_next();
+        let next = if self.more { self.last.take() } else { None };
         let shows = self.selection.query.shows_resume_key();
         put_end(alloc, &mut self.output, shows, next.as_ref(), out)?;
         Ok(PageEnd {
@@ -291,14 +260,6 @@ impl<'q> PageWriter<'q> {
             next,
             count: self.count.saturating_add(1),
         })
-    }
-
-    fn take_next(&mut self) -> Option<OwnedPlace>
-        ensures next { result ≡ next_of self.old.more self.old.last }
-        ensures kept { (self.new.selection ≡ self.old.selection)
-            × (self.new.given ≡ self.old.given) × (self.new.count ≡ self.old.count) }
-    {
-        if self.more { self.last.take() } else { None }
     }
 }
 

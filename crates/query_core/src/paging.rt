@@ -1,14 +1,11 @@
 //! The pages of a query over indexes.
-ghost use Rattle.std.specs.Prelude.{◌≡◌, List, None, length, map, IfOk, IfErr};
-ghost use Rattle.cdxj_core.specs.Members.{Member};
-ghost use Rattle.merge_core.specs.Collections.{KeepsSources, OverIndexes, OverTexts, collection};
-ghost use Rattle.merge_core.specs.SourceLines.{AreLinesOf};
-ghost use Rattle.merge_core.specs.Spending.{AllGaveWithin};
+ghost use Rattle.std.specs.Prelude.{◌≡◌, length, map, IfOk, IfErr};
+ghost use Rattle.merge_core.specs.Collections.{KeepsSources, OverIndexes, OverTexts};
 ghost use Rattle.query_core.specs.AnswerCounts.{CountsAnswer};
+ghost use Rattle.query_core.specs.Answering.{HoldsOfLines};
 ghost use Rattle.query_core.specs.IndexFaults.{IsAnswerFaultOf};
 ghost use Rattle.query_core.specs.Paging.{WritesPages, WrotePagesOfParts};
 ghost use Rattle.query_core.specs.PagesReach.{GaveInPages};
-ghost use Rattle.query_core.specs.Reach.{in_reach};
 ghost use Rattle.query_core.specs.Refusals.{Refuses, bad_sizes_or_too_many};
 
 use crate::fault::AnswerFault;
@@ -46,18 +43,11 @@ pub fn pages<S: Source, O: Output>(
     ensures failures { CountsAnswer result (map S.failures sources.old) (map S.failures sources.new)
         (O.failures out.old) (O.failures out.new) }
     ensures fault { IfErr result (IsAnswerFaultOf (map S.text sources.old)) }
-    // Whatever the sources' bytes, these are lines of theirs that rise by place.
-    ensures lines { (lines : List Member) × AreLinesOf (map S.text sources.old) lines
-        × WritesPages query.now lines sizes.now result (O.written out.old) (O.written out.new) }
+    ensures pages { HoldsOfLines (map S.text sources.old) (λ lines.
+        WritesPages query.now lines sizes.now result (O.written out.old) (O.written out.new)) }
     ensures parts { OverTexts (map S.text sources.old) (λ texts.
         IfOk result (WrotePagesOfParts query.now texts sizes.now (O.written out.old)
         (O.written out.new))) }
-    ensures pages { OverIndexes (map S.text sources.old) (λ texts indexes.
-        WritesPages query.now (collection indexes) sizes.now result (O.written out.old)
-        (O.written out.new)) }
-    ensures bytes { OverIndexes (map S.text sources.old) (λ texts indexes.
-        AllGaveWithin S.Source (in_reach query.now query.now.resume None (collection indexes)) texts
-        indexes sources.old sources.new) }
     // Each capture stands written before a line is read behind the next pair of its index.
     ensures reach { OverIndexes (map S.text sources.old) (λ texts indexes.
         GaveInPages S.Source query.now sizes.now texts indexes (O.written out.old)

@@ -1,8 +1,6 @@
 //! One pass over sources, from where a query's captures begin.
-ghost use Rattle.std.specs.Prelude.{◌≡◌, ◌+◌, ◌≤◌, length, map, false, IfOk, IfErr};
-ghost use Rattle.merge_core.specs.Spending.{search_steps};
+ghost use Rattle.std.specs.Prelude.{map, IfErr};
 ghost use Rattle.merge_core.specs.Collections.{KeepsSources};
-ghost use Rattle.merge_core.specs.Counts.{OverShares};
 ghost use Rattle.query_core.specs.AnswerCounts.{CountsAnswer};
 ghost use Rattle.query_core.specs.IndexFaults.{IsAnswerFaultOf};
 ghost use Rattle.query_core.specs.Passes.{EndedPass};
@@ -32,7 +30,7 @@ pub struct Pass {
 
 /// Passes the lines of the query's range to the sink, in the order of places, from its resume key on, until it wants no
 /// more.
-#[tactic(auto, using(crate::proofs::ConversionLemmas::merge_line, std::proofs::lemmas::Result::err_from_is_err_and))]
+#[tactic(auto, using(crate::proofs::SoundIndexes::merge_line, std::proofs::lemmas::Result::err_from_is_err_and, merge_core::proofs::SourceLemmas::all_kept))]
 pub(crate) fn read_lines<S: Source, K: Sink, O: Output>(
     alloc: Global,
     sources: &mut [S],
@@ -45,10 +43,6 @@ pub(crate) fn read_lines<S: Source, K: Sink, O: Output>(
         (O.failures out.old) (O.failures out.new) }
     ensures late { IfErr result (λ e. IsBeforeReading e → ⊥) }
     ensures fault { IfErr result (IsAnswerFaultOf (map S.text sources.old)) }
-    ensures probes { IfOk result (λ pass. pass.probes ≤ search_steps S.Source sources.old) }
-    ensures held { OverShares (map S.text sources.old) (λ most.
-        IfOk result (λ pass. pass.held ≤ length sources.old + most)) }
-    ensures enough { IfOk result (λ pass. pass.all ≡ false → K.Enough sink.new) }
     ensures ended { EndedPass K.Sink S.Source query.now sources.old sources.new sink.old
         (O.written out.old) result sink.new (O.written out.new) }
 {

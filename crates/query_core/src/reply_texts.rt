@@ -1,5 +1,5 @@
 //! The texts of replies that aren't pages.
-ghost use Rattle.std.specs.Prelude.{◌≡◌, [], IfOk};
+ghost use Rattle.std.specs.Prelude.{◌≡◌, []};
 ghost use Rattle.devices.specs.Writing.{WritesText};
 ghost use Rattle.query_core.specs.Replies.{refusal_text, reply_fault_line};
 ghost use Rattle.query_core.specs.ReplyFaults.{CountsReply};
@@ -7,7 +7,7 @@ ghost use Rattle.query_core.specs.ReplyFaults.{CountsReply};
 use crate::fault::AnswerFault;
 use devices::{Output, put};
 use itoa::Buffer;
-use std::alloc::{AllocError, Global};
+use std::alloc::Global;
 
 /// Writes a text to the output.
 pub(crate) fn put_text<O: Output>(text: &[u8], out: &mut O) -> Result<(), AnswerFault>
@@ -18,16 +18,6 @@ pub(crate) fn put_text<O: Output>(text: &[u8], out: &mut O) -> Result<(), Answer
         Ok(()) => Ok(()),
         Err(_) => Err(AnswerFault::Write),
     }
-}
-
-fn refusal(alloc: Global, name: &str) -> Result<Vec<u8>, AllocError>
-    ensures { IfOk result (λ text. text.items ≡ refusal_text name.now) }
-{
-    let mut text = Vec::new(alloc);
-    text.extend_from_slice(b"refused ")?;
-    text.extend_from_slice(name.as_bytes())?;
-    text.push(b'\n')?;
-    Ok(text)
 }
 
 /// Writes that a line was refused, with the name of the refusal.
@@ -41,24 +31,11 @@ pub(crate) fn put_refusal<O: Output>(
         (refusal_text name.now) }
     ensures failures { CountsReply result (O.failures out.old) (O.failures out.new) }
 {
-    match refusal(alloc, name) {
-        Ok(text) => put_text(&text, out),
-        Err(_) => Err(AnswerFault::Memory),
-    }
-}
-
-fn fault_line(alloc: Global, name: &str, index: usize, offset: u64) -> Result<Vec<u8>, AllocError>
-    ensures { IfOk result (λ text. text.items ≡ reply_fault_line name.now index offset) }
-{
     let mut text = Vec::new(alloc);
-    text.extend_from_slice(b"\nfault ")?;
+    text.extend_from_slice(b"refused ")?;
     text.extend_from_slice(name.as_bytes())?;
-    text.push(b' ')?;
-    text.extend_from_slice(Buffer::new().format(index).as_bytes())?;
-    text.push(b' ')?;
-    text.extend_from_slice(Buffer::new().format(offset).as_bytes())?;
-    text.push(b'\n')?;
-    Ok(text)
+    text.extend_from_slice(b"\n")?;
+    put_text(&text, out)
 }
 
 /// Writes, after what was written of a page, the name of a fault, the number of the index, and the offset of the line.
@@ -74,8 +51,13 @@ pub(crate) fn put_fault_line<O: Output>(
         (reply_fault_line name.now index offset) }
     ensures failures { CountsReply result (O.failures out.old) (O.failures out.new) }
 {
-    match fault_line(alloc, name, index, offset) {
-        Ok(text) => put_text(&text, out),
-        Err(_) => Err(AnswerFault::Memory),
-    }
+    let mut text = Vec::new(alloc);
+    text.extend_from_slice(b"\nfault ")?;
+    text.extend_from_slice(name.as_bytes())?;
+    text.extend_from_slice(b" ")?;
+    text.extend_from_slice(Buffer::new().format(index).as_bytes())?;
+    text.extend_from_slice(b" ")?;
+    text.extend_from_slice(Buffer::new().format(offset).as_bytes())?;
+    text.extend_from_slice(b"\n")?;
+    put_text(&text, out)
 }

@@ -22,7 +22,7 @@ pub(crate) struct Selection<'q> {
 
 impl<'q> Selection<'q> {
     ghost use Rattle.query_core.specs.Collapsings.{collapsing_after, repeats_part};
-    ghost use Rattle.query_core.specs.WriterView.{Selects, IsSame, captures_of, from_view};
+    ghost use Rattle.query_core.specs.WriterView.{Selects, IsSame, TookNext, from_view};
 
     /// Begins after the place of the query's resume key, if it has one.
     /// The only error is refused memory.
@@ -79,13 +79,10 @@ impl<'q> Selection<'q> {
 
     /// Takes the next line. Returns `true` if it is a capture of the query.
     /// The only error is refused memory.
-    #[tactic(auto, using(crate::proofs::CaptureLemmas::captures_repeated, crate::proofs::CaptureLemmas::capture_compares, crate::proofs::CaptureLemmas::capture_is_one, crate::proofs::CaptureLemmas::repeated_compares))]
+    #[tactic(auto, using(crate::proofs::WriterLemmas::captures_repeated, crate::proofs::WriterLemmas::capture_compares, crate::proofs::WriterLemmas::capture_is_one, crate::proofs::WriterLemmas::repeated_compares))]
     pub fn takes(&mut self, line: &Line) -> Result<bool, AllocError>
-        ensures selects { (taken : List Member) → Selects self.old taken
-            → OnOk result (Selects self.new (taken ++ line.now ∷ [])) }
-        ensures capture { (taken : List Member) → Selects self.old taken → IfOk result (λ is.
-            captures_of self.old (taken ++ line.now ∷ [])
-            ≡ captures_of self.old taken ++ cond is (line.now ∷ []) []) }
+        ensures took { (taken : List Member) → Selects self.old taken
+            → IfOk result (TookNext self.old self.new taken line.now) }
         ensures same { IsSame self.old self.new }
     {
         if !self.wants(line) {

@@ -2,15 +2,13 @@
 ghost use Rattle.std.specs.Prelude.{◌≡◌, ◌+◌, [], length, map, Err, IfOk};
 ghost use Rattle.devices.specs.Writing.{WritesText};
 ghost use Rattle.query_text.specs.declared.query.TheConstants.{QUERY_LIMIT};
-ghost use Rattle.query_text.specs.declared.fault.QueryFault.{QueryFault};
-ghost use Rattle.query_text.specs.Queries.{query_of};
 ghost use Rattle.merge_core.specs.Collections.{KeepsSources, OverIndexes, collection};
 ghost use Rattle.query_core.specs.QueryPages.{query_page, answer_text};
 ghost use Rattle.query_core.specs.Refusals.{Refuses, too_many};
 ghost use Rattle.query_core.specs.Replies.{reply_of};
-ghost use Rattle.query_core.specs.ReplyReach.{AllGaveAtMost, GaveForLines, asked_most, line_most, query_most};
+ghost use Rattle.query_core.specs.ReplyReach.{AllGaveAtMost, GaveForLines, line_most, query_most};
 ghost use Rattle.query_core.specs.AnyReplies.{IsPageReply, IsTextReply};
-ghost use Rattle.query_core.specs.Conversations.{Converses, IsLineReply, IsMarkedReply, IsOneReply, Replied, RepliedInPart, RepliedToTaken, WritesSome};
+ghost use Rattle.query_core.specs.Conversations.{Converses, HoldsOfReplies, IsLineReply, IsMarkedReply, IsOneReply, Replied, RepliedInPart, RepliedToTaken, WritesSome};
 ghost use Rattle.query_core.specs.ReplyFaults.{CountsServing, RepliesFrom};
 
 use crate::answering::answer;
@@ -27,7 +25,7 @@ use std::alloc::{AllocError, Global};
 const LINE_HELD: usize = QUERY_LIMIT + 2;
 
 /// Writes the page of a query. A fault of an index is written after what was written of the page.
-#[tactic(auto, using(crate::proofs::LineReplies::fault_reply, crate::proofs::ReplyBytes::gave_page))]
+#[tactic(auto, using(crate::proofs::ReplyLemmas::fault_reply, crate::proofs::ReplyBytes::gave_page))]
 fn reply_to_query<S: Source, O: Output>(
     alloc: Global,
     sources: &mut [S],
@@ -57,34 +55,8 @@ fn reply_to_query<S: Source, O: Output>(
     }
 }
 
-/// Writes the reply to a text.
-#[tactic(auto, using(crate::proofs::ReplyBytes::gave_asked, crate::proofs::ReplyBytes::gave_none, devices::proofs::WritingLemmas::wrote_nothing))]
-fn reply_to_text<S: Source, O: Output>(
-    alloc: Global,
-    sources: &mut [S],
-    text: &str,
-    out: &mut O,
-) -> Result<(), AnswerFault>
-    ensures sources { RepliesFrom S.Source result sources.old sources.new (O.failures out.old)
-        (O.failures out.new) }
-    ensures text { OverIndexes (map S.text sources.old) (λ texts indexes.
-        WritesText result (O.written out.old) (O.written out.new)
-        (reply_of QUERY_LIMIT (collection indexes) text.now)) }
-    ensures lines { WritesSome result (O.written out.old) (O.written out.new)
-        (IsTextReply (map S.text sources.old) text.now) }
-    ensures bytes { OverIndexes (map S.text sources.old) (λ texts indexes.
-        AllGaveAtMost S.Source (asked_most (query_of QUERY_LIMIT text.now) (collection indexes))
-        texts indexes sources.old sources.new) }
-{
-    match Query::read(alloc, text) {
-        Ok(query) => reply_to_query(alloc, sources, &query, out),
-        Err(QueryFault::Memory) => Err(AnswerFault::Memory),
-        Err(fault) => put_refusal(alloc, fault.name(), out),
-    }
-}
-
 /// Writes the reply to a line, of which at least the first `LINE_HELD` bytes are given.
-#[tactic(auto, using(crate::proofs::LineReplies::line_tests, crate::proofs::LineReplies::text_reply, crate::proofs::LineReplies::writes_some, crate::proofs::ReplyBytes::gave_line, crate::proofs::ReplyBytes::gave_none))]
+#[tactic(auto, using(crate::proofs::ReplyLemmas::line_tests, crate::proofs::ReplyLemmas::writes_some, crate::proofs::ReplyBytes::gave_line, crate::proofs::ReplyBytes::gave_none, devices::proofs::WritingLemmas::wrote_nothing))]
 fn reply_to_line<S: Source, O: Output>(
     alloc: Global,
     sources: &mut [S],
@@ -93,11 +65,9 @@ fn reply_to_line<S: Source, O: Output>(
 ) -> Result<(), AnswerFault>
     ensures sources { RepliesFrom S.Source result sources.old sources.new (O.failures out.old)
         (O.failures out.new) }
-    ensures text { OverIndexes (map S.text sources.old) (λ texts indexes.
+    ensures reply { HoldsOfReplies (map S.text sources.old) (λ IsReply.
         WritesSome result (O.written out.old) (O.written out.new)
-        (IsLineReply QUERY_LIMIT (IsOneReply (reply_of QUERY_LIMIT (collection indexes))) line.now)) }
-    ensures lines { WritesSome result (O.written out.old) (O.written out.new)
-        (IsLineReply QUERY_LIMIT (IsTextReply (map S.text sources.old)) line.now) }
+        (IsLineReply QUERY_LIMIT IsReply line.now)) }
     ensures bytes { OverIndexes (map S.text sources.old) (λ texts indexes.
         AllGaveAtMost S.Source (line_most QUERY_LIMIT (collection indexes) line.now) texts indexes
         sources.old sources.new) }
@@ -105,14 +75,19 @@ fn reply_to_line<S: Source, O: Output>(
     if line.len() > QUERY_LIMIT {
         return put_refusal(alloc, "QueryTooLong", out);
     }
-    match str::from_utf8(line) {
-        Ok(text) => reply_to_text(alloc, sources, text, out),
-        Err(_) => put_refusal(alloc, "NotText", out),
+    let text = match str::from_utf8(line) {
+        Ok(text) => text,
+        Err(_) => return put_refusal(alloc, "NotText", out),
+    };
+    match Query::read(alloc, text) {
+        Ok(query) => reply_to_query(alloc, sources, &query, out),
+        Err(QueryFault::Memory) => Err(AnswerFault::Memory),
+        Err(fault) => put_refusal(alloc, fault.name(), out),
     }
 }
 
 /// Writes the reply to a line, followed by the line `.`.
-#[tactic(auto, using(crate::proofs::LineReplies::marked_reply))]
+#[tactic(auto, using(crate::proofs::ReplyLemmas::reply_marked))]
 fn reply_and_mark<S: Source, O: Output>(
     alloc: Global,
     sources: &mut [S],
@@ -121,12 +96,9 @@ fn reply_and_mark<S: Source, O: Output>(
 ) -> Result<(), AnswerFault>
     ensures sources { RepliesFrom S.Source result sources.old sources.new (O.failures out.old)
         (O.failures out.new) }
-    ensures text { OverIndexes (map S.text sources.old) (λ texts indexes.
+    ensures reply { HoldsOfReplies (map S.text sources.old) (λ IsReply.
         WritesSome result (O.written out.old) (O.written out.new)
-        (IsMarkedReply QUERY_LIMIT (IsOneReply (reply_of QUERY_LIMIT (collection indexes)))
-        line.now)) }
-    ensures lines { WritesSome result (O.written out.old) (O.written out.new)
-        (IsMarkedReply QUERY_LIMIT (IsTextReply (map S.text sources.old)) line.now) }
+        (IsMarkedReply QUERY_LIMIT IsReply line.now)) }
     ensures bytes { OverIndexes (map S.text sources.old) (λ texts indexes.
         AllGaveAtMost S.Source (line_most QUERY_LIMIT (collection indexes) line.now) texts indexes
         sources.old sources.new) }

@@ -11,7 +11,7 @@ fn are_positive(sizes: &[u64]) -> bool
 }
 
 /// Returns `true` if there are sizes, and none of them is 0.
-#[tactic(auto, using(crate::proofs::SizeLemmas::all_positive))]
+#[tactic(auto, using(crate::proofs::PagesLemmas::all_positive))]
 pub fn are_sizes(sizes: &[u64]) -> bool
     ensures value { result ≡ are_sizes sizes.now }
     ensures positive { result ≡ true → AllPositive sizes.now }

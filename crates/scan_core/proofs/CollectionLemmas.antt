@@ -10,7 +10,7 @@ use Rattle.cdxj_core.specs.Members.{entry_member, member_place}
 use Rattle.index_core.specs.Indexing.{entries_text, in_places, index_text}
 use Rattle.merge_core.specs.Collections.{collection}
 use Rattle.merge_core.specs.Written.{lines_text}
-use Rattle.query_core.proofs.RisingParts.{rising_parts}
+use Rattle.query_core.proofs.ComposeLemmas.{rising_parts}
 use Rattle.scan_core.specs.Archives.{index_members}
 use Rattle.scan_core.specs.Captures.{all_captures, captured_lines}
 

@@ -1,5 +1,6 @@
 -- What a scan wrote, from what its parts did.
-use Rattle.std.proofs.Common.{arith, ◌≡◌, true, ℕ, Bool, List, length, map, Option}
+use Rattle.std.proofs.Common.{arith, ℕ, Bool, Err, List, Ok, length, map, Option}
+use Rattle.query_core.specs.declared.fault.AnswerFault.{AnswerFault}
 use Rattle.warc_core.specs.Kind.{Kind}
 use Rattle.std.specs.List.{AllZip}
 use Rattle.cdxj_core.specs.declared.limit.TheConstants.{LINE_LIMIT}
@@ -7,9 +8,8 @@ use Rattle.cdxj_core.specs.Indexes.{IsIndex}
 use Rattle.cdxj_core.specs.Members.{Member}
 use Rattle.merge_core.specs.Collections.{collection}
 use Rattle.query_text.specs.Queries.{QueryValue}
-use Rattle.query_core.specs.Paging.{are_sizes, WrotePages, WrotePagesInPart}
 use Rattle.scan_core.specs.Archives.{HaveIndexes, index_members}
-use Rattle.scan_core.specs.Scanning.{IsAsked, Scanned, ScannedInPart}
+use Rattle.scan_core.specs.Scanning.{IsAsked, Scanned, ScannedInPart, WritesKnownPages}
 use Rattle.scan_core.proofs.CollectionLemmas.{collected}
 use Rattle.scan_core.proofs.OnceLemmas.{once_from}
 
@@ -18,13 +18,14 @@ module _ {types : Kind → Bool} {names texts : List (List ℕ)} {inputs : List 
     (found : HaveIndexes types names inputs texts) where
   pub scanned_whole : (number : ℕ)
       → ((members : List (List Member)) → AllZip (IsIndex LINE_LIMIT) texts members
-      → WrotePages query (collection members) sizes old new number)
+      → WritesKnownPages query (collection members) sizes (Ok number) old new)
       → Scanned types names inputs sizes text old new number
   scanned_whole number w =
-      let wrote = w (map index_members found.captures) found.are_indexes in grind (arith, once_from, collected)
+      let known = w (map index_members found.captures) found.are_indexes in grind (arith, once_from, collected)
 
-  pub scanned_part : ((members : List (List Member)) → AllZip (IsIndex LINE_LIMIT) texts members
-      → are_sizes sizes ≡ true → WrotePagesInPart query (collection members) sizes old new)
+  pub scanned_part : (fault : AnswerFault) → ((members : List (List Member)) → AllZip (IsIndex LINE_LIMIT) texts members
+      → WritesKnownPages query (collection members) sizes (Err fault) old new)
       → ScannedInPart types names inputs sizes text old new
-  scanned_part w =
-      let part = w (map index_members found.captures) found.are_indexes asked.sizes in grind (arith, collected)
+  scanned_part fault w =
+      let known = w (map index_members found.captures) found.are_indexes in
+      let part = known.wrote asked.sizes in grind (arith, collected)

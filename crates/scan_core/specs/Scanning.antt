@@ -1,5 +1,7 @@
 -- What a scan of archives owes.
-use Rattle.std.specs.Prelude.{◌≡◌, ℕ, ◌<◌, ◌≤◌, ⊤, Bool, List, length, drop, suc, true, false, Option, Ok, Err}
+use Rattle.std.specs.Prelude.{◌≡◌, ℕ, ◌<◌, ◌≤◌, ⊤, Bool, List, length, drop, suc, true, false, Option, Result, Ok, Err}
+use Rattle.std.specs.Prelude.{IfErr}
+use Rattle.cdxj_core.specs.Members.{Member}
 use Rattle.warc_core.specs.Kind.{Kind}
 use Rattle.cdxj_core.specs.Entries.{EntryValue}
 use Rattle.index_core.specs.declared.fault.IndexFault.TheVariants as index
@@ -10,7 +12,7 @@ use Rattle.query_text.specs.Queries.{QueryValue, query_of}
 use Rattle.query_core.specs.declared.fault.AnswerFault.{AnswerFault}
 use Rattle.query_core.specs.declared.fault.AnswerFault.TheVariants as answer
 use Rattle.query_core.specs.declared.merging.TheConstants.{SOURCES_LIMIT}
-use Rattle.query_core.specs.Paging.{are_sizes, WrotePages, WrotePagesInPart}
+use Rattle.query_core.specs.Paging.{are_sizes, WritesPages, WrotePages, WrotePagesInPart}
 use Rattle.scan_core.specs.declared.fault.ScanFault.{ScanFault}
 use Rattle.scan_core.specs.declared.fault.ScanFault.TheVariants.{Query, Archive, Answer}
 use Rattle.scan_core.specs.Archives.{AreIndexed, IsFirstFault}
@@ -67,6 +69,12 @@ abbrev pub IsPagesFault : AnswerFault → Type 0
 IsPagesFault answer.Memory = ⊤
 IsPagesFault answer.Write = ⊤
 IsPagesFault other = ⊥
+
+-- the pages of lines of indexes in memory were written, or after such a fault a front of them
+pub record WritesKnownPages (q : QueryValue) (lines : List Member) (sizes : List ℕ) (result : Result ℕ AnswerFault)
+    (old new : Option (List ℕ)) : Type 0 where
+  pub wrote : WritesPages q lines sizes result old new
+  pub fault : IfErr result IsPagesFault
 
 -- the fault was met before anything was written
 abbrev pub IsBeforeWriting : ScanFault → Type 0

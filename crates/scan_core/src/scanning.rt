@@ -8,11 +8,10 @@ ghost use Rattle.cdxj_core.specs.Members.{Member};
 ghost use Rattle.devices.specs.Gathered.{gathered};
 ghost use Rattle.merge_core.specs.Collections.{collection};
 ghost use Rattle.source_core.specs.Slices.{slice_text};
-ghost use Rattle.page_core.specs.Pages.{AllPositive};
 ghost use Rattle.query_core.specs.declared.merging.TheConstants.{SOURCES_LIMIT};
-ghost use Rattle.query_core.specs.Paging.{are_sizes, WritesPages};
+ghost use Rattle.query_core.specs.Paging.{are_sizes};
 ghost use Rattle.scan_core.specs.Failures.{CountsWriting, CountsInputs, CountsOutput};
-ghost use Rattle.scan_core.specs.Scanning.{IsPagesFault, Scanned, ScannedInPart, IsScanFault, IsBeforeWriting, LeavesUnread};
+ghost use Rattle.scan_core.specs.Scanning.{Scanned, ScannedInPart, WritesKnownPages, IsScanFault, IsBeforeWriting, LeavesUnread};
 
 use crate::archives::index_archives;
 use crate::fault::ScanFault;
@@ -46,15 +45,11 @@ fn write_pages<O: Output>(
     out: &mut O,
 ) -> Result<u64, AnswerFault>
     requires sizes { are_sizes sizes.now ≡ true }
-    requires positive { AllPositive sizes.now }
     requires few { length indexes.now ≤ SOURCES_LIMIT }
     ensures pages { (members : List (List Member))
         → AllZip (IsIndex LINE_LIMIT) (map gathered indexes.now) members
-        → WritesPages query.now (collection members) sizes.now result (O.written out.old)
+        → WritesKnownPages query.now (collection members) sizes.now result (O.written out.old)
         (O.written out.new) }
-    ensures refusals { (members : List (List Member))
-        → AllZip (IsIndex LINE_LIMIT) (map gathered indexes.now) members
-        → IfErr result IsPagesFault }
     ensures failures { CountsWriting result (O.failures out.old) (O.failures out.new) }
 {
     pages_join();

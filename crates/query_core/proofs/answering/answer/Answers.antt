@@ -1,10 +1,11 @@
-use Rattle.query_core.proofs.Words.{[], ℕ, ◌≡◌, AreAtMost, GaveInReach, Grows, List, Option, OverIndexes, append-nil}
-use Rattle.query_core.proofs.Words.{arith, collection, err_from_is_err_and, grows_by, grows_part, length-map, map}
-use Rattle.query_core.proofs.Words.{page_over, query_page, refl, sym, wrote_nothing}
-use Rattle.query_core.proofs.AskedLemmas.{Writing, captures, asked_is, end_front, page_broke, page_ended}
-use Rattle.query_core.proofs.AskedLemmas.{passed, settles, stood}
+use Rattle.query_core.proofs.Words.{[], ◌++◌, ◌∙◌, ◌≡◌, AreAtMost, GaveInReach, Grows, List, Member, Option}
+use Rattle.query_core.proofs.Words.{OverIndexes, ℕ, ap, append-nil, arith, err_from_is_err_and, grows_by, grows_part}
+use Rattle.query_core.proofs.Words.{is_some, length-map, map, page_over, query_page, refl, sym, true, wrote_nothing}
+use Rattle.query_core.proofs.AskedLemmas.{no_more, Writing, end_front, of_none, of_taken, of_whole, page_broke}
+use Rattle.query_core.proofs.AskedLemmas.{page_ended, passed, settles}
+use Rattle.query_core.proofs.WriterLemmas.{captures}
 use Rattle.page_core.proofs.PageLemmas.{front-start}
-use Rattle.query_core.proofs.PageReach.{page_fewer, page_reached, within}
+use Rattle.query_core.proofs.PagesReach.{page_fewer, page_reached, within}
 use Rattle.query_core.proofs.answering.answer.Given.{Over}
 use Rattle.query_core.proofs.answering.answer.Goals.{In_ok-writer, In_ok-pass}
 use Rattle.query_core.proofs.answering.answer.Goals as goal
@@ -28,87 +29,57 @@ writing g c =
     passed (begin g (goal.at.In_ok-pass g c).In_ok-writer) took.lines (g.O.Output.written c.read_lines.new.out)
     c.read_lines.new.sink took.came
 
--- the page of the indexes is that of the lines that were taken
-settled_over : (g : Over) (c : In_ok-pass g) → OverIndexes (map g.S.Source.text c.args.sources.now)
-    (λ texts indexes. query_page c.args.query.now (collection indexes)
-    ≡ page_over c.args.query.now c.args.query.now.resume c.args.query.now.limit c.in_ok-pass.ensures.ended.lines)
-settled_over g c texts indexes known are =
-    let first = c.in_ok-pass.ensures.ended.took.first texts indexes known are in
-    settles (writing g c) (collection indexes) c.in_ok-pass.pass.all first.0 first.1 (grind arith)
-    c.in_ok-pass.ensures.enough
+-- of lines of which those that were taken come first, and are all or enough, the page is that of these
+settled : (g : Over) (c : In_ok-pass g) (all rest : List Member)
+    → captures c.args.query.now all ≡ captures c.args.query.now c.in_ok-pass.ensures.ended.lines ++ rest
+    → (c.in_ok-pass.pass.all ≡ true
+    → captures c.args.query.now all ≡ captures c.args.query.now c.in_ok-pass.ensures.ended.lines)
+    → query_page c.args.query.now all
+    ≡ page_over c.args.query.now c.args.query.now.resume c.args.query.now.limit c.in_ok-pass.ensures.ended.lines
+settled g c all rest first whole = settles (writing g c) all c.in_ok-pass.pass.all rest first whole
+    c.in_ok-pass.ensures.ended.enough
 
--- ---- the page of lines of the sources
+-- ---- the page
 
-pub returns-then-sources-gt-SOURCES_LIMIT-clause-lines : goal.returns-then-sources-gt-SOURCES_LIMIT-clause-lines
-returns-then-sources-gt-SOURCES_LIMIT-clause-lines g c = ([], grind arith, wrote_nothing _ _)
-
-pub returns-in_err-writer-clause-lines : goal.returns-in_err-writer-clause-lines
-returns-in_err-writer-clause-lines g c = ([], grind arith, grind (arith, err_from_is_err_and, front-start))
-
-pub returns-in_err-pass-clause-lines : goal.returns-in_err-pass-clause-lines
-returns-in_err-pass-clause-lines g c =
-    let broke = c.in_err-pass.ensures.ended.0 in
-    let p = page_broke (begin g (goal.at.returns-in_err-pass-clause-lines g c).In_ok-writer) _ _ broke.wrote broke.lines
-    [] (sym (append-nil _)) in
-    (broke.lines, broke.took.lines, grind (arith, err_from_is_err_and))
-
-pub returns-in_err-end-clause-lines : goal.returns-in_err-end-clause-lines
-returns-in_err-end-clause-lines g c =
-    let took = c.in_ok-pass.ensures.ended in
-    let p = end_front (writing g (goal.at.returns-in_err-end-clause-lines g c).In_ok-pass) took.lines _
-    (asked_is c.args.query.now took.lines) c.in_err-end.ensures.text in
-    (took.lines, took.took.lines, grind (arith, err_from_is_err_and))
-
-pub returns-clause-lines : goal.returns-clause-lines
-returns-clause-lines g c =
-    let took = c.in_ok-pass.ensures.ended in
-    let end = c.in_ok-end.ensures in (
-      took.lines,
-      took.took.lines,
-      page_ended (writing g (goal.at.returns-clause-lines g c).In_ok-pass) took.lines _
-          (asked_is c.args.query.now took.lines) c.in_ok-end.end _ end.text end.end refl c.is_some.ensures,
-    )
-
--- ---- the page of the indexes' collection
+pub returns-then-sources-gt-SOURCES_LIMIT-clause-page : goal.returns-then-sources-gt-SOURCES_LIMIT-clause-page
+returns-then-sources-gt-SOURCES_LIMIT-clause-page g c = of_none (λ all rise. wrote_nothing _ _)
 
 pub returns-in_err-writer-clause-page : goal.returns-in_err-writer-clause-page
-returns-in_err-writer-clause-page g c = grind (arith, err_from_is_err_and, front-start)
+returns-in_err-writer-clause-page g c = of_none (λ all rise. grind (arith, err_from_is_err_and, front-start))
 
 pub returns-in_err-pass-clause-page : goal.returns-in_err-pass-clause-page
-returns-in_err-pass-clause-page g c = λ texts indexes known are.
+returns-in_err-pass-clause-page g c =
     let broke = c.in_err-pass.ensures.ended.0 in
-    let first = broke.took.first texts indexes known are in
-    let p = page_broke (begin g (goal.at.returns-in_err-pass-clause-page g c).In_ok-writer) _ _ broke.wrote _ _
-    first.1 in
-    grind (arith, err_from_is_err_and)
+    let here = begin g (goal.at.returns-in_err-pass-clause-page g c).In_ok-writer in
+    rw (err_from_is_err_and c.from_residual-in_err-pass.result c.from_residual-in_err-pass.ensures.1).1
+    (of_taken broke.took (λ all rest rise first. page_broke here _ _ broke.wrote all rest first))
 
 pub returns-in_err-end-clause-page : goal.returns-in_err-end-clause-page
-returns-in_err-end-clause-page g c = λ texts indexes known are.
+returns-in_err-end-clause-page g c =
     let here = (goal.at.returns-in_err-end-clause-page g c).In_ok-pass in
-    let p = end_front (writing g here) (collection indexes) _ (settled_over g here texts indexes known are)
-    c.in_err-end.ensures.text in
-    grind (arith, err_from_is_err_and)
+    rw (err_from_is_err_and c.from_residual-in_err-end.result c.from_residual-in_err-end.ensures.1).1
+    (of_whole c.in_ok-pass.ensures.ended (λ all rest rise first whole.
+    end_front (writing g here) all _ (settled g here all rest first whole) c.in_err-end.ensures.text))
 
 pub returns-clause-page : goal.returns-clause-page
-returns-clause-page g c = λ texts indexes known are.
-    let end = c.in_ok-end.ensures in
+returns-clause-page g c =
     let here = (goal.at.returns-clause-page g c).In_ok-pass in
-    page_ended (writing g here) (collection indexes) _ (settled_over g here texts indexes known are)
-    c.in_ok-end.end _ end.text end.end refl c.is_some.ensures
+    let end = c.in_ok-end.ensures in
+    of_whole c.in_ok-pass.ensures.ended (λ all rest rise first whole.
+    page_ended (writing g here) all _ (settled g here all rest first whole) c.in_ok-end.end _ end.text end.end refl
+    c.is_some.ensures)
 
 pub returns-clause-parts : goal.returns-clause-parts
 returns-clause-parts g c = λ texts known.
     let end = c.in_ok-end.ensures in
     let read = c.in_ok-pass.ensures.ended.parts texts known in
     let here = (goal.at.returns-clause-parts g c).In_ok-pass in
-    let is = settles (writing g here) (collection read.parts) c.in_ok-pass.pass.all read.first.0 read.first.1 read.ended
-    c.in_ok-pass.ensures.enough in
-    let page = page_ended (writing g here) (collection read.parts) _ is c.in_ok-end.end _ end.text end.end refl
-    c.is_some.ensures in
-    let stands = stood (writing g here) in
+    let page = page_ended (writing g here) _ _ (settled g here _ read.first.0 read.first.1 read.ended) c.in_ok-end.end _
+    end.text end.end refl c.is_some.ensures in
     record {
       parts = read.parts;
-      each = read.each _ (grind arith);
+      each = read.each _ (no_more (writing g here) c.in_ok-pass.pass.all _ c.in_ok-pass.ensures.ended.enough
+          (c.is_some.ensures ∙ ap is_some end.end.next));
       lines = read.count;
       answered = page;
       least = page_fewer c.args.query.now read.parts _ _ page.given read.count;
@@ -149,11 +120,12 @@ returns-in_err-end-clause-reads g c =
 pub returns-clause-reads : goal.returns-clause-reads
 returns-clause-reads g c =
     let here = (goal.at.returns-clause-reads g c).In_ok-pass in
+    let took = c.in_ok-pass.ensures.ended in
     record {
-      probes = c.in_ok-pass.ensures.probes;
+      probes = took.probes;
       lines = λ texts indexes known are.
-          let most = c.in_ok-pass.ensures.ended.few texts indexes known are c.args.query.now.limit (few g here) in
+          let most = took.few texts indexes known are c.args.query.now.limit (few g here) in
           omega (arith, most, length-map c.args.sources.now g.S.Source.text);
       bytes = reached g here _ (grows_by _ _ _ c.in_ok-end.ensures.text);
-      held = c.in_ok-pass.ensures.held;
+      held = took.held;
     }

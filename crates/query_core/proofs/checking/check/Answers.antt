@@ -1,4 +1,4 @@
-use Rattle.query_core.proofs.Words.{◌∙◌, arith}
+use Rattle.query_core.proofs.Words.{◌∙◌, arith, sym, true≢false}
 use Rattle.query_core.proofs.CheckLemmas.{checked_more, checked_whole, checked_falls, checked_fault}
 use Rattle.query_core.proofs.checking.check.Goals as goal
 
@@ -15,7 +15,7 @@ returns-then-falls_after-clause-checked g c = λ t e.
     let next = rw c.in-Some.is at (c.in-Ok.ensures.next t (inv.text ∙ e)) in
     let long = inv.long t e in
     rw inv.offset (checked_falls t (inv.told t e) (grind arith) _ _ next
-    (rw c.deref.ensures at (c.falls_after.ensures.falls c.if-falls_after.true)))
+    (rw c.deref.ensures at (c.falls_after.ensures.0 c.if-falls_after.true)))
 
 pub lines-preserved : goal.lines-preserved
 lines-preserved g c =
@@ -33,8 +33,9 @@ lines-preserved g c =
       long = inv.long;
       told = λ t e.
           let next = rw c.in-Some.is at (ok.next t (inv.text ∙ e)) in
+          let falls = rw c.deref.ensures at c.falls_after.ensures in
           rw ((rw c.in-Some.is at ok.moves).0, c.replace.ensures.after) (checked_more t (inv.told t e) _ _ next
-          (rw c.deref.ensures at (c.falls_after.ensures.stays c.if-falls_after.false)));
+          (λ f. true≢false (sym (falls.1 f) ∙ c.if-falls_after.false)));
     }
 
 pub returns-in_default-clause-checked : goal.returns-in_default-clause-checked

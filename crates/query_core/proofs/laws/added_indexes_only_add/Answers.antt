@@ -1,4 +1,4 @@
-use Rattle.query_core.proofs.AddLemmas.{added}
+use Rattle.query_core.proofs.ComposeLemmas.{added}
 use Rattle.query_core.proofs.laws.added_indexes_only_add.Goals as goal
 
 pub returns : goal.returns

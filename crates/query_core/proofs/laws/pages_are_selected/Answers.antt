@@ -1,7 +1,6 @@
 use Rattle.query_core.proofs.Words.{[], ◌↔◌, ◌∷◌, ◌≡◌, Bool, IsIn, List, Member, None, Option, PlaceValue, Some}
 use Rattle.query_core.proofs.Words.{all_lines, arith, collection, filter, kept, matches, member_place, place_cmp}
-use Rattle.query_core.proofs.Words.{place_cmp_total, refl, rises_filter, rises_rising, rising_members, same_part}
-use Rattle.query_core.proofs.Words.{true}
+use Rattle.query_core.proofs.Words.{place_cmp_total, refl, rises_filter, rises_rising, rising_members, same_part, true}
 use Rattle.query_core.proofs.laws.pages_are_selected.Goals as goal
 
 pub returns-clause-rise : goal.returns-clause-rise

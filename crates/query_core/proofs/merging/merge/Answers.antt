@@ -1,10 +1,5 @@
 use Rattle.query_core.proofs.Words.{[], arith, wrote_nothing}
-use Rattle.merge_core.proofs.SourceLemmas.{once_none}
 use Rattle.query_core.proofs.merging.merge.Goals as goal
-
-pub returns-then-sources-gt-SOURCES_LIMIT-clause-bytes : goal.returns-then-sources-gt-SOURCES_LIMIT-clause-bytes
-returns-then-sources-gt-SOURCES_LIMIT-clause-bytes g c =
-    once_none g.S.Source c.args.sources.now
 
 pub returns-then-sources-gt-SOURCES_LIMIT-clause-lines : goal.returns-then-sources-gt-SOURCES_LIMIT-clause-lines
 returns-then-sources-gt-SOURCES_LIMIT-clause-lines g c = ([], grind arith, grind (arith, wrote_nothing))

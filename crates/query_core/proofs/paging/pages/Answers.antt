@@ -1,38 +1,16 @@
-use Rattle.query_core.proofs.Words.{[], ℕ, ◌∙◌, ◌≡◌, AllPositive, GaveInPages, Grows, List, Member, None, Option}
-use Rattle.query_core.proofs.Words.{OverIndexes, Rises, Some, WrotePagesInPart, ap, append-nil, arith, collection}
-use Rattle.query_core.proofs.Words.{err_from_is_err_and, first_size, grows_by, grows_part, map, member_place}
-use Rattle.query_core.proofs.Words.{place_cmp, place_cmp_total, refl, rises_rising, rules, sym, true, true≢false}
+use Rattle.query_core.proofs.Words.{[], ◌∙◌, ◌≡◌, AllPositive, GaveInPages, Grows, List, Member, Option, OverIndexes}
+use Rattle.query_core.proofs.Words.{Rises, Some, WrotePages, WrotePagesInPart, ℕ, ap, append-nil, arith}
+use Rattle.query_core.proofs.Words.{err_from_is_err_and, first_size, grows_by, grows_part, map, member_place, place_cmp}
+use Rattle.query_core.proofs.Words.{refl, rules, sym, true, true≢false}
 use Rattle.std.proofs.lemmas.Bool.{true_from_ne_false}
 use Rattle.query_core.proofs.PageChains.{wrote_front, wrote_none}
-use Rattle.query_core.proofs.AskedLemmas.{Writing, passed}
-use Rattle.query_core.proofs.PagesExits.{all, all_ended, any_front, at_end, stood_pages}
-use Rattle.query_core.proofs.PagesLemmas.{start_front}
-use Rattle.query_core.proofs.SizeLemmas.{all_positive}
-use Rattle.query_core.proofs.PagesReach.{pages_reached}
+use Rattle.query_core.proofs.AskedLemmas.{Writing, collection_rises, of_none, of_taken, of_whole, passed}
+use Rattle.query_core.proofs.WriterLemmas.{captures}
+use Rattle.query_core.proofs.PagesReach.{all, all_ended, any_front, at_end, stood_pages, pages_reached}
+use Rattle.query_core.proofs.PagesLemmas.{start_front, all_positive}
 use Rattle.query_core.proofs.paging.pages.Given.{Over}
-use Rattle.query_core.proofs.paging.pages.Goals.{In_err-writer, In_ok-writer, In_ok-read_lines}
+use Rattle.query_core.proofs.paging.pages.Goals.{In_err-writer, In_ok-end, In_ok-read_lines, In_ok-writer}
 use Rattle.query_core.proofs.paging.pages.Goals as goal
-
-collection_rises : (indexes : List (List Member)) → Rises member_place place_cmp (collection indexes)
-collection_rises indexes = grind (arith, rises_rising, place_cmp_total)
-
--- ---- how much was read
-
-pub returns-in_err-read_lines-clause-bytes : goal.returns-in_err-read_lines-clause-bytes
-returns-in_err-read_lines-clause-bytes g c = λ texts indexes known are.
-    c.in_err-read_lines.ensures.ended.1.before.within _ _ known are None tt
-
-pub returns-clause-bytes : goal.returns-clause-bytes
-returns-clause-bytes g c = λ texts indexes known are.
-    c.in_ok-read_lines.ensures.ended.before.within _ _ known are None tt
-
-pub returns-in_err-end-clause-bytes : goal.returns-in_err-end-clause-bytes
-returns-in_err-end-clause-bytes g c = λ texts indexes known are.
-    c.in_ok-read_lines.ensures.ended.before.within _ _ known are None tt
-
--- ---- what stands written beside it
-
--- ---- the pages of lines that rise by place, of which those that were read come first
 
 before : (g : Over) (c : In_err-writer g) → (lines : List Member) → Rises member_place place_cmp lines
     → WrotePagesInPart c.args.query.now lines c.args.sizes.now (g.O.Output.written c.args.out.now)
@@ -63,7 +41,7 @@ positive g c = all_positive c.args.sizes.now (search rules)
 -- it never has enough
 all_read : (g : Over) (c : In_ok-read_lines g) → c.in_ok-read_lines.field-0.all ≡ true
 all_read g c = true_from_ne_false c.in_ok-read_lines.field-0.all
-    (λ e. true≢false (sym (c.in_ok-read_lines.ensures.enough e) ∙ (all (positive g c) (writing g c)).more))
+    (λ e. true≢false (sym (c.in_ok-read_lines.ensures.ended.enough e) ∙ (all (positive g c) (writing g c)).more))
 
 -- ---- how far it was read for the captures that were written
 
@@ -94,91 +72,57 @@ pub returns-clause-reach : goal.returns-clause-reach
 returns-clause-reach g c =
     reached g (goal.at.returns-clause-reach g c).In_ok-read_lines _ (grows_by _ _ _ c.in_ok-end.ensures.text)
 
--- ---- lines of the sources
+-- ---- the pages
 
-pub returns-then-not-are_sizes-clause-lines : goal.returns-then-not-are_sizes-clause-lines
-returns-then-not-are_sizes-clause-lines g c = ([], grind arith, grind arith)
-
-pub returns-then-sources-gt-SOURCES_LIMIT-clause-lines : goal.returns-then-sources-gt-SOURCES_LIMIT-clause-lines
-returns-then-sources-gt-SOURCES_LIMIT-clause-lines g c = (
-  [],
-  grind arith,
-  λ sized. wrote_none c.args.query.now c.args.sizes.now (all_positive c.args.sizes.now sized) [] tt
-      (g.O.Output.written c.args.out.now),
-)
-
-pub returns-in_err-writer-clause-lines : goal.returns-in_err-writer-clause-lines
-returns-in_err-writer-clause-lines g c =
-    let b = before g (goal.at.returns-in_err-writer-clause-lines g c).In_err-writer [] tt in
-    ([], grind arith, grind (arith, err_from_is_err_and))
-
-pub returns-in_err-read_lines-clause-lines : goal.returns-in_err-read_lines-clause-lines
-returns-in_err-read_lines-clause-lines g c =
-    let broke = c.in_err-read_lines.ensures.ended.0 in
-    let b = any_front (all_positive c.args.sizes.now (search rules))
-    (begin g (goal.at.returns-in_err-read_lines-clause-lines g c).In_ok-writer) _ broke.lines
-    broke.lines [] broke.wrote broke.took.lines.rise (sym (append-nil _)) in
-    (broke.lines, broke.took.lines, grind (arith, err_from_is_err_and))
-
-pub returns-in_err-end-clause-lines : goal.returns-in_err-end-clause-lines
-returns-in_err-end-clause-lines g c =
-    let took = c.in_ok-read_lines.ensures.ended in
-    let here = (goal.at.returns-in_err-end-clause-lines g c).In_ok-read_lines in
-    let b = at_end (positive g here) (writing g here) took.lines
-    took.took.lines.rise refl _ c.in_err-end.ensures.text in
-    (took.lines, took.took.lines, grind (arith, err_from_is_err_and))
-
-pub returns-clause-lines : goal.returns-clause-lines
-returns-clause-lines g c =
-    let took = c.in_ok-read_lines.ensures.ended in
-    let here = (goal.at.returns-clause-lines g c).In_ok-read_lines in
-    (took.lines, took.took.lines, grind (arith, all_ended (positive g here) (writing g here)))
-
--- ---- the lines of indexes
+pub returns-then-not-are_sizes-clause-pages : goal.returns-then-not-are_sizes-clause-pages
+returns-then-not-are_sizes-clause-pages g c = of_none (λ all rise. grind arith)
 
 pub returns-then-sources-gt-SOURCES_LIMIT-clause-pages : goal.returns-then-sources-gt-SOURCES_LIMIT-clause-pages
-returns-then-sources-gt-SOURCES_LIMIT-clause-pages g c = grind (arith, wrote_none, all_positive, collection_rises)
+returns-then-sources-gt-SOURCES_LIMIT-clause-pages g c =
+    of_none (λ all rise sized. wrote_none c.args.query.now c.args.sizes.now (all_positive c.args.sizes.now sized) all rise _)
 
 pub returns-in_err-writer-clause-pages : goal.returns-in_err-writer-clause-pages
 returns-in_err-writer-clause-pages g c =
-    let b = before g (goal.at.returns-in_err-writer-clause-pages g c).In_err-writer in
-    grind (arith, err_from_is_err_and, collection_rises)
+    let here = (goal.at.returns-in_err-writer-clause-pages g c).In_err-writer in
+    of_none (λ all rise. let b = before g here all rise in grind (arith, err_from_is_err_and))
 
 pub returns-in_err-read_lines-clause-pages : goal.returns-in_err-read_lines-clause-pages
-returns-in_err-read_lines-clause-pages g c = λ texts indexes known are.
+returns-in_err-read_lines-clause-pages g c =
     let broke = c.in_err-read_lines.ensures.ended.0 in
-    let first = broke.took.first texts indexes known are in
-    let b = any_front (all_positive c.args.sizes.now (search rules))
-    (begin g (goal.at.returns-in_err-read_lines-clause-pages g c).In_ok-writer) _
-    (collection indexes) broke.lines first.0 broke.wrote (collection_rises indexes) first.1 in
-    grind (arith, err_from_is_err_and)
+    let here = begin g (goal.at.returns-in_err-read_lines-clause-pages g c).In_ok-writer in
+    rw (err_from_is_err_and c.from_residual-in_err-read_lines.result c.from_residual-in_err-read_lines.ensures.1).1
+    (of_taken broke.took (λ all rest rise first sized.
+    any_front (all_positive c.args.sizes.now sized) here _ all broke.lines rest broke.wrote rise first))
 
 pub returns-in_err-end-clause-pages : goal.returns-in_err-end-clause-pages
-returns-in_err-end-clause-pages g c = λ texts indexes known are.
+returns-in_err-end-clause-pages g c =
     let here = (goal.at.returns-in_err-end-clause-pages g c).In_ok-read_lines in
-    let b = at_end (positive g here) (writing g here) (collection indexes) (collection_rises indexes)
-    (c.in_ok-read_lines.ensures.ended.whole (all_read g here) texts indexes known are) _
-    c.in_err-end.ensures.text in
-    grind (arith, err_from_is_err_and)
+    rw (err_from_is_err_and c.from_residual-in_err-end.result c.from_residual-in_err-end.ensures.1).1
+    (of_whole c.in_ok-read_lines.ensures.ended (λ all rest rise first whole sized.
+    at_end (positive g here) (writing g here) all rise (whole (all_read g here)) _ c.in_err-end.ensures.text))
+
+-- the pages of lines of which those that were taken have all captures
+pages_of : (g : Over) (c : In_ok-end g) (all : List Member) → Rises member_place place_cmp all
+    → captures c.args.query.now all ≡ captures c.args.query.now c.in_ok-read_lines.ensures.ended.lines
+    → WrotePages c.args.query.now all c.args.sizes.now (g.O.Output.written c.args.out.now)
+    (g.O.Output.written c.end.new.out) c.in_ok-end.end.count
+pages_of g c all rise whole =
+    let here = (goal.at.In_ok-end g c).In_ok-read_lines in
+    all_ended (positive g here) (writing g here) all rise whole _ _ c.in_ok-end.ensures.text c.in_ok-end.ensures.end.count
 
 pub returns-clause-pages : goal.returns-clause-pages
-returns-clause-pages g c = λ texts indexes known are.
-    let here = (goal.at.returns-clause-pages g c).In_ok-read_lines in
-    let all = c.in_ok-read_lines.ensures.ended.whole (all_read g here) texts indexes known are in
-    grind (arith, all_ended (positive g here) (writing g here) (collection indexes) (collection_rises indexes))
+returns-clause-pages g c =
+    let here = goal.at.returns-clause-pages g c in
+    of_whole c.in_ok-read_lines.ensures.ended
+    (λ all rest rise first whole. pages_of g here.In_ok-end all rise (whole (all_read g here.In_ok-read_lines)))
 
 pub returns-clause-parts : goal.returns-clause-parts
 returns-clause-parts g c = λ texts known.
-    let here = (goal.at.returns-clause-parts g c).In_ok-read_lines in
-    let whole = all_read g here in
+    let here = goal.at.returns-clause-parts g c in
+    let whole = all_read g here.In_ok-read_lines in
     let read = c.in_ok-read_lines.ensures.ended.parts texts known in
-    let all = read.ended whole in
     record {
       parts = read.parts;
       each = read.each true (λ e. whole);
-      wrote = grind (
-        arith,
-        all_ended (positive g here) (writing g here) (collection read.parts)
-            (collection_rises read.parts),
-      );
+      wrote = pages_of g here.In_ok-end _ (collection_rises read.parts) (read.ended whole);
     }

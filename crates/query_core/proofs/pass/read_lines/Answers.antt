@@ -1,33 +1,14 @@
-use Rattle.query_core.proofs.Words.{[], ◌++◌, ◌∙◌, ◌≡◌, Bool, KeepsSources, List, Member, ReadFor, Some, all_kept, ap}
-use Rattle.query_core.proofs.Words.{append-nil, arith, err_from_is_err_and, false, inputs, grows_not, inl, length-map}
-use Rattle.query_core.proofs.Words.{map, refl, sym, true}
-use Rattle.query_core.proofs.AskedLemmas.{captures}
-use Rattle.query_core.proofs.CaptureLemmas.{captures_append}
+use Rattle.query_core.proofs.Words.{[], ◌++◌, ◌∙◌, ◌≡◌, Bool, List, Member, ReadFor, Some, ap, append-nil, arith}
+use Rattle.query_core.proofs.Words.{err_from_is_err_and, false, inputs, grows_not, inl, length-map, map, refl, sym, true}
+use Rattle.query_core.proofs.WriterLemmas.{captures, captures_append}
 use Rattle.query_core.proofs.PageOfIndexes.{Opened, reading, told, wanted_whole}
 use Rattle.query_core.proofs.ReachLemmas.{cut_all, cut_before, cut_last, gave_upto, gave_within, lines_within, of_parts}
 use Rattle.query_core.proofs.ReachLemmas.{took, within_opening}
 use Rattle.merge_core.proofs.OpenLemmas.{came_of, cuts_of}
 use Rattle.query_core.specs.Passes.{WantedMore}
 use Rattle.query_core.proofs.pass.read_lines.Given.{Over}
-use Rattle.query_core.proofs.pass.read_lines.Goals.{After-merge, In_ok-opened}
+use Rattle.query_core.proofs.pass.read_lines.Goals.{In_ok-opened}
 use Rattle.query_core.proofs.pass.read_lines.Goals as goal
-
--- ---- what is kept, and failures
-
-kept : (g : Over) (c : After-merge g)
-    → KeepsSources g.S.Source c.args.sources.now c.merge.new.sources
-kept g c = grind (arith, all_kept)
-
-pub returns-in_err-all-clause-kept : goal.returns-in_err-all-clause-kept
-returns-in_err-all-clause-kept g c = kept g (goal.at.returns-in_err-all-clause-kept g c).After-merge
-
-pub returns-clause-kept : goal.returns-clause-kept
-returns-clause-kept g c = kept g (goal.at.returns-clause-kept g c).After-merge
-
-pub returns-clause-held : goal.returns-clause-held
-returns-clause-held g c = λ texts indexes known are most share.
-    let h = c.merge.ensures.most_lines texts indexes (rw c.open_at.ensures.sources.0.0 known) are most share in
-    grind (arith, length-map)
 
 -- ---- sources that couldn't be opened
 
@@ -140,4 +121,9 @@ returns-clause-ended g c =
       split = wanted.2;
       before = wanted.3;
       few = wanted.4;
+      enough = grind arith;
+      probes = grind arith;
+      held = λ texts indexes known are most share.
+          let h = c.merge.ensures.most_lines texts indexes (rw c.open_at.ensures.sources.0.0 known) are most share in
+          grind (arith, length-map);
     }

@@ -1,6 +1,6 @@
 use Rattle.query_core.proofs.Words.{arith, map}
-use Rattle.query_core.specs.declared.fault.AnswerFault.TheVariants as fault
 use Rattle.query_core.proofs.SoundIndexes.{no_line_at_fault}
+use Rattle.query_core.specs.declared.fault.AnswerFault.TheVariants as fault
 use Rattle.query_core.proofs.serving.reply_to_query.Goals as goal
 
 pub returns-in-Err-BadLine-clause-text : goal.returns-in-Err-BadLine-clause-text

@@ -2,8 +2,8 @@ use Rattle.query_core.proofs.Words.{[], ◌+◌, QUERY_LIMIT, TakesLine, arith, 
 use Rattle.query_core.proofs.Words.{true}
 use Rattle.devices.proofs.Takings.{taken-join}
 use Rattle.query_core.proofs.ReplyBytes.{spent_none, spent_stop, spent_more, spent_within}
-use Rattle.query_core.proofs.ReplyLemmas.{input_stops, line_more, line_none, line_within, one_reply}
-use Rattle.query_core.proofs.ReplyLemmas.{one_reply_part, replied_front, replied_none, replied_taken}
+use Rattle.query_core.proofs.ReplyLemmas.{input_stops, line_more, line_none, line_within, one_reply, one_reply_part}
+use Rattle.query_core.proofs.ReplyLemmas.{replied_front, replied_none, replied_taken}
 use Rattle.query_core.proofs.serving.serve.Given.{Over}
 use Rattle.query_core.proofs.serving.serve.Goals.{After-reply_and_mark}
 use Rattle.query_core.proofs.serving.serve.Goals as goal
@@ -47,14 +47,14 @@ returns-in_err-reply_and_mark-clause-part g c = λ texts indexes known are.
     let inv = c.loop-lines.invariant in
     let there = takes g (goal.at.returns-in_err-reply_and_mark-clause-part g c).After-reply_and_mark in
     one_reply_part _ _ _ _ _ (line_within (inv.told texts indexes known are).so_far _ _ _ there
-    (rw c.line.ensures at (c.in_err-reply_and_mark.ensures.text texts indexes (rw inv.kept.0 known) are)))
+    (rw c.line.ensures at (c.in_err-reply_and_mark.ensures.reply.over texts indexes (rw inv.kept.0 known) are)))
 
 pub returns-in_err-reply_and_mark-clause-lines : goal.returns-in_err-reply_and_mark-clause-lines
 returns-in_err-reply_and_mark-clause-lines g c =
     let inv = c.loop-lines.invariant in
     let there = takes g (goal.at.returns-in_err-reply_and_mark-clause-lines g c).After-reply_and_mark in
     let first = line_within inv.any _ _ _ there
-    (rw (c.line.ensures, inv.kept.0) at c.in_err-reply_and_mark.ensures.lines) in
+    (rw (c.line.ensures, inv.kept.0) at c.in_err-reply_and_mark.ensures.reply.any) in
     grind (arith, err_from_is_err_and)
 
 pub returns-in_err-reply_and_mark-clause-bytes : goal.returns-in_err-reply_and_mark-clause-bytes
@@ -64,7 +64,7 @@ returns-in_err-reply_and_mark-clause-bytes g c = λ texts indexes known are.
     let there = takes g (goal.at.returns-in_err-reply_and_mark-clause-bytes g c).After-reply_and_mark in
     spent_within (inv.told texts indexes known are) _ _ _ c.reply_and_mark.new.sources there
     inv.kept.1 (rw c.line.ensures at (marked.bytes texts indexes (rw inv.kept.0 known) are))
-    (rw c.line.ensures at (marked.text texts indexes (rw inv.kept.0 known) are))
+    (rw c.line.ensures at (marked.reply.over texts indexes (rw inv.kept.0 known) are))
 
 -- ---- a reply more
 
@@ -99,10 +99,10 @@ loop-lines-preserved g c =
       taken = grind (arith, taken-join);
       within = read.within;
       fits = grind arith;
-      any = line_more inv.any _ _ _ there (rw (c.line.ensures, inv.kept.0) at marked.lines);
+      any = line_more inv.any _ _ _ there (rw (c.line.ensures, inv.kept.0) at marked.reply.any);
       told = λ texts indexes known are. spent_more (inv.told texts indexes known are) _ _ _ _ there
           inv.kept.1 (rw c.line.ensures at (marked.bytes texts indexes (rw inv.kept.0 known) are))
-          (rw c.line.ensures at (marked.text texts indexes (rw inv.kept.0 known) are));
+          (rw c.line.ensures at (marked.reply.over texts indexes (rw inv.kept.0 known) are));
     }
 
 -- ---- no line is left

@@ -14,7 +14,7 @@ returns-in_err-write_pages-clause-part g c =
     let r = c.from_residual-in_err-write_pages in
     let p = err_from_is_err_and r.result r.ensures.1 in
     rw (p.1, p.2) (λ late. scanned_part {query = c.in_ok-query.query} (grind (arith, length-map))
-    (rw (← c.deref.ensures.value) at c.in_ok-indexes.ensures.indexes) c.in_err-write_pages.ensures.pages)
+    (rw (← c.deref.ensures.value) at c.in_ok-indexes.ensures.indexes) _ c.in_err-write_pages.ensures.pages)
 
 pub returns-in_err-indexes-clause-fault : goal.returns-in_err-indexes-clause-fault
 returns-in_err-indexes-clause-fault g c = grind (arith, length-map, err_from_is_err_and)

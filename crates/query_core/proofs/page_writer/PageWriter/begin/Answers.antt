@@ -1,4 +1,4 @@
-use Rattle.query_core.proofs.Words.{◌∙◌, ap, arith, form_of, refl, sym, wrote_nothing}
+use Rattle.query_core.proofs.Words.{◌∙◌, ap, form_of, refl, sym}
 use Rattle.query_core.proofs.PagesLemmas.{none_stand}
 use Rattle.query_core.proofs.WriterLemmas.{nothing_taken}
 use Rattle.query_core.proofs.page_writer.PageWriter.begin.Goals as goal
@@ -22,6 +22,3 @@ returns-clause-wrote g c = λ sized.
         stands = none_stand _ _ _ _ positive (rw (← form) c.in_ok-put_start.ensures.text);
       };
     }
-
-pub returns-in_err-selection-clause-begins : goal.returns-in_err-selection-clause-begins
-returns-in_err-selection-clause-begins g c = grind (arith, wrote_nothing)

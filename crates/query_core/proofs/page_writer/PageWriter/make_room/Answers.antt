@@ -1,16 +1,41 @@
-use Rattle.query_core.proofs.Words.{arith, err_from_is_err_and, rules}
-use Rattle.query_core.proofs.PagesLemmas.{turned_stands, turning_front}
-use Rattle.query_core.proofs.SizeLemmas.{first_positive, later_positive, size_full, size_room}
+use Rattle.query_core.proofs.Words.{Appends-join, arith, err_from_is_err_and, form_of, grows_by, grows_on, grows_part}
+use Rattle.query_core.proofs.Words.{page_end, page_start, prefix_after, prefix_longer, rules, shown_key, true}
+use Rattle.query_core.proofs.PagesLemmas.{first_positive, later_positive, size_full, size_room, turned_stands}
+use Rattle.query_core.proofs.PagesLemmas.{turning_front}
 use Rattle.query_core.proofs.page_writer.PageWriter.make_room.Goals as goal
-
-pub returns-in_ok-turn-clause-pages : goal.returns-in_ok-turn-clause-pages
-returns-in_ok-turn-clause-pages g c = grind (arith, size_full, turned_stands, first_positive, later_positive)
 
 pub returns-else-is_full-clause-pages : goal.returns-else-is_full-clause-pages
 returns-else-is_full-clause-pages g c = λ sizes captures start s.
-    (s, size_room _ _ _ s.size (search rules) (grind arith))
+    record { pages = s; room = size_room _ _ _ s.size (search rules) (grind arith) }
 
-pub returns-in_err-turn-clause-front : goal.returns-in_err-turn-clause-front
-returns-in_err-turn-clause-front g c = λ sizes captures start m s.
+-- ---- the page is full
+
+pub returns-in_ok-put_start-clause-pages : goal.returns-in_ok-put_start-clause-pages
+returns-in_ok-put_start-clause-pages g c = λ sizes captures start s.
+    let text = Appends-join _ _ _ _ _ c.in_ok-put_end.ensures.text c.in_ok-put_start.ensures.text in
+    grind (arith, size_full, turned_stands, first_positive, later_positive)
+
+pub returns-in_ok-put_start-clause-grows : goal.returns-in_ok-put_start-clause-grows
+returns-in_ok-put_start-clause-grows g c =
+    grows_on _ _ _ (grows_by _ _ _ c.in_ok-put_end.ensures.text) (grows_by _ _ _ c.in_ok-put_start.ensures.text)
+
+pub returns-in_err-put_end-clause-pages : goal.returns-in_err-put_end-clause-pages
+returns-in_err-put_end-clause-pages g c = λ sizes captures start s.
+    let w = c.args.self.now in
+    let form = form_of w.selection.query.now in
     rw (err_from_is_err_and c.from_residual.result c.from_residual.ensures.1).1
-    (turning_front _ _ _ _ _ _ _ _ _ s.stand (size_full _ _ _ s.size (search rules)) m _ c.in_err-turn.ensures.text)
+    (λ next. turning_front s.stand (size_full _ _ _ s.size (search rules)) next _
+    (prefix_longer _ _ (page_end form (shown_key true w.last)) (page_start form) (search rules)))
+
+pub returns-in_err-put_start-clause-pages : goal.returns-in_err-put_start-clause-pages
+returns-in_err-put_start-clause-pages g c = λ sizes captures start s.
+    let w = c.args.self.now in
+    let form = form_of w.selection.query.now in
+    rw (err_from_is_err_and c.from_residual-in_err-put_start.result c.from_residual-in_err-put_start.ensures.1).1
+    (λ next. turning_front s.stand (size_full _ _ _ s.size (search rules)) next _
+    (prefix_after _ (g.O.Output.written c.put_end.new.out) _ (page_end form (shown_key true w.last)) (page_start form)
+    (search rules) (search rules)))
+
+pub returns-in_err-put_start-clause-grows : goal.returns-in_err-put_start-clause-grows
+returns-in_err-put_start-clause-grows g c =
+    grows_on _ _ _ (grows_by _ _ _ c.in_ok-put_end.ensures.text) (grows_part _ _ _ c.in_err-put_start.ensures.text)

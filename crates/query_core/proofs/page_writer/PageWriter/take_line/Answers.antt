@@ -1,10 +1,12 @@
-use Rattle.query_core.proofs.Words.{◌∙◌, ◌≡◌, ap, append-nil, arith, err_from_is_err_and, from_view, grows_by}
-use Rattle.query_core.proofs.Words.{grows_on, grows_part, rules, sym, true≢false}
+use Rattle.query_core.proofs.Words.{[], ◌∙◌, ◌≡◌, FitsWord, ap, append-nil, arith, err_from_is_err_and, false}
+use Rattle.query_core.proofs.Words.{from_view, grows_by, grows_on, grows_part, is_full, rules, sym, true≢false}
+use Rattle.std.proofs.lemmas.List.{nil_from_length}
 use Rattle.query_core.specs.WriterView.{captures_of}
-use Rattle.query_core.proofs.CaptureLemmas.{captures_append}
-use Rattle.query_core.proofs.PagesLemmas.{stands_front, front_more, capture_stands, capture_front}
-use Rattle.query_core.proofs.SizeLemmas.{size_fits, size_last}
-use Rattle.query_core.proofs.WriterLemmas.{after_end, at_limit, written_one, broke_row, broke_longer, whole_prefix}
+use Rattle.query_core.proofs.WriterLemmas.{captures_append, after_end, at_limit, written_one, broke_row, broke_longer}
+use Rattle.query_core.proofs.WriterLemmas.{whole_prefix}
+use Rattle.query_core.proofs.PagesLemmas.{stands_front, front_more, capture_stands, capture_front, size_fits, size_last}
+use Rattle.query_core.proofs.page_writer.PageWriter.take_line.Given.{Over}
+use Rattle.query_core.proofs.page_writer.PageWriter.take_line.Goals.{After-make_room}
 use Rattle.query_core.proofs.page_writer.PageWriter.take_line.Goals as goal
 
 -- ---- nothing more is wanted
@@ -34,47 +36,52 @@ returns-then-not-branch-clause-wrote g c = λ first taken start s.
       one = λ none.
           let one = s.one none in
           let selects = one.selects c.if-self.false in
-          let capture = takes.capture taken selects in
+          let capture = (takes.took taken selects).captures in
           record {
             limit = one.limit;
             sizes = one.sizes;
             stands = grind (arith, append-nil);
-            selects = λ e. takes.selects taken selects;
+            selects = λ e. (takes.took taken selects).selects;
           };
       all = λ positive.
           let all = s.all positive in
           record {
             more = all.more;
-            selects = takes.selects taken all.selects;
+            selects = (takes.took taken all.selects).selects;
             size = all.size;
-            stands = rw (same.0, same.1, takes.capture taken all.selects, c.if-not-branch.true, append-nil) all.stands;
+            stands = rw (same.0, same.1, (takes.took taken all.selects).captures, c.if-not-branch.true, append-nil) all.stands;
           };
     }
 
 -- ---- a capture follows the page, which is the only one
 
-pub returns-then-ends_here-clause-wrote : goal.returns-then-ends_here-clause-wrote
-returns-then-ends_here-clause-wrote g c = λ first taken start s.
+pub returns-then-is_full-clause-wrote : goal.returns-then-is_full-clause-wrote
+returns-then-is_full-clause-wrote g c = λ first taken start s.
     let same = c.takes.ensures.same in
     let takes = c.in_ok-takes.ensures in
-    let none = c.ends_here.ensures.only (search rules) in
+    let none = nil_from_length c.args.self.now.sizes.now (search rules) in
     record {
       same = (same.0 ∙ s.same.0, same.1 ∙ s.same.1);
       one = λ none.
           let one = s.one none in
           let selects = one.selects c.if-self.false in
-          let capture = takes.capture taken selects in
-          let stood = at_limit _ _ c.args.line.now c.if-self.false (c.ends_here.ensures.full (search rules)) one.stands in
+          let capture = (takes.took taken selects).captures in
+          let stood = at_limit _ _ c.args.line.now c.if-self.false (search rules) one.stands in
           record {
             limit = one.limit;
             sizes = one.sizes;
             stands = grind arith;
-            selects = λ e. takes.selects taken selects;
+            selects = λ e. (takes.took taken selects).selects;
           };
-      all = λ positive. absurd (rw none at (s.all positive).stands.0.positive);
+      all = λ positive. absurd (rw none at (s.all positive).stands.0.written.positive);
     }
 
 -- ---- a capture is written
+
+-- a page that is the only one has room
+no_end : (g : Over) (c : After-make_room g) → c.args.self.now.sizes.now ≡ []
+    → (is_full c.args.self.now.limit c.args.self.now.given ≡ false) × FitsWord c.args.self.now.limit
+no_end g c none = grind arith
 
 pub returns-clause-wrote : goal.returns-clause-wrote
 returns-clause-wrote g c = λ first taken start s.
@@ -89,8 +96,8 @@ returns-clause-wrote g c = λ first taken start s.
       same = rw selection (same.0 ∙ s.same.0, same.1 ∙ s.same.1);
       one = λ none.
           let one = s.one none in
-          let roomy = c.ends_here.ensures.room (search rules) one.sizes in
-          let kept = room.room roomy in
+          let roomy = no_end g (goal.at.returns-clause-wrote g c).After-make_room one.sizes in
+          let kept = room.room roomy.0 in
           let selects = one.selects c.if-self.false in
           record {
             limit = page.limit ∙ ap (λ w. w.limit) kept.0 ∙ one.limit;
@@ -102,22 +109,22 @@ returns-clause-wrote g c = λ first taken start s.
               kept.0,
               same.0,
               same.1,
-              takes.capture taken selects,
+              (takes.took taken selects).captures,
               c.if-not-branch.false,
-            ) (written_one _ _ _ _ _ _ c.if-self.false roomy c.make_room.ensures.fits (rw kept.0 at put.given)
-                (rw kept.0 at put.last) (rw (kept.0, kept.1, same.0) at put.text) one.stands);
-            selects = λ e. rw selection (takes.selects taken selects);
+            ) (written_one _ _ _ _ _ _ c.if-self.false roomy.0 roomy.1 (rw kept.0 at put.gave.given)
+                (rw kept.0 at put.gave.last) (rw (kept.0, kept.1, same.0) at put.text) one.stands);
+            selects = λ e. rw selection ((takes.took taken selects).selects);
           };
       all = λ positive.
           let all = s.all positive in
           let pages = room.pages first.sizes.now (captures_of c.args.self.now.selection taken) start
           (record { size = all.size; stand = rw same.0 all.stands.0 }) in
-          let size = pages.0.size in
-          let stands = capture_stands _ _ _ _ _ _ _ _ _ pages.0.stand c.args.line.now _ _ _ pages.1
-          (size_fits _ _ size put.fits) put.text put.given (size_last _ _ _ _ _ _ size put.last) in
+          let size = pages.pages.size in
+          let stands = capture_stands pages.pages.stand c.args.line.now _ _ _ pages.room
+          (size_fits _ _ size put.gave.fits) put.text put.gave.given (size_last _ _ _ _ _ _ size put.gave.last) in
           record {
             more = page.lines.more ∙ c.make_room.ensures.lines.more ∙ all.more;
-            selects = rw selection (takes.selects taken all.selects);
+            selects = rw selection ((takes.took taken all.selects).selects);
             size = rw (page.limit, page.sizes) size;
             stands = rw (
               selection,
@@ -125,7 +132,7 @@ returns-clause-wrote g c = λ first taken start s.
               page.count,
               same.0,
               same.1,
-              takes.capture taken all.selects,
+              (takes.took taken all.selects).captures,
               c.if-not-branch.false,
             ) (rw (c.make_room.ensures.lines.selection, same.0) at stands);
           };
@@ -145,18 +152,18 @@ returns-in_err-takes-clause-wrote g c = λ first taken start s.
           _ start _ (whole_prefix _ _ _ one.stands.text));
       all = λ positive. let all = s.all positive in
           rw (← s.same.0, ← s.same.1) (front_more w.query.now (from_view w.from) first.sizes.now taken _ start _
-          (stands_front _ _ _ _ _ _ _ _ _ all.stands.0 all.stands.1));
+          (stands_front all.stands.0 all.stands.1));
     })
 
 pub returns-in_err-make_room-clause-wrote : goal.returns-in_err-make_room-clause-wrote
 returns-in_err-make_room-clause-wrote g c = λ first taken start s.
     let same = c.takes.ensures.same in
     rw (err_from_is_err_and c.from_residual-in_err-make_room.result c.from_residual-in_err-make_room.ensures.1).1 (record {
-      one = λ none. absurd (c.in_err-make_room.ensures.room (c.ends_here.ensures.room (search rules) (s.one none).sizes));
+      one = λ none. absurd (c.in_err-make_room.ensures.room (no_end g (goal.at.returns-in_err-make_room-clause-wrote g c).After-make_room (s.one none).sizes).0);
       all = λ positive. let all = s.all positive in
-          rw (← s.same.0, ← s.same.1, c.in_ok-takes.ensures.capture taken all.selects, c.if-not-branch.false, ← same.0)
-          (c.in_err-make_room.ensures.front first.sizes.now _ start c.args.line.now
-          (record { size = all.size; stand = rw same.0 all.stands.0 }));
+          rw (← s.same.0, ← s.same.1, (c.in_ok-takes.ensures.took taken all.selects).captures, c.if-not-branch.false, ← same.0)
+          (c.in_err-make_room.ensures.pages first.sizes.now _ start
+          (record { size = all.size; stand = rw same.0 all.stands.0 }) c.args.line.now);
     })
 
 pub returns-in_err-put_capture-clause-wrote : goal.returns-in_err-put_capture-clause-wrote
@@ -169,23 +176,23 @@ returns-in_err-put_capture-clause-wrote g c = λ first taken start s.
     (record {
       one = λ none.
           let one = s.one none in
-          let roomy = c.ends_here.ensures.room (search rules) one.sizes in
-          let kept = room.room roomy in
+          let roomy = no_end g (goal.at.returns-in_err-put_capture-clause-wrote g c).After-make_room one.sizes in
+          let kept = room.room roomy.0 in
           rw (
             ← s.same.0,
             ← s.same.1,
             ← one.limit,
-            takes.capture taken (one.selects c.if-self.false),
+            (takes.took taken (one.selects c.if-self.false)).captures,
             c.if-not-branch.false,
-          ) (broke_row _ _ _ _ c.if-self.false roomy c.make_room.ensures.fits
+          ) (broke_row _ _ _ _ c.if-self.false roomy.0 roomy.1
           (rw (kept.0, kept.1, same.0) at part) one.stands);
       all = λ positive.
           let all = s.all positive in
           let pages = room.pages first.sizes.now (captures_of c.args.self.now.selection taken) start
           (record { size = all.size; stand = rw same.0 all.stands.0 }) in
-          rw (← s.same.0, ← s.same.1, takes.capture taken all.selects, c.if-not-branch.false)
-          (rw (c.make_room.ensures.lines.selection, same.0) at (capture_front _ _ _ _ _ _ _ _ _ pages.0.stand
-          c.args.line.now _ pages.1 part));
+          rw (← s.same.0, ← s.same.1, (takes.took taken all.selects).captures, c.if-not-branch.false)
+          (rw (c.make_room.ensures.lines.selection, same.0) at (capture_front pages.pages.stand
+          c.args.line.now _ pages.room part));
     })
 
 pub returns-in_err-put_capture-clause-grows : goal.returns-in_err-put_capture-clause-grows

@@ -1,8 +1,7 @@
 use Rattle.query_core.proofs.Words.{◌≡◌, append-nil, arith, err_from_is_err_and, from_view, grows_not, grows_on, take}
 use Rattle.query_core.proofs.Words.{take_all}
 use Rattle.query_core.proofs.PagesLemmas.{front_more}
-use Rattle.query_core.proofs.TakenLines.{one_more, parted}
-use Rattle.query_core.proofs.WriterLemmas.{broke_longer}
+use Rattle.query_core.proofs.WriterLemmas.{one_more, parted, broke_longer}
 use Rattle.query_core.proofs.page_writer.PageWriterSink.take.Goals as goal
 
 pub loop-line-init : goal.loop-line-init
