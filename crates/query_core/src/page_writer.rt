@@ -1,5 +1,5 @@
 //! The writing of pages.
-ghost use Rattle.std.specs.Prelude.{◌≡◌, ◌++◌, ◌∷◌, [], List, Option, None, Some, ℕ, OnOk, IfOk, OnErr, MatchResult, IfSome, option_map, string_bytes};
+ghost use Rattle.std.specs.Prelude.{◌≡◌, ◌++◌, ◌∷◌, [], List, Option, None, Some, ℕ, OnOk, IfOk, MatchResult, IfSome, option_map, string_bytes};
 ghost use Rattle.cdxj_core.specs.Members.{Member, member_place};
 ghost use Rattle.page_core.specs.FormView.{form_view};
 ghost use Rattle.devices.specs.WriteFaults.{CountsWriteFault};

@@ -1,5 +1,4 @@
 //! The texts of replies that aren't pages.
-ghost use Rattle.std.specs.Prelude.{◌≡◌, []};
 ghost use Rattle.devices.specs.Writing.{WritesText};
 ghost use Rattle.query_core.specs.Replies.{refusal_text, reply_fault_line};
 ghost use Rattle.query_core.specs.ReplyFaults.{CountsReply};

@@ -1,5 +1,5 @@
 //! Which of the lines of a merge are captures of a query.
-ghost use Rattle.std.specs.Prelude.{◌≡◌, ◌++◌, ◌∷◌, [], List, Option, IfOk, OnOk, cond};
+ghost use Rattle.std.specs.Prelude.{◌≡◌, [], List, Option, IfOk, OnOk};
 ghost use Rattle.cdxj_places.specs.Places.{place_cmp};
 ghost use Rattle.cdxj_core.specs.Members.{Member, member_place};
 ghost use Rattle.page_core.specs.Pages.{is_above};
