@@ -22,7 +22,7 @@ use Rattle.merge_core.proofs.StateLemmas.{any_of, idle, long_of, inside_sources,
 use Rattle.merge_core.proofs.StateLemmas.{popped_inputs, popped, popped_due, zip_put}
 use Rattle.cdxj_places.specs.Rising.{Rises}
 use Rattle.cdxj_places.proofs.RisingLaws.{rises_rising}
-use Rattle.merge_core.specs.Merging.{MergeStand, StillWants, BrokenMerge, HaltedGroup, HaltedMerge}
+use Rattle.merge_core.specs.Merging.{MergePoint, StillWants, BrokenMerge, HaltedGroup, HaltedMerge}
 use Rattle.merge_core.specs.declared.sink.Sink.{Ghosts as SinkGhosts}
 use Rattle.merge_core.proofs.PairOrder.{from_not_below, below_then, then_below, below_upto, same_upto, same_from}
 use Rattle.merge_core.specs.declared.fault.MergeFault.TheVariants as fault
@@ -240,25 +240,25 @@ reached_same m' is was =
 
 -- these lines were passed on, when a fault came
 module _ {K S : Type 0} {consumer : SinkGhosts K} {past : List ℕ → Bool} {device : Ghosts S}
-    {before stood : MergeStand S K} (so_far : SoFar consumer past device before stood) where
-  pub broken_there : (written : Option (List ℕ)) → written ≡ stood.written
+    {before point : MergePoint S K} (so_far : SoFar consumer past device before point) where
+  pub broken_there : (written : Option (List ℕ)) → written ≡ point.written
       → BrokenMerge consumer past device before written
   broken_there written same = record {
-    sources = stood.sources;
-    merge = stood.merge;
+    sources = point.sources;
+    merge = point.merge;
     bound = so_far.bound;
     taken = so_far.taken;
     reached = so_far.reached;
-    wrote = λ begin start w. inl (stood.sink, rw same (so_far.came begin start w));
+    wrote = λ begin start w. inl (point.sink, rw same (so_far.came begin start w));
   }
 
-  pub halted_there : (now : MergeStand S K) → StillWants consumer past device before stood.sink
-      → HaltedGroup past device.text stood.sources stood.merge now.sources now.merge
-      → Grows stood.written now.written → HaltedMerge consumer past device before now
+  pub halted_there : (now : MergePoint S K) → StillWants consumer past device before point.sink
+      → HaltedGroup past device.text point.sources point.merge now.sources now.merge
+      → Grows point.written now.written → HaltedMerge consumer past device before now
   halted_there now more halted grows =
       let reached = so_far.reached in
       let above = halted.above so_far.bound reached.above in record {
-        stood = stood;
+        point = point;
         so_far = so_far;
         more = more;
         grows = grows;

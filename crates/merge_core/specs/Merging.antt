@@ -42,21 +42,21 @@ EndedGroup past device olds old result news new rest =
     MatchResult result (λ first. IsGroup past device olds old news new (boxed_line first) rest)
     (λ _. HaltedGroup past device.text olds old news new)
 
--- where a merge stands: its sources, what it knows of them, its sink, and what was written
-pub record MergeStand (S K : Type 0) : Type 0 where
+-- a point of a merge: its sources, what it knows of them, its sink, and what was written
+pub record MergePoint (S K : Type 0) : Type 0 where
   pub sources : List S
   pub merge : MergeState
   pub sink : K
   pub written : Option (List ℕ)
 
-abbrev pub stand_of : {S K : Type 0} → List S → MergeState → K → Option (List ℕ) → MergeStand S K
-stand_of ss m sink written = record { sources = ss; merge = m; sink = sink; written = written }
+abbrev pub point_of : {S K : Type 0} → List S → MergeState → K → Option (List ℕ) → MergePoint S K
+point_of ss m sink written = record { sources = ss; merge = m; sink = sink; written = written }
 
--- What a sink says of itself, and what sources say; where the merge stood before
-module _ {K S : Type 0} (consumer : SinkGhosts K) (past : List ℕ → Bool) (device : Ghosts S) (before : MergeStand S K)
+-- What a sink says of itself, and what sources say; the point before
+module _ {K S : Type 0} (consumer : SinkGhosts K) (past : List ℕ → Bool) (device : Ghosts S) (before : MergePoint S K)
   where
-    -- these lines were passed on when the merge stood here
-    pub record SoFar (now : MergeStand S K) : Type 0 where
+    -- these lines were passed on when the merge was at this point
+    pub record SoFar (now : MergePoint S K) : Type 0 where
       pub bound : Option Pair
       pub taken : List Member
       pub reached : Reached past device before.sources before.merge now.sources now.merge bound taken
@@ -81,7 +81,7 @@ module _ {K S : Type 0} (consumer : SinkGhosts K) (past : List ℕ → Bool) (de
       pub came : CameTo consumer before.sink before.written state middle earlier
 
     -- all lines were passed on and none waits, or the sink has enough, which it got with the last lines
-    pub record Passed (now : MergeStand S K) (all : Bool) : Type 0 where
+    pub record Passed (now : MergePoint S K) (all : Bool) : Type 0 where
       pub so_far : SoFar now
       pub last : all ≡ false → LastGroup so_far.bound so_far.taken
       pub ended : all ≡ true → now.merge.queue ≡ []
@@ -99,17 +99,17 @@ module _ {K S : Type 0} (consumer : SinkGhosts K) (past : List ℕ → Bool) (de
           → ((state : K) × consumer.Wrote begin state taken start written) ⊎ consumer.Broke begin taken start written
 
     -- lines were passed on before a fault, and those of the next pair were being read
-    pub record HaltedMerge (now : MergeStand S K) : Type 0 where
-      pub stood : MergeStand S K
-      pub so_far : SoFar stood
-      pub more : StillWants stood.sink
-      pub grows : Grows stood.written now.written
+    pub record HaltedMerge (now : MergePoint S K) : Type 0 where
+      pub point : MergePoint S K
+      pub so_far : SoFar point
+      pub more : StillWants point.sink
+      pub grows : Grows point.written now.written
       pub next : Pair
       pub above : IsAbove so_far.bound next
-      pub least : NoneBelow next stood.merge.queue
+      pub least : NoneBelow next point.merge.queue
       pub read : AreTold device.text before.sources
           → AreReadTo past device.text (Some next) now.sources (inputs now.merge)
 
     -- a merge ended, or broke off at a fault
-    abbrev pub EndedMerge : {E : Type 0} → Result Bool E → MergeStand S K → Type 0
+    abbrev pub EndedMerge : {E : Type 0} → Result Bool E → MergePoint S K → Type 0
     EndedMerge result now = MatchResult result (Passed now) (λ _. BrokenMerge now.written × HaltedMerge now)

@@ -4,7 +4,7 @@ ghost use Rattle.merge_core.specs.Counts.{HoldsFew};
 ghost use Rattle.merge_core.specs.Failures.{TellsMergeFault};
 ghost use Rattle.merge_core.specs.MergeInputs.{AllMoved, Ready, inputs};
 ghost use Rattle.merge_core.specs.Gathering.{all_done};
-ghost use Rattle.merge_core.specs.Merging.{EndedMerge, stand_of};
+ghost use Rattle.merge_core.specs.Merging.{EndedMerge, point_of};
 
 use crate::fault::MergeFault;
 use crate::range::Range;
@@ -32,8 +32,8 @@ pub fn merge<S: Source, R: Range, K: Sink, O: Output>(
         out.old out.new }
     ensures most_lines { HoldsFew S.Source sources.old merge.old.most_lines merge.new.most_lines }
     ensures ended { EndedMerge K.Sink (R.past range.now) S.Source
-        (stand_of sources.old merge.old sink.old (O.written out.old)) result
-        (stand_of sources.new merge.new sink.new (O.written out.new)) }
+        (point_of sources.old merge.old sink.old (O.written out.old)) result
+        (point_of sources.new merge.new sink.new (O.written out.new)) }
 {
     let mut rest = Vec::new(alloc);
     while let Some(first) = merge.gather(sources, range, &mut rest)? {
