@@ -51,8 +51,16 @@ impl<'a> KeyedLine<'a> {
         ensures { result ≡ pair_cmp (member_pair self.now) (member_pair other.now) }
     {
         match self.pair_start.cmp(&other.pair_start) {
-            Ordering::Equal => self.line.pair().cmp(&other.line.pair()),
+            Ordering::Equal => compare_pairs(self.line, other.line),
             decided => decided,
         }
     }
+}
+
+/// Compares the pairs of two lines. It is a function of its own, so that `compare_pair` is small
+/// enough to be compiled in place.
+fn compare_pairs(line: &Line, other: &Line) -> Ordering
+    ensures { result ≡ pair_cmp (member_pair line.now) (member_pair other.now) }
+{
+    line.pair().cmp(&other.pair())
 }

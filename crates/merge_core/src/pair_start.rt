@@ -1,8 +1,9 @@
 //! The starts of pairs, as numbers.
-ghost use Rattle.std.specs.Prelude.{◌≡◌, ◌+◌, ◌≤◌, take, drop};
+ghost use Rattle.std.specs.Prelude.{◌≡◌, ◌+◌, ◌≤◌, true, take, drop};
 ghost use Rattle.cdxj_core.specs.Members.{member_pair};
 ghost use Rattle.cdxj_places.specs.Abbreviated.{AreBytes, bytes_value, start_words, words};
-ghost use Rattle.merge_core.specs.PairStarts.{IsStart};
+ghost use Rattle.cdxj_places.specs.Pair.{is_key};
+ghost use Rattle.merge_core.specs.PairStarts.{IsStart, pair_text};
 
 use cdxj_core::Line;
 use cdxj_places::abbreviated;
@@ -56,9 +57,17 @@ fn start_of(bytes: &[u8]) -> PairStart
     }
 }
 
+/// Returns the key, the space and the stamp of a line.
+fn pair_bytes(line: &Line) -> &[u8]
+    ensures text { result.now ≡ pair_text (member_pair line.now) }
+    ensures key { is_key line.now.values.key ≡ true }
+{
+    &line.line()[..line.pair().key.len() + AFTER_KEY]
+}
+
 /// Returns the start of a line's pair.
 pub(crate) fn pair_start(line: &Line) -> PairStart
     ensures { IsStart result (member_pair line.now) }
 {
-    start_of(&line.line()[..line.pair().key.len() + AFTER_KEY])
+    start_of(pair_bytes(line))
 }
