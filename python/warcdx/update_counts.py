@@ -12,7 +12,8 @@ from .update_log import Identity, Part
 from .update_task import COUNTED, Failed
 
 MOST = 100  # values of a field in a summary
-_DAMAGE = (AttributeError, KeyError, TypeError, ValueError)  # what a file raises that doesn't have the expected values
+# What a file raises that doesn't have the expected values.
+_DAMAGE = (AttributeError, KeyError, RecursionError, TypeError, ValueError)
 
 
 class Counts:

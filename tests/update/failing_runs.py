@@ -123,7 +123,7 @@ def counts_that_are_damaged_are_made_anew(program: pathlib.Path, folder: pathlib
     trial = Trial(program, folder)
     expect("status", trial.run(), 1)
     made = trial.parts / "made.json"
-    for text in ("", "[]", "{", '{"captures": "1"}', made.read_text()[:40], "\0" * 100):
+    for text in ("", "[]", "{", '{"captures": "1"}', made.read_text()[:40], "\0" * 100, "[" * 100_000):
         counts = next(path for path in trial.parts.iterdir() if path.suffix == ".json" and path != made)
         counts.write_text(text)
         made.write_text(text)
