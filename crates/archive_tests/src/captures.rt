@@ -4,6 +4,7 @@ mod contents;
 mod entries;
 mod faults;
 mod fronts;
+mod held_lines;
 mod http_blocks;
 mod http_limits;
 mod line_limit;

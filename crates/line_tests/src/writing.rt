@@ -3,7 +3,7 @@ ghost use Rattle.std.specs.Prelude.{◌≡◌, IfSome};
 ghost use Rattle.cdxj_core.specs.Entries.{HasPlainTexts, keyed_view};
 
 use cdxj_core::{
-    Entry, Field, KeylessEntry, Line, LineFault, plain_utf8, push_quoted, write_line,
+    Entry, Field, KeylessEntry, Line, LineFault, plain_utf8, push_quoted, write_entry, write_line,
     write_plain_entry,
 };
 use std::alloc::{AllocError, Global};
@@ -132,6 +132,51 @@ fn entries_are_written_and_read_back(rt: HostRuntime) -> Result<(), Fail> {
         assert!(rt; is_written(rt.alloc(), members, line)?, "{}", members.url);
         assert!(rt;
             has_numbers(rt.alloc(), line, length, offset)?,
+            "{}",
+            members.url
+        );
+    }
+    Ok(())
+}
+
+/// Returns `true` if the entry has these members, but for the key.
+fn has_members(entry: &KeylessEntry<'_>, members: &Members) -> bool {
+    let texts = [
+        (entry.url, members.url),
+        (entry.mime, members.mime),
+        (entry.status, members.status),
+        (entry.digest, members.digest),
+        (entry.filename, members.filename),
+    ];
+    texts.iter().all(|(text, member)| *text == *member)
+        && entry.stamp == *members.stamp
+        && (entry.length, entry.offset) == (members.length, members.offset)
+}
+
+#[test]
+fn a_keyless_entry_has_the_members_of_the_entry(rt: HostRuntime) -> Result<(), Fail> {
+    for (members, _line, _length, _offset) in WRITTEN {
+        let entry = entry(rt.alloc(), members)?;
+        assert!(rt; has_members(&entry.keyless(), members), "{}", members.url);
+    }
+    Ok(())
+}
+
+/// Returns the line that is written for a key and a keyless entry, if they are good.
+fn written_behind_key(alloc: Global, members: &Members) -> Result<Option<Vec<u8>>, Fail> {
+    let entry = entry(alloc, members)?;
+    if !entry.good() {
+        return Ok(None);
+    }
+    Ok(Some(write_entry(alloc, entry.key.as_str(), entry.keyless())?))
+}
+
+#[test]
+fn a_keyless_entry_is_written_behind_a_key(rt: HostRuntime) -> Result<(), Fail> {
+    for (members, line, _length, _offset) in WRITTEN {
+        let written = written_behind_key(rt.alloc(), members)?;
+        assert!(rt;
+            written.is_some_and(|text| text.as_slice() == *line),
             "{}",
             members.url
         );
