@@ -1,11 +1,9 @@
 -- The capture of a record, from how its block was read.
-use Rattle.std.proofs.Common.{◌≡◌, ◌≢◌, ℕ, ◌-◌, ◌≤◌, List, ◌++◌, Option, None, Some, Result, Ok, Err, IfErr}
+use Rattle.std.proofs.Common.{◌≡◌, ℕ, ◌-◌, ◌≤◌, List, ◌++◌, Option, None, Some, Result, Ok, Err, IfErr}
 use Rattle.std.proofs.Common.{IfSome, length, take, refl, arith}
 use Rattle.std.proofs.lemmas.List.{length-take}
 use Rattle.std.specs.Io.KnownBytes.{prepend_known}
 use Rattle.sha1.specs.Sha1.{sha1}
-use Rattle.warc_core.specs.declared.fault.Cause.{Cause}
-use Rattle.warc_core.specs.declared.fault.Cause.TheVariants as causes
 use Rattle.warc_core.specs.HeadView.{HeadView, record_length}
 use Rattle.warc_core.specs.Reading.{Reads}
 use Rattle.warc_core.proofs.ReadingLemmas.{GoesOn}
@@ -21,7 +19,7 @@ use Rattle.capture_core.specs.Capture.{ResponseValue, IsCaptureUnder, entry_of, 
 use Rattle.capture_core.specs.RecordReading.{reading_of, IsCaptureFaultAt, ReadsRest}
 use Rattle.capture_core.specs.CaptureAnswer.{Limits, IsCaptureOf, AnswersEntry, PartsBlock}
 use Rattle.warc_core.proofs.DigestLemmas.{take_past}
-use Rattle.warc_core.proofs.VerdictLemmas.{digest-then, digest-found}
+use Rattle.warc_core.proofs.VerdictLemmas.{digest-then}
 
 -- ---- how the record was read
 
@@ -45,10 +43,6 @@ pub behind-digest : (left : ℕ) (start digest : List ℕ) (before after : Optio
     → Reads (digest_of_rest left start) (Ok digest) before after
     → GoesOn (after_record left) (after_record 0) before after
 behind-digest left start digest before after r = grind (arith, digest-then)
-
-pub digest-met : (left : ℕ) (start : List ℕ) (c : Cause) (before after : Option (List ℕ)) → c ≢ causes.Memory
-    → Reads (digest_of_rest left start) (Err c) before after → Reads (after_record left) (Err c) before after
-digest-met left start c before after m r = grind (arith, digest-found)
 
 -- what was hashed, where the bytes are known
 pub digest-known : (left : ℕ) (start digest : List ℕ) (before after : Option (List ℕ))

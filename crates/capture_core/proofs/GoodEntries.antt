@@ -5,16 +5,13 @@ use Rattle.percent_encoding.proofs.PercentLemmas.{percent_encode_nonempty}
 use Rattle.std.proofs.lemmas.Grind.{common_steps}
 use Rattle.warc_core.specs.HeadView.{HeadView}
 use Rattle.capture_core.specs.Utf8Text.{utf8_text}
-use Rattle.capture_core.specs.Capture.{ResponseValue, content_of, mime_of}
+use Rattle.capture_core.specs.Capture.{ResponseValue, content_of}
 
 -- the text of a value that isn't empty isn't either
 pub text_is_filled : (value : List ℕ) → 0 < length value → 0 < length (utf8_text value)
 unfolding utf8_text
 text_is_filled value h = grind (arith, percent_encode_nonempty)
 
-content_is_filled : (h : HeadView) (response : Option ResponseValue) → 0 < length (content_of h response)
+pub content_is_filled : (h : HeadView) (response : Option ResponseValue) → 0 < length (content_of h response)
 unfolding content_of
 content_is_filled h response = grind (arith, common_steps)
-
-pub mime_is_filled : (h : HeadView) (response : Option ResponseValue) → 0 < length (mime_of h response)
-mime_is_filled h response = grind (arith, content_is_filled)

@@ -1,4 +1,6 @@
 -- Lines that are held: the line, its key and the file name are found in the bytes.
+use Rattle.std.proofs.lemmas.List.{take_all}
+use Rattle.std.proofs.Common.{length-drop}
 use Rattle.std.proofs.Common.{◌≡◌, inl, inr, ℕ, ◌+◌, ◌-◌, ◌==◌, true, false, not, List, [], ◌∷◌, ◌++◌, length, refl, sym, ap, ◌∙◌}
 use Rattle.std.proofs.Common.{Some, None, length-append, append_assoc, append-nil, arith}
 use Rattle.std.proofs.lemmas.Bool.{and_parts, lt-ltb}
@@ -70,8 +72,7 @@ holds_behind e has =
 -- the line of an entry, with its file name put behind it where that is needed, holds the entry
 pub holds_line : (e : EntryValue) (line name bytes : List ℕ) → HasLine LINE_LIMIT e → line ≡ line_text e
     → name ≡ e.filename → KeepsName line name bytes → HoldsLine e bytes e.offset
-holds_line e line name bytes has is named (inl k) =
-    grind (arith, line_alone e has, key_alone e has)
+holds_line e line name bytes has is named (inl k) = grind (arith, line_alone, key_alone)
 holds_line e line name bytes has is named (inr k) = grind (arith, holds_behind e has)
 
 -- ---- the last quote
@@ -88,3 +89,5 @@ no_quote text none =
     let e = suffix_len_is (λ x. not (is_quote x)) text 0 0 (omega arith)
     (grind (arith)) (λ h. absurd (omega arith)) in
     omega (arith, e)
+
+pub ruleset last_quoted_rules = (take_all, length-drop, after_quote)

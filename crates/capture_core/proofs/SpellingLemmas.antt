@@ -1,12 +1,12 @@
 -- The line of an entry: what it spells, and where its key and its stamp stand.
 use Rattle.std.proofs.Common.{◌≡◌, ◌∙◌, ℕ, ◌+◌, ◌-◌, List, [], ◌∷◌, ◌++◌, length, take, drop, ap}
-use Rattle.std.proofs.Common.{Some, append_assoc, arith, sym}
+use Rattle.std.proofs.Common.{Some, append_assoc, arith}
 use Rattle.std.proofs.lemmas.Fmt.{digits_value-decimal}
 use Rattle.std.proofs.Math.Seq.{take-append_seam, drop-append-add}
 use Rattle.cdxj_core.specs.declared.limit.TheConstants.{LINE_LIMIT}
 use Rattle.cdxj_core.specs.Entries.{EntryValue, IsGood, line_text, members_of, HasLine}
 use Rattle.cdxj_core.specs.Lines.{entry_of_values}
-use Rattle.cdxj_core.specs.Members.{Member, entry_member, line_entry}
+use Rattle.cdxj_core.specs.Members.{Member, line_entry}
 use Rattle.cdxj_core.specs.Objects.{object_text}
 use Rattle.cdxj_core.proofs.EntryUtf8.{line_law}
 use Rattle.cdxj_core.proofs.MemberLemmas.{written_entry}
@@ -25,9 +25,7 @@ spells e line h is = ap entry_in is ∙ entry_in_line_text e h
 pub entry_read : (e : EntryValue) (member : Member) → HasLine LINE_LIMIT e
     → line_entry LINE_LIMIT (line_text e) ≡ Some member
     → record (entry_of_values member.values) { length = e.length } ≡ e
-entry_read e member h is =
-    let same : entry_member e ≡ member = grind (arith, written_entry LINE_LIMIT e h) in
-    ap (λ m. record (entry_of_values m.values) { length = e.length }) (sym same)
+entry_read e member h is = grind (arith, written_entry)
 
 -- ---- the key and the stamp
 

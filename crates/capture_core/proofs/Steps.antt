@@ -1,8 +1,8 @@
 -- The front of a block, read in steps.
 use Rattle.std.proofs.lemmas.Grind.{common_steps}
 use Rattle.std.proofs.Common.{◌≡◌, ℕ, ◌-◌, ◌≤◌, ◌⊎◌, inl, inr, List, [], ◌∷◌, ◌++◌, Bool, true, false, cond}
-use Rattle.std.proofs.Common.{Option, None, Some, Result, IfSome, length, take, min, option_map, is_some, refl, sym}
-use Rattle.std.proofs.Common.{subst, arith, append-nil, append_assoc, if◌then◌else◌}
+use Rattle.std.proofs.Common.{Option, None, Some, Result, IfSome, length, take, min, option_map, is_some, refl}
+use Rattle.std.proofs.Common.{arith, append-nil, append_assoc, if◌then◌else◌}
 use Rattle.std.proofs.Math.Seq.{take-append_seam, drop-append_seam}
 use Rattle.std.specs.Io.KnownBytes.{Consumes}
 use Rattle.httparse.specs.Grammar.{ResponseHead}
@@ -32,13 +32,7 @@ head-behind : (limit few : ℕ) (front more : List ℕ) (found : Option (Respons
 head-behind limit few front more found (inl full) e =
     let front_is : take limit (front ++ more) ≡ front = grind (arith, take-append_seam) in
     grind (arith, drop-append_seam, front_decides)
-head-behind limit few front more found (inr none) e =
-    subst (λ m. IsHeadOf limit few (front ++ m) (then_more m found)) (sym none)
-    (subst (λ f. IsHeadOf limit few f (then_more [] found)) (sym (append-nil front))
-    (subst (IsHeadOf limit few front) (sym (no_more found)) e))
-  where
-    no_more : (f : Option (ResponseHead × List ℕ)) → then_more [] f ≡ f
-    no_more f = grind (arith, append-nil)
+head-behind limit few front more found (inr none) e = grind (arith, append-nil)
 
 head-where : (may : Bool) (limit few len : ℕ) (front : List ℕ) (found : Option (ResponseHead × List ℕ))
     → length front ≤ min len (if may then limit else 0) → IsHeadOf limit few front found

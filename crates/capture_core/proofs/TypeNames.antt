@@ -1,5 +1,5 @@
 -- The names of types, cut at the first comma.
-use Rattle.std.proofs.Common.{◌≡◌, ◌<◌, ℕ, true, List, [], ◌∷◌, Option, Some, IfSome, length}
+use Rattle.std.proofs.Common.{◌≡◌, ◌<◌, ℕ, true, List, [], ◌∷◌, Option, Some, length}
 use Rattle.std.proofs.Common.{arith, sym, ap, option_and_then}
 use Rattle.std.specs.List.{slice_split, position_or_len}
 use Rattle.std.proofs.lemmas.List.Splits.{slice_split_none, length-slice_split}
@@ -7,7 +7,7 @@ use Rattle.std.proofs.lemmas.List.Sums.{fails_before_first}
 use Rattle.warc_core.specs.Kind.{Kind}
 use Rattle.warc_core.specs.Kind.kinds
 use Rattle.capture_core.specs.declared.types.Types.{Types}
-use Rattle.capture_core.specs.Types.{HasType, is_comma, no_types, plus_kind, types_of, with_kind, with_name, with_names}
+use Rattle.capture_core.specs.Types.{HasType, is_comma, no_types, plus_kind, with_kind, with_name, with_names}
 
 last_of : (o : Option Types) → option_and_then (λ types. with_names types []) o ≡ o
 last_of o = grind arith
@@ -49,11 +49,10 @@ still-has [] more types h e = grind arith
 still-has (name ∷ names) more types h e = then-has (with_name more name) names types (λ next f. named-has _ more next f)
     (λ next. still-has names next types) e
 
-names-have : (names : List (List ℕ)) (types : Types) → 0 < length names → with_names no_types names ≡ Some types
+pub names-have : (names : List (List ℕ)) (types : Types) → 0 < length names → with_names no_types names ≡ Some types
     → HasType types
 names-have [] types some e = absurd (omega arith)
 names-have (name ∷ names) types some e = then-has (with_name no_types name) names types
     (λ next f. named-has _ no_types next f) (λ next. still-has names next types) e
 
-pub some-type : (text : List ℕ) (read : Option Types) → read ≡ types_of text → IfSome read HasType
-some-type text read e = grind (arith, names-have, length-slice_split)
+pub ruleset read_rules = (names-have, length-slice_split)

@@ -101,6 +101,7 @@ impl HeldLine {
         before_space(&self.bytes)
     }
 
+    #[tactic(auto, using(crate::proofs::SpellingLemmas::stamp_in))]
     fn stamp(&self) -> &[u8]
         ensures { result.now ≡ self.now.stamp }
     {
@@ -157,6 +158,7 @@ fn ends_with_feed(bytes: &[u8]) -> bool
 }
 
 /// Returns the first line, with its line feed.
+#[tactic(auto, using(cdxj_places::proofs::Found::cut_rules))]
 fn first_line(bytes: &[u8]) -> &[u8]
     ensures { result.now ≡ first_line bytes.now }
 {
@@ -167,6 +169,7 @@ fn first_line(bytes: &[u8]) -> &[u8]
 }
 
 /// Returns what stands before the first space.
+#[tactic(auto, using(cdxj_places::proofs::Found::cut_rules))]
 fn before_space(bytes: &[u8]) -> &[u8]
     ensures { result.now ≡ before_first is_space bytes.now }
 {
@@ -177,6 +180,7 @@ fn before_space(bytes: &[u8]) -> &[u8]
 }
 
 /// Returns what stands between the last quote of a line and its closing.
+#[tactic(auto, using(crate::proofs::HeldLines::last_quoted_rules))]
 fn last_quoted(line: &[u8]) -> &[u8]
     ensures { result.now ≡ last_quoted line.now }
 {

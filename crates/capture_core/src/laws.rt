@@ -10,6 +10,7 @@ pub fn block_has_one_head()
 {}
 
 /// A record has at most one capture under a name.
+#[tactic(auto, using(crate::proofs::Captures::one_capture))]
 pub fn record_has_one_capture()
     ensures { OneCapture }
 {}

@@ -32,6 +32,7 @@ impl Types {
 
     /// Reads the names of one or more types, in lower case, separated by commas, with no type
     /// twice. Returns `None` for any other text.
+    #[tactic(auto, using(crate::proofs::TypeNames::read_rules))]
     pub fn read(text: &str) -> Option<Types>
         ensures value { result ≡ types_of text.now }
         ensures some { IfSome result HasType }

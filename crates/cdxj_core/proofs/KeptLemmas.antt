@@ -96,8 +96,7 @@ plain_kept limit text key m utf8 all short run some long space good_stamp second
 -- a line whose body is read as a text
 pub line_of_text : (limit : ℕ) (line body text : List ℕ) (member : Member) → text ≡ body → body ≡ body_of line
     → list_all is_unescaped text ≡ true → line_entry limit text ≡ Some member → line_entry limit line ≡ Some member
-line_of_text limit line body text member same its all h =
-    line_of_body limit line body text member same its (sym (rw same at (unescaped_feed text all))) h
+line_of_text limit line body text member same its all h = grind (arith, line_of_body, unescaped_feed)
 
 -- any other line is followed by a plain object with its texts
 pub json_kept : (limit : ℕ) (text body key rest stamp object filename : List ℕ) (f : FoundValue) (offset : ℕ)

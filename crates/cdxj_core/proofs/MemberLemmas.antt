@@ -30,9 +30,7 @@ entered limit line member h = grind (arith, IsUtf8-from_is_utf8)
 -- the values of an entry are those of its line
 pub entry_valued : (limit : ℕ) (line : List ℕ) (member : Member) → line_entry limit line ≡ Some member
     → Valued member.line member.values
-entry_valued limit line member h =
-    let e = entered limit line member h in
-    rw e.body (valued limit (body_of line) member.values e.values)
+entry_valued limit line member h = grind (arith, entered, valued)
 
 -- a body without a line feed is its own
 pub body_of-body : (body : List ℕ) → has_no_feed body ≡ true → body_of body ≡ body

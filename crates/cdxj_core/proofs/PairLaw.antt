@@ -2,12 +2,11 @@
 use Rattle.std.proofs.Common.{◌≡◌, ℕ, ◌-◌, ◌<◌, ◌^◌, ◌≤◌, ◌==◌, Bool, true, false, cond, List, [], ◌∷◌, ◌++◌, length}
 use Rattle.std.proofs.Common.{take, drop, Some, None, get_or, append-nil}
 use Rattle.std.proofs.Common.{refl, sym, arith, append_assoc, take-append-drop}
-use Rattle.std.specs.List.{before_first, after_first}
 use Rattle.std.proofs.lemmas.List.{length-append}
 use Rattle.serde_json.specs.Data.{Data}
 use Rattle.serde_json.specs.Read.{read}
 use Rattle.serde_json.proofs.OnLiterals.{serde_json_on_literals}
-use Rattle.cdxj_places.specs.Pair.{is_space, is_key, is_stamp, pair_of}
+use Rattle.cdxj_places.specs.Pair.{is_key, is_stamp, pair_of}
 use Rattle.cdxj_core.specs.Lines.{LineValue, body_of, line_object, line_in}
 use Rattle.cdxj_places.proofs.PairLemmas.{pair_of-parts, around}
 
@@ -41,22 +40,7 @@ offset_small key stamp text v h = grind arith
 
 pub valued : (limit : ℕ) (body : List ℕ) (v : LineValue) → line_in limit body ≡ Some v → Valued body v
 unfolding line_in
-valued limit body v h =
-    let rest = after_first is_space body in
-    let object = after_first is_space rest in
-    let its : line_object (before_first is_space body) (before_first is_space rest) object ≡ Some v = grind arith in
-    let pair = object_values_are _ _ object v its in
-    let rest_is = around rest pair.1.1 in
-    let body_is = around body (grind (arith, length-append)) in
-    record {
-      object = object;
-      cut = grind arith;
-      key_rule = grind arith;
-      stamp_rule = grind arith;
-      filename_rule = grind (arith, filename_some);
-      offset_rule = grind (arith, offset_small);
-      values = grind arith;
-    }
+valued limit body v h = grind (arith, object_values_are, around, length-append, filename_some, offset_small)
 
 body_split : (b : Bool) (line : List ℕ) → (t : List ℕ) × (line ≡ cond b (take (length line - 1) line) line ++ t)
 body_split true line = (drop (length line - 1) line, sym (take-append-drop (length line - 1) line))

@@ -16,6 +16,7 @@ ghost use Rattle.cdxj_core.specs.Members.{Member, entry_member, line_entry, memb
 ghost use Rattle.cdxj_core.specs.Indexes.{IsIndex};
 
 /// The line of a good entry is read as that entry, if it is within the limit.
+#[tactic(auto, using(crate::proofs::MemberLemmas::written_entry))]
 pub fn written_line_is_read()
     ensures { (limit : ℕ) → (entry : EntryValue) → HasLine limit entry
         → line_entry limit (line_text entry) ≡ Some (entry_member entry) }
@@ -30,6 +31,7 @@ pub fn line_stays_under_higher_limit()
 {}
 
 /// A line that is too long has no entry.
+#[tactic(auto, using(crate::proofs::MemberLemmas::long_line_none))]
 pub fn long_line_has_no_entry()
     ensures { (limit : ℕ) → (line : List ℕ) → limit ≤ length (body_of line)
         → line_entry limit line ≡ None }
@@ -43,6 +45,7 @@ pub fn line_begins_with_its_pair()
 
 /// The key of a line is shorter than the line without its line feed, and the file name is no longer
 /// than that.
+#[tactic(auto, using(crate::proofs::KeptLemmas::key_short, crate::proofs::FilenameLength::filename_short))]
 pub fn key_and_file_name_are_no_longer_than_their_line()
     ensures key { (limit : ℕ) → (line : List ℕ) → (member : Member)
         → line_entry limit line ≡ Some member → length member.values.key < length member.line }
@@ -52,6 +55,7 @@ pub fn key_and_file_name_are_no_longer_than_their_line()
 
 /// The lines of good entries are an index with their members, if their pairs never fall, and so
 /// also if their places rise.
+#[tactic(auto, using(crate::proofs::IndexLemmas::index_written, crate::proofs::IndexLemmas::never_falls))]
 pub fn written_lines_are_an_index()
     ensures pairs { (limit : ℕ) → (entries : List EntryValue)
         → AllByRecursion (HasLine limit) entries
@@ -65,6 +69,7 @@ pub fn written_lines_are_an_index()
 
 /// A text whose lines all have entries, in the order of their bytes, is an index: so is what
 /// `LC_ALL=C sort` makes of such lines.
+#[tactic(auto, using(crate::proofs::SortedLines::sorted_index))]
 pub fn sorted_lines_are_an_index()
     ensures { (limit : ℕ) → (text : List ℕ) → (members : List Member)
         → map (line_entry limit) (lines text) ≡ map Some members
@@ -72,6 +77,7 @@ pub fn sorted_lines_are_an_index()
 {}
 
 /// An index has one list of members.
+#[tactic(auto, using(crate::proofs::IndexLemmas::one_index))]
 pub fn index_has_one_list_of_members()
     ensures { (limit : ℕ) → (text : List ℕ) → (these those : List Member)
         → IsIndex limit text these → IsIndex limit text those → these ≡ those }

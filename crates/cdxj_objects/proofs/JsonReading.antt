@@ -1,5 +1,5 @@
 -- Tokens that are read for a value, for items and for members, a turn at a time.
-use Rattle.std.proofs.Common.{◌≡◌, ℕ, ◌-◌, ◌<◌, ◌≤◌, List, [], ◌∷◌, length, Option, Some, None}
+use Rattle.std.proofs.Common.{◌≡◌, ℕ, ◌-◌, ◌<◌, ◌≤◌, List, ◌∷◌, length, Option, Some, None}
 use Rattle.std.proofs.Common.{option_map, ap, arith}
 use Rattle.json.specs.Token.{Token}
 use Rattle.json.specs.Json as json
@@ -15,9 +15,6 @@ use Rattle.cdxj_objects.specs.FoundMembers.{number_data, member_data, value_read
 
 abbrev pub seen : Option (json.Json × List Token) → Option (Data × List Token)
 seen o = parse_map member_data (converted of_json o)
-
-pub read_nothing : (depth : ℕ) → value_read depth [] ≡ None
-read_nothing depth = grind (arith, value_is)
 
 pub read_null : (depth : ℕ) (r : List Token) → value_read depth (Token.null ∷ r) ≡ Some (null, r)
 read_null depth r = ap seen (value_is depth (Token.null ∷ r))
@@ -56,25 +53,17 @@ parsed o v r e = grind arith
 abbrev pub items_left : ℕ → ℕ → List Token → Option (List Token)
 items_left depth n ts = left (converted of_items (items (value depth) n ts))
 
-after_item : (j : json.Json) (d : Data) → of_json j ≡ Some d → (o : Option (json.Items × List Token))
-    → left (converted of_items (parse_map (json.item j) o)) ≡ left (converted of_items o)
-after_item j d e o = grind arith
-
 pub item_passed : (depth n : ℕ) (ts r : List Token) (v : Data) → 0 < n → after_end_array ts ≡ None
     → value_read depth ts ≡ Some (v, r) → items_left depth n ts ≡ items_left depth (n - 1) r
 item_passed depth n ts r v some going e =
     let p = parsed (value depth ts) v r e in
     let more = items_more (value depth) n ts r p.json some going p.is in
-    grind (arith, after_item)
+    grind (arith)
 
 pub item_not_passed : (depth n : ℕ) (ts : List Token) → after_end_array ts ≡ None → value_read depth ts ≡ None
     → items_left depth n ts ≡ None
 unfolding items
 item_not_passed depth n ts going e = grind arith
-
-pub items_end : (depth n : ℕ) (ts r : List Token) → length ts ≤ n → after_end_array ts ≡ Some r → items_left depth n ts
-    ≡ Some r
-items_end depth n ts r enough e = grind (arith, no_more_items)
 
 -- ---- members
 
@@ -108,8 +97,8 @@ members_end depth n found ts r enough e = grind (arith, no_more_members)
 -- ---- what the readers cite
 
 pub ruleset value_rules =
-    (read_nothing, read_null, read_number, read_object, no_array, no_object, value_is, value-begin_array)
+    (read_null, read_number, read_object, no_array, no_object, value_is, value-begin_array)
 
-pub ruleset item_rules = (item_not_passed, items_end)
+pub ruleset item_rules = (item_not_passed, no_more_items)
 
 pub ruleset member_rules = (members_no_key, no_member, members_end)

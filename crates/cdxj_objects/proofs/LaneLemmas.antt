@@ -55,17 +55,12 @@ is_either first second x = eqb x first || eqb x second
 abbrev pub either_lane : ℕ → ℕ → ℕ → ℕ
 either_lane first second x = bit_or (cond (eqb x first) 255 0) (cond (eqb x second) 255 0)
 
-either_tops : (first second : ℕ) (v : List ℕ) → map (λ x. top 7 (either_lane first second x)) v ≡ map
-    (is_either first second) v
-either_tops first second v = grind arith
-
 either_masks : (first second : ℕ) (v z : List ℕ) → length v ≡ 16 → z ≡ map (either_lane first second) v
     → mask_l (map (top 7) z) % 2 ^ 64 ≡ mask_l (map (is_either first second) v)
 either_masks first second v z long e =
     grind (
       arith,
       map-map,
-      either_tops,
       mask_l-mod (map (is_either first second) v) 64 (omega (arith, length-map v (is_either first second), long)),
     )
 
@@ -114,13 +109,10 @@ is_escaped x = (ltb x 32 || ltb 127 x) || eqb x 92
 abbrev pub escaped_lane : ℕ → ℕ
 escaped_lane x = bit_or (bit_or (cond (ltb x 32) 255 0) (cond (ltb 127 x) 255 0)) (cond (eqb x 92) 255 0)
 
-escaped_tops : (v : List ℕ) → map (λ x. top 7 (escaped_lane x)) v ≡ map is_escaped v
-escaped_tops v = grind arith
-
 pub escaped_masks : (v z : List ℕ) → length v ≡ 32 → z ≡ map escaped_lane v → mask_l (map (top 7) z) % 2 ^ 64 ≡ mask_l
     (map is_escaped v)
 escaped_masks v z long e =
-    grind (arith, map-map, escaped_tops, mask_l-mod (map is_escaped v) 64 (omega (arith, length-map v is_escaped, long)))
+    grind (arith, map-map, mask_l-mod (map is_escaped v) 64 (omega (arith, length-map v is_escaped, long)))
 
 unescaped : (x : ℕ) → not (is_escaped x) ≡ is_unescaped_ascii x
 unescaped x = grind (arith, nat_tests)
@@ -153,6 +145,4 @@ run_goes_on p i n xs room whole =
 -- the last vector of a text is all that is left of it
 pub last_run : (p : ℕ → Bool) (n : ℕ) (xs : List ℕ) → n ≤ length xs → length xs - n ≤ prefix_len p xs
     → (length xs - n) + prefix_len p (chunk (length xs - n) n xs) ≡ prefix_len p xs
-last_run p n xs room before =
-    let whole = take_all n (drop (length xs - n) xs) (omega (arith, length-drop (length xs - n) xs)) in
-    grind (arith, front_behind p (length xs - n) xs)
+last_run p n xs room before = grind (arith, take_all, length-drop, front_behind)

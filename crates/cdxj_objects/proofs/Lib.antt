@@ -5,7 +5,6 @@ pub mod PlainBytes
 pub mod PlainCuts
 pub mod PlainLaw
 pub mod PlainPlaces
-pub mod NumberTexts
 pub mod JsonReading
 pub mod FoundLaw
 pub mod SpellingLemmas

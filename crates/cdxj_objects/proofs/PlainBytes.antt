@@ -27,11 +27,8 @@ list_all_plain (x ∷ xs) = grind (arith, plain_byte, list_all_plain xs)
 
 -- ---- the texts of an object that has no control
 
-plain_from : (xs : List ℕ) → list_all is_open xs ≡ true → list_all is_unescaped xs ≡ true → list_all is_plain xs ≡ true
-plain_from xs h k = grind (arith, list_all_plain)
-
 pub plain_where_unescaped : (t : TextsValue) → AreOpen t → list_all is_unescaped (plain_text t) ≡ true → ArePlain t
-plain_where_unescaped t h k = grind (arith, common_steps, plain_from)
+plain_where_unescaped t h k = grind (arith, common_steps, list_all_plain)
 
 -- ---- plain ASCII
 

@@ -64,15 +64,7 @@ digits_decimal ds all some single small = sym (decimal-digits_value own ds all s
 
 pub text_after : (text front : List ℕ) (at n end : ℕ) → take n (drop at text) ≡ front → at + n ≤ length text
     → end ≡ at + n + prefix_len (is_neither 34 34) (drop (at + n) text) → IsTextAfter text at front (at + n) end
-text_after text front at n end same low e =
-    let room = length-drop (at + n) text in
-    let few = prefix_len-le-length (is_neither 34 34) (drop (at + n) text) in
-    record {
-      is = behind text front at n end same (omega arith);
-      no_quote = open_before text (at + n) end e;
-      order = omega arith;
-      inside = omega arith;
-    }
+text_after text front at n end same low e = grind (arith, length-drop, prefix_len-le-length, behind, open_before)
 
 pub number_after : (text front : List ℕ) (at n count number : ℕ) → take n (drop at text) ≡ front
     → at + n + 16 ≤ length text → count ≡ prefix_len is_ascii_digit (take 16 (drop (at + n) text)) → 0 < count

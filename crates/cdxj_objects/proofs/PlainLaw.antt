@@ -2,7 +2,7 @@
 use Rattle.std.proofs.Common.{◌≡◌, ℕ, true, List, [], ◌∷◌, ◌++◌}
 use Rattle.std.proofs.Common.{Some, append_assoc, flat_map, refl, sym, ap, subst, ◌∙◌, arith}
 use Rattle.std.specs.List.{list_all}
-use Rattle.json.specs.Print.{quoted, escape}
+use Rattle.json.specs.Print.{escape}
 use Rattle.json.specs.Run.{is_plain}
 use Rattle.json.proofs.Printed.Strings.{escape_byte_plain}
 use Rattle.serde_json.specs.Read.{read}
@@ -62,9 +62,6 @@ read_plain t h = subst (λ s. read (plain_text s) ≡ Some (data_of t)) (escape_
     (ap read (escaped_text_is t) ∙ read_texts t)
 
 -- ---- writing
-
-pub quoted_steps : (old s : List ℕ) → ((old ++ 34 ∷ []) ++ escape s) ++ 34 ∷ [] ≡ old ++ quoted s
-quoted_steps old s = grind (arith, append_assoc)
 
 -- a text to which pieces were added one after another
 abbrev pub Pushed : List (List ℕ × List ℕ) → List ℕ → List ℕ → Type 0

@@ -56,6 +56,7 @@ impl<'a> FoundMembers<'a> {
     }
 
     // Reads an object, after which no token follows.
+    #[tactic(auto, using(crate::proofs::FoundLaw::opened))]
     fn of_tokens(reader: &mut Reader<'a>) -> Result<FoundMembers<'a>, Invalid>
         ensures { MatchResult result (λ found. object_read reader.old ≡ Some (found_view found))
             (λ _. object_read reader.old ≡ None) }
@@ -71,6 +72,7 @@ impl<'a> FoundMembers<'a> {
     }
 
     // Reads the members of an object and its end.
+    #[tactic(auto, using(json::proofs::Grammar::members_no_key, crate::proofs::JsonReading::no_member))]
     fn read(reader: &mut Reader<'a>) -> Result<FoundMembers<'a>, Invalid>
         ensures { MatchResult result
             (λ found. members_found reader.old ≡ Some (found_view found, reader.new))

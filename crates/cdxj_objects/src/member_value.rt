@@ -16,6 +16,7 @@ pub(crate) enum MemberValue<'a> {
 }
 
 /// Returns the value of a JSON number, or `None` if it is too large for a 64-bit float.
+#[tactic(auto, unfolding(serde_json::specs::Read::number_of))]
 pub(crate) fn number_value<'a>(text: &str) -> Option<MemberValue<'a>>
     ensures { option_map value_view result ≡ option_map number_data (number_of text.now) }
 {

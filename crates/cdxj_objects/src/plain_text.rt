@@ -29,6 +29,7 @@ fn is_plain_ascii(text: &[u8]) -> bool
 
 /// Returns the text, if it is UTF-8 and JSON writes it between quotes without escapes. Most are
 /// ASCII, which is the faster test.
+#[tactic(auto, using(crate::proofs::PlainBytes::ascii_is_utf8, crate::proofs::PlainBytes::ascii_is_plain))]
 pub fn plain_utf8(text: &[u8]) -> Option<&str>
     ensures value { IfSome result (λ t. t.now ≡ text.now) }
     ensures plain { IfSome result (λ t. list_all is_plain t.now ≡ true) }

@@ -13,6 +13,7 @@ use itoa::Buffer;
 use std::alloc::{AllocError, Global};
 
 /// Returns a number in decimal.
+#[tactic(auto, using(crate::proofs::SpellingLemmas::text_stands, std::proofs::lemmas::Fmt::decimal_nonempty))]
 fn number_text(number: u64, digits: &mut Buffer) -> &str
     ensures text { result.now ≡ decimal number }
     ensures value { or_missing result.now ≡ decimal number }

@@ -21,6 +21,7 @@ fn push_with_escapes(line: &mut Vec<u8>, alloc: Global, text: &str) -> Result<()
 }
 
 // A text as it stands between quotes.
+#[tactic(auto, using(crate::proofs::PlainLaw::escape_plain))]
 fn push_escaped(line: &mut Vec<u8>, alloc: Global, text: &str) -> Result<(), AllocError>
     ensures { IfOk result (λ _. line.new.items ≡ line.old.items ++ escape text.now) }
 {
@@ -33,6 +34,7 @@ fn push_escaped(line: &mut Vec<u8>, alloc: Global, text: &str) -> Result<(), All
 
 /// Appends the text to the line, between quotes, as `serde_json` writes it.
 /// The only error is refused memory.
+#[tactic(auto, using(std::proofs::Common::append_assoc))]
 pub fn push_quoted(line: &mut Vec<u8>, alloc: Global, text: &str) -> Result<(), AllocError>
     ensures { IfOk result (λ _. line.new.items ≡ line.old.items ++ quoted text.now) }
 {

@@ -2,6 +2,8 @@
 use Rattle.std.proofs.Common.{◌≡◌, ℕ, suc, ◌<◌, Bool, true, not, List, [], ◌∷◌, Option, Some, None, length, get_or}
 use Rattle.std.proofs.Common.{is_none, ap, arith, refl}
 use Rattle.std.proofs.lemmas.Bool.{lt-ltb, cond-true, false_from_ne_true}
+use Rattle.std.proofs.lemmas.List.{take_all, drop_all}
+use Rattle.std.proofs.lemmas.Str.{IsCharBoundary-after_ascii}
 use Rattle.std.proofs.lemmas.List.Sums.{position_or_len_is}
 use Rattle.std.specs.List.{position, position_or_len, list_all}
 use Rattle.std.proofs.lemmas.List.Folds.{list_all_at}
@@ -35,3 +37,5 @@ pub first_byte_none : (test : ℕ → Bool) (hay : List ℕ) → IsFirstByte tes
     hay
 first_byte_none test hay none = position_or_len_is test hay (length hay) 0 (omega arith)
     (λ k h. false_from_ne_true _ (none k (omega arith) h)) (λ h. absurd (omega arith))
+
+pub ruleset cut_rules = (first_byte_at, first_byte_none, take_all, drop_all, IsCharBoundary-after_ascii)

@@ -1,7 +1,6 @@
 -- The pair of a line, and the order of pairs.
 use Rattle.std.proofs.Common.{◌≡◌, ℕ, ◌<◌, ◌&&◌, Bool, true, cond, List, ◌∷◌, ◌++◌, length, take, Some}
-use Rattle.std.proofs.Common.{None, get_or, refl, sym, ap, ◌∙◌, arith, append_assoc, Less}
-use Rattle.std.proofs.Common.{Greater}
+use Rattle.std.proofs.Common.{None, get_or, refl, sym, ap, ◌∙◌, arith, append_assoc}
 use Rattle.std.specs.List.{position_or_len, before_first, after_first}
 use Rattle.std.specs.Cmp.{IsTotalOrder}
 use Rattle.std.proofs.lemmas.Bool.{and_parts, eqb-true, cases_lt}
@@ -11,8 +10,7 @@ use Rattle.std.proofs.lemmas.List.Sums.{split_at_first, passes_at_first}
 use Rattle.std.proofs.Math.Seq.{take-append_seam}
 use Rattle.cdxj_places.specs.Pair.{is_space, is_key, is_stamp, key_part, stamp_part, tail_part, begins_with_space}
 use Rattle.cdxj_places.specs.Pair.{begins_with_pair, pair_of}
-use Rattle.cdxj_places.specs.Pairs.{Pair, pair_cmp, place_pair}
-use Rattle.cdxj_places.specs.Places.{PlaceValue, place_cmp}
+use Rattle.cdxj_places.specs.Pairs.{Pair, pair_cmp}
 use Rattle.cdxj_places.proofs.PlaceLaw.{key_no_space, before_first_at, after_first_at}
 
 -- ---- the pair of a text
@@ -83,12 +81,3 @@ pair_longer x y p h =
 
 pub pair_cmp_total : IsTotalOrder pair_cmp
 pair_cmp_total = grind (arith, nat_list_cmp_total)
-
-module _ (p q : PlaceValue) where
-  -- places of a lower pair are lower
-  pub lower_pair : pair_cmp (place_pair p) (place_pair q) ≡ Less → place_cmp p q ≡ Less
-  lower_pair e = grind arith
-
-  -- places of a higher pair are higher
-  pub higher_pair : pair_cmp (place_pair p) (place_pair q) ≡ Greater → place_cmp p q ≡ Greater
-  higher_pair e = grind arith

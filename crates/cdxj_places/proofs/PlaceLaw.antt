@@ -32,8 +32,7 @@ digit_byte : (b : ℕ) → IsDigit b → b ≢ 32
 digit_byte b h e = cc
 
 pub key_no_space : (key : List ℕ) → is_key key ≡ true → All (λ b. b ≢ 32) key
-key_no_space key h = All-weaker (λ b. is_key_byte b ≡ true) (λ b. b ≢ 32) key_byte key
-    (AllPass-from_list_all is_key_byte key (and_parts _ _ h).1)
+key_no_space key h = grind (arith, All-weaker, AllPass-from_list_all, and_parts)
 
 pub digits_no_space : (ds : List ℕ) → list_all is_ascii_digit ds ≡ true → All (λ b. b ≢ 32) ds
 digits_no_space ds h = All-weaker IsDigit (λ b. b ≢ 32) digit_byte ds (AllPass-from_list_all is_ascii_digit ds h)
@@ -86,22 +85,7 @@ offset_text n small =
 
 pub place_in-place_text : (p : PlaceValue) → IsPlace p → place_in (place_text p) ≡ Some p
 unfolding place_in
-place_in-place_text p h =
-    grind (
-      arith,
-      key_no_space,
-      digits_no_space,
-      and_parts,
-      decimal,
-      digits_decimal,
-      own,
-      after_first_at,
-      before_first_at,
-      before_last_at,
-      after_last_at,
-      offset_text,
-      digits_value-decimal,
-    )
+place_in-place_text p h = grind (arith, key_no_space, digits_no_space, and_parts, digits_decimal, own, after_first_at, before_first_at, before_last_at, after_last_at, offset_text, digits_value-decimal)
 
 digit_ascii : (b : ℕ) → IsDigit b → b < 128
 digit_ascii b h = grind (arith, nat_tests)

@@ -5,6 +5,7 @@ ghost use Rattle.cdxj_places.specs.Abbreviated.{AreBytes, StartsWith, bytes_valu
 use crate::order::HasPlace;
 
 /// Returns the first `N` bytes, padded with zeros if there are fewer.
+#[tactic(auto, using(crate::proofs::Abbreviations::padded_copied))]
 pub fn abbreviated<const N: usize>(bytes: &[u8]) -> [u8; N]
     ensures { result ≡ padded N bytes.now }
 {

@@ -7,6 +7,7 @@ use memchr::memchr;
 
 /// Returns the text before the first space, or the whole text if there is none, and the text after
 /// that space.
+#[tactic(auto, using(crate::proofs::Found::cut_rules))]
 pub fn cut_first(text: &str) -> (&str, &str)
     ensures before { result.0.now ≡ before_first is_space text.now }
     ensures after { result.1.now ≡ after_first is_space text.now }

@@ -14,12 +14,14 @@ use crate::order::HasPlace;
 use crate::place::Place;
 
 /// Places are totally ordered, and two places compare as equal only if they are the same.
+#[tactic(auto, using(crate::proofs::PlaceOrder::place_cmp_total, crate::proofs::PlaceOrder::same_place))]
 pub fn places_are_ordered()
     ensures total { IsTotalOrder place_cmp }
     ensures same { (p q : PlaceValue) → place_cmp p q ≡ Equal → p ≡ q }
 {}
 
 /// Pairs are totally ordered, and places of different pairs are ordered as their pairs.
+#[tactic(auto, using(crate::proofs::PairLemmas::pair_cmp_total))]
 pub fn pairs_are_ordered()
     ensures total { IsTotalOrder pair_cmp }
     ensures lower { (p q : PlaceValue) → pair_cmp (place_pair p) (place_pair q) ≡ Less
@@ -75,6 +77,7 @@ pub fn rising_list_is_unique<T: HasPlace>()
 
 /// Mapping things to their views and then ordering the views by place gives the same list as
 /// ordering the things by place and then mapping them.
+#[tactic(auto, using(crate::proofs::RisingAlike::rising_referred))]
 pub fn rising_list_of_views<X, Y, P>()
     ensures { (view : X → Y) → (place : Y → P) → (cmp : P → P → Ordering) → (things : List X)
         → map view (rising (λ thing. place (view thing)) cmp things)

@@ -9,21 +9,21 @@ use Rattle.warc_core.specs.Next.{next_at}
 use Rattle.warc_core.specs.Reading.{Reads}
 use Rattle.warc_core.specs.ReaderView.{ReaderView}
 use Rattle.warc_core.specs.Record.{after_record}
-use Rattle.warc_core.specs.Walk.{record_at, Walks}
+use Rattle.warc_core.specs.Walk.{Walks}
 use Rattle.warc_core.proofs.ArchiveLemmas.{next-spelled}
-use Rattle.warc_core.proofs.WalkLemmas.{Walks-more, none_at_end, record-unclosed, record-whole}
+use Rattle.warc_core.proofs.WalkLemmas.{Walks-more, record-unclosed, record-whole}
 use Rattle.cdxj_core.specs.Entries.{EntryValue}
 use Rattle.capture_core.specs.declared.fault.CaptureFault.{CaptureFault}
 use Rattle.capture_core.specs.Indexed.{url_of}
 use Rattle.capture_core.specs.CaptureAnswer.{Limits, Captures}
 use Rattle.capture_core.specs.RecordReading.{reading_of}
-use Rattle.index_core.specs.Accepted.{IsCaptureAt, IsCaptured, AreCaptured, IsAccepted, IsAcceptedTo, MayBeRefused}
+use Rattle.index_core.specs.Accepted.{IsCaptureAt, IsCaptured, AreCaptured, IsAcceptedTo, MayBeRefused}
 use Rattle.capture_core.specs.Fault.{fault_offset}
 use Rattle.index_core.specs.Captures.{TakesRecord}
 use Rattle.index_core.proofs.ArchiveWalks.{from_start, record_rules}
 
 -- what stands behind a head
-behind_head : (limit start : ℕ) (h : HeadView) (z y : List ℕ) → next_at limit start z ≡ Ok (Some h, y)
+pub behind_head : (limit start : ℕ) (h : HeadView) (z y : List ℕ) → next_at limit start z ≡ Ok (Some h, y)
     → drop (length h.raw) z ≡ y
 behind_head limit start h z y r = ap (drop (length h.raw)) (next-spelled limit start z y h r).0
     ∙ drop-append_seam h.raw y
@@ -68,11 +68,6 @@ module _ (types : Kind → Bool) (limits : Limits) (limit : ℕ) (name : List �
       let there = from_start limit archive s.0 o z s.1 h y t.bytes in
       (s.0 ++ h ∷ [], Walks-more limit 0 archive s.0 o z h y s.1 t.bytes, grind (arith, captured_more))
   AddedSoFar-more left now after o gained h captured new s t = grind arith
-
-  pub AddedSoFar-end : (left now after : Option (List ℕ)) (o : ℕ) (gained : List EntryValue)
-      → AddedSoFar left now o gained → Reads (record_at limit o) (Ok None) now after
-      → IfSome left (λ archive. IsAccepted types limits limit name archive gained)
-  AddedSoFar-end left now after o gained s r = grind (arith, none_at_end)
 
   -- what comes next is refused
   pub AddedSoFar-refused : (left now : Option (List ℕ)) (o : ℕ) (gained : List EntryValue) (fault : CaptureFault)

@@ -1,4 +1,5 @@
 -- The copying of a record, piece by piece.
+use Rattle.std.proofs.lemmas.Result.{err_from_is_err_and}
 use Rattle.std.proofs.Common.{◌≡◌, ◌∙◌, ℕ, ◌+◌, ◌-◌, ◌<◌, ◌≤◌, List, [], ◌++◌, Option, Result, Ok, Err, IfSome, length}
 use Rattle.std.proofs.Common.{take, sym, append_assoc, append-nil, length-append, arith}
 use Rattle.std.proofs.lemmas.List.{length-take-le}
@@ -8,7 +9,7 @@ use Rattle.warc_core.specs.declared.fault.Fault.{Fault}
 use Rattle.devices.specs.Device.{AppendsPrefix}
 use Rattle.warc_core.specs.HeadView.{HeadView, record_length}
 use Rattle.warc_core.specs.Reading.{Reads}
-use Rattle.warc_core.specs.ReaderView.{ReaderView, IsUnread, state_of}
+use Rattle.warc_core.specs.ReaderView.{ReaderView, state_of}
 use Rattle.warc_core.specs.Calls.{GivesBlock, Finishes}
 use Rattle.warc_core.specs.Record.{closing, after_record}
 use Rattle.devices.proofs.DeviceLemmas.{Appends-none, Appends-join}
@@ -36,14 +37,7 @@ consumes_head raw known = grind arith
 wrote_before : (n : ℕ) (a piece : List ℕ) (known mid later w v u : Option (List ℕ)) → Consumes known mid a
     → Appends w v a → Consumes mid later piece → AppendsPrefix v u piece → length a + length piece ≤ n
     → WroteFront n known w u
-wrote_before n a piece known mid later w v u c k d p l =
-    let part = p.1.front in
-    record {
-      front = a ++ part;
-      most = grind (arith, length-append);
-      begins = grind (arith, append_assoc);
-      grown = Appends-join w v u a part k p.1.grown;
-    }
+wrote_before n a piece known mid later w v u c k d p l = grind (arith, length-append, append_assoc, Appends-join)
 
 module _ (h : HeadView) (before : Option (List ℕ)) where
   -- ---- the head and the block
@@ -56,10 +50,6 @@ module _ (h : HeadView) (before : Option (List ℕ)) where
         (consumes_head h.raw before) p (omega arith);
     ends = tt;
   })
-
-  pub head_copied : (now : ReaderView) (w u : Option (List ℕ)) → IsUnread now h → Appends w u h.raw
-      → CopiedBut h.parts.block_length h now before before w u
-  head_copied now w u r a = grind (arith, Consumes-none, append-nil)
 
   -- a front of the block was copied, of which rest bytes are left
   module _ (rest : ℕ) (now : ReaderView) (x w v : Option (List ℕ))
@@ -98,9 +88,7 @@ module _ (h : HeadView) (before : Option (List ℕ)) where
     pub copied_all : (piece : List ℕ) (next : ReaderView) (y : Option (List ℕ)) (k k' : ℕ) → 0 < length piece
         → GivesBlock rest (record_length h) (state_of now x k) (state_of next y k') (Ok 0) piece
         → CopiedBut 0 h next before (prepend_known next.held y) w v
-    copied_all piece next y k k' some g =
-        let all = copied_more 0 piece next y v k k' g (Appends-none v) in
-        grind arith
+    copied_all piece next y k k' some g = grind (arith, Appends-none)
 
     -- the output failed in what comes next
     copied_cut : (fault : IndexFault) (piece : List ℕ) (later after u : Option (List ℕ)) → fault ≡ faults.Write
@@ -165,3 +153,5 @@ module _ (h : HeadView) (before : Option (List ℕ)) (now : ReaderView) (x w v :
         };
         ends = (s.state.0 ∙ sym size, s.state.0, behind_head h before 0 now x w v d (Ok tt) _ s.bytes);
       }
+
+pub ruleset copy_head_and_block_rules = (err_from_is_err_and, head_cut, Consumes-none, append-nil)

@@ -1,7 +1,7 @@
 -- The walk to an offset, and what was copied there.
 use Rattle.std.proofs.lemmas.Result.{err_from_is_err_and}
-use Rattle.std.proofs.Common.{◌≡◌, ◌∙◌, ℕ, ◌+◌, ◌-◌, ◌<◌, ◌≤◌, List, [], ◌∷◌, ◌++◌, ◌⊎◌, inr, Option, None, Some}
-use Rattle.std.proofs.Common.{Result, Ok, Err, IfSome, length, take, drop, refl, subst, arith}
+use Rattle.std.proofs.Common.{◌≡◌, ◌∙◌, ℕ, ◌+◌, ◌-◌, ◌≤◌, List, [], ◌∷◌, ◌++◌, ◌⊎◌, inr, Option, None, Some}
+use Rattle.std.proofs.Common.{Result, Ok, Err, IfSome, length, take, refl, subst, arith}
 use Rattle.std.specs.Io.KnownBytes.{Appends}
 use Rattle.warc_core.specs.declared.fault.Cause.{Cause}
 use Rattle.warc_core.specs.declared.fault.Fault.{Fault}
@@ -30,12 +30,6 @@ module _ (limit : ℕ) where
       → Reads (record_at limit o) (Ok (Some h)) now after → WalkedTo limit (o + record_length h) left after
   WalkedTo-more o (Some archive) (Some z) (Some y) h s r = (s.0 ++ h ∷ [], Walks-more limit 0 archive s.0 o z h y s.1 r)
   WalkedTo-more o left now after h s r = grind arith
-
-  -- the walk went past the offset
-  pub went_past : (o : ℕ) (left now after : Option (List ℕ)) (offset : ℕ) (h : HeadView) → WalkedTo limit o left now
-      → Reads (record_at limit o) (Ok (Some h)) now after → o < offset → offset < o + record_length h
-      → IfSome left (λ archive. IsInRecord limit archive offset)
-  went_past o left now after offset h s r l m = grind arith
 
   -- the archive ended before the offset, or there
   pub ends_before : (o : ℕ) (left now after : Option (List ℕ)) (offset : ℕ) → WalkedTo limit o left now
@@ -96,16 +90,11 @@ module _ (limit : ℕ) where
 
   -- ---- the whole call
 
-  prefix_there : (archive : List ℕ) (heads : List HeadView) (o : ℕ) (z : List ℕ) (w u : Option (List ℕ))
-      → Walks limit 0 archive heads o z → AppendsPrefix w u (most_written_at limit o z)
-      → AppendsPrefix w u (most_written_at limit o (drop o archive))
-  prefix_there archive heads o z w u k p = grind (arith, from_offset)
-
   pub fetched : (o : ℕ) (r : Result ℕ IndexFault) (left known w u : Option (List ℕ)) → WalkedTo limit o left known
       → CopiesNext limit o r known w u → Fetches limit o left r w u
   fetched o (Err faults.NoRecord) (Some archive) (Some z) w u s c = inr
       (s.0, record { end = o; walks = subst (Walks limit 0 archive s.0 o) c s.1 }, omega arith)
-  fetched o r left known w u s c = grind (arith, prefix_there, from_offset)
+  fetched o r left known w u s c = grind (arith, from_offset)
 
 pub ruleset next_rules = (err_from_is_err_and, next_none, next_stopped)
 

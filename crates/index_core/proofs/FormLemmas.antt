@@ -30,11 +30,7 @@ walk_within limit start bytes (h ∷ heads) end rest w l =
 -- a record's text is as long as its head says
 text_length : (limit start : ℕ) (bytes rest : List ℕ) (h : HeadView) → record_at limit start bytes ≡ Ok (Some h, rest)
     → length (take (record_length h) bytes) ≡ record_length h
-text_length limit start bytes rest h r =
-    let s = read-spelled limit start bytes rest h r in
-    let t = s.2.is_text in
-    let size : length s.1 ≡ record_length h = grind (arith, length-append) in
-    grind (arith, front_of)
+text_length limit start bytes rest h r = grind (arith, read-spelled, length-append, front_of)
 
 -- what stands at the offset of bytes, by what is read of them
 abbrev read_as : ℕ → List ℕ → Result (Option HeadView × List ℕ) Cause → Result (List ℕ) IndexFault
@@ -110,9 +106,7 @@ module _ (limit : ℕ) (archive : List ℕ) (offset : ℕ) where
       from_offset_on result before after i s = grind arith
 
 pub length_agrees : LengthAgrees
-length_agrees limit offset len archive result before after reached (inl (far, e)) =
-    let l = walk_within limit 0 archive reached.records.0 offset reached.records.1 reached.records.2 (omega arith) in
-    absurd (omega arith)
+length_agrees limit offset len archive result before after reached (inl (far, e)) = grind (arith, walk_within)
 length_agrees limit offset len archive result before after reached (inr c) =
     from_length limit archive offset reached.records len reached.sized result before after c.1
 

@@ -47,7 +47,7 @@ each_put A e [] a h = (a, tt)
 each_put A e (f ∷ es) a h = grind (arith, each_put A e es a h.1)
 
 -- what holds of each holds of each in the order of places
-each_in_places : (A : EntryValue → Type 0) (es : List EntryValue) → AllByRecursion A es
+pub each_in_places : (A : EntryValue → Type 0) (es : List EntryValue) → AllByRecursion A es
     → AllByRecursion A (in_places es)
 each_in_places A [] h = tt
 each_in_places A (e ∷ es) h = each_put A e (in_places es) h.0 (each_in_places A es h.1)

@@ -14,7 +14,7 @@ use Rattle.capture_core.specs.Fault.{fault_offset}
 use Rattle.capture_core.proofs.Captures.{one_capture}
 use Rattle.index_core.specs.declared.fault.IndexFault.{IndexFault}
 use Rattle.index_core.specs.declared.fault.IndexFault.TheVariants as faults
-use Rattle.index_core.specs.Accepted.{AreCaptured, IsTaken, MayBeRefused, IsAcceptedTo}
+use Rattle.index_core.specs.Accepted.{AreCaptured, IsTaken, IsAcceptedTo}
 use Rattle.index_core.specs.Adding.{Adds}
 use Rattle.index_core.specs.Indexing.{Held}
 use Rattle.index_core.specs.Laws.{IsNoFaultOfArchive}
@@ -34,13 +34,6 @@ module _ (types : Kind → Bool) (limits : Limits) (limit : ℕ) (name archive :
   no_further (Archive f) gained (h ∷ more) p t i v w a = absurd (grind (arith, damage))
   no_further (LineTooLong o) gained (h ∷ more) p t i v w a = absurd (grind (arith, no_long_line))
   no_further (KeyTooLong o) gained (h ∷ more) p t i v w a = absurd (i tt)
-
-  -- one place is refused for one reason
-  one_reason : (this that : CaptureFault) (r : List ℕ) → (IsNoFaultOfArchive this → ⊥)
-      → (IsNoFaultOfArchive that → ⊥) → fault_offset this ≡ fault_offset that
-      → MayBeRefused types limits limit name (fault_offset this) r this
-      → MayBeRefused types limits limit name (fault_offset that) r that → this ≡ that
-  one_reason this that r i j e x y = grind (arith, damage)
 
   -- the walk to a refusal goes on from where any other stopped
   refusal_extends : (fault : CaptureFault) (gained : List EntryValue) (hs : List HeadView) (o : ℕ) (r : List ℕ)
@@ -66,7 +59,7 @@ module _ (types : Kind → Bool) (limits : Limits) (limit : ℕ) (name archive :
       let none = no_further this gained m.0 (fault_offset that) w.rest i v m.2
       (each_behind (IsTaken types limits limit name archive) v.heads m.0
       (rw m.1 at (all_taken types limits limit name archive w.heads others w.captured))) in
-      grind (arith, one_reason)
+      grind (arith, damage)
 
   adds_once : (old new other : Held) (this that : Result ℕ IndexFault) → IsOfArchive this → IsOfArchive that
       → Adds types limits limit name (Some archive) old new this
@@ -122,3 +115,5 @@ writes_one_index captures before n m text other t o = grind (arith, grown)
 
 pub writes_index_front : WritesIndexFront
 writes_index_front captures before n fault text other t o = grind (arith, grown, has_front)
+
+pub ruleset one_addition_rules = (adds_one_list, adds_first, writes_one_index, writes_index_front)

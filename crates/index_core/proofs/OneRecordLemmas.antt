@@ -1,6 +1,6 @@
 -- An archive decides which record is at an offset, and what is written of it.
-use Rattle.std.proofs.Common.{◌≡◌, ◌∙◌, ℕ, List, [], ◌++◌, ◌⊎◌, inl, inr, Option, Some, Result, Ok}
-use Rattle.std.proofs.Common.{Err, IfOk, length, drop, refl, sym, ap, arith}
+use Rattle.std.proofs.Common.{◌≡◌, ℕ, List, [], ◌++◌, ◌⊎◌, inl, inr, Option, Some, Result, Ok}
+use Rattle.std.proofs.Common.{Err, IfOk, length, drop, refl, ap, arith}
 use Rattle.warc_core.specs.Next.{next_at}
 use Rattle.warc_core.specs.Walk.{record_at}
 use Rattle.capture_core.specs.declared.fault.CaptureFault.TheVariants.{Archive}
@@ -90,23 +90,14 @@ module _ (limit offset len : ℕ) (bytes before : List ℕ) where
   settled_at result text i s = grind arith
 
 pub fetches_at_one_text : FetchesAtOneText
-fetches_at_one_text limit offset len archive before this that text other i j (inl x) (inl y) p q =
-    (x.1 ∙ sym y.1, λ n. grind arith)
+fetches_at_one_text limit offset len archive before this that text other i j (inl x) (inl y) p q = grind arith
 fetches_at_one_text limit offset len archive before this that text other i j (inr x) (inr y) p q =
     let bytes = drop offset archive in
     settled_once (StandsAs limit offset len bytes) (one_stands_as limit offset len bytes before) offset before this that
     text other (settled_at limit offset len bytes before this text i x.1)
     (settled_at limit offset len bytes before that other j y.1) p q
-fetches_at_one_text limit offset len archive before this that text other i j (inl x) (inr y) p q =
-    absurd (omega (arith, x.0, y.0))
-fetches_at_one_text limit offset len archive before this that text other i j (inr x) (inl y) p q =
-    absurd (omega (arith, x.0, y.0))
-
--- a record of this length
-wrote_at : (limit offset len : ℕ) (bytes : List ℕ) (text : List ℕ) → BeginsRecord limit offset bytes len text
-    → (result : Result ℕ IndexFault) (before after : Option (List ℕ)) → IsFailure result
-    → CopiesNextOf limit offset len result (Some bytes) before after → WroteRecord text result before after
-wrote_at limit offset len bytes text b result before after i c = grind arith
+fetches_at_one_text limit offset len archive before this that text other i j (inl x) (inr y) p q = grind arith
+fetches_at_one_text limit offset len archive before this that text other i j (inr x) (inl y) p q = grind arith
 
 pub fetches_at_front : FetchesAtFront
-fetches_at_front limit offset len archive before n that text other i r s = grind (arith, failed_front, grown, wrote_at)
+fetches_at_front limit offset len archive before n that text other i r s = grind (arith, failed_front, grown)

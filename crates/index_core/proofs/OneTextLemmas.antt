@@ -25,12 +25,7 @@ grown before bytes text a = grind arith
 -- and a front of it
 pub has_front : (before bytes : List ℕ) (whole part : Option (List ℕ)) → whole ≡ Some (before ++ bytes)
     → AppendsPrefix (Some before) part bytes → HasFront before whole part
-has_front before bytes whole part e (more, w) = (
-  w.front,
-  more,
-  rw (← w.whole) e,
-  grown before w.front part w.grown,
-)
+has_front before bytes whole part e (more, w) = grind (arith, grown)
 
 -- a cause of the archive's is that of the bytes
 pub damage : {A : Type 0} (c : Cause) (r : Result A Cause) → (IsNoDamage c → ⊥) → IsPossibleCause c r → r ≡ Err c
@@ -107,3 +102,5 @@ verifies_one_text limit archive before this that text other i j r s = grind (ari
 
 pub verifies_part : VerifiesPart
 verifies_part limit archive before this that text other i j r s = grind (arith, reports_part)
+
+pub ruleset one_report_rules = (verifies_one_text, verifies_part)

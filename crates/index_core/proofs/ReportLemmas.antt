@@ -125,13 +125,7 @@ module _ {A X : Type 0} {limit : ℕ} {form : Form A X} {left now : Option (List
       → ((read : List X) → x ≡ form.read_tally read → y ≡ form.read_tally (read ++ item ∷ []))
       → Appends v u (form.read_line item)
       → Reporting limit form left after (o + record_length (form.head item)) y w u
-  reporting_more item r b l k counts a = record {
-    known = grind (arith, Walks-more, one_more, Appends-join);
-    read = s.read ++ item ∷ [];
-    follow = follow_push form.head 0 s.read o item s.follow b;
-    answer_is = counts s.read s.answer_is;
-    text = grind (arith, one_line, Appends-join);
-  }
+  reporting_more item r b l k counts a = grind (arith, Walks-more, Appends-join, follow_push, one_line)
 
   -- the archive ended
   pub reporting_end : (after : Option (List ℕ)) → Reads (record_at limit o) (Ok None) now after
@@ -160,8 +154,7 @@ module _ {A X : Type 0} {limit : ℕ} {form : Form A X} {left now : Option (List
   pub reporting_fault : (fault : Fault) (given : IndexFault) (after u : Option (List ℕ)) (k k' : ℕ)
       → Reads (record_at limit o) (Err fault.cause) now after → fault.offset ≡ o → WritesFault fault given v u k k'
       → Owes limit form left (Err given) w u
-  reporting_fault fault (faults.Capture (Archive f)) after u k k' r e h =
-      (grind (arith, Appends-join), rw h.0 (s.read, rw e s.follow, Appends-join w v u _ _ s.text h.1))
+  reporting_fault fault (faults.Capture (Archive f)) after u k k' r e h = grind (arith, Appends-join)
   reporting_fault fault faults.Write after u k k' r e h = (
     grind (arith, fault_cut),
     (
@@ -177,13 +170,7 @@ module _ {A X : Type 0} {limit : ℕ} {form : Form A X} {left now : Option (List
 module _ {A X : Type 0} (limit : ℕ) (form : Form A X) where
   pub reporting_start : (left w : Option (List ℕ)) (x : A) → ((archive : List ℕ) → x ≡ form.tally archive [])
       → x ≡ form.read_tally [] → Reporting limit form left (prepend_known [] left) 0 x w w
-  reporting_start left w x t k = record {
-    known = grind (arith, Appends-none);
-    read = [];
-    follow = refl;
-    answer_is = k;
-    text = Appends-none w;
-  }
+  reporting_start left w x t k = grind (arith, Appends-none)
 
   -- there was no memory for a reader
   pub reporting_none : (fault : Fault) (given : IndexFault) (left w u : Option (List ℕ)) (x : A) (k k' : ℕ)

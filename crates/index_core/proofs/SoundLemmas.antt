@@ -1,8 +1,6 @@
 -- Captures that stay sound: each has its own place, under a name that was added.
 use Rattle.std.proofs.Common.{◌≡◌, ℕ, ◌<◌, true, List, [], ◌∷◌, ◌++◌, Option, IfSome, option_to_list, append-nil, arith}
-use Rattle.std.specs.Ordering.{ordering_then}
 use Rattle.std.specs.FinMap.{slice_cmp-IsAntisymmetric, nat_cmp-IsAntisymmetric}
-use Rattle.std.specs.declared.cmp.Ordering.{Ordering}
 use Rattle.std.specs.declared.cmp.Ordering.TheVariants.{Equal}
 use Rattle.std.proofs.lemmas.List.Folds.{list_any-append}
 use Rattle.std.proofs.lemmas.Slice.Eq.{bytes_eq-Decides}
@@ -11,18 +9,15 @@ use Rattle.cdxj_core.specs.Entries.{EntryValue, entry_place}
 use Rattle.cdxj_places.specs.Places.{place_cmp}
 use Rattle.cdxj_places.proofs.RisingLaws.{each_join, each_weaker}
 use Rattle.capture_core.specs.CaptureAnswer.{IsEntryOf}
-use Rattle.index_core.specs.Indexing.{HaveOwnPlaces, AreNamed, AreSound, is_among}
+use Rattle.index_core.specs.Indexing.{HaveOwnPlaces, AreSound, is_among}
 use Rattle.index_core.specs.Captures.{StandBefore}
 
 -- ---- places
 
-both_equal : (a b : Ordering) → ordering_then a b ≡ Equal → (a ≡ Equal) × (b ≡ Equal)
-both_equal a b e = grind arith
-
 -- a capture that stands before the offset has another place than one at the offset
 apart : (name : List ℕ) (o : ℕ) (x e : EntryValue) → e.offset ≡ o → e.filename ≡ name
     → (x.filename ≡ name → x.offset < o) → place_cmp (entry_place x) (entry_place e) ≡ Equal → ⊥
-apart name o x e at named before q = grind (arith, both_equal, slice_cmp-IsAntisymmetric, nat_cmp-IsAntisymmetric)
+apart name o x e at named before q = grind (arith, slice_cmp-IsAntisymmetric, nat_cmp-IsAntisymmetric)
 
 places_push : (name : List ℕ) (o : ℕ) (xs : List EntryValue) (e : EntryValue) → e.offset ≡ o → e.filename ≡ name
     → StandBefore name o xs → HaveOwnPlaces xs → HaveOwnPlaces (xs ++ e ∷ [])
@@ -38,11 +33,6 @@ pub before_step : (name : List ℕ) (limit o p : ℕ) (h : HeadView) (xs : List 
     → o < p → h.start ≡ o → IfSome captured (IsEntryOf h name limit) → StandBefore name o xs
     → StandBefore name p (xs ++ option_to_list captured)
 before_step name limit o p h xs captured less at e before = grind (arith, append-nil, each_weaker, each_join)
-
--- what a record adds has the archive's name
-pub named_step : (limit : ℕ) (name : List ℕ) (h : HeadView) (xs : List EntryValue) (captured : Option EntryValue)
-    → IfSome captured (IsEntryOf h name limit) → AreNamed name xs → AreNamed name (xs ++ option_to_list captured)
-named_step limit name h xs captured e named = grind (arith, append-nil, each_join)
 
 pub sound_step : (limit : ℕ) (names : List (List ℕ)) (name : List ℕ) (o : ℕ) (h : HeadView) (xs : List EntryValue)
     (captured : Option EntryValue) → is_among names name ≡ true → h.start ≡ o → IfSome captured (IsEntryOf h name limit)

@@ -1,5 +1,5 @@
 -- What a verification says of a record, and what it counts.
-use Rattle.std.proofs.Common.{◌≡◌, ℕ, ◌+◌, ◌≤◌, List, [], ◌∷◌, ◌++◌, Option, Some, Ok, Err, IfSome}
+use Rattle.std.proofs.Common.{◌≡◌, ℕ, ◌+◌, List, [], ◌∷◌, ◌++◌, Option, Some, Ok, Err, IfSome}
 use Rattle.std.proofs.Common.{take, length-append, arith}
 use Rattle.std.proofs.lemmas.List.Sums.{sum_by-append}
 use Rattle.std.proofs.Math.Seq.{drop-append_seam}
@@ -17,15 +17,10 @@ use Rattle.index_core.specs.declared.verified.Verified.{Verified}
 use Rattle.index_core.proofs.ArchiveWalks.{from_offset, record_rules}
 use Rattle.index_core.proofs.ReportLemmas.{Form, IsLine, CountsOn, Reporting}
 
-judged_record : (judge : List ℕ → Verdict) (n : ℕ) (z w : List ℕ) (v : Verdict) → judge_record judge n z ≡ Ok (v, w)
+pub judged_record : (judge : List ℕ → Verdict) (n : ℕ) (z w : List ℕ) (v : Verdict) → judge_record judge n z ≡ Ok (v, w)
     → (after_record n z ≡ Ok (tt, w)) × (v ≡ judge (take n z))
 unfolding judge_record
 judged_record judge n z w v h = grind arith
-
--- a judged record was read
-pub judged_reads : (judge : List ℕ → Verdict) (n : ℕ) (v : Verdict) (before after : Option (List ℕ))
-    → Reads (judge_record judge n) (Ok v) before after → Reads (after_record n) (Ok tt) before after
-judged_reads judge n v before after h = grind (arith, judged_record)
 
 pub judged_met : (judge : List ℕ → Verdict) (n : ℕ) (c : Cause) (before after : Option (List ℕ))
     → Reads (judge_record judge n) (Err c) before after → Reads (after_record n) (Err c) before after
@@ -74,7 +69,4 @@ pub one_judged : (judged : List Judged) (j : Judged) (n d : ℕ)
     → ◌≡◌ {A = Verified} (record { records = n + 1; differing = d + differing_by j.1 }) (verified_of (judged ++ j ∷ []))
 one_judged judged j n d k = grind (arith, judged, length-append, sum_by-append)
 
-pub one_at_most : (v : Verdict) → differing_by v ≤ 1
-one_at_most v = grind arith
-
-pub ruleset verdict_rules = (record_rules, judged_reads, judged_met)
+pub ruleset verdict_rules = (record_rules, judged_record, judged_met)

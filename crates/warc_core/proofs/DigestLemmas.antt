@@ -46,12 +46,7 @@ module _ (left len rest : ℕ) (start : List ℕ) (old now next : ReaderView) (b
       → GivesBlock rest len (state_of now mid k) (state_of next after k') (Ok n) piece
       → ((m : List ℕ) → Holds hasher m → Holds hasher' (m ++ take n piece))
       → Digesting left len (rest - n) start old next before after hasher'
-  Digesting-more hasher' n piece k k' g more = record {
-    taken = d.taken ++ take n piece;
-    holds = more d.taken d.holds;
-    stands = grind arith;
-    same = grind (arith, digest-part, length-take-le);
-  }
+  Digesting-more hasher' n piece k k' g more = grind (arith, digest-part, length-take-le)
 
   pub Digesting-fault : (fault : Fault) (piece : List ℕ) (count k k' : ℕ)
       → GivesBlock rest len (state_of now mid k) (state_of next after k') (Err fault) piece → k ≡ count

@@ -1,4 +1,8 @@
 -- What a piece of a head does to the reading of it.
+use Rattle.warc_core.proofs.HeadLemmas.{going-start}
+use Rattle.warc_core.proofs.HeadLemmas.{going-end}
+use Rattle.warc_core.proofs.ReadingLemmas.{nil_of}
+use Rattle.warc_core.proofs.HeadLemmas.{going-full}
 use Rattle.std.proofs.Common.{◌≡◌, ◌∙◌, ℕ, ◌+◌, ◌-◌, ◌<◌, ◌≤◌, List, ◌++◌, Option, Ok, Err}
 use Rattle.std.proofs.Common.{true, false, refl, sym, length, take, drop, arith, ap, append_assoc, length-append}
 use Rattle.std.specs.Io.KnownBytes.{prepend_known}
@@ -6,7 +10,7 @@ use Rattle.std.proofs.lemmas.List.{take-append-drop, length-take-le, take-append
 use Rattle.warc_core.specs.declared.fault.Cause.TheVariants as causes
 use Rattle.warc_core.specs.Reading.{Reads}
 use Rattle.warc_core.proofs.ReadingLemmas.{GoesOn}
-use Rattle.warc_core.specs.HeadText.{has_version, is_closed, head_text, IsFoundHead, IsOpenAfter, ClosesFirst}
+use Rattle.warc_core.specs.HeadText.{has_version, is_closed, head_text, IsFoundHead, ClosesFirst}
 use Rattle.warc_core.proofs.HeadLemmas.{going, going-found, going-wrong, going-gathered}
 use Rattle.std.proofs.Math.Seq.{take-append-add}
 use Rattle.warc_core.proofs.HeadLemmas.{agrees-longer, begins_version}
@@ -49,12 +53,6 @@ module _ (limit : ℕ) (seen b : List ℕ) (before left : Option (List ℕ)) (un
       let front = take-append-add seen (take count b) k in
       grind (arith, head-piece k (take end new), take-take, going-found, has_version-take)
 
--- no front of what was seen ends a head, nor does one of what was added
-pub open-more : (seen piece new : List ℕ) → new ≡ seen ++ piece
-    → ((n : ℕ) → n ≤ length seen → is_closed (take n seen) ≡ false) → IsOpenAfter new (length seen) → (n : ℕ)
-    → n ≤ length new → is_closed (take n new) ≡ false
-open-more seen piece new e before after n l = grind (arith, take-append-le)
-
 -- the text that was gathered is a head
 pub head-is-found : (limit : ℕ) (seen b new : List ℕ) (count end : ℕ) → count ≤ length b → new ≡ seen ++ take count b
     → ((n : ℕ) → n ≤ length seen → is_closed (take n seen) ≡ false) → ClosesFirst new (length seen) end
@@ -68,9 +66,7 @@ head-is-found limit seen b new count end c e before h room agree =
 module _ (limit size : ℕ) (b : List ℕ) (version : IsVersionLine (take 10 b)) (closes : ClosesAt b size) (small : size ≤ limit)
   where
     none : NoneBetween b 0 (size - 4)
-    none k from below h =
-        none-in-run b 0 0 (λ j x y z. omega (arith, y)) (size - 4) (λ j l p q. grind (arith, closes.first j)) k from
-        (omega (arith, below)) h
+    none k from below h = grind (arith, none-in-run)
 
     first : ClosesFirst b 0 (size - 4 + 4)
     first =
@@ -88,3 +84,5 @@ module _ (limit size : ℕ) (b : List ℕ) (version : IsVersionLine (take 10 b))
           first = λ n l. grind (arith, take-take, long, f.first n);
           small = omega (arith, long, small);
         }
+
+pub ruleset read_head_text_rules = (going-start, going-end, nil_of, head-wrong, head-found, going-full)

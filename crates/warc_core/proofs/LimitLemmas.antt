@@ -28,3 +28,5 @@ walks_stay low high up start bytes [] end rest w = w
 
 pub records_stay : RecordsStay
 records_stay low high up archive heads r = grind (arith, walks_stay)
+
+pub ruleset limit_rules = (text_stays, reading_stays, records_stay)

@@ -1,7 +1,8 @@
 -- The head that comes next, step by step.
+use Rattle.warc_core.proofs.ReadingLemmas.{nil_of}
 use Rattle.std.proofs.Common.{◌≡◌, ℕ, ◌+◌, ◌-◌, ◌^◌, ◌<◌, ◌≤◌, List, [], Option, None, Some, Result, Ok, Err}
 use Rattle.std.proofs.Common.{length, arith, refl, length-append}
-use Rattle.std.specs.Io.KnownBytes.{prepend_known, IsAtEnd}
+use Rattle.std.specs.Io.KnownBytes.{prepend_known}
 use Rattle.warc_core.specs.declared.fault.Cause.{Cause}
 use Rattle.warc_core.specs.declared.fault.Cause.TheVariants as causes
 use Rattle.warc_head.specs.Parts.{HeadParts}
@@ -58,15 +59,12 @@ next-nonempty : (limit start : ℕ) (z : List ℕ) → 0 < length z → next_at 
 unfolding next_at
 next-nonempty limit start z h = grind arith
 
-next-empty : (limit start : ℕ) (z : List ℕ) → z ≡ [] → next_at limit start z ≡ Ok (None, z)
+pub next-empty : (limit start : ℕ) (z : List ℕ) → z ≡ [] → next_at limit start z ≡ Ok (None, z)
 unfolding next_at
 next-empty limit start z e = rw e refl
 
 module _ (limit start : ℕ) (before left : Option (List ℕ)) (held : List ℕ)
     (same : GoesOn (next_at limit start) (next_at limit start) before (prepend_known held left)) where
-  pub next-end : held ≡ [] → IsAtEnd left → Reads (next_at limit start) (Ok None) before (prepend_known held left)
-  next-end e h = grind (arith, next-empty)
-
   pub next-more : 0 < length held → GoesOn (next_at limit start) (λ z. head_at limit start z >>= as_next) before
       (prepend_known held left)
   next-more some = grind (arith, next-nonempty, longer)
@@ -80,3 +78,5 @@ module _ (limit start : ℕ) (before left : Option (List ℕ)) (held : List ℕ)
       → Reads (head_at limit start) (Ok h) (prepend_known held left) after
       → Reads (next_at limit start) (Ok (Some h)) before after
   next-head h after some r = grind (arith, next-more)
+
+pub ruleset read_next_rules = (nil_of, next-empty)

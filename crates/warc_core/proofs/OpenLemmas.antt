@@ -1,5 +1,6 @@
 -- Calls in an open record.
-use Rattle.std.proofs.Common.{◌≡◌, ℕ, ◌+◌, ◌-◌, ◌<◌, ◌≤◌, List, [], ◌++◌, Option, Ok, Err, length, arith}
+use Rattle.warc_core.proofs.RecordLemmas.{after_block-short}
+use Rattle.std.proofs.Common.{◌≡◌, ℕ, ◌-◌, ◌<◌, ◌≤◌, List, ◌++◌, Option, Err, length, arith}
 use Rattle.std.proofs.Math.Seq.{drop-append-add}
 use Rattle.std.proofs.lemmas.List.{drop_all}
 use Rattle.std.specs.Io.KnownBytes.{Consumes}
@@ -19,10 +20,6 @@ left_in phase = 0
 pub same_open : (a b c d : ℕ) → Open a b ≡ Open c d → (a ≡ c) × (b ≡ d)
 same_open a b c d e = grind arith
 
--- what holds of the numbers of an open record holds of them, however they are named
-pub of_open : (P : ℕ → ℕ → Type 0) (phase : Phase) (a b c d : ℕ) → phase ≡ Open a b → phase ≡ Open c d → P a b → P c d
-of_open P phase a b c d h k p = grind arith
-
 pub zero_of : (n : ℕ) → (0 < n → ⊥) → n ≡ 0
 zero_of n h = omega arith
 
@@ -37,13 +34,7 @@ pub block-part : (n : ℕ) (front w : List ℕ) → length front ≤ n → after
 block-part n front w l = grind (arith, drop_all (length front) front, after_block-part n (length front) front w)
 
 pub past-part : (n : ℕ) (front w : List ℕ) → length front ≤ n → past n (front ++ w) ≡ past (n - length front) w
-past-part n front w l =
-    let e : length front + (n - length front) ≡ n = omega arith in
-    grind (arith, drop-append-add front w (n - length front))
-
--- nothing is behind the end
-pub past-end : (n : ℕ) → past n [] ≡ Ok (tt, [])
-past-end n = grind arith
+past-part n front w l = grind (arith, drop-append-add)
 
 record-part : (n : ℕ) (front w : List ℕ) → length front ≤ n → after_record n (front ++ w)
     ≡ after_record (n - length front) w
@@ -53,3 +44,7 @@ record-part n front w l = grind (arith, block-part)
 pub behind-front : (n : ℕ) (front : List ℕ) (before after : Option (List ℕ)) → length front ≤ n
     → Consumes before after front → GoesOn (after_record n) (after_record (n - length front)) before after
 behind-front n front before after l c = grind (arith, record-part)
+
+pub ruleset pass_over_rules = (past-part)
+
+pub ruleset skip_block_rules = (block-part, after_block-short)

@@ -1,5 +1,6 @@
 -- Laws of reading in steps.
-use Rattle.std.specs.Prelude.{◌==◌}
+use Rattle.std.proofs.Common.{length-append}
+use Rattle.std.proofs.Common.{length-drop}
 use Rattle.std.proofs.Common.{false, ◌≡◌, ℕ, ◌<◌, List, [], ◌++◌, Option, None, Some, Result, Ok}
 use Rattle.std.proofs.Common.{length, take, drop, arith, append_assoc}
 use Rattle.std.specs.Io.KnownBytes.{Keeps, Consumes, IsAtEnd, prepend_known}
@@ -46,5 +47,4 @@ at_end count b left e h = grind (arith, drop-nil)
 pub front_of : {A : Type 0} (n : ℕ) (xs ys : List A) → length xs ≡ n → take n (xs ++ ys) ≡ xs
 front_of n xs ys h = grind (arith, take-append_seam)
 
-pub some_bytes : (xs ys : List ℕ) → xs ≡ ys → false ≡ (length xs == 0) → 0 < length ys
-some_bytes xs ys e t = grind arith
+pub ruleset give_rules = (front_of, gave, nil_of, length-append, length-drop, at_end)

@@ -1,10 +1,10 @@
 -- Laws of what follows a block and its closing.
-use Rattle.std.proofs.Common.{◌≡◌, ◌≢◌, ℕ, ◌+◌, ◌-◌, ◌<◌, ◌≤◌, List, [], ◌∷◌, ◌++◌, Option, None, Some, Ok, Err, length}
+use Rattle.std.proofs.Common.{◌≡◌, ◌≢◌, ℕ, ◌-◌, ◌<◌, ◌≤◌, List, [], ◌∷◌, ◌++◌, Option, Ok, Err, length}
 use Rattle.std.proofs.Common.{drop, refl, arith, length-append, length-drop, get_or, suc}
 use Rattle.std.proofs.lemmas.Bool.Decides.{nat_tests}
 use Rattle.std.proofs.lemmas.List.{drop-append-le, drop-drop}
 use Rattle.warc_core.specs.declared.fault.Cause.TheVariants as causes
-use Rattle.warc_core.specs.Reading.{Reads, first_of}
+use Rattle.warc_core.specs.Reading.{Reads}
 use Rattle.warc_core.proofs.ReadingLemmas.{GoesOn}
 use Rattle.std.specs.Io.KnownBytes.{prepend_known}
 use Rattle.warc_core.specs.Record.{after_block, after_text, closing}
@@ -48,14 +48,9 @@ after_text-done w = refl
 
 module _ (before now after : Option (List ℕ)) (i : ℕ) (within : i < length closing)
     (same : GoesOn (after_text closing) (after_text (drop i closing)) before now) where
-  here : GoesOn (after_text closing) (after_text (get_or closing i 0 ∷ drop (suc i) closing)) before now
+  pub here : GoesOn (after_text closing) (after_text (get_or closing i 0 ∷ drop (suc i) closing)) before now
   here = grind arith
 
-  -- one more byte of the closing
-  pub closing-more : (o : Option ℕ) (b : ℕ) → Reads first_of (Ok o) now after → o ≡ Some b → b ≡ get_or closing i 0
-      → GoesOn (after_text closing) (after_text (drop (i + 1) closing)) before after
-  closing-more o b r e q = grind (arith, after_text-here, here)
+pub ruleset give_block_rules = (after_block-short)
 
-  pub closing-end : (o : Option ℕ) → Reads first_of (Ok o) now after → o ≡ None
-      → Reads (after_text closing) (Err causes.Closing) before after
-  closing-end o r e = grind (arith, here, after_text-end)
+pub ruleset expect_closing_rules = (after_text-other, here, after_text-end, after_text-here, after_text-done, closing-held)

@@ -24,12 +24,6 @@ pub judge-read : (judge : List ℕ → Verdict) (left : ℕ) (z rest : List ℕ)
 unfolding judge_record
 judge-read judge left z rest h = grind arith
 
--- a record was passed over
-pub judge-passed : (judge : List ℕ → Verdict) (verdict : Verdict) (left : ℕ) (before after : Option (List ℕ))
-    → ((block : List ℕ) → judge block ≡ verdict) → Reads (after_record left) (Ok tt) before after
-    → Reads (judge_record judge left) (Ok verdict) before after
-judge-passed judge verdict left before after e h = grind (arith, judge-read)
-
 pub judge-stopped : (judge : List ℕ → Verdict) (c : Cause) (left : ℕ) (before after : Option (List ℕ))
     → Reads (after_record left) (Err c) before after → Reads (judge_record judge left) (Err c) before after
 judge-stopped judge c left None after h = tt
@@ -60,12 +54,6 @@ compare-unclosed judge c left digest None mid after h k = tt
 compare-unclosed judge c left digest (Some z) None after h k = absurd h
 compare-unclosed judge c left digest (Some z) (Some w) after h k = judge-found judge c left z
     (grind (arith, digest-then))
-
-pub compare-closed : (judge : List ℕ → Verdict) (verdict : Verdict) (left : ℕ) (digest : List ℕ)
-    (before mid after : Option (List ℕ)) → Reads (digest_of_rest left []) (Ok digest) before mid
-    → Reads (after_record 0) (Ok tt) mid after → ((block : List ℕ) → digest ≡ sha1 block → verdict ≡ judge block)
-    → Reads (judge_record judge left) (Ok verdict) before after
-compare-closed judge verdict left digest before mid after h k e = grind (arith, digest-then, judge-read)
 
 -- the same record, by another name of the verdict and of where it ends
 pub judged-as : (judge other : List ℕ → Verdict) (left end other_end : ℕ) (old new : ReaderView)

@@ -11,6 +11,7 @@ use devices::{Buffer, Input};
 
 /// Reads the next bytes into `piece` and returns their number, as a read of the buffered bytes
 /// followed by the input.
+#[tactic(auto, using(crate::proofs::ReadingLemmas::give_rules))]
 fn give<I: Input>(buffer: &mut Buffer, input: &mut I, piece: &mut [u8]) -> Result<usize, Cause>
     ensures bound { IfOk result (λ n. n ≤ length piece.new) }
     ensures cause { IfErr result (λ c. c ≡ Cause.Read) }
@@ -28,6 +29,7 @@ fn give<I: Input>(buffer: &mut Buffer, input: &mut I, piece: &mut [u8]) -> Resul
 
 /// Reads the next bytes of a block into `piece`, and returns their number. The block has `left` bytes left. The errors
 /// are `Read` and `ShortBlock`.
+#[tactic(auto, using(crate::proofs::RecordLemmas::give_block_rules))]
 pub fn give_block<I: Input>(
     buffer: &mut Buffer,
     input: &mut I,
@@ -55,6 +57,7 @@ pub fn give_block<I: Input>(
 }
 
 /// Skips the `length` bytes of a block. The errors are `Read` and `ShortBlock`.
+#[tactic(auto, using(crate::proofs::OpenLemmas::skip_block_rules))]
 pub fn skip_block<I: Input>(buffer: &mut Buffer, input: &mut I, length: u64) -> Result<(), Cause>
     ensures bytes { Reads (after_block length) result
         (prepend_known buffer.old (I.remaining input.old))
@@ -74,6 +77,7 @@ pub fn skip_block<I: Input>(buffer: &mut Buffer, input: &mut I, length: u64) -> 
 }
 
 /// Passes over the next `count` bytes, or all if there are fewer. The only error is `Read`.
+#[tactic(auto, using(crate::proofs::OpenLemmas::pass_over_rules))]
 pub fn pass_over<I: Input>(buffer: &mut Buffer, input: &mut I, count: u64) -> Result<(), Cause>
     ensures bytes { Reads (past count) result
         (prepend_known buffer.old (I.remaining input.old))

@@ -44,6 +44,7 @@ pub fn head_is_spelled()
 
 /// A record stays the same under a higher limit of heads: as a text, as what is read from an archive, and in its
 /// archive.
+#[tactic(auto, using(crate::proofs::LimitLemmas::limit_rules))]
 pub fn record_stays_under_higher_limit()
     ensures text { TextStays }
     ensures read { ReadingStays }

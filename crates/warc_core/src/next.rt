@@ -108,6 +108,7 @@ fn read_head<I: Input>(
 
 /// Reads the head of the record that starts at this offset, if a byte follows. The errors are those of the head, `Memory`,
 /// `Read` and `TooFar`. A usual head takes the spare memory, if there is some.
+#[tactic(auto, using(crate::proofs::NextLemmas::read_next_rules))]
 pub fn read_next<I: Input>(
     alloc: Global,
     spare: Option<HeadMemory>,

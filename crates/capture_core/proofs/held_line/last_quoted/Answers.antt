@@ -1,12 +1,8 @@
-use Rattle.std.proofs.Common.{◌∙◌, take, drop, length-drop, sym, ap, arith}
-use Rattle.std.proofs.lemmas.List.{take_all}
+use Rattle.std.proofs.Common.{◌∙◌, take, drop, sym, ap}
 use Rattle.std.specs.List.{after_last}
 use Rattle.capture_core.specs.Spelling.{is_quote}
-use Rattle.capture_core.proofs.HeldLines.{after_quote, no_quote}
+use Rattle.capture_core.proofs.HeldLines.{no_quote}
 use Rattle.capture_core.proofs.held_line.last_quoted.Goals as goal
-
-pub returns-in-Some : goal.returns-in-Some
-returns-in-Some c = grind (arith, take_all, length-drop, after_quote)
 
 pub returns-in-None : goal.returns-in-None
 returns-in-None c =

@@ -1,4 +1,4 @@
-use Rattle.std.proofs.Common.{◌≡◌, ◌∙◌, ◌++◌, ◌==◌, ◌<◌, ℕ, List, Some, None, ap, codes, cond, drop, length, position}
+use Rattle.std.proofs.Common.{◌≡◌, ◌∙◌, ◌++◌, ◌==◌, ℕ, List, Some, ap, codes, drop, position}
 use Rattle.std.proofs.Common.{arith, length-append, refl}
 use Rattle.std.proofs.lemmas.Bool.{lt-ltb}
 use Rattle.std.proofs.lemmas.Bool.Decides.{Decides-eqb}
@@ -7,10 +7,7 @@ use Rattle.capture_core.specs.FieldValue.{media_type, semicolon}
 use Rattle.capture_core.proofs.http_record.has_http_type.Goals as goal
 
 cut : (rest : List ℕ) → position (λ byte. byte == semicolon) (codes "application/http;" ++ rest) ≡ Some 16
-cut rest =
-    let http = codes "application/http;" in
-    let more : 16 < length (http ++ rest) = omega (arith, length-append http rest) in
-    ap (λ t. cond t (Some 16) None) (lt-ltb 16 (length (http ++ rest)) more)
+cut rest = grind (arith, length-append, lt-ltb)
 
 http_with : (rest : List ℕ) → media_type (codes "application/http;" ++ rest) ≡ codes "application/http"
 unfolding media_type

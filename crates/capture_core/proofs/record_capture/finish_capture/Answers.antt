@@ -1,9 +1,10 @@
+use Rattle.warc_core.proofs.VerdictLemmas.{digest-found}
 use Rattle.std.proofs.Common.{arith, ◌≡◌, ◌∙◌, ◌-◌, ◌++◌, length, take, option_map}
 use Rattle.sha1.specs.Sha1.{sha1}
 use Rattle.warc_core.specs.HeadView.{record_length}
 use Rattle.capture_core.specs.ResponseView.{response_view}
 use Rattle.capture_core.specs.CaptureAnswer.{usual_limits}
-use Rattle.capture_core.proofs.CaptureLemmas.{rest-behind, behind-digest, digest-met, digest-known, digest-settled}
+use Rattle.capture_core.proofs.CaptureLemmas.{rest-behind, behind-digest, digest-known, digest-settled}
 use Rattle.capture_core.proofs.CaptureLemmas.{digest-made, capture-known, some-always, some-then}
 use Rattle.capture_core.proofs.record_capture.finish_capture.Goals as goal
 
@@ -50,4 +51,4 @@ pub returns-in_err-digest_rest-in-None : goal.returns-in_err-digest_rest-in-None
 returns-in_err-digest_rest-in-None g c =
     let d = c.in_err-digest_rest-in-None.ensures _ (record_length c.args.indexed.head.now)
     c.requires.ready.stands.phase_is in
-    grind (arith, digest-met)
+    grind (arith, digest-found)

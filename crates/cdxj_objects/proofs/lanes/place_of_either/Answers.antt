@@ -1,7 +1,5 @@
-use Rattle.std.proofs.Common.{◌≡◌, ◌∙◌, ◌-◌, sym, length, drop, length-drop, take_all, arith}
+use Rattle.std.proofs.Common.{◌∙◌, ◌-◌, sym, length, drop, length-drop, take_all, arith}
 use Rattle.std.proofs.lemmas.Bool.{cond-false, ne_eqb}
-use Rattle.std.specs.List.{prefix_len}
-use lib.Lanes.{chunk}
 use Rattle.std.proofs.lemmas.List.{drop-drop}
 use Rattle.cdxj_objects.specs.Plain.{is_neither}
 use Rattle.cdxj_objects.proofs.LaneLemmas.{front_behind, run_ends, run_goes_on}
@@ -17,12 +15,7 @@ returns-then-found-ne0 c =
     omega (arith, run, few, run_ends passes place 16 text (omega arith) (omega (arith, run, few)))
 
 pub by_lanes-preserved : goal.by_lanes-preserved
-by_lanes-preserved c =
-    let text = c.args.text.now in
-    let place = c.by_lanes.place in
-    let passes = is_neither c.args.first c.args.second in
-    let run : prefix_len passes (chunk place 16 text) ≡ 16 = grind arith in
-    omega (arith, run_goes_on passes place 16 text (omega arith) (omega (arith, run)))
+by_lanes-preserved c = grind (arith, run_goes_on)
 
 pub returns-then-holds_lanes : goal.returns-then-holds_lanes
 returns-then-holds_lanes c =

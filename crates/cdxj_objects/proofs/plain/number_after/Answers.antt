@@ -1,14 +1,9 @@
-use Rattle.std.proofs.Common.{◌≡◌, ◌+◌, ◌-◌, drop, get_or, arith}
+use Rattle.std.proofs.Common.{◌≡◌, ◌+◌, get_or, arith}
 use Rattle.cdxj_objects.proofs.PlainCuts.{digits_before, number_after}
 use Rattle.cdxj_objects.proofs.plain.number_after.Goals as goal
 
 pub number_of-requires-clause-digits : goal.number_of-requires-clause-digits
-number_of-requires-clause-digits c =
-    let start = c.args.at + c.args.front.length in
-    let count = c.in_ok-count.count in
-    let size : (start + count) - start ≡ count = omega arith in
-    let few = c.in_ok-count.ensures.few in
-    rw size (digits_before (drop start c.args.text.now) count c.in_ok-count.ensures.digits (omega arith))
+number_of-requires-clause-digits c = grind (arith, digits_before)
 
 pub returns : goal.returns
 returns c =

@@ -11,9 +11,7 @@ digit_least : (b : ℕ) → is_ascii_digit b ≡ true → 48 ≤ b
 digit_least b h = grind (arith, nat_tests)
 
 digit : (c : In-loop-byte) → is_ascii_digit (get_or c.args.digits.now c.loop-byte.byte-index 0) ≡ true
-digit c =
-    AllPass-from_list_all is_ascii_digit c.args.digits.now c.requires.digits c.loop-byte.byte-index 0
-    c.loop-byte-test.true
+digit c = grind (arith, AllPass-from_list_all)
 
 with_this : (c : In-loop-byte) → OneMore c.args.digits.now c.loop-byte.byte-index
 with_this c =

@@ -1,7 +1,5 @@
-use Rattle.std.proofs.Common.{◌≡◌, ◌∙◌, sym, arith}
+use Rattle.std.proofs.Common.{◌∙◌, sym, arith}
 use Rattle.std.proofs.lemmas.Bool.{cond-false, ne_eqb}
-use Rattle.std.specs.List.{prefix_len}
-use lib.Lanes.{chunk}
 use Rattle.cdxj_objects.specs.Plain.{is_unescaped_ascii}
 use Rattle.cdxj_objects.proofs.LaneLemmas.{last_run, run_ends, run_goes_on}
 use Rattle.cdxj_objects.proofs.unescaped.unescaped_length.Goals as goal
@@ -15,11 +13,7 @@ returns-then-others-ne0 c =
     omega (arith, run, few, run_ends is_unescaped_ascii end 32 text (omega arith) (omega (arith, run, few)))
 
 pub by_lanes-preserved : goal.by_lanes-preserved
-by_lanes-preserved c =
-    let text = c.args.text.now in
-    let end = c.by_lanes.end in
-    let run : prefix_len is_unescaped_ascii (chunk end 32 text) ≡ 32 = grind arith in
-    omega (arith, run_goes_on is_unescaped_ascii end 32 text (omega arith) (omega (arith, run)))
+by_lanes-preserved c = grind (arith, run_goes_on)
 
 pub returns-then-rest-ne0 : goal.returns-then-rest-ne0
 returns-then-rest-ne0 c =

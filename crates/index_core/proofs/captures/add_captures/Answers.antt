@@ -1,17 +1,16 @@
+use Rattle.cdxj_places.proofs.RisingLaws.{each_join}
+use Rattle.warc_core.proofs.WalkLemmas.{none_at_end}
 use Rattle.std.proofs.Common.{◌∙◌, ◌++◌, [], append-nil, length-append, option_to_list, append_assoc, arith}
 use Rattle.warc_core.specs.declared.next.TheConstants.{HEAD_LIMIT}
 use Rattle.cdxj_core.specs.declared.limit.TheConstants.{LINE_LIMIT}
 use Rattle.capture_core.specs.Types.{includes}
 use Rattle.capture_core.specs.CaptureAnswer.{usual_limits}
-use Rattle.index_core.proofs.AddingLemmas.{AddedSoFar-more, AddedSoFar-end, AddedSoFar-refused}
-use Rattle.index_core.proofs.SoundLemmas.{before_step, named_step, sound_step}
+use Rattle.index_core.proofs.AddingLemmas.{AddedSoFar-more, AddedSoFar-refused}
+use Rattle.index_core.proofs.SoundLemmas.{before_step, sound_step}
 use Rattle.index_core.proofs.captures.add_captures.Goals as goal
 
 pub returns-in-Ok-None-clause-gains : goal.returns-in-Ok-None-clause-gains
-returns-in-Ok-None-clause-gains g c =
-    let e = rw c.in-Ok-None.field-0-is at c.in-Ok-None.ensures in
-    let s = c.loop-captures.invariant.gains in
-    (s.0, s.1, grind (arith, length-append, AddedSoFar-end))
+returns-in-Ok-None-clause-gains g c = grind (arith, length-append, none_at_end)
 
 pub returns-in_err-reader-clause-gains : goal.returns-in_err-reader-clause-gains
 returns-in_err-reader-clause-gains g c = ([], grind (arith, append-nil), grind arith)
@@ -44,7 +43,7 @@ loop-captures-preserved g c =
         grind (arith, append_assoc),
         rw t.stands.offset_is (AddedSoFar-more (includes c.args.types) usual_limits HEAD_LIMIT c.args.name.now _ _ _ o
             i.gains.0 c.in-Ok-Some.head c.in-Ok-Some.captured _ i.gains.2 t),
-        grind (arith, named_step),
+        grind (arith, append-nil, each_join),
       );
       before = rw c.in-Ok.ensures.ok (before_step c.args.name.now LINE_LIMIT o c.next_capture.new.reader.offset
           c.in-Ok-Some.head _ c.in-Ok-Some.captured (grind arith) t.begins.start_is t.entry i.before);

@@ -1,24 +1,13 @@
 use Rattle.std.proofs.Common.{◌-◌, sym, arith}
 use Rattle.std.proofs.lemmas.List.{length-take-le}
 use Rattle.std.proofs.lemmas.Result.{err_from_is_err_and}
-use Rattle.index_core.proofs.CopyLemmas.{head_cut, head_copied, copied_more, copied_all, piece_cut, piece_stop}
+use Rattle.index_core.proofs.CopyLemmas.{copied_more, copied_all, piece_cut, piece_stop}
 use Rattle.index_core.proofs.copying.copy_head_and_block.Goals as goal
 
-pub returns-in_err-put_bytes-clause-copies : goal.returns-in_err-put_bytes-clause-copies
-returns-in_err-put_bytes-clause-copies g c = grind (arith, err_from_is_err_and, head_cut)
-
-pub loop-count-init : goal.loop-count-init
-loop-count-init g c = grind (arith, head_copied)
-
-pub returns-then-count-eq0-clause-copies : goal.returns-then-count-eq0-clause-copies
-returns-then-count-eq0-clause-copies g c =
+pub returns-then-count-eq0 : goal.returns-then-count-eq0
+returns-then-count-eq0 g c =
     let b = c.in_ok-count.ensures.open _ _ c.loop-count.invariant.copied.stands.phase_is in
     grind (arith, copied_all)
-
-pub returns-then-count-eq0-clause-reads : goal.returns-then-count-eq0-clause-reads
-returns-then-count-eq0-clause-reads g c =
-    let b = c.in_ok-count.ensures.open _ _ c.loop-count.invariant.copied.stands.phase_is in
-    grind arith
 
 pub slice_bounds-piece-end : goal.slice_bounds-piece-end
 slice_bounds-piece-end g c =

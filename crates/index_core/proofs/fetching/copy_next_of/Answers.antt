@@ -3,6 +3,4 @@ use Rattle.index_core.proofs.FetchAtLemmas.{next_copied_of}
 use Rattle.index_core.proofs.fetching.copy_next_of.Goals as goal
 
 pub returns-in-Some-clause-copies : goal.returns-in-Some-clause-copies
-returns-in-Some-clause-copies g c =
-    let n = rw c.in-Some.is at (c.in_ok-head.ensures.between c.requires) in
-    grind (arith, next_copied_of)
+returns-in-Some-clause-copies g c = grind (arith, next_copied_of)

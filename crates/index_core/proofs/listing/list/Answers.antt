@@ -21,13 +21,12 @@ returns-in-Ok-None-clause-lists g c =
 
 pub returns-in_err-put_line-in-Ok-Some-clause-lists : goal.returns-in_err-put_line-in-Ok-Some-clause-lists
 returns-in_err-put_line-in-Ok-Some-clause-lists g c =
-    let p = err_from_is_err_and c.from_residual.result c.from_residual.ensures.1 in
     let w = c.in_err-put_line-in-Ok-Some.ensures in
     let e = rw c.in-Ok-Some.field-0-is at c.in-Ok-Some.ensures in
     let line = rw c.record_line.ensures at w.line in
     let owed = reporting_stopped c.loop-reader.invariant.reporting _ _ c.in-Ok-Some.head e.bytes e.begins
     (λ archive k. refl) line in
-    rw (p.1, p.2, w.refusal) (record { report = owed.0; records = owed.1 })
+    grind (arith, err_from_is_err_and)
 
 pub loop-reader-preserved : goal.loop-reader-preserved
 loop-reader-preserved g c =

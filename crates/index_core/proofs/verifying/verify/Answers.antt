@@ -2,7 +2,7 @@ use Rattle.std.proofs.Common.{arith, refl}
 use Rattle.std.proofs.lemmas.Result.{err_from_is_err_and}
 use Rattle.warc_core.specs.declared.next.TheConstants.{HEAD_LIMIT}
 use Rattle.index_core.specs.declared.verified.Verified.{Verified}
-use Rattle.index_core.proofs.VerdictLemmas.{is_line, one_at_most, one_judged, one_verdict, verdict_known, verification}
+use Rattle.index_core.proofs.VerdictLemmas.{is_line, one_judged, one_verdict, verdict_known, verification}
 use Rattle.index_core.proofs.ReportLemmas.{reporting_none, reporting_more, reporting_end, reporting_stopped}
 use Rattle.index_core.proofs.ReportLemmas.{reporting_fault}
 use Rattle.index_core.proofs.verifying.verify.Goals as goal
@@ -23,7 +23,6 @@ returns-in-Ok-None-clause-verifies g c =
 
 pub returns-in_err-put_line-in-Ok-Some-clause-verifies : goal.returns-in_err-put_line-in-Ok-Some-clause-verifies
 returns-in_err-put_line-in-Ok-Some-clause-verifies g c =
-    let p = err_from_is_err_and c.from_residual.result c.from_residual.ensures.1 in
     let w = c.in_err-put_line-in-Ok-Some.ensures in
     let e = rw c.in-Ok-Some.field-0-is at c.in-Ok-Some.ensures in
     let s = c.loop-reader.invariant.reporting in
@@ -32,7 +31,7 @@ returns-in_err-put_line-in-Ok-Some-clause-verifies g c =
     let known = verdict_known s h v e.begins.start_is (e.verdict h v refl) in
     let line = rw (c.verdict_line.ensures, c.start.ensures) at w.line in
     let owed = reporting_stopped s _ _ (h, v) e.bytes e.begins (is_line _ h v known) line in
-    rw (p.1, p.2, w.refusal) (record { report = owed.0; records = owed.1 })
+    grind (arith, err_from_is_err_and)
 
 pub loop-reader-preserved : goal.loop-reader-preserved
 loop-reader-preserved g c =
@@ -45,7 +44,7 @@ loop-reader-preserved g c =
     let more = reporting_more s (h, v) e.bytes e.begins (is_line _ h v known)
     (one_verdict _ h v c.loop-reader.records c.loop-reader.differing known)
     (λ read k. one_judged read (h, v) c.loop-reader.records c.loop-reader.differing k) line in
-    grind (arith, one_at_most)
+    grind (arith)
 
 pub returns-in-Err-next_verdict-clause-verifies : goal.returns-in-Err-next_verdict-clause-verifies
 returns-in-Err-next_verdict-clause-verifies g c =

@@ -1,6 +1,6 @@
 use Rattle.std.proofs.Common.{◌≡◌, ◌-◌, ◌∙◌, sym, append-nil, arith}
 use Rattle.std.proofs.lemmas.List.{length-take-le}
-use Rattle.warc_core.proofs.OpenLemmas.{of_open, zero_of}
+use Rattle.warc_core.proofs.OpenLemmas.{zero_of}
 use Rattle.warc_core.proofs.DigestLemmas.{Digesting-more, Digesting-fault, Digesting-end}
 use Rattle.warc_core.proofs.digest.digest_rest.Goals as goal
 
@@ -11,7 +11,7 @@ returns-in_err-count g c left len e =
     let b = c.in_err-count.ensures in
     let r = Digesting-fault i.0 i.1 i.2 _ _ _ _ _ _ _ _ d c.in_err-count.field-0.0 _ _ _ _
     (b.open i.2 i.1 d.stands.phase_is) i.5 in
-    grind (arith, of_open)
+    grind (arith)
 
 pub slice_bounds-piece-end : goal.slice_bounds-piece-end
 slice_bounds-piece-end g c =
@@ -57,4 +57,4 @@ returns g c left len e =
     (λ m h. grind (arith, append-nil)) in
     let r = Digesting-end i.0 i.1 _ _ _ _ _ _ (let rest : i.2 - c.in_ok-count.count
     ≡ 0 = omega arith in rw rest at last) c.finalize.result c.finalize.ensures _ _ (b.failures ∙ i.5) in
-    grind (arith, of_open)
+    grind (arith)

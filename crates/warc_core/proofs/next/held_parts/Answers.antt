@@ -15,6 +15,4 @@ returns-in-Some-clause-head c =
     (usual-found HEAD_LIMIT (length c.in-Some.parts.raw) c.as_slice-held.result.now (grind arith) head.closes (grind arith))
 
 pub returns-in-Some-clause-says : goal.returns-in-Some-clause-says
-returns-in-Some-clause-says c =
-    let head = rw c.in-Some.is at c.in_ok-parts.ensures.head in
-    read-ok _ _ head.says
+returns-in-Some-clause-says c = grind (arith, read-ok)

@@ -3,6 +3,4 @@ use Rattle.capture_core.proofs.SpellingLemmas.{entry_read}
 use Rattle.capture_core.proofs.held_line.HeldLine.entry.Goals as goal
 
 pub returns : goal.returns
-returns c =
-    let same = entry_read c.args.self.now c.in-Ok.read (grind arith) (grind arith) in
-    grind arith
+returns c = grind (arith, entry_read)

@@ -1,6 +1,5 @@
 use Rattle.std.proofs.Common.{◌≡◌, arith}
 use Rattle.cdxj_core.specs.Entries.{line_text}
-use Rattle.capture_core.proofs.SpellingLemmas.{stamp_in}
 use Rattle.capture_core.proofs.held_line.HeldLine.stamp.Goals.{After-first_line}
 use Rattle.capture_core.proofs.held_line.HeldLine.stamp.Goals as goal
 use Rattle.std.proofs.Common.{length-append}
@@ -13,6 +12,3 @@ line c = grind arith
 
 pub slice_bounds-result-end : goal.slice_bounds-result-end
 slice_bounds-result-end c = grind (arith, length-append, key, line)
-
-pub returns : goal.returns
-returns c = grind (arith, stamp_in)

@@ -1,4 +1,4 @@
-use Rattle.std.proofs.Common.{◌≡◌, ◌≤◌, ℕ, true, suc, zero, List, [], ◌∷◌, length, take, nat_lt, refl, arith}
+use Rattle.std.proofs.Common.{◌≡◌, ◌≤◌, ℕ, true, suc, zero, List, [], ◌∷◌, take, nat_lt, refl, arith}
 use Rattle.std.specs.List.{list_all, prefix_len}
 use Rattle.std.proofs.lemmas.Bool.{and_parts}
 use Rattle.std.proofs.lemmas.Bool.Decides.{nat_tests}
@@ -20,8 +20,7 @@ plain_front (suc n) (x ∷ xs) h k = grind (arith, plain_byte, plain_front n xs)
 
 plain_key : {key : List ℕ} → (n : ℕ) (xs : List ℕ) → take n xs ≡ key → is_key key ≡ true
     → n ≤ prefix_len (is_neither 34 92) xs → list_all is_plain key ≡ true
-plain_key {key = key} n xs e h k =
-    rw (← e) (plain_front n xs (rw e (and_parts (nat_lt 0 (length key)) _ h).1) k)
+plain_key {key = key} n xs e h k = grind (arith, plain_front, and_parts, nat_lt)
 
 pub returns-then-self : goal.returns-then-self
 returns-then-self c = λ far.

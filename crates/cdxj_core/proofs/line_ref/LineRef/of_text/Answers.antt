@@ -28,7 +28,4 @@ invariant_of-result c =
     c.requires.short run (omega arith) long space stamp second members)
 
 pub returns : goal.returns
-returns c =
-    let text = c.args.text.now in
-    let whole : take (length text) text ≡ text = take-length text in
-    grind (arith, (invariant_of-result c).entry)
+returns c = grind (arith, take-length, invariant_of-result)

@@ -4,19 +4,12 @@ use Rattle.json.proofs.Grammar.{read_key-shorter}
 use Rattle.serde_json.specs.Data.{no_members, put}
 use Rattle.cdxj_objects.specs.FoundViews.{value_view}
 use Rattle.cdxj_objects.specs.ObjectMembers.{map_members}
-use Rattle.cdxj_objects.proofs.JsonReading.{member_put, no_member, members_end}
+use Rattle.cdxj_objects.proofs.JsonReading.{member_put, members_end}
 use Rattle.cdxj_objects.proofs.FoundLaw.{found_seen}
 use Rattle.cdxj_objects.proofs.found_members.FoundMembers.read.Goals as goal
-use Rattle.json.proofs.Grammar.{members_no_key}
 
 pub members-init : goal.members-init
 members-init c = (length c.args.reader.now, no_members, omega arith, refl, grind arith)
-
-pub returns-in_err-name : goal.returns-in_err-name
-returns-in_err-name c = grind (arith, members_no_key)
-
-pub returns-in_err-value : goal.returns-in_err-value
-returns-in_err-value c = grind (arith, no_member)
 
 pub members-preserved : goal.members-preserved
 members-preserved c =

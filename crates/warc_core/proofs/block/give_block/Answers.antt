@@ -1,6 +1,0 @@
-use Rattle.std.proofs.Common.{arith}
-use Rattle.warc_core.proofs.block.give_block.Goals as goal
-use Rattle.warc_core.proofs.RecordLemmas.{after_block-short}
-
-pub returns-then-count-eq0-clause-bytes : goal.returns-then-count-eq0-clause-bytes
-returns-then-count-eq0-clause-bytes g c = grind (arith, after_block-short)
