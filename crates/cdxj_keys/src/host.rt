@@ -59,6 +59,7 @@ fn push_reversed(text: &mut Vec<u8>, domain: &[u8]) -> Result<(), AllocError>
     text.extend_from_slice(rest)
 }
 
+#[tactic(auto, using(crate::proofs::Labels::domain_text_is))]
 fn push_domain(text: &mut Vec<u8>, domain: &[u8]) -> Result<(), AllocError>
     ensures { IfOk result (λ _. text.new.items ≡ text.old.items ++ domain_text domain.now) }
 {

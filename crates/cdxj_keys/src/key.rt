@@ -79,6 +79,7 @@ fn escaped_key(alloc: Global, text: &[u8]) -> Result<String, AllocError>
 }
 
 /// Returns the key of a key text. Most have no escapes.
+#[tactic(auto, using(crate::proofs::FoldedKey::graphic_is_key))]
 fn key_from(alloc: Global, text: Vec<u8>) -> Result<String, AllocError>
     ensures value { IfOk result (λ key. string_bytes key ≡ folded text.items) }
     ensures key { IfOk result (λ key. 0 < length text.items → is_key (string_bytes key) ≡ true) }
@@ -182,6 +183,7 @@ pub fn url_key(alloc: Global, target: &str) -> Result<String, KeyFault>
 }
 
 /// Like `url_key`. In most cases, the key's memory is this many bytes.
+#[tactic(auto, using(crate::proofs::PlainKeys::plain_key_of))]
 pub fn url_key_with_room(alloc: Global, target: &str, room: usize) -> Result<String, KeyFault>
     ensures value { IfOk result (λ key. string_bytes key ≡ key_of target.now) }
     ensures key { IfOk result (λ key. 0 < length target.now → is_key (string_bytes key) ≡ true) }

@@ -28,6 +28,7 @@ fn has_domain_bytes(host: &[u8]) -> bool
 }
 
 /// Returns what follows the last dot, or the whole host if there is none.
+#[tactic(auto, using(std::proofs::lemmas::List::take_rest, crate::proofs::PlainHosts::label_behind, crate::proofs::PlainHosts::lone_label))]
 fn last_label(host: &[u8]) -> &[u8]
     ensures { 0 < length result.now → result.now ≡ last_label host.now }
 {

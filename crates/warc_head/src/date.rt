@@ -116,6 +116,7 @@ fn full_date(text: &[u8], size: usize) -> [u8; 19]
 }
 
 /// Returns `true` if the date and the time of day exist.
+#[tactic(auto, using(crate::proofs::DateLemmas::two_small))]
 fn is_moment(whole: &[u8; 19]) -> bool
     requires { fits to_the_second whole.now ≡ true }
     ensures { result ≡ is_moment whole.now }

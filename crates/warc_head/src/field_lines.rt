@@ -101,6 +101,7 @@ fn emptied(memory: Vec<FieldSpan>) -> Vec<FieldSpan>
 
 /// Returns the span of the field that begins on a line.
 #[inline(always)]
+#[tactic(auto, using(std::proofs::lemmas::List::take_rest))]
 fn field_in(line: &[u8]) -> Option<FieldSpan>
     ensures { MatchOption result
         (field_in line.now ≡ Err FieldLine)
@@ -118,6 +119,7 @@ fn field_in(line: &[u8]) -> Option<FieldSpan>
 
 /// Returns the offset of the first colon, if a name stands before it. Most names are letters and hyphens.
 #[inline(always)]
+#[tactic(auto, using(crate::proofs::NameLemmas::name_before))]
 fn name_end(line: &[u8]) -> Option<usize>
     ensures { MatchOption result (field_in line.now ≡ Err FieldLine) (EndsName line.now) }
 {

@@ -3,6 +3,7 @@ ghost use Rattle.warc_head.specs.Folding.{FieldsAreSpelled};
 ghost use Rattle.warc_head.specs.Spelling.{SpellingReadsBack};
 
 /// A head that gives each field on a line of its own, as `name: value`, is read as these fields, in this order.
+#[tactic(auto, using(crate::proofs::SpellingLemmas::read_back))]
 pub fn spelling_reads_back()
     ensures { SpellingReadsBack }
 {}

@@ -3,6 +3,7 @@ ghost use Rattle.std.specs.Prelude.{◌≡◌, true};
 ghost use Rattle.warc_head.specs.Names.{is_name, same_name};
 
 /// Returns `true` if the text is one or more bytes that a field name may contain.
+#[tactic(auto, using(crate::proofs::NameLemmas::token_is_name))]
 pub fn is_name(name: &[u8]) -> bool
     ensures { result ≡ is_name name.now }
 {
