@@ -66,10 +66,7 @@ cut_of n before late all long few is =
 last_same : (us vs : List Member) (x y : Member) → us ++ x ∷ [] ≡ vs ++ y ∷ [] → x ≡ y
 last_same [] [] x y e = grind arith
 last_same (u ∷ us) (v ∷ vs) x y e = last_same us vs x y (grind arith)
-last_same (u ∷ []) [] x y e = absurd (cc)
-last_same (u ∷ w ∷ us) [] x y e = absurd (cc)
-last_same [] (v ∷ []) x y e = absurd (cc)
-last_same [] (v ∷ w ∷ vs) x y e = absurd (cc)
+last_same us vs x y e = let same = ap length e in grind (arith, length-append)
 
 pub filter_passes : {X : Type 0} (test : X → Bool) (xs : List X) → AllByRecursion (λ x. test x ≡ true) (filter test xs)
 filter_passes test [] = tt
@@ -121,15 +118,11 @@ module _ {past : List ℕ → Bool} {text : Option (List ℕ)} {extent : ℕ} {o
 
   front : (t : List ℕ) → text ≡ Some t → take (c.count - 1) (given t c) ≡ given t old
   front t e =
-      let n = as_many t e in
-      let long : length (given t old) ≡ c.count - 1 = omega (arith, n, r.count) in
-      rw (given_next t e) (take_at (given t old) (m ∷ []) (c.count - 1) long)
+      grind (arith, as_many, given_next, take_at)
 
   whole : (t : List ℕ) → text ≡ Some t → take c.count (given t c) ≡ given t c
   whole t e =
-      let n = as_many t e in
-      let more = given_next t e in
-      take_all c.count (given t c) (grind (arith, length-append))
+      grind (arith, as_many, given_next, length-append, take_all)
 
   -- it waits unless it lies past the range, or it was taken
   abbrev pub Goes : List Member → Type 0
@@ -143,10 +136,9 @@ module _ {past : List ℕ → Bool} {text : Option (List ℕ)} {extent : ℕ} {o
   pub done_next : (ws : List Member) → ws ≡ filter (stays past) (m ∷ []) → (t : List ℕ) → text ≡ Some t
       → done past t (input_of c ws) ≡ given t old
   done_next ws is t e =
-      let next = given_next t e in
       let front = front t e in
       let whole = whole t e in
-      grind (arith, filter_all, filter-append, append-nil)
+      grind (arith, filter_all, filter-append, append-nil, given_next)
 
   pub input_more : (ws : List Member) → Goes ws → IsInput past text extent (input_of c ws)
   input_more ws cases = record {
@@ -233,18 +225,7 @@ input_end input c stands start count near none = record {
   stands = stands;
   few = omega arith;
   counted = omega arith;
-  told = λ t e.
-      let was = input.told t e in
-      rw (start, count) (record {
-        begins = was.begins;
-        stood = grind arith;
-        as_many = was.as_many;
-        run = was.run;
-        late = was.late;
-        split = was.split;
-        one = was.one;
-        waiting = was.waiting;
-      });
+  told = λ t e. let was = input.told t e in rw (start, count) (grind arith);
 }
 
 -- ---- lines at fault, by where the cursor stands
@@ -271,11 +252,7 @@ module _ {past : List ℕ → Bool} {t : List ℕ} {extent : ℕ} {f : MergeInpu
       let told = input.told t refl in
       let cut : lines t ≡ (told.begins.0 ++ read_lines t f.cursor) ++ lines (drop f.cursor.at t) =
       grind (arith, take-append-drop, append_assoc) in
-      record {
-        after = after;
-        lines_are = rw (← e) cut;
-        offset_is = begins_at t f.cursor.at _ cut (grind (arith, cases_lt, drop_all));
-      }
+      grind (arith, begins_at, cases_lt, drop_all)
 
   pub bad_named : (e : FeedFault) → IsFeedFaultAt (lines (drop f.cursor.at t)) f.cursor.at e → NamesLine t e
   bad_named e h = grind (arith, begins_here)

@@ -57,10 +57,8 @@ not_below_itself p q h k = grind (arith, pair_cmp_total, tied_back)
 -- the space behind a key is below each byte of a key
 texts_order : (k l s t : List ℕ) → list_all is_key_byte k ≡ true → list_all is_key_byte l ≡ true
     → slice_cmp nat_cmp (pair_text (k, s)) (pair_text (l, t)) ≡ pair_cmp (k, s) (l, t)
-texts_order [] [] s t g h = grind arith
-texts_order [] (y ∷ l) s t g h = grind arith
-texts_order (x ∷ k) [] s t g h = grind arith
 texts_order (x ∷ k) (y ∷ l) s t g h = grind (arith, then_associates, texts_order k l s t)
+texts_order k l s t g h = grind arith
 
 key_bytes : (k : List ℕ) → is_key k ≡ true → list_all is_key_byte k ≡ true
 key_bytes k h = (and_parts (nat_lt 0 (length k)) _ h).1
@@ -68,9 +66,8 @@ key_bytes k h = (and_parts (nat_lt 0 (length k)) _ h).1
 pub starts_decide : (p q : Pair) (s t : ℕ × ℕ) → IsStart s p → IsStart t q
     → ordering_then (words_cmp s t) (pair_cmp p q) ≡ pair_cmp p q
 starts_decide p q s t g h =
-    let order = texts_order p.0 q.0 p.1 q.1 (key_bytes p.0 g.2) (key_bytes q.0 h.2) in
     let decide = start_words_decide 16 (pair_text p) (pair_text q) g.1 h.1 in
-    grind arith
+    grind (arith, key_bytes, texts_order)
 
 -- a list that is long enough needs no zeros
 pub padded_long : (n : ℕ) (xs : List ℕ) → n ≤ length xs → take n xs ≡ padded n xs
@@ -98,8 +95,4 @@ begins line m h =
     let valued = entry_valued LINE_LIMIT line m h in
     let line_is : m.line ≡ pair_text (member_pair m) ++ 32 ∷ valued.object = grind (arith, append_assoc) in
     let size : length (pair_text (member_pair m)) ≡ length m.values.key + 15 = grind (arith, length-append) in
-    record {
-      size = size;
-      key = valued.key_rule;
-      text = rw (line_is, ← size) (take-append_seam (pair_text (member_pair m)) (32 ∷ valued.object));
-    }
+    grind (arith, take-append_seam)

@@ -22,8 +22,8 @@ pub use Rattle.merge_core.specs.MergeInputs.{Ready, bytes_of}
 pub use Rattle.merge_core.specs.MergeInputs.{done, input_of, inputs, inputs_from, given, member_of, option_list}
 pub use Rattle.merge_core.specs.MergeInputs.{read_lines}
 pub use Rattle.merge_core.specs.MergeInputs.{stays}
-pub use Rattle.merge_core.specs.Gathering.{AreTold, EndsAt, Gathered, Grouped, IsDue, IsFrom, TookOf, all_done, text_or}
-pub use Rattle.merge_core.specs.Gathering.{unread}
+pub use Rattle.merge_core.specs.Gathering.{AreTold, EndsAt, Gathered, Grouped, IsDue, IsDueAt, IsFrom, TookOf, all_done, text_or}
+pub use Rattle.merge_core.specs.Gathering.{to_come, unread}
 pub use Rattle.merge_core.specs.Merging.{SoFar}
 pub use Rattle.merge_core.specs.NextLine.{IsNextLine}
 pub use Rattle.merge_core.specs.Openings.{IsCutAt, OpenedAt}

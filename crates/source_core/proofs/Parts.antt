@@ -46,11 +46,6 @@ pub cut_short : (t : List ℕ) (at0 at : ℕ) (line : List ℕ) → drop at0 t �
 cut_short t at0 at [] e f l h = absurd (omega arith)
 cut_short t at0 at (b ∷ u) e f l h = grind (arith, drop_all, append-nil, lines_last)
 
-pub no_more : (t : List ℕ) (at0 at : ℕ) (line : List ℕ) → drop at0 t ≡ line ++ drop at t → length t ≡ at → length line
-    ≡ 0 → lines (drop at0 t) ≡ []
-no_more t at0 at [] e l h = grind (arith, drop_all)
-no_more t at0 at (b ∷ u) e l h = absurd (omega arith)
-
 -- one line more was given
 pub given_more : {X : Type 0} (all now later : List X) (l : X) (n : ℕ) → now ≡ drop n all → now ≡ l ∷ later → later
     ≡ drop (n + 1) all

@@ -6,16 +6,10 @@ use Rattle.merge_core.proofs.Words.{lines, map-append, member_pair, pair_cmp_tot
 use Rattle.merge_core.proofs.CountLemmas.{group_most}
 use Rattle.merge_core.proofs.InputLemmas.{LineRead, all_inside, all_taken, all_upto, bad_named, done_next, input_end}
 use Rattle.merge_core.proofs.InputLemmas.{input_more, given_next, order_named, same_stays, settled_more}
-use Rattle.merge_core.proofs.MergeLemmas.{if_err}
 use Rattle.merge_core.proofs.PairOrder.{from_not_below, upto_upto}
 use Rattle.merge_core.proofs.line_buffers.LineBuffers.read_group.Given.{Over}
 use Rattle.merge_core.proofs.line_buffers.LineBuffers.read_group.Goals.{After-compare_pair, After-next_line}
 use Rattle.merge_core.proofs.line_buffers.LineBuffers.read_group.Goals as goal
-
--- a line above the pair
-above_waits : (past : List ℕ → Bool) (pair : Pair) (m : Member) → Below pair (member_pair m)
-    → AllByRecursion (λ k. Below pair (member_pair k)) (filter (stays past) (m ∷ []))
-above_waits past pair m above = grind arith
 
 length_waits : (past : List ℕ → Bool) (m : Member) → length (filter (stays past) (m ∷ [])) ≤ 1
 length_waits past m = grind arith
@@ -61,8 +55,8 @@ returns-in-Greater-clause-read g c =
     record {
       input = input_more read _ (inl is);
       settled = settled_more read _ is;
-      later = rw is (above_waits past (member_pair c.args.first.now) c.in-Some.line.value above);
-      fewer = rw is (let few : length (filter (stays past) (c.in-Some.line.value ∷ [])) ≤ 1 = length_waits past c.in-Some.line.value in grind arith);
+      later = grind arith;
+      fewer = grind (arith, length_waits);
       taken = inv.taken.0;
       rest_is = inv.taken.1;
       alike = inv.taken.2;
@@ -86,7 +80,7 @@ returns-clause-read g c =
     let ended : (t : List ℕ) → g.S.Source.text c.next_line.new.source ≡ Some t
     → lines (drop c.loop-line.cursor.at t) ≡ [] = λ t e. grind arith in
     record {
-      input = input_end was c.next_line.new.cursor (grind arith) (grind arith) (grind arith) (λ t e. grind arith) ended;
+      input = grind (arith, input_end);
       settled = λ t e none. inl (grind arith);
       later = tt;
       fewer = grind arith;
@@ -147,7 +141,7 @@ returns-in_err-line-clause-fault g c = record {
   counts = grind arith;
   names = λ t e.
       let input = rw (c.loop-line.invariant.text ∙ e) at c.loop-line.invariant.input in
-      grind (arith, if_err, bad_named input);
+      grind (arith, bad_named input);
 }
 
 pub returns-in-Less-clause-fault : goal.returns-in-Less-clause-fault

@@ -18,6 +18,6 @@ invariant-loop-i g l = record {
   left : drop l.i l.sources ≡ drop l.i l.fn.sources;
   spent : AllOpenedWithin g.S.Source l.fn.sources l.sources;
   opened : AreOpened g.S.Source (pair_view l.start)
-      (take l.i l.fn.sources) (zip l.sources (inputs l.merge));
+      (take l.i l.fn.sources) (zip l.sources l.merge.cursors.items);
   once : IsLeast (pair_view l.start) → AllGaveOnce g.S.Source l.fn.sources l.sources;
 }
