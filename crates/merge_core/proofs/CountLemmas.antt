@@ -1,27 +1,21 @@
 -- How far sources were read: in lines and in bytes.
 use Rattle.merge_core.proofs.Words.{[], ℕ, ◌++◌, ◌+◌, ◌∙◌, ◌∷◌, ◌≡◌, ◌≤◌, AllByRecursion, AreInputs, AreReadTo, Bool}
-use Rattle.merge_core.proofs.Words.{CursorState, EndsAt, IsInput, MergeInput, Ghosts, IsUpto, LINE_LIMIT, List}
-use Rattle.merge_core.proofs.Words.{Option, Pair}
-use Rattle.merge_core.proofs.Words.{ReadTo, Some, all_done, ap, append-nil, append_assoc, arith, bytes_of, done}
+use Rattle.merge_core.proofs.Words.{CursorState, EndsAt, IsInput, MergeInput, Ghosts, IsUpto, LINE_LIMIT, List, Option}
+use Rattle.merge_core.proofs.Words.{Pair, ReadTo, Some, all_done, ap, append-nil, append_assoc, arith, bytes_of, done}
 use Rattle.merge_core.proofs.Words.{drop, drop-set-lt, input_of, first_length, flat_map-append, get_or, given, length}
 use Rattle.merge_core.proofs.Words.{length-append, length-drop, line_entry, lines, longest, member_pair, read_lines}
 use Rattle.merge_core.proofs.Words.{refl, set, suc, sym, take, take-append-drop, take-map, text_or, ◌<◌, AllZip}
-use Rattle.merge_core.proofs.Words.{Grouped, IsCut, IsCutAt, IsIndex, Known, Member, MergeState, OverIndexes}
-use Rattle.merge_core.proofs.Words.{Reached, ShareAtMost, Upto, WaitingLine, all_lines, each_weaker, false, inputs}
-use Rattle.merge_core.proofs.Words.{filter, filter-append, is_low, is_of, length-map, length-take, map, map-append}
-use Rattle.merge_core.proofs.Words.{member_of, nil_from_length, not, sum, sum_by-cons, true, waits_of, zero, zip}
-use Rattle.merge_core.proofs.Words.{CameWithin, line_row, lines_text}
-use Rattle.std.proofs.lemmas.Grind.{drop_more_same}
-use Rattle.std.proofs.Common.{get_or-drop}
+use Rattle.merge_core.proofs.Words.{Grouped, IsCut, IsCutAt, IsIndex, Known, Member, MergeState, OverIndexes, Reached}
+use Rattle.merge_core.proofs.Words.{ShareAtMost, WaitingLine, all_lines, each_weaker, false, inputs, filter}
+use Rattle.merge_core.proofs.Words.{filter-append, is_low, is_of, length-map, length-take, map, map-append, member_of}
+use Rattle.merge_core.proofs.Words.{nil_from_length, not, sum, sum_by-cons, true, waits_of, zero, zip, CameWithin}
+use Rattle.merge_core.proofs.Words.{lines_text, drop_more_same, get_or-drop, AllGaveWithin, take-take, is_at}
 use Rattle.source_core.proofs.LongestLines.{first_most, longest_drop}
-use Rattle.merge_core.specs.Spending.{AllOpenedWithin, AllGaveWithin}
 use Rattle.merge_core.proofs.InputLemmas.{all_taken, all_upto, done_cut, done_within}
 use Rattle.merge_core.proofs.Many.{each_both, filter_fewer, filter_weaker, filter_front, each_take}
-use Rattle.merge_core.proofs.Many.{zip_set, each_replaced, two_same, Move}
+use Rattle.merge_core.proofs.Many.{zip_set, each_replaced, Move}
 use Rattle.merge_core.proofs.GroupLemmas.{each_cut, filter_all}
-use Rattle.merge_core.proofs.StateLemmas.{cursors_of, few_wait, inputs_long}
-use Rattle.std.proofs.lemmas.List.{take-take}
-use Rattle.merge_core.specs.Counts.{is_at}
+use Rattle.merge_core.proofs.StateLemmas.{cursors_of, few_wait}
 use Rattle.merge_core.proofs.MergeLemmas.{gathered_now}
 use Rattle.merge_core.proofs.TakenLemmas.{members_are}
 use Rattle.merge_core.proofs.SourceLemmas.{told_known, reached_kept, reached_long, run_after}
@@ -165,12 +159,11 @@ module _ {S : Type 0} {device : Ghosts S} {past : List ℕ → Bool}
       → length m.queue + length group ≤ length old + most)
   held_most texts indexes known are most share =
       let aligned = now.ready.aligned in
-      let long = reached_long now same in
       let known_now = rw (← (reached_kept now same).0) at known in
       let gathered = gathered_now was grouped (told_known device.text old texts known) in
       let there = all_fewer past device ss (inputs m) texts indexes (is_at pair) known_now are aligned.input in
       let few = few_of (length ss) m.queue (rw (← aligned.same) at aligned.placed) (λ i l. few_wait aligned i) in
-      grind (arith, filter_weaker, each_weaker)
+      grind (arith, filter_weaker, each_weaker, reached_long)
 
 -- ---- the lines that were read
 

@@ -1,18 +1,14 @@
 -- The lines that wait: whose turn comes first, and the lines of one pair, taken of one source after another.
-use Rattle.merge_core.proofs.Words.{nil_from_length}
-use Rattle.merge_core.proofs.Words.{[], ℕ, ◌++◌, ◌<◌, ◌∙◌, ◌∷◌, ◌≡◌, ◌≢◌, ◌≤◌, AllByRecursion, IsPermutation, List}
-use Rattle.merge_core.proofs.Words.{Member, WaitingLine, arith, cond-false, cond-true, each_weaker, false, filter}
-use Rattle.merge_core.proofs.Words.{get_or, is_of, length, map, queued, refl, subst, suc, sum_by-cons, sym, true}
-use Rattle.merge_core.proofs.Words.{waits_of, Alike, AllBeyond, Below, Equal, IsAbove, MatchOption, NoneBefore}
-use Rattle.merge_core.proofs.Words.{NoneBelow, Option, Pair, Upto, is_eq, is_lt, length_permutation, pair_cmp}
-use Rattle.merge_core.proofs.Words.{pair_cmp_total, turn_cmp, waiting_pair, ◌+◌, ◌-◌, Bool, Gathered, IsFrom, ap}
-use Rattle.merge_core.proofs.Words.{append-nil, append_assoc, drop, drop-set-lt, each_join, filter-append, flat_map}
-use Rattle.merge_core.proofs.Words.{flat_map-append, member_pair, set, take, take-append-drop, take_more}
-use Rattle.merge_core.proofs.Words.{take_more_set, tied_back}
-use Rattle.std.proofs.lemmas.Grind.{common_steps}
-use Rattle.std.proofs.Common.{◌==◌, cond, sum_by, IfSome, drop-drop}
-use Rattle.std.specs.List.{All}
-use Rattle.std.proofs.lemmas.List.Sorted.{All-permutation, sum_by-IsPermutation}
+use Rattle.merge_core.proofs.Words.{nil_from_length, [], ℕ, ◌++◌, ◌<◌, ◌∙◌, ◌∷◌, ◌≡◌, ◌≢◌, ◌≤◌, AllByRecursion}
+use Rattle.merge_core.proofs.Words.{IsPermutation, List, Member, WaitingLine, arith, cond-false, cond-true, each_weaker}
+use Rattle.merge_core.proofs.Words.{false, filter, get_or, is_of, length, queued, refl, subst, suc, sum_by-cons}
+use Rattle.merge_core.proofs.Words.{sym, true, waits_of, Alike, AllBeyond, Below, Equal, IsAbove, MatchOption}
+use Rattle.merge_core.proofs.Words.{NoneBefore, NoneBelow, Option, Pair, Upto, is_eq, is_lt, length_permutation}
+use Rattle.merge_core.proofs.Words.{pair_cmp, pair_cmp_total, turn_cmp, waiting_pair, ◌+◌, ◌-◌, Bool, Gathered, IsFrom}
+use Rattle.merge_core.proofs.Words.{ap, append-nil, append_assoc, drop, drop-set-lt, each_join, filter-append, flat_map}
+use Rattle.merge_core.proofs.Words.{flat_map-append, member_pair, set, take, take-append-drop, take_more, take_more_set}
+use Rattle.merge_core.proofs.Words.{tied_back, common_steps, cond, sum_by, IfSome, drop-drop, All}
+use Rattle.merge_core.proofs.Words.{All-permutation, sum_by-IsPermutation}
 use Rattle.merge_core.proofs.PairOrder.{from_not_below, below_then, below_upto, same_upto, same_from, upto_upto}
 use Rattle.merge_core.proofs.PairOrder.{not_below_itself}
 use Rattle.merge_core.proofs.Many.{each_both}

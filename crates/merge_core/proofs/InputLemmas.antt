@@ -1,19 +1,17 @@
 -- What one line more makes of an input.
-use Rattle.merge_core.proofs.Words.{[], ℕ, ◌++◌, ◌+◌, ◌-◌, ◌<◌, ◌∙◌, ◌∷◌, ◌≡◌, ◌≤◌, ◌⊎◌, Alike, AllByRecursion}
-use Rattle.merge_core.proofs.Words.{Below, Bool, CursorState, EndsAt, IsInput, MergeInput, FeedFault, IsNextLine}
-use Rattle.merge_core.proofs.Words.{IsSettled}
+use Rattle.merge_core.proofs.Words.{[], ℕ, ◌++◌, ◌+◌, ◌-◌, ◌<◌, ◌∙◌, ◌∷◌, ◌≡◌, ◌≤◌, ◌⊎◌, Alike, AllByRecursion, Below}
+use Rattle.merge_core.proofs.Words.{Bool, CursorState, EndsAt, IsInput, MergeInput, FeedFault, IsNextLine, IsSettled}
 use Rattle.merge_core.proofs.Words.{LINE_LIMIT, List, Member, NeverFalls, None, Option, Pair, Some, Stands, Upto, ap}
 use Rattle.merge_core.proofs.Words.{append-nil, append_assoc, arith, done, drop, drop_all, each_join, each_weaker}
 use Rattle.merge_core.proofs.Words.{false, input_of, filter, filter-append, first_length, flat_map-append, given, inl}
 use Rattle.merge_core.proofs.Words.{inr, length, length-append, length-map, length-take, line_entry, lines, map}
 use Rattle.merge_core.proofs.Words.{map-append, member_pair, not-true, pair_cmp, pair_cmp_total, read_lines, refl}
-use Rattle.merge_core.proofs.Words.{stays, suc, sym, take, take-append-drop, true, nil_from_length}
-use Rattle.std.proofs.Common.{take_all, take_at}
+use Rattle.merge_core.proofs.Words.{stays, suc, sym, take, take-append-drop, true, nil_from_length, take_at}
+use Rattle.std.proofs.Common.{take_all}
 use Rattle.std.specs.FinMap.{nat_cmp-IsAntisymmetric, slice_cmp-IsAntisymmetric}
 use Rattle.cdxj_core.specs.Lines.{body_of}
 use Rattle.cdxj_core.proofs.MemberLemmas.{entry_is_short, long_line_none}
 use Rattle.merge_core.proofs.PairOrder.{below_then, same_upto, same_from, upto_upto}
-use Rattle.std.proofs.lemmas.Bool.{cases_lt}
 use Rattle.source_core.specs.LinesAtFault.{IsOutOfOrder, LineBeginsAt}
 use Rattle.source_core.proofs.SortedCuts.{begins_at}
 use Rattle.merge_core.proofs.GroupLemmas.{filter_all}
@@ -136,9 +134,8 @@ module _ {past : List ℕ → Bool} {text : Option (List ℕ)} {extent : ℕ} {o
   pub done_next : (ws : List Member) → ws ≡ filter (stays past) (m ∷ []) → (t : List ℕ) → text ≡ Some t
       → done past t (input_of c ws) ≡ given t old
   done_next ws is t e =
-      let front = front t e in
       let whole = whole t e in
-      grind (arith, filter_all, filter-append, append-nil, given_next)
+      grind (arith, filter_all, filter-append, append-nil, given_next, front)
 
   pub input_more : (ws : List Member) → Goes ws → IsInput past text extent (input_of c ws)
   input_more ws cases = record {
@@ -252,7 +249,7 @@ module _ {past : List ℕ → Bool} {t : List ℕ} {extent : ℕ} {f : MergeInpu
       let told = input.told t refl in
       let cut : lines t ≡ (told.begins.0 ++ read_lines t f.cursor) ++ lines (drop f.cursor.at t) =
       grind (arith, take-append-drop, append_assoc) in
-      grind (arith, begins_at, cases_lt, drop_all)
+      grind (arith, begins_at, drop_all)
 
   pub bad_named : (e : FeedFault) → IsFeedFaultAt (lines (drop f.cursor.at t)) f.cursor.at e → NamesLine t e
   bad_named e h = grind (arith, begins_here)

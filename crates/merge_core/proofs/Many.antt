@@ -1,12 +1,9 @@
 -- Lists, and lists of sources and inputs, seen as one list of pairs.
-use Rattle.merge_core.proofs.Words.{[], ℕ, ◌++◌, ◌∷◌, ◌≡◌, ◌≤◌, AllByRecursion, Bool, List, arith, cond-true, false}
+use Rattle.merge_core.proofs.Words.{[], ℕ, ◌∷◌, ◌≡◌, ◌≤◌, AllByRecursion, Bool, List, arith, cond-true, false}
 use Rattle.merge_core.proofs.Words.{filter, filter-append, length, length-append, not, suc, take, take-append-drop}
 use Rattle.merge_core.proofs.Words.{true, ◌+◌, ◌-◌, ◌<◌, AllZip, CursorState, Ghosts, Option, Some, ap, get_or}
-use Rattle.merge_core.proofs.Words.{get_or-map}
-use Rattle.merge_core.proofs.Words.{is_some, map, map-set, set, set-get_or, sum-map, text_or, unread, zip}
-use Rattle.std.proofs.lemmas.List.Sums.{sum_by-set}
-use Rattle.std.proofs.lemmas.Slice.Zip.{get_or-zip, length-zip}
-use Rattle.merge_core.specs.MergeInputs.{Moved}
+use Rattle.merge_core.proofs.Words.{get_or-map, is_some, map, map-set, set, set-get_or, sum-map, text_or, unread, zip}
+use Rattle.merge_core.proofs.Words.{sum_by-set, get_or-zip, length-zip, Moved}
 
 -- ---- lists that are filtered, and what holds of each of a list
 

@@ -1,33 +1,24 @@
 -- The steps of a merge: how a group is gathered, and what one group more makes of it.
-use Rattle.merge_core.proofs.GroupLemmas.{filter_none}
-use Rattle.merge_core.proofs.GroupLemmas.{filter_all}
-use Rattle.merge_core.proofs.Words.{ℕ, ◌<◌, ◌≡◌, FeedFault, IsErrAnd, List, Result, arith, get_or, get_or-map}
-use Rattle.merge_core.proofs.Words.{length, length-map, map, map-set, set, [], ◌++◌, ◌+◌, ◌∷◌, ◌≤◌, Aligned, Alike}
-use Rattle.merge_core.proofs.Words.{AllByRecursion, AllZip, AreSettled, AreTold, Bool, MergeInput, Gathered, Ghosts}
-use Rattle.merge_core.proofs.Words.{IsDueAt}
-use Rattle.merge_core.proofs.Words.{IsFrom, IsPermutation, IsSettled, Member, MergeState, NoneBefore, NoneBelow}
-use Rattle.merge_core.proofs.Words.{Option, Pair, TookOf, WaitingLine, all_done, append-nil, append_assoc, done}
-use Rattle.merge_core.proofs.Words.{drop, each_join, each_weaker, inputs, flat_map, is_some, length-set}
-use Rattle.merge_core.proofs.Words.{length_permutation, member_pair, set-get_or, sym, text_or, to_come, true}
+use Rattle.merge_core.proofs.GroupLemmas.{filter_none, filter_all, each_get, each_permuted, from_popped, AreAt}
+use Rattle.merge_core.proofs.GroupLemmas.{AreBelow, source_more}
+use Rattle.merge_core.proofs.Words.{ℕ, ◌<◌, ◌≡◌, IsErrAnd, List, Result, arith, get_or, length, set, [], ◌++◌, ◌+◌, ◌∷◌}
+use Rattle.merge_core.proofs.Words.{◌≤◌, Aligned, Alike, AllByRecursion, AreSettled, AreTold, Bool, MergeInput}
+use Rattle.merge_core.proofs.Words.{Gathered, Ghosts, IsDueAt, IsFrom, IsPermutation, IsSettled, Member, MergeState}
+use Rattle.merge_core.proofs.Words.{NoneBefore, NoneBelow, Option, Pair, TookOf, WaitingLine, all_done, append-nil}
+use Rattle.merge_core.proofs.Words.{append_assoc, done, drop, each_join, each_weaker, inputs, flat_map, is_some}
+use Rattle.merge_core.proofs.Words.{length-set, length_permutation, member_pair, sym, text_or, to_come, true}
 use Rattle.merge_core.proofs.Words.{waiting_pair, zip, AllMoved, Below, Grouped, Grows, HasEntry, IsAbove, IsLower}
-use Rattle.merge_core.proofs.Words.{IsUpto, Less, None, Ordering, Reached, Ready, SoFar, Some, each_rising, inl}
-use Rattle.merge_core.proofs.Words.{is_gt, is_low, is_lt, member_place, place_cmp, place_cmp_total, rising}
-use Rattle.merge_core.proofs.Words.{rising_split}
-use Rattle.std.proofs.Common.{IfErr, MatchResult}
-use Rattle.merge_core.specs.Failures.{RaisedByFeed, RaisedByRead}
+use Rattle.merge_core.proofs.Words.{IsUpto, Less, None, Ordering, Reached, Ready, SoFar, Some, each_rising, is_gt}
+use Rattle.merge_core.proofs.Words.{is_low, is_lt, member_place, place_cmp, place_cmp_total, rising, rising_split}
+use Rattle.merge_core.proofs.Words.{MatchResult, set-set, get_or-set_same, Rises, rises_rising, MergePoint, StillWants}
+use Rattle.merge_core.proofs.Words.{BrokenMerge, HaltedGroup, HaltedMerge}
 use Rattle.merge_core.proofs.Many.{map_set_same, is_told, zip_set, zip_at, length_zip, Move, moved_trans}
 use Rattle.merge_core.proofs.Many.{moved_still, told_moved}
-use Rattle.std.proofs.lemmas.List.{set-set, get_or-set_same}
-use Rattle.merge_core.proofs.GroupLemmas.{each_get, each_permuted, from_popped, AreAt, AreBelow}
-use Rattle.merge_core.proofs.GroupLemmas.{source_more}
 use Rattle.merge_core.proofs.StateLemmas.{any_of, idle, long_of, inside_sources, none_left, popped_aligned}
 use Rattle.merge_core.proofs.StateLemmas.{popped_inputs, popped, popped_due, zip_put}
-use Rattle.cdxj_places.specs.Rising.{Rises}
-use Rattle.cdxj_places.proofs.RisingLaws.{rises_rising}
-use Rattle.merge_core.specs.Merging.{MergePoint, StillWants, BrokenMerge, HaltedGroup, HaltedMerge}
+use Rattle.merge_core.proofs.SourceLemmas.{all_kept}
 use Rattle.merge_core.specs.declared.sink.Sink.{Ghosts as SinkGhosts}
 use Rattle.merge_core.proofs.PairOrder.{from_not_below, below_then, then_below, below_upto, same_upto, same_from}
-use Rattle.merge_core.specs.declared.fault.MergeFault.TheVariants as fault
 
 -- ---- which device failed
 
@@ -129,6 +120,9 @@ module _ {n : ℕ} {past : List ℕ → Bool} {S : Type 0} {device : Ghosts S}
 pub above_none : (ws : List WaitingLine) → AllByRecursion (λ w. IsAbove None (waiting_pair w)) ws
 above_none [] = tt
 above_none (w ∷ ws) = (tt, above_none ws)
+
+-- where nothing was read, and where more was
+pub ruleset step_rules = (above_none, moved_still, moved_trans, all_kept)
 
 -- what is done stands below what comes next
 pub below_next : (b : Option Pair) (pair : Pair) → IsAbove b pair → (ms : List Member)

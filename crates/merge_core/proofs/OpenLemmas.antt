@@ -1,16 +1,12 @@
 -- The opening of sources, one after another.
-use Rattle.merge_core.proofs.Words.{[], ℕ, ◌++◌, ◌+◌, ◌<◌, ◌∙◌, ◌∷◌, ◌≡◌, ◌≤◌, AllByRecursion, AllZip, Bool}
-use Rattle.merge_core.proofs.Words.{CameOnce, CameWithin, CursorState, IsInput, MergeInput, Ghosts, IsCutAt, IsLeast}
-use Rattle.merge_core.proofs.Words.{IsNextLine, IsSettled, List, MatchOption, Member, MergeState, None, Option, Pair}
-use Rattle.merge_core.proofs.Words.{Ready, Some, Stands, arith, done, drop, drop_all, each_weaker, input_of, inputs}
-use Rattle.merge_core.proofs.Words.{filter, first_length, given, inl, length, length-append, lines, map, option_list}
-use Rattle.merge_core.proofs.Words.{refl, set, stays, suc, sum, sum-map, take, take_more_set, text_or, zip}
-use Rattle.std.proofs.lemmas.List.Sums.{sum_by_push}
-use Rattle.std.proofs.lemmas.Slice.Zip.{all_zipped_more}
-use Rattle.merge_core.specs.Openings.{AddedSource, AreOpened, OpenedAt}
+use Rattle.merge_core.proofs.Words.{[], ℕ, ◌++◌, ◌+◌, ◌<◌, ◌∙◌, ◌∷◌, ◌≡◌, ◌≤◌, AllByRecursion, AllZip, Bool, CameWithin}
+use Rattle.merge_core.proofs.Words.{CursorState, IsInput, MergeInput, Ghosts, IsCutAt, IsLeast, IsNextLine, IsSettled}
+use Rattle.merge_core.proofs.Words.{List, MatchOption, Member, MergeState, None, Option, Pair, Ready, Some, Stands}
+use Rattle.merge_core.proofs.Words.{arith, done, drop, drop_all, each_weaker, input_of, inputs, filter, first_length}
+use Rattle.merge_core.proofs.Words.{given, inl, length, length-append, lines, option_list, refl, set, stays, suc}
+use Rattle.merge_core.proofs.Words.{text_or, zip, all_zipped_more, AddedSource, AreOpened, OpenedAt, IsLineStart}
 use Rattle.merge_core.proofs.Many.{each_by}
 use Rattle.merge_core.proofs.InputLemmas.{LineRead, done_next, input_end, input_more, settled_more}
-use Rattle.source_core.specs.IndexLines.{IsLineStart}
 use Rattle.merge_core.proofs.StateLemmas.{inputs_added, placed_queued}
 
 -- a source was added to those that are read

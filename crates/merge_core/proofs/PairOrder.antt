@@ -1,20 +1,14 @@
 -- The order of pairs is total, and the starts of pairs decide as the pairs do.
-use Rattle.merge_core.proofs.Words.{◌≡◌, ◌⊎◌, Below, Equal, Less, Pair, Upto, ap, arith, false, is_gt}
-use Rattle.merge_core.proofs.Words.{is_lt, pair_cmp, pair_cmp_total, refl, tied_back, tied_itself}
-use Rattle.merge_core.proofs.Words.{[], ℕ, ◌++◌, ◌+◌, ◌∷◌, AreBytes, LINE_LIMIT, List, Member, Ordering, Some}
-use Rattle.merge_core.proofs.Words.{append_assoc, get_or, length, length-append, line_entry, member_pair}
-use Rattle.merge_core.proofs.Words.{ordering_then, suc, take, true, zero, ◌≤◌}
-use Rattle.std.proofs.Common.{Fits, nat_lt, w8}
-use Rattle.std.proofs.lemmas.Bool.{and_parts}
+use Rattle.merge_core.proofs.Words.{◌≡◌, ◌⊎◌, Below, Equal, Less, Pair, Upto, ap, arith, false, is_gt, is_lt, pair_cmp}
+use Rattle.merge_core.proofs.Words.{pair_cmp_total, tied_back, tied_itself, [], ℕ, ◌++◌, ◌+◌, ◌∷◌, AreBytes}
+use Rattle.merge_core.proofs.Words.{LINE_LIMIT, List, Member, Ordering, Some, append_assoc, get_or, length}
+use Rattle.merge_core.proofs.Words.{length-append, line_entry, member_pair, ordering_then, suc, take, true, ◌≤◌}
+use Rattle.merge_core.proofs.Words.{Fits, nat_lt, w8, and_parts, slice_cmp, list_all, nat_cmp, IsStart, pair_text}
 use Rattle.std.proofs.Math.Seq.{take-append_seam}
-use Rattle.std.specs.Cmp.Lexicographic.{slice_cmp}
-use Rattle.std.specs.List.{list_all}
-use Rattle.std.specs.Ordering.{nat_cmp}
 use Rattle.cdxj_places.specs.Abbreviated.{padded, words_cmp}
 use Rattle.cdxj_places.specs.Pair.{is_key, is_key_byte}
 use Rattle.cdxj_places.proofs.Abbreviations.{start_words_decide, then_associates}
 use Rattle.cdxj_core.proofs.MemberLemmas.{entry_valued}
-use Rattle.merge_core.specs.PairStarts.{IsStart, pair_text}
 
 -- ---- the order of pairs is total
 
@@ -71,7 +65,6 @@ starts_decide p q s t g h =
 
 -- a list that is long enough needs no zeros
 pub padded_long : (n : ℕ) (xs : List ℕ) → n ≤ length xs → take n xs ≡ padded n xs
-padded_long zero xs h = refl
 padded_long (suc n) (x ∷ xs) h = grind (arith, padded_long n xs)
 padded_long n xs h = grind arith
 

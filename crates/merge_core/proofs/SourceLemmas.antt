@@ -1,23 +1,17 @@
 -- What was read of sources: from where they are read on, to their ends, and each byte once.
 use Rattle.merge_core.proofs.Words.{[], ℕ, ◌++◌, ◌∙◌, ◌∷◌, ◌≡◌, AllByRecursion, AllZip, MergeInput, Ghosts, IsCut}
-use Rattle.merge_core.proofs.Words.{IsCutAt}
-use Rattle.merge_core.proofs.Words.{IsIndex, IsRun, Known, LINE_LIMIT, List, Member, NeverFalls, Pair, Some}
+use Rattle.merge_core.proofs.Words.{IsCutAt, IsIndex, IsRun, Known, LINE_LIMIT, List, Member, NeverFalls, Pair, Some}
 use Rattle.merge_core.proofs.Words.{all_lines, ap, arith, drop, each_weaker, false, filter, filter-append, is_low}
-use Rattle.merge_core.proofs.Words.{length, length-map, lines, map, map-append, member_pair, not, pair_cmp, refl}
-use Rattle.merge_core.proofs.Words.{sym, zip, AllMoved, AreInputs, AreSettled, Bool, IsInput, IsSettled, KeepsSources}
-use Rattle.merge_core.proofs.Words.{MergeState, Option, all_done, append-nil, done, inputs, flat_map, given, inl, inr}
-use Rattle.merge_core.proofs.Words.{is_some, length-drop, nil_from_length, stays, take_all, text_or, true}
-use Rattle.merge_core.proofs.Words.{true≢false, ◌⊎◌, AllZip-long, AreLinesOf, AreTold, HasEntry, Reached, each_join}
-use Rattle.merge_core.proofs.Words.{each_rising, line_entry, member_place, place_cmp, place_cmp_total, read_lines}
-use Rattle.merge_core.proofs.Words.{suc, take, AllGaveOnce, CursorState, IsLeast}
-use Rattle.merge_core.specs.Openings.{AreOpened}
-use Rattle.std.proofs.Common.{ap₂}
-use Rattle.std.proofs.lemmas.List.{drop_at}
-use Rattle.source_core.specs.Search.{is_below}
+use Rattle.merge_core.proofs.Words.{length, length-map, lines, map, map-append, member_pair, not, pair_cmp, refl, sym}
+use Rattle.merge_core.proofs.Words.{zip, AreInputs, AreSettled, Bool, IsInput, IsSettled, KeepsSources, MergeState}
+use Rattle.merge_core.proofs.Words.{Option, all_done, append-nil, done, inputs, flat_map, given, inl, inr, is_some}
+use Rattle.merge_core.proofs.Words.{length-drop, nil_from_length, stays, text_or, true, true≢false, ◌⊎◌, AllZip-long}
+use Rattle.merge_core.proofs.Words.{AreLinesOf, AreTold, HasEntry, Reached, each_join, each_rising, line_entry}
+use Rattle.merge_core.proofs.Words.{member_place, place_cmp, place_cmp_total, read_lines, suc, take, AllGaveOnce}
+use Rattle.merge_core.proofs.Words.{CursorState, IsLeast, AreOpened, ap₂, drop_at, is_below, IsIn, IsLineIn, IsLineOf}
+use Rattle.merge_core.proofs.Words.{take_all}
 use Rattle.merge_core.proofs.GroupLemmas.{filter_none, filter_all}
 use Rattle.merge_core.proofs.Many.{Move, is_told, told_moved, length_zip, each_beside, each_take}
-use Rattle.cdxj_places.specs.Rising.{IsIn}
-use Rattle.merge_core.specs.SourceLines.{IsLineIn, IsLineOf}
 use Rattle.merge_core.proofs.InputLemmas.{done_cut}
 
 -- ---- the lines that the sources have from where they are read on
@@ -162,8 +156,7 @@ module _ {S : Type 0} {device : Ghosts S} {past : List ℕ → Bool} {old ss : L
     (same : length old ≡ length begun.cursors.items) where
   pub reached_long : length ss ≡ length old
   reached_long =
-      let all = AllZip-long (Move device) _ _ reached.moved in
-      let now = reached.ready.aligned.same in grind (arith, length_zip)
+      let all = AllZip-long (Move device) _ _ reached.moved in grind (arith, length_zip)
 
   pub reached_kept : KeepsSources device old ss
   reached_kept = all_kept device old ss _ _ same reached_long reached.moved
@@ -235,7 +228,6 @@ module _ {S : Type 0} (device : Ghosts S) where
       → IsLeast start → length ss ≡ length cs → length news ≡ length ss → AreOpened device start olds (zip ss cs)
       → AllZip (Move device) (zip ss cs) (zip news cs') → AllGaveOnce device olds news
   gave_once start (x ∷ olds) (s ∷ ss) (c ∷ cs) (y ∷ news) (c' ∷ cs') least same long opened moved =
-      let once = opened.0.once least in
       grind (arith, gave_once start olds ss cs news cs' least (omega arith) (omega arith) opened.1 moved.1)
   gave_once start olds (s ∷ ss) [] news cs' least same long opened moved = absurd (omega arith)
   gave_once start olds ss cs news cs' least same long opened moved = grind (arith, nil_from_length)

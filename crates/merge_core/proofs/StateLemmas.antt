@@ -4,11 +4,10 @@ use Rattle.merge_core.proofs.Words.{AllByRecursion, AllZip, Bool, CursorState, I
 use Rattle.merge_core.proofs.Words.{IsPermutation, List, Member, MergeState, Option, Pair, Some, TookOf, WaitingLine}
 use Rattle.merge_core.proofs.Words.{ap, append-nil, arith, done, each_join, each_weaker, input_of, inputs, inputs_from}
 use Rattle.merge_core.proofs.Words.{filter-append, get_or, get_or_default, given, inl, inr, length, length-append}
-use Rattle.merge_core.proofs.Words.{length-map, length-set, length_permutation, map, nil_from_length, not-true}
-use Rattle.merge_core.proofs.Words.{queued, refl, set, set-get_or, stays, suc, sym, true, waiting_pair, waits_of}
-use Rattle.merge_core.proofs.Words.{zero}
+use Rattle.merge_core.proofs.Words.{length-map, length-set, length_permutation, map, nil_from_length, not-true, queued}
+use Rattle.merge_core.proofs.Words.{refl, set, set-get_or, stays, suc, sym, true, waiting_pair, waits_of, zero}
+use Rattle.merge_core.proofs.Words.{cases_lt}
 use Rattle.std.proofs.Common.{take_all}
-use Rattle.std.proofs.lemmas.Bool.{cases_lt}
 use Rattle.merge_core.proofs.InputLemmas.{filter_passes}
 use Rattle.merge_core.proofs.GroupLemmas.{filter_all, each_permuted, waits_beside, waits_here, waits_other}
 use Rattle.merge_core.proofs.GroupLemmas.{waits_permuted, waits_queued}
@@ -21,7 +20,6 @@ any_of (x ∷ xs) i l = x
 
 pub zip_get : {A B : Type 0} (R : A → B → Type 0) (xs : List A) (ys : List B) (i : ℕ) (a : A) (b : B) → AllZip R xs ys
     → i < length xs → R (get_or xs i a) (get_or ys i b)
-zip_get R (x ∷ xs) (y ∷ ys) zero a b h l = h.0
 zip_get R (x ∷ xs) (y ∷ ys) (suc i) a b h l = zip_get R xs ys i a b h.1 (omega arith)
 zip_get R xs ys i a b h l = grind arith
 
@@ -168,10 +166,7 @@ module _ {past : List ℕ → Bool} {S : Type 0} {device : Ghosts S} {ss : List 
       let i = length m.cursors.items in
       let none = waits_none i m.queue was.placed in
       let here = queued_here i none new most queue p in
-      let others = inputs_same 0 m.cursors.items m.queue queue
-      (λ j a b. queued_beside i none new most queue p j (λ e. absurd (omega arith))) in
-      let start : 0 + length m.cursors.items ≡ i = omega arith in
-      grind (arith, inputs_push)
+      grind (arith, inputs_push, inputs_same, queued_beside)
 
   pub aligned_set : (i : ℕ) (s : S) (f : MergeInput) (m' : MergeState) → inputs m' ≡ set (inputs m) i f
       → length m'.cursors.items ≡ length m.cursors.items

@@ -5,19 +5,14 @@ use Rattle.merge_core.proofs.Words.{append-nil, append_assoc, arith, done, drop,
 use Rattle.merge_core.proofs.Words.{filter, filter-append, given, inl, inr, is_gt, line_entry, lines, map, member_of}
 use Rattle.merge_core.proofs.Words.{member_pair, member_place, not, not-false, pair_cmp, place_cmp, place_cmp_total}
 use Rattle.merge_core.proofs.Words.{refl, rising, rising_split, stays, sym, take, take-append-drop, take-map, true}
-use Rattle.merge_core.proofs.Words.{Below, IsAbove, IsUpto, None, NoneBelow, Option, Pair, WaitingLine, is_low}
-use Rattle.merge_core.proofs.Words.{is_lt, not-true, ordering_reverse, pair_cmp_total, true≢false, waiting_pair}
-use Rattle.std.proofs.Common.{◌&&◌}
-use Rattle.std.proofs.lemmas.List.{drop-map}
+use Rattle.merge_core.proofs.Words.{Below, IsAbove, IsUpto, None, NoneBelow, Option, Pair, WaitingLine, is_low, is_lt}
+use Rattle.merge_core.proofs.Words.{not-true, ordering_reverse, pair_cmp_total, true≢false, waiting_pair, ◌&&◌}
+use Rattle.merge_core.proofs.Words.{drop-map, nat_cmp, slice_cmp, nat_list_cmp_total, and_cases}
 use Rattle.merge_core.proofs.Many.{each_both, filter_out, each_filter}
 use Rattle.merge_core.proofs.InputLemmas.{filter_passes}
-use Rattle.std.specs.Ordering.{nat_cmp}
-use Rattle.std.specs.Cmp.Lexicographic.{slice_cmp}
-use Rattle.std.proofs.lemmas.Cmp.{nat_list_cmp_total}
 use Rattle.merge_core.proofs.PairOrder.{upto_itself, below_then, then_below, from_not_below, upto_upto}
 use Rattle.merge_core.proofs.GroupLemmas.{filter_all, filter_none}
 use Rattle.merge_core.proofs.MergeLemmas.{place_below, below_next, is_less}
-use Rattle.std.proofs.lemmas.Bool.{and_cases}
 
 -- ---- the lines of one source that were come to, among all that it has from its start on
 
@@ -214,7 +209,7 @@ module _ {past : List ℕ → Bool} {wanted : Member → Bool} {b : Option Pair}
   taken_first =
       let cut = split (upto_bound b) (bound_lower b) (grind (arith, each_weaker, bound_late))
       (each_weaker (bound_upto b) r.done r.handed.1) in
-      grind (arith, each_weaker, and_cases, bound_above, true≢false)
+      grind (arith, each_weaker, bound_above, true≢false)
 
   -- where no line waits, it is all
   pub taken_whole : ws ≡ [] → filter wanted whole ≡ filter wanted taken

@@ -1,7 +1,6 @@
 -- What was taken of several sources.
-use Rattle.std.specs.Prelude.{◌≡◌, ℕ, ◌+◌, ◌-◌, ◌<◌, ◌≤◌, List, [], ◌∷◌, ◌++◌, flat_map, length, map, not, true}
-use Rattle.std.specs.Prelude.{false, Bool}
-use Rattle.std.specs.Prelude.{Option, None, Some, slice_index_or, slice_set}
+use Rattle.std.specs.Prelude.{◌≡◌, ℕ, ◌+◌, ◌-◌, ◌<◌, ◌≤◌, List, [], ◌∷◌, ◌++◌, flat_map, length, map, not, true, false}
+use Rattle.std.specs.Prelude.{Bool, Option, None, Some, slice_index_or, slice_set}
 use Rattle.std.specs.List.{AllByRecursion, filter, sum, zip}
 use Rattle.std.specs.List.Sorted.{IsPermutation}
 use Rattle.std.specs.Option.{is_some}

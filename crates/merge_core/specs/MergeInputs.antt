@@ -1,7 +1,6 @@
 -- What was read of a source.
 use Rattle.std.specs.Prelude.{◌≡◌, ◌⊎◌, ℕ, ◌+◌, ◌-◌, ◌≤◌, ◌<◌, List, [], ◌∷◌, ◌++◌, flat_map, length, take, drop, map}
-use Rattle.std.specs.Prelude.{Bool, not}
-use Rattle.std.specs.Prelude.{true, Option, Some}
+use Rattle.std.specs.Prelude.{Bool, not, true, Option, Some}
 use Rattle.std.specs.List.{AllByRecursion, AllZip, filter, zip}
 use Rattle.cdxj_core.specs.declared.limit.TheConstants.{LINE_LIMIT}
 use Rattle.cdxj_places.specs.TextLines.{lines}

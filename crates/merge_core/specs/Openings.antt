@@ -11,7 +11,7 @@ use Rattle.source_core.specs.Reads.{KeepsSource}
 use Rattle.source_core.specs.Search.{IsCut}
 use Rattle.source_core.specs.declared.source.Source.{Ghosts}
 use Rattle.merge_core.specs.declared.state.MergeState.{MergeState}
-use Rattle.merge_core.specs.MergeInputs.{IsInput, MergeInput, IsSettled, Ready, done, input_of, inputs}
+use Rattle.merge_core.specs.MergeInputs.{IsInput, IsSettled, Ready, done, input_of, inputs}
 use Rattle.merge_core.specs.Gathering.{all_done}
 use Rattle.merge_core.specs.Spending.{CameOnce, CameWithin}
 use Rattle.merge_core.specs.WaitingLines.{queued}

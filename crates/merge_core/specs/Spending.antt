@@ -10,7 +10,7 @@ use Rattle.source_core.specs.Halving.{digits}
 use Rattle.source_core.specs.IndexLines.{longest}
 use Rattle.source_core.specs.declared.source.Source.{Ghosts}
 use Rattle.merge_core.specs.declared.state.MergeState.{MergeState}
-use Rattle.merge_core.specs.MergeInputs.{MergeInput, bytes_of, inputs}
+use Rattle.merge_core.specs.MergeInputs.{bytes_of, inputs}
 use Rattle.merge_core.specs.Gathering.{all_done}
 use Rattle.merge_core.specs.PairOrders.{IsUpto, Upto}
 use Rattle.merge_core.specs.Written.{lines_text}

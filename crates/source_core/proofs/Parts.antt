@@ -1,10 +1,7 @@
-use Rattle.std.proofs.Common.{◌≡◌, ℕ, ◌+◌, ◌-◌, ◌<◌, ◌≤◌, List, [], ◌∷◌, ◌++◌, length, take, drop, refl, sym, ap₂}
-use Rattle.std.proofs.Common.{◌∙◌, arith, true, false, Option, append_assoc, append-nil, drop-drop, take-append-drop}
-use Rattle.std.proofs.Common.{length-drop}
-use Rattle.std.proofs.lemmas.List.{drop-take, take-take, take_all, drop_all}
-use Rattle.cdxj_places.specs.TextLines.{lines}
-use Rattle.source_core.specs.LineParts.{NoFeed, PartOf}
-use Rattle.source_core.specs.Windows.{AreBytesAt}
+use Rattle.source_core.proofs.Words.{◌≡◌, ℕ, ◌+◌, ◌-◌, ◌<◌, ◌≤◌, List, [], ◌∷◌, ◌++◌, length, take, drop, refl, sym}
+use Rattle.source_core.proofs.Words.{ap₂, ◌∙◌, arith, true, false, Option, append_assoc, append-nil, drop-drop}
+use Rattle.source_core.proofs.Words.{take-append-drop, length-drop, drop-take, take-take, take_all, drop_all, lines}
+use Rattle.source_core.proofs.Words.{NoFeed, PartOf, AreBytesAt}
 
 -- a line that ends with its LF
 pub lines_front : (u v : List ℕ) → NoFeed u → lines (u ++ 10 ∷ v) ≡ (u ++ 10 ∷ []) ∷ lines v

@@ -3,16 +3,13 @@ use Rattle.merge_core.proofs.Words.{AppendsPrefix, AreLinesOf, Bool, MergeInput,
 use Rattle.merge_core.proofs.Words.{Option, OverIndexes, Pair, Reached, ap, append-nil, arith, collection}
 use Rattle.merge_core.proofs.Words.{err_from_is_err_and, false, inputs, filter, flat_map-append, inl, inr, length}
 use Rattle.merge_core.proofs.Words.{length-map, lines_text, map, member_pair, member_place, min, place_cmp}
-use Rattle.merge_core.proofs.Words.{prefix_longer, refl, rising, sym, true, true≢false}
-use Rattle.std.proofs.lemmas.Bool.{cases_Bool}
-use Rattle.devices.proofs.DeviceLemmas.{Appends-none}
-use Rattle.devices.proofs.WritingLemmas.{prefix_whole, wrote_nothing}
+use Rattle.merge_core.proofs.Words.{prefix_longer, refl, rising, sym, true, true≢false, cases_Bool, Appends-none}
+use Rattle.merge_core.proofs.Words.{prefix_whole, wrote_nothing, each_weaker, zip}
 use Rattle.merge_core.proofs.ReadLemmas.{took_of_indexes, none_wait}
 use Rattle.merge_core.proofs.SourceLemmas.{gave_once, cut_at_start, none_below_empty, taken_lines, all_kept}
 use Rattle.merge_core.proofs.SourceLemmas.{all_lines_are, are_read, its_lines, told_known, starts_kept}
 use Rattle.merge_core.proofs.OpenLemmas.{begun_of}
 use Rattle.merge_core.proofs.StateLemmas.{cursors_of}
-use Rattle.merge_core.proofs.Words.{each_weaker, zip}
 use Rattle.merge_core.proofs.TakenLemmas.{taken_first}
 use Rattle.merge_core.proofs.indexes.merge_indexes.Given.{Over}
 use Rattle.merge_core.proofs.indexes.merge_indexes.Goals.{After-merge, In_err-merge, In_ok-merge}
@@ -70,9 +67,6 @@ broke g c =
       | inr p ↦ p
     ]
 
-pub returns-in_err-opened-clause-part : goal.returns-in_err-opened-clause-part
-returns-in_err-opened-clause-part g c = grind (arith, wrote_nothing)
-
 pub returns-in_err-opened-clause-lines : goal.returns-in_err-opened-clause-lines
 returns-in_err-opened-clause-lines g c =
     rw (err_from_is_err_and c.from_residual.result c.from_residual.ensures.1).1
@@ -88,23 +82,14 @@ returns-in_err-merge-clause-lines g c =
     let b = c.in_err-merge.ensures.ended.0 in
     grind (arith, err_from_is_err_and, lines, broke)
 
--- as many sources
-kept_long : (g : Over) (c : After-merge g) → length c.merge.new.sources ≡ length c.open_at.new.sources
-kept_long g c = grind arith
-
 kept : (g : Over) (c : After-merge g) → KeepsSources g.S.Source c.args.sources.now c.merge.new.sources
 kept g c =
-    grind (arith, all_kept, kept_long)
+    grind (arith, all_kept)
 
 -- each byte of each source was given at most once
 once : (g : Over) (c : After-merge g) → AllGaveOnce g.S.Source c.args.sources.now
     c.merge.new.sources
-once g c =
-    let begun = c.in_ok-opened.ensures.begun in
-    gave_once g.S.Source _ _ _ _ _ _ refl begun.ready.aligned.same (kept_long g c) begun.opened c.merge.ensures.moved
-
-pub returns-in_err-opened-clause-bytes : goal.returns-in_err-opened-clause-bytes
-returns-in_err-opened-clause-bytes g c = c.open_at.ensures.once refl
+once g c = grind (arith, gave_once)
 
 pub returns-in_err-merge-clause-bytes : goal.returns-in_err-merge-clause-bytes
 returns-in_err-merge-clause-bytes g c = once g (goal.at.returns-in_err-merge-clause-bytes g c).After-merge

@@ -1,14 +1,11 @@
-use Rattle.merge_core.proofs.Words.{[], ℕ, ◌++◌, ◌+◌, ◌-◌, ◌^◌, ◌∷◌, ◌≡◌, ◌≤◌, AllZip-long, Grouped, List, Member}
-use Rattle.merge_core.proofs.Words.{None, OverIndexes, Reached, ShareAtMost, Some, all_lines, arith, boxed_lines}
-use Rattle.merge_core.proofs.Words.{each_rising, inl, inr, length, length-map, map, member_pair, member_place, min}
-use Rattle.merge_core.proofs.Words.{place_cmp, place_cmp_total, refl, rising}
-use Rattle.std.proofs.Common.{max}
+use Rattle.merge_core.proofs.Words.{ℕ, ◌++◌, ◌+◌, ◌-◌, ◌^◌, ◌∷◌, ◌≡◌, ◌≤◌, Grouped, List, Member}
+use Rattle.merge_core.proofs.Words.{OverIndexes, Reached, ShareAtMost, Some, all_lines, arith, boxed_lines, each_rising}
+use Rattle.merge_core.proofs.Words.{inl, inr, length, length-map, map, member_pair, member_place, min, place_cmp}
+use Rattle.merge_core.proofs.Words.{place_cmp_total, refl, rising, max, grows_not}
 use Rattle.merge_core.proofs.CountLemmas.{are_read_to, held_most}
 use Rattle.merge_core.proofs.SourceLemmas.{reached_kept}
-use Rattle.merge_core.proofs.Many.{moved_trans, moved_still}
-use Rattle.merge_core.proofs.MergeLemmas.{above_none, below_next, broken_there, halted_there, reached_next}
-use Rattle.merge_core.proofs.MergeLemmas.{reached_same, on_fault}
-use Rattle.devices.proofs.DeviceLemmas.{grows_not}
+use Rattle.merge_core.proofs.Many.{moved_trans}
+use Rattle.merge_core.proofs.MergeLemmas.{below_next, broken_there, halted_there, reached_next, reached_same, on_fault}
 use Rattle.merge_core.proofs.merging.merge.Given.{Over}
 use Rattle.merge_core.proofs.merging.merge.Goals.{After-pass_group}
 use Rattle.merge_core.proofs.merging.merge.Goals as goal
@@ -48,10 +45,6 @@ order : (g : Over) (c : After-pass_group g)
     → rising member_place place_cmp (c.deref.result.now ∷ boxed_lines c.deref-in-Some.result.now)
     ≡ rising member_place place_cmp (group g c)
 order g c = cc
-
-pub loop-rest-init : goal.loop-rest-init
-loop-rest-init g c =
-    grind (arith, above_none, most_lines, moved_still, reached)
 
 pub loop-rest-preserved : goal.loop-rest-preserved
 loop-rest-preserved g c =

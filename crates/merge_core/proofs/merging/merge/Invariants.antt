@@ -1,5 +1,5 @@
-use Rattle.merge_core.proofs.Words.{[], ℕ, ◌+◌, ◌≡◌, ◌≤◌, OverIndexes, ShareAtMost, SoFar, all_lines, length}
-use Rattle.merge_core.proofs.Words.{map, to_come}
+use Rattle.merge_core.proofs.Words.{[], ℕ, ◌+◌, ◌≡◌, ◌≤◌, OverIndexes, ShareAtMost, SoFar, all_lines, length, map}
+use Rattle.merge_core.proofs.Words.{to_come}
 use Rattle.merge_core.proofs.merging.merge.Given as goal
 
 abbrev pub invariant-loop-rest : goal.invariant-loop-rest

@@ -1,8 +1,7 @@
-use Rattle.merge_core.proofs.Words.{[], ℕ, ◌++◌, ◌∙◌, ◌∷◌, ◌≡◌, ◌≤◌, Alike, AllByRecursion, Below, Bool, EndsAt}
-use Rattle.merge_core.proofs.Words.{IsInput}
-use Rattle.merge_core.proofs.Words.{List, Member, Pair, Some, Upto, append_assoc, arith, boxed_lines, done, drop}
-use Rattle.merge_core.proofs.Words.{each_join, each_weaker, false, input_of, filter, given, inl, inr, is_lt, length}
-use Rattle.merge_core.proofs.Words.{lines, map-append, member_pair, pair_cmp_total, refl, stays, true}
+use Rattle.merge_core.proofs.Words.{[], ℕ, ◌++◌, ◌∙◌, ◌∷◌, ◌≡◌, ◌≤◌, Alike, AllByRecursion, Bool, EndsAt}
+use Rattle.merge_core.proofs.Words.{IsInput, List, Member, Some, Upto, append_assoc, arith, boxed_lines, done}
+use Rattle.merge_core.proofs.Words.{each_join, each_weaker, false, input_of, filter, given, inl, inr, is_lt}
+use Rattle.merge_core.proofs.Words.{length, map-append, member_pair, pair_cmp_total, refl, stays, true}
 use Rattle.merge_core.proofs.CountLemmas.{group_most}
 use Rattle.merge_core.proofs.InputLemmas.{LineRead, all_inside, all_taken, all_upto, bad_named, done_next, input_end}
 use Rattle.merge_core.proofs.InputLemmas.{input_more, given_next, order_named, same_stays, settled_more}
@@ -49,9 +48,7 @@ returns-in-Greater-clause-read g c =
     let turned = pair_cmp_total.antisymm (member_pair c.args.first.now) (member_pair c.in-Some.line.value) in
     let here = goal.at.returns-in-Greater-clause-read g c in
     let read = was_read g here.After-compare_pair (grind arith) in
-    let past = g.R.Range.past c.args.range.now in
     let is = c.within.ensures in
-    let above : Below (member_pair c.args.first.now) (member_pair c.in-Some.line.value) = grind arith in
     record {
       input = input_more read _ (inl is);
       settled = settled_more read _ is;
@@ -77,8 +74,6 @@ returns-clause-read g c =
     let here = goal.at.returns-clause-read g c in
     let was : IsInput past (g.S.Source.text c.next_line.new.source) (g.S.Source.extent c.next_line.new.source)
     (input_of c.loop-line.cursor []) = grind arith in
-    let ended : (t : List ℕ) → g.S.Source.text c.next_line.new.source ≡ Some t
-    → lines (drop c.loop-line.cursor.at t) ≡ [] = λ t e. grind arith in
     record {
       input = grind (arith, input_end);
       settled = λ t e none. inl (grind arith);

@@ -1,6 +1,4 @@
-use Rattle.merge_core.proofs.Words.{Appends, List, Option, arith, grows_on, prefix_longer, ℕ}
-use Rattle.devices.proofs.DeviceLemmas.{grows_by}
-use Rattle.std.specs.Io.KnownBytes.{Keeps}
+use Rattle.merge_core.proofs.Words.{arith, grows_on, prefix_longer, grows_by}
 use Rattle.merge_core.proofs.MergeLemmas.{on_fault}
 use Rattle.merge_core.proofs.line_writer.LineWriter.put_line.Goals as goal
 

@@ -1,4 +1,4 @@
-use Rattle.merge_core.proofs.Words.{[], IsInput, arith, boxed_line, input_of, option_list}
+use Rattle.merge_core.proofs.Words.{[], IsInput, arith, boxed_line, input_of}
 use Rattle.merge_core.proofs.InputLemmas.{bad_named}
 use Rattle.merge_core.proofs.OpenLemmas.{input_fresh, first_read}
 use Rattle.merge_core.proofs.state.MergeState.add.Given.{Over}

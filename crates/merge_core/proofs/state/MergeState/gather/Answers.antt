@@ -1,12 +1,10 @@
-use Rattle.merge_core.proofs.Words.{[], ◌+◌, ◌∙◌, ◌∷◌, ◌≡◌, AreReadTo, AreSettled, AreTold, Member, MergeState, Some}
+use Rattle.merge_core.proofs.Words.{[], ◌+◌, ◌∙◌, ◌∷◌, AreReadTo, AreSettled, AreTold, Member, MergeState, Some}
 use Rattle.merge_core.proofs.Words.{Upto, WaitingLine, all_done, ap, arith, boxed_lines, each_weaker, inputs}
 use Rattle.merge_core.proofs.Words.{map-append, member_pair, pair_cmp_total, refl, sym, tied_itself, waiting_pair}
-use Rattle.std.proofs.lemmas.List.Sorted.{IsPermutation-sym}
+use Rattle.merge_core.proofs.Words.{IsPermutation-sym}
 use Rattle.merge_core.proofs.PairOrder.{upto_itself}
 use Rattle.merge_core.proofs.MergeLemmas.{on_fault, Gathers, TakenNext, gathers_start, taken_next, gathers_on}
-use Rattle.merge_core.proofs.SourceLemmas.{all_kept}
 use Rattle.merge_core.proofs.GroupLemmas.{AreBelow, from_waited, each_permuted, above_popped, not_before}
-use Rattle.merge_core.proofs.Many.{moved_trans, moved_still}
 use Rattle.merge_core.proofs.state.MergeState.gather.Given.{Over}
 use Rattle.merge_core.proofs.state.MergeState.gather.Goals.{After-read_on, After-push, In_ok-read_on}
 use Rattle.merge_core.proofs.state.MergeState.gather.Goals as goal
@@ -48,14 +46,6 @@ taken g c h =
     let took = c.in-Some-pop_at.ensures in
     let is = sym c.next-in-sources.view_is in
     taken_next h (taken_line g c) (popped_merge g c) refl (rw is at took.out) (rw is at took.first) (grind arith)
-
-pub returns-in_default-clause-moved : goal.returns-in_default-clause-moved
-returns-in_default-clause-moved g c =
-    grind (arith, moved_still, sym)
-
-pub returns-in_default-clause-ready : goal.returns-in_default-clause-ready
-returns-in_default-clause-ready g c =
-    grind (arith, sym)
 
 pub sources-init : goal.sources-init
 sources-init g c =
@@ -99,7 +89,6 @@ pub sources-preserved : goal.sources-preserved
 sources-preserved g c =
     let here = goal.at.sources-preserved g c in
     let t = taken g here.After-push (drained g here.In_ok-read_on) in
-    let settled = t.settled (drained_settled g here.In_ok-read_on) in
     grind (arith, map-append)
 
 -- the sources were read up to the pair
@@ -114,14 +103,6 @@ read_to g c told low =
 pub returns-in_default-pop_at : goal.returns-in_default-pop_at
 returns-in_default-pop_at g c =
     grind (arith, drained, drained_settled)
-
-pub returns-in_err-read_on-clause-moved : goal.returns-in_err-read_on-clause-moved
-returns-in_err-read_on-clause-moved g c =
-    grind (arith, moved_trans)
-
-pub returns-in_err-read_on-clause-fault : goal.returns-in_err-read_on-clause-fault
-returns-in_err-read_on-clause-fault g c =
-    grind (arith, all_kept)
 
 pub returns-in_err-read_on-clause-gathered : goal.returns-in_err-read_on-clause-gathered
 returns-in_err-read_on-clause-gathered g c =

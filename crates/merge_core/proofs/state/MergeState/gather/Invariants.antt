@@ -1,6 +1,5 @@
 use Rattle.merge_core.proofs.Words.{◌+◌, ◌<◌, ◌∷◌, ◌≡◌, AllByRecursion, AreSettled, MergeInput, IsAbove, IsDueAt}
-use Rattle.merge_core.proofs.Words.{IsSettled}
-use Rattle.merge_core.proofs.Words.{NoneBelow, Option, Pair, boxed_lines, inputs, length, map, member_pair}
+use Rattle.merge_core.proofs.Words.{IsSettled, NoneBelow, Option, Pair, boxed_lines, inputs, length, map, member_pair}
 use Rattle.merge_core.proofs.Words.{set, to_come, waiting_pair}
 use Rattle.merge_core.proofs.MergeLemmas.{Gathers}
 use Rattle.merge_core.proofs.state.MergeState.gather.Given as goal

@@ -1,16 +1,10 @@
-use Rattle.std.proofs.lemmas.List.Sums.{sum_by_push}
-use Rattle.merge_core.proofs.Words.{sum-map}
-use Rattle.merge_core.proofs.Words.{get_or-map}
-use Rattle.merge_core.proofs.Words.{map-set}
-use Rattle.merge_core.proofs.Words.{length-map}
-use Rattle.merge_core.proofs.Many.{two_same}
-use Rattle.merge_core.proofs.Words.{◌<◌, ◌≡◌, ap, append-nil, arith, digits, input_of, inputs, flat_map-append, get_or}
-use Rattle.merge_core.proofs.Words.{length, length-append, map, sum, take, take_all, take_more, take_more_set, zip}
-use Rattle.std.proofs.lemmas.Grind.{common_steps}
-use Rattle.std.proofs.lemmas.Slice.Zip.{all_zipped_more}
+use Rattle.merge_core.proofs.Words.{sum_by_push, sum-map, get_or-map, map-set, length-map, ◌<◌, ◌≡◌, ap, append-nil}
+use Rattle.merge_core.proofs.Words.{arith, digits, input_of, inputs, flat_map-append, get_or, length, length-append}
+use Rattle.merge_core.proofs.Words.{map, sum, take, take_more, take_more_set, zip, common_steps, all_zipped_more}
+use Rattle.merge_core.proofs.Many.{two_same, map_set_same, two_put}
+use Rattle.merge_core.proofs.Words.{take_all}
 use Rattle.merge_core.proofs.SourceLemmas.{once_none}
 use Rattle.merge_core.proofs.CountLemmas.{left_here, left_after}
-use Rattle.merge_core.proofs.Many.{map_set_same, two_put}
 use Rattle.std.proofs.lemmas.Simd.{map-map}
 use Rattle.merge_core.proofs.OpenLemmas.{added_inputs, fresh_of, ready_added, zip_none, zip_push}
 use Rattle.merge_core.proofs.StateLemmas.{inputs_long}
@@ -79,6 +73,4 @@ pub returns : goal.returns
 returns g c =
     let inv = c.loop-i.invariant in
     let same = ap sum (simp map-map at (ap (map digits) inv.extent)) in
-    let olds : take c.loop-i.i c.args.sources.now ≡ c.args.sources.now = take_all c.loop-i.i c.args.sources.now
-    (omega (arith, ap length inv.extent, inv.count)) in
-    grind (arith, ap, take_all)
+    grind (arith, take_all)

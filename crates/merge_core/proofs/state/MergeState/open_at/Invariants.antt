@@ -1,8 +1,6 @@
 use Rattle.merge_core.proofs.Words.{[], ◌≡◌, ◌≤◌, AllGaveOnce, IsLeast, Ready, all_done, drop, inputs, length, map}
-use Rattle.merge_core.proofs.Words.{take, zip}
+use Rattle.merge_core.proofs.Words.{take, zip, AreOpened, AllOpenedWithin, search_steps}
 use Rattle.cdxj_places.specs.PairViews.{pair_view}
-use Rattle.merge_core.specs.Openings.{AreOpened}
-use Rattle.merge_core.specs.Spending.{AllOpenedWithin, search_steps}
 use Rattle.merge_core.proofs.state.MergeState.open_at.Given as goal
 
 abbrev pub invariant-loop-i : goal.invariant-loop-i

@@ -1,16 +1,10 @@
-use Rattle.merge_core.proofs.Words.{get_or-map}
-use Rattle.merge_core.proofs.Words.{map-set}
-use Rattle.merge_core.proofs.Words.{length-map}
-use Rattle.merge_core.proofs.Words.{[], ◌≡◌, AllByRecursion, AllZip, ap, AreReadTo, CursorState, MergeInput, List}
-use Rattle.merge_core.proofs.Words.{Member, zip}
-use Rattle.merge_core.proofs.Words.{MergeState}
-use Rattle.merge_core.proofs.Words.{Some, Upto, all_done, arith, boxed_line, input_of, inputs, get_or, get_or_default}
-use Rattle.merge_core.proofs.Words.{length, member_pair, option_list, refl, set}
-use Rattle.std.proofs.lemmas.Grind.{common_steps}
+use Rattle.merge_core.proofs.Words.{get_or-map, map-set, length-map, [], ◌≡◌, AllByRecursion, AllZip, ap, AreReadTo}
+use Rattle.merge_core.proofs.Words.{CursorState, MergeInput, List, Member, zip, MergeState, Some, Upto, all_done, arith}
+use Rattle.merge_core.proofs.Words.{boxed_line, input_of, inputs, get_or, get_or_default, member_pair}
+use Rattle.merge_core.proofs.Words.{option_list, refl, set, common_steps}
 use Rattle.merge_core.proofs.CountLemmas.{are_read_to, read_on}
 use Rattle.merge_core.proofs.Many.{Move, moved_set, map_set_same, unread_set}
-use Rattle.merge_core.proofs.StateLemmas.{input_at, long_of, idle_here, waited_aligned, waited_inputs}
-use Rattle.merge_core.proofs.StateLemmas.{waited_length}
+use Rattle.merge_core.proofs.StateLemmas.{input_at, long_of, idle_here, waited_aligned, waited_inputs, waited_length}
 use Rattle.merge_core.proofs.state.MergeState.read_on.Given.{Over}
 use Rattle.merge_core.proofs.state.MergeState.read_on.Goals.{After-read_group}
 use Rattle.merge_core.proofs.state.MergeState.read_on.Goals as goal
@@ -21,8 +15,7 @@ read_group-requires g c =
     let due = c.requires.due c.index-sources-i.result was in
     let here = idle_here c.requires.aligned c.requires.inside was due.none c.index_mut.result.now
     c.index_mut.ensures.value in
-    let input = input_at c.requires.aligned c.args.i c.index-sources-i.result was c.requires.inside in
-    grind (arith, here)
+    grind (arith, here, input_at)
 
 -- the source was read on
 module _ (g : Over) (c : After-read_group g) where
