@@ -2,7 +2,7 @@ use Rattle.source_core.proofs.Words.{common_steps, rules, arith, ◌≡◌, ◌+
 use Rattle.source_core.proofs.Words.{drop, length-append, length-take, length-drop, PartOf, NoFeed, AreBytesAt}
 use Rattle.source_core.proofs.Words.{held_from}
 use Rattle.source_core.proofs.Parts.{ended, goes_on, cut_short, given_more, given_out}
-use Rattle.source_core.proofs.LongestLines.{first_at_least, part_of_first}
+use Rattle.source_core.proofs.LongestLines.{first_at_least, no_feed_first}
 use Rattle.source_core.proofs.WindowLemmas.{held_behind}
 use Rattle.source_core.proofs.cursor.Cursor.next.Given.{Over}
 use Rattle.source_core.proofs.cursor.Cursor.next.Goals.{After-line_part-length, In_ok-extend_from_slice}
@@ -92,7 +92,7 @@ loop-self-preserved g c =
     let r = goes_on t (held g here) _ _ _ (bytes g here t e) within _ _ was.1 was.2
     (rw c.if-ends.false at (part g here))
     in (was.0, rw (grown g then) r.0, rw (grown g then) r.1) in
-    grind (arith, part_of_first)
+    grind (arith, no_feed_first)
 
 pub returns-clause-given : goal.returns-clause-given
 returns-clause-given g c = grind (arith, cut_short)
