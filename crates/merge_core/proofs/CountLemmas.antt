@@ -1,30 +1,24 @@
 -- How far sources were read: in lines and in bytes.
 use Rattle.merge_core.proofs.Words.{[], ℕ, ◌++◌, ◌+◌, ◌∙◌, ◌∷◌, ◌≡◌, ◌≤◌, AllByRecursion, AreInputs, AreReadTo, Bool}
-use Rattle.merge_core.proofs.Words.{CursorState, EndsAt, IsInput, MergeInput, Ghosts, IsUpto, LINE_LIMIT, List}
-use Rattle.merge_core.proofs.Words.{Option, Pair}
-use Rattle.merge_core.proofs.Words.{ReadTo, Some, all_done, ap, append-nil, append_assoc, arith, bytes_of, done}
+use Rattle.merge_core.proofs.Words.{CursorState, EndsAt, IsInput, MergeInput, Ghosts, IsUpto, LINE_LIMIT, List, Option}
+use Rattle.merge_core.proofs.Words.{Pair, ReadTo, Some, all_done, ap, append-nil, append_assoc, arith, bytes_of, done}
 use Rattle.merge_core.proofs.Words.{drop, drop-set-lt, input_of, first_length, flat_map-append, get_or, given, length}
 use Rattle.merge_core.proofs.Words.{length-append, length-drop, line_entry, lines, longest, member_pair, read_lines}
 use Rattle.merge_core.proofs.Words.{refl, set, suc, sym, take, take-append-drop, take-map, text_or, ◌<◌, AllZip}
-use Rattle.merge_core.proofs.Words.{Grouped, IsCut, IsCutAt, IsIndex, Known, Member, MergeState, OverIndexes}
-use Rattle.merge_core.proofs.Words.{Reached, ShareAtMost, Upto, WaitingLine, all_lines, each_weaker, false, inputs}
-use Rattle.merge_core.proofs.Words.{filter, filter-append, is_low, is_of, length-map, length-take, map, map-append}
-use Rattle.merge_core.proofs.Words.{member_of, nil_from_length, not, sum, sum_by-cons, true, waits_of, zero, zip}
-use Rattle.merge_core.proofs.Words.{CameWithin, line_row, lines_text}
-use Rattle.std.proofs.lemmas.Grind.{drop_more_same}
-use Rattle.std.proofs.Common.{get_or-drop}
+use Rattle.merge_core.proofs.Words.{Grouped, IsCut, IsCutAt, IsIndex, Known, Member, MergeState, OverIndexes, Reached}
+use Rattle.merge_core.proofs.Words.{ShareAtMost, WaitingLine, all_lines, each_weaker, false, inputs, filter}
+use Rattle.merge_core.proofs.Words.{filter-append, is_low, is_of, length-map, length-take, map, map-append, member_of}
+use Rattle.merge_core.proofs.Words.{nil_from_length, not, sum, sum_by-cons, true, waits_of, zero, zip, CameWithin}
+use Rattle.merge_core.proofs.Words.{lines_text, drop_more_same, get_or-drop, AllGaveWithin, take-take, is_at}
 use Rattle.source_core.proofs.LongestLines.{first_most, longest_drop}
-use Rattle.merge_core.specs.Spending.{AllOpenedWithin, AllGaveWithin}
 use Rattle.merge_core.proofs.InputLemmas.{all_taken, all_upto, done_cut, done_within}
-use Rattle.merge_core.proofs.Many.{each_both, filter_fewer, filter_weaker, filter_front, filter_back, each_take}
-use Rattle.merge_core.proofs.Many.{zip_set, each_replaced, two_same, Move}
+use Rattle.merge_core.proofs.Many.{each_both, filter_fewer, filter_weaker, filter_front, each_take}
+use Rattle.merge_core.proofs.Many.{zip_set, each_replaced, Move}
 use Rattle.merge_core.proofs.GroupLemmas.{each_cut, filter_all}
-use Rattle.merge_core.proofs.StateLemmas.{idle, few_wait, inputs_long}
-use Rattle.std.proofs.lemmas.List.{take-take}
-use Rattle.merge_core.specs.Counts.{is_at}
+use Rattle.merge_core.proofs.StateLemmas.{cursors_of, few_wait}
 use Rattle.merge_core.proofs.MergeLemmas.{gathered_now}
 use Rattle.merge_core.proofs.TakenLemmas.{members_are}
-use Rattle.merge_core.proofs.SourceLemmas.{told_known, texts_kept, run_after}
+use Rattle.merge_core.proofs.SourceLemmas.{told_known, reached_kept, reached_long, run_after}
 use Rattle.std.proofs.lemmas.List.Filters.{length-filter_both}
 
 -- ---- how far sources were read
@@ -61,7 +55,7 @@ module _ {past : List ℕ → Bool} {text : Option (List ℕ)} {extent : ℕ} {f
       record {
         read = take k all;
         rest = drop k all ++ drop f.cursor.count from;
-        cut = rw (start, ← append_assoc, take-append-drop, take-append-drop);
+        cut = grind (arith, append_assoc, take-append-drop);
         members = done past t f;
         entries = rw cut.3 (sym (take-map (line_entry LINE_LIMIT) k all) ∙ ap (take k) told.run.entries
             ∙ take-map Some k (given t f.cursor));
@@ -79,34 +73,30 @@ group_most {pair = pair} input t is end new start near ahead =
 
 module _ (past : List ℕ → Bool) where
   module _ {S : Type 0} (device : Ghosts S) (b : Option Pair) where
-    -- sources of which no line above the bound was taken
-    pub are_read_to : (ss : List S) (fs : List MergeInput) → AreInputs past device ss fs
+    each_read_to : (ss : List S) (fs : List MergeInput) → AreInputs past device ss fs
         → AllByRecursion (λ m. IsUpto b (member_pair m)) (all_done past device.text ss fs)
-        → AreReadTo past device.text b ss fs
-    are_read_to (s ∷ ss) (f ∷ fs) input upto =
+        → AreReadTo past device.text b ss (map (λ f. f.cursor) fs)
+    each_read_to (s ∷ ss) (f ∷ fs) input upto =
         let cut = each_cut (λ m. IsUpto b (member_pair m)) (done past (text_or (device.text s)) f) _ upto in (
           (λ t e. read_to input.0 b t f.cursor e (grind arith) refl (omega arith) input.0.stands.filled.most),
-          are_read_to ss fs input.1 cut.1,
+          each_read_to ss fs input.1 cut.1,
         )
-    are_read_to ss fs input upto = grind arith
+    each_read_to ss fs input upto = grind arith
+
+    -- sources of which no line above the bound was taken
+    pub are_read_to : (ss : List S) (m : MergeState) → AreInputs past device ss (inputs m)
+        → AllByRecursion (λ m. IsUpto b (member_pair m)) (all_done past device.text ss (inputs m))
+        → AreReadTo past device.text b ss m.cursors.items
+    are_read_to ss m input upto =
+        rw (cursors_of 0 m.cursors.items m.queue) at (each_read_to ss (inputs m) input upto)
 
     -- one of them was read on
-    pub read_on : (ss : List S) (fs : List MergeInput) (i : ℕ) (s : S) (f : MergeInput) → AreReadTo past device.text b ss fs
-        → ((t : List ℕ) → device.text s ≡ Some t → ReadTo past b t f.cursor)
-        → AreReadTo past device.text b (set ss i s) (set fs i f)
-    read_on ss fs i s f h k = grind (arith, zip_set, each_replaced)
-
-    -- a line of one of them is taken
-    pub idle_read : (ss : List S) (fs : List MergeInput) (i : ℕ) (d : MergeInput) → AreReadTo past device.text b ss fs
-        → AreReadTo past device.text b ss (set fs i (idle (get_or fs i d)))
-    idle_read (s ∷ ss) (f ∷ fs) (suc i) d h = (h.0, idle_read ss fs i d h.1)
-    idle_read ss fs i d h = grind arith
+    pub read_on : (ss : List S) (cs : List CursorState) (i : ℕ) (s : S) (c : CursorState) → AreReadTo past device.text b ss cs
+        → ((t : List ℕ) → device.text s ≡ Some t → ReadTo past b t c)
+        → AreReadTo past device.text b (set ss i s) (set cs i c)
+    read_on ss cs i s c h k = grind (arith, zip_set, each_replaced)
 
 -- ---- the opening of sources
-
-pub opened_none : {S : Type 0} (device : Ghosts S) (ss : List S)
-    → AllOpenedWithin device ss ss
-opened_none device = grind (arith, two_same)
 
 -- what is left of a list that was gone over up to an index
 pub left_here : {X : Type 0} (old xs : List X) (i : ℕ) (d : X) → drop i xs ≡ drop i old → get_or xs i d ≡ get_or old i d
@@ -143,15 +133,11 @@ pub done_fewer : {past : List ℕ → Bool} {t : List ℕ} {extent : ℕ} {f : M
     → length (filter test (done past t f)) ≤ length (filter test ms)
 done_fewer {past = past} {t = t} {f = f} {ms = ms} test input index =
     let told = input.told t refl in
-    let from = lines (drop f.cursor.start t) in
     let all = members_are (lines t) ms index.entries in
     let cut = done_cut input t refl in
-    let whole = map-append member_of told.begins.0 from in
-    let read = take-map member_of f.cursor.count from in
-    let a = filter_front test cut.0 (given t f.cursor) in
-    let b = filter_front test f.cursor.count (map member_of from) in
-    let c = filter_back test (map member_of told.begins.0) (map member_of from) in
-    grind arith
+    let whole = map-append member_of told.begins.0 (lines (drop f.cursor.start t)) in
+    let read = take-map member_of f.cursor.count (lines (drop f.cursor.start t)) in
+    grind (arith, filter_front, filter-append, length-append)
 
 module _ (past : List ℕ → Bool) {S : Type 0} (device : Ghosts S) where
   all_fewer : (ss : List S) (fs : List MergeInput) (texts : List (List ℕ)) (indexes : List (List Member))
@@ -163,27 +149,21 @@ module _ (past : List ℕ → Bool) {S : Type 0} (device : Ghosts S) where
       grind (arith, filter-append, length-append, all_fewer ss fs ts is test)
   all_fewer ss fs ts is test known are input = grind arith
 
-at_pair : (pair : Pair) (m : Member) → Upto (member_pair m) pair → not (is_low pair m) ≡ true → is_at pair m ≡ true
-at_pair pair m u = grind arith
-
 module _ {S : Type 0} {device : Ghosts S} {past : List ℕ → Bool}
     {old ss0 ss : List S} {begun m0 m : MergeState} {b c : Option Pair} {pair : Pair} {taken more group : List Member}
     (was : Reached past device old begun ss0 m0 b taken)
     (grouped : Grouped past device ss0 m0 ss m pair group)
-    (now : Reached past device old begun ss m c more) (long : length ss ≡ length old)
-    (same : length old ≡ length begun.cursors.items) where
+    (now : Reached past device old begun ss m c more) (same : length old ≡ length begun.cursors.items) where
   -- the lines that wait and the group are one line of each source, and as many as share a pair
   pub held_most : OverIndexes (map device.text old) (λ texts indexes. (most : ℕ) → ShareAtMost most (all_lines indexes)
       → length m.queue + length group ≤ length old + most)
   held_most texts indexes known are most share =
       let aligned = now.ready.aligned in
-      let before : length old ≡ length (inputs begun) = grind (arith, inputs_long) in
-      let known_now = rw (← texts_kept device old ss (inputs begun) (inputs m) before long now.moved) at known in
+      let known_now = rw (← (reached_kept now same).0) at known in
       let gathered = gathered_now was grouped (told_known device.text old texts known) in
       let there = all_fewer past device ss (inputs m) texts indexes (is_at pair) known_now are aligned.input in
       let few = few_of (length ss) m.queue (rw (← aligned.same) at aligned.placed) (λ i l. few_wait aligned i) in
-      let taken = ap length gathered.taken in
-      grind (arith, filter_weaker, each_weaker, at_pair)
+      grind (arith, filter_weaker, each_weaker, reached_long)
 
 -- ---- the lines that were read
 
@@ -209,45 +189,38 @@ module _ {past : List ℕ → Bool} {start : Pair} {b : Option Pair} {test : Mem
   source_most {t = t} {f = f} {ms = ms} input index cut upto =
       let told = input.told t refl in
       let run = run_after start t ms f.cursor.start index cut in
-      let high : map member_of (lines (drop f.cursor.start t))
-      ≡ cut.high = members_are _ cut.high run.0.entries in
+      let high : map member_of (lines (drop f.cursor.start t)) ≡ cut.high = members_are _ cut.high run.0.entries in
       let done_of = done_cut input t refl in
       let k = done_of.0 in
-      let long : length (given t f.cursor) ≡ f.cursor.count = grind (arith, length-map, told.as_many) in
       let front : done past t f ≡ take k cut.high = grind (arith, take-map, take-take) in
       let not_low = rw (← front) at (each_take (λ m. is_low start m ≡ false) k cut.high cut.none_below) in
       let fewer = done_fewer test input index in
       let within = done_within past t f in
-      let pass = filter_all test (done past t f) (each_passes _ (each_both _ _ _ within upto) not_low) in
-      let many = length-take k (given t f.cursor) in
-      grind arith
+      grind (arith, length-map, each_both, each_passes, filter_all, length-take)
 
   module _ {S : Type 0} (device : Ghosts S) where
     -- No more lines were read than those that pass, and one of each source
     pub lines_most : (ss : List S) (fs : List MergeInput) (texts : List (List ℕ)) (indexes : List (List Member))
         → Known (map device.text ss) texts → AllZip (IsIndex LINE_LIMIT) texts indexes
-        → AllByRecursion (λ x. IsCutAt start (device.text x.0) x.1.cursor) (zip ss fs)
+        → AllByRecursion (λ x. IsCutAt start (device.text x.0) x.1) (zip ss (map (λ f. f.cursor) fs))
         → AreInputs past device ss fs
         → AllByRecursion (λ m. IsUpto b (member_pair m)) (all_done past device.text ss fs)
-        → sum (map (λ (f : MergeInput). f.cursor.count) fs) ≤ length (filter test (all_lines indexes)) + length indexes
+        → sum (map (λ (c : CursorState). c.count) (map (λ (f : MergeInput). f.cursor) fs))
+        ≤ length (filter test (all_lines indexes)) + length indexes
     lines_most (s ∷ ss) (f ∷ fs) (t ∷ ts) (i ∷ is) known are cut input upto =
         let parts = each_cut (λ m. IsUpto b (member_pair m)) (done past (text_or (device.text s)) f)
         (all_done past device.text ss fs) upto in
         let here = source_most (rw known.0 at input.0) are.0 (cut.0 t i known.0 are.0) (rw known.0 at parts.0) in
         let rest = lines_most ss fs ts is known.1 are.1 cut.1 input.1 parts.1 in
-        let count = sum_by-cons (λ (k : ℕ). k) f.cursor.count (map (λ (f : MergeInput). f.cursor.count) fs) in
+        let count = sum_by-cons (λ (k : ℕ). k) f.cursor.count (map (λ c. c.count) (map (λ f. f.cursor) fs)) in
         grind (arith, length-append, filter-append)
     lines_most ss fs ts is known are cut input upto = grind (arith, nil_from_length)
 
 -- ---- how many bytes indexes gave
 
--- a line has no more bytes than its entry with a line input
-row_most : (l : List ℕ) (m : Member) → line_entry LINE_LIMIT l ≡ Some m → length l ≤ length (line_row m)
-row_most l m e = grind (arith, length-append, length-take)
-
 rows_most : (ls : List (List ℕ)) (ms : List Member) → map (line_entry LINE_LIMIT) ls ≡ map Some ms
     → bytes_of ls ≤ length (lines_text ms)
-rows_most (l ∷ ls) (m ∷ ms) e = grind (arith, row_most, length-append, rows_most ls ms)
+rows_most (l ∷ ls) (m ∷ ms) e = grind (arith, length-take, length-append, rows_most ls ms)
 rows_most ls ms e = grind arith
 
 -- of equal lists of entries, the one is a front
@@ -256,12 +229,12 @@ front_of : (us : List Member) (zs : List (Option Member)) (vs : List Member) →
 front_of (u ∷ us) zs (v ∷ vs) e = grind (arith, front_of us zs vs)
 front_of us zs vs e = grind arith
 
--- sources that tell their bytes, beside their inputs
-pub tell_both : {S : Type 0} (text : S → Option (List ℕ)) (ss : List S) (fs : List MergeInput) (texts : List (List ℕ))
-    → length ss ≡ length fs → Known (map text ss) texts
-    → AllZip (λ (t : List ℕ) (x : S × MergeInput). text x.0 ≡ Some t) texts (zip ss fs)
-tell_both text (s ∷ ss) (f ∷ fs) (t ∷ ts) same known = (known.0, tell_both text ss fs ts (omega arith) known.1)
-tell_both text ss fs ts same known = grind arith
+-- sources that tell their bytes, beside their cursors
+pub tell_both : {S : Type 0} (text : S → Option (List ℕ)) (ss : List S) (cs : List CursorState) (texts : List (List ℕ))
+    → length ss ≡ length cs → Known (map text ss) texts
+    → AllZip (λ (t : List ℕ) (x : S × CursorState). text x.0 ≡ Some t) texts (zip ss cs)
+tell_both text (s ∷ ss) (c ∷ cs) (t ∷ ts) same known = (known.0, tell_both text ss cs ts (omega arith) known.1)
+tell_both text ss cs ts same known = grind arith
 
 -- indexes were read from where the search for a pair ended
 module _ {past : List ℕ → Bool} {start : Pair} {b : Option Pair} {test : Member → Bool}
@@ -272,22 +245,21 @@ module _ {past : List ℕ → Bool} {start : Pair} {b : Option Pair} {test : Mem
       let run = run_after start t ms c.start index cut in
       let tail = front_of r.members (map (line_entry LINE_LIMIT) r.rest) cut.high (grind (arith, map-append)) in
       let not_low = (each_cut (λ m. is_low start m ≡ false) r.members tail.0 (rw (← tail.1) cut.none_below)).0 in
-      let all_pass = each_passes p r.members r.within not_low in
-      grind (arith, filter-append, filter_all, rows_most, flat_map-append, length-append)
+      grind (arith, filter-append, filter_all, rows_most, flat_map-append, length-append, each_passes)
 
   module _ {S : Type 0} (device : Ghosts S) where
     -- What sources gave from before they were opened, when they were read up to the bound
-    pub gave_most : (ss0 : List S) (xs1 xs : List (S × MergeInput)) (texts : List (List ℕ)) (indexes : List (List Member))
-        → Known (map device.text ss0) texts → AllZip (λ (t : List ℕ) (x : S × MergeInput). device.text x.0 ≡ Some t) texts xs1
+    pub gave_most : (ss0 : List S) (xs1 xs : List (S × CursorState)) (texts : List (List ℕ)) (indexes : List (List Member))
+        → Known (map device.text ss0) texts → AllZip (λ (t : List ℕ) (x : S × CursorState). device.text x.0 ≡ Some t) texts xs1
         → AllZip (IsIndex LINE_LIMIT) texts indexes
-        → AllZip (λ x y. CameWithin device x y.0 y.1.cursor) ss0 xs1
+        → AllZip (λ x y. CameWithin device x y.0 y.1) ss0 xs1
         → AllZip (Move device) xs1 xs
-        → AllByRecursion (λ x. IsCutAt start (device.text x.0) x.1.cursor) xs1
-        → AllByRecursion (λ x. (t : List ℕ) → device.text x.0 ≡ Some t → ReadTo past b t x.1.cursor) xs
+        → AllByRecursion (λ x. IsCutAt start (device.text x.0) x.1) xs1
+        → AllByRecursion (λ x. (t : List ℕ) → device.text x.0 ≡ Some t → ReadTo past b t x.1) xs
         → AllGaveWithin device test texts indexes ss0 (map (λ x. x.0) xs)
     gave_most (s ∷ ss) (y ∷ ys) (x ∷ xs) (t ∷ ts) (i ∷ is) known tells are came moved cut reads =
         let m = moved.0 in
         let r = reads.0 t (m.text_kept ∙ tells.0) in
-        let here = source_bytes t i x.1.cursor are.0 (rw m.start_kept (cut.0 t i tells.0 are.0)) r in
+        let here = source_bytes t i x.1 are.0 (rw m.start_kept (cut.0 t i tells.0 are.0)) r in
         grind (arith, gave_most ss ys xs ts is)
     gave_most ss ys xs ts is known tells are came moved cut reads = grind arith

@@ -1,18 +1,14 @@
 -- The lines that wait: whose turn comes first, and the lines of one pair, taken of one source after another.
-use Rattle.merge_core.proofs.Words.{nil_from_length}
-use Rattle.merge_core.proofs.Words.{[], ℕ, ◌++◌, ◌<◌, ◌∙◌, ◌∷◌, ◌≡◌, ◌≢◌, ◌≤◌, AllByRecursion, IsPermutation, List}
-use Rattle.merge_core.proofs.Words.{Member, WaitingLine, arith, cond-false, cond-true, each_weaker, false, filter}
-use Rattle.merge_core.proofs.Words.{get_or, is_of, length, map, queued, refl, subst, suc, sum_by-cons, sym, true}
-use Rattle.merge_core.proofs.Words.{waits_of, Alike, AllBeyond, Below, Equal, IsAbove, MatchOption, NoneBefore}
-use Rattle.merge_core.proofs.Words.{NoneBelow, Option, Pair, Upto, is_eq, is_lt, length_permutation, pair_cmp}
-use Rattle.merge_core.proofs.Words.{pair_cmp_total, turn_cmp, waiting_pair, ◌+◌, ◌-◌, Bool, Gathered, IsFrom, ap}
-use Rattle.merge_core.proofs.Words.{append-nil, append_assoc, drop, drop-set-lt, each_join, filter-append, flat_map}
-use Rattle.merge_core.proofs.Words.{flat_map-append, member_pair, set, take, take-append-drop, take_more}
-use Rattle.merge_core.proofs.Words.{take_more_set, tied_back}
-use Rattle.std.proofs.lemmas.Grind.{common_steps}
-use Rattle.std.proofs.Common.{◌==◌, cond, sum_by, IfSome, drop-drop}
-use Rattle.std.specs.List.{All}
-use Rattle.std.proofs.lemmas.List.Sorted.{All-permutation, sum_by-IsPermutation}
+use Rattle.merge_core.proofs.Words.{nil_from_length, [], ℕ, ◌++◌, ◌<◌, ◌∙◌, ◌∷◌, ◌≡◌, ◌≢◌, ◌≤◌, AllByRecursion}
+use Rattle.merge_core.proofs.Words.{IsPermutation, List, Member, WaitingLine, arith, cond-false, cond-true, each_weaker}
+use Rattle.merge_core.proofs.Words.{false, filter, get_or, is_of, length, queued, refl, subst, suc, sum_by-cons}
+use Rattle.merge_core.proofs.Words.{sym, true, waits_of, Alike, AllBeyond, Below, Equal, IsAbove, MatchOption}
+use Rattle.merge_core.proofs.Words.{NoneBefore, NoneBelow, Option, Pair, Upto, is_eq, is_lt, length_permutation}
+use Rattle.merge_core.proofs.Words.{pair_cmp, pair_cmp_total, turn_cmp, waiting_pair, ◌+◌, ◌-◌, Bool, Gathered, IsFrom}
+use Rattle.merge_core.proofs.Words.{ap, append-nil, append_assoc, drop, drop-set-lt, each_join, filter-append, flat_map}
+use Rattle.merge_core.proofs.Words.{flat_map-append, member_pair, set, take, take-append-drop, take_more, take_more_set}
+use Rattle.merge_core.proofs.Words.{tied_back, common_steps, cond, sum_by, IfSome, drop-drop, All}
+use Rattle.merge_core.proofs.Words.{All-permutation, sum_by-IsPermutation}
 use Rattle.merge_core.proofs.PairOrder.{from_not_below, below_then, below_upto, same_upto, same_from, upto_upto}
 use Rattle.merge_core.proofs.PairOrder.{not_below_itself}
 use Rattle.merge_core.proofs.Many.{each_both}
@@ -69,10 +65,7 @@ module _ (P : Member → Type 0) (i : ℕ) where
       → AllByRecursion (λ w. is_of i w ≡ true → P w.member) ws
   waits_each [] h = tt
   waits_each (w ∷ ws) h =
-      (elim (is_of i w) as (λ b. AllByRecursion P
-      (map (λ (w : WaitingLine). w.member) (cond b (w ∷ filter (is_of i) ws) (filter (is_of i) ws)))
-      → (b ≡ true → P w.member) × AllByRecursion (λ w. is_of i w ≡ true → P w.member) ws)
-      [ true ↦ (λ k. (λ e. k.0, waits_each ws k.1)) | false ↦ (λ k. (λ e. absurd (cc), waits_each ws k)) ]) h
+      grind (arith, waits_each ws)
 
 all_same : (us vs : List Member) → length us ≤ 1 → length vs ≡ length us
     → ((m : Member) → us ≡ m ∷ [] → AllByRecursion (λ k. k ≡ m) vs) → vs ≡ us
@@ -92,15 +85,13 @@ waits_permuted i xs ys p few =
 -- where none of a source waits, none is of it
 pub none_waits : (i : ℕ) (ws : List WaitingLine) → waits_of i ws ≡ []
     → AllByRecursion (λ (w : WaitingLine). w.source ≢ i) ws
-none_waits i ws e =
-    each_weaker (λ (w : WaitingLine) (h : is_of i w ≡ true → ⊥). λ (q : w.source ≡ i). h
-    (let t : (w.source == i) ≡ true = grind arith in t)) ws (waits_each (λ k. ⊥) i ws (grind arith))
+none_waits i [] e = tt
+none_waits i (w ∷ ws) e = grind (arith, none_waits i ws)
 
 -- ---- whose turn comes first
 
 pub not_before : (v w : WaitingLine) → is_lt (turn_cmp v w) ≡ false → Upto (waiting_pair w) (waiting_pair v)
-not_before v w h = from_not_below (waiting_pair v) (waiting_pair w)
-    (grind arith)
+not_before v w h = from_not_below (waiting_pair v) (waiting_pair w) (grind arith)
 
 pub source_after : (v w : WaitingLine) → is_lt (turn_cmp v w) ≡ false → pair_cmp (waiting_pair v) (waiting_pair w)
     ≡ Equal → w.source ≤ v.source
@@ -171,9 +162,6 @@ module _ (pair : Pair) where
         taken = grind (arith, append_assoc, append-nil, filter-append, filter_all, filter_none, each_weaker);
         upto = grind (arith, each_join, each_weaker, same_upto);
       }
-
-  pub gathered_none : (lines : List Member) → AreBelow pair lines → Gathered pair lines lines [] []
-  gathered_none lines low = grind (arith, each_weaker, is_lt, filter_all, filter_none, below_upto)
 
   -- more lines at the pair are done of a source, and the sources after it have none
   module _ {X : Type 0} (d : X → List Member) (xs : List X) where

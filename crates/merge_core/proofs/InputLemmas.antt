@@ -1,19 +1,17 @@
 -- What one line more makes of an input.
-use Rattle.merge_core.proofs.Words.{[], ℕ, ◌++◌, ◌+◌, ◌-◌, ◌<◌, ◌∙◌, ◌∷◌, ◌≡◌, ◌≤◌, ◌⊎◌, Alike, AllByRecursion}
-use Rattle.merge_core.proofs.Words.{Below, Bool, CursorState, EndsAt, IsInput, MergeInput, FeedFault, IsNextLine}
-use Rattle.merge_core.proofs.Words.{IsSettled}
+use Rattle.merge_core.proofs.Words.{[], ℕ, ◌++◌, ◌+◌, ◌-◌, ◌<◌, ◌∙◌, ◌∷◌, ◌≡◌, ◌≤◌, ◌⊎◌, Alike, AllByRecursion, Below}
+use Rattle.merge_core.proofs.Words.{Bool, CursorState, EndsAt, IsInput, MergeInput, FeedFault, IsNextLine, IsSettled}
 use Rattle.merge_core.proofs.Words.{LINE_LIMIT, List, Member, NeverFalls, None, Option, Pair, Some, Stands, Upto, ap}
 use Rattle.merge_core.proofs.Words.{append-nil, append_assoc, arith, done, drop, drop_all, each_join, each_weaker}
 use Rattle.merge_core.proofs.Words.{false, input_of, filter, filter-append, first_length, flat_map-append, given, inl}
 use Rattle.merge_core.proofs.Words.{inr, length, length-append, length-map, length-take, line_entry, lines, map}
 use Rattle.merge_core.proofs.Words.{map-append, member_pair, not-true, pair_cmp, pair_cmp_total, read_lines, refl}
-use Rattle.merge_core.proofs.Words.{stays, suc, sym, take, take-append-drop, true, nil_from_length}
-use Rattle.std.proofs.Common.{take_all, take_at}
+use Rattle.merge_core.proofs.Words.{stays, suc, sym, take, take-append-drop, true, nil_from_length, take_at}
+use Rattle.std.proofs.Common.{take_all}
 use Rattle.std.specs.FinMap.{nat_cmp-IsAntisymmetric, slice_cmp-IsAntisymmetric}
 use Rattle.cdxj_core.specs.Lines.{body_of}
 use Rattle.cdxj_core.proofs.MemberLemmas.{entry_is_short, long_line_none}
 use Rattle.merge_core.proofs.PairOrder.{below_then, same_upto, same_from, upto_upto}
-use Rattle.std.proofs.lemmas.Bool.{cases_lt}
 use Rattle.source_core.specs.LinesAtFault.{IsOutOfOrder, LineBeginsAt}
 use Rattle.source_core.proofs.SortedCuts.{begins_at}
 use Rattle.merge_core.proofs.GroupLemmas.{filter_all}
@@ -66,10 +64,7 @@ cut_of n before late all long few is =
 last_same : (us vs : List Member) (x y : Member) → us ++ x ∷ [] ≡ vs ++ y ∷ [] → x ≡ y
 last_same [] [] x y e = grind arith
 last_same (u ∷ us) (v ∷ vs) x y e = last_same us vs x y (grind arith)
-last_same (u ∷ []) [] x y e = absurd (cc)
-last_same (u ∷ w ∷ us) [] x y e = absurd (cc)
-last_same [] (v ∷ []) x y e = absurd (cc)
-last_same [] (v ∷ w ∷ vs) x y e = absurd (cc)
+last_same us vs x y e = let same = ap length e in grind (arith, length-append)
 
 pub filter_passes : {X : Type 0} (test : X → Bool) (xs : List X) → AllByRecursion (λ x. test x ≡ true) (filter test xs)
 filter_passes test [] = tt
@@ -121,15 +116,11 @@ module _ {past : List ℕ → Bool} {text : Option (List ℕ)} {extent : ℕ} {o
 
   front : (t : List ℕ) → text ≡ Some t → take (c.count - 1) (given t c) ≡ given t old
   front t e =
-      let n = as_many t e in
-      let long : length (given t old) ≡ c.count - 1 = omega (arith, n, r.count) in
-      rw (given_next t e) (take_at (given t old) (m ∷ []) (c.count - 1) long)
+      grind (arith, as_many, given_next, take_at)
 
   whole : (t : List ℕ) → text ≡ Some t → take c.count (given t c) ≡ given t c
   whole t e =
-      let n = as_many t e in
-      let more = given_next t e in
-      take_all c.count (given t c) (grind (arith, length-append))
+      grind (arith, as_many, given_next, length-append, take_all)
 
   -- it waits unless it lies past the range, or it was taken
   abbrev pub Goes : List Member → Type 0
@@ -143,10 +134,8 @@ module _ {past : List ℕ → Bool} {text : Option (List ℕ)} {extent : ℕ} {o
   pub done_next : (ws : List Member) → ws ≡ filter (stays past) (m ∷ []) → (t : List ℕ) → text ≡ Some t
       → done past t (input_of c ws) ≡ given t old
   done_next ws is t e =
-      let next = given_next t e in
-      let front = front t e in
       let whole = whole t e in
-      grind (arith, filter_all, filter-append, append-nil)
+      grind (arith, filter_all, filter-append, append-nil, given_next, front)
 
   pub input_more : (ws : List Member) → Goes ws → IsInput past text extent (input_of c ws)
   input_more ws cases = record {
@@ -233,18 +222,7 @@ input_end input c stands start count near none = record {
   stands = stands;
   few = omega arith;
   counted = omega arith;
-  told = λ t e.
-      let was = input.told t e in
-      rw (start, count) (record {
-        begins = was.begins;
-        stood = grind arith;
-        as_many = was.as_many;
-        run = was.run;
-        late = was.late;
-        split = was.split;
-        one = was.one;
-        waiting = was.waiting;
-      });
+  told = λ t e. let was = input.told t e in rw (start, count) (grind arith);
 }
 
 -- ---- lines at fault, by where the cursor stands
@@ -271,11 +249,7 @@ module _ {past : List ℕ → Bool} {t : List ℕ} {extent : ℕ} {f : MergeInpu
       let told = input.told t refl in
       let cut : lines t ≡ (told.begins.0 ++ read_lines t f.cursor) ++ lines (drop f.cursor.at t) =
       grind (arith, take-append-drop, append_assoc) in
-      record {
-        after = after;
-        lines_are = rw (← e) cut;
-        offset_is = begins_at t f.cursor.at _ cut (grind (arith, cases_lt, drop_all));
-      }
+      grind (arith, begins_at, drop_all)
 
   pub bad_named : (e : FeedFault) → IsFeedFaultAt (lines (drop f.cursor.at t)) f.cursor.at e → NamesLine t e
   bad_named e h = grind (arith, begins_here)

@@ -1,12 +1,9 @@
 -- Lists, and lists of sources and inputs, seen as one list of pairs.
-use Rattle.merge_core.proofs.Words.{[], ℕ, ◌++◌, ◌∷◌, ◌≡◌, ◌≤◌, AllByRecursion, Bool, List, arith, cond-true, false}
+use Rattle.merge_core.proofs.Words.{[], ℕ, ◌∷◌, ◌≡◌, ◌≤◌, AllByRecursion, Bool, List, arith, cond-true, false}
 use Rattle.merge_core.proofs.Words.{filter, filter-append, length, length-append, not, suc, take, take-append-drop}
-use Rattle.merge_core.proofs.Words.{true, ◌+◌, ◌-◌, ◌<◌, AllZip, MergeInput, Ghosts, Option, Some, ap, get_or}
-use Rattle.merge_core.proofs.Words.{get_or-map}
-use Rattle.merge_core.proofs.Words.{is_some, map, map-set, set, set-get_or, sum-map, text_or, unread, zip}
-use Rattle.std.proofs.lemmas.List.Sums.{sum_by-set}
-use Rattle.std.proofs.lemmas.Slice.Zip.{get_or-zip, length-zip}
-use Rattle.merge_core.specs.MergeInputs.{Moved}
+use Rattle.merge_core.proofs.Words.{true, ◌+◌, ◌-◌, ◌<◌, AllZip, CursorState, Ghosts, Option, Some, ap, get_or}
+use Rattle.merge_core.proofs.Words.{get_or-map, is_some, map, map-set, set, set-get_or, sum-map, text_or, unread, zip}
+use Rattle.merge_core.proofs.Words.{sum_by-set, get_or-zip, length-zip, Moved}
 
 -- ---- lists that are filtered, and what holds of each of a list
 
@@ -34,9 +31,6 @@ filter_weaker f g (x ∷ xs) h = grind (arith, cond-true, filter_weaker f g xs h
 pub filter_front : {X : Type 0} (f : X → Bool) (n : ℕ) (xs : List X)
     → length (filter f (take n xs)) ≤ length (filter f xs)
 filter_front f n xs = let whole = take-append-drop n xs in grind (arith, filter-append f (take n xs), length-append)
-
-pub filter_back : {X : Type 0} (f : X → Bool) (us vs : List X) → length (filter f vs) ≤ length (filter f (us ++ vs))
-filter_back f us vs = grind (arith, filter-append, length-append)
 
 pub each_take : {X : Type 0} (A : X → Type 0) (n : ℕ) (xs : List X) → AllByRecursion A xs → AllByRecursion A (take n xs)
 each_take A (suc n) (x ∷ xs) h = (h.0, each_take A n xs h.1)
@@ -82,44 +76,58 @@ two_trans : {X : Type 0} (R : X → X → Type 0) → ((x y z : X) → R x y →
 two_trans R t (x ∷ xs) (y ∷ ys) (z ∷ zs) h k = (t x y z h.0 k.0, two_trans R t xs ys zs h.1 k.1)
 two_trans R t xs ys zs h k = grind arith
 
--- One source and its input change
+-- One source and its cursor change
 module _ {S : Type 0} (device : Ghosts S) where
-  abbrev pub Move : S × MergeInput → S × MergeInput → Type 0
-  Move x y = Moved device x.0 y.0 x.1.cursor y.1.cursor
+  abbrev pub Move : S × CursorState → S × CursorState → Type 0
+  Move x y = Moved device x.0 y.0 x.1 y.1
 
-  move_then : (x y z : S × MergeInput) → Move x y → Move y z → Move x z
+  move_then : (x y z : S × CursorState) → Move x y → Move y z → Move x z
   move_then x y z a b = grind arith
 
-  pub move_not : (x : S × MergeInput) → Move x x
+  move_not : (x : S × CursorState) → Move x x
   move_not x = grind arith
 
-  pub moved_trans : (xs ys zs : List (S × MergeInput)) → AllZip Move xs ys → AllZip Move ys zs → AllZip Move xs zs
+  pub moved_trans : (xs ys zs : List (S × CursorState)) → AllZip Move xs ys → AllZip Move ys zs → AllZip Move xs zs
   moved_trans = two_trans Move move_then
 
-  pub moved_still : (xs : List (S × MergeInput)) → AllZip Move xs xs
+  pub moved_still : (xs : List (S × CursorState)) → AllZip Move xs xs
   moved_still = two_same Move move_not
 
-  pub told_moved : (ss ss' : List S) (fs fs' : List MergeInput) → length ss' ≡ length fs'
-      → AllZip Move (zip ss fs) (zip ss' fs') → AllByRecursion (λ s. is_some (device.text s) ≡ true) ss
+  pub told_moved : (ss ss' : List S) (cs cs' : List CursorState) → length ss' ≡ length cs'
+      → AllZip Move (zip ss cs) (zip ss' cs') → AllByRecursion (λ s. is_some (device.text s) ≡ true) ss
       → AllByRecursion (λ s. is_some (device.text s) ≡ true) ss'
-  told_moved (s ∷ ss) (s' ∷ ss') (f ∷ fs) (f' ∷ fs') e m h =
-      (rw m.0.text_kept h.0, told_moved ss ss' fs fs' (omega arith) m.1 h.1)
-  told_moved ss [] fs fs' e m h = tt
-  told_moved ss (s' ∷ ss') fs fs' e m h = grind arith
+  told_moved (s ∷ ss) (s' ∷ ss') (c ∷ cs) (c' ∷ cs') e m h =
+      grind (arith, told_moved ss ss' cs cs' (omega arith) m.1 h.1)
+  told_moved ss [] cs cs' e m h = tt
+  told_moved ss (s' ∷ ss') cs cs' e m h = grind arith
 
-  module _ (ss : List S) (fs : List MergeInput) (i : ℕ) (a s : S) (b f : MergeInput) (same : length ss ≡ length fs)
+  module _ (ss : List S) (cs : List CursorState) (i : ℕ) (a s : S) (b c : CursorState) (same : length ss ≡ length cs)
       (inside : i < length ss) where
-    pub moved_set : Move (get_or ss i a, get_or fs i b) (s, f) → AllZip Move (zip ss fs) (zip (set ss i s) (set fs i f))
+    pub moved_set : Move (get_or ss i a, get_or cs i b) (s, c) → AllZip Move (zip ss cs) (zip (set ss i s) (set cs i c))
     moved_set m =
-        rw (zip_set ss fs i s f) (two_put Move (zip ss fs) (zip ss fs) i (a, b) (s, f) (moved_still (zip ss fs))
+        rw (zip_set ss cs i s c) (two_put Move (zip ss cs) (zip ss cs) i (a, b) (s, c) (moved_still (zip ss cs))
         (grind (arith, zip_at)))
 
     -- how many bytes weren't read
-    pub unread_set : unread device.extent (set ss i s) (set fs i f) + (device.extent (get_or ss i a) - (get_or fs i b).cursor.at)
-        ≡ unread device.extent ss fs + (device.extent s - f.cursor.at)
+    pub unread_set : unread device.extent (set ss i s) (set cs i c) + (device.extent (get_or ss i a) - (get_or cs i b).at)
+        ≡ unread device.extent ss cs + (device.extent s - c.at)
     unread_set =
-        let sums = sum_by-set (λ (x : S × MergeInput). device.extent x.0 - x.1.cursor.at) (zip ss fs) i (s, f) (a, b) in
-        grind (arith, zip_set, zip_at, length_zip, sum-map, sums)
+        let sums = sum_by-set (λ (x : S × CursorState). device.extent x.0 - x.1.at) (zip ss cs) i (s, c) (a, b) in
+        grind (arith, zip_set, zip_at, length_zip, sum-map)
+
+-- ---- one list beside another
+
+-- what each of the one has, by what it has to do with the other, and by what each of that has
+pub each_beside : {X Y : Type 0} (R : X → Y → Type 0) (P : X → Type 0) (Q : Y → Type 0)
+    → ((x : X) (y : Y) → R x y → P x → Q y) → (xs : List X) (ys : List Y) → AllZip R xs ys → AllByRecursion P xs
+    → AllByRecursion Q ys
+each_beside R P Q f (x ∷ xs) (y ∷ ys) h k = (f x y h.0 k.0, each_beside R P Q f xs ys h.1 k.1)
+each_beside R P Q f xs ys h k = grind arith
+
+pub each_by : {X Y : Type 0} (R : X → Y → Type 0) (Q : Y → Type 0) → ((x : X) (y : Y) → R x y → Q y) → (xs : List X)
+    (ys : List Y) → AllZip R xs ys → AllByRecursion Q ys
+each_by R Q f (x ∷ xs) (y ∷ ys) h = (f x y h.0, each_by R Q f xs ys h.1)
+each_by R Q f xs ys h = grind arith
 
 -- ---- one of a list is replaced
 

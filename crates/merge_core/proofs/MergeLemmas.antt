@@ -1,43 +1,26 @@
 -- The steps of a merge: how a group is gathered, and what one group more makes of it.
-use Rattle.merge_core.proofs.Words.{ℕ, ◌<◌, ◌≡◌, FeedFault, IsErrAnd, List, Result, arith, get_or, get_or-map}
-use Rattle.merge_core.proofs.Words.{length, length-map, map, map-set, set, [], ◌++◌, ◌+◌, ◌∷◌, ◌≤◌, Aligned, Alike}
-use Rattle.merge_core.proofs.Words.{AllByRecursion, AllZip, AreSettled, AreTold, Bool, MergeInput, Gathered, Ghosts}
-use Rattle.merge_core.proofs.Words.{IsDue}
-use Rattle.merge_core.proofs.Words.{IsFrom, IsPermutation, IsSettled, Member, MergeState, NoneBefore, NoneBelow}
-use Rattle.merge_core.proofs.Words.{Option, Pair, TookOf, WaitingLine, all_done, append-nil, append_assoc, done}
-use Rattle.merge_core.proofs.Words.{drop, each_join, each_weaker, inputs, flat_map, is_some, length-set}
-use Rattle.merge_core.proofs.Words.{length_permutation, member_pair, set-get_or, sym, text_or, true, unread}
+use Rattle.merge_core.proofs.GroupLemmas.{filter_none, filter_all, each_get, each_permuted, from_popped, AreAt}
+use Rattle.merge_core.proofs.GroupLemmas.{AreBelow, source_more}
+use Rattle.merge_core.proofs.Words.{ℕ, ◌<◌, ◌≡◌, IsErrAnd, List, Result, arith, get_or, length, set, [], ◌++◌, ◌+◌, ◌∷◌}
+use Rattle.merge_core.proofs.Words.{◌≤◌, Aligned, Alike, AllByRecursion, AreSettled, AreTold, Bool, MergeInput}
+use Rattle.merge_core.proofs.Words.{Gathered, Ghosts, IsDueAt, IsFrom, IsPermutation, IsSettled, Member, MergeState}
+use Rattle.merge_core.proofs.Words.{NoneBefore, NoneBelow, Option, Pair, TookOf, WaitingLine, all_done, append-nil}
+use Rattle.merge_core.proofs.Words.{append_assoc, done, drop, each_join, each_weaker, inputs, flat_map, is_some}
+use Rattle.merge_core.proofs.Words.{length-set, length_permutation, member_pair, sym, text_or, to_come, true}
 use Rattle.merge_core.proofs.Words.{waiting_pair, zip, AllMoved, Below, Grouped, Grows, HasEntry, IsAbove, IsLower}
-use Rattle.merge_core.proofs.Words.{IsUpto, Less, None, Ordering, Reached, Ready, SoFar, Some, each_rising, inl}
-use Rattle.merge_core.proofs.Words.{is_gt, is_low, is_lt, member_place, place_cmp, place_cmp_total, rising}
-use Rattle.merge_core.proofs.Words.{rising_split}
-use Rattle.std.proofs.Common.{IfErr, MatchResult}
-use Rattle.merge_core.specs.Failures.{RaisedByFeed, RaisedByRead}
+use Rattle.merge_core.proofs.Words.{IsUpto, Less, None, Ordering, Reached, Ready, SoFar, Some, each_rising, is_gt}
+use Rattle.merge_core.proofs.Words.{is_low, is_lt, member_place, place_cmp, place_cmp_total, rising, rising_split}
+use Rattle.merge_core.proofs.Words.{MatchResult, set-set, get_or-set_same, Rises, rises_rising, MergePoint, StillWants}
+use Rattle.merge_core.proofs.Words.{BrokenMerge, HaltedGroup, HaltedMerge}
 use Rattle.merge_core.proofs.Many.{map_set_same, is_told, zip_set, zip_at, length_zip, Move, moved_trans}
-use Rattle.merge_core.proofs.Many.{moved_still, moved_set, move_not, told_moved, unread_set}
-use Rattle.std.proofs.lemmas.List.{set-set, get_or-set_same}
-use Rattle.merge_core.proofs.GroupLemmas.{each_get, each_permuted, from_popped, AreAt, AreBelow, gathered_none}
-use Rattle.merge_core.proofs.GroupLemmas.{source_more}
+use Rattle.merge_core.proofs.Many.{moved_still, told_moved}
 use Rattle.merge_core.proofs.StateLemmas.{any_of, idle, long_of, inside_sources, none_left, popped_aligned}
 use Rattle.merge_core.proofs.StateLemmas.{popped_inputs, popped, popped_due, zip_put}
-use Rattle.cdxj_places.specs.Rising.{Rises}
-use Rattle.cdxj_places.proofs.RisingLaws.{rises_rising}
-use Rattle.merge_core.specs.Merging.{MergePoint, StillWants, BrokenMerge, HaltedGroup, HaltedMerge}
+use Rattle.merge_core.proofs.SourceLemmas.{all_kept}
 use Rattle.merge_core.specs.declared.sink.Sink.{Ghosts as SinkGhosts}
 use Rattle.merge_core.proofs.PairOrder.{from_not_below, below_then, then_below, below_upto, same_upto, same_from}
-use Rattle.merge_core.specs.declared.fault.MergeFault.TheVariants as fault
 
 -- ---- which device failed
-
--- a source's fault, as that of the source with this number
-pub raised_by_feed : {S : Type 0} (f : S → ℕ) (ss0 ss : List S) (i : ℕ) (a s : S) (e : FeedFault) → map f ss ≡ map f ss0
-    → i < length ss → RaisedByFeed e (f (get_or ss i a)) (f s)
-    → RaisedByRead (fault.Feed i e) (map f ss0) (map f (set ss i s))
-raised_by_feed f ss0 ss i a s e h l k = grind (arith, length-map, map-set, get_or-map, map_set_same)
-
--- an error that a `?` returns has what the error has
-pub if_err : {A E : Type 0} (r : Result A E) (e : E) (Q : E → Type 0) → IsErrAnd r (λ x. x ≡ e) → Q e → IfErr r Q
-if_err r e Q h q = grind arith
 
 -- ---- the steps of a group's gathering
 
@@ -51,7 +34,7 @@ module _ (past : List ℕ → Bool) {S : Type 0} (device : Ghosts S)
   pub record Gathers (n : ℕ) (ss : List S) (m : MergeState) (group : List Member) : Type 0 where
     pub aligned : Aligned past device ss m
     pub as_many : length ss ≡ length ss0
-    pub moved : AllZip (Move device) (zip ss0 (inputs m0)) (zip ss (inputs m))
+    pub moved : AllMoved device ss0 m0 ss m
     pub each : AreAt pair group
     pub from : AllByRecursion (IsFrom pair n) m.queue
     pub gathered : AreTold device.text ss0 → AreBelow pair (all_done past device.text ss0 (inputs m0))
@@ -60,7 +43,7 @@ module _ (past : List ℕ → Bool) {S : Type 0} (device : Ghosts S)
 
   pub gathers_start : Aligned past device ss0 m0 → NoneBelow pair m0.queue
       → Gathers 0 ss0 m0 []
-  gathers_start aligned least = grind (arith, moved_still, each_weaker, gathered_none)
+  gathers_start aligned least = grind (arith, moved_still, each_weaker, is_lt, filter_all, filter_none, below_upto)
 
 module _ {n : ℕ} {past : List ℕ → Bool} {S : Type 0} {device : Ghosts S}
     {ss0 ss : List S} {m0 m : MergeState} {pair : Pair} {group : List Member}
@@ -72,22 +55,19 @@ module _ {n : ℕ} {past : List ℕ → Bool} {S : Type 0} {device : Ghosts S}
   pub gathers_on : {i : ℕ} {ss' : List S} {m' : MergeState} (lead : List Member) {lines lines' : List Member}
       → group ≡ lead ++ lines → TookOf past device.text pair i ss ss' (inputs m) (inputs m') lines lines' → n ≤ i + 1
       → i < length ss → Aligned past device ss' m'
-      → AllZip (Move device) (zip ss (inputs m)) (zip ss' (inputs m'))
-      → AllByRecursion (IsFrom pair (i + 1)) m'.queue
+      → AllMoved device ss m ss' m' → AllByRecursion (IsFrom pair (i + 1)) m'.queue
       → Gathers past device ss0 m0 pair (i + 1) ss' m' (lead ++ lines')
   gathers_on {i = i} {ss' = ss'} {m' = m'} lead {lines = lines} {lines' = lines'} is d turn inside aligned moved from = record {
     aligned = aligned;
     as_many = grind (arith, length-set);
-    moved = moved_trans device (zip ss0 (inputs m0)) (zip ss (inputs m)) (zip ss' (inputs m')) h.moved moved;
-    each =
-        (let more : lead ++ lines' ≡ group ++ d.taken = grind (arith, append_assoc) in
-        rw more (each_join (λ m. Alike (member_pair m) pair) group d.taken h.each d.alike));
+    moved = grind (arith, moved_trans);
+    each = grind (arith, append_assoc, each_join);
     from = from;
     gathered = λ told low.
         let s = d.source in let f = d.input in
         let was = h.gathered told low in
         let told_here = each_get (λ s. is_some (device.text s) ≡ true) ss i s
-        (told_moved device ss0 ss (inputs m0) (inputs m) long h.moved told) inside in
+        (told_moved device ss0 ss _ _ h.aligned.same h.moved told) inside in
         let same_text : device.text s ≡ device.text (get_or ss i s) = d.text_is s in
         let more = d.done_is f (text_or (device.text s)) (is_told (device.text s) (rw same_text told_here)) in
         let now : zip ss' (inputs m') ≡ set (zip ss (inputs m)) i (s, f) = grind (arith, zip_set) in
@@ -105,11 +85,10 @@ module _ {n : ℕ} {past : List ℕ → Bool} {S : Type 0} {device : Ghosts S}
     pub record TakenNext (m' : MergeState) : Type 0 where
       pub gathers : Gathers past device ss0 m0 pair (w.source + 1) ss m' (group ++ w.member ∷ [])
       pub inside : w.source < length ss
-      pub due : (x : S) → (d : MergeInput)
-          → IsDue past pair (device.text (get_or ss w.source x)) (get_or (inputs m') w.source d)
+      pub due : IsDueAt past device.text pair w.source ss m'
       pub settled : AreSettled past device ss (inputs m) → (s : S) (f : MergeInput) → IsSettled past (device.text s) f
           → AreSettled past device (set ss w.source s) (set (inputs m') w.source f)
-      pub fewer : unread device.extent ss (inputs m') + length m'.queue < unread device.extent ss (inputs m) + length m.queue
+      pub fewer : to_come device.extent ss m' < to_come device.extent ss m
 
     pub taken_next : (m' : MergeState) → m'.cursors.items ≡ m.cursors.items → IsPermutation m.queue (w ∷ m'.queue)
         → NoneBefore w m'.queue → Alike (waiting_pair w) pair → TakenNext m'
@@ -117,27 +96,22 @@ module _ {n : ℕ} {past : List ℕ → Bool} {S : Type 0} {device : Ghosts S}
         let i = w.source in
         let fs = inputs m in
         let inside = inside_sources m' h.aligned cursors p in
-        let a : S = any_of ss i inside in
         let b : MergeInput = any_of fs i (let l = long in omega arith) in
-        let s = get_or ss i a in let f = idle (get_or fs i b) in
-        let still = set-get_or ss i a in
+        let f = idle (get_or fs i b) in
         let now = popped_inputs m' h.aligned cursors p b in
-        let kept = move_not device (s, get_or fs i b) in
-        let moved = rw still at (moved_set device ss fs i a s b f long inside kept) in
-        let left = rw still at (unread_set device ss fs i a s b f long inside) in
         let many = length_permutation m.queue (w ∷ m'.queue) p in
         let from = from_popped pair w m'.queue at first (none_left m' h.aligned cursors p) in
         let turn = (each_permuted (IsFrom pair n) m.queue (w ∷ m'.queue) p h.from).0.1 at in
         record {
           gathers = gathers_on {ss' = ss} {m' = m'} group {lines = []} {lines' = w.member ∷ []} (sym (append-nil group))
               (popped m' h.aligned cursors p {group = []} b at)
-              (omega arith) inside (popped_aligned m' h.aligned cursors p) (rw now moved) from;
+              (omega arith) inside (popped_aligned m' h.aligned cursors p) (rw cursors (moved_still device _)) from;
           inside = inside;
           due = λ x d.
               let l = long in
               rw (now, get_or-set_same fs i f d (omega arith)) (popped_due m' h.aligned cursors p x b at);
-          settled = λ all s g k. rw (now, set-set) (zip_put (λ s f. IsSettled past (device.text s) f) ss fs i s g all k);
-          fewer = rw now (omega arith);
+          settled = grind (arith, set-set, zip_put);
+          fewer = grind arith;
         }
 
 -- ---- one group more of a merge
@@ -146,6 +120,9 @@ module _ {n : ℕ} {past : List ℕ → Bool} {S : Type 0} {device : Ghosts S}
 pub above_none : (ws : List WaitingLine) → AllByRecursion (λ w. IsAbove None (waiting_pair w)) ws
 above_none [] = tt
 above_none (w ∷ ws) = (tt, above_none ws)
+
+-- where nothing was read, and where more was
+pub ruleset step_rules = (above_none, moved_still, moved_trans, all_kept)
 
 -- what is done stands below what comes next
 pub below_next : (b : Option Pair) (pair : Pair) → IsAbove b pair → (ms : List Member)
@@ -181,13 +158,13 @@ place_above : (pair : Pair) (u v : Member) → Below (member_pair u) pair → Al
 place_above pair u v h k =
     let turned = place_cmp_total.antisymm (member_place v) (member_place u) in
     let below = place_below u v (below_then (member_pair u) pair (member_pair v) h (same_from _ pair k)) in
-    cc
+    grind arith
 
 -- sources that told their bytes before still do
 pub told_here : {S : Type 0} {device : Ghosts S} {past : List ℕ → Bool} {old ss : List S} {begun m : MergeState}
     {b : Option Pair} {taken : List Member} → Reached past device old begun ss m b taken → AreTold device.text old
     → AreTold device.text ss
-told_here was = told_moved _ _ _ _ _ (long_of was.ready.aligned) was.moved
+told_here was = told_moved _ _ _ _ _ was.ready.aligned.same was.moved
 
 module _ {S : Type 0} {device : Ghosts S} {past : List ℕ → Bool}
     {old ss0 ss : List S} {begun m0 m : MergeState} {b : Option Pair} {pair : Pair} {taken group : List Member}
@@ -202,8 +179,7 @@ module _ {S : Type 0} {device : Ghosts S} {past : List ℕ → Bool}
   pub gathered_now : AreTold device.text old
       → Gathered pair (all_done past device.text ss0 (inputs m0)) (all_done past device.text ss (inputs m)) [] group
   gathered_now told =
-      let above = grouped.above b was.above in
-      grouped.gathered (told_here was told) (below_next b pair above _ (was.handed.told told).1)
+      let above = grouped.above b was.above in grind (arith, below_next, told_here)
 
   pub reached_next : Ready past device ss m → AllMoved device ss0 m0 ss m
       → AllByRecursion HasEntry group
@@ -249,7 +225,7 @@ module _ {K S : Type 0} {consumer : SinkGhosts K} {past : List ℕ → Bool} {de
     bound = so_far.bound;
     taken = so_far.taken;
     reached = so_far.reached;
-    wrote = λ begin start w. inl (point.sink, rw same (so_far.came begin start w));
+    wrote = grind arith;
   }
 
   pub halted_there : (now : MergePoint S K) → StillWants consumer past device before point.sink
@@ -265,8 +241,7 @@ module _ {K S : Type 0} {consumer : SinkGhosts K} {past : List ℕ → Bool} {de
         next = halted.pair;
         above = above;
         least = halted.least;
-        read = λ told. halted.read (told_here reached told)
-            (below_next so_far.bound halted.pair above _ (reached.handed.told told).1);
+        read = grind (arith, below_next, told_here);
       }
 
 pub on_fault : {A E : Type 0} (r : Result A E) (e : E) (P : A → Type 0) (Q : Type 0) → IsErrAnd r (λ x. x ≡ e) → Q

@@ -1,20 +1,13 @@
 -- The opening of sources, one after another.
-use Rattle.merge_core.proofs.Words.{[], ℕ, ◌++◌, ◌+◌, ◌<◌, ◌∙◌, ◌∷◌, ◌≡◌, ◌≤◌, AllByRecursion, AllZip, Bool}
-use Rattle.merge_core.proofs.Words.{CameOnce, CameWithin, CursorState, IsInput, MergeInput, Ghosts, IsCutAt, IsLeast}
-use Rattle.merge_core.proofs.Words.{IsNextLine, IsSettled, List, MatchOption, Member, MergeState, None, Option, Pair}
-use Rattle.merge_core.proofs.Words.{Ready, Some, Stands, arith, done, drop, drop_all, each_weaker, input_of, inputs}
-use Rattle.merge_core.proofs.Words.{filter, first_length, given, inl, length, length-append, lines, map, option_list}
-use Rattle.merge_core.proofs.Words.{refl, set, stays, suc, sum, sum-map, take, take_more_set, text_or, zip}
-use Rattle.std.proofs.lemmas.List.Sums.{sum_by_push}
-use Rattle.merge_core.specs.Openings.{AddedSource, AreOpened}
+use Rattle.merge_core.proofs.Words.{[], ℕ, ◌++◌, ◌+◌, ◌<◌, ◌∙◌, ◌∷◌, ◌≡◌, ◌≤◌, AllByRecursion, AllZip, Bool, CameWithin}
+use Rattle.merge_core.proofs.Words.{CursorState, IsInput, MergeInput, Ghosts, IsCutAt, IsLeast, IsNextLine, IsSettled}
+use Rattle.merge_core.proofs.Words.{List, MatchOption, Member, MergeState, None, Option, Pair, Ready, Some, Stands}
+use Rattle.merge_core.proofs.Words.{arith, done, drop, drop_all, each_weaker, input_of, inputs, filter, first_length}
+use Rattle.merge_core.proofs.Words.{given, inl, length, length-append, lines, option_list, refl, set, stays, suc}
+use Rattle.merge_core.proofs.Words.{text_or, zip, all_zipped_more, AddedSource, AreOpened, OpenedAt, IsLineStart}
+use Rattle.merge_core.proofs.Many.{each_by}
 use Rattle.merge_core.proofs.InputLemmas.{LineRead, done_next, input_end, input_more, settled_more}
-use Rattle.source_core.specs.IndexLines.{IsLineStart}
 use Rattle.merge_core.proofs.StateLemmas.{inputs_added, placed_queued}
-
-zip_push_each : {A B : Type 0} (R : A → B → Type 0) (xs : List A) (ys : List B) (x : A) (y : B) → AllZip R xs ys → R x y
-    → AllZip R (xs ++ x ∷ []) (ys ++ y ∷ [])
-zip_push_each R (a ∷ xs) (b ∷ ys) x y h r = (h.0, zip_push_each R xs ys x y h.1 r)
-zip_push_each R xs ys x y h r = grind arith
 
 -- a source was added to those that are read
 module _ {past : List ℕ → Bool} {S : Type 0} {device : Ghosts S} {ss : List S}
@@ -37,50 +30,32 @@ module _ {past : List ℕ → Bool} {S : Type 0} {device : Ghosts S} {ss : List 
           same = grind (arith, length-append);
           placed = rw long (placed_queued (n + 1) n m.queue m'.queue added.first (omega arith)
               (each_weaker (λ v h. omega arith) m.queue was.aligned.placed) added.queue_is);
-          input = rw added_inputs (zip_push_each (λ s f. IsInput past (device.text s) (device.extent s) f) ss (inputs m) s its_input
+          input = rw added_inputs (all_zipped_more (λ s f. IsInput past (device.text s) (device.extent s) f) ss (inputs m) s its_input
               was.aligned.input added.input);
         };
-        settled = rw added_inputs (zip_push_each (λ s f. IsSettled past (device.text s) f) ss (inputs m) s its_input
-            was.settled added.settled);
+        settled = grind (arith, added_inputs, all_zipped_more);
       }
 
+-- sources that were opened
 module _ {S : Type 0} (device : Ghosts S) (start : Pair) where
-  pub cuts_of : (olds ss : List S) (fs : List MergeInput) → map device.text ss ≡ map device.text olds → AreOpened device start olds (zip ss fs)
-      → AllByRecursion (λ x. IsCutAt start (device.text x.0) x.1.cursor) (zip ss fs)
-  cuts_of (x ∷ olds) (s ∷ ss) (f ∷ fs) same h =
-      let here : device.text s ≡ device.text x = cc in (rw here h.0.cut, cuts_of olds ss fs (cc) h.1)
-  cuts_of olds ss fs same h = grind arith
-
-  pub begun_of : (olds ss : List S) (fs : List MergeInput) → length ss ≡ length fs → IsLeast start
-      → AreOpened device start olds (zip ss fs) → AllByRecursion (λ f. f.cursor.start ≡ 0) fs
-  begun_of (x ∷ olds) (s ∷ ss) (f ∷ fs) long least h = (h.0.first least, begun_of olds ss fs (omega arith) least h.1)
-  begun_of [] (s ∷ ss) (f ∷ fs) long least h = absurd h
-  begun_of olds [] (f ∷ fs) long least h = absurd (omega arith)
-  begun_of olds ss [] long least h = tt
-
-  pub came_of : (olds : List S) (ys : List (S × MergeInput)) → AreOpened device start olds ys
-      → AllZip (λ x y. CameWithin device x y.0 y.1.cursor) olds ys
+  pub came_of : (olds : List S) (ys : List (S × CursorState)) → AreOpened device start olds ys
+      → AllZip (λ x y. CameWithin device x y.0 y.1) olds ys
   came_of (x ∷ olds) (y ∷ ys) h = (h.0.came, came_of olds ys h.1)
   came_of olds ys h = grind arith
 
-  pub came_once_of : (olds : List S) (ys : List (S × MergeInput)) → IsLeast start → AreOpened device start olds ys
-      → AllZip (λ x y. CameOnce device x y.0 y.1.cursor) olds ys
-  came_once_of (x ∷ olds) (y ∷ ys) least h = (h.0.once least, came_once_of olds ys least h.1)
-  came_once_of olds ys least h = grind arith
+  pub cuts_of : (olds : List S) (ys : List (S × CursorState)) → AreOpened device start olds ys
+      → AllByRecursion (λ y. IsCutAt start (device.text y.0) y.1) ys
+  cuts_of = each_by (λ x y. OpenedAt device start x y.0 y.1) _ (λ x y h. rw h.kept.0 h.cut)
+
+  pub begun_of : IsLeast start → (olds : List S) (ys : List (S × CursorState)) → AreOpened device start olds ys
+      → AllByRecursion (λ y. y.1.start ≡ 0) ys
+  begun_of least = each_by (λ x y. OpenedAt device start x y.0 y.1) _ (λ x y h. h.first least)
 
 pub added_by : {past : List ℕ → Bool} {S : Type 0} {device : Ghosts S} {s : S} {m m' : MergeState}
     {A B : CursorState → Type 0} → (added : AddedSource past device s A m m') → B added.cursor
     → AddedSource past device s B m m'
-added_by added is = record {
-  cursor = added.cursor;
-  first = added.first;
-  cursors_are = added.cursors_are;
-  queue_is = added.queue_is;
-  input = added.input;
-  settled = added.settled;
-  fresh = added.fresh;
-  cursor_is = is;
-}
+added_by added is =
+    grind arith
 
 -- ---- the first line of a source
 
@@ -89,21 +64,8 @@ pub input_fresh : (past : List ℕ → Bool) (text : Option (List ℕ)) (extent 
     → Stands text extent c → c.count ≡ 0 → c.at ≡ c.start
     → ((t : List ℕ) → text ≡ Some t → IsLineStart t c.start)
     → IsInput past text extent (input_of c [])
-input_fresh past text extent c stands none at begins = record {
-  stands = stands;
-  few = omega arith;
-  counted = omega arith;
-  told = λ t e. record {
-    begins = begins t e;
-    stood = omega arith;
-    as_many = rw none refl;
-    run = rw none (grind arith);
-    late = [];
-    split = rw none refl;
-    one = omega arith;
-    waiting = refl;
-  };
-}
+input_fresh past text extent c stands none at begins =
+    grind arith
 
 -- its first line was read, if it has one
 pub record FirstRead (past : List ℕ → Bool) (text : Option (List ℕ)) (extent : ℕ) (f : MergeInput) : Type 0 where
@@ -129,8 +91,7 @@ first_read {past = past} {text = text} {extent = extent} {old = old} input fresh
           inl (grind arith);
       fresh = λ t e. rw zero_count refl;
     })
-first_read {past = past} {text = text} {extent = extent} {old = old} input fresh c (Some m) ws stands start
-    count near next is =
+first_read {past = past} {text = text} {extent = extent} {old = old} input fresh c (Some m) ws stands start count near next is =
     let none : (t : List ℕ) → given t old ≡ [] = λ t. rw fresh refl in
     let read : LineRead past text extent old c m = record {
       was = input;
@@ -145,7 +106,7 @@ first_read {past = past} {text = text} {extent = extent} {old = old} input fresh
     record {
       input = input_more read ws (inl is);
       settled = settled_more read ws is;
-      fresh = λ t e. done_next read ws is t e ∙ none t;
+      fresh = grind (arith, done_next);
     }
 
 pub zip_none : {A B : Type 0} (xs : List A) (ys : List B) → ys ≡ [] → zip xs ys ≡ []
@@ -161,8 +122,3 @@ zip_push xs ys i x y e l = grind (arith, zip_none)
 pub fresh_of : (past : List ℕ → Bool) (text : Option (List ℕ)) (f : MergeInput)
     → ((t : List ℕ) → text ≡ Some t → done past t f ≡ []) → done past (text_or text) f ≡ []
 fresh_of past text f h = grind (arith, drop_all)
-
--- one more of those that are summed
-pub sum_turn : {X : Type 0} (n : X → ℕ) (xs : List X) (i : ℕ) (y : X) → i < length xs
-    → sum (map n (take (i + 1) (set xs i y))) ≡ sum (map n (take i xs)) + n y
-sum_turn n xs i y l = grind (arith, take_more_set, sum-map, sum_by_push)

@@ -1,20 +1,14 @@
 -- The order of pairs is total, and the starts of pairs decide as the pairs do.
-use Rattle.merge_core.proofs.Words.{◌≡◌, ◌⊎◌, Below, Equal, Less, Pair, Upto, ap, arith, false, is_gt}
-use Rattle.merge_core.proofs.Words.{is_lt, pair_cmp, pair_cmp_total, refl, tied_back, tied_itself}
-use Rattle.merge_core.proofs.Words.{[], ℕ, ◌++◌, ◌+◌, ◌∷◌, AreBytes, LINE_LIMIT, List, Member, Ordering, Some}
-use Rattle.merge_core.proofs.Words.{append_assoc, get_or, length, length-append, line_entry, member_pair}
-use Rattle.merge_core.proofs.Words.{ordering_then, suc, take, true, zero, ◌≤◌}
-use Rattle.std.proofs.Common.{Fits, nat_lt, w8}
-use Rattle.std.proofs.lemmas.Bool.{and_parts}
+use Rattle.merge_core.proofs.Words.{◌≡◌, ◌⊎◌, Below, Equal, Less, Pair, Upto, ap, arith, false, is_gt, is_lt, pair_cmp}
+use Rattle.merge_core.proofs.Words.{pair_cmp_total, tied_back, tied_itself, [], ℕ, ◌++◌, ◌+◌, ◌∷◌, AreBytes}
+use Rattle.merge_core.proofs.Words.{LINE_LIMIT, List, Member, Ordering, Some, append_assoc, get_or, length}
+use Rattle.merge_core.proofs.Words.{length-append, line_entry, member_pair, ordering_then, suc, take, true, ◌≤◌}
+use Rattle.merge_core.proofs.Words.{Fits, nat_lt, w8, and_parts, slice_cmp, list_all, nat_cmp, IsStart, pair_text}
 use Rattle.std.proofs.Math.Seq.{take-append_seam}
-use Rattle.std.specs.Cmp.Lexicographic.{slice_cmp}
-use Rattle.std.specs.List.{list_all}
-use Rattle.std.specs.Ordering.{nat_cmp}
 use Rattle.cdxj_places.specs.Abbreviated.{padded, words_cmp}
 use Rattle.cdxj_places.specs.Pair.{is_key, is_key_byte}
 use Rattle.cdxj_places.proofs.Abbreviations.{start_words_decide, then_associates}
 use Rattle.cdxj_core.proofs.MemberLemmas.{entry_valued}
-use Rattle.merge_core.specs.PairStarts.{IsStart, pair_text}
 
 -- ---- the order of pairs is total
 
@@ -57,10 +51,8 @@ not_below_itself p q h k = grind (arith, pair_cmp_total, tied_back)
 -- the space behind a key is below each byte of a key
 texts_order : (k l s t : List ℕ) → list_all is_key_byte k ≡ true → list_all is_key_byte l ≡ true
     → slice_cmp nat_cmp (pair_text (k, s)) (pair_text (l, t)) ≡ pair_cmp (k, s) (l, t)
-texts_order [] [] s t g h = grind arith
-texts_order [] (y ∷ l) s t g h = grind arith
-texts_order (x ∷ k) [] s t g h = grind arith
 texts_order (x ∷ k) (y ∷ l) s t g h = grind (arith, then_associates, texts_order k l s t)
+texts_order k l s t g h = grind arith
 
 key_bytes : (k : List ℕ) → is_key k ≡ true → list_all is_key_byte k ≡ true
 key_bytes k h = (and_parts (nat_lt 0 (length k)) _ h).1
@@ -68,13 +60,11 @@ key_bytes k h = (and_parts (nat_lt 0 (length k)) _ h).1
 pub starts_decide : (p q : Pair) (s t : ℕ × ℕ) → IsStart s p → IsStart t q
     → ordering_then (words_cmp s t) (pair_cmp p q) ≡ pair_cmp p q
 starts_decide p q s t g h =
-    let order = texts_order p.0 q.0 p.1 q.1 (key_bytes p.0 g.2) (key_bytes q.0 h.2) in
     let decide = start_words_decide 16 (pair_text p) (pair_text q) g.1 h.1 in
-    grind arith
+    grind (arith, key_bytes, texts_order)
 
 -- a list that is long enough needs no zeros
 pub padded_long : (n : ℕ) (xs : List ℕ) → n ≤ length xs → take n xs ≡ padded n xs
-padded_long zero xs h = refl
 padded_long (suc n) (x ∷ xs) h = grind (arith, padded_long n xs)
 padded_long n xs h = grind arith
 
@@ -98,8 +88,4 @@ begins line m h =
     let valued = entry_valued LINE_LIMIT line m h in
     let line_is : m.line ≡ pair_text (member_pair m) ++ 32 ∷ valued.object = grind (arith, append_assoc) in
     let size : length (pair_text (member_pair m)) ≡ length m.values.key + 15 = grind (arith, length-append) in
-    record {
-      size = size;
-      key = valued.key_rule;
-      text = rw (line_is, ← size) (take-append_seam (pair_text (member_pair m)) (32 ∷ valued.object));
-    }
+    grind (arith, take-append_seam)

@@ -7,11 +7,11 @@ use Rattle.merge_core.proofs.Words.{is_low, length, map, stays, text_or, true, z
 use Rattle.merge_core.proofs.Words.{append_assoc, drop, given, length-map, lines, nil_from_length, read_lines, refl}
 use Rattle.merge_core.proofs.Words.{sum, sum_by-cons, take-append-drop}
 use Rattle.merge_core.proofs.GroupLemmas.{each_cut, each_waits}
-use Rattle.merge_core.proofs.Many.{is_told, told_moved}
-use Rattle.merge_core.proofs.MergeLemmas.{lower_by_pair}
+use Rattle.merge_core.proofs.Many.{is_told}
+use Rattle.merge_core.proofs.MergeLemmas.{lower_by_pair, told_here}
 use Rattle.merge_core.proofs.SourceLemmas.{told_known, RunsFrom, runs_sought, runs_kept}
 use Rattle.merge_core.proofs.TakenLemmas.{IsUpward, is_read, IsLate, input_read, wanted_high, given_read, Took}
-use Rattle.merge_core.proofs.StateLemmas.{inputs_long, long_of}
+use Rattle.merge_core.proofs.StateLemmas.{cursors_of}
 use Rattle.merge_core.specs.Runs.{IsPart, parts}
 
 -- ---- what was taken of sources that are indexes, beside all of their collection
@@ -28,7 +28,7 @@ module _ (upto : Member → Bool) (past : List ℕ → Bool) (upward : IsUpward 
     (device : Ghosts S) where
   all_read : (ss : List S) (fs : List MergeInput) (highs : List (List Member))
       → AllByRecursion (λ f. AllByRecursion (IsLate upto) f.waits) fs → AreTold device.text ss
-      → AllZip (RunsFrom device) (zip ss fs) highs → AreInputs past device ss fs
+      → AllZip (RunsFrom device) (zip ss (map (λ f. f.cursor) fs)) highs → AreInputs past device ss fs
       → AreSettled past device ss fs → AllByRecursion (λ m. upto m ≡ true) (all_done past device.text ss fs)
       → filter (is_read past upto) (all_lines highs) ≡ all_done past device.text ss fs
   all_read (s ∷ ss) (f ∷ fs) (i ∷ is) late told runs input settled each =
@@ -43,16 +43,14 @@ module _ (upto : Member → Bool) (past : List ℕ → Bool) (upward : IsUpward 
 pub took_of_indexes : {S : Type 0} {device : Ghosts S}
     {past : List ℕ → Bool} {ss0 ss : List S} {m0 m : MergeState} {b : Option Pair} {taken : List Member}
     → Reached past device ss0 m0 ss m b taken → length ss0 ≡ length m0.cursors.items
-    → (start : Pair) → AllByRecursion (λ x. IsCutAt start (device.text x.0) x.1.cursor) (zip ss0 (inputs m0))
+    → (start : Pair) → AllByRecursion (λ x. IsCutAt start (device.text x.0) x.1) (zip ss0 m0.cursors.items)
     → (texts : List (List ℕ)) (indexes : List (List Member)) → Known (map device.text ss0) texts
     → AllZip (IsIndex LINE_LIMIT) texts indexes → IsUpward past → (wanted : Member → Bool)
     → ((m : Member) → wanted m ≡ true → stays past m ≡ true)
     → ((m : Member) → wanted m ≡ true → is_low start m ≡ false)
     → Took past wanted b m.queue (collection indexes) taken
-took_of_indexes {device = device} {past = past} {ss0 = ss0} {ss = ss} {m0 = m0} {m = m} reached same start cut texts indexes known
-    are upward wanted within beyond =
-    let long : length ss0 ≡ length (inputs m0) = grind (arith, inputs_long) in
-    let found = runs_sought device start ss0 (inputs m0) texts indexes long known are cut in
+took_of_indexes {device = device} {past = past} {ss0 = ss0} {ss = ss} {m0 = m0} {m = m} reached same start cut texts indexes known are upward wanted within beyond =
+    let found = runs_sought device start ss0 m0.cursors.items texts indexes same known are cut in
     let told = told_known device.text ss0 texts known in
     record {
       upward = upward;
@@ -62,11 +60,7 @@ took_of_indexes {device = device} {past = past} {ss0 = ss0} {ss = ss} {m0 = m0} 
       wanted_of = rw (← found.2) (wanted_high wanted (is_low start) (lower_by_pair start) beyond (all_lines indexes));
       done = all_done past device.text ss (inputs m);
       handed = reached.handed.told told;
-      read = λ upto late each. all_read upto past upward device ss (inputs m) found.0
-          (late_inputs upto 0 m.cursors.items m.queue late)
-          (told_moved device ss0 ss (inputs m0) (inputs m) (long_of reached.ready.aligned) reached.moved told)
-          (runs_kept device (zip ss0 (inputs m0)) (zip ss (inputs m)) found.0 reached.moved found.1)
-          reached.ready.aligned.input reached.ready.settled each;
+      read = grind (arith, all_read, late_inputs, cursors_of, runs_kept, told_here);
     }
 
 -- ---- what was taken of sources of any bytes, beside the lines that were read of them
@@ -107,12 +101,12 @@ module _ (past : List ℕ → Bool) {S : Type 0} (device : Ghosts S) where
 
   -- they have as many lines as were counted
   pub parts_count : (ss : List S) (fs : List MergeInput) → AreTold device.text ss → AreInputs past device ss fs
-      → sum (map (λ (f : MergeInput). f.cursor.count) fs)
+      → sum (map (λ (c : CursorState). c.count) (map (λ (f : MergeInput). f.cursor) fs))
       ≡ sum (map (λ (ms : List Member). length ms) (parts device.text ss fs))
   parts_count (s ∷ ss) (f ∷ fs) told input =
       let t = text_or (device.text s) in
       let many = (input.0.told t (is_told (device.text s) told.0)).as_many in
-      let a = sum_by-cons (λ (k : ℕ). k) f.cursor.count (map (λ (f : MergeInput). f.cursor.count) fs) in
+      let a = sum_by-cons (λ (k : ℕ). k) f.cursor.count (map (λ c. c.count) (map (λ f. f.cursor) fs)) in
       let b = sum_by-cons (λ (k : ℕ). k) (length (given t f.cursor))
       (map (λ (ms : List Member). length ms) (parts device.text ss fs)) in
       grind (arith, length-map, parts_count ss fs)
@@ -144,8 +138,5 @@ took_of_parts {device = device} {past = past} {ss0 = ss0} {ss = ss} {m0 = m0} {m
   wanted_of = refl;
   done = all_done past device.text ss (inputs m);
   handed = reached.handed.told told;
-  read = λ upto late each.
-      parts_read past device upward upto ss (inputs m) (late_inputs upto 0 m.cursors.items m.queue late)
-      (told_moved device ss0 ss (inputs m0) (inputs m) (long_of reached.ready.aligned) reached.moved told) reached.ready.aligned.input
-      reached.ready.settled each;
+  read = grind (arith, late_inputs, parts_read, told_here);
 }

@@ -1,23 +1,17 @@
 -- What was read of sources: from where they are read on, to their ends, and each byte once.
 use Rattle.merge_core.proofs.Words.{[], ℕ, ◌++◌, ◌∙◌, ◌∷◌, ◌≡◌, AllByRecursion, AllZip, MergeInput, Ghosts, IsCut}
-use Rattle.merge_core.proofs.Words.{IsCutAt}
-use Rattle.merge_core.proofs.Words.{IsIndex, IsRun, Known, LINE_LIMIT, List, Member, NeverFalls, Pair, Some}
+use Rattle.merge_core.proofs.Words.{IsCutAt, IsIndex, IsRun, Known, LINE_LIMIT, List, Member, NeverFalls, Pair, Some}
 use Rattle.merge_core.proofs.Words.{all_lines, ap, arith, drop, each_weaker, false, filter, filter-append, is_low}
-use Rattle.merge_core.proofs.Words.{length, length-map, lines, map, map-append, member_pair, not, pair_cmp, refl}
-use Rattle.merge_core.proofs.Words.{sym, zip, AllMoved, AreInputs, AreSettled, Bool, IsInput, IsSettled, KeepsSources}
-use Rattle.merge_core.proofs.Words.{MergeState, Option, all_done, append-nil, done, inputs, flat_map, given, inl, inr}
-use Rattle.merge_core.proofs.Words.{is_some, length-drop, nil_from_length, stays, take_all, text_or, true}
-use Rattle.merge_core.proofs.Words.{true≢false, ◌⊎◌, AllZip-long, AreLinesOf, AreTold, HasEntry, Reached, each_join}
-use Rattle.merge_core.proofs.Words.{each_rising, line_entry, member_place, place_cmp, place_cmp_total, read_lines}
-use Rattle.merge_core.proofs.Words.{suc, take, AllGaveOnce, CameOnce}
-use Rattle.std.proofs.Common.{ap₂}
-use Rattle.std.proofs.lemmas.List.{drop_at}
-use Rattle.source_core.specs.Search.{is_below}
+use Rattle.merge_core.proofs.Words.{length, length-map, lines, map, map-append, member_pair, not, pair_cmp, refl, sym}
+use Rattle.merge_core.proofs.Words.{zip, AreInputs, AreSettled, Bool, IsInput, IsSettled, KeepsSources, MergeState}
+use Rattle.merge_core.proofs.Words.{Option, all_done, append-nil, done, inputs, flat_map, given, inl, inr, is_some}
+use Rattle.merge_core.proofs.Words.{length-drop, nil_from_length, stays, text_or, true, true≢false, ◌⊎◌, AllZip-long}
+use Rattle.merge_core.proofs.Words.{AreLinesOf, AreTold, HasEntry, Reached, each_join, each_rising, line_entry}
+use Rattle.merge_core.proofs.Words.{member_place, place_cmp, place_cmp_total, read_lines, suc, take, AllGaveOnce}
+use Rattle.merge_core.proofs.Words.{CursorState, IsLeast, AreOpened, ap₂, drop_at, is_below, IsIn, IsLineIn, IsLineOf}
+use Rattle.merge_core.proofs.Words.{take_all}
 use Rattle.merge_core.proofs.GroupLemmas.{filter_none, filter_all}
-use Rattle.merge_core.proofs.Many.{Move, is_told, told_moved, length_zip, each_take}
-use Rattle.merge_core.proofs.StateLemmas.{inputs_long, long_of}
-use Rattle.cdxj_places.specs.Rising.{IsIn}
-use Rattle.merge_core.specs.SourceLines.{IsLineIn, IsLineOf}
+use Rattle.merge_core.proofs.Many.{Move, is_told, told_moved, length_zip, each_beside, each_take}
 use Rattle.merge_core.proofs.InputLemmas.{done_cut}
 
 -- ---- the lines that the sources have from where they are read on
@@ -50,52 +44,46 @@ run_after start t ms offset index cut =
 
 module _ {S : Type 0} (device : Ghosts S) where
   -- the lines from where the source is read on are these members
-  abbrev pub RunsFrom : S × MergeInput → List Member → Type 0
-  RunsFrom x ms = (t : List ℕ) → device.text x.0 ≡ Some t → IsRun LINE_LIMIT (lines (drop x.1.cursor.start t)) ms
+  abbrev pub RunsFrom : S × CursorState → List Member → Type 0
+  RunsFrom x ms = (t : List ℕ) → device.text x.0 ≡ Some t → IsRun LINE_LIMIT (lines (drop x.1.start t)) ms
 
   -- of sources that are read from where a search ended, those that aren't below the start
-  pub runs_sought : (start : Pair) (ss : List S) (fs : List MergeInput) (texts : List (List ℕ)) (indexes : List (List Member))
-      → length ss ≡ length fs → Known (map device.text ss) texts → AllZip (IsIndex LINE_LIMIT) texts indexes
-      → AllByRecursion (λ x. IsCutAt start (device.text x.0) x.1.cursor) (zip ss fs)
-      → (highs : List (List Member)) × AllZip RunsFrom (zip ss fs) highs
+  pub runs_sought : (start : Pair) (ss : List S) (cs : List CursorState) (texts : List (List ℕ)) (indexes : List (List Member))
+      → length ss ≡ length cs → Known (map device.text ss) texts → AllZip (IsIndex LINE_LIMIT) texts indexes
+      → AllByRecursion (λ x. IsCutAt start (device.text x.0) x.1) (zip ss cs)
+      → (highs : List (List Member)) × AllZip RunsFrom (zip ss cs) highs
       × (filter (λ m. not (is_low start m)) (all_lines indexes) ≡ all_lines highs)
-  runs_sought start (s ∷ ss) (f ∷ fs) (t ∷ ts) (i ∷ is) same known are cut =
+  runs_sought start (s ∷ ss) (c ∷ cs) (t ∷ ts) (i ∷ is) same known are cut =
       let here = cut.0 t i known.0 are.0 in
-      let run = run_after start t i f.cursor.start are.0 here in
-      let others = runs_sought start ss fs ts is (omega arith) known.1 are.1 cut.1 in (
+      let run = run_after start t i c.start are.0 here in
+      let others = runs_sought start ss cs ts is (omega arith) known.1 are.1 cut.1 in (
         here.high ∷ others.0,
         grind arith,
         filter-append (λ m. not (is_low start m)) i (all_lines is) ∙ ap₂ (λ u v. u ++ v) run.1 others.2,
       )
-  runs_sought start ss fs texts is same known are cut = grind arith
+  runs_sought start ss cs texts is same known are cut = grind arith
 
-  -- inputs that begin at the start of their sources are cut there
-  pub cut_at_start : (ss : List S) (fs : List MergeInput) → AllByRecursion (λ f. f.cursor.start ≡ 0) fs
-      → AllByRecursion (λ x. IsCutAt ([], []) (device.text x.0) x.1.cursor) (zip ss fs)
-  cut_at_start (s ∷ ss) (f ∷ fs) h = (
-    λ t members e index. rw h.0 (record {
-      before = [];
-      begins = (refl, refl);
-      low = [];
-      high = members;
-      members_are = refl;
-      as_many = refl;
-      all_below = tt;
-      none_below = each_from_empty members;
-    }),
-    cut_at_start ss fs h.1,
-  )
-  cut_at_start ss fs h = grind arith
+  -- cursors that begin at the start of their sources are cut there
+  pub cut_at_start : (x : S × CursorState) → x.1.start ≡ 0 → IsCutAt ([], []) (device.text x.0) x.1
+  cut_at_start x zero_start t members e index = rw zero_start (record {
+    before = [];
+    begins = (refl, refl);
+    low = [];
+    high = members;
+    members_are = refl;
+    as_many = refl;
+    all_below = tt;
+    none_below = each_from_empty members;
+  })
 
-  -- inputs that stand where a search ended do so after more was read
-  pub cuts_kept : (start : Pair) (xs ys : List (S × MergeInput)) → AllZip (Move device) xs ys
-      → AllByRecursion (λ x. IsCutAt start (device.text x.0) x.1.cursor) xs
-      → AllByRecursion (λ x. IsCutAt start (device.text x.0) x.1.cursor) ys
-  cuts_kept start (x ∷ xs) (y ∷ ys) m h = grind (arith, cuts_kept start xs ys m.1 h.1)
-  cuts_kept start xs ys m h = grind arith
+  -- cursors that stand where a search ended do so after more was read
+  pub cuts_kept : (start : Pair) (xs ys : List (S × CursorState)) → AllZip (Move device) xs ys
+      → AllByRecursion (λ x. IsCutAt start (device.text x.0) x.1) xs
+      → AllByRecursion (λ x. IsCutAt start (device.text x.0) x.1) ys
+  cuts_kept start = each_beside (Move device) _ _ (λ x y m h. grind arith)
 
   -- the same after more was read
-  pub runs_kept : (xs ys : List (S × MergeInput)) (highs : List (List Member))
+  pub runs_kept : (xs ys : List (S × CursorState)) (highs : List (List Member))
       → AllZip (Move device) xs ys → AllZip RunsFrom xs highs → AllZip RunsFrom ys highs
   runs_kept (x ∷ xs) (y ∷ ys) (i ∷ is) m h = (
     λ t e. rw m.0.start_kept (h.0 t (sym m.0.text_kept ∙ e)),
@@ -108,10 +96,8 @@ module _ {S : Type 0} (device : Ghosts S) where
 module _ (past : List ℕ → Bool) (never : (key : List ℕ) → past key ≡ false) where
   -- a source of which no line waits was read to its end
   ended : (t : List ℕ) (f : MergeInput) → IsSettled past (Some t) f → f.waits ≡ [] → lines (drop f.cursor.at t) ≡ []
-  ended t f settled none = elim (settled t refl none) [
-    | inl end ↦ end
-    | inr last ↦ absurd (true≢false (sym last.3 ∙ never last.1.values.key))
-  ]
+  ended t f settled none =
+      grind (arith, sym, true≢false)
 
   each_stays : (ms : List Member) → AllByRecursion (λ m. stays past m ≡ true) ms
   each_stays [] = tt
@@ -123,8 +109,7 @@ module _ (past : List ℕ → Bool) (never : (key : List ℕ) → past key ≡ f
   index_read {t = t} {f = f} zero_start none settled input =
       let told = input.told t refl in
       let stay = filter_all (stays past) told.late (each_stays told.late) in
-      let all : done past t f ≡ given t f.cursor = grind (arith, append-nil) in
-      grind (arith, take_all, length-drop {A = List ℕ})
+      grind (arith, take_all, length-drop {A = List ℕ}, append-nil)
 
   module _ {S : Type 0} (device : Ghosts S) where
     -- the lines of each
@@ -133,8 +118,8 @@ module _ (past : List ℕ → Bool) (never : (key : List ℕ) → past key ≡ f
 
     pub are_read : (ss : List S) (fs : List MergeInput) (texts : List (List ℕ))
         → AllZip (λ told t. told ≡ Some t) (map device.text ss) texts
-        → AllByRecursion (λ (f : MergeInput). f.cursor.start ≡ 0) fs → AllByRecursion (λ (f : MergeInput). f.waits ≡ []) fs
-        → AreSettled past device ss fs → AreInputs past device ss fs
+        → AllByRecursion (λ x. x.1.start ≡ 0) (zip ss (map (λ f. f.cursor) fs))
+        → AllByRecursion (λ (f : MergeInput). f.waits ≡ []) fs → AreSettled past device ss fs → AreInputs past device ss fs
         → AllZip (IsIndex LINE_LIMIT) texts (its_lines ss fs)
     are_read (s ∷ ss) (f ∷ fs) (t ∷ texts) known start none settled input = (
       rw known.0 (index_read start.0 none.0 (rw known.0 at settled.0) (rw known.0 at input.0)),
@@ -155,40 +140,31 @@ told_known text (s ∷ ss) (t ∷ texts) h = (ap is_some h.0, told_known text ss
 told_known text ss texts h = grind arith
 
 module _ {S : Type 0} (device : Ghosts S) where
-  kept : {Y : Type 0} (f : S → Y) → ((x y : S × MergeInput) → Move device x y → f y.0 ≡ f x.0)
-      → (ss ss' : List S) (fs fs' : List MergeInput) → length ss ≡ length fs → length ss' ≡ length ss
-      → AllZip (Move device) (zip ss fs) (zip ss' fs') → map f ss' ≡ map f ss
-  kept f k (s ∷ ss) (s' ∷ ss') (u ∷ fs) (u' ∷ fs') e e' h =
-      let same = k (s, u) (s', u') h.0 in
-      grind (arith, kept f k ss ss' fs fs' (omega arith) (omega arith) h.1)
-  kept f k ss ss' fs fs' e e' h = grind (arith, nil_from_length)
+  pub all_kept : (ss ss' : List S) (cs cs' : List CursorState) → length ss ≡ length cs → length ss' ≡ length ss
+      → AllZip (Move device) (zip ss cs) (zip ss' cs') → KeepsSources device ss ss'
+  all_kept (s ∷ ss) (s' ∷ ss') (c ∷ cs) (c' ∷ cs') e e' h =
+      grind (arith, all_kept ss ss' cs cs' (omega arith) (omega arith) h.1)
+  all_kept ss ss' cs cs' e e' h = grind (arith, nil_from_length)
 
-  pub texts_kept : (ss ss' : List S) (fs fs' : List MergeInput) → length ss ≡ length fs → length ss' ≡ length ss
-      → AllZip (Move device) (zip ss fs) (zip ss' fs') → map device.text ss' ≡ map device.text ss
-  texts_kept = kept device.text (λ x y m. m.text_kept)
+  pub starts_kept : (xs ys : List (S × CursorState)) → AllZip (Move device) xs ys → AllByRecursion (λ x. x.1.start ≡ 0) xs
+      → AllByRecursion (λ x. x.1.start ≡ 0) ys
+  starts_kept = each_beside (Move device) _ _ (λ x y m h. grind arith)
 
-  pub extents_kept : (ss ss' : List S) (fs fs' : List MergeInput) → length ss ≡ length fs → length ss' ≡ length ss
-      → AllZip (Move device) (zip ss fs) (zip ss' fs') → map device.extent ss' ≡ map device.extent ss
-  extents_kept = kept device.extent (λ x y m. m.extent_kept)
+-- how far a merge came of sources, each of which has a cursor
+module _ {S : Type 0} {device : Ghosts S} {past : List ℕ → Bool} {old ss : List S} {begun m : MergeState}
+    {b : Option Pair} {taken : List Member} (reached : Reached past device old begun ss m b taken)
+    (same : length old ≡ length begun.cursors.items) where
+  pub reached_long : length ss ≡ length old
+  reached_long =
+      let all = AllZip-long (Move device) _ _ reached.moved in grind (arith, length_zip)
 
-  pub starts_kept : (ss ss' : List S) (fs fs' : List MergeInput) → length ss ≡ length fs → length ss' ≡ length fs'
-      → AllZip (Move device) (zip ss fs) (zip ss' fs')
-      → AllByRecursion (λ (f : MergeInput). f.cursor.start ≡ 0) fs → AllByRecursion (λ (f : MergeInput). f.cursor.start ≡ 0) fs'
-  starts_kept (s ∷ ss) (s' ∷ ss') (f ∷ fs) (f' ∷ fs') e e' h z =
-      grind (arith, starts_kept ss ss' fs fs' (omega arith) (omega arith) h.1 z.1)
-  starts_kept ss [] fs fs' e e' h z = grind (arith, nil_from_length)
-  starts_kept ss (s' ∷ ss') fs fs' e e' h z = grind arith
-
-  -- what is kept of the sources of a merge
-  pub all_kept : (olds : List S) (old : MergeState) (news : List S) (new : MergeState) → length olds ≡ length old.cursors.items
-      → length news ≡ length olds → AllMoved device olds old news new → KeepsSources device olds news
-  all_kept olds old news new same long moved = grind (arith, inputs_long, texts_kept, extents_kept)
+  pub reached_kept : KeepsSources device old ss
+  reached_kept = all_kept device old ss _ _ same reached_long reached.moved
 
 -- ---- the lines that were taken of sources are lines of theirs
 
 in_take : {X : Type 0} (x : X) (n : ℕ) (xs : List X) → IsIn x (take n xs) → IsIn x xs
-in_take x (suc n) (y ∷ ys) (inl e) = inl e
-in_take x (suc n) (y ∷ ys) (inr h) = inr (in_take x n ys h)
+in_take x (suc n) (y ∷ ys) h = grind (arith, in_take x n ys)
 in_take x n ys h = absurd h
 
 in_later : {X : Type 0} (x : X) (us vs : List X) → IsIn x vs → IsIn x (us ++ vs)
@@ -213,14 +189,6 @@ done_lines {t = t} {f = f} input =
     (each_entry (read_lines t f.cursor) (lines t) (given t f.cursor) told.run.entries
     (grind (arith, in_later, in_take))))
 
-later_source : (o : Option (List ℕ)) (sources : List (Option (List ℕ))) (m : Member) → IsLineOf sources m
-    → IsLineOf (o ∷ sources) m
-later_source o sources m h = grind arith
-
-first_source : (o : Option (List ℕ)) (sources : List (Option (List ℕ))) (m : Member) → IsLineIn (text_or o) m
-    → IsLineOf (o ∷ sources) m
-first_source o sources m h = grind arith
-
 module _ {S : Type 0} (device : Ghosts S) where
   all_lines_of : (past : List ℕ → Bool) (ss : List S) (fs : List MergeInput) → AreTold device.text ss
       → AreInputs past device ss fs
@@ -228,13 +196,13 @@ module _ {S : Type 0} (device : Ghosts S) where
   all_lines_of past (s ∷ ss) (f ∷ fs) told input =
       let others = all_lines_of past ss fs told.1 input.1 in
       let here = done_lines (rw (is_told (device.text s) told.0) at input.0) in
-      grind (arith, each_join, each_weaker, first_source, later_source)
+      grind (arith, each_join, each_weaker)
   all_lines_of past ss fs told input = grind arith
 
   -- all sources tell their bytes, or one doesn't
   told_or : (ss : List S) → AreTold device.text ss ⊎ ((m : Member) → HasEntry m → IsLineOf (map device.text ss) m)
   told_or [] = inl tt
-  told_or (s ∷ ss) = elim (told_or ss) [ inl h ↦ grind arith | inr f ↦ grind (arith, later_source, f) ]
+  told_or (s ∷ ss) = elim (told_or ss) [ inl h ↦ grind arith | inr f ↦ grind (arith, f) ]
 
   -- what was taken are lines of the sources
   pub taken_lines : (past : List ℕ → Bool) (ss0 : List S) (m0 : MergeState) (ss : List S) (m : MergeState)
@@ -245,12 +213,8 @@ module _ {S : Type 0} (device : Ghosts S) where
     each = elim (told_or ss0) [
       | inl told ↦
           let aligned = reached.ready.aligned in
-          let before : length ss0 ≡ length (inputs m0) = grind (arith, inputs_long) in
-          let now = long_of aligned in
-          let long : length ss ≡ length ss0 = grind (arith, AllZip-long, length_zip) in
-          let texts = texts_kept device ss0 ss (inputs m0) (inputs m) before long reached.moved in
-          let told_now = told_moved device ss0 ss (inputs m0) (inputs m) now reached.moved told in
-          rw ((reached.handed.told told).0, ← texts)
+          let told_now = told_moved device ss0 ss _ _ aligned.same reached.moved told in
+          rw ((reached.handed.told told).0, ← (reached_kept reached same).0)
           (each_rising member_place place_cmp place_cmp_total (IsLineOf (map device.text ss)) _ (all_lines_of past ss (inputs m) told_now aligned.input))
       | inr f ↦ each_weaker f taken reached.handed.entries
     ];
@@ -260,23 +224,13 @@ module _ {S : Type 0} (device : Ghosts S) where
 
 module _ {S : Type 0} (device : Ghosts S) where
   -- sources before they were opened, when they were, and after they were read
-  pub gave_once : (olds ss : List S) (fs : List MergeInput) (news : List S) (fs' : List MergeInput)
-      (past : List ℕ → Bool) → map device.extent ss ≡ map device.extent olds → AreInputs past device ss fs
-      → AllZip (λ x y. CameOnce device x y.0 y.1.cursor) olds (zip ss fs)
-      → AllZip (Move device) (zip ss fs) (zip news fs') → length news ≡ length ss
-      → AllGaveOnce device olds news
-  gave_once (x ∷ olds) (s ∷ ss) (f ∷ fs) (y ∷ news) (f' ∷ fs') past same input came moved longer =
-      let within = input.0.stands.filled.within in
-      let inside = moved.0.inside within in (
-        grind arith,
-        gave_once olds ss fs news fs' past (cc) input.1 came.1 moved.1 (omega arith),
-      )
-  gave_once [] [] fs [] fs' past same input came moved longer = tt
-  gave_once olds ss fs [] fs' past same input came moved longer = grind arith
-  gave_once olds [] fs news fs' past same input came moved longer = absurd (grind arith)
-  gave_once olds ss [] news fs' past same input came moved longer = absurd (grind arith)
-  gave_once olds ss fs news [] past same input came moved longer = absurd (grind arith)
-  gave_once [] ss fs news fs' past same input came moved longer = absurd (grind arith)
+  pub gave_once : (start : Pair) (olds ss : List S) (cs : List CursorState) (news : List S) (cs' : List CursorState)
+      → IsLeast start → length ss ≡ length cs → length news ≡ length ss → AreOpened device start olds (zip ss cs)
+      → AllZip (Move device) (zip ss cs) (zip news cs') → AllGaveOnce device olds news
+  gave_once start (x ∷ olds) (s ∷ ss) (c ∷ cs) (y ∷ news) (c' ∷ cs') least same long opened moved =
+      grind (arith, gave_once start olds ss cs news cs' least (omega arith) (omega arith) opened.1 moved.1)
+  gave_once start olds (s ∷ ss) [] news cs' least same long opened moved = absurd (omega arith)
+  gave_once start olds ss cs news cs' least same long opened moved = grind (arith, nil_from_length)
 
   pub once_none : (ss : List S) → AllGaveOnce device ss ss
   once_none [] = tt

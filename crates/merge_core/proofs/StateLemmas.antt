@@ -4,11 +4,10 @@ use Rattle.merge_core.proofs.Words.{AllByRecursion, AllZip, Bool, CursorState, I
 use Rattle.merge_core.proofs.Words.{IsPermutation, List, Member, MergeState, Option, Pair, Some, TookOf, WaitingLine}
 use Rattle.merge_core.proofs.Words.{ap, append-nil, arith, done, each_join, each_weaker, input_of, inputs, inputs_from}
 use Rattle.merge_core.proofs.Words.{filter-append, get_or, get_or_default, given, inl, inr, length, length-append}
-use Rattle.merge_core.proofs.Words.{length-map, length-set, length_permutation, map, nil_from_length, not-true}
-use Rattle.merge_core.proofs.Words.{queued, refl, set, set-get_or, stays, suc, sym, true, waiting_pair, waits_of}
-use Rattle.merge_core.proofs.Words.{zero}
+use Rattle.merge_core.proofs.Words.{length-map, length-set, length_permutation, map, nil_from_length, not-true, queued}
+use Rattle.merge_core.proofs.Words.{refl, set, set-get_or, stays, suc, sym, true, waiting_pair, waits_of, zero}
+use Rattle.merge_core.proofs.Words.{cases_lt}
 use Rattle.std.proofs.Common.{take_all}
-use Rattle.std.proofs.lemmas.Bool.{cases_lt}
 use Rattle.merge_core.proofs.InputLemmas.{filter_passes}
 use Rattle.merge_core.proofs.GroupLemmas.{filter_all, each_permuted, waits_beside, waits_here, waits_other}
 use Rattle.merge_core.proofs.GroupLemmas.{waits_permuted, waits_queued}
@@ -21,7 +20,6 @@ any_of (x ∷ xs) i l = x
 
 pub zip_get : {A B : Type 0} (R : A → B → Type 0) (xs : List A) (ys : List B) (i : ℕ) (a : A) (b : B) → AllZip R xs ys
     → i < length xs → R (get_or xs i a) (get_or ys i b)
-zip_get R (x ∷ xs) (y ∷ ys) zero a b h l = h.0
 zip_get R (x ∷ xs) (y ∷ ys) (suc i) a b h l = zip_get R xs ys i a b h.1 (omega arith)
 zip_get R xs ys i a b h l = grind arith
 
@@ -36,10 +34,10 @@ pub inputs_long : (n : ℕ) (cs : List CursorState) (ws : List WaitingLine) → 
 inputs_long n [] ws = refl
 inputs_long n (c ∷ cs) ws = let h = inputs_long (n + 1) cs ws in omega arith
 
-pub counts_of : (n : ℕ) (cs : List CursorState) (ws : List WaitingLine)
-    → map (λ (f : MergeInput). f.cursor.count) (inputs_from n cs ws) ≡ map (λ (c : CursorState). c.count) cs
-counts_of n [] ws = refl
-counts_of n (c ∷ cs) ws = ap (λ l. c.count ∷ l) (counts_of (n + 1) cs ws)
+pub cursors_of : (n : ℕ) (cs : List CursorState) (ws : List WaitingLine)
+    → map (λ (f : MergeInput). f.cursor) (inputs_from n cs ws) ≡ cs
+cursors_of n [] ws = refl
+cursors_of n (c ∷ cs) ws = ap (λ l. c ∷ l) (cursors_of (n + 1) cs ws)
 
 inputs_at : (n i m : ℕ) (cs : List CursorState) (ws : List WaitingLine) (c : CursorState) (b : MergeInput) → m ≡ n + i
     → i < length cs → get_or (inputs_from n cs ws) i b ≡ input_of (get_or cs i c) (waits_of m ws)
@@ -58,8 +56,7 @@ inputs_set : (n i m : ℕ) (cs : List CursorState) (ws ws' : List WaitingLine) (
     → inputs_from n (set cs i c) ws' ≡ set (inputs_from n cs ws) i (input_of c (waits_of m ws'))
 inputs_set n zero m (x ∷ cs) ws ws' c e same = grind (arith, inputs_same)
 inputs_set n (suc i) m (x ∷ cs) ws ws' c e same =
-    let rest = inputs_set (n + 1) i m cs ws ws' c (omega arith) same in
-    grind arith
+    grind (arith, inputs_set (n + 1) i m cs ws ws' c (omega arith) same)
 inputs_set n i m [] ws ws' c e same = refl
 
 inputs_push : (n : ℕ) (cs : List CursorState) (ws : List WaitingLine) (c : CursorState)
@@ -105,11 +102,9 @@ module _ {past : List ℕ → Bool} {text : Option (List ℕ)} {extent : ℕ} {f
     -- then it counts as taken
     done_idle : done past t (idle f) ≡ done past t f ++ m ∷ []
     done_idle =
-        let its = its_last in
-        let front = filter_all (stays past) (done past t f) (filter_passes (stays past) _) in
         let whole = take_all f.cursor.count (given t f.cursor)
         (let long = (input.told t e).as_many in grind (arith, length-map)) in
-        grind (arith, filter-append)
+        grind (arith, filter-append, its_last, filter_all, filter_passes)
 
   input_idle : IsInput past text extent (idle f)
   input_idle = record {
@@ -118,16 +113,9 @@ module _ {past : List ℕ → Bool} {text : Option (List ℕ)} {extent : ℕ} {f
     counted = omega arith;
     told = λ t e.
         let was = input.told t e in
-        record {
-          begins = was.begins;
-          stood = was.stood;
-          as_many = was.as_many;
-          run = was.run;
-          late = [];
-          split = rw (done_idle t e) ((its_last t e).0 ∙ sym (append-nil _));
-          one = omega arith;
-          waiting = refl;
-        };
+        let split : given t f.cursor ≡ done past t (idle f) ++ [] =
+        rw (done_idle t e) ((its_last t e).0 ∙ sym (append-nil _)) in
+        grind arith;
   }
 
 -- ---- all sources
@@ -164,12 +152,11 @@ module _ {past : List ℕ → Bool} {S : Type 0} {device : Ghosts S} {ss : List 
     queued_here : waits_of i queue ≡ new
     queued_here =
         let is : waits_of i (queued i new ++ m.queue) ≡ new = rw (waits_queued i new m.queue, none) (append-nil new) in
-        waits_permuted i (queued i new ++ m.queue) queue p (rw is most) ∙ is
+        grind (arith, waits_permuted)
 
     queued_beside : (j : ℕ) → j ≢ i → waits_of j queue ≡ waits_of j m.queue
     queued_beside j other =
-        let is = waits_beside i j new m.queue other in
-        waits_permuted j (queued i new ++ m.queue) queue p (rw is (few_wait j)) ∙ is
+        let is = waits_beside i j new m.queue other in grind (arith, few_wait, waits_permuted)
 
   -- a source is added behind the others, and these lines of it wait
   pub inputs_added : (c : CursorState) (new : List Member) (queue : List WaitingLine) → length new ≤ 1
@@ -179,20 +166,14 @@ module _ {past : List ℕ → Bool} {S : Type 0} {device : Ghosts S} {ss : List 
       let i = length m.cursors.items in
       let none = waits_none i m.queue was.placed in
       let here = queued_here i none new most queue p in
-      let others = inputs_same 0 m.cursors.items m.queue queue
-      (λ j a b. queued_beside i none new most queue p j (λ e. absurd (omega arith))) in
-      let start : 0 + length m.cursors.items ≡ i = omega arith in
-      rw (start, here, others) at (inputs_push 0 m.cursors.items queue c)
+      grind (arith, inputs_push, inputs_same, queued_beside)
 
   pub aligned_set : (i : ℕ) (s : S) (f : MergeInput) (m' : MergeState) → inputs m' ≡ set (inputs m) i f
       → length m'.cursors.items ≡ length m.cursors.items
       → AllByRecursion (λ (v : WaitingLine). v.source < length m.cursors.items) m'.queue
       → IsInput past (device.text s) (device.extent s) f → Aligned past device (set ss i s) m'
-  aligned_set i s f m' is long placed input = record {
-    same = grind (arith, length-set, was.same);
-    placed = rw long placed;
-    input = rw is (zip_put (λ s f. IsInput past (device.text s) (device.extent s) f) ss (inputs m) i s f was.input input);
-  }
+  aligned_set i s f m' is long placed input =
+      record { same = grind (arith, length-set, was.same); placed = rw long placed; input = grind (arith, zip_put) }
 
 -- the first in turn is taken out
 module _ {past : List ℕ → Bool} {S : Type 0} {device : Ghosts S} {ss : List S}
@@ -212,9 +193,7 @@ module _ {past : List ℕ → Bool} {S : Type 0} {device : Ghosts S} {ss : List 
 
   pub none_left : waits_of w.source m'.queue ≡ []
   none_left =
-      let few = few_wait was w.source in
-      let now = waits_now in
-      grind (arith, nil_from_length)
+      let few = few_wait was w.source in grind (arith, nil_from_length, waits_now)
 
   its_one : (b : MergeInput) → (get_or (inputs m) w.source b).waits ≡ w.member ∷ []
   its_one b = waits_at was w.source b inside_sources ∙ waits_now ∙ ap (λ l. w.member ∷ l) none_left
@@ -224,12 +203,9 @@ module _ {past : List ℕ → Bool} {S : Type 0} {device : Ghosts S} {ss : List 
       let i = w.source in
       let cs = m.cursors.items in
       let c = any_of cs i placed.0 in
-      let here = inputs_at 0 i i cs m.queue c b (omega arith) placed.0 in
       let now = inputs_set 0 i i cs m.queue m'.queue (get_or cs i c) (omega arith)
       (λ j q. sym (waits_other j w m'.queue (λ e. absurd (omega arith))) ∙ still j) in
-      let kept = set-get_or cs i c in
-      let none = none_left in
-      grind arith
+      grind (arith, inputs_at, set-get_or, none_left)
 
   pub popped_aligned : Aligned past device ss m'
   popped_aligned =
@@ -250,7 +226,7 @@ module _ {past : List ℕ → Bool} {S : Type 0} {device : Ghosts S} {ss : List 
         input = idle (get_or (inputs m) i b);
         source_is = sym (set-get_or ss i a);
         inputs_are = popped_inputs b;
-        text_is = λ x. ap device.text (get_or_default ss i a x inside_sources);
+        text_is = grind (arith, ap, get_or_default, inside_sources);
         taken = w.member ∷ [];
         rest_is = refl;
         alike = (at, tt);
@@ -279,11 +255,6 @@ module _ {past : List ℕ → Bool} {S : Type 0} {device : Ghosts S} {ss : List 
   pub idle_here : (c : CursorState) → c ≡ get_or m.cursors.items i c → get_or (inputs m) i b ≡ input_of c []
   idle_here c is = grind (arith, inputs_at)
 
-  -- only its cursor has moved
-  pub moved_inputs : (m' : MergeState) (c : CursorState) → m'.cursors.items ≡ set m.cursors.items i c → m'.queue ≡ m.queue
-      → inputs m' ≡ set (inputs m) i (input_of c [])
-  moved_inputs m' c cursors e = grind (arith, none_waits_here, inputs_set)
-
   -- and these lines wait
   module _ (m' : MergeState) (c : CursorState) (cursors : m'.cursors.items ≡ set m.cursors.items i c) (new : List Member)
       (p : IsPermutation (queued i new ++ m.queue) m'.queue) where
@@ -291,7 +262,7 @@ module _ {past : List ℕ → Bool} {S : Type 0} {device : Ghosts S} {ss : List 
     waited_inputs most =
         let now = inputs_set 0 i i m.cursors.items m.queue m'.queue c (omega arith)
         (queued_beside was i none_waits_here new most m'.queue p) in
-        rw cursors (rw (queued_here was i none_waits_here new most m'.queue p) at now)
+        grind (arith, none_waits_here, queued_here)
 
     pub waited_aligned : (s : S) → IsInput past (device.text s) (device.extent s) (input_of c new)
         → Aligned past device (set ss i s) m'

@@ -5,19 +5,14 @@ use Rattle.merge_core.proofs.Words.{append-nil, append_assoc, arith, done, drop,
 use Rattle.merge_core.proofs.Words.{filter, filter-append, given, inl, inr, is_gt, line_entry, lines, map, member_of}
 use Rattle.merge_core.proofs.Words.{member_pair, member_place, not, not-false, pair_cmp, place_cmp, place_cmp_total}
 use Rattle.merge_core.proofs.Words.{refl, rising, rising_split, stays, sym, take, take-append-drop, take-map, true}
-use Rattle.merge_core.proofs.Words.{Below, IsAbove, IsUpto, None, NoneBelow, Option, Pair, WaitingLine, is_low}
-use Rattle.merge_core.proofs.Words.{is_lt, not-true, ordering_reverse, pair_cmp_total, true≢false, waiting_pair}
-use Rattle.std.proofs.Common.{◌&&◌}
-use Rattle.std.proofs.lemmas.List.{drop-map}
+use Rattle.merge_core.proofs.Words.{Below, IsAbove, IsUpto, None, NoneBelow, Option, Pair, WaitingLine, is_low, is_lt}
+use Rattle.merge_core.proofs.Words.{not-true, ordering_reverse, pair_cmp_total, true≢false, waiting_pair, ◌&&◌}
+use Rattle.merge_core.proofs.Words.{drop-map, nat_cmp, slice_cmp, nat_list_cmp_total, and_cases}
 use Rattle.merge_core.proofs.Many.{each_both, filter_out, each_filter}
 use Rattle.merge_core.proofs.InputLemmas.{filter_passes}
-use Rattle.std.specs.Ordering.{nat_cmp}
-use Rattle.std.specs.Cmp.Lexicographic.{slice_cmp}
-use Rattle.std.proofs.lemmas.Cmp.{nat_list_cmp_total}
 use Rattle.merge_core.proofs.PairOrder.{upto_itself, below_then, then_below, from_not_below, upto_upto}
 use Rattle.merge_core.proofs.GroupLemmas.{filter_all, filter_none}
 use Rattle.merge_core.proofs.MergeLemmas.{place_below, below_next, is_less}
-use Rattle.std.proofs.lemmas.Bool.{and_cases}
 
 -- ---- the lines of one source that were come to, among all that it has from its start on
 
@@ -65,8 +60,7 @@ members_are ls ms e = cc
 
 pub stays_lower : (past : List ℕ → Bool) → IsUpward past → IsLower member_place place_cmp (stays past)
 stays_lower past upward x y h k =
-    let turned = nat_list_cmp_total.antisymm x.values.key y.values.key in
-    place_below x y (grind arith)
+    let turned = nat_list_cmp_total.antisymm x.values.key y.values.key in grind (arith, place_below)
 
 -- neither this line nor one that may follow it was come to
 abbrev pub IsLate : (Member → Bool) → Member → Type 0
@@ -76,10 +70,6 @@ module _ (past : List ℕ → Bool) (upto : Member → Bool) where
   -- which lines were come to
   abbrev pub is_read : Member → Bool
   is_read m = upto m && stays past m
-
-  read_is : (before tail ms : List Member) → ms ≡ before ++ tail → AllByRecursion (λ m. is_read m ≡ true) before
-      → AllByRecursion (λ m. is_read m ≡ false) tail → filter is_read ms ≡ before
-  read_is before tail ms e h k = grind (arith, filter-append, filter_all, filter_none, append-nil)
 
   -- the first line of the rest isn't read, and so none
   rest_unread : (before : List Member) (m : Member) (rest ms : List Member) → ms ≡ before ++ m ∷ rest
@@ -128,9 +118,7 @@ module _ {past : List ℕ → Bool} (upward : IsUpward past) (upto : Member → 
 
     read_of : filter (is_read past upto) ms ≡ done past t f
     read_of =
-        let told = input.told t refl in
-        read_is past upto (done past t f) (told.late ++ rest) ms (grind (arith, append_assoc)) done_read
-        (tail_unread told.late told.one told.waiting told.split)
+        let told = input.told t refl in grind (arith, append_assoc, done_read, filter-append, filter_all, filter_none, append-nil, tail_unread)
 
   -- Of the lines from the start on, those that were come to are those that were taken
   pub input_read : (ms : List Member) → IsRun LINE_LIMIT (lines (drop f.cursor.start t)) ms
@@ -216,16 +204,12 @@ module _ {past : List ℕ → Bool} {wanted : Member → Bool} {b : Option Pair}
             (each_rising member_place place_cmp place_cmp_total (λ m. low m ≡ false) _ (filter_out low r.all)),
       )
 
-  rest_above : (m : Member) → (is_read past (upto_bound b) m ≡ false) × (wanted m ≡ true) → (wanted m ≡ true)
-      × IsAbove b (member_pair m)
-  rest_above m h = grind (arith, and_cases, bound_above, true≢false)
-
   -- it is a front of what is wanted
   pub taken_first : TakenFirst wanted b whole taken
   taken_first =
       let cut = split (upto_bound b) (bound_lower b) (grind (arith, each_weaker, bound_late))
       (each_weaker (bound_upto b) r.done r.handed.1) in
-      (cut.0, cut.1, each_weaker rest_above cut.0 cut.2)
+      grind (arith, each_weaker, bound_above, true≢false)
 
   -- where no line waits, it is all
   pub taken_whole : ws ≡ [] → filter wanted whole ≡ filter wanted taken
@@ -258,4 +242,4 @@ module _ {past : List ℕ → Bool} {wanted : Member → Bool} {b : Option Pair}
         (each_weaker (λ (w : WaitingLine) (h : Upto next (waiting_pair w)). λ k u. not_low k
         (upto_upto next (member_pair w.member) (member_pair k) h u)) ws least)
         (grind (arith, each_weaker, is_lt, below_next)) in
-        (cut.0, cut.1, each_weaker from_next cut.0 cut.2)
+        grind (arith, each_weaker, from_next)

@@ -1,7 +1,6 @@
 -- What was taken of several sources.
-use Rattle.std.specs.Prelude.{◌≡◌, ℕ, ◌+◌, ◌-◌, ◌<◌, ◌≤◌, List, [], ◌∷◌, ◌++◌, flat_map, length, map, not, true}
-use Rattle.std.specs.Prelude.{false, Bool}
-use Rattle.std.specs.Prelude.{Option, None, Some, slice_index_or, slice_set}
+use Rattle.std.specs.Prelude.{◌≡◌, ℕ, ◌+◌, ◌-◌, ◌<◌, ◌≤◌, List, [], ◌∷◌, ◌++◌, flat_map, length, map, not, true, false}
+use Rattle.std.specs.Prelude.{Bool, Option, None, Some, slice_index_or, slice_set}
 use Rattle.std.specs.List.{AllByRecursion, filter, sum, zip}
 use Rattle.std.specs.List.Sorted.{IsPermutation}
 use Rattle.std.specs.Option.{is_some}
@@ -33,8 +32,12 @@ abbrev pub all_done : {S : Type 0} → (List ℕ → Bool) → (S → Option (Li
 all_done past text ss fs = flat_map (λ x. done past (text_or (text x.0)) x.1) (zip ss fs)
 
 -- the bytes of all sources that weren't read
-abbrev pub unread : {S : Type 0} → (S → ℕ) → List S → List MergeInput → ℕ
-unread extent ss fs = sum (map (λ x. extent x.0 - x.1.cursor.at) (zip ss fs))
+abbrev pub unread : {S : Type 0} → (S → ℕ) → List S → List CursorState → ℕ
+unread extent ss cs = sum (map (λ x. extent x.0 - x.1.at) (zip ss cs))
+
+-- these bytes, and the lines that wait
+abbrev pub to_come : {S : Type 0} → (S → ℕ) → List S → MergeState → ℕ
+to_come extent ss m = unread extent ss m.cursors.items + length m.queue
 
 -- the turn of this line comes at the pair and the source's number, or later
 abbrev pub IsFrom : Pair → ℕ → WaitingLine → Type 0
@@ -86,8 +89,7 @@ pub record TookOf {S : Type 0} (past : List ℕ → Bool) (text : S → Option (
 pub record ReadOn {S : Type 0} (past : List ℕ → Bool) (device : Ghosts S) (pair : Pair) (i : ℕ)
     (olds : List S) (old : MergeState) (news : List S) (new : MergeState) (old_rest rest : List Member) : Type 0 where
   pub aligned : Aligned past device news new
-  pub fewer : unread device.extent news (inputs new) + length new.queue
-      ≤ unread device.extent olds (inputs old) + length old.queue
+  pub fewer : to_come device.extent news new ≤ to_come device.extent olds old
   pub took : TookOf past device.text pair i olds news (inputs old) (inputs new) old_rest rest
   pub settled : IsSettled past (device.text took.source) took.input
   pub later : AllByRecursion (λ m. Below pair (member_pair m)) took.input.waits
@@ -100,8 +102,7 @@ pub record Grouped {S : Type 0} (past : List ℕ → Bool) (device : Ghosts S) (
   pub least : NoneBelow pair old.queue
   pub later : AllBeyond pair new.queue
   pub each : AllByRecursion (λ m. Alike (member_pair m) pair) group
-  pub fewer : unread device.extent news (inputs new) + length new.queue
-      < unread device.extent olds (inputs old) + length old.queue
+  pub fewer : to_come device.extent news new < to_come device.extent olds old
   pub gathered : AreTold device.text olds
       → AllByRecursion (λ m. Below (member_pair m) pair) (all_done past device.text olds (inputs old))
       → Gathered pair (all_done past device.text olds (inputs old))

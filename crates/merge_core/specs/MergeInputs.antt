@@ -1,7 +1,6 @@
 -- What was read of a source.
 use Rattle.std.specs.Prelude.{◌≡◌, ◌⊎◌, ℕ, ◌+◌, ◌-◌, ◌≤◌, ◌<◌, List, [], ◌∷◌, ◌++◌, flat_map, length, take, drop, map}
-use Rattle.std.specs.Prelude.{Bool, not}
-use Rattle.std.specs.Prelude.{true, Option, Some}
+use Rattle.std.specs.Prelude.{Bool, not, true, Option, Some}
 use Rattle.std.specs.List.{AllByRecursion, AllZip, filter, zip}
 use Rattle.cdxj_core.specs.declared.limit.TheConstants.{LINE_LIMIT}
 use Rattle.cdxj_places.specs.TextLines.{lines}
@@ -120,4 +119,4 @@ pub record Moved {S : Type 0} (device : Ghosts S) (old new : S) (before now : Cu
 -- the same of each source and its cursor
 abbrev pub AllMoved : {S : Type 0} → Ghosts S → List S → MergeState → List S → MergeState → Type 0
 AllMoved device olds old news new =
-    AllZip (λ x y. Moved device x.0 y.0 x.1.cursor y.1.cursor) (zip olds (inputs old)) (zip news (inputs new))
+    AllZip (λ x y. Moved device x.0 y.0 x.1 y.1) (zip olds old.cursors.items) (zip news new.cursors.items)

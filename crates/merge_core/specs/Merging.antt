@@ -26,7 +26,7 @@ pub record HaltedGroup {S : Type 0} (past : List ℕ → Bool) (text : S → Opt
   pub least : NoneBelow pair begun.queue
   pub read : AreTold text olds
       → AllByRecursion (λ m. Below (member_pair m) pair) (all_done past text olds (inputs begun))
-      → AreReadTo past text (Some pair) news (inputs merge)
+      → AreReadTo past text (Some pair) news merge.cursors.items
 
 -- A sink, by what it wrote of lines: it came from this state and output to others by these lines
 module _ {K : Type 0} (consumer : SinkGhosts K) (sink : K) (old : Option (List ℕ)) where
@@ -108,7 +108,7 @@ module _ {K S : Type 0} (consumer : SinkGhosts K) (past : List ℕ → Bool) (de
       pub above : IsAbove so_far.bound next
       pub least : NoneBelow next point.merge.queue
       pub read : AreTold device.text before.sources
-          → AreReadTo past device.text (Some next) now.sources (inputs now.merge)
+          → AreReadTo past device.text (Some next) now.sources now.merge.cursors.items
 
     -- a merge ended, or broke off at a fault
     abbrev pub EndedMerge : {E : Type 0} → Result Bool E → MergePoint S K → Type 0

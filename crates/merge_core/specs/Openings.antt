@@ -7,10 +7,11 @@ use Rattle.cdxj_core.specs.Members.{Member}
 use Rattle.cdxj_core.specs.declared.limit.TheConstants.{LINE_LIMIT}
 use Rattle.cdxj_places.specs.Pairs.{IsLeast, Pair}
 use Rattle.source_core.specs.Cursors.{CursorState}
+use Rattle.source_core.specs.Reads.{KeepsSource}
 use Rattle.source_core.specs.Search.{IsCut}
 use Rattle.source_core.specs.declared.source.Source.{Ghosts}
 use Rattle.merge_core.specs.declared.state.MergeState.{MergeState}
-use Rattle.merge_core.specs.MergeInputs.{IsInput, MergeInput, IsSettled, Ready, done, input_of, inputs}
+use Rattle.merge_core.specs.MergeInputs.{IsInput, IsSettled, Ready, done, input_of, inputs}
 use Rattle.merge_core.specs.Gathering.{all_done}
 use Rattle.merge_core.specs.Spending.{CameOnce, CameWithin}
 use Rattle.merge_core.specs.WaitingLines.{queued}
@@ -22,20 +23,21 @@ IsCutAt start text c = (t : List ℕ) → (members : List Member) → text ≡ S
 
 -- The cursor of a source that was opened at a pair, as it was before, and as it is now
 pub record OpenedAt {S : Type 0} (device : Ghosts S) (start : Pair) (old new : S) (c : CursorState) : Type 0 where
+  pub kept : KeepsSource device old new
   pub cut : IsCutAt start (device.text old) c
   pub came : CameWithin device old new c
   pub first : IsLeast start → c.start ≡ 0
   pub once : IsLeast start → CameOnce device old new c
 
 -- the cursors of the sources of a merge that were opened at a pair
-abbrev pub AreOpened : {S : Type 0} → Ghosts S → Pair → List S → List (S × MergeInput) → Type 0
-AreOpened device start = AllZip (λ x y. OpenedAt device start x y.0 y.1.cursor)
+abbrev pub AreOpened : {S : Type 0} → Ghosts S → Pair → List S → List (S × CursorState) → Type 0
+AreOpened device start = AllZip (λ x y. OpenedAt device start x y.0 y.1)
 
 -- A merge was begun of sources that were opened at a pair: no line was taken yet, and none is held for a group
 pub record Begun {S : Type 0} (past : List ℕ → Bool) (device : Ghosts S) (start : Pair) (olds news : List S)
     (m : MergeState) : Type 0 where
   pub ready : Ready past device news m
-  pub opened : AreOpened device start olds (zip news (inputs m))
+  pub opened : AreOpened device start olds (zip news m.cursors.items)
   pub fresh : all_done past device.text news (inputs m) ≡ []
   pub none_held : m.most_lines ≡ 0
 

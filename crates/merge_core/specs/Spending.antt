@@ -10,7 +10,7 @@ use Rattle.source_core.specs.Halving.{digits}
 use Rattle.source_core.specs.IndexLines.{longest}
 use Rattle.source_core.specs.declared.source.Source.{Ghosts}
 use Rattle.merge_core.specs.declared.state.MergeState.{MergeState}
-use Rattle.merge_core.specs.MergeInputs.{MergeInput, bytes_of, inputs}
+use Rattle.merge_core.specs.MergeInputs.{bytes_of, inputs}
 use Rattle.merge_core.specs.Gathering.{all_done}
 use Rattle.merge_core.specs.PairOrders.{IsUpto, Upto}
 use Rattle.merge_core.specs.Written.{lines_text}
@@ -27,17 +27,17 @@ pub record ReadTo (past : List ℕ → Bool) (b : Option Pair) (text : List ℕ)
   pub most : reach c ≤ c.start + bytes_of read + 2 * longest (lines text) + 8192
 
 -- the same of each source that tells its bytes
-abbrev pub AreReadTo : {S : Type 0} → (List ℕ → Bool) → (S → Option (List ℕ)) → Option Pair → List S → List MergeInput
-    → Type 0
-AreReadTo past text b ss fs = AllByRecursion (λ x. (t : List ℕ) → text x.0 ≡ Some t
-    → ReadTo past b t x.1.cursor) (zip ss fs)
+abbrev pub AreReadTo : {S : Type 0} → (List ℕ → Bool) → (S → Option (List ℕ)) → Option Pair → List S
+    → List CursorState → Type 0
+AreReadTo past text b ss cs =
+    AllByRecursion (λ x. (t : List ℕ) → text x.0 ≡ Some t → ReadTo past b t x.1) (zip ss cs)
 
 -- the sources were read no further than this pair, if no line above it was taken before
 abbrev pub ReadUpto : {S : Type 0} → (List ℕ → Bool) → (S → Option (List ℕ)) → Pair → List S → MergeState → List S
     → MergeState → Type 0
 ReadUpto past text pair olds old news new =
     AllByRecursion (λ m. Upto (member_pair m) pair) (all_done past text olds (inputs old))
-    → AreReadTo past text (Some pair) news (inputs new)
+    → AreReadTo past text (Some pair) news new.cursors.items
 
 -- what a search in a source of so many bytes, with this text, takes at most
 abbrev pub search_most : ℕ → List ℕ → ℕ
@@ -71,9 +71,9 @@ CameWithin device old new c = (t : List ℕ) → device.text old ≡ Some t
 abbrev pub GaveOnce : {S : Type 0} → Ghosts S → S → S → Type 0
 GaveOnce device old new = device.gave new ≤ device.gave old + device.extent old
 
--- each of its bytes up to the offset up to which it was read
+-- each of its bytes up to the offset up to which it was read, which lies within it
 abbrev pub CameOnce : {S : Type 0} → Ghosts S → S → S → CursorState → Type 0
-CameOnce device old new c = device.gave new ≤ device.gave old + reach c
+CameOnce device old new c = (device.gave new ≤ device.gave old + reach c) × (reach c ≤ device.extent new)
 
 -- each of the sources gave each of its bytes at most once
 abbrev pub AllGaveOnce : {S : Type 0} → Ghosts S → List S → List S → Type 0

@@ -35,6 +35,7 @@ pub struct MergedLines {
 /// rise by place were written, the last of them in whole or in part. If all sources are indexes,
 /// they are the first lines of the collection. Errors are `Memory`, `Write` if the output failed,
 /// and those of a source, with its number.
+#[tactic(auto, using(devices::proofs::WritingLemmas::wrote_nothing))]
 pub fn merge_indexes<S: Source, O: Output>(
     alloc: Global,
     sources: &mut [S],

@@ -70,6 +70,7 @@ impl LineQueue {
     }
 
     /// Returns `true` if the first line has the pair of this one.
+    #[tactic(auto, using(crate::proofs::GroupLemmas::all_later_unless))]
     fn is_next_at(&self, line: &KeyedLine<'_>) -> bool
         ensures alike { (d : WaitingLine) → 0 < length self.now → result ≡ true
             → Alike (waiting_pair (slice_index_or self.now 0 d)) (member_pair line.now) }

@@ -17,6 +17,7 @@ use std::alloc::Global;
 /// Passes the lines of all sources to the sink, one pair after another. Returns `false` if the sink
 /// wanted no more lines.
 /// Errors are those of the sources and of the sink.
+#[tactic(auto, using(crate::proofs::MergeLemmas::step_rules))]
 pub fn merge<S: Source, R: Range, K: Sink, O: Output>(
     alloc: Global,
     sources: &mut [S],

@@ -88,6 +88,7 @@ impl MergeState {
     /// Takes the lines of the least pair from all sources. Returns the first of them, and appends
     /// the others to `rest`.
     /// Errors are `Memory`, and `Read`, `BadLine` and `OutOfOrder` with the number of the source.
+    #[tactic(auto, using(crate::proofs::MergeLemmas::step_rules))]
     pub fn gather<S: Source, R: Range>(
         &mut self,
         sources: &mut [S],

@@ -96,10 +96,9 @@ module _ {S : Type 0} (device : Ghosts S) (q : QueryValue) (olds : List S) where
   pub record Opened (opened : List S) (begun : MergeState) : Type 0 where
     pub kept : map device.text opened ≡ map device.text olds
     pub same : length opened ≡ length begun.cursors.items
-    pub came : AllZip (λ x y. CameWithin device x y.0 y.1.cursor) olds
-        (zip opened (inputs begun))
-    pub cut : AllByRecursion (λ x. IsCutAt (start_pair q q.resume) (device.text x.0) x.1.cursor)
-        (zip opened (inputs begun))
+    pub came : AllZip (λ x y. CameWithin device x y.0 y.1) olds (zip opened begun.cursors.items)
+    pub cut : AllByRecursion (λ x. IsCutAt (start_pair q q.resume) (device.text x.0) x.1)
+        (zip opened begun.cursors.items)
 
   -- these lines were taken
   pub record Reading : Type 0 where

@@ -17,7 +17,8 @@ use Rattle.query_text.specs.Matching.{begins, covers}
 use Rattle.source_core.specs.Cursors.{CursorState}
 use Rattle.merge_core.specs.MergeInputs.{MergeInput}
 use Rattle.merge_core.proofs.ReadLemmas.{none_wait, parts_are, parts_count, took_of_parts}
-use Rattle.merge_core.proofs.StateLemmas.{counts_of, inputs_long, long_of}
+use Rattle.merge_core.proofs.StateLemmas.{cursors_of}
+use Rattle.merge_core.proofs.MergeLemmas.{told_here}
 use Rattle.merge_core.specs.PairOrders.{Alike, IsUpto}
 use Rattle.merge_core.specs.Collections.{OverTexts}
 use Rattle.merge_core.specs.Runs.{parts}
@@ -25,8 +26,8 @@ use Rattle.merge_core.specs.Spending.{AreReadTo, OpenedWithin}
 use Rattle.merge_core.proofs.CountLemmas.{Passes, lines_most}
 use Rattle.merge_core.proofs.Many.{each_filter}
 use Rattle.merge_core.proofs.CountLemmas.{gave_most, tell_both}
-use Rattle.merge_core.proofs.Many.{Move, length_zip, told_moved}
-use Rattle.merge_core.proofs.SourceLemmas.{cuts_kept}
+use Rattle.merge_core.proofs.Many.{Move, length_zip}
+use Rattle.merge_core.proofs.SourceLemmas.{cuts_kept, reached_kept, reached_long}
 use Rattle.merge_core.proofs.PairOrder.{below_below, below_upto, from_not_below, not_below_itself, same_from}
 use Rattle.merge_core.proofs.MergeLemmas.{is_less}
 use Rattle.merge_core.proofs.CountLemmas.{are_read_to}
@@ -136,53 +137,41 @@ module _ {S : Type 0} {device : Ghosts S} {q : QueryValue} {olds : List S}
         later = λ m upto. each_weaker (λ v. upto_upto (member_pair m) next (member_pair v) upto) before.0 before.2;
       }
 
-  long_before : length r.opened ≡ length (inputs r.begun)
-  long_before = let same = r.start.same in grind (arith, inputs_long)
-
-  long_now : length r.sources ≡ length (inputs r.merge)
-  long_now = long_of r.reached.ready.aligned
-
   as_long : length r.sources ≡ length r.opened
-  as_long = grind (arith, AllZip-long, Move, long_before, long_now, length_zip)
+  as_long = reached_long r.reached r.start.same
 
   kept_now : map device.text r.sources ≡ map device.text olds
-  kept_now =
-      (all_kept device r.opened r.begun r.sources r.merge r.start.same as_long r.reached.moved).0 ∙ r.start.kept
+  kept_now = (reached_kept r.reached r.start.same).0 ∙ r.start.kept
 
   -- what sources gave that were read up to the bound
-  pub gave_upto : (bound : Option Pair) (earlier : List Member) (news : List S) (fs : List MergeInput) → Cuts bound earlier
-      → AllZip (Move device) (zip r.opened (inputs r.begun)) (zip news fs) → length news ≡ length r.opened
-      → OverTexts (map device.text olds) (λ texts. AreReadTo (is_past q.target) device.text bound news fs)
+  pub gave_upto : (bound : Option Pair) (earlier : List Member) (news : List S) (cs : List CursorState)
+      → Cuts bound earlier → AllZip (Move device) (zip r.opened r.begun.cursors.items) (zip news cs)
+      → length news ≡ length r.opened
+      → OverTexts (map device.text olds) (λ texts. AreReadTo (is_past q.target) device.text bound news cs)
       → GaveFor q (map device.text olds) device earlier olds news
-  gave_upto bound earlier news fs cuts moved long reads = λ texts indexes known are limit most.
-      let all = AllZip-long (Move device) (zip r.opened (inputs r.begun)) (zip news fs) moved in
+  gave_upto bound earlier news cs cuts moved long reads = λ texts indexes known are limit most.
+      let all = AllZip-long (Move device) (zip r.opened r.begun.cursors.items) (zip news cs) moved in
       let pass = passes q indexes bound earlier (cuts texts indexes known are) limit most in
-      let tells = tell_both device.text r.opened (inputs r.begun) texts long_before (known_opened r texts known) in
-      rw (firsts news fs (omega (arith, all, long, length_zip r.opened (inputs r.begun) long_before))) at
-      (gave_most pass device olds _ (zip news fs) _ _ known tells are r.start.came moved
+      let tells = tell_both device.text r.opened r.begun.cursors.items texts r.start.same (known_opened r texts known) in
+      rw (firsts news cs (omega (arith, all, long, length_zip r.opened r.begun.cursors.items r.start.same))) at
+      (gave_most pass device olds _ (zip news cs) _ _ known tells are r.start.came moved
       r.start.cut (reads texts known))
 
   -- what they gave of which these lines were taken
   pub gave_within : (earlier : List Member) → Cuts r.bound earlier
       → GaveFor q (map device.text olds) device earlier olds r.sources
-  gave_within earlier cuts = gave_upto r.bound earlier r.sources (inputs r.merge) cuts r.reached.moved as_long
-      (λ texts known. are_read_to _ device _ _ _ r.reached.ready.aligned.input
+  gave_within earlier cuts = gave_upto r.bound earlier r.sources r.merge.cursors.items cuts r.reached.moved as_long
+      (λ texts known. are_read_to _ device _ r.sources r.merge r.reached.ready.aligned.input
       (r.reached.handed.told (told r texts known)).1)
 
   module _ (lines : ℕ) (counted : lines ≡ min (sum (map (λ (c : CursorState). c.count) r.merge.cursors.items)) (2 ^ 64 - 1)) where
-    -- the same count, by inputs
-    many : sum (map (λ (c : CursorState). c.count) r.merge.cursors.items)
-        ≡ sum (map (λ (f : MergeInput). f.cursor.count) (inputs r.merge))
-    many = ap sum (sym (counts_of 0 r.merge.cursors.items r.merge.queue))
-
     -- no more lines were read than are in reach, and one of each index
     pub lines_within : (earlier : List Member) → Cuts r.bound earlier → ReadFor q (map device.text olds) earlier lines
     lines_within earlier cuts = λ texts indexes known are limit most.
-        let h = lines_most (passes q indexes r.bound earlier (cuts texts indexes known are) limit most) device
+        let h = rw cursors_of at (lines_most (passes q indexes r.bound earlier (cuts texts indexes known are) limit most) device
         r.sources (inputs r.merge) texts indexes (rw kept_now known) are
-        (cuts_kept device _ _ _ r.reached.moved r.start.cut) r.reached.ready.aligned.input
-        (r.reached.handed.told (told r texts known)).1 in
-        let same = many in
+        (rw cursors_of (cuts_kept device _ _ _ r.reached.moved r.start.cut)) r.reached.ready.aligned.input
+        (r.reached.handed.told (told r texts known)).1) in
         grind (arith, AllZip-long)
 
     -- of each source consecutive lines were read
@@ -194,10 +183,8 @@ module _ {S : Type 0} {device : Ghosts S} {q : QueryValue} {olds : List S}
         let all_took = took_of_parts r.reached told_all (past_upward q.target) (is_wanted q q.resume)
         (λ m h. grind arith) in
         let found = taken_first all_took in
-        let same = many in
-        let count = parts_count _ device r.sources (inputs r.merge)
-        (told_moved device r.opened r.sources (inputs r.begun) (inputs r.merge) long_now r.reached.moved told_all)
-        r.reached.ready.aligned.input in
+        let count = rw cursors_of at (parts_count _ device r.sources (inputs r.merge) (told_here r.reached told_all)
+        r.reached.ready.aligned.input) in
         record {
           parts = read;
           each = λ whole is. parts_are _ device _ _ _ _ (rw kept_now known) r.reached.ready.aligned.input

@@ -1,18 +1,12 @@
 -- What the first bytes of a line say of its pair.
-use Rattle.std.proofs.Common.{◌≡◌, ℕ, ◌+◌, ◌-◌, ◌<◌, ◌≤◌, Bool, true, not, List, [], ◌∷◌, ◌++◌}
-use Rattle.std.proofs.Common.{length, take, drop, Option, Some, None, option_map, refl, arith, append-nil}
+use Rattle.source_core.proofs.Words.{◌≡◌, ℕ, ◌+◌, ◌-◌, ◌<◌, ◌≤◌, Bool, true, not, List, [], ◌∷◌, ◌++◌, length, take}
+use Rattle.source_core.proofs.Words.{drop, Option, Some, None, option_map, refl, arith, append-nil, take_at, take-take}
+use Rattle.source_core.proofs.Words.{take_all, drop_all, pair_of, lines, Pair, is_below, line_below, stops_lines}
+use Rattle.source_core.proofs.Words.{NoFeed, PartOf, BeginsWith, ReadsOn, after_line}
 use Rattle.std.proofs.Math.Seq.{take-append-add}
-use Rattle.std.proofs.lemmas.List.{take_at, take-take, take_all, drop_all}
-use Rattle.cdxj_places.specs.Pair.{pair_of}
 use Rattle.cdxj_places.proofs.PairLemmas.{pair_longer}
-use Rattle.cdxj_places.specs.TextLines.{lines}
-use Rattle.cdxj_places.specs.Pairs.{Pair}
-use Rattle.source_core.specs.Search.{is_below, line_below}
-use Rattle.source_core.specs.Halving.{stops_lines}
-use Rattle.source_core.specs.LineParts.{NoFeed, PartOf, BeginsWith, ReadsOn}
 use Rattle.source_core.proofs.Parts.{ended, goes_on, lines_last}
 use Rattle.source_core.proofs.Seeks.{head_line, lines_first}
-use Rattle.source_core.specs.IndexLines.{after_line}
 
 -- ---- reading on
 

@@ -1,14 +1,7 @@
 -- The steps of a search.
-use Rattle.std.proofs.Common.{◌≡◌, ℕ, ◌+◌, ◌-◌, ◌/◌, ◌<◌, ◌≤◌, List, length, drop, true, false, Option, Some, None}
-use Rattle.std.proofs.Common.{IfSome, IfNone, inr, arith}
-use Rattle.std.proofs.lemmas.List.{drop_all}
-use Rattle.cdxj_core.specs.Indexes.{IsIndex}
-use Rattle.cdxj_core.specs.Members.{Member}
-use Rattle.cdxj_places.specs.Pairs.{Pair}
-use Rattle.source_core.specs.IndexLines.{lines, from_line, BeginsAfter}
-use Rattle.source_core.specs.Halved.{Halved, HalvedIn}
-use Rattle.source_core.specs.Halving.{digits, stops}
-use Rattle.source_core.specs.Search.{line_below, IsCut, IsStop}
+use Rattle.source_core.proofs.Words.{◌≡◌, ℕ, ◌+◌, ◌-◌, ◌/◌, ◌<◌, ◌≤◌, List, length, drop, true, false, Option, Some}
+use Rattle.source_core.proofs.Words.{None, IfSome, IfNone, inr, arith, drop_all, IsIndex, Member, Pair, lines}
+use Rattle.source_core.proofs.Words.{from_line, BeginsAfter, Halved, HalvedIn, digits, stops, line_below, IsCut, IsStop}
 use Rattle.source_core.specs.declared.seeking.Span.{Span}
 use Rattle.source_core.proofs.LongestLines.{far_first, far_here, far_longest}
 use Rattle.source_core.proofs.Halves.{digits_below, from_line_end, half_step}

@@ -1,16 +1,10 @@
 -- Lines that were read ahead.
-use Rattle.std.proofs.Common.{◌≡◌, ℕ, ◌+◌, ◌<◌, true, List, [], ◌∷◌, ◌++◌, length, take, drop, get_or, Option, Some}
-use Rattle.std.proofs.Common.{refl}
-use Rattle.std.proofs.Common.{ap, ◌∙◌, arith}
-use Rattle.std.specs.List.{list_all, prefix_len}
-use Rattle.std.proofs.lemmas.List.{take_more}
-use Rattle.cdxj_core.specs.Lines.{body_of}
+use Rattle.source_core.proofs.Words.{◌≡◌, ℕ, ◌+◌, ◌<◌, true, List, [], ◌∷◌, ◌++◌, length, take, drop, get_or, Option}
+use Rattle.source_core.proofs.Words.{Some, refl, ap, arith, list_all, prefix_len, take_more, body_of, lines}
+use Rattle.source_core.proofs.Words.{CursorState, IsHeldLine, Stands, NoFeed}
 use Rattle.cdxj_core.proofs.EntryRead.{body_of-feed}
 use Rattle.cdxj_core.specs.Plain.{is_unescaped_ascii}
 use Rattle.cdxj_core.proofs.UnescapedAscii.{unescaped_front}
-use Rattle.cdxj_places.specs.TextLines.{lines}
-use Rattle.source_core.specs.Cursors.{CursorState, IsHeldLine, Stands}
-use Rattle.source_core.specs.LineParts.{NoFeed}
 use Rattle.source_core.proofs.Parts.{ended, given_more, given_out}
 
 no_feed : (xs : List ℕ) → list_all is_unescaped_ascii xs ≡ true → NoFeed xs
@@ -23,15 +17,8 @@ pub unescaped_line : (held : List ℕ) (body : ℕ) → body ≡ prefix_len is_u
     → IsHeldLine held (body + 1) × (list_all is_unescaped_ascii (body_of (take (body + 1) held)) ≡ true)
 unescaped_line held body run inside feed =
     let all : list_all is_unescaped_ascii (take body held) ≡ true = grind (arith, unescaped_front) in
-    let whole : take (body + 1) held ≡ take body held ++ 10 ∷ [] = grind (arith, take_more held body 0 inside) in (
-      record {
-        some = omega arith;
-        inside = omega arith;
-        part = (body, refl, no_feed (take body held) all, whole);
-      },
-      ap (λ line. list_all is_unescaped_ascii (body_of line)) whole
-          ∙ (ap (list_all is_unescaped_ascii) (body_of-feed (take body held)) ∙ all),
-    )
+    let whole : take (body + 1) held ≡ take body held ++ 10 ∷ [] = grind (arith, take_more held body 0 inside) in
+    grind (arith, ap, body_of-feed, no_feed)
 
 module _ (text : Option (List ℕ)) (extent : ℕ) (c : CursorState) (size : ℕ) (h : Stands text extent c)
     (line : IsHeldLine c.ahead size) where

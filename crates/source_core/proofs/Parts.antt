@@ -1,10 +1,7 @@
-use Rattle.std.proofs.Common.{◌≡◌, ℕ, ◌+◌, ◌-◌, ◌<◌, ◌≤◌, List, [], ◌∷◌, ◌++◌, length, take, drop, refl, sym, ap₂}
-use Rattle.std.proofs.Common.{◌∙◌, arith, true, false, Option, append_assoc, append-nil, drop-drop, take-append-drop}
-use Rattle.std.proofs.Common.{length-drop}
-use Rattle.std.proofs.lemmas.List.{drop-take, take-take, take_all, drop_all}
-use Rattle.cdxj_places.specs.TextLines.{lines}
-use Rattle.source_core.specs.LineParts.{NoFeed, PartOf}
-use Rattle.source_core.specs.Windows.{AreBytesAt}
+use Rattle.source_core.proofs.Words.{◌≡◌, ℕ, ◌+◌, ◌-◌, ◌<◌, ◌≤◌, List, [], ◌∷◌, ◌++◌, length, take, drop, refl, sym}
+use Rattle.source_core.proofs.Words.{ap₂, ◌∙◌, arith, true, false, Option, append_assoc, append-nil, drop-drop}
+use Rattle.source_core.proofs.Words.{take-append-drop, length-drop, drop-take, take-take, take_all, drop_all, lines}
+use Rattle.source_core.proofs.Words.{NoFeed, PartOf, AreBytesAt}
 
 -- a line that ends with its LF
 pub lines_front : (u v : List ℕ) → NoFeed u → lines (u ++ 10 ∷ v) ≡ (u ++ 10 ∷ []) ∷ lines v
@@ -45,11 +42,6 @@ pub cut_short : (t : List ℕ) (at0 at : ℕ) (line : List ℕ) → drop at0 t �
     ≡ at → 0 < length line → lines (drop at0 t) ≡ line ∷ lines (drop at t)
 cut_short t at0 at [] e f l h = absurd (omega arith)
 cut_short t at0 at (b ∷ u) e f l h = grind (arith, drop_all, append-nil, lines_last)
-
-pub no_more : (t : List ℕ) (at0 at : ℕ) (line : List ℕ) → drop at0 t ≡ line ++ drop at t → length t ≡ at → length line
-    ≡ 0 → lines (drop at0 t) ≡ []
-no_more t at0 at [] e l h = grind (arith, drop_all)
-no_more t at0 at (b ∷ u) e l h = absurd (omega arith)
 
 -- one line more was given
 pub given_more : {X : Type 0} (all now later : List X) (l : X) (n : ℕ) → now ≡ drop n all → now ≡ l ∷ later → later

@@ -1,23 +1,15 @@
 -- Indexes, cut at a pair.
-use Rattle.std.proofs.Common.{take-append-drop, ◌≡◌, ℕ, zero, suc, ◌+◌, ◌-◌, ◌*◌, ◌^◌, ◌<◌, ◌≤◌, List, [], ◌∷◌, ◌++◌}
-use Rattle.std.proofs.Common.{Bool, true, false, None, not, cond, length, take, drop, flat_map, map, Some, refl}
-use Rattle.std.proofs.Common.{sym, ap, ◌∙◌, arith, length-append, length-drop, length-take, is_gt}
-use Rattle.std.specs.List.{AllByRecursion}
-use Rattle.std.proofs.lemmas.Grind.{flat_map-append}
-use Rattle.std.proofs.lemmas.Bool.{and_parts}
-use Rattle.std.proofs.lemmas.List.{take_all}
+use Rattle.source_core.proofs.Words.{take-append-drop, ◌≡◌, ℕ, zero, suc, ◌+◌, ◌-◌, ◌*◌, ◌^◌, ◌<◌, ◌≤◌, List, [], ◌∷◌}
+use Rattle.source_core.proofs.Words.{◌++◌, Bool, true, false, None, not, cond, length, take, drop, flat_map, map, Some}
+use Rattle.source_core.proofs.Words.{refl, sym, ap, ◌∙◌, arith, length-append, length-drop, length-take, is_gt}
+use Rattle.source_core.proofs.Words.{AllByRecursion, flat_map-append, and_parts, take_all, body_of, Member, member_pair}
+use Rattle.source_core.proofs.Words.{line_entry, IsIndex, begins_with_pair, is_key, key_part, pair_of, stamp_part}
+use Rattle.source_core.proofs.Words.{IsLeast, Pair, pair_cmp, lines, from_line, longest, BeginsAfter, is_below}
+use Rattle.source_core.proofs.Words.{is_some_below, line_below, IsCut, stops, stops_lines, digits}
 use Rattle.std.proofs.Math.Pow.{pow_mono}
-use Rattle.cdxj_core.specs.Lines.{body_of}
-use Rattle.cdxj_core.specs.Members.{Member, member_pair, line_entry}
-use Rattle.cdxj_core.specs.Indexes.{IsIndex}
 use Rattle.cdxj_core.proofs.MemberLemmas.{entry_pair_is, entry_is_short}
-use Rattle.cdxj_places.specs.Pair.{begins_with_pair, is_key, key_part, pair_of, stamp_part}
-use Rattle.cdxj_places.specs.Pairs.{IsLeast, Pair, pair_cmp}
 use Rattle.cdxj_places.specs.Rising.{NeverFalls}
 use Rattle.cdxj_places.proofs.PairLemmas.{pair_cmp_total}
-use Rattle.source_core.specs.IndexLines.{lines, from_line, longest, BeginsAfter}
-use Rattle.source_core.specs.Search.{is_below, is_some_below, line_below, IsCut}
-use Rattle.source_core.specs.Halving.{stops, stops_lines, digits}
 use Rattle.source_core.proofs.Halves.{digits_below}
 use Rattle.source_core.proofs.Seeks.{from_line_rest, sought, BelowFirst}
 
@@ -138,7 +130,7 @@ module _ (limit : ℕ) (start : Pair) where
       let halves = parts s.before (lines (from_line r t)) (rw s.cut at entries) in
       record {
         before = s.before;
-        begins = (cut, begins_at t offset s.before cut inside);
+        begins = grind (arith, begins_at);
         low = take n ms;
         high = drop n ms;
         members_are = sym (take-append-drop n ms);

@@ -1,12 +1,9 @@
 -- Bytes that a window holds.
-use Rattle.std.proofs.lemmas.Grind.{common_steps}
-use Rattle.std.proofs.Common.{◌≡◌, ℕ, ◌+◌, ◌-◌, ◌≤◌, Bool, List, [], ◌++◌, length, take, drop, min, Option, Some, inl}
-use Rattle.std.proofs.Common.{inr, arith, drop-drop, length-take, length-append}
-use Rattle.std.proofs.lemmas.Bool.{cases_lt, cond-false, cond_both, le-ltb, ltb-false}
+use Rattle.source_core.proofs.Words.{common_steps, ◌≡◌, ℕ, ◌+◌, ◌-◌, ◌≤◌, Bool, List, [], ◌++◌, length, take, drop, min}
+use Rattle.source_core.proofs.Words.{Option, Some, inl, inr, arith, drop-drop, length-take, length-append, cases_lt}
+use Rattle.source_core.proofs.Words.{cond-false, cond_both, le-ltb, ltb-false, drop-take, drop_all, take-take}
+use Rattle.source_core.proofs.Words.{AreBytesAt, HeldBytes, Holds, held_from, BeginsWith, PartOf, ReadsOn}
 use Rattle.std.specs.Prelude.{ltb}
-use Rattle.std.proofs.lemmas.List.{drop-take, drop_all, take-take}
-use Rattle.source_core.specs.Windows.{AreBytesAt, HeldBytes, Holds, held_from}
-use Rattle.source_core.specs.LineParts.{BeginsWith, PartOf, ReadsOn}
 use Rattle.source_core.specs.declared.source.Source.{Ghosts}
 use Rattle.source_core.proofs.FrontLemmas.{reads_on}
 use Rattle.source_core.proofs.Parts.{given_out}

@@ -1,7 +1,6 @@
 -- The lines of a text, cut after each line feed.
 use Rattle.std.specs.Prelude.{◌≡◌, ◌<◌, ◌≤◌, ℕ, zero, suc, List, [], ◌∷◌, ◌++◌, length, flat_map, max, cond, drop}
-use Rattle.std.specs.Prelude.{nat_eq, Bool}
-use Rattle.std.specs.Prelude.{true, false, Option, Some, None}
+use Rattle.std.specs.Prelude.{nat_eq, Bool, true, false, Option, Some, None}
 pub use Rattle.cdxj_places.specs.TextLines.{lines}
 
 -- what follows the first line feed

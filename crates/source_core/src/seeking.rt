@@ -86,6 +86,7 @@ fn read_on<S: Source>(
 
 /// Reads more of the line that begins at the offset, until `front` holds `wanted` of its bytes, or
 /// the line or the source ends. Returns `true` if the line ends with the bytes in `front`.
+#[tactic(auto, using(crate::proofs::LongestLines::front_most))]
 fn read_to<S: Source>(
     source: &mut S,
     window: &mut Window,

@@ -67,6 +67,7 @@ impl Window {
     }
 
     /// Returns the bytes that are held from the offset `at` on.
+    #[tactic(auto, using(crate::proofs::WindowLemmas::held_rest))]
     pub fn from(&self, at: u64) -> &[u8]
         ensures { result.now ≡ held_from self.now at }
     {

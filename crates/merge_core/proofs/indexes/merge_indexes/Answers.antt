@@ -3,15 +3,13 @@ use Rattle.merge_core.proofs.Words.{AppendsPrefix, AreLinesOf, Bool, MergeInput,
 use Rattle.merge_core.proofs.Words.{Option, OverIndexes, Pair, Reached, ap, append-nil, arith, collection}
 use Rattle.merge_core.proofs.Words.{err_from_is_err_and, false, inputs, filter, flat_map-append, inl, inr, length}
 use Rattle.merge_core.proofs.Words.{length-map, lines_text, map, member_pair, member_place, min, place_cmp}
-use Rattle.merge_core.proofs.Words.{prefix_longer, refl, rising, sym, true, true≢false}
-use Rattle.std.proofs.lemmas.Bool.{cases_Bool}
-use Rattle.devices.proofs.DeviceLemmas.{Appends-none}
-use Rattle.devices.proofs.WritingLemmas.{prefix_whole, wrote_nothing}
+use Rattle.merge_core.proofs.Words.{prefix_longer, refl, rising, sym, true, true≢false, cases_Bool, Appends-none}
+use Rattle.merge_core.proofs.Words.{prefix_whole, wrote_nothing, each_weaker, zip}
 use Rattle.merge_core.proofs.ReadLemmas.{took_of_indexes, none_wait}
 use Rattle.merge_core.proofs.SourceLemmas.{gave_once, cut_at_start, none_below_empty, taken_lines, all_kept}
 use Rattle.merge_core.proofs.SourceLemmas.{all_lines_are, are_read, its_lines, told_known, starts_kept}
-use Rattle.merge_core.proofs.OpenLemmas.{begun_of, came_once_of}
-use Rattle.merge_core.proofs.StateLemmas.{long_of}
+use Rattle.merge_core.proofs.OpenLemmas.{begun_of}
+use Rattle.merge_core.proofs.StateLemmas.{cursors_of}
 use Rattle.merge_core.proofs.TakenLemmas.{taken_first}
 use Rattle.merge_core.proofs.indexes.merge_indexes.Given.{Over}
 use Rattle.merge_core.proofs.indexes.merge_indexes.Goals.{After-merge, In_err-merge, In_ok-merge}
@@ -25,13 +23,9 @@ filter_every [] = refl
 filter_every (x ∷ xs) = ap (λ l. x ∷ l) (filter_every xs)
 
 -- each source is read from its start on
-begun : (g : Over) (c : After-merge g)
-    → AllByRecursion (λ (f : MergeInput). f.cursor.start ≡ 0) (inputs c.in_ok-opened.opened.merge)
-begun g c =
-    let opened = c.in_ok-opened.ensures in
-    begun_of g.S.Source _
-    c.args.sources.now c.open_at.new.sources (inputs c.in_ok-opened.opened.merge)
-    (long_of opened.begun.ready.aligned) refl opened.begun.opened
+begun : (g : Over) (c : After-merge g) → AllByRecursion (λ x. x.1.start ≡ 0)
+    (zip c.open_at.new.sources c.in_ok-opened.opened.merge.cursors.items)
+begun g c = begun_of g.S.Source _ refl _ _ c.in_ok-opened.ensures.begun.opened
 
 module _ (g : Over) (c : After-merge g) {ss : List g.row.S.Denot} {m : MergeState} {b : Option Pair}
     {taken : List Member} (reached : Reached never g.S.Source
@@ -42,8 +36,7 @@ module _ (g : Over) (c : After-merge g) {ss : List g.row.S.Denot} {m : MergeStat
       (λ texts indexes. AppendsPrefix old new (lines_text (collection indexes)))
   front old new p texts indexes known are =
       let opened = c.in_ok-opened.ensures in
-      let cut = cut_at_start g.S.Source c.open_at.new.sources (inputs c.in_ok-opened.opened.merge)
-      (begun g c) in
+      let cut = each_weaker (cut_at_start g.S.Source) _ (begun g c) in
       let first = taken_first (took_of_indexes reached opened.begun.ready.aligned.same ([], []) cut texts indexes
       (rw (← opened.sources.0.0) at known) are (λ key later e h. absurd (true≢false (sym e))) (λ m. true) (λ m e. refl)
       (λ m e. none_below_empty (member_pair m).0 (member_pair m).1)) in
@@ -74,9 +67,6 @@ broke g c =
       | inr p ↦ p
     ]
 
-pub returns-in_err-opened-clause-part : goal.returns-in_err-opened-clause-part
-returns-in_err-opened-clause-part g c = grind (arith, wrote_nothing)
-
 pub returns-in_err-opened-clause-lines : goal.returns-in_err-opened-clause-lines
 returns-in_err-opened-clause-lines g c =
     rw (err_from_is_err_and c.from_residual.result c.from_residual.ensures.1).1
@@ -92,33 +82,14 @@ returns-in_err-merge-clause-lines g c =
     let b = c.in_err-merge.ensures.ended.0 in
     grind (arith, err_from_is_err_and, lines, broke)
 
--- as many sources
-long_before : (g : Over) (c : After-merge g) → length c.open_at.new.sources ≡ length (inputs c.in_ok-opened.opened.merge)
-long_before g c = long_of c.in_ok-opened.ensures.begun.ready.aligned
-
-kept_long : (g : Over) (c : After-merge g) → length c.merge.new.sources ≡ length c.open_at.new.sources
-kept_long g c = grind arith
-
 kept : (g : Over) (c : After-merge g) → KeepsSources g.S.Source c.args.sources.now c.merge.new.sources
 kept g c =
-    let opened = c.in_ok-opened.ensures in
-    let all = all_kept g.S.Source c.open_at.new.sources
-    c.in_ok-opened.opened.merge c.merge.new.sources c.merge.new.merge opened.begun.ready.aligned.same (kept_long g c)
-    c.merge.ensures.moved in
-    (all.0 ∙ opened.sources.0.0, all.1 ∙ opened.sources.0.1)
+    grind (arith, all_kept)
 
 -- each byte of each source was given at most once
 once : (g : Over) (c : After-merge g) → AllGaveOnce g.S.Source c.args.sources.now
     c.merge.new.sources
-once g c =
-    let opened = c.in_ok-opened.ensures in
-    let long : length c.merge.new.sources ≡ length c.open_at.new.sources = kept_long g c in
-    gave_once g.S.Source c.args.sources.now c.open_at.new.sources
-    (inputs c.in_ok-opened.opened.merge) c.merge.new.sources (inputs c.merge.new.merge) never opened.sources.0.1
-    opened.begun.ready.aligned.input (came_once_of g.S.Source _ c.args.sources.now _ refl opened.begun.opened) c.merge.ensures.moved long
-
-pub returns-in_err-opened-clause-bytes : goal.returns-in_err-opened-clause-bytes
-returns-in_err-opened-clause-bytes g c = c.open_at.ensures.once refl
+once g c = grind (arith, gave_once)
 
 pub returns-in_err-merge-clause-bytes : goal.returns-in_err-merge-clause-bytes
 returns-in_err-merge-clause-bytes g c = once g (goal.at.returns-in_err-merge-clause-bytes g c).After-merge
@@ -139,13 +110,11 @@ returns g c =
     let kept = kept g at.After-merge in
     record {
       kept = kept;
-      fault = record { counts = grind arith; names = grind arith };
+      fault = grind arith;
       merged = λ texts known.
           let lines = its_lines never (λ key. refl) device sources (inputs m) in
           let empty : m.queue ≡ [] = grind (arith, cases_Bool) in
-          let long_now = long_of reached.ready.aligned in
-          let starts = starts_kept device _ _ _ _ (long_before g at.After-merge) long_now
-          c.merge.ensures.moved (begun g at.After-merge) in
+          let starts = starts_kept device _ _ c.merge.ensures.moved (begun g at.After-merge) in
           let none : AllByRecursion (λ (f : MergeInput). f.waits ≡ []) (inputs m) = rw empty (none_wait 0 m.cursors.items) in
           let all : taken ≡ collection lines =
           (reached.handed.told (told_known _ _ texts (rw (← opened.sources.0.0) at known))).0
@@ -153,7 +122,7 @@ returns g c =
           record {
             indexes = lines;
             are = are_read never (λ key. refl) device sources (inputs m) texts (rw (← kept.0) at known)
-                starts none reached.ready.settled reached.ready.aligned.input;
+                (rw cursors_of starts) none reached.ready.settled reached.ready.aligned.input;
             text = rw (← all) wrote.0;
             count = rw (← all) wrote.1;
           };

@@ -1,15 +1,11 @@
-use Rattle.merge_core.proofs.Words.{[], ℕ, ◌++◌, ◌+◌, ◌-◌, ◌^◌, ◌∷◌, ◌≡◌, ◌≤◌, AllZip-long, Grouped, List, Member}
-use Rattle.merge_core.proofs.Words.{None, OverIndexes, Reached, ShareAtMost, Some, all_lines, arith, boxed_lines}
-use Rattle.merge_core.proofs.Words.{each_rising, inl, inr, length, length-map, map, member_pair, member_place, min}
-use Rattle.merge_core.proofs.Words.{place_cmp, place_cmp_total, refl, rising}
-use Rattle.std.proofs.Common.{max}
+use Rattle.merge_core.proofs.Words.{ℕ, ◌++◌, ◌+◌, ◌-◌, ◌^◌, ◌∷◌, ◌≡◌, ◌≤◌, Grouped, List, Member}
+use Rattle.merge_core.proofs.Words.{OverIndexes, Reached, ShareAtMost, Some, all_lines, arith, boxed_lines, each_rising}
+use Rattle.merge_core.proofs.Words.{inl, inr, length, length-map, map, member_pair, member_place, min, place_cmp}
+use Rattle.merge_core.proofs.Words.{place_cmp_total, refl, rising, max, grows_not}
 use Rattle.merge_core.proofs.CountLemmas.{are_read_to, held_most}
-use Rattle.merge_core.proofs.SourceLemmas.{all_kept}
-use Rattle.merge_core.proofs.Many.{Move, length_zip, moved_trans, moved_still}
-use Rattle.merge_core.proofs.StateLemmas.{inputs_long}
-use Rattle.merge_core.proofs.MergeLemmas.{above_none, below_next, broken_there, halted_there, reached_next}
-use Rattle.merge_core.proofs.MergeLemmas.{reached_same, on_fault}
-use Rattle.devices.proofs.DeviceLemmas.{grows_not}
+use Rattle.merge_core.proofs.SourceLemmas.{reached_kept}
+use Rattle.merge_core.proofs.Many.{moved_trans}
+use Rattle.merge_core.proofs.MergeLemmas.{below_next, broken_there, halted_there, reached_next, reached_same, on_fault}
 use Rattle.merge_core.proofs.merging.merge.Given.{Over}
 use Rattle.merge_core.proofs.merging.merge.Goals.{After-pass_group}
 use Rattle.merge_core.proofs.merging.merge.Goals as goal
@@ -42,8 +38,7 @@ most_lines : (g : Over) (c : After-pass_group g) (now : ℕ)
     → now ≤ length c.args.sources.now + most)
 most_lines g c now is texts indexes known are most share h =
     let before = c.loop-rest.invariant.most_lines texts indexes known are most share h in
-    let few = held_most c.loop-rest.invariant.came.reached (grouped g c) (reached g c) (omega arith)
-    c.requires.ready.aligned.same texts indexes known are most share in
+    let few = held_most c.loop-rest.invariant.came.reached (grouped g c) (reached g c) c.requires.ready.aligned.same texts indexes known are most share in
     grind (arith, length-map)
 
 order : (g : Over) (c : After-pass_group g)
@@ -51,37 +46,11 @@ order : (g : Over) (c : After-pass_group g)
     ≡ rising member_place place_cmp (group g c)
 order g c = cc
 
-pub loop-rest-init : goal.loop-rest-init
-loop-rest-init g c = record {
-  empty = grind arith;
-  reads = refl;
-  writes = refl;
-  further = grind arith;
-  most_lines = grind arith;
-  came = record {
-    bound = None;
-    taken = [];
-    reached = record {
-      ready = c.requires.ready;
-      moved = moved_still g.S.Source _;
-      above = above_none _;
-      handed = record {
-        entries = tt;
-        upto = tt;
-        rises = tt;
-        told = λ told. rw c.requires.fresh (refl, tt);
-      };
-    };
-    came = grind arith;
-  };
-}
-
 pub loop-rest-preserved : goal.loop-rest-preserved
 loop-rest-preserved g c =
     let here = (goal.at.loop-rest-preserved g c).After-pass_group in
-    let now = reached_same c.recycle.new.self c.recycle.ensures.kept (reached g here) in
     let few = most_lines g here c.recycle.new.self.most_lines c.recycle.ensures.most_lines in
-    grind arith
+    grind (arith, reached, reached_same)
 
 pub returns-clause-most_lines : goal.returns-clause-most_lines
 returns-clause-most_lines g c = simp c.gather.ensures.most_lines c.loop-rest.invariant.most_lines
@@ -89,18 +58,10 @@ returns-clause-most_lines g c = simp c.gather.ensures.most_lines c.loop-rest.inv
 pub returns-in_err-first : goal.returns-in_err-first
 returns-in_err-first g c =
     let came = c.loop-rest.invariant.came in
-    let device = g.S.Source in
-    let long : length c.loop-rest.sources ≡ length c.args.sources.now =
-    let all = AllZip-long (Move device) _ _ came.reached.moved in
-    let same = came.reached.ready.aligned.same in grind (arith, length_zip, inputs_long) in
-    let kept = all_kept device c.args.sources.now c.args.merge.now c.loop-rest.sources
-    c.loop-rest.merge c.requires.ready.aligned.same long came.reached.moved in
+    let kept = reached_kept came.reached c.requires.ready.aligned.same in
     record {
-      moved = moved_trans device _ _ _ came.reached.moved c.gather.ensures.moved;
-      fault = record {
-        counts = grind arith;
-        names = let fault = rw kept.0 at c.gather.ensures.fault.names in grind arith;
-      };
+      moved = grind (arith, moved_trans);
+      fault = grind arith;
       most_lines = rw c.gather.ensures.most_lines c.loop-rest.invariant.most_lines;
       ended = on_fault _ _ _ _ c.from_residual.ensures.1 (
         broken_there came _ refl,
@@ -115,7 +76,7 @@ returns-in_err-more g c =
     let gathered = grouped g here in
     record {
       moved = grind (arith, moved_trans);
-      fault = record { counts = grind arith; names = grind arith };
+      fault = grind arith;
       most_lines = rw c.gather.ensures.most_lines c.loop-rest.invariant.most_lines;
       ended = on_fault _ _ _ _ c.from_residual-in_err-more.ensures.1 (
         elim c.in_err-more.ensures.passed [
@@ -133,7 +94,8 @@ returns-in_err-more g c =
           pair = member_pair c.in-Some.first.value;
           above = gathered.above;
           least = gathered.least;
-          read = λ told low. are_read_to _ g.S.Source _ _ _ (reached g here).ready.aligned.input
+          read = λ told low. are_read_to _ g.S.Source (Some (member_pair c.in-Some.first.value)) c.gather.new.sources
+              c.gather.new.self (reached g here).ready.aligned.input
               (gathered.gathered told low).upto;
         }) c.pass_group.ensures.grows,
       );
@@ -148,7 +110,7 @@ returns-then-not-more g c =
     let above = gathered.above came.bound came.reached.above in
     record {
       moved = grind (arith, moved_trans);
-      fault = record { counts = grind arith; names = grind arith };
+      fault = grind arith;
       most_lines = most_lines g here c.recycle.new.self.most_lines c.recycle.ensures.most_lines;
       ended = record {
         so_far = grind (arith, order);

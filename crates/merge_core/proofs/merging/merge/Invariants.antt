@@ -1,5 +1,5 @@
-use Rattle.merge_core.proofs.Words.{[], ℕ, ◌+◌, ◌≡◌, ◌≤◌, OverIndexes, ShareAtMost, SoFar, all_lines, inputs, length}
-use Rattle.merge_core.proofs.Words.{map, unread}
+use Rattle.merge_core.proofs.Words.{[], ℕ, ◌+◌, ◌≡◌, ◌≤◌, OverIndexes, ShareAtMost, SoFar, all_lines, length, map}
+use Rattle.merge_core.proofs.Words.{to_come}
 use Rattle.merge_core.proofs.merging.merge.Given as goal
 
 abbrev pub invariant-loop-rest : goal.invariant-loop-rest
@@ -17,4 +17,4 @@ invariant-loop-rest g l = record {
 }
 
 abbrev pub decreases-loop-rest : goal.decreases-loop-rest
-decreases-loop-rest g l = unread g.S.Source.extent l.sources (inputs l.merge) + length l.merge.queue
+decreases-loop-rest g l = to_come g.S.Source.extent l.sources l.merge

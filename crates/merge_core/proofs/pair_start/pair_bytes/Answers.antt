@@ -9,5 +9,4 @@ slice_bounds-result-end c =
 
 pub returns : goal.returns
 returns c =
-    let b = begins c.line.result.now c.args.line.now c.line.ensures.entry in
-    record { text = grind arith; key = b.key }
+    let b = begins c.line.result.now c.args.line.now c.line.ensures.entry in grind arith

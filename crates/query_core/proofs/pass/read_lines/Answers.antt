@@ -39,14 +39,14 @@ returns-in_err-opened-clause-ended g c =
 -- sources that were opened
 start : (g : Over) (c : In_ok-opened g) → Opened g.S.Source
     c.args.query.now c.args.sources.now c.open_at.new.sources c.in_ok-opened.opened.merge
-start g c = record {
-  kept = c.open_at.ensures.sources.0.0;
-  same = c.in_ok-opened.ensures.begun.ready.aligned.same;
-  came = came_of _ _ _ _ c.in_ok-opened.ensures.begun.opened;
-  cut = rw c.start_pair.ensures at (cuts_of g.S.Source _
-      c.args.sources.now c.open_at.new.sources (inputs c.in_ok-opened.opened.merge) c.open_at.ensures.sources.0.0
-      c.in_ok-opened.ensures.begun.opened);
-}
+start g c =
+    let opened = rw c.start_pair.ensures at c.in_ok-opened.ensures.begun.opened in
+    record {
+      kept = c.open_at.ensures.sources.0.0;
+      same = c.in_ok-opened.ensures.begun.ready.aligned.same;
+      came = came_of g.S.Source _ _ _ opened;
+      cut = cuts_of g.S.Source _ _ _ opened;
+    }
 
 pub returns-in_err-all-clause-ended : goal.returns-in_err-all-clause-ended
 returns-in_err-all-clause-ended g c =
@@ -68,7 +68,7 @@ returns-in_err-all-clause-ended g c =
           middle = h.point.written;
           more = h.more;
           came = h.so_far.came;
-          within = gave_upto r (Some h.next) r.taken c.merge.new.sources (inputs c.merge.new.merge)
+          within = gave_upto r (Some h.next) r.taken c.merge.new.sources c.merge.new.merge.cursors.items
               (cut_before r h.next h.above h.least) c.merge.ensures.moved (omega arith)
               (λ texts known. rw c.target.ensures at (h.read (told r texts known)));
         };

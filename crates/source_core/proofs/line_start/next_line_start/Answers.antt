@@ -1,7 +1,4 @@
-use Rattle.std.proofs.lemmas.Grind.{common_steps}
-use Rattle.std.proofs.Common.{◌≡◌, ◌+◌, ◌≤◌, ℕ, Some, List, arith}
-use Rattle.source_core.specs.Windows.{AreBytesAt}
-use Rattle.source_core.specs.IndexLines.{lines, longest}
+use Rattle.source_core.proofs.Words.{common_steps, ◌≡◌, ◌+◌, ◌≤◌, ℕ, Some, List, arith, AreBytesAt, lines, longest}
 use Rattle.source_core.proofs.Pieces.{IsPiece, nowhere_in, found_in, begins_in}
 use Rattle.source_core.proofs.LongestLines.{gap_most}
 use Rattle.source_core.proofs.WindowLemmas.{held_stands}
@@ -28,15 +25,7 @@ stands g c = rw c.from-held.ensures (held_stands _ _ c.hold.new.self c.loop-at.a
 piece : (g : Over) (c : After-min-count g) (t : List ℕ) → g.S.Source.text c.args.source.now ≡ Some t
     → IsPiece t c.from-held.result.now (g.S.Source.extent c.args.source.now) c.loop-at.at c.min-count.result c.args.from
 piece g c t e =
-    let inv = c.loop-at.invariant in
-    let held = stands g c in
-    record {
-      is = inv.told t e;
-      holds = grind (arith, common_steps);
-      long = omega (arith, c.min-count.ensures);
-      inside = omega (arith, held.within, c.in_ok-hold.ensures.source.0.1, inv.read.extent, c.min-count.ensures);
-      before = omega arith;
-    }
+    let held = stands g c in grind (arith, common_steps)
 
 pub returns-in_err-hold-clause-gave : goal.returns-in_err-hold-clause-gave
 returns-in_err-hold-clause-gave g c = grind (arith, gap)
@@ -52,10 +41,8 @@ returns-clause-gave g c = λ t e.
 
 pub returns-in-Some-clause-line : goal.returns-in-Some-clause-line
 returns-in-Some-clause-line g c = λ t e.
-    let there = piece g (goal.at.returns-in-Some-clause-line g c).After-min-count t e in (
-      found_in _ _ _ _ _ _ there c.in-Some.feed c.in-Some.ensures.0 c.in-Some.ensures.1,
-      begins_in _ _ _ _ _ _ there c.in-Some.feed c.in-Some.ensures.0 c.in-Some.ensures.1,
-    )
+    let there = piece g (goal.at.returns-in-Some-clause-line g c).After-min-count t e in
+    grind (arith, begins_in, found_in)
 
 pub loop-at-preserved : goal.loop-at-preserved
 loop-at-preserved g c = grind (arith, nowhere_in, piece)

@@ -1,4 +1,4 @@
-use Rattle.std.proofs.Common.{◌≡◌, ◌+◌, ◌-◌, ◌/◌, refl, arith, sym, ◌∙◌}
+use Rattle.source_core.proofs.Words.{◌≡◌, ◌+◌, ◌-◌, ◌/◌, refl, arith, sym, ◌∙◌}
 use Rattle.source_core.proofs.Halves.{digits_below}
 use Rattle.source_core.proofs.HalvingSteps.{halves_down, halves_up, halves_hidden, halves_none}
 use Rattle.source_core.proofs.seeking.halve.Goals as goal

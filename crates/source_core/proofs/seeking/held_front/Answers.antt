@@ -1,5 +1,4 @@
-use Rattle.std.proofs.Common.{rules, ◌≡◌, ◌+◌, [], arith, length-take}
-use Rattle.source_core.specs.Windows.{AreBytesAt}
+use Rattle.source_core.proofs.Words.{rules, ◌≡◌, ◌+◌, [], arith, length-take, AreBytesAt}
 use Rattle.source_core.proofs.WindowLemmas.{held_reads, held_stands, nothing_read}
 use Rattle.source_core.proofs.seeking.held_front.Goals as goal
 

@@ -1,4 +1,4 @@
-use Rattle.std.proofs.Common.{arith}
+use Rattle.source_core.proofs.Words.{arith}
 use Rattle.source_core.proofs.seeking.probe.Goals as goal
 
 pub returns-in_ok-stops-in-Some-clause-line : goal.returns-in_ok-stops-in-Some-clause-line

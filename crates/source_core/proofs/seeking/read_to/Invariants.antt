@@ -1,5 +1,4 @@
-use Rattle.std.proofs.Common.{◌≡◌, ◌+◌, ◌-◌, ◌≤◌, ℕ, List, length, Some}
-use Rattle.source_core.specs.LineParts.{BeginsWith}
+use Rattle.source_core.proofs.Words.{◌≡◌, ◌+◌, ◌-◌, ◌≤◌, ℕ, List, length, Some, BeginsWith}
 use Rattle.source_core.proofs.WindowLemmas.{HasRead}
 use Rattle.source_core.proofs.seeking.read_to.Given as goal
 

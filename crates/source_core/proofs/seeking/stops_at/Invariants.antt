@@ -1,7 +1,5 @@
-use Rattle.std.proofs.Common.{◌≡◌, ◌+◌, ◌-◌, ◌≤◌, ℕ, List, length, false, Some}
-use Rattle.cdxj_core.specs.declared.limit.TheConstants.{LINE_LIMIT}
-use Rattle.source_core.specs.IndexLines.{lines, longest}
-use Rattle.source_core.specs.LineParts.{ReadsOn}
+use Rattle.source_core.proofs.Words.{◌≡◌, ◌+◌, ◌-◌, ◌≤◌, ℕ, List, length, false, Some, LINE_LIMIT, lines, longest}
+use Rattle.source_core.proofs.Words.{ReadsOn}
 use Rattle.source_core.proofs.WindowLemmas.{HasRead}
 use Rattle.source_core.proofs.seeking.stops_at.Given as goal
 

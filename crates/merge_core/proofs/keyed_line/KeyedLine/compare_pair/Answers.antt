@@ -1,5 +1,4 @@
-use Rattle.merge_core.proofs.Words.{◌≡◌, member_pair, ordering_then, pair_cmp, subst, sym}
-use Rattle.merge_core.specs.PairStarts.{IsStart}
+use Rattle.merge_core.proofs.Words.{◌≡◌, member_pair, ordering_then, pair_cmp, subst, sym, IsStart}
 use Rattle.merge_core.proofs.PairOrder.{starts_decide, decided}
 use Rattle.merge_core.proofs.keyed_line.KeyedLine.compare_pair.Goals as goal
 

@@ -1,21 +1,14 @@
-use Rattle.merge_core.proofs.Words.{[], ℕ, ◌++◌, ◌∙◌, ◌∷◌, ◌≡◌, ◌≤◌, Alike, AllByRecursion, Below, Bool, EndsAt}
-use Rattle.merge_core.proofs.Words.{IsInput}
-use Rattle.merge_core.proofs.Words.{List, Member, Pair, Some, Upto, append_assoc, arith, boxed_lines, done, drop}
-use Rattle.merge_core.proofs.Words.{each_join, each_weaker, false, input_of, filter, given, inl, inr, is_lt, length}
-use Rattle.merge_core.proofs.Words.{lines, map-append, member_pair, pair_cmp_total, refl, stays, true}
+use Rattle.merge_core.proofs.Words.{[], ℕ, ◌++◌, ◌∙◌, ◌∷◌, ◌≡◌, ◌≤◌, Alike, AllByRecursion, Bool, EndsAt}
+use Rattle.merge_core.proofs.Words.{IsInput, List, Member, Some, Upto, append_assoc, arith, boxed_lines, done}
+use Rattle.merge_core.proofs.Words.{each_join, each_weaker, false, input_of, filter, given, inl, inr, is_lt}
+use Rattle.merge_core.proofs.Words.{length, map-append, member_pair, pair_cmp_total, refl, stays, true}
 use Rattle.merge_core.proofs.CountLemmas.{group_most}
 use Rattle.merge_core.proofs.InputLemmas.{LineRead, all_inside, all_taken, all_upto, bad_named, done_next, input_end}
 use Rattle.merge_core.proofs.InputLemmas.{input_more, given_next, order_named, same_stays, settled_more}
-use Rattle.merge_core.proofs.MergeLemmas.{if_err}
 use Rattle.merge_core.proofs.PairOrder.{from_not_below, upto_upto}
 use Rattle.merge_core.proofs.line_buffers.LineBuffers.read_group.Given.{Over}
 use Rattle.merge_core.proofs.line_buffers.LineBuffers.read_group.Goals.{After-compare_pair, After-next_line}
 use Rattle.merge_core.proofs.line_buffers.LineBuffers.read_group.Goals as goal
-
--- a line above the pair
-above_waits : (past : List ℕ → Bool) (pair : Pair) (m : Member) → Below pair (member_pair m)
-    → AllByRecursion (λ k. Below pair (member_pair k)) (filter (stays past) (m ∷ []))
-above_waits past pair m above = grind arith
 
 length_waits : (past : List ℕ → Bool) (m : Member) → length (filter (stays past) (m ∷ [])) ≤ 1
 length_waits past m = grind arith
@@ -55,14 +48,12 @@ returns-in-Greater-clause-read g c =
     let turned = pair_cmp_total.antisymm (member_pair c.args.first.now) (member_pair c.in-Some.line.value) in
     let here = goal.at.returns-in-Greater-clause-read g c in
     let read = was_read g here.After-compare_pair (grind arith) in
-    let past = g.R.Range.past c.args.range.now in
     let is = c.within.ensures in
-    let above : Below (member_pair c.args.first.now) (member_pair c.in-Some.line.value) = grind arith in
     record {
       input = input_more read _ (inl is);
       settled = settled_more read _ is;
-      later = rw is (above_waits past (member_pair c.args.first.now) c.in-Some.line.value above);
-      fewer = rw is (let few : length (filter (stays past) (c.in-Some.line.value ∷ [])) ≤ 1 = length_waits past c.in-Some.line.value in grind arith);
+      later = grind arith;
+      fewer = grind (arith, length_waits);
       taken = inv.taken.0;
       rest_is = inv.taken.1;
       alike = inv.taken.2;
@@ -83,10 +74,8 @@ returns-clause-read g c =
     let here = goal.at.returns-clause-read g c in
     let was : IsInput past (g.S.Source.text c.next_line.new.source) (g.S.Source.extent c.next_line.new.source)
     (input_of c.loop-line.cursor []) = grind arith in
-    let ended : (t : List ℕ) → g.S.Source.text c.next_line.new.source ≡ Some t
-    → lines (drop c.loop-line.cursor.at t) ≡ [] = λ t e. grind arith in
     record {
-      input = input_end was c.next_line.new.cursor (grind arith) (grind arith) (grind arith) (λ t e. grind arith) ended;
+      input = grind (arith, input_end);
       settled = λ t e none. inl (grind arith);
       later = tt;
       fewer = grind arith;
@@ -147,7 +136,7 @@ returns-in_err-line-clause-fault g c = record {
   counts = grind arith;
   names = λ t e.
       let input = rw (c.loop-line.invariant.text ∙ e) at c.loop-line.invariant.input in
-      grind (arith, if_err, bad_named input);
+      grind (arith, bad_named input);
 }
 
 pub returns-in-Less-clause-fault : goal.returns-in-Less-clause-fault

@@ -1,18 +1,12 @@
-use Rattle.merge_core.proofs.Words.{Appends, List, Option, arith, grows_on, prefix_longer, ℕ}
-use Rattle.devices.proofs.DeviceLemmas.{grows_by}
-use Rattle.std.specs.Io.KnownBytes.{Keeps}
+use Rattle.merge_core.proofs.Words.{arith, grows_on, prefix_longer, grows_by}
 use Rattle.merge_core.proofs.MergeLemmas.{on_fault}
 use Rattle.merge_core.proofs.line_writer.LineWriter.put_line.Goals as goal
-
-still_appends : (old mid new : Option (List ℕ)) (text : List ℕ) → Appends old mid text → Keeps mid new
-    → Appends old new text
-still_appends old mid new text h k = grind arith
 
 pub returns-in_err-put-clause-text : goal.returns-in_err-put-clause-text
 returns-in_err-put-clause-text g c = grind (arith, on_fault, prefix_longer)
 
 pub returns-in_err-write-clause-grows : goal.returns-in_err-write-clause-grows
-returns-in_err-write-clause-grows g c = grind (arith, grows_by, still_appends)
+returns-in_err-write-clause-grows g c = grind (arith, grows_by)
 
 pub returns-clause-grows : goal.returns-clause-grows
 returns-clause-grows g c =

@@ -1,6 +1,5 @@
-use Rattle.merge_core.proofs.Words.{[], IsInput, arith, boxed_line, input_of, option_list}
+use Rattle.merge_core.proofs.Words.{[], IsInput, arith, boxed_line, input_of}
 use Rattle.merge_core.proofs.InputLemmas.{bad_named}
-use Rattle.merge_core.proofs.MergeLemmas.{if_err}
 use Rattle.merge_core.proofs.OpenLemmas.{input_fresh, first_read}
 use Rattle.merge_core.proofs.state.MergeState.add.Given.{Over}
 use Rattle.merge_core.proofs.state.MergeState.add.Goals.{After-next_line}
@@ -14,13 +13,7 @@ fresh g c = input_fresh (g.R.Range.past c.args.range.now) _ _ c.args.cursor c.re
 
 pub returns-in_err-next-clause-source : goal.returns-in_err-next-clause-source
 returns-in_err-next-clause-source g c =
-    let at = (goal.at.returns-in_err-next-clause-source g c).After-next_line in (
-      grind arith,
-      record {
-        counts = grind arith;
-        names = λ t e. let input = rw e at (fresh g at) in grind (arith, if_err, bad_named input);
-      },
-    )
+    grind (arith, bad_named, fresh)
 
 pub returns-clause-added : goal.returns-clause-added
 returns-clause-added g c =
@@ -31,13 +24,4 @@ returns-clause-added g c =
     let read = first_read was c.requires.fresh.none c.next_line.new.cursor (boxed_line c.in_ok-next.next) _ ok.stands
     c.next_line.ensures.moved.start_kept (grind arith) (λ t e. c.next_line.ensures.most t (grind arith))
     (λ t e. ok.next t (grind arith)) c.within-first.ensures in
-    record {
-      cursor = c.next_line.new.cursor;
-      first = option_list (boxed_line c.within-first.result);
-      cursors_are = grind arith;
-      queue_is = grind arith;
-      input = read.input;
-      settled = read.settled;
-      fresh = read.fresh;
-      cursor_is = c.next_line.ensures.moved;
-    }
+    grind (arith, fresh)

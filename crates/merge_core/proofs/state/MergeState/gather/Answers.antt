@@ -1,14 +1,10 @@
-use Rattle.merge_core.proofs.Words.{[], ◌+◌, ◌∙◌, ◌∷◌, ◌≡◌, AreReadTo, AreSettled, AreTold, Member, MergeState, Some}
+use Rattle.merge_core.proofs.Words.{[], ◌+◌, ◌∙◌, ◌∷◌, AreReadTo, AreSettled, AreTold, Member, MergeState, Some}
 use Rattle.merge_core.proofs.Words.{Upto, WaitingLine, all_done, ap, arith, boxed_lines, each_weaker, inputs}
 use Rattle.merge_core.proofs.Words.{map-append, member_pair, pair_cmp_total, refl, sym, tied_itself, waiting_pair}
-use Rattle.std.proofs.lemmas.List.Sorted.{IsPermutation-sym}
+use Rattle.merge_core.proofs.Words.{IsPermutation-sym}
 use Rattle.merge_core.proofs.PairOrder.{upto_itself}
 use Rattle.merge_core.proofs.MergeLemmas.{on_fault, Gathers, TakenNext, gathers_start, taken_next, gathers_on}
-use Rattle.merge_core.proofs.CountLemmas.{idle_read}
-use Rattle.merge_core.proofs.SourceLemmas.{all_kept}
 use Rattle.merge_core.proofs.GroupLemmas.{AreBelow, from_waited, each_permuted, above_popped, not_before}
-use Rattle.merge_core.proofs.Many.{moved_trans, moved_still}
-use Rattle.merge_core.proofs.StateLemmas.{popped_inputs}
 use Rattle.merge_core.proofs.state.MergeState.gather.Given.{Over}
 use Rattle.merge_core.proofs.state.MergeState.gather.Goals.{After-read_on, After-push, In_ok-read_on}
 use Rattle.merge_core.proofs.state.MergeState.gather.Goals as goal
@@ -31,9 +27,7 @@ drained_settled : (g : Over) (c : In_ok-read_on g)
     → AreSettled (g.R.Range.past c.args.range.now) g.S.Source c.read_on.new.sources
     (inputs c.read_on.new.self)
 drained_settled g c =
-    let read = c.in_ok-read_on.ensures.read in
-    rw (read.took.source_is, read.took.inputs_are)
-    (c.sources.invariant.settled read.took.source read.took.input read.settled)
+    grind arith
 
 -- the line that is taken next
 abbrev taken_line : (g : Over) → After-push g → WaitingLine
@@ -52,16 +46,6 @@ taken g c h =
     let took = c.in-Some-pop_at.ensures in
     let is = sym c.next-in-sources.view_is in
     taken_next h (taken_line g c) (popped_merge g c) refl (rw is at took.out) (rw is at took.first) (grind arith)
-
-pub returns-in_default-clause-moved : goal.returns-in_default-clause-moved
-returns-in_default-clause-moved g c =
-    let e : c.pop.new.self ≡ c.args.self.now.queue = c.in_default.ensures.out.1 ∙ sym c.in_default.ensures.out.0 in
-    rw e (moved_still g.S.Source _)
-
-pub returns-in_default-clause-ready : goal.returns-in_default-clause-ready
-returns-in_default-clause-ready g c =
-    let e : c.pop.new.self ≡ c.args.self.now.queue = c.in_default.ensures.out.1 ∙ sym c.in_default.ensures.out.0 in
-    rw e c.requires.ready
 
 pub sources-init : goal.sources-init
 sources-init g c =
@@ -83,88 +67,42 @@ sources-init g c =
       most_lines = grind arith;
       inside = t.inside;
       due = t.due;
-      settled = t.settled c.requires.ready.settled;
+      settled = grind arith;
       failures = refl;
       above = λ b h. above_popped b old.queue left w out h;
       least = least;
       fewer = t.fewer;
     }
 
-pub read_on-requires-clause-due : goal.read_on-requires-clause-due
-read_on-requires-clause-due g c a d = let due = c.sources.invariant.due a d in grind arith
-
 pub pop_at-requires : goal.pop_at-requires
 pop_at-requires g c =
-    let now = drained g (goal.at.pop_at-requires g c).In_ok-read_on in
-    grind (arith, each_weaker)
+    grind (arith, drained, each_weaker)
 
 pub sources-smaller : goal.sources-smaller
 sources-smaller g c =
     let here = goal.at.sources-smaller g c in
     let t = taken g here.After-push (drained g here.In_ok-read_on) in
     let read = c.in_ok-read_on.ensures.read in
-    omega (arith, t.fewer, read.fewer)
+    omega (arith, read.fewer)
 
 pub sources-preserved : goal.sources-preserved
 sources-preserved g c =
     let here = goal.at.sources-preserved g c in
     let t = taken g here.After-push (drained g here.In_ok-read_on) in
-    let settled = t.settled (drained_settled g here.In_ok-read_on) in
-    let read = c.in_ok-read_on.ensures.read in
-    record {
-      gathers = grind (arith, map-append, t.gathers);
-      most_lines = grind arith;
-      inside = t.inside;
-      due = t.due;
-      settled = settled;
-      failures = grind arith;
-      above = c.sources.invariant.above;
-      least = c.sources.invariant.least;
-      fewer = omega (arith, t.fewer, read.fewer, c.sources.invariant.fewer);
-    }
+    grind (arith, map-append)
 
 -- the sources were read up to the pair
 read_to : (g : Over) (c : After-read_on g) → AreTold g.S.Source.text c.args.sources.now
     → AreBelow (member_pair c.with_start-keyed.result) (all_done (g.R.Range.past c.args.range.now) g.S.Source.text
     c.args.sources.now (inputs c.args.self.now))
     → AreReadTo (g.R.Range.past c.args.range.now) g.S.Source.text (Some (member_pair c.with_start-keyed.result))
-    c.read_on.new.sources (inputs c.read_on.new.self)
+    c.read_on.new.sources c.read_on.new.self.cursors.items
 read_to g c told low =
     c.read_on.ensures.most (c.sources.invariant.gathers.gathered told low).0.upto
 
 pub returns-in_default-pop_at : goal.returns-in_default-pop_at
 returns-in_default-pop_at g c =
-    let here = (goal.at.returns-in_default-pop_at g c).In_ok-read_on in
-    let now = drained g here in
-    let inv = c.sources.invariant in
-    let read = c.in_ok-read_on.ensures.read in
-    let took = c.in_default-pop_at.ensures in
-    record {
-      moved = rw took.out.0 now.moved;
-      fault = record { counts = grind arith; names = grind arith };
-      ready = rw took.out.0 (record { aligned = now.aligned; settled = drained_settled g here });
-      gathered = rw (← (c.with_start-keyed.ensures ∙ c.deref.ensures), took.out.0) (record {
-        above = inv.above;
-        least = inv.least;
-        later = rw took.out.0 at took.out.1;
-        each = now.each;
-        fewer = omega (arith, read.fewer, inv.fewer);
-        gathered = λ told low. (now.gathered told low).0;
-      });
-      most_lines = grind arith;
-    }
-
-pub returns-in_err-read_on-clause-moved : goal.returns-in_err-read_on-clause-moved
-returns-in_err-read_on-clause-moved g c =
-    moved_trans g.S.Source _ _ _ c.sources.invariant.gathers.moved
-    c.read_on.ensures.moved
-
-pub returns-in_err-read_on-clause-fault : goal.returns-in_err-read_on-clause-fault
-returns-in_err-read_on-clause-fault g c =
-    let gathers = c.sources.invariant.gathers in
-    let kept = all_kept g.S.Source c.args.sources.now c.args.self.now
-    c.sources.sources c.sources.self c.requires.ready.aligned.same gathers.as_many gathers.moved in
-    record { counts = grind arith; names = grind arith }
+    grind (arith, drained, drained_settled)
 
 pub returns-in_err-read_on-clause-gathered : goal.returns-in_err-read_on-clause-gathered
 returns-in_err-read_on-clause-gathered g c =
@@ -178,23 +116,16 @@ returns-in_err-read_on-clause-gathered g c =
 pub returns-in_err-push : goal.returns-in_err-push
 returns-in_err-push g c =
     let here = goal.at.returns-in_err-push g c in
-    let now = drained g here.In_ok-read_on in
-    let t = taken g here.After-push now in
-    let took = c.in-Some-pop_at.ensures in
-    let w = taken_line g here.After-push in
-    let f = c.in_ok-read_on.ensures.read.took.input in
-    let inputs_now = popped_inputs (popped_merge g here.After-push) {w = w} now.aligned refl
-    (rw (sym c.next-in-sources.view_is) at took.out) f in
+    let t = taken g here.After-push (drained g here.In_ok-read_on) in
     record {
       moved = t.gathers.moved;
-      fault = record { counts = grind arith; names = grind arith };
+      fault = grind arith;
       ready = grind arith;
       gathered = on_fault _ _ _ _ c.from_residual-in_err-push.ensures.1 (record {
         pair = member_pair c.with_start-keyed.result;
         above = c.sources.invariant.above;
         least = c.sources.invariant.least;
-        read = λ told low. rw inputs_now (idle_read _ g.S.Source _ _ _ _ f
-            (read_to g here.After-read_on told low));
+        read = read_to g here.After-read_on;
       });
       most_lines = grind arith;
     }

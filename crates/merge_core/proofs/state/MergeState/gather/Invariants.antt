@@ -1,7 +1,6 @@
-use Rattle.merge_core.proofs.Words.{◌+◌, ◌<◌, ◌∷◌, ◌≡◌, AllByRecursion, AreSettled, MergeInput, IsAbove, IsDue}
-use Rattle.merge_core.proofs.Words.{IsSettled}
-use Rattle.merge_core.proofs.Words.{NoneBelow, Option, Pair, boxed_lines, inputs, get_or, length, map, member_pair}
-use Rattle.merge_core.proofs.Words.{set, unread, waiting_pair}
+use Rattle.merge_core.proofs.Words.{◌+◌, ◌<◌, ◌∷◌, ◌≡◌, AllByRecursion, AreSettled, MergeInput, IsAbove, IsDueAt}
+use Rattle.merge_core.proofs.Words.{IsSettled, NoneBelow, Option, Pair, boxed_lines, inputs, length, map, member_pair}
+use Rattle.merge_core.proofs.Words.{set, to_come, waiting_pair}
 use Rattle.merge_core.proofs.MergeLemmas.{Gathers}
 use Rattle.merge_core.proofs.state.MergeState.gather.Given as goal
 
@@ -11,9 +10,7 @@ invariant-sources g l = record {
       l.fn.self (member_pair l.keyed) (l.i + 1) l.sources l.self (l.keyed ∷ boxed_lines l.rest.items);
   most_lines : l.self.most_lines ≡ l.fn.self.most_lines;
   inside : l.i < length l.sources;
-  due : (a : g.row.S.Denot) → (d : MergeInput)
-      → IsDue (g.R.Range.past l.range) (member_pair l.keyed) (g.S.Source.text (get_or l.sources l.i a))
-      (get_or (inputs l.self) l.i d);
+  due : IsDueAt (g.R.Range.past l.range) g.S.Source.text (member_pair l.keyed) l.i l.sources l.self;
   settled : (s : g.row.S.Denot) → (f : MergeInput) → IsSettled (g.R.Range.past l.range) (g.S.Source.text s) f
       → AreSettled (g.R.Range.past l.range) g.S.Source (set l.sources l.i s)
       (set (inputs l.self) l.i f);
@@ -21,9 +18,8 @@ invariant-sources g l = record {
   above : (b : Option Pair) → AllByRecursion (λ w. IsAbove b (waiting_pair w)) l.fn.self.queue
       → IsAbove b (member_pair l.keyed);
   least : NoneBelow (member_pair l.keyed) l.fn.self.queue;
-  fewer : unread g.S.Source.extent l.sources (inputs l.self) + length l.self.queue < unread g.S.Source.extent
-      l.fn.sources (inputs l.fn.self) + length l.fn.self.queue;
+  fewer : to_come g.S.Source.extent l.sources l.self < to_come g.S.Source.extent l.fn.sources l.fn.self;
 }
 
 abbrev pub decreases-sources : goal.decreases-sources
-decreases-sources g l = unread g.S.Source.extent l.sources (inputs l.self) + length l.self.queue
+decreases-sources g l = to_come g.S.Source.extent l.sources l.self

@@ -1,20 +1,18 @@
-use Rattle.merge_core.proofs.Words.{◌<◌, ◌≡◌, ap, append-nil, arith, digits, input_of, inputs, flat_map-append, get_or}
-use Rattle.merge_core.proofs.Words.{length, length-append, map, sum, take, take_all, take_more, take_more_set, zip}
-use Rattle.std.proofs.lemmas.Grind.{common_steps}
-use Rattle.std.proofs.lemmas.Slice.Zip.{all_zipped_more}
+use Rattle.merge_core.proofs.Words.{sum_by_push, sum-map, get_or-map, map-set, length-map, ◌<◌, ◌≡◌, ap, append-nil}
+use Rattle.merge_core.proofs.Words.{arith, digits, input_of, inputs, flat_map-append, get_or, length, length-append}
+use Rattle.merge_core.proofs.Words.{map, sum, take, take_more, take_more_set, zip, common_steps, all_zipped_more}
+use Rattle.merge_core.proofs.Many.{two_same, map_set_same, two_put}
+use Rattle.merge_core.proofs.Words.{take_all}
 use Rattle.merge_core.proofs.SourceLemmas.{once_none}
-use Rattle.merge_core.proofs.CountLemmas.{opened_none, left_here, left_after}
-use Rattle.merge_core.proofs.MergeLemmas.{raised_by_feed}
-use Rattle.merge_core.proofs.Many.{map_set_same, two_put}
+use Rattle.merge_core.proofs.CountLemmas.{left_here, left_after}
 use Rattle.std.proofs.lemmas.Simd.{map-map}
-use Rattle.merge_core.proofs.OpenLemmas.{added_inputs, fresh_of, ready_added, sum_turn, zip_none, zip_push}
+use Rattle.merge_core.proofs.OpenLemmas.{added_inputs, fresh_of, ready_added, zip_none, zip_push}
 use Rattle.merge_core.proofs.StateLemmas.{inputs_long}
 use Rattle.merge_core.proofs.state.MergeState.open_at.Goals as goal
 
 pub loop-i-init : goal.loop-i-init
 loop-i-init g c =
-    let once = once_none g.S.Source c.args.sources.now in
-    grind (arith, zip_none, opened_none)
+    grind (arith, once_none, two_same, zip_none)
 
 pub loop-i-preserved : goal.loop-i-preserved
 loop-i-preserved g c =
@@ -42,20 +40,22 @@ loop-i-preserved g c =
       count = grind (arith, length-append);
       ready = rw front ready;
       fresh = rw (now, zipped) (let is = fresh_of past (text s) f added.fresh in grind (arith, flat_map-append, append-nil));
-      probes = grind (arith, sum_turn (λ s. digits (extent s)) ss i s inside);
+      probes = grind (arith, take_more_set, sum-map, sum_by_push);
       left = grind (arith, left_after);
       spent = grind (arith, two_put);
-      once = λ k. grind (arith, two_put, inv.once k, ok.once);
-      opened = rw (now, zipped, take_more olds i a (omega arith))
-          (all_zipped_more _ (take i olds) (zip ss fs) (get_or olds i a) (s, f) inv.opened
+      once = grind (arith, two_put);
+      opened = rw (
+        added.cursors_are,
+        zip_push ss m.cursors.items i s added.cursor inv.count inside,
+        take_more olds i a (omega arith),
+      )
+          (all_zipped_more _ (take i olds) (zip ss m.cursors.items) (get_or olds i a) (s, added.cursor) inv.opened
           (rw same_here at added.cursor_is));
     }
 
 pub returns-in-Err-clause-sources : goal.returns-in-Err-clause-sources
-returns-in-Err-clause-sources g c = (
-  grind (arith, map_set_same),
-  record { counts = grind (arith, map_set_same, raised_by_feed); names = grind (arith, common_steps) },
-)
+returns-in-Err-clause-sources g c =
+    grind (arith, common_steps, map_set_same, length-map, map-set, get_or-map)
 
 pub returns-in-Err-clause-spent : goal.returns-in-Err-clause-spent
 returns-in-Err-clause-spent g c =
@@ -67,15 +67,10 @@ pub returns-in-Err-clause-once : goal.returns-in-Err-clause-once
 returns-in-Err-clause-once g c = λ k.
     let here = left_here c.args.sources.now c.loop-i.sources c.loop-i.i c.index-sources-i.result
     c.loop-i.invariant.left in
-    grind (arith, two_put, c.loop-i.invariant.once k)
+    grind (arith, two_put)
 
 pub returns : goal.returns
 returns g c =
     let inv = c.loop-i.invariant in
-    let e = g.S.Source.extent in
-    let whole = take_all c.loop-i.i c.loop-i.sources (omega (arith, ap length inv.extent, inv.count)) in
     let same = ap sum (simp map-map at (ap (map digits) inv.extent)) in
-    let olds : take c.loop-i.i c.args.sources.now ≡ c.args.sources.now = take_all c.loop-i.i c.args.sources.now
-    (omega (arith, ap length inv.extent, inv.count)) in
-    let opened = rw olds at inv.opened in
-    grind arith
+    grind (arith, take_all)

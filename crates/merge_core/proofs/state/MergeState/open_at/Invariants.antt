@@ -1,8 +1,6 @@
 use Rattle.merge_core.proofs.Words.{[], ◌≡◌, ◌≤◌, AllGaveOnce, IsLeast, Ready, all_done, drop, inputs, length, map}
-use Rattle.merge_core.proofs.Words.{take, zip}
+use Rattle.merge_core.proofs.Words.{take, zip, AreOpened, AllOpenedWithin, search_steps}
 use Rattle.cdxj_places.specs.PairViews.{pair_view}
-use Rattle.merge_core.specs.Openings.{AreOpened}
-use Rattle.merge_core.specs.Spending.{AllOpenedWithin, search_steps}
 use Rattle.merge_core.proofs.state.MergeState.open_at.Given as goal
 
 abbrev pub invariant-loop-i : goal.invariant-loop-i
@@ -18,6 +16,6 @@ invariant-loop-i g l = record {
   left : drop l.i l.sources ≡ drop l.i l.fn.sources;
   spent : AllOpenedWithin g.S.Source l.fn.sources l.sources;
   opened : AreOpened g.S.Source (pair_view l.start)
-      (take l.i l.fn.sources) (zip l.sources (inputs l.merge));
+      (take l.i l.fn.sources) (zip l.sources l.merge.cursors.items);
   once : IsLeast (pair_view l.start) → AllGaveOnce g.S.Source l.fn.sources l.sources;
 }

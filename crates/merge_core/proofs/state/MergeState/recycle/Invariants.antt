@@ -1,5 +1,4 @@
-use Rattle.merge_core.proofs.Words.{◌≡◌}
-use Rattle.std.proofs.Common.{vec_len}
+use Rattle.merge_core.proofs.Words.{◌≡◌, vec_len}
 use Rattle.merge_core.proofs.state.MergeState.recycle.Given as goal
 
 abbrev pub invariant-loop-line : goal.invariant-loop-line

@@ -1,4 +1,4 @@
-use Rattle.std.proofs.Common.{◌≡◌, ◌+◌, length, take, refl, length-take, arith}
+use Rattle.source_core.proofs.Words.{◌≡◌, ◌+◌, length, take, length-take, arith}
 use Rattle.source_core.proofs.HeldLines.{unescaped_line}
 use Rattle.source_core.proofs.cursor.Cursor.held_line.Goals as goal
 
@@ -9,7 +9,7 @@ returns-then-held-body-eq10-clause-line c =
     let line = unescaped_line held body c.unescaped_length-body.ensures c.if-body-held.true c.if-held-body-eq10.true in
     let size : length (take (body + 1) held) ≡ body + 1 = grind (arith, length-take) in
     let there : c.args.self.now.ahead ≡ held = grind arith in
-    rw (size, there) (refl, line.0)
+    grind arith
 
 pub returns-then-held-body-eq10-clause-unescaped : goal.returns-then-held-body-eq10-clause-unescaped
 returns-then-held-body-eq10-clause-unescaped c = grind (arith, unescaped_line)

@@ -1,10 +1,8 @@
-use Rattle.std.proofs.lemmas.Grind.{common_steps}
-use Rattle.std.proofs.Common.{rules, arith, ◌≡◌, ◌+◌, ◌-◌, ◌≤◌, ◌++◌, List, ℕ, Some, length, take, drop}
-use Rattle.std.proofs.Common.{length-append, length-take, length-drop}
-use Rattle.source_core.specs.LineParts.{PartOf, NoFeed}
-use Rattle.source_core.specs.Windows.{AreBytesAt, held_from}
+use Rattle.source_core.proofs.Words.{common_steps, rules, arith, ◌≡◌, ◌+◌, ◌-◌, ◌≤◌, ◌++◌, List, ℕ, Some, length, take}
+use Rattle.source_core.proofs.Words.{drop, length-append, length-take, length-drop, PartOf, NoFeed, AreBytesAt}
+use Rattle.source_core.proofs.Words.{held_from}
 use Rattle.source_core.proofs.Parts.{ended, goes_on, cut_short, given_more, given_out}
-use Rattle.source_core.proofs.LongestLines.{first_at_least, part_of_first}
+use Rattle.source_core.proofs.LongestLines.{first_at_least, no_feed_first}
 use Rattle.source_core.proofs.WindowLemmas.{held_behind}
 use Rattle.source_core.proofs.cursor.Cursor.next.Given.{Over}
 use Rattle.source_core.proofs.cursor.Cursor.next.Goals.{After-line_part-length, In_ok-extend_from_slice}
@@ -58,7 +56,7 @@ returns-then-length-len-clause-long g c = λ t e _.
     let told = c.loop-self.invariant.told t e in
     let first = first_at_least t (held g here) _ _ _ _ _ (bytes g here t e) (inside g here) told.1 told.2 _
     (part g here) in
-    grind (arith, length-append, length-take, inside)
+    grind (arith, length-append, length-take)
 
 pub returns-then-ends-clause-given : goal.returns-then-ends-clause-given
 returns-then-ends-clause-given g c = grind (arith, ended, inside, part, grown)
@@ -85,7 +83,6 @@ loop-self-preserved g c =
     let here = (goal.at.loop-self-preserved g c).After-line_part-length in
     let then = (goal.at.loop-self-preserved g c).In_ok-extend_from_slice in
     let long = longer g then in
-    let rest = left g here in
     let within = inside g here in
     let stands = behind g here in
     let told : (t : List ℕ) → g.S.Source.text c.args.source.now ≡ Some t → (length t ≡ c.size-size.result)
@@ -95,7 +92,7 @@ loop-self-preserved g c =
     let r = goes_on t (held g here) _ _ _ (bytes g here t e) within _ _ was.1 was.2
     (rw c.if-ends.false at (part g here))
     in (was.0, rw (grown g then) r.0, rw (grown g then) r.1) in
-    grind (arith, part_of_first)
+    grind (arith, no_feed_first)
 
 pub returns-clause-given : goal.returns-clause-given
 returns-clause-given g c = grind (arith, cut_short)

@@ -1,4 +1,4 @@
-use Rattle.std.proofs.Common.{arith, refl}
+use Rattle.source_core.proofs.Words.{arith, refl}
 use Rattle.source_core.proofs.WindowLemmas.{held_stands}
 use Rattle.source_core.proofs.cursor.Cursor.over.Goals as goal
 

@@ -1,5 +1,4 @@
-use Rattle.std.proofs.Common.{ap}
-use Rattle.source_core.specs.Cursors.{CursorState}
+use Rattle.source_core.proofs.Words.{ap, CursorState}
 use Rattle.source_core.proofs.HeldLines.{passed, passed_line}
 use Rattle.source_core.proofs.WindowLemmas.{held_behind}
 use Rattle.source_core.proofs.cursor.Cursor.pass_line.Goals as goal
