@@ -38,12 +38,6 @@ pub written-start : (old now : Option (List ℕ)) (form : FormValue) → Appends
     → Appends old now (begun form [])
 written-start old now form = grind (arith, append-nil)
 
--- after a capture more
-pub written-more : (old now new : Option (List ℕ)) (form : FormValue) (members : List Member) (m : Member)
-    → Appends old now (begun form members) → Appends now new (row_text form m)
-    → Appends old new (begun form (members ++ m ∷ []))
-written-more old now new form members m a b = grind (arith, common_steps)
-
 -- after the end
 pub written-whole : (old now new : Option (List ℕ)) (form : FormValue) (members : List Member) (key : Option (List ℕ))
     → Appends old now (begun form members) → Appends now new (page_end form key)
