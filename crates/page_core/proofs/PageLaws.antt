@@ -27,6 +27,12 @@ pub each_filter : {X : Type 0} (A : X → Type 0) (f : X → Bool) (xs : List X)
 each_filter A f [] h = tt
 each_filter A f (x ∷ xs) h = grind (arith, each_filter A f xs h.1)
 
+pub first_positive : (sizes : List ℕ) → AllPositive sizes → 0 < first_size sizes
+first_positive sizes h = grind arith
+
+pub later_positive : (sizes : List ℕ) → AllPositive sizes → AllPositive (later_sizes sizes)
+later_positive sizes h = grind arith
+
 module _ {X P : Type 0} (place : X → P) (R : P → P → Ordering) (o : IsTotalOrder R) where
   pub gt_back : (a b : P) → R a b ≡ Greater → R b a ≡ Less
   gt_back a b h = grind arith
@@ -109,12 +115,6 @@ module _ {X P : Type 0} (place : X → P) (R : P → P → Ordering) (same : P �
       × (filter (is_above place R (Some (place m))) c ≡ drop n c)
   split_there (suc (suc n)) (x ∷ xs) q r h = grind (arith, above_not_below, each_at, split_there (suc n) xs q r.1 h)
   split_there n c q r h = grind (arith, filter_all)
-
-  first_positive : (sizes : List ℕ) → AllPositive sizes → 0 < first_size sizes
-  first_positive sizes h = grind arith
-
-  later_positive : (sizes : List ℕ) → AllPositive sizes → AllPositive (later_sizes sizes)
-  later_positive sizes h = grind arith
 
   pub chain_law : (l : List X) (p : Option P) (sizes : List ℕ) (pages : List (Page X P)) → Rises place R l
       → AllPositive sizes

@@ -1,20 +1,16 @@
 -- A page in the pieces in which it is written.
-use Rattle.std.proofs.Common.{arith, ◌≡◌, ℕ, List, [], ◌∷◌, ◌++◌, Option, map, refl, sym, ap, append_assoc}
+use Rattle.std.proofs.Common.{arith, ◌≡◌, ℕ, List, [], ◌∷◌, ◌++◌, Option, refl, sym, append_assoc}
 use Rattle.std.proofs.Common.{append-nil, subst}
 use Rattle.std.proofs.lemmas.Grind.{common_steps}
 use Rattle.std.specs.Prelude.{flat_map}
 use Rattle.std.proofs.lemmas.List.Concat.{flat_map-append}
+use Rattle.std.proofs.lemmas.List.Folds.{flat_map-map}
 use Rattle.std.specs.Io.KnownBytes.{Appends}
 use Rattle.devices.specs.Device.{AppendsPrefix}
 use Rattle.cdxj_core.specs.Members.{Member}
 use Rattle.page_core.specs.Form.{FormValue, Text}
 use Rattle.page_core.specs.PageText.{page_text, page_start, row_text, page_end, begun, PageInPieces, BegunIsFront}
 use Rattle.devices.proofs.WritingLemmas.{prefix_longer, prefix_after}
-
-flat_map-map : {X Y A : Type 0} (f : Y → List A) (g : X → Y) (xs : List X) → flat_map f (map g xs) ≡ flat_map
-    (λ x. f (g x)) xs
-flat_map-map f g [] = refl
-flat_map-map f g (x ∷ xs) = ap (λ l. f (g x) ++ l) (flat_map-map f g xs)
 
 pub page_in_pieces : PageInPieces
 page_in_pieces (Text fields) members key = refl
@@ -41,12 +37,6 @@ begun_is_front form members later key = (
 pub written-start : (old now : Option (List ℕ)) (form : FormValue) → Appends old now (page_start form)
     → Appends old now (begun form [])
 written-start old now form = grind (arith, append-nil)
-
--- after a capture more
-pub written-more : (old now new : Option (List ℕ)) (form : FormValue) (members : List Member) (m : Member)
-    → Appends old now (begun form members) → Appends now new (row_text form m)
-    → Appends old new (begun form (members ++ m ∷ []))
-written-more old now new form members m a b = grind (arith, common_steps)
 
 -- after the end
 pub written-whole : (old now new : Option (List ℕ)) (form : FormValue) (members : List Member) (key : Option (List ℕ))

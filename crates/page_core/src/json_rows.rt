@@ -85,6 +85,7 @@ fn push_plain_values(
 }
 
 // A row of the values of the fields.
+#[tactic(auto, using(crate::proofs::JsonLemmas::values_plain, std::proofs::Common::append_assoc))]
 fn push_values(
     text: &mut Vec<u8>,
     alloc: Global,

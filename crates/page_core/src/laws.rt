@@ -9,11 +9,13 @@ ghost use Rattle.page_core.specs.PageText.{PageInPieces, BegunIsFront};
 ghost use Rattle.page_core.specs.Laws.{PagesJoin, IsOneChain, CollapseResumes};
 
 /// A page is its start, its captures and its end.
+#[tactic(auto, using(crate::proofs::PageLemmas::page_in_pieces))]
 pub fn page_is_its_pieces()
     ensures { PageInPieces }
 {}
 
 /// What is written after some captures is a prefix of each page that begins with them.
+#[tactic(auto, using(crate::proofs::PageLemmas::begun_is_front))]
 pub fn begun_page_is_front()
     ensures { BegunIsFront }
 {}

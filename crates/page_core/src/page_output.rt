@@ -15,6 +15,7 @@ use std::alloc::Global;
 use std::marker::Model;
 
 /// Writes a line as it stands in its index, with a line feed.
+#[tactic(auto, using(devices::proofs::WritingLemmas::prefix_longer, devices::proofs::WritingLemmas::writes_prefix))]
 fn put_line<O: Output>(line: &Line, out: &mut O) -> Result<(), WriteFault>
     ensures text { WritesText result (O.written out.old) (O.written out.new) (line_row line.now) }
     ensures failures { CountsWriteFault result (O.failures out.old) (O.failures out.new) }
@@ -56,6 +57,7 @@ impl<'f> PageOutput<'f> {
 
     /// Writes what precedes the first capture.
     /// Errors are `Memory`, and `Write` if the output failed. A prefix of it was then written.
+    #[tactic(auto, using(devices::proofs::WritingLemmas::writes_nothing))]
     pub fn put_start<O: Output>(&mut self, out: &mut O) -> Result<(), WriteFault>
         ensures form { self.new ≡ self.old }
         ensures text { WritesText result (O.written out.old) (O.written out.new)
@@ -70,6 +72,7 @@ impl<'f> PageOutput<'f> {
 
     /// Writes the row of a capture.
     /// Errors are `Memory`, and `Write` if the output failed. A prefix of it was then written.
+    #[tactic(auto, using(devices::proofs::WritingLemmas::writes_nothing))]
     pub fn put_row<O: Output>(&mut self, line: &Line, out: &mut O) -> Result<(), WriteFault>
         ensures form { self.new ≡ self.old }
         ensures text { WritesText result (O.written out.old) (O.written out.new)
@@ -90,6 +93,7 @@ impl<'f> PageOutput<'f> {
 
     /// Writes what follows the last capture, with the resume key if there is one.
     /// Errors are `Memory`, and `Write` if the output failed. A prefix of it was then written.
+    #[tactic(auto, using(devices::proofs::WritingLemmas::writes_nothing))]
     pub fn put_end<O: Output>(&mut self, key: Option<&str>, out: &mut O) -> Result<(), WriteFault>
         ensures form { self.new ≡ self.old }
         ensures text { WritesText result (O.written out.old) (O.written out.new)

@@ -83,9 +83,8 @@ merges_group before some after = grind (arith, lines_join, rising_left, place_cm
 -- with one line at each place, each is the first at its place
 first_at_place : (m : Member) (lines : List Member) → HaveOneLine lines → IsIn m lines
     → IsFirst member_place place_cmp m lines
-first_at_place m [] one i = i
-first_at_place m (n ∷ lines) one i =
-    grind (arith, one m n, first_at_place m lines (λ a b j k. one a b (inr j) (inr k)))
+first_at_place m (n ∷ lines) one i = grind (arith, first_at_place m lines)
+first_at_place m lines one i = grind arith
 
 -- what is in the one collection is in the other
 in_other : (these those : List (List Member)) → HaveOneLine (all_lines these) → HaveOneLine (all_lines those)

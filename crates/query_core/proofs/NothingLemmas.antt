@@ -1,5 +1,5 @@
 -- The query that selects nothing, and is refused as another.
-use Rattle.query_core.proofs.Words.{[], ◌++◌, ◌<◌, ◌∙◌, ◌∷◌, ◌≡◌, ◌≤◌, Err, List, Member, Ok, QUERY_LIMIT, QueryValue}
+use Rattle.query_core.proofs.Words.{[], ◌++◌, ◌<◌, ◌∷◌, ◌≡◌, ◌≤◌, Err, List, Member, Ok, QUERY_LIMIT, QueryValue}
 use Rattle.query_core.proofs.Words.{TargetValue, ℕ, ap, arith, codes, le-ltb, length, length-append, list_all-append}
 use Rattle.query_core.proofs.Words.{refl, selected, true}
 use Rattle.std.proofs.Common.{◌==◌}
@@ -9,9 +9,8 @@ use Rattle.std.proofs.lemmas.Str.{IsUtf8-from_ascii}
 use Rattle.cdxj_core.specs.declared.field.Field.TheVariants.{Urlkey}
 use Rattle.cdxj_core.specs.Fields.{field_named}
 use Rattle.query_text.specs.declared.filter.Test.TheVariants.{HasNot}
-use Rattle.query_text.specs.Filters.{FilterValue, filter_of, occurs}
-use Rattle.query_text.specs.ParameterNames.{parameter_named}
-use Rattle.query_text.specs.Parameters.{ParameterValues, no_values, pieces_of, with_filter, with_parameter, with_piece}
+use Rattle.query_text.specs.Filters.{FilterValue, occurs}
+use Rattle.query_text.specs.Parameters.{ParameterValues, no_values, pieces_of, with_filter, with_piece}
 use Rattle.query_text.specs.Parameters.{with_pieces}
 use Rattle.query_text.specs.Parts.{decoded}
 use Rattle.query_text.specs.Queries.{query_with, target_of, with_target}
@@ -23,12 +22,10 @@ use Rattle.query_core.specs.NothingAsked.{AppendedSelectsNothing, nothing}
 
 onto_more : (b : ℕ) (parts : List (List ℕ)) (tail : List ℕ) → 0 < length parts
     → onto_first b (parts ++ tail ∷ []) ≡ onto_first b parts ++ tail ∷ []
-onto_more b [] tail h = absurd (omega (arith, h))
-onto_more b (part ∷ parts) tail h = refl
+onto_more b parts tail h = grind arith
 
 onto_some : (b : ℕ) (parts : List (List ℕ)) → 0 < length (onto_first b parts)
-onto_some b [] = omega arith
-onto_some b (part ∷ parts) = omega arith
+onto_some b parts = grind arith
 
 split_some : (text : List ℕ) → 0 < length (slice_split (λ b. b == 38) text)
 split_some [] = omega arith
@@ -43,14 +40,12 @@ pieces_more : (text : List ℕ) → pieces_of (text ++ nothing) ≡ pieces_of te
 pieces_more text = split_more (codes "hasnot=urlkey:") refl text
 
 then_itself : {T : Type 0} (m : Read T) → and_then m (λ x. Ok x) ≡ m
-then_itself (Ok x) = refl
-then_itself (Err e) = refl
+then_itself T = grind arith
 
 -- a reading and two steps after it
 then_then : {T U : Type 0} (m : Read T) (f g : T → Read U) (h : U → Read U) → ((x : T) → f x ≡ and_then (g x) h)
     → and_then m f ≡ and_then (and_then m g) h
-then_then (Ok x) f g h same = same x
-then_then (Err e) f g h same = refl
+then_then T f g h same = grind arith
 
 with_more : (v : ParameterValues) (pieces : List (List ℕ)) (piece : List ℕ) → with_pieces v (pieces ++ piece ∷ [])
     ≡ and_then (with_pieces v pieces) (λ w. with_piece w piece)
@@ -72,8 +67,7 @@ value_is = plain_text_stands (codes "urlkey:") (IsUtf8-from_ascii (codes "urlkey
 
 condition_read : (w : ParameterValues) → with_piece w (codes "hasnot=urlkey:") ≡ Ok (with_filter w no_key)
 unfolding field_named
-condition_read w = ap (λ name. with_parameter (parameter_named name) w (codes "urlkey:")) name_is
-    ∙ ap (λ t. and_then (filter_of HasNot t) (λ f. Ok (with_filter w f))) value_is
+condition_read w = grind (arith, name_is, value_is)
 
 -- ---- the query
 
@@ -93,8 +87,7 @@ Follows one other = MatchResult one (λ q. (none : QueryValue) × (other ≡ Ok 
 
 of_target : (w : ParameterValues) (t : Read TargetValue) → Follows (and_then t (λ x. Ok (with_target w x)))
     (and_then t (λ x. Ok (with_target (with_filter w no_key) x)))
-of_target w (Ok x) = grind (arith, none_selected)
-of_target w (Err e) = refl
+of_target w t = grind (arith, none_selected)
 
 of_values : (m : Read ParameterValues) → Follows (and_then m query_with)
     (and_then (and_then m (λ w. with_piece w (codes "hasnot=urlkey:"))) query_with)

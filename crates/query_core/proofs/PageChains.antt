@@ -1,15 +1,19 @@
 -- The pages of a query, by how its captures are cut.
-use Rattle.query_core.proofs.Words.{[], ◌++◌, ◌∙◌, ◌∷◌, ◌≡◌, AllByRecursion, AllPositive, AreCut, Bool, HasReadKey}
-use Rattle.query_core.proofs.Words.{IsChain, IsFront, List, Member, None, Option, Page, PlaceValue, QueryValue, Rises}
-use Rattle.query_core.proofs.Words.{Some, WrotePages, WrotePagesInPart, ℕ, ap, arith, captures_over, chain_law}
-use Rattle.query_core.proofs.Words.{collapsed, drop, each_kept, end_place, filter, first_size, is_wanted, later_sizes}
-use Rattle.query_core.proofs.Words.{member_place, next_after, place_cmp, place_cmp_total, rises_collapsed, rises_filter}
-use Rattle.query_core.proofs.Words.{same_part, selected, sym, take, take_all, true, wrote_nothing}
-use Rattle.page_core.proofs.PageLaws.{split_there, collapse_resumes}
+use Rattle.query_core.proofs.Words.{[], ◌++◌, ◌∙◌, ◌∷◌, ◌≡◌, AllByRecursion, AllPositive, AllZip, Appends, AreCut, Bool}
+use Rattle.query_core.proofs.Words.{HasReadKey, IsChain, IsFront, IsIndex, LINE_LIMIT, List, Member, Option, Page}
+use Rattle.query_core.proofs.Words.{PlaceValue, QueryValue, Rises, Some, WrotePages, WrotePagesInPart, ℕ, ap, arith}
+use Rattle.query_core.proofs.Words.{captures_over, chain_law, collapsed, collection, drop, each_kept, first_positive}
+use Rattle.query_core.proofs.Words.{first_size, is_wanted, later_positive, later_sizes, length-take, member_place}
+use Rattle.query_core.proofs.Words.{next_after, place_cmp, place_cmp_total, rises_collapsed, rises_filter, same_part}
+use Rattle.query_core.proofs.Words.{selected, sym, take, take_all, true, wrote_nothing}
+use Rattle.page_core.proofs.PageLaws.{split_there, collapse_resumes, chain_one}
+use Rattle.merge_core.proofs.InputLemmas.{filter_passes}
 use Rattle.query_core.specs.QueryPages.{IsQueryChain}
-use Rattle.query_core.proofs.WriterLemmas.{captures_are, end_last, ends_at, next_place, next_short}
-use Rattle.query_core.proofs.PagesLemmas.{Ended, EndedInPart, Pages, cut_there, first_positive, later_positive}
+use Rattle.query_core.proofs.WriterLemmas.{captures_are, next_place, next_short, ends}
+use Rattle.query_core.proofs.PagesLemmas.{Ended, EndedInPart, Pages, cut_there}
 use Rattle.query_core.specs.WrittenPages.{KeysButLast, empty_page}
+use Rattle.cdxj_core.proofs.IndexLemmas.{one_index}
+use Rattle.query_core.specs.OneText.{AnswerIsOne, MergeIsOne, PagesAreOne}
 
 -- ---- captures that are cut
 
@@ -17,9 +21,10 @@ use Rattle.query_core.specs.WrittenPages.{KeysButLast, empty_page}
 keys_but_last : (sizes : List ℕ) (pages : Pages) (c : List Member) → AllPositive sizes → AreCut sizes pages c
     → AllByRecursion HasReadKey pages → KeysButLast pages
 keys_but_last sizes (page ∷ other ∷ rest) c z cut keyed =
-    let r = ends_at (first_size sizes) c (first_positive sizes z) (omega (arith, cut.1)) in
-    let next : page.next ≡ Some (member_place r.last) = grind (arith, r.taken, end_last) in (
-      record { before = r.before; last = r.last; members = grind (arith, r.taken); next = next; read = grind arith },
+    let some = first_positive sizes z in
+    let r = ends (take (first_size sizes) c) (omega (arith, length-take (first_size sizes) c, cut.1)) in
+    let next : page.next ≡ Some (member_place r.1) = grind arith in (
+      record { before = r.0; last = r.1; members = grind arith; next = next; read = grind arith },
       keys_but_last (later_sizes sizes) (other ∷ rest) _ (later_positive sizes z) cut.2 keyed.1,
     )
 keys_but_last sizes pages c z cut keyed = grind arith
@@ -31,13 +36,9 @@ one_empty sizes pages cut = grind arith
 
 -- ---- the captures of a query are wanted
 
-filter_holds : {X : Type 0} (f : X → Bool) (xs : List X) → AllByRecursion (λ x. f x ≡ true) (filter f xs)
-filter_holds f [] = tt
-filter_holds f (x ∷ xs) = grind (arith, filter_holds f xs)
-
 pub captures_wanted : (from : Option PlaceValue) (q : QueryValue) (lines : List Member)
     → AllByRecursion (λ m. is_wanted q from m ≡ true) (captures_over q from lines)
-captures_wanted from q lines = grind (arith, each_kept, place_cmp_total, filter_holds)
+captures_wanted from q lines = grind (arith, each_kept, place_cmp_total, filter_passes)
 
 module _ (same : PlaceValue → PlaceValue → Bool) (l : List Member) (rises : Rises member_place place_cmp l) where
   abbrev shown : Option PlaceValue → List Member
@@ -48,17 +49,17 @@ module _ (same : PlaceValue → PlaceValue → Bool) (l : List Member) (rises : 
       → AreCut sizes pages (shown p) → IsChain member_place place_cmp same l p sizes pages
   cut_chain p sizes (page ∷ other ∷ rest) z h =
       let n = first_size sizes in
-      let r = ends_at n (shown p) (first_positive sizes z) (omega (arith, h.1)) in
-      let place = member_place r.last in
-      let next : next_after member_place n (shown p) ≡ Some place = next_place n (shown p) h.1 ∙ r.place in
-      let last : end_place member_place None (take n (shown p)) ≡ Some place = grind (arith, r.taken, end_last) in
+      let some = first_positive sizes z in
+      let r = ends (take n (shown p)) (omega (arith, length-take n (shown p), h.1)) in
+      let place = member_place r.1 in
+      let next : next_after member_place n (shown p) ≡ Some place = next_place n (shown p) h.1 ∙ r.3 in
       let s = split_there member_place place_cmp same place_cmp_total n (shown p) place
       (rises_collapsed member_place place_cmp same place_cmp_total l p rises) next in
       let over : shown (Some place) ≡ drop n (shown p) =
       ap (λ (q : PlaceValue). shown (Some q)) (sym s.2)
       ∙ collapse_resumes member_place place_cmp same place_cmp_total l p s.0 rises s.1 ∙ s.4 in
       let chain = cut_chain (Some place) (later_sizes sizes) (other ∷ rest) (later_positive sizes z) (rw over h.2) in
-      (grind arith, rw (ap (λ (g : Page Member PlaceValue). g.next) h.0, last) chain)
+      (grind arith, rw (ap (λ (g : Page Member PlaceValue). g.next) h.0, r.3) chain)
   cut_chain p sizes pages z h = grind (arith, take_all, next_short)
 
 module _ (q : QueryValue) (sizes : List ℕ) (positive : AllPositive sizes) (lines : List Member)
@@ -103,3 +104,32 @@ module _ (q : QueryValue) (sizes : List ℕ) (positive : AllPositive sizes) (lin
 
       pub wrote_most : EndedInPart q sizes captures old new → WrotePagesInPart q lines sizes old new
       wrote_most found = grind (arith, chain_of)
+
+-- ---- over known indexes and a known output, a call that succeeds writes one text
+
+-- texts are indexes with one list of members each
+one_indexes : (texts : List (List ℕ)) (these those : List (List Member)) → AllZip (IsIndex LINE_LIMIT) texts these
+    → AllZip (IsIndex LINE_LIMIT) texts those → these ≡ those
+one_indexes (t ∷ ts) (i ∷ is) (j ∷ js) h k = grind (arith, one_index, one_indexes ts)
+one_indexes texts these those h k = grind arith
+
+one_written : (old text : List ℕ) (new new' : Option (List ℕ)) → Appends (Some old) new text
+    → Appends (Some old) new' text → new ≡ new'
+one_written old text new new' a b = grind arith
+
+pub answer_one : AnswerIsOne
+answer_one texts these those q old new new' report report' are a b = grind (arith, one_indexes, one_written)
+
+-- pages of the same lines
+pub wrote_one : (q : QueryValue) (lines : List Member) (sizes old : List ℕ) (new new' : Option (List ℕ))
+    (number number' : ℕ) → WrotePages q lines sizes (Some old) new number
+    → WrotePages q lines sizes (Some old) new' number' → (new ≡ new') × (number ≡ number')
+wrote_one q lines sizes old new new' number number' a b = grind (arith, chain_one, place_cmp_total, one_written)
+
+pub pages_one : PagesAreOne
+pages_one texts these those q sizes old new new' number number' are a b =
+    let same = one_indexes texts these those are.0 are.1 in
+    wrote_one q (collection these) sizes old new new' number number' a (rw same b)
+
+pub merge_one : MergeIsOne
+merge_one texts old new new' number number' a b = grind (arith, one_indexes, one_written)

@@ -1,17 +1,24 @@
 -- A page in cdxj is an index.
-use Rattle.query_core.proofs.Words.{[], ◌∷◌, ◌≡◌, AllByRecursion, AllZip, IsIndex, List, Member, NeverFalls, None}
-use Rattle.query_core.proofs.Words.{Option, Ordering, QueryValue, Rises, Some, ℕ, all_lines, answer_text, append-nil}
-use Rattle.query_core.proofs.Words.{append_assoc, arith, at_most, collection, each_filter, each_join, each_kept}
-use Rattle.query_core.proofs.Words.{each_rising, each_weaker, false, has_no_feed, is_gt, is_utf8-from_IsUtf8}
-use Rattle.query_core.proofs.Words.{line_entry, line_row, lines, lines_front, lines_text, map, member_pair}
-use Rattle.query_core.proofs.Words.{member_place, pair_cmp, place_cmp, place_cmp_total, query_page, refl}
-use Rattle.query_core.proofs.Words.{rises_collapsed, rises_filter, rises_rising, same_part, selected, shown_key, suc}
-use Rattle.query_core.proofs.Words.{take, true}
+use Rattle.query_core.proofs.Words.{[], ◌++◌, ◌<◌, ◌∙◌, ◌∷◌, ◌≡◌, AllByRecursion, AllZip, IsAnswerFaultOf, IsIndex}
+use Rattle.query_core.proofs.Words.{Known, LINE_LIMIT, List, Member, NeverFalls, None, Option, Ordering, QueryValue}
+use Rattle.query_core.proofs.Words.{Rises, Some, ℕ, all_lines, answer_text, append-nil, append_assoc, arith, at_most}
+use Rattle.query_core.proofs.Words.{collection, each_filter, each_join, each_kept, each_rising, each_weaker, false}
+use Rattle.query_core.proofs.Words.{get_or, has_no_feed, is_gt, is_utf8-from_IsUtf8, length, line_entry, line_row}
+use Rattle.query_core.proofs.Words.{lines, lines_front, lines_text, map, member_pair, member_place, pair_cmp, place_cmp}
+use Rattle.query_core.proofs.Words.{place_cmp_total, query_page, refl, rises_collapsed, rises_filter, rises_rising}
+use Rattle.query_core.proofs.Words.{same_part, selected, shown_key, suc, take, true}
 use Rattle.query_text.specs.declared.output.OutputFormat.TheVariants.{Cdxj}
 use Rattle.merge_core.proofs.Many.{each_take}
 use Rattle.cdxj_core.specs.Lines.{line_in}
 use Rattle.cdxj_core.proofs.EntryRead.{body_of-feed}
 use Rattle.cdxj_core.proofs.MemberLemmas.{entered}
+use Rattle.query_core.specs.QueryLaws.{NoLineIsAtFault}
+use Rattle.merge_core.specs.declared.fault.MergeFault.{MergeFault}
+use Rattle.query_core.specs.Conversions.{fault_of_merge}
+use Rattle.query_core.specs.declared.fault.AnswerFault.TheVariants as fault
+use Rattle.merge_core.specs.declared.fault.FeedFault.TheVariants as feed
+use Rattle.merge_core.specs.declared.fault.MergeFault.TheVariants as merge
+use Rattle.merge_core.specs.LineFaults as lines
 
 -- the line of a member, with a line feed, says the member
 abbrev pub IsRow : ℕ → Member → Type 0
@@ -33,8 +40,7 @@ rows_of limit [] (m ∷ ms) e = cc
 all_rows : (limit : ℕ) (texts : List (List ℕ)) (indexes : List (List Member)) → AllZip (IsIndex limit) texts indexes
     → AllByRecursion (IsRow limit) (all_lines indexes)
 all_rows limit (t ∷ texts) (i ∷ indexes) h =
-    each_join (IsRow limit) i (all_lines indexes) (rows_of limit (lines t) i h.0.entries)
-    (all_rows limit texts indexes h.1)
+    grind (arith, each_join, rows_of, all_rows limit texts indexes h.1)
 all_rows limit texts indexes h = grind arith
 
 lines_rows : (limit : ℕ) (ms : List Member) → AllByRecursion (IsRow limit) ms → lines (lines_text ms) ≡ map line_row ms
@@ -61,8 +67,7 @@ rows_index limit ms rows rise = grind (arith, lines_rows, entries_rows, falls_ne
 
 pub collection_rows : (limit : ℕ) (texts : List (List ℕ)) (indexes : List (List Member))
     → AllZip (IsIndex limit) texts indexes → AllByRecursion (IsRow limit) (collection indexes)
-collection_rows limit texts indexes h =
-    each_rising member_place place_cmp place_cmp_total (IsRow limit) (all_lines indexes) (all_rows limit texts indexes h)
+collection_rows limit texts indexes h = grind (arith, each_rising, place_cmp_total, all_rows)
 
 pub merged_index : (limit : ℕ) (texts : List (List ℕ)) (indexes : List (List Member))
     → AllZip (IsIndex limit) texts indexes → IsIndex limit (lines_text (collection indexes)) (collection indexes)
@@ -98,3 +103,55 @@ cdxj_page_index limit texts indexes q h is none =
     let rise = rises_at_most q.limit _ (rises_collapsed member_place place_cmp (same_part q.collapse) place_cmp_total _
     q.resume selects) in
     rw (cdxj_text q (collection indexes) is none) (rows_index limit page rows rise)
+
+-- ---- of an index no line is at fault
+
+module _ (limit : ℕ) where
+  no_bad_line : (before : List (List ℕ)) (line : List ℕ) (after : List (List ℕ)) (members : List Member)
+      → map (line_entry limit) (before ++ line ∷ after) ≡ map Some members → line_entry limit line ≡ None → ⊥
+  no_bad_line (b ∷ before) line after (m ∷ members) e none = no_bad_line before line after members (cc) none
+  no_bad_line [] line after (m ∷ members) e none = cc
+  no_bad_line before line after members e none = cc
+
+  in_order : (before : List (List ℕ)) (previous line : List ℕ) (after : List (List ℕ)) (members : List Member)
+      (m n : Member) → map (line_entry limit) (before ++ previous ∷ line ∷ after) ≡ map Some members
+      → NeverFalls member_pair pair_cmp members → line_entry limit previous ≡ Some m → line_entry limit line ≡ Some n
+      → is_gt (pair_cmp (member_pair m) (member_pair n)) ≡ true → ⊥
+  in_order (b ∷ before) previous line after (k ∷ members) m n e ordered is next falls =
+      in_order before previous line after members m n (cc) ordered.1 is next falls
+  in_order before previous line after (k ∷ l ∷ members) m n e ordered is next falls = grind arith
+  in_order before previous line after members m n e ordered is next falls = grind arith
+
+  -- the source with this number tells the bytes of an index
+  record ToldIndex (told : Option (List ℕ)) : Type 0 where
+    text : List ℕ
+    members : List Member
+    told_is : told ≡ Some text
+    index : IsIndex limit text members
+
+  index_at : (tolds : List (Option (List ℕ))) (texts : List (List ℕ)) (indexes : List (List Member)) → Known tolds texts
+      → AllZip (IsIndex limit) texts indexes → (i : ℕ) → i < length tolds → ToldIndex (get_or tolds i None)
+  index_at [] texts indexes known are i inside = grind arith
+  index_at (told ∷ tolds) texts indexes known are i inside = grind (arith, index_at tolds)
+
+pub no_line_at_fault : NoLineIsAtFault
+no_line_at_fault told (fault.BadLine i offset) named texts indexes known are =
+    let at = index_at LINE_LIMIT told texts indexes known are i named.0 in
+    let bad = named.1 at.text at.told_is in
+    no_bad_line LINE_LIMIT bad.before bad.line bad.begins.after at.members (rw bad.begins.lines_are at at.index.entries)
+    bad.bad
+no_line_at_fault told (fault.OutOfOrder i offset) named texts indexes known are =
+    let at = index_at LINE_LIMIT told texts indexes known are i named.0 in
+    let out = named.1 at.text at.told_is in
+    let cut = out.begins.lines_are ∙ append_assoc out.before (out.previous ∷ []) (out.line ∷ out.begins.after) in
+    in_order LINE_LIMIT out.before out.previous out.line out.begins.after at.members out.earlier out.later
+    (rw cut at at.index.entries) at.index.ordered out.earlier_is out.later_is out.falls
+no_line_at_fault told other named texts indexes known are = tt
+
+-- ---- the faults of merges
+
+pub merge_line : (texts : List (Option (List ℕ))) (e : MergeFault) → lines.IsMergeFaultOf texts e
+    → IsAnswerFaultOf texts (fault_of_merge e)
+merge_line texts (merge.Feed i feed.Memory) h = tt
+merge_line texts (merge.Feed i feed.Read) h = tt
+merge_line texts other h = h

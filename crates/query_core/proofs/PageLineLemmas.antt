@@ -30,8 +30,7 @@ KeyIsAbove None = ⊤
 KeyIsAbove (Some key) = AllAbove key × (1 < length key)
 
 shown_is_above : (shows : Bool) (next : Option PlaceValue) → KeyIsAbove (shown_key shows next)
-shown_is_above true (Some place) = (key_above place, key_long place)
-shown_is_above shows next = grind arith
+shown_is_above shows next = grind (arith, key_above, key_long)
 
 abbrev key_rows : Option (List ℕ) → List (List ℕ)
 key_rows None = []
@@ -285,8 +284,7 @@ module _ (q : QueryValue) (found : List Member) where
   have_entries h = grind (arith, each_at_most, each_kept, place_cmp_total, each_filter)
 
 pub one_field_has_marks : OneFieldHasMarks
-one_field_has_marks q found entries i =
-    mark_of q.fields (members q found) (key q found) (have_entries q found entries) (above q found) q.output i
+one_field_has_marks q found entries i = grind (arith, mark_of, have_entries, above)
 
 pub two_fields_begin_as_refusals : TwoFieldsBeginAsRefusals
 two_fields_begin_as_refusals q found name rest entries none e = grind (arith, refusal_of, have_entries, above)
@@ -300,8 +298,7 @@ pub empty_line_is_before_key : EmptyLineIsBeforeKey
 empty_line_is_before_key q found before after entries other some e = grind (arith, empty_of, have_entries, above)
 
 pub one_field_has_no_space : OneFieldHasNoSpace
-one_field_has_no_space q found entries is one =
-    rw is (spaceless q.fields (members q found) (key q found) (have_entries q found entries) (above q found) (omega arith))
+one_field_has_no_space q found entries is one = grind (arith, spaceless, have_entries, above)
 
 pub json_lines_begin_with_brackets : JsonLinesBeginWithBrackets
 json_lines_begin_with_brackets q found is = rw is (json_lines q.fields (members q found) (key q found))

@@ -1,6 +1,6 @@
 -- The lines of a page, in each output.
 use Rattle.query_core.proofs.Words.{[], ◌++◌, ◌+◌, ◌-◌, ◌<◌, ◌∷◌, ◌≡◌, All, All-head, All-tail, AllByRecursion}
-use Rattle.query_core.proofs.Words.{BeginsWithBracket, Bool, Field, HasEntry, LINE_LIMIT, LineValue, List, Member, None}
+use Rattle.query_core.proofs.Words.{BeginsWithBracket, Bool, Field, HasEntry, LINE_LIMIT, LineValue, List, Member}
 use Rattle.query_core.proofs.Words.{Option, PlaceValue, Some, ℕ, append_assoc, arith, codes, cond, each_join, eqb-true}
 use Rattle.query_core.proofs.Words.{escaped, false, flat_map, has_no_feed, is_key, is_stamp, length, length-append}
 use Rattle.query_core.proofs.Words.{lines, lines_front, list_all-append, map, nat_tests, option_map, refl, resume_text}
@@ -15,11 +15,9 @@ use Rattle.page_core.specs.PageText.{json_page, key_rows, later_row}
 use Rattle.cdxj_core.specs.Fields.{field_name}
 use Rattle.std.proofs.Common.{decimal}
 use Rattle.std.specs.Fmt.{digits, digits_onto}
-use Rattle.serde_json.specs.Data.{unsigned, negative, float, Data, null, boolean, number, string, array, object}
-use Rattle.serde_json.specs.Find.{get}
+use Rattle.serde_json.specs.Data.{Data}
 use Rattle.serde_json.specs.Read.{read}
-use Rattle.cdxj_objects.specs.MemberValues.{filename_value, offset_value, value_text}
-use Rattle.cdxj_objects.specs.ObjectMembers.{names}
+use Rattle.cdxj_objects.specs.MemberValues.{value_text}
 use Rattle.cdxj_core.specs.Lines.{field_value, line_from, object_values}
 use Rattle.cdxj_core.proofs.MemberLemmas.{entry_valued}
 
@@ -38,30 +36,17 @@ unfolding digits
 decimal_some n = digits_some 63 10 false n []
 
 text_some : (value : Option Data) → 0 < length (value_text value)
-text_some None = omega arith
-text_some (Some null) = omega arith
-text_some (Some (boolean b)) = omega arith
-text_some (Some (number (unsigned n))) = decimal_some n
-text_some (Some (number (negative z))) = omega arith
-text_some (Some (number (float x))) = omega arith
-text_some (Some (string s)) = grind arith
-text_some (Some (array ds)) = omega arith
-text_some (Some (object ms)) = omega arith
+text_some value = grind (arith, decimal_some)
 
 made : (filename : Option (List ℕ)) (offset : Option ℕ) (make : List ℕ → ℕ → LineValue) (v : LineValue)
     → option_and_then (λ f. option_map (make f) offset) filename ≡ Some v
     → (f : List ℕ) × (o : ℕ) × (v ≡ make f o)
-made (Some f) (Some o) make v e = (f, o, grind arith)
-made (Some f) None make v e = absurd (grind arith)
-made None offset make v e = absurd (grind arith)
+made filename offset make v e = grind arith
 
 object_some : (read_as : Option Data) (key stamp : List ℕ) (v : LineValue)
     → option_and_then (line_from key stamp) read_as ≡ Some v
     → (d : Data) × (f : List ℕ) × (o : ℕ) × (v ≡ object_values key stamp d f o)
-object_some (Some d) key stamp v e =
-    let m = made (filename_value (get names.filename d)) (offset_value (get names.offset d)) (object_values key stamp d) v e
-    in (d, m.0, m.1, m.2)
-object_some None key stamp v e = absurd (grind arith)
+object_some read_as key stamp v e = grind (arith, made)
 
 -- the values of an object
 of_field : (v : LineValue) (key stamp : List ℕ) (d : Data) (filename : List ℕ) (offset : ℕ) → is_key v.key ≡ true
@@ -152,13 +137,7 @@ later_spaces m [] = refl
 later_spaces m (f ∷ fields) = grind (arith, spaces_join, above_spaces, escaped_above, later_spaces m fields)
 
 pub text_line : (fields : List Field) (m : Member) → IsLine (text_row fields m)
-text_line [] m = ([], refl, refl)
-text_line (f ∷ fields) m = (
-  _,
-  refl,
-  feedless (escaped (row_value m f)) (later m fields) (escaped_feedless (row_value m f))
-      (each_feedless (λ f. codes " " ++ escaped (row_value m f)) (λ f. escaped_feedless (row_value m f)) fields),
-)
+text_line fields m = grind (arith, feedless, escaped_feedless, each_feedless)
 
 pub text_spaces : (fields : List Field) (m : Member) → spaces (text_row fields m) ≡ length fields - 1
 unfolding spaces
@@ -195,14 +174,10 @@ inside [] = codes "]"
 inside (t ∷ texts) = (quoted t ++ flat_map (λ t. codes "," ++ quoted t) texts) ++ codes "]"
 
 row_is : (texts : List (List ℕ)) → json_row texts ≡ 91 ∷ inside texts
-row_is [] = refl
-row_is (t ∷ texts) = refl
+row_is texts = grind arith
 
 inside_feedless : (texts : List (List ℕ)) → has_no_feed (inside texts) ≡ true
-inside_feedless [] = refl
-inside_feedless (t ∷ texts) =
-    let later = each_feedless (λ t. codes "," ++ quoted t) quoted_feedless texts in
-    grind (arith, feedless, quoted_feedless)
+inside_feedless texts = grind (arith, each_feedless, quoted_feedless, feedless)
 
 -- a row that stands after `front` on its line, and the rows after it
 bracket_lines : (front : List ℕ) (others : List (List (List ℕ))) → has_no_feed front ≡ true

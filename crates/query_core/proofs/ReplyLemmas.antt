@@ -1,21 +1,23 @@
 -- The replies to the lines of an input, so far and at its end.
-use Rattle.query_core.proofs.Words.{[], ⊤, ◌++◌, ◌+◌, ◌-◌, ◌<◌, ◌^◌, ◌∙◌, ◌∷◌, ◌≡◌, ◌⊎◌, AllZip, AnswerFault, Appends}
-use Rattle.query_core.proofs.Words.{Appends-join, Appends-none, AppendsPrefix, AreLinesOf, Bool, CountsTaken, Err}
-use Rattle.query_core.proofs.Words.{IsAnswerFaultOf, IsMarkedReply, IsOneReply, List, Member, None, Ok, Option}
-use Rattle.query_core.proofs.Words.{QueryFault, QueryValue, Some, TakesLine, ℕ, answer_text, ap, append-nil}
-use Rattle.query_core.proofs.Words.{append_assoc, arith, cases_lt, codes, cut_lines, err_from_is_err_and, false}
-use Rattle.query_core.proofs.Words.{false_from_ne_true, flat_map, flat_map-append, inl, inr, is_utf8-from_IsUtf8}
-use Rattle.query_core.proofs.Words.{le-ltb, length, length-append, length-take, lt-ltb, map, map-append, nat_lt}
-use Rattle.query_core.proofs.Words.{prefix_after, prefix_longer, prepend_known, query_page, refl, subst, sym, take}
-use Rattle.query_core.proofs.Words.{take_all, true, without_carriage_return}
+use Rattle.query_core.proofs.Words.{[], ⊤, ◌++◌, ◌+◌, ◌-◌, ◌<◌, ◌^◌, ◌∙◌, ◌∷◌, ◌≡◌, ◌≤◌, ◌⊎◌, AllGaveWithin, AllZip}
+use Rattle.query_core.proofs.Words.{AnswerFault, Appends, Appends-join, Appends-none, AppendsPrefix, AreLinesOf, Bool}
+use Rattle.query_core.proofs.Words.{CountsTaken, Err, Ghosts, IsAnswerFaultOf, IsIndex, IsMarkedReply, IsOneReply}
+use Rattle.query_core.proofs.Words.{Known, LINE_LIMIT, List, Member, None, Ok, Option, QueryFault, QueryValue, Some}
+use Rattle.query_core.proofs.Words.{TakesLine, ℕ, answer_text, ap, append-nil, append_assoc, arith, asked_most}
+use Rattle.query_core.proofs.Words.{cases_lt, codes, collection, cut_lines, err_from_is_err_and, false}
+use Rattle.query_core.proofs.Words.{false_from_ne_true, flat_map, flat_map-append, grows_not, grows_part, in_reach, inl}
+use Rattle.query_core.proofs.Words.{is_utf8, is_utf8-from_IsUtf8, le-ltb, length, length-append, length-take, line_most}
+use Rattle.query_core.proofs.Words.{lt-ltb, map, map-append, nat_lt, prefix_after, prefix_longer, prepend_known}
+use Rattle.query_core.proofs.Words.{query_of, query_page, refl, reply_of, subst, sum, sym, take, take_all, true}
+use Rattle.query_core.proofs.Words.{without_carriage_return}
 use Rattle.std.proofs.Common.{Result}
-use Rattle.std.specs.Prelude.{IsErrAnd}
+use Rattle.std.specs.Prelude.{IsErrAnd, Result}
 use Rattle.std.proofs.lemmas.List.Elements.{AllZip-push}
 use Rattle.devices.specs.LineReading.{IsInputLineFault, IsTooLong, StopsInLine}
 use Rattle.devices.specs.declared.input_lines.InputLineFault.{InputLineFault}
 use Rattle.query_core.specs.Conversions.{fault_of_line}
 use Rattle.query_core.specs.Replies.{marked_reply}
-use Rattle.query_core.specs.ReplyReach.{AreFirstLines}
+use Rattle.query_core.specs.ReplyReach.{AreFirstLines, AllGaveAtMost, Amount, GaveForLines, lines_most, query_most}
 use Rattle.query_core.specs.Conversations.{AreLeft, Replied, RepliedInPart, RepliedToAll, RepliedToFirst}
 use Rattle.query_core.specs.Conversations.{RepliedToTaken, HoldsOfReplies, IsLineReply, WritesSome}
 use Rattle.query_core.proofs.WriterLemmas.{whole_prefix}
@@ -24,6 +26,7 @@ use Rattle.devices.specs.Writing.{WritesText}
 use Rattle.query_core.specs.AnyReplies.{IsPageReply, IsQueryReply, fault_text}
 use Rattle.devices.specs.declared.input_lines.InputLineFault.TheVariants as input
 use Rattle.query_core.specs.declared.fault.AnswerFault.TheVariants as fault
+use Rattle.std.proofs.lemmas.List.Sums.{sum_by_push}
 
 -- ---- a line
 
@@ -103,8 +106,7 @@ AreTaken (Some input) (Some rest) done =
     (seen : List (List ℕ)) × (cut_lines input ≡ seen ++ cut_lines rest) × (done ≡ map without_carriage_return seen)
 
 pub taken_none : (left : Option (List ℕ)) (buffer : List ℕ) → buffer ≡ [] → AreTaken left (prepend_known buffer left) []
-taken_none None buffer e = tt
-taken_none (Some input) buffer e = ([], ap (λ b. cut_lines (b ++ input)) (sym e), refl)
+taken_none left buffer e = grind arith
 
 pub taken_more : (limit : ℕ) (input now after : Option (List ℕ)) (done : List (List ℕ)) (line : List ℕ)
     → AreTaken input now done → TakesLine (limit + 2) true now after line
@@ -128,18 +130,14 @@ taken_first (Some input) (Some now) done (seen, cut, is) =
 -- what is left of an input that isn't too long
 left_behind : (now : List ℕ) (left : Option (List ℕ)) (whole taken : ℕ) → 0 + whole ≡ taken + length now
     → StopsInLine (Some now) left ⊎ IsTooLong (Some now) taken → whole < 2 ^ 63 - 1 → AreLeft left (cut_lines now)
-left_behind now None whole taken k stopped short = absurd (grind arith)
-left_behind now (Some left) whole taken k stopped short = grind arith
+left_behind now left whole taken k stopped short = grind arith
 
 -- the input failed in a line, or is too long
 pub input_stops : {A : Type 0} (r : Result A AnswerFault) (e : InputLineFault) (now left : Option (List ℕ))
     (old new taken : ℕ) → IsErrAnd r (λ f. f ≡ fault_of_line e) → r ≡ Err fault.Input
     → (◌≡◌ {A = Result Bool InputLineFault} (Err e) (Err input.Read) → StopsInLine now left)
     → IsInputLineFault e old new now taken → StopsInLine now left ⊎ IsTooLong now taken
-input_stops r input.Memory now left old new taken from is stops counts =
-    let f = err_from_is_err_and r from in absurd (grind arith)
-input_stops r input.Read now left old new taken from is stops counts = inl (stops refl)
-input_stops r input.TooLong now left old new taken from is stops counts = inr counts.1
+input_stops r x1 now left old new taken from is stops counts = grind (arith, err_from_is_err_and)
 
 -- ---- their replies
 
@@ -167,8 +165,7 @@ module _ (limit : ℕ) (IsReply : List ℕ → List ℕ → Type 0) where
   first_replied : (input : Option (List ℕ)) (done texts : List (List ℕ)) (old new : Option (List ℕ))
       → AreFirstLines input done → AllZip (IsMarkedReply limit IsReply) done texts
       → AppendsPrefix old new (joined texts) → RepliedToFirst limit IsReply input old new
-  first_replied None done texts old new first each p = (done, texts, each, p)
-  first_replied (Some input) done texts old new first each p = (done, first.0, texts, first.1, each, p)
+  first_replied input done texts old new first each p = grind arith
 
   pub replied_front : (input now : Option (List ℕ)) (count : ℕ) (old new : Option (List ℕ))
       → RepliedSoFar input now count old new → RepliedToFirst limit IsReply input old new
@@ -183,21 +180,14 @@ module _ (limit : ℕ) (IsReply : List ℕ → List ℕ → Type 0) where
       (line : List ℕ) (found : Bool) → RepliedSoFar input now count old new
       → TakesLine (limit + 2) found now after line → found ≡ false → CountsTaken input now 0 before
       → CountsTaken now after before taken → taken < 2 ^ 63 - 1 → RepliedToAll limit IsReply input count old new
-  line_none None now after count before taken old new line found s t none n k small =
-      (s.done, s.texts, s.counted, s.each, s.written)
-  line_none (Some input) None after count before taken old new line found s t none n k small = absurd s.taken
-  line_none (Some input) (Some now) None count before taken old new line found s t none n k small = absurd k
-  line_none (Some input) (Some now) (Some rest) count before taken old new line found s t none n k small =
+  line_none input now after count before taken old new line found s t none n k small =
       grind (arith, append-nil)
 
   -- the input failed in a line, or is too long
   pub replied_taken : (input now left : Option (List ℕ)) (count taken : ℕ) (old new : Option (List ℕ))
       → RepliedSoFar input now count old new → CountsTaken input now 0 taken
       → StopsInLine now left ⊎ IsTooLong now taken → RepliedToTaken limit IsReply input left old new
-  replied_taken None now left count taken old new s k stopped = (s.done, s.texts, s.each, s.written)
-  replied_taken (Some input) None left count taken old new s k stopped = absurd s.taken
-  replied_taken (Some input) (Some now) left count taken old new s k stopped =
-      (s.taken.0, cut_lines now, s.texts, s.taken.1, grind (arith, left_behind), rw s.taken.2 at s.each, s.written)
+  replied_taken input now left count taken old new s k stopped = grind (arith, left_behind)
 
   pub nothing_replied : (input old : Option (List ℕ)) → RepliedToFirst limit IsReply input old old
   nothing_replied input old =
@@ -213,9 +203,7 @@ module _ {limit : ℕ} {IsReply : List ℕ → List ℕ → Type 0} {input now :
 
   pub each_more : (text : List ℕ) → IsMarkedReply limit IsReply (without_carriage_return line) text
       → AllZip (IsMarkedReply limit IsReply) (s.done ++ next.0 ∷ []) (s.texts ++ text ∷ [])
-  each_more text m =
-      AllZip-push (IsMarkedReply limit IsReply) s.done s.texts next.0 text s.each
-      (marked_alike limit IsReply (without_carriage_return line) next.0 text next.2 m)
+  each_more text m = grind (arith, AllZip-push, marked_alike)
 
   abbrev pub line_more : (text : List ℕ) × IsMarkedReply limit IsReply (without_carriage_return line) text
       × Appends new last text → RepliedSoFar limit IsReply input after (count + 1) old last
@@ -256,3 +244,135 @@ module _ (limit : ℕ) (reply : List ℕ → List ℕ) where
   one_reply_part (Some input) old new (first, later, texts, split, each, written) =
       subst (AppendsPrefix old new) (sym (flat_map-append (marked_reply limit reply) first later)
       ∙ ap (flat_map (marked_reply limit reply)) (sym split)) (grind (arith, prefix_longer, texts_are))
+
+-- ---- what sources give for the lines of an input, one after another
+
+-- ---- amounts
+
+pub gave_none : {S : Type 0} (device : Ghosts S) (most : Amount) (texts : List (List ℕ))
+    (indexes : List (List Member)) (sources : List S) → Known (map device.text sources) texts
+    → AllZip (IsIndex LINE_LIMIT) texts indexes → AllGaveAtMost device most texts indexes sources sources
+gave_none device most (t ∷ ts) (i ∷ is) (s ∷ ss) known are =
+    (omega arith, gave_none device most ts is ss known.1 are.1)
+gave_none device most texts indexes sources known are = grind arith
+
+pub gave_page : {S : Type 0} (device : Ghosts S) (q : QueryValue) (all : List Member) (texts : List (List ℕ))
+    (indexes : List (List Member)) (olds news : List S)
+    → AllGaveWithin device (in_reach q q.resume q.limit all) texts indexes olds news
+    → AllGaveAtMost device (query_most q all) texts indexes olds news
+gave_page device q all (t ∷ ts) (i ∷ is) (o ∷ os) (n ∷ ns) h =
+    (omega (arith, h.0), gave_page device q all ts is os ns h.1)
+gave_page device q all texts indexes olds news h = grind arith
+
+gave_more : {S : Type 0} (device : Ghosts S) (f h : Amount)
+    → ((e : ℕ) (t : List ℕ) (i : List Member) → f e t i ≤ h e t i)
+    → (texts : List (List ℕ)) (indexes : List (List Member)) (olds news : List S)
+    → AllGaveAtMost device f texts indexes olds news → AllGaveAtMost device h texts indexes olds news
+gave_more device f h fits (t ∷ ts) (i ∷ is) (o ∷ os) (n ∷ ns) a =
+    (omega (arith, a.0, fits (device.extent o) t i), gave_more device f h fits ts is os ns a.1)
+gave_more device f h fits texts indexes olds news a = grind arith
+
+-- a line that means a query within the limit
+pub gave_line : {S : Type 0} (device : Ghosts S) (limit : ℕ) (line : List ℕ) (q : QueryValue) (all : List Member)
+    → length line ≤ limit → is_utf8 line ≡ true → query_of limit line ≡ Ok q → (texts : List (List ℕ))
+    (indexes : List (List Member)) (olds news : List S)
+    → AllGaveAtMost device (query_most q all) texts indexes olds news
+    → AllGaveAtMost device (line_most limit all line) texts indexes olds news
+gave_line device limit line q all short utf8 is =
+    gave_more device (query_most q all) (line_most limit all line)
+    (λ e t i.
+    let within = le-ltb limit (length line) short in
+    rw (within, utf8) (rw within at (asked (query_of limit line) is e t i)))
+  where
+    asked : (read : Result QueryValue QueryFault) → read ≡ Ok q → (e : ℕ) (t : List ℕ) (i : List Member)
+        → query_most q all e t i ≤ asked_most read all e t i
+    asked read is e t i = rw is (omega arith)
+
+gave_join : {S : Type 0} (device : Ghosts S) (f g h : Amount)
+    → ((e : ℕ) (t : List ℕ) (i : List Member) → f e t i + g e t i ≤ h e t i)
+    → (texts : List (List ℕ)) (indexes : List (List Member)) (olds mids news : List S)
+    → map device.extent mids ≡ map device.extent olds → AllGaveAtMost device f texts indexes olds mids
+    → AllGaveAtMost device g texts indexes mids news → AllGaveAtMost device h texts indexes olds news
+gave_join device f g h fits (t ∷ ts) (i ∷ is) (o ∷ os) (m ∷ ms) (n ∷ ns) same a b =
+    grind (arith, next, gave_join device f g h fits ts is os ms ns)
+gave_join device f g h fits texts indexes olds mids news same a b = grind arith
+
+-- one line more
+more_sum : (f : List ℕ → ℕ) (done : List (List ℕ)) (line shown : List ℕ) → f line ≡ f shown
+    → sum (map f done) + f line ≤ sum (map f (done ++ shown ∷ []))
+more_sum f done line shown same = grind (arith, map-append, sum_by_push)
+
+module _ (limit : ℕ) (line shown : List ℕ) (same : AreAlike limit line shown) where
+  most_alike : (all : List Member) (e : ℕ) (t : List ℕ) (i : List Member)
+      → line_most limit all line e t i ≡ line_most limit all shown e t i
+  most_alike all e t i = grind (arith, lt-ltb, nat_lt)
+
+-- ---- the lines so far
+
+-- The lines that were answered, what was written of their replies, and what the sources gave
+pub record Spent {S : Type 0} (device : Ghosts S) (limit : ℕ) (input now : Option (List ℕ)) (count : ℕ)
+    (texts : List (List ℕ)) (indexes : List (List Member)) (old new : Option (List ℕ)) (olds news : List S) : Type 0
+  where
+    pub so_far : RepliedSoFar limit (IsOneReply (reply_of limit (collection indexes))) input now count old new
+    pub within : AllGaveAtMost device (lines_most limit (collection indexes) so_far.done) texts indexes olds news
+
+pub spent_none : {S : Type 0} (device : Ghosts S) (limit : ℕ) (texts : List (List ℕ))
+    (indexes : List (List Member)) (input : Option (List ℕ)) (buffer : List ℕ) (old : Option (List ℕ))
+    (sources : List S) → Known (map device.text sources) texts → AllZip (IsIndex LINE_LIMIT) texts indexes → buffer ≡ []
+    → Spent device limit input (prepend_known buffer input) 0 texts indexes old old sources sources
+spent_none device limit texts indexes input buffer old sources known are e =
+    grind (arith, replied_none, gave_none)
+
+module _ {S : Type 0} {device : Ghosts S} {limit : ℕ} {input now : Option (List ℕ)} {count : ℕ}
+    {texts : List (List ℕ)} {indexes : List (List Member)} {old new : Option (List ℕ)} {olds mids : List S}
+    (s : Spent device limit input now count texts indexes old new olds mids) where
+  abbrev all : List Member
+  all = collection indexes
+
+  wrote : Appends old new (flat_map (marked_reply limit (reply_of limit all)) s.so_far.done)
+  wrote = rw (← texts_are limit (reply_of limit all) s.so_far.done s.so_far.texts s.so_far.each) s.so_far.written
+
+  pub spent_part : RepliedInPart limit (reply_of limit all) input old new
+  spent_part = one_reply_part limit (reply_of limit all) input old new
+      (replied_front limit (IsOneReply (reply_of limit all)) input now count old new s.so_far)
+
+  -- no line was read
+  pub spent_stop : GaveForLines device limit input texts indexes old new olds mids
+  spent_stop = grind (arith, next, append-nil, taken_first, wrote, grows_not)
+
+  -- a line was read, and what the sources gave then
+  module _ (after last : Option (List ℕ)) (line : List ℕ) (news : List S)
+      (takes : TakesLine (limit + 2) true now after line) (same : map device.extent mids ≡ map device.extent olds)
+      (gives : AllGaveAtMost device (line_most limit all (without_carriage_return line)) texts indexes mids news)
+    where
+      abbrev more : (shown : List ℕ) × AreTaken input after (s.so_far.done ++ shown ∷ [])
+          × AreAlike limit (without_carriage_return line) shown
+      more = next s.so_far after last line takes
+
+      more_within : AllGaveAtMost device (lines_most limit all (s.so_far.done ++ more.0 ∷ [])) texts indexes olds
+          news
+      more_within = gave_join device (lines_most limit all s.so_far.done)
+          (line_most limit all (without_carriage_return line)) (lines_most limit all (s.so_far.done ++ more.0 ∷ []))
+          (λ e t i. more_sum (λ l. line_most limit all l e t i) s.so_far.done (without_carriage_return line) more.0
+          (most_alike limit (without_carriage_return line) more.0 more.2 all e t i)) texts indexes olds mids news same
+          s.within gives
+
+      -- its reply was written
+      pub spent_more : (text : List ℕ)
+          × IsMarkedReply limit (IsOneReply (reply_of limit all)) (without_carriage_return line) text
+          × Appends new last text → Spent device limit input after (count + 1) texts indexes old last olds news
+      spent_more h = record { so_far = line_more s.so_far after last line takes h; within = more_within }
+
+      -- its reply ended in a fault
+      pub spent_within : (text : List ℕ)
+          × IsMarkedReply limit (IsOneReply (reply_of limit all)) (without_carriage_return line) text
+          × AppendsPrefix new last text → GaveForLines device limit input texts indexes old last olds news
+      spent_within (text, is, written) = grind (arith, next, taken_first, wrote, grows_part, more_within)
+
+-- nothing was read
+pub nothing_spent : {S : Type 0} (device : Ghosts S) (limit : ℕ) (texts : List (List ℕ)) (indexes : List (List Member))
+    (input old : Option (List ℕ)) (sources : List S) → Known (map device.text sources) texts
+    → AllZip (IsIndex LINE_LIMIT) texts indexes
+    → GaveForLines device limit input texts indexes old old sources sources
+nothing_spent device limit texts indexes input old sources known are =
+    spent_stop (spent_none device limit texts indexes input [] old sources known are refl)

@@ -31,7 +31,8 @@ pub use Rattle.merge_core.specs.SourceLines.{AreLinesOf, HasEntry}
 pub use Rattle.merge_core.specs.Spending.{AllGaveWithin}
 pub use Rattle.merge_core.specs.WaitingLines.{NoneBelow, waiting_pair}
 pub use Rattle.merge_core.specs.Written.{lines_text}
-pub use Rattle.page_core.proofs.PageLaws.{chain_law, each_filter, each_kept, rises_collapsed, rises_filter}
+pub use Rattle.page_core.proofs.PageLaws.{chain_law, each_filter, each_kept, first_positive, later_positive}
+pub use Rattle.page_core.proofs.PageLaws.{rises_collapsed, rises_filter}
 pub use Rattle.page_core.proofs.PageLemmas.{begun-more, begun_is_front}
 pub use Rattle.page_core.specs.Form.{FormValue}
 pub use Rattle.page_core.specs.PageText.{begun, page_end, page_start, page_text, row_text}
@@ -42,11 +43,11 @@ pub use Rattle.query_core.specs.AnyReplies.{IsTextReply}
 pub use Rattle.query_core.specs.Conversations.{IsMarkedReply, IsOneReply}
 pub use Rattle.query_core.specs.IndexFaults.{IsAnswerFaultOf}
 pub use Rattle.query_core.specs.PageLines.{BeginsWithBracket, HaveEntries}
-pub use Rattle.query_core.specs.PageWriting.{FitsWord, PageStands, captures_over, is_full, is_wanted, last_after}
-pub use Rattle.query_core.specs.PageWriting.{next_of, page_over, place_before}
+pub use Rattle.query_core.specs.PageWriting.{AreAtMost, FitsWord, PageStands, RowsStand, captures_over, is_full}
+pub use Rattle.query_core.specs.PageWriting.{is_wanted, last_after, last_of, more_after, next_of, page_over, place_before}
 pub use Rattle.query_core.specs.PagesReach.{GaveInPages, WroteInPages}
 pub use Rattle.query_core.specs.PagesWriting.{AreCut, HasNext, HasReadKey, PagesStand}
-pub use Rattle.query_core.specs.Passes.{AreAtMost, AreFirst, GaveFor, ReadFor}
+pub use Rattle.query_core.specs.Passes.{AreFirst, GaveFor, ReadFor}
 pub use Rattle.query_core.specs.QueryPages.{answer_text, form_of, query_captures, query_page, selected, shown_key}
 pub use Rattle.query_core.specs.Reach.{GaveInReach, WroteFirst, captures_text, in_reach}
 pub use Rattle.query_core.specs.Replies.{reply_of}

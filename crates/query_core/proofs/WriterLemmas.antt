@@ -1,16 +1,16 @@
 -- A page by the lines that were taken for it.
-use Rattle.query_core.proofs.Words.{[], ◌&&◌, ◌++◌, ◌+◌, ◌-◌, ◌<◌, ◌^◌, ◌∙◌, ◌∷◌, ◌≡◌, ◌≤◌, ◌⊎◌, Appends, AppendsPrefix}
-use Rattle.query_core.proofs.Words.{Bool, FitsWord, FormValue, List, Member, None, Option, Page, PageStands, PlaceValue}
-use Rattle.query_core.proofs.Words.{QueryValue, Some, ℕ, ap, append-nil, append_assoc, arith, at_most, begun}
-use Rattle.query_core.proofs.Words.{begun-more, bytes_eq-Decides, captures_over, cases_lt, drop, end_place, eqb-false}
-use Rattle.query_core.proofs.Words.{false, filter, form_of, get_or, inl, inr, is_full, is_some, is_wanted, kept}
-use Rattle.query_core.proofs.Words.{last_after, length, length-append, length-take, map, map-append, member_place, min}
-use Rattle.query_core.proofs.Words.{next_after, next_of, page_over, page_start, place_before, place_cmp_total}
-use Rattle.query_core.proofs.Words.{prefix_after, prefix_longer, query_captures, refl, row_text, same_part, suc, sym}
-use Rattle.query_core.proofs.Words.{take, take-append-drop, take_all, true, true≢false, zero}
-use Rattle.std.proofs.lemmas.List.{take-append-le, map_more}
-use Rattle.page_core.proofs.PageLemmas.{written-start, written-more, begun-append}
-use Rattle.query_core.specs.PageWriting.{place_at, last_place}
+use Rattle.query_core.proofs.Words.{[], ◌&&◌, ◌++◌, ◌+◌, ◌-◌, ◌<◌, ◌^◌, ◌∙◌, ◌∷◌, ◌≡◌, ◌≤◌, ◌⊎◌, Appends, Appends-join}
+use Rattle.query_core.proofs.Words.{AppendsPrefix, AreAtMost, Bool, FitsWord, FormValue, List, Member, None, Option}
+use Rattle.query_core.proofs.Words.{Page, PageStands, PlaceValue, QueryValue, RowsStand, Some, ℕ, ap, append-nil}
+use Rattle.query_core.proofs.Words.{append_assoc, arith, at_most, begun, begun-more, bytes_eq-Decides, captures_over}
+use Rattle.query_core.proofs.Words.{drop, end_place, eqb-false, eqb-true, false, filter, form_of, get_or, is_full}
+use Rattle.query_core.proofs.Words.{is_some, is_wanted, kept, last_after, last_of, length, length-append, map}
+use Rattle.query_core.proofs.Words.{map-append, member_place, min, more_after, next_after, next_of, page_over}
+use Rattle.query_core.proofs.Words.{page_start, place_before, place_cmp_total, prefix_after, prefix_longer}
+use Rattle.query_core.proofs.Words.{query_captures, refl, row_text, same_part, suc, sym, take, take-append-drop}
+use Rattle.query_core.proofs.Words.{take-append_seam, take_all, true, true≢false}
+use Rattle.std.proofs.lemmas.List.{map_more}
+use Rattle.page_core.proofs.PageLemmas.{written-start, begun-append}
 use Rattle.std.proofs.Common.{drop-cons}
 use Rattle.std.proofs.lemmas.Bool.{cond-true}
 use Rattle.std.proofs.lemmas.List.Elements.{filter-append}
@@ -100,25 +100,18 @@ next = next_after member_place
 abbrev pub page : Option ℕ → List Member → Page Member PlaceValue
 page = at_most member_place
 
--- ---- the n-th, and what follows it
+-- ---- the last of some, and what follows them
 
--- the last of the first n
-pub record EndsAt (n : ℕ) (c : List Member) : Type 0 where
-  pub before : List Member
-  pub last : Member
-  pub taken : take n c ≡ before ++ last ∷ []
-  pub place : place_at n c ≡ Some (member_place last)
-
-pub ends_at : (n : ℕ) (c : List Member) → 0 < n → n ≤ length c → EndsAt n c
-ends_at (suc zero) (x ∷ xs) z h = record { before = []; last = x; taken = refl; place = refl }
-ends_at (suc (suc n)) (x ∷ xs) z h =
-    let r = ends_at (suc n) xs (omega arith) (omega arith) in
-    record { before = x ∷ r.before; last = r.last; taken = ap (λ us. x ∷ us) r.taken; place = r.place }
-ends_at n c z h = grind arith
+-- some have a last
+pub ends : (c : List Member) → 0 < length c
+    → (before : List Member) × (last : Member) × (c ≡ before ++ last ∷ []) × (last_of c ≡ Some (member_place last))
+ends (m ∷ k ∷ c) h = let r = ends (k ∷ c) (omega arith) in (m ∷ r.0, r.1, ap (λ us. m ∷ us) r.2, r.3)
+ends (m ∷ []) h = ([], m, refl, refl)
+ends [] h = absurd (omega arith)
 
 -- where one more follows
-pub next_place : (n : ℕ) (c : List Member) → n < length c → next n c ≡ place_at n c
-next_place (suc (suc n)) (x ∷ xs) h = next_place (suc n) xs (omega arith)
+pub next_place : (n : ℕ) (c : List Member) → n < length c → next n c ≡ last_of (take n c)
+next_place (suc (suc n)) (x ∷ y ∷ c) h = next_place (suc n) (y ∷ c) (omega arith)
 next_place n c h = grind arith
 
 -- where none does
@@ -126,88 +119,125 @@ pub next_short : (n : ℕ) (c : List Member) → length c ≤ n → next n c ≡
 next_short (suc (suc n)) (x ∷ xs) h = next_short (suc n) xs (omega arith)
 next_short n c h = grind arith
 
-pub next_some : (n : ℕ) (c : List Member) → is_some (next n c) ≡ true → n < length c
-next_some n c h = grind (arith, next_short, cases_lt n (length c))
+more_last : (last : Option PlaceValue) (rest : List Member) (m : Member) → more_after last (rest ++ m ∷ []) ≡ is_some last
+more_last last [] m = refl
+more_last last (k ∷ rest) m = refl
 
-pub next_none : (n : ℕ) (c : List Member) → 0 < n → is_some (next n c) ≡ false → length c ≤ n
-next_none n c z h = elim (cases_lt n (length c)) as (λ _. length c ≤ n) [
-  | inl less ↦ (let r = ends_at n c z (omega arith) in let same = next_place n c less in absurd (grind arith))
-  | inr few ↦ few
-]
+none_last : (c : List Member) → is_some (last_of c) ≡ false → c ≡ []
+none_last (m ∷ k ∷ c) h = let none = none_last (k ∷ c) h in cc
+none_last c h = grind arith
 
-place_same : (n : ℕ) (c vs : List Member) → n ≤ length c → place_at n (c ++ vs) ≡ place_at n c
-place_same (suc (suc n)) (x ∷ xs) vs h = place_same (suc n) xs vs (omega arith)
-place_same n c vs h = grind arith
+-- ---- the rows of a page
 
-place_short : (n : ℕ) (c : List Member) → length c < n → place_at n c ≡ None
-place_short (suc (suc n)) (x ∷ xs) h = place_short (suc n) xs (omega arith)
-place_short n c h = grind arith
+module _ {front : List ℕ} {form : FormValue} {limit : Option ℕ} {rows : List Member} {start now : Option (List ℕ)}
+    {given : ℕ} {last : Option PlaceValue} (s : RowsStand front form limit rows start now given last) where
+  pub at_limit : is_full limit given ≡ true → limit ≡ Some (length rows)
+  at_limit f = grind (arith, eqb-true)
 
-place_last : (n : ℕ) (c : List Member) (m : Member) → n ≡ suc (length c) → place_at n (c ++ m ∷ [])
-    ≡ Some (member_place m)
-place_last n c m h =
-    let r = ends_at n (c ++ m ∷ []) (omega arith) (omega (arith, length-append c (m ∷ []))) in
-    let all : take n (c ++ m ∷ []) ≡ c ++ m ∷ [] = grind (arith, take_all, length-append) in
-    grind (arith, end_last None c m, end_last None r.before r.last)
+  module _ (f : is_full limit given ≡ false) (fits : FitsWord limit) where
+    pub below : limit ≡ Some (length rows) → ⊥
+    below e = grind (arith, eqb-false)
+
+    pub room_more : (m : Member) → AreAtMost limit (rows ++ m ∷ [])
+    room_more m = grind (arith, eqb-false, length-append)
+
+    -- a row more
+    pub row_more : (m : Member) (new : Option (List ℕ)) (given' : ℕ) (last' : Option PlaceValue)
+        → given' ≡ min (given + 1) (2 ^ 64 - 1) → last' ≡ last_after limit given' last (member_place m)
+        → Appends now new (row_text form m)
+        → RowsStand front form limit (rows ++ m ∷ []) start new given' last'
+    row_more m new given' last' g k a =
+        grind (arith, room_more, begun-more, append_assoc, Appends-join, length-append, eqb-false, end_last)
+
+  -- a row of which a front was written
+  pub row_front : (m : Member) (new : Option (List ℕ)) → AppendsPrefix now new (row_text form m)
+      → AppendsPrefix start new (front ++ begun form (rows ++ m ∷ []))
+  row_front m new p = rw (begun-more form rows m, ← append_assoc front (begun form rows) (row_text form m))
+      (prefix_after _ _ _ _ _ s.text p)
 
 -- ---- one line more
 
-at_end : (n : ℕ) (c vs : List Member) → n < length c → page (Some n) (c ++ vs) ≡ page (Some n) c
-at_end n c vs h = grind (arith, take-append-le, next_place, place_same, length-append)
+pub page_rows : (limit : Option ℕ) (rows rest : List Member) (last : Option PlaceValue) → AreAtMost limit rows
+    → (limit ≡ Some (length rows) → last ≡ last_of rows) → (rest ≡ []) ⊎ (limit ≡ Some (length rows))
+    → page limit (rows ++ rest) ≡ record { members = rows; next = next_of (more_after last rest) last }
+page_rows limit rows [] last room is full = grind (arith, append-nil, take_all, next_short)
+page_rows limit rows (m ∷ rest) last room is full = grind (arith, take-append_seam, next_place, length-append)
 
--- where a page is full and has no next yet, its last is the n-th
-full_is : (n : ℕ) (c : List Member) (given : ℕ) → is_full (Some n) given ≡ true → given
-    ≡ min (length (take n c)) (2 ^ 64 - 1) → is_some (next n c) ≡ false → (n ≡ 0) ⊎ (length c ≡ n)
-full_is n c given f g h = grind (arith, next_none, length-take)
+module _ {form : FormValue} {limit : Option ℕ} {c : List Member} {start now : Option (List ℕ)} {given : ℕ} {more : Bool}
+    {last : Option PlaceValue} (s : PageStands form limit c start now given more last) where
+  -- the page is of the rows
+  pub page_is : page limit c ≡ record { members = s.rows; next = next_of more last }
+  page_is = grind (arith, page_rows)
 
--- the place that is kept
-last_of : (n given : ℕ) (c : List Member) (m : Member) (last : Option PlaceValue) → n < 2 ^ 64 → length c < n → given
-    ≡ min (length c + 1) (2 ^ 64 - 1) → last ≡ place_at n c
-    → last_after (Some n) given last (member_place m) ≡ place_at n (c ++ m ∷ [])
-last_of n given c m last l room g k = grind (arith, place_last, eqb-false, length-append, place_short)
+  -- an empty page has none
+  pub none_more : c ≡ [] → more ≡ false
+  none_more e = let long = ap length s.are.split in grind (arith, length-append)
 
-members_one : (limit : Option ℕ) (c : List Member) (m : Member) (given : ℕ) → is_full limit given ≡ false
-    → FitsWord limit → is_some (page limit c).next ≡ false → given ≡ min (length (page limit c).members) (2 ^ 64 - 1)
-    → (page limit (c ++ m ∷ [])).members ≡ (page limit c).members ++ m ∷ []
-members_one limit c m given f l none g = grind (arith, length-take, eqb-false, length-append, take_all)
+  pub goes_last : more ≡ true → is_some last ≡ true
+  goes_last h = grind arith
 
-module _ {form : FormValue} {start now : Option (List ℕ)} {given : ℕ} {more : Bool} {last : Option PlaceValue} where
+  -- where no capture follows, they don't pass the page
+  pub few_rows : more ≡ false → (limit ≡ Some 0 → ⊥) → AreAtMost limit c
+  few_rows h some = grind (arith, append-nil, none_last)
+
+  pub written_front : AppendsPrefix start now (begun form (page limit c).members)
+  written_front = rw page_is (grind (arith, append-nil))
+
   -- more captures after a page that has its next
-  pub after_end : (limit : Option ℕ) (c later all : List Member) → all ≡ c ++ later → more ≡ true
-      → PageStands form limit c start now given more last → PageStands form limit all start now given more last
-  after_end limit c later all is h s = grind (arith, true≢false, next_some, at_end, place_same)
+  abbrev pub after_end : (later all : List Member) → all ≡ c ++ later → more ≡ true
+      → PageStands form limit all start now given more last
+  after_end later all is h = record {
+    rows = s.rows;
+    rest = s.rest ++ later;
+    are = grind (arith, append_assoc, true≢false);
+  }
+
+  -- of the page are all that don't pass it
+  pub among_rows : (earlier tail : List Member) → c ≡ earlier ++ tail → AreAtMost limit earlier
+      → length earlier ≤ length s.rows
+  among_rows earlier tail split most = let long = ap length (sym s.are.split ∙ split) in grind (arith, length-append)
 
   -- the capture after a full page
-  pub at_limit : (limit : Option ℕ) (c : List Member) (m : Member) → more ≡ false → is_full limit given ≡ true
-      → PageStands form limit c start now given more last
+  pub after_full : (m : Member) → is_full limit given ≡ true
       → PageStands form limit (c ++ m ∷ []) start now given (is_some last) last
-  at_limit limit c m h f s = grind (arith, true≢false, full_is, take-append-le, next_place, length-append, place_same)
+  after_full m f = record {
+    rows = s.rows;
+    rest = s.rest ++ m ∷ [];
+    are = grind (arith, append_assoc, at_limit, more_last);
+  }
 
-  -- a capture that was written
-  pub written_one : (limit : Option ℕ) (c : List Member) (m : Member) (new : Option (List ℕ)) (given' : ℕ)
-      (last' : Option PlaceValue) → more ≡ false → is_full limit given ≡ false → FitsWord limit
-      → given' ≡ min (given + 1) (2 ^ 64 - 1) → last' ≡ last_after limit given' last (member_place m)
-      → Appends now new (row_text form m) → PageStands form limit c start now given more last
-      → PageStands form limit (c ++ m ∷ []) start new given' more last'
-  written_one limit c m new given' last' h f l g k a s =
-      grind (arith, written-more, length-append, length-take, eqb-false, take_all, next_short, last_of)
+  module _ (f : is_full limit given ≡ false) (fits : FitsWord limit) where
+    all_rows : c ≡ s.rows
+    all_rows = grind (arith, below, append-nil)
 
-  -- a fault in the row of a capture more, or after it
-  pub broke_row : (limit : Option ℕ) (c : List Member) (m : Member) (new : Option (List ℕ)) → more ≡ false
-      → is_full limit given ≡ false → FitsWord limit → AppendsPrefix now new (row_text form m)
-      → PageStands form limit c start now given more last
-      → AppendsPrefix start new (begun form (page limit (c ++ m ∷ [])).members)
-  broke_row limit c m new h f l p s =
-      rw (members_one limit c m given f l (sym s.more_is ∙ h) s.given_is, begun-more form (page limit c).members m)
-      (prefix_after _ _ _ _ _ s.text p)
+    -- a capture that was written
+    pub written_one : (m : Member) (new : Option (List ℕ)) (given' : ℕ) (last' : Option PlaceValue)
+        → given' ≡ min (given + 1) (2 ^ 64 - 1) → last' ≡ last_after limit given' last (member_place m)
+        → Appends now new (row_text form m) → more ≡ false
+        → PageStands form limit (c ++ m ∷ []) start new given' more last'
+    written_one m new given' last' g k a h =
+        let page = row_more s.are.page f fits m new given' last' g k a in
+        record { rows = s.rows ++ m ∷ []; rest = []; are = grind (arith, all_rows, append-nil) }
+
+    -- a fault in the row of a capture more, or after it
+    pub broke_row : (m : Member) (new : Option (List ℕ)) → AppendsPrefix now new (row_text form m)
+        → AppendsPrefix start new (begun form (page limit (c ++ m ∷ [])).members)
+    broke_row m new p =
+        let members : (page limit (s.rows ++ m ∷ [])).members ≡ s.rows ++ m ∷ [] =
+        (let room = room_more s.are.page f fits m in grind (arith, take_all)) in
+        rw (all_rows, members) (row_front s.are.page m new p)
+
+-- a page that has its next is the page, whatever follows
+pub decided : {form : FormValue} {limit : Option ℕ} {c : List Member} {start now : Option (List ℕ)} {given : ℕ}
+    {more : Bool} {last : Option PlaceValue} (s : PageStands form limit c start now given more last) (later : List Member)
+    → more ≡ true → page limit (c ++ later) ≡ page limit c
+decided s later h = page_is (after_end s later _ refl h) ∙ sym (page_is s)
 
 -- before the first capture
 pub nothing_taken : (form : FormValue) (limit : Option ℕ) (start now : Option (List ℕ))
     → Appends start now (page_start form)
     → PageStands form limit [] start now 0 false None
-nothing_taken form None start now a = grind (arith, written-start)
-nothing_taken form (Some zero) start now a = grind (arith, written-start)
-nothing_taken form (Some (suc n)) start now a = grind (arith, written-start)
+nothing_taken form limit start now a = record { rows = []; rest = []; are = grind (arith, written-start) }
 
 -- ---- after a fault
 
@@ -216,9 +246,8 @@ whole_prefix old new text a = grind (arith, append-nil)
 
 -- more of a list gives a page that begins alike
 pub take_front : {X : Type 0} (n : ℕ) (us vs : List X) → (later : List X) × (take n (us ++ vs) ≡ take n us ++ later)
-take_front zero us vs = ([], refl)
-take_front (suc n) [] vs = (take (suc n) vs, refl)
 take_front (suc n) (u ∷ us) vs = grind (arith, take_front n us vs)
+take_front X us vs = grind arith
 
 pub page_front : (limit : Option ℕ) (us vs : List Member) → (later : List Member)
     × ((page limit (us ++ vs)).members ≡ (page limit us).members ++ later)
@@ -234,17 +263,6 @@ broke_longer q from limit taken later start now p =
     (kept_after q from (place_before q from taken) (filter (is_wanted q from) later)) in
     rw (captures_append q from taken later, r.1, begun-append (form_of q) (page_over q from limit taken).members r.0)
     (prefix_longer _ _ _ _ p)
-
--- ---- the whole page
-
--- a page that has its next is the page, whatever follows
-pub decided : (limit : Option ℕ) (us vs : List Member) → is_some (page limit us).next ≡ true → page limit (us ++ vs)
-    ≡ page limit us
-decided limit us vs h = grind (arith, true≢false, at_end, next_some)
-
-pub next_is : (limit : Option ℕ) (c : List Member) (more : Bool) (last : Option PlaceValue) → more
-    ≡ is_some (page limit c).next → last ≡ last_place limit c → next_of more last ≡ (page limit c).next
-next_is limit c more last h k = grind (arith, true≢false, next_some, next_place, next_short, ends_at, cases_lt)
 
 -- ---- lines that are taken one after another
 

@@ -1,6 +1,6 @@
 -- A page that is being written, by the lines that were taken for it.
-use Rattle.std.specs.Prelude.{◌≡◌, ℕ, zero, suc, ◌-◌, ◌^◌, ◌<◌, ⊤, ◌&&◌, List, [], ◌∷◌, length, min, Bool, false, ◌==◌}
-use Rattle.std.specs.Prelude.{Option, None, Some, if◌then◌else◌}
+use Rattle.std.specs.Prelude.{◌≡◌, ◌⊎◌, ℕ, ◌-◌, ◌^◌, ◌<◌, ◌≤◌, ⊤, ◌&&◌, List, [], ◌∷◌, ◌++◌, length, min, Bool, false}
+use Rattle.std.specs.Prelude.{◌==◌, Option, None, Some, if◌then◌else◌}
 use Rattle.std.specs.List.{filter}
 use Rattle.std.specs.Option.{is_some}
 use Rattle.std.specs.Io.KnownBytes.{Appends}
@@ -29,27 +29,42 @@ place_before q from lines = end_place member_place from (filter (is_wanted q fro
 abbrev pub page_over : QueryValue → Option PlaceValue → Option ℕ → List Member → Page Member PlaceValue
 page_over q from limit lines = at_most member_place limit (captures_over q from lines)
 
--- the place of the n-th, from 1 on
-abbrev pub place_at : ℕ → List Member → Option PlaceValue
-place_at zero ms = None
-place_at (suc n) [] = None
-place_at (suc zero) (m ∷ ms) = Some (member_place m)
-place_at (suc (suc n)) (m ∷ ms) = place_at (suc n) ms
+-- the place of the last of them
+abbrev pub last_of : List Member → Option PlaceValue
+last_of = end_place member_place None
 
--- the place of the last that the page has room for
-abbrev pub last_place : Option ℕ → List Member → Option PlaceValue
-last_place None ms = None
-last_place (Some n) ms = place_at n ms
+-- no more than the limit, if there is one
+abbrev pub AreAtMost : Option ℕ → List Member → Type 0
+AreAtMost None members = ⊤
+AreAtMost (Some n) members = length members ≤ n
 
--- What stands written of the page of these captures, how many it has, whether a further one follows, and the place of
--- the last that it has room for
+-- After this text these rows of a page stand written, so many; where it is full, the place of the last of them.
+pub record RowsStand (front : List ℕ) (form : FormValue) (limit : Option ℕ) (rows : List Member)
+    (start now : Option (List ℕ)) (given : ℕ) (last : Option PlaceValue) : Type 0 where
+  pub text : Appends start now (front ++ begun form rows)
+  pub given_is : given ≡ min (length rows) (2 ^ 64 - 1)
+  pub room : AreAtMost limit rows
+  pub last_is : limit ≡ Some (length rows) → last ≡ last_of rows
+
+-- one of these follows the page that ends with this place, if there is one
+abbrev pub more_after : Option PlaceValue → List Member → Bool
+more_after last [] = false
+more_after last (m ∷ ms) = is_some last
+
+-- these rows of the page of these captures stand written, and these captures follow the page
+pub record AreRows (form : FormValue) (limit : Option ℕ) (captures : List Member) (start now : Option (List ℕ))
+    (given : ℕ) (more : Bool) (last : Option PlaceValue) (rows rest : List Member) : Type 0 where
+  pub split : captures ≡ rows ++ rest
+  pub page : RowsStand [] form limit rows start now given last
+  pub full : (rest ≡ []) ⊎ (limit ≡ Some (length rows))
+  pub more_is : more ≡ more_after last rest
+
+-- some rows of the page of these captures stand written
 pub record PageStands (form : FormValue) (limit : Option ℕ) (captures : List Member) (start now : Option (List ℕ))
-    (given : ℕ) (more : Bool)
-    (last : Option PlaceValue) : Type 0 where
-  pub text : Appends start now (begun form (at_most member_place limit captures).members)
-  pub given_is : given ≡ min (length (at_most member_place limit captures).members) (2 ^ 64 - 1)
-  pub more_is : more ≡ is_some (at_most member_place limit captures).next
-  pub last_is : last ≡ last_place limit captures
+    (given : ℕ) (more : Bool) (last : Option PlaceValue) : Type 0 where
+  pub rows : List Member
+  pub rest : List Member
+  pub are : AreRows form limit captures start now given more last rows rest
 
 -- the page has as many as its limit
 abbrev pub is_full : Option ℕ → ℕ → Bool

@@ -1,19 +1,14 @@
 -- Pages that are being written, one after another.
 use Rattle.std.specs.Prelude.{◌≡◌, ◌⊎◌, ℕ, ◌-◌, ◌^◌, ◌<◌, ◌≤◌, List, [], ◌∷◌, ◌++◌, length, take, drop, min, Option}
-use Rattle.std.specs.Prelude.{None, IfSome}
+use Rattle.std.specs.Prelude.{None, Some, IfSome}
 use Rattle.std.specs.List.{AllByRecursion}
-use Rattle.std.specs.Io.KnownBytes.{Appends}
 use Rattle.cdxj_places.specs.Places.{PlaceValue}
 use Rattle.query_text.specs.Queries.{QueryValue}
-use Rattle.cdxj_core.specs.Members.{Member, member_place}
-use Rattle.page_core.specs.Pages.{Page, AllPositive, first_size, later_sizes, end_place}
-use Rattle.page_core.specs.PageText.{begun}
+use Rattle.cdxj_core.specs.Members.{Member}
+use Rattle.page_core.specs.Pages.{Page, AllPositive, first_size, later_sizes}
 use Rattle.query_core.specs.WrittenPages.{IsReadBack, pages_text}
+use Rattle.query_core.specs.PageWriting.{RowsStand, last_of}
 use Rattle.query_core.specs.QueryPages.{form_of}
-
--- the place of the last of them
-abbrev pub last_of : List Member → Option PlaceValue
-last_of = end_place member_place None
 
 -- the captures, cut into pages of these sizes
 abbrev pub AreCut : List ℕ → List (Page Member PlaceValue) → List Member → Type 0
@@ -34,23 +29,21 @@ abbrev pub HasNext : List (Page Member PlaceValue) → List Member → Type 0
 HasNext pages captures = (pages ≡ []) ⊎ (0 < length captures)
 
 -- These whole pages of the captures stand written, so many, and these rows of a page of the first of the sizes that are
--- left, which are so many; where it is full, the place of the last of them.
+-- left.
 pub record AreWritten (q : QueryValue) (sizes : List ℕ) (captures : List Member) (start now : Option (List ℕ))
-    (left : List ℕ) (given : ℕ) (last : Option PlaceValue) (count : ℕ)
+    (limit : Option ℕ) (left : List ℕ) (given : ℕ) (last : Option PlaceValue) (count : ℕ)
     (whole : List (Page Member PlaceValue)) (rows : List Member) : Type 0 where
   pub goes_on : (later : List Member) (rest : List (Page Member PlaceValue)) → HasNext whole (rows ++ later)
       → AreCut left rest (rows ++ later) → AreCut sizes (whole ++ rest) (captures ++ later)
   pub positive : AllPositive left
+  pub size : limit ≡ Some (first_size left)
   pub keyed : AllByRecursion HasReadKey whole
-  pub text : Appends start now (pages_text q whole ++ begun (form_of q) rows)
-  pub given_is : given ≡ length rows
-  pub room : length rows ≤ first_size left
-  pub last_is : length rows ≡ first_size left → last ≡ last_of rows
+  pub page : RowsStand (pages_text q whole) (form_of q) limit rows start now given last
   pub count_is : count ≡ min (length whole) (2 ^ 64 - 1)
 
 -- some whole pages and rows of these captures stand written
 pub record PagesStand (q : QueryValue) (sizes : List ℕ) (captures : List Member) (start now : Option (List ℕ))
-    (left : List ℕ) (given : ℕ) (last : Option PlaceValue) (count : ℕ) : Type 0 where
+    (limit : Option ℕ) (left : List ℕ) (given : ℕ) (last : Option PlaceValue) (count : ℕ) : Type 0 where
   pub whole : List (Page Member PlaceValue)
   pub rows : List Member
-  pub written : AreWritten q sizes captures start now left given last count whole rows
+  pub written : AreWritten q sizes captures start now limit left given last count whole rows

@@ -1,6 +1,6 @@
 -- What one pass over sources reads of the lines of a query.
-use Rattle.std.specs.Prelude.{◌≡◌, ◌⊎◌, ℕ, ◌-◌, ◌^◌, ◌+◌, ◌≤◌, ⊤, List, [], ◌++◌, length, map, min, Bool, true, Option}
-use Rattle.std.specs.Prelude.{None, Some, Result, MatchResult, false}
+use Rattle.std.specs.Prelude.{◌≡◌, ◌⊎◌, ℕ, ◌-◌, ◌^◌, ◌+◌, ◌≤◌, List, [], ◌++◌, length, map, min, Bool, true, Option}
+use Rattle.std.specs.Prelude.{Result, MatchResult, false}
 use Rattle.std.specs.List.{AllZip, filter, sum}
 use Rattle.cdxj_core.specs.Members.{Member}
 use Rattle.source_core.specs.declared.source.Source.{Ghosts}
@@ -15,13 +15,8 @@ use Rattle.merge_core.specs.Spending.{AllGaveWithin, search_steps}
 use Rattle.merge_core.specs.Counts.{OverShares}
 use Rattle.merge_core.specs.declared.sink.Sink.{Ghosts as SinkGhosts}
 use Rattle.query_core.specs.declared.pass.Pass.{Pass}
-use Rattle.query_core.specs.PageWriting.{captures_over}
+use Rattle.query_core.specs.PageWriting.{AreAtMost, captures_over}
 use Rattle.query_core.specs.Reach.{in_reach}
-
--- no more captures than the limit, if there is one
-abbrev pub AreAtMost : Option ℕ → List Member → Type 0
-AreAtMost None captures = ⊤
-AreAtMost (Some n) captures = length captures ≤ n
 
 module _ (q : QueryValue) where
   -- the captures of these lines come first of the others'

@@ -1,12 +1,12 @@
 -- What contracts see of pages that are being written.
-use Rattle.std.specs.Prelude.{◌≡◌, ℕ, ◌+◌, ◌-◌, ◌^◌, ◌<◌, min, List, [], ◌∷◌, ◌++◌, Bool, false, cond, Option, Some}
+use Rattle.std.specs.Prelude.{◌≡◌, ℕ, ◌+◌, ◌-◌, ◌^◌, min, List, [], ◌∷◌, ◌++◌, Bool, false, cond, Option}
 use Rattle.std.specs.Prelude.{option_map}
 use Rattle.devices.specs.Device.{AppendsPrefix}
 use Rattle.cdxj_places.specs.declared.place.Place.{Place}
 use Rattle.cdxj_places.specs.Places.{PlaceValue}
 use Rattle.cdxj_places.specs.PlaceViews.{place_view}
 use Rattle.cdxj_core.specs.Members.{Member}
-use Rattle.page_core.specs.Pages.{Page, AllPositive, first_size}
+use Rattle.page_core.specs.Pages.{Page, AllPositive}
 use Rattle.page_core.specs.PageText.{begun}
 use Rattle.query_core.specs.declared.selection.Selection.{Selection}
 use Rattle.query_core.specs.declared.page_writer.PageEnd.{PageEnd}
@@ -15,7 +15,8 @@ use Rattle.query_text.specs.Queries.{QueryValue}
 use Rattle.query_core.specs.Collapsings.{collapsing_at}
 use Rattle.query_core.specs.WrittenPages.{pages_text}
 use Rattle.query_core.specs.QueryPages.{form_of}
-use Rattle.query_core.specs.PageWriting.{FitsWord, PageStands, captures_over, last_after, next_of, place_before, page_over}
+use Rattle.query_core.specs.PageWriting.{FitsWord, PageStands, captures_over, is_full, last_after, next_of, place_before}
+use Rattle.query_core.specs.PageWriting.{page_over}
 use Rattle.query_core.specs.PagesWriting.{AreCut, HasNext, PagesStand}
 
 abbrev pub from_view : Option Place → Option PlaceValue
@@ -63,7 +64,6 @@ pub record SamePage (old new : PageWriter) : Type 0 where
 
 -- a capture at this place was written
 pub record GaveOne (old new : PageWriter) (place : PlaceValue) : Type 0 where
-  pub fits : FitsWord old.limit
   pub given : new.given ≡ min (old.given + 1) (2 ^ 64 - 1)
   pub last : new.last ≡ last_after old.limit new.given old.last place
 
@@ -74,22 +74,20 @@ pub record IsEndOf (w : PageWriter) (end : PageEnd) : Type 0 where
   pub count : end.count ≡ min (w.count + 1) (2 ^ 64 - 1)
 
 -- what stands written of these captures, in pages of these sizes
-pub record AreInPages (sizes : List ℕ) (w : PageWriter) (captures : List Member) (start now : Option (List ℕ)) : Type 0
-  where
-    pub size : w.limit ≡ Some (first_size w.sizes.now)
-    pub stand : PagesStand w.selection.query.now sizes captures start now w.sizes.now w.given w.last w.count
+abbrev pub AreInPages : List ℕ → PageWriter → List Member → Option (List ℕ) → Option (List ℕ) → Type 0
+AreInPages sizes w captures start now =
+    PagesStand w.selection.query.now sizes captures start now w.limit w.sizes.now w.given w.last w.count
 
 -- the same where the page has room for one more
 pub record HaveRoom (sizes : List ℕ) (w : PageWriter) (captures : List Member) (start now : Option (List ℕ)) : Type 0
   where
     pub pages : AreInPages sizes w captures start now
-    pub room : w.given < first_size w.sizes.now
+    pub room : is_full w.limit w.given ≡ false
+    pub fits : FitsWord w.limit
 
 -- the same between two lines
 abbrev pub pages_stand : List ℕ → PageWriter → List Member → Option (List ℕ) → Option (List ℕ) → Type 0
-pages_stand sizes w captures start now =
-    (s : PagesStand w.selection.query.now sizes captures start now w.sizes.now w.given w.last w.count)
-    × HasNext s.whole s.rows
+pages_stand sizes w captures start now = (s : AreInPages sizes w captures start now) × HasNext s.whole s.rows
 
 -- a front of pages of these captures was written, whatever captures follow
 abbrev pub IsFront : QueryValue → List ℕ → List Member → Option (List ℕ) → Option (List ℕ) → Type 0
@@ -105,17 +103,15 @@ pub record WroteOne (first w : PageWriter) (taken : List Member) (start now : Op
   pub sizes : w.sizes.now ≡ []
   pub stands : PageStands (form_of w.selection.query.now) w.limit (captures_of w.selection taken) start now w.given
       w.more w.last
-  pub selects : w.more ≡ false → Selects w.selection taken
 
 -- in pages of all sizes
 pub record WroteAll (first w : PageWriter) (taken : List Member) (start now : Option (List ℕ)) : Type 0 where
   pub more : w.more ≡ false
-  pub selects : Selects w.selection taken
-  pub size : w.limit ≡ Some (first_size w.sizes.now)
   pub stands : pages_stand first.sizes.now w (captures_of w.selection taken) start now
 
 pub record Wrote (first w : PageWriter) (taken : List Member) (start now : Option (List ℕ)) : Type 0 where
   pub same : IsSame first.selection w.selection
+  pub selects : w.more ≡ false → Selects w.selection taken
   pub one : first.sizes.now ≡ [] → WroteOne first w taken start now
   pub all : AllPositive first.sizes.now → WroteAll first w taken start now
 

@@ -61,7 +61,7 @@ pub fn resume_keys_continue()
 }
 
 /// Over indexes, no call returns the fault of a line.
-#[tactic(auto, using(crate::proofs::SoundIndexes::no_line_at_fault))]
+#[tactic(auto, using(crate::proofs::PageIndexes::no_line_at_fault))]
 pub fn indexes_have_no_line_at_fault()
     ensures { NoLineIsAtFault }
 {}
@@ -70,6 +70,7 @@ pub fn indexes_have_no_line_at_fault()
 /// lines of the page have entries. A line `.` is only in a page of one field, in text. A page begins with a line of a
 /// refusal only if it has two, in text. No page has the line of a fault after an empty line. In text and cdxj an empty line
 /// stands only before a resume key. A page of one field, in text, has no space. In json each line begins with `[`.
+#[tactic(auto, using(crate::proofs::PageLineLemmas::one_field_has_marks, crate::proofs::PageLineLemmas::two_fields_begin_as_refusals, crate::proofs::PageLineLemmas::no_page_has_faults, crate::proofs::PageLineLemmas::empty_line_is_before_key, crate::proofs::PageLineLemmas::one_field_has_no_space, crate::proofs::PageLineLemmas::json_lines_begin_with_brackets))]
 pub fn replies_are_told_from_pages()
     ensures mark { OneFieldHasMarks }
     ensures refused { TwoFieldsBeginAsRefusals }

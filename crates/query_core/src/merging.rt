@@ -30,7 +30,7 @@ pub const SOURCES_LIMIT: usize = 1_024;
 /// allocated. After an error, lines that rise by place were written, the last of them in whole or in part.
 ///
 /// One line of each index is held, and the lines of one key and stamp.
-#[tactic(auto, using(crate::proofs::SoundIndexes::merge_line, std::proofs::lemmas::Result::err_from_is_err_and, devices::proofs::WritingLemmas::wrote_nothing, merge_core::proofs::SourceLemmas::once_none))]
+#[tactic(auto, using(crate::proofs::PageIndexes::merge_line, std::proofs::lemmas::Result::err_from_is_err_and, devices::proofs::WritingLemmas::wrote_nothing, merge_core::proofs::SourceLemmas::once_none))]
 pub fn merge<S: Source, O: Output>(
     alloc: Global,
     sources: &mut [S],

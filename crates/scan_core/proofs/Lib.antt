@@ -1,7 +1,3 @@
 pub mod ArchiveLemmas
-pub mod PageLemmas
-pub mod CollectionLemmas
-pub mod ScanLemmas
-pub mod OnceLemmas
 pub mod WantLemmas
-pub mod OneScan
+pub mod ScanLemmas

@@ -1,17 +1,95 @@
--- What a scan wrote, from what its parts did.
-use Rattle.std.proofs.Common.{arith, ℕ, Bool, Err, List, Ok, length, map, Option}
-use Rattle.query_core.specs.declared.fault.AnswerFault.{AnswerFault}
+-- The captures of archives, and the pages that a scan writes of them.
+use Rattle.std.proofs.Common.{arith, ◌≡◌, List, [], ◌∷◌, map, refl, append-nil, ℕ, Bool, false, ◌++◌, Option, Equal}
+use Rattle.std.proofs.Common.{Err, Ok, length}
+use Rattle.std.specs.List.{flat_map, AllByRecursion, AllZip}
+use Rattle.std.proofs.lemmas.List.{map-append}
+use Rattle.cdxj_places.specs.Places.{place_cmp}
+use Rattle.cdxj_places.proofs.PlaceOrder.{place_cmp_total, same_place}
+use Rattle.cdxj_places.proofs.RisingAlike.{rising_referred}
+use Rattle.cdxj_core.specs.Entries.{EntryValue, entry_place}
+use Rattle.cdxj_core.specs.Members.{entry_member, member_place, Member}
+use Rattle.index_core.specs.Indexing.{entries_text, in_places, index_text, AreNamed, HaveOwnPlaces, is_among}
+use Rattle.merge_core.specs.Collections.{collection, Known}
+use Rattle.merge_core.specs.Written.{lines_text}
+use Rattle.query_core.proofs.ComposeLemmas.{rising_parts}
+use Rattle.scan_core.specs.Archives.{index_members, AreNewNames, AreCapturesOfEach, HaveLines, HaveIndexes}
+use Rattle.scan_core.specs.Captures.{all_captures, captured_lines}
 use Rattle.warc_core.specs.Kind.{Kind}
-use Rattle.std.specs.List.{AllZip}
+use Rattle.cdxj_places.proofs.RisingLaws.{each_join, each_weaker}
+use Rattle.index_core.proofs.SoundLemmas.{among_more, among_last}
+use Rattle.query_core.specs.declared.fault.AnswerFault.{AnswerFault}
 use Rattle.cdxj_core.specs.declared.limit.TheConstants.{LINE_LIMIT}
 use Rattle.cdxj_core.specs.Indexes.{IsIndex}
-use Rattle.cdxj_core.specs.Members.{Member}
-use Rattle.merge_core.specs.Collections.{collection}
 use Rattle.query_text.specs.Queries.{QueryValue}
-use Rattle.scan_core.specs.Archives.{HaveIndexes, index_members}
 use Rattle.scan_core.specs.Scanning.{IsAsked, Scanned, ScannedInPart, WritesKnownPages}
-use Rattle.scan_core.proofs.CollectionLemmas.{collected}
-use Rattle.scan_core.proofs.OnceLemmas.{once_from}
+use Rattle.index_core.specs.Laws.{OneIndexed}
+use Rattle.query_core.proofs.PageChains.{wrote_one}
+use Rattle.scan_core.specs.Laws.{ScanIsOne}
+
+-- ---- the collection of several indexes is that of all captures
+
+all_members : (archives : List (List EntryValue)) → flat_map (λ members. members) (map index_members archives)
+    ≡ map entry_member (flat_map in_places archives)
+all_members [] = refl
+all_members (captures ∷ archives) = grind (arith, map-append, all_members archives)
+
+pub collected : (archives : List (List EntryValue)) → collection (map index_members archives) ≡ captured_lines archives
+collected archives =
+    grind (
+      arith,
+      all_members archives,
+      rising_referred entry_member member_place place_cmp
+          (flat_map in_places archives),
+      rising_parts,
+      place_cmp_total,
+    )
+
+lines_of : (entries : List EntryValue) → lines_text (map entry_member entries) ≡ entries_text entries
+lines_of [] = refl
+lines_of (entry ∷ entries) = grind (arith, lines_of entries)
+
+pub index_is_merge : (archives : List (List EntryValue)) → index_text (all_captures archives)
+    ≡ lines_text (collection (map index_members archives))
+index_is_merge archives = grind (arith, collected archives, lines_of (in_places (all_captures archives)))
+
+pub scan_is_over_index : (archives : List (List EntryValue)) → captured_lines archives
+    ≡ collection (index_members (all_captures archives) ∷ [])
+scan_is_over_index archives = grind (arith, append-nil, collected (all_captures archives ∷ []))
+
+-- ---- captures of archives of different names have different places
+
+-- a capture of that name is at another place than those of other names
+apart : (earlier : List (List ℕ)) (name : List ℕ) (e : EntryValue) → e.filename ≡ name → (others : List EntryValue)
+    → AllByRecursion (λ o. is_among (earlier ++ name ∷ []) o.filename ≡ false) others
+    → AllByRecursion (λ o. place_cmp (entry_place e) (entry_place o) ≡ Equal → ⊥) others
+apart earlier name e named [] h = tt
+apart earlier name e named (o ∷ others) h = (
+  (λ q. let same = same_place (entry_place e) (entry_place o) q in grind (arith, among_last)),
+  apart earlier name e named others h.1,
+)
+
+own_join : (earlier : List (List ℕ)) (name : List ℕ) (captures others : List EntryValue)
+    → AreNamed name captures → HaveOwnPlaces captures
+    → AllByRecursion (λ o. is_among (earlier ++ name ∷ []) o.filename ≡ false) others → HaveOwnPlaces others
+    → HaveOwnPlaces (captures ++ others)
+own_join earlier name [] others named own new h = h
+own_join earlier name (e ∷ captures) others named own new h =
+    grind (arith, each_join, apart, own_join earlier name captures others named.1 own.1 new h)
+
+-- each capture of archives with new names has a place of its own, and a name that isn't an earlier one
+pub once_from : (types : Kind → Bool) (earlier names : List (List ℕ)) (inputs : List (Option (List ℕ)))
+    (archives : List (List EntryValue)) → AreNewNames earlier names → AreCapturesOfEach types names inputs archives
+    → AllByRecursion HaveLines archives
+    → HaveOwnPlaces (all_captures archives)
+    × AllByRecursion (λ e. is_among earlier e.filename ≡ false) (all_captures archives)
+once_from types earlier (name ∷ names) (i ∷ inputs) (captures ∷ archives) new accepted lines =
+    let rest = once_from types (earlier ++ name ∷ []) names inputs archives new.1 accepted.1 lines.1 in (
+      own_join earlier name captures (all_captures archives) accepted.0.0 lines.0.places rest.1 rest.0,
+      grind (arith, each_join, each_weaker, among_more),
+    )
+once_from types earlier names inputs archives new accepted lines = grind arith
+
+-- ---- what a scan wrote, from what its parts did
 
 module _ {types : Kind → Bool} {names texts : List (List ℕ)} {inputs : List (Option (List ℕ))} {sizes text : List ℕ}
     {query : QueryValue} {old new : Option (List ℕ)} (asked : IsAsked sizes text (length names) query)
@@ -20,12 +98,27 @@ module _ {types : Kind → Bool} {names texts : List (List ℕ)} {inputs : List 
       → ((members : List (List Member)) → AllZip (IsIndex LINE_LIMIT) texts members
       → WritesKnownPages query (collection members) sizes (Ok number) old new)
       → Scanned types names inputs sizes text old new number
-  scanned_whole number w =
-      let known = w (map index_members found.captures) found.are_indexes in grind (arith, once_from, collected)
+  scanned_whole number w = grind (arith, once_from, collected)
 
   pub scanned_part : (fault : AnswerFault) → ((members : List (List Member)) → AllZip (IsIndex LINE_LIMIT) texts members
       → WritesKnownPages query (collection members) sizes (Err fault) old new)
       → ScannedInPart types names inputs sizes text old new
-  scanned_part fault w =
-      let known = w (map index_members found.captures) found.are_indexes in
-      let part = known.wrote asked.sizes in grind (arith, collected)
+  scanned_part fault w = grind (arith, collected)
+
+-- ---- a scan of known archives writes one text
+
+-- archives that are known are accepted with one list of captures each
+one_captures : OneIndexed → (types : Kind → Bool) (names : List (List ℕ)) (inputs : List (Option (List ℕ)))
+    (archives : List (List ℕ)) (these those : List (List EntryValue)) → Known inputs archives
+    → AreCapturesOfEach types names inputs these → AreCapturesOfEach types names inputs those → these ≡ those
+one_captures one types (name ∷ names) (input ∷ inputs) (archive ∷ archives) (c ∷ cs) (d ∷ ds) known a b =
+    grind (arith, one_captures one types names inputs archives cs ds known.1 a.1 b.1)
+one_captures one types names inputs archives these those known a b = grind arith
+
+pub scan_one : OneIndexed → ScanIsOne
+scan_one one types names archives inputs sizes text old new new' number number' known a b =
+    let same = one_captures one types names inputs archives a.captures b.captures known a.indexed.accepted
+    b.indexed.accepted in
+    let query : a.query ≡ b.query = grind arith in
+    wrote_one a.query (captured_lines a.captures) sizes old new new' number number' a.wrote
+    (rw (query, same) b.wrote)

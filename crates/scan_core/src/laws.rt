@@ -15,11 +15,13 @@ pub fn accepted_archives_are_scanned()
 }
 
 /// The index of several archives is the merge of the archives' indexes, byte for byte.
+#[tactic(auto, using(crate::proofs::ScanLemmas::index_is_merge))]
 pub fn index_of_archives_is_merge()
     ensures { IndexIsMerge }
 {}
 
 /// The pages of a scan are those of the index of all its archives: `scan` writes what `index` and `pages` write.
+#[tactic(auto, using(crate::proofs::ScanLemmas::scan_is_over_index))]
 pub fn scan_is_index_and_pages()
     ensures { ScanIsOverIndex }
 {}

@@ -1,11 +1,10 @@
 use Rattle.query_core.proofs.Words.{[], ◌++◌, ◌∙◌, ◌≡◌, AreAtMost, GaveInReach, Grows, List, Member, Option}
 use Rattle.query_core.proofs.Words.{OverIndexes, ℕ, ap, append-nil, arith, err_from_is_err_and, grows_by, grows_part}
 use Rattle.query_core.proofs.Words.{is_some, length-map, map, page_over, query_page, refl, sym, true, wrote_nothing}
-use Rattle.query_core.proofs.AskedLemmas.{no_more, Writing, end_front, of_none, of_taken, of_whole, page_broke}
-use Rattle.query_core.proofs.AskedLemmas.{page_ended, passed, settles}
+use Rattle.query_core.proofs.PagesReach.{no_more, Writing, end_front, of_none, of_taken, of_whole, page_broke}
+use Rattle.query_core.proofs.PagesReach.{page_ended, passed, settles, page_fewer, page_reached, within}
 use Rattle.query_core.proofs.WriterLemmas.{captures}
 use Rattle.page_core.proofs.PageLemmas.{front-start}
-use Rattle.query_core.proofs.PagesReach.{page_fewer, page_reached, within}
 use Rattle.query_core.proofs.answering.answer.Given.{Over}
 use Rattle.query_core.proofs.answering.answer.Goals.{In_ok-writer, In_ok-pass}
 use Rattle.query_core.proofs.answering.answer.Goals as goal

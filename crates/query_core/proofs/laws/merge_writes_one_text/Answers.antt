@@ -1,4 +1,4 @@
-use Rattle.query_core.proofs.OneTextLemmas.{merge_one}
+use Rattle.query_core.proofs.PageChains.{merge_one}
 use Rattle.query_core.proofs.laws.merge_writes_one_text.Goals as goal
 
 pub returns : goal.returns

@@ -4,9 +4,9 @@ use Rattle.query_core.proofs.Words.{err_from_is_err_and, first_size, grows_by, g
 use Rattle.query_core.proofs.Words.{refl, rules, sym, true, true≢false}
 use Rattle.std.proofs.lemmas.Bool.{true_from_ne_false}
 use Rattle.query_core.proofs.PageChains.{wrote_front, wrote_none}
-use Rattle.query_core.proofs.AskedLemmas.{Writing, collection_rises, of_none, of_taken, of_whole, passed}
+use Rattle.query_core.proofs.PagesReach.{Writing, collection_rises, of_none, of_taken, of_whole, passed, all, all_ended}
+use Rattle.query_core.proofs.PagesReach.{any_front, at_end, stood_pages, pages_reached}
 use Rattle.query_core.proofs.WriterLemmas.{captures}
-use Rattle.query_core.proofs.PagesReach.{all, all_ended, any_front, at_end, stood_pages, pages_reached}
 use Rattle.query_core.proofs.PagesLemmas.{start_front, all_positive}
 use Rattle.query_core.proofs.paging.pages.Given.{Over}
 use Rattle.query_core.proofs.paging.pages.Goals.{In_err-writer, In_ok-end, In_ok-read_lines, In_ok-writer}

@@ -1,9 +1,9 @@
 use Rattle.query_core.proofs.Words.{[], ◌++◌, ◌∙◌, ◌≡◌, Bool, List, Member, ReadFor, Some, ap, append-nil, arith}
-use Rattle.query_core.proofs.Words.{err_from_is_err_and, false, inputs, grows_not, inl, length-map, map, refl, sym, true}
+use Rattle.query_core.proofs.Words.{err_from_is_err_and, false, grows_not, inl, inputs, length-map, map, refl, sym}
+use Rattle.query_core.proofs.Words.{true}
 use Rattle.query_core.proofs.WriterLemmas.{captures, captures_append}
-use Rattle.query_core.proofs.PageOfIndexes.{Opened, reading, told, wanted_whole}
-use Rattle.query_core.proofs.ReachLemmas.{cut_all, cut_before, cut_last, gave_upto, gave_within, lines_within, of_parts}
-use Rattle.query_core.proofs.ReachLemmas.{took, within_opening}
+use Rattle.query_core.proofs.ReachLemmas.{Opened, reading, told, wanted_whole, cut_all, cut_before, cut_last, gave_upto}
+use Rattle.query_core.proofs.ReachLemmas.{gave_within, lines_within, of_parts, took, within_opening}
 use Rattle.merge_core.proofs.OpenLemmas.{came_of, cuts_of}
 use Rattle.query_core.specs.Passes.{WantedMore}
 use Rattle.query_core.proofs.pass.read_lines.Given.{Over}

@@ -1,5 +1,5 @@
 use Rattle.query_core.proofs.Words.{arith, map}
-use Rattle.query_core.proofs.SoundIndexes.{no_line_at_fault}
+use Rattle.query_core.proofs.PageIndexes.{no_line_at_fault}
 use Rattle.query_core.specs.declared.fault.AnswerFault.TheVariants as fault
 use Rattle.query_core.proofs.serving.reply_to_query.Goals as goal
 

@@ -1,22 +1,11 @@
-use Rattle.query_core.proofs.Words.{[], ◌+◌, QUERY_LIMIT, TakesLine, arith, err_from_is_err_and, prepend_known, refl}
-use Rattle.query_core.proofs.Words.{true}
+use Rattle.query_core.proofs.Words.{◌+◌, QUERY_LIMIT, TakesLine, arith, err_from_is_err_and, prepend_known, refl, true}
 use Rattle.devices.proofs.Takings.{taken-join}
-use Rattle.query_core.proofs.ReplyBytes.{spent_none, spent_stop, spent_more, spent_within}
-use Rattle.query_core.proofs.ReplyLemmas.{input_stops, line_more, line_none, line_within, one_reply, one_reply_part}
-use Rattle.query_core.proofs.ReplyLemmas.{replied_front, replied_none, replied_taken}
+use Rattle.query_core.proofs.ReplyLemmas.{spent_none, spent_more, spent_within, input_stops, line_more, line_none}
+use Rattle.query_core.proofs.ReplyLemmas.{line_within, one_reply, one_reply_part, replied_front, replied_none}
+use Rattle.query_core.proofs.ReplyLemmas.{replied_taken}
 use Rattle.query_core.proofs.serving.serve.Given.{Over}
 use Rattle.query_core.proofs.serving.serve.Goals.{After-reply_and_mark}
 use Rattle.query_core.proofs.serving.serve.Goals as goal
-
--- ---- nothing is replied
-
-pub returns-then-sources-gt-SOURCES_LIMIT-clause-bytes : goal.returns-then-sources-gt-SOURCES_LIMIT-clause-bytes
-returns-then-sources-gt-SOURCES_LIMIT-clause-bytes g c = λ texts indexes known are.
-    spent_stop (spent_none g.S.Source _ texts indexes (g.I.Input.remaining _) [] (g.O.Output.written _) _ known are refl)
-
-pub returns-in_err-lines-clause-bytes : goal.returns-in_err-lines-clause-bytes
-returns-in_err-lines-clause-bytes g c = λ texts indexes known are.
-    spent_stop (spent_none g.S.Source _ texts indexes (g.I.Input.remaining _) [] (g.O.Output.written _) _ known are refl)
 
 -- ---- a line isn't read
 
@@ -31,9 +20,6 @@ returns-in_err-next-clause-taken g c = λ texts indexes known are e.
     replied_taken _ _ _ _ _ _ _ _ _ (c.loop-lines.invariant.told texts indexes known are).so_far
     c.loop-lines.invariant.taken
     (input_stops _ _ _ _ _ _ _ c.from_residual-in_err-next.ensures.1 e failed.stopped failed.failures)
-
-pub returns-in_err-next-clause-taken_lines : goal.returns-in_err-next-clause-taken_lines
-returns-in_err-next-clause-taken_lines g c = grind (arith, replied_taken, input_stops)
 
 -- ---- a reply ends in a fault
 
@@ -113,10 +99,3 @@ returns-clause-replies g c = λ texts indexes known are.
     let read = c.in_ok-next.ensures in
     one_reply _ _ _ _ _ _ (line_none _ _ _ _ _ _ _ _ _ _ _ _ (inv.told texts indexes known are).so_far
     (rw inv.most at read.line) c.if-branch.false inv.taken read.count read.within)
-
-pub returns-clause-lines : goal.returns-clause-lines
-returns-clause-lines g c =
-    let inv = c.loop-lines.invariant in
-    let read = c.in_ok-next.ensures in
-    line_none _ _ _ _ _ _ _ _ _ _ _ _ inv.any (rw inv.most at read.line) c.if-branch.false inv.taken read.count
-    read.within

@@ -1,4 +1,4 @@
-use Rattle.scan_core.proofs.OneScan.{scan_one}
+use Rattle.scan_core.proofs.ScanLemmas.{scan_one}
 use Rattle.scan_core.proofs.laws.scan_writes_one_text.Goals as goal
 
 pub returns : goal.returns

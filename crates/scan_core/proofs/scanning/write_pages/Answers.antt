@@ -1,14 +1,61 @@
-use Rattle.std.proofs.Common.{◌≤◌, length, map, ap, ◌∙◌, arith}
-use Rattle.std.proofs.lemmas.List.{length-map}
+use Rattle.std.specs.List.{AllZip}
+use Rattle.std.proofs.Common.{◌≡◌, ℕ, suc, ◌≤◌, true, List, [], ◌∷◌, map, get_or, Option, Some, Result, Ok, Err, IfErr}
+use Rattle.std.proofs.Common.{refl, arith, length, ap, ◌∙◌}
+use Rattle.std.proofs.lemmas.Bool.Decides.{nat_tests}
+use Rattle.cdxj_core.specs.declared.limit.TheConstants.{LINE_LIMIT}
+use Rattle.cdxj_core.specs.Indexes.{IsIndex}
+use Rattle.cdxj_core.specs.Members.{Member}
+use Rattle.devices.specs.Device.{next_count}
+use Rattle.merge_core.specs.Collections.{Known, collection}
+use Rattle.merge_core.specs.Failures.{RaisedAt}
+use Rattle.query_core.specs.declared.fault.AnswerFault.{AnswerFault}
+use Rattle.query_core.specs.AnswerCounts.{CountsAnswer}
+use Rattle.query_core.specs.IndexFaults.{IsAnswerFaultOf}
+use Rattle.query_core.specs.declared.merging.TheConstants.{SOURCES_LIMIT}
+use Rattle.query_core.specs.Paging.{are_sizes}
+use Rattle.query_core.specs.QueryLaws.{NoLineIsAtFault}
+use Rattle.query_core.specs.Refusals.{Refuses, bad_sizes_or_too_many}
+use Rattle.std.proofs.lemmas.List.{get_or-set_same, length-map}
+use Rattle.scan_core.specs.Scanning.{IsPagesFault}
 use Rattle.devices.proofs.WritingLemmas.{wrote_nothing}
-use Rattle.merge_core.specs.Collections.{collection}
 use Rattle.source_core.specs.Slices.{slice_text}
 use Rattle.query_text.specs.Collapses.{same_part}
-use Rattle.query_core.specs.declared.merging.TheConstants.{SOURCES_LIMIT}
 use Rattle.query_core.specs.QueryPages.{selected}
 use Rattle.query_core.proofs.PagesLemmas.{all_positive}
-use Rattle.scan_core.proofs.PageLemmas.{known_texts, pages_fault}
 use Rattle.scan_core.proofs.scanning.write_pages.Goals as goal
+
+-- sources in memory tell their bytes
+known_texts : {S : Type 0} (text : S → List ℕ) (sources : List S) (texts : List (List ℕ)) → map text sources ≡ texts
+    → Known (map (λ s. Some (text s)) sources) texts
+known_texts text sources texts e = rw (← e) (known_own sources)
+  where
+    known_own : (ss : List _) → Known (map (λ s. Some (text s)) ss) (map text ss)
+    known_own [] = tt
+    known_own (s ∷ ss) = (refl, known_own ss)
+
+abbrev zeros : {S : Type 0} → List S → List ℕ
+zeros ss = map (λ s. 0) ss
+
+zero_at : {S : Type 0} (ss : List S) (i : ℕ) → get_or (zeros ss) i 0 ≡ 0
+zero_at (s ∷ ss) (suc i) = zero_at ss i
+zero_at ss i = grind arith
+
+-- no count of 0 rises where all stay 0
+none_raised : {S : Type 0} (i : ℕ) (old new : List S) → RaisedAt i (zeros old) (zeros new) → ⊥
+none_raised i old new h =
+    grind (arith, zero_at new i, get_or-set_same (zeros old) i (next_count (get_or (zeros old) i 0)) 0 h.0, zero_at)
+
+-- pages over indexes meet no fault of a line or of a source
+pages_fault : {S : Type 0} → NoLineIsAtFault
+    → (r : Result ℕ AnswerFault) (tolds : List (Option (List ℕ))) (texts : List (List ℕ)) (members : List (List Member))
+    (old new : List S) (o o' : ℕ) (sizes : List ℕ) (count : ℕ) (X : Type 0) → Known tolds texts
+    → AllZip (IsIndex LINE_LIMIT) texts members
+    → IfErr r (IsAnswerFaultOf tolds) → CountsAnswer r (zeros old) (zeros new) o o'
+    → are_sizes sizes ≡ true → count ≤ SOURCES_LIMIT → Refuses (bad_sizes_or_too_many sizes count) r X
+    → IfErr r IsPagesFault
+pages_fault law (Ok n) tolds texts members old new o o' sizes count X known are f counts sized h refused = tt
+pages_fault law (Err fault) tolds texts members old new o o' sizes count X known are f counts sized h refused =
+    let named = law tolds fault f texts members known are in grind (arith, none_raised, nat_tests)
 
 pub returns-in_err-sources-clause-pages : goal.returns-in_err-sources-clause-pages
 returns-in_err-sources-clause-pages g c = λ members are.

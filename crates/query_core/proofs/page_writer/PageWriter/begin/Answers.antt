@@ -9,16 +9,14 @@ returns-clause-wrote g c = λ sized.
     let form = c.new-output.ensures ∙ c.form_of.ensures ∙ ap form_of (sym selection.query.0) in
     record {
       same = (refl, refl);
+      selects = λ e. selection.selects;
       one = λ none. record {
         limit = refl;
         sizes = none;
         stands = nothing_taken _ _ _ _ (rw (← form) c.in_ok-put_start.ensures.text);
-        selects = λ e. selection.selects;
       };
       all = λ positive. record {
         more = refl;
-        selects = selection.selects;
-        size = sized positive;
-        stands = none_stand _ _ _ _ positive (rw (← form) c.in_ok-put_start.ensures.text);
+        stands = none_stand _ _ _ _ _ positive (sized positive) (rw (← form) c.in_ok-put_start.ensures.text);
       };
     }

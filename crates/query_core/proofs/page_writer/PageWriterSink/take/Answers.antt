@@ -1,11 +1,8 @@
-use Rattle.query_core.proofs.Words.{◌≡◌, append-nil, arith, err_from_is_err_and, from_view, grows_not, grows_on, take}
+use Rattle.query_core.proofs.Words.{◌≡◌, arith, err_from_is_err_and, from_view, grows_on, take}
 use Rattle.query_core.proofs.Words.{take_all}
 use Rattle.query_core.proofs.PagesLemmas.{front_more}
 use Rattle.query_core.proofs.WriterLemmas.{one_more, parted, broke_longer}
 use Rattle.query_core.proofs.page_writer.PageWriterSink.take.Goals as goal
-
-pub loop-line-init : goal.loop-line-init
-loop-line-init g c = grind (arith, append-nil, grows_not)
 
 pub loop-line-preserved : goal.loop-line-preserved
 loop-line-preserved g c = record {
