@@ -85,7 +85,21 @@ offset_text n small =
 
 pub place_in-place_text : (p : PlaceValue) → IsPlace p → place_in (place_text p) ≡ Some p
 unfolding place_in
-place_in-place_text p h = grind (arith, key_no_space, digits_no_space, and_parts, digits_decimal, own, after_first_at, before_first_at, before_last_at, after_last_at, offset_text, digits_value-decimal)
+place_in-place_text p h =
+    grind (
+      arith,
+      key_no_space,
+      digits_no_space,
+      and_parts,
+      digits_decimal,
+      own,
+      after_first_at,
+      before_first_at,
+      before_last_at,
+      after_last_at,
+      offset_text,
+      digits_value-decimal,
+    )
 
 digit_ascii : (b : ℕ) → IsDigit b → b < 128
 digit_ascii b h = grind (arith, nat_tests)

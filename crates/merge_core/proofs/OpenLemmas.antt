@@ -30,8 +30,8 @@ module _ {past : List ℕ → Bool} {S : Type 0} {device : Ghosts S} {ss : List 
           same = grind (arith, length-append);
           placed = rw long (placed_queued (n + 1) n m.queue m'.queue added.first (omega arith)
               (each_weaker (λ v h. omega arith) m.queue was.aligned.placed) added.queue_is);
-          input = rw added_inputs (all_zipped_more (λ s f. IsInput past (device.text s) (device.extent s) f) ss (inputs m) s its_input
-              was.aligned.input added.input);
+          input = rw added_inputs (all_zipped_more (λ s f. IsInput past (device.text s) (device.extent s) f) ss
+              (inputs m) s its_input was.aligned.input added.input);
         };
         settled = grind (arith, added_inputs, all_zipped_more);
       }

@@ -49,7 +49,8 @@ pub took_of_indexes : {S : Type 0} {device : Ghosts S}
     → ((m : Member) → wanted m ≡ true → stays past m ≡ true)
     → ((m : Member) → wanted m ≡ true → is_low start m ≡ false)
     → Took past wanted b m.queue (collection indexes) taken
-took_of_indexes {device = device} {past = past} {ss0 = ss0} {ss = ss} {m0 = m0} {m = m} reached same start cut texts indexes known are upward wanted within beyond =
+took_of_indexes {device = device} {past = past} {ss0 = ss0} {ss = ss} {m0 = m0} {m = m} reached same start
+    cut texts indexes known are upward wanted within beyond =
     let found = runs_sought device start ss0 m0.cursors.items texts indexes same known are cut in
     let told = told_known device.text ss0 texts known in
     record {

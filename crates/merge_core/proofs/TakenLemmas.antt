@@ -118,7 +118,8 @@ module _ {past : List ℕ → Bool} (upward : IsUpward past) (upto : Member → 
 
     read_of : filter (is_read past upto) ms ≡ done past t f
     read_of =
-        let told = input.told t refl in grind (arith, append_assoc, done_read, filter-append, filter_all, filter_none, append-nil, tail_unread)
+        let told = input.told t refl in
+        grind (arith, append_assoc, done_read, filter-append, filter_all, filter_none, append-nil, tail_unread)
 
   -- Of the lines from the start on, those that were come to are those that were taken
   pub input_read : (ms : List Member) → IsRun LINE_LIMIT (lines (drop f.cursor.start t)) ms

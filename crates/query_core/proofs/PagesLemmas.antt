@@ -146,7 +146,8 @@ module _ {q : QueryValue} {sizes : List ℕ} {c : List Member} {start now : Opti
         → IsFront q sizes (c ++ m ∷ []) start new
     capture_front new p later =
         let more = room_more s.written.page free fits m in
-        front_from q _ left s.whole _ (s.rows ++ m ∷ []) later _ _ s.written.positive (grind arith) (λ rest h. grind (arith, append_assoc, length-append))
+        front_from q _ left s.whole _ (s.rows ++ m ∷ []) later _ _ s.written.positive (grind arith)
+        (λ rest h. grind (arith, append_assoc, length-append))
         (row_front s.written.page m new p)
 
   -- ---- where the page is full

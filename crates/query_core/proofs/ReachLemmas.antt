@@ -129,7 +129,8 @@ module _ {S : Type 0} (device : Ghosts S) (q : QueryValue) (olds : List S) where
     pub reached : Reached (is_past q.target) device opened begun sources merge bound taken
 
 abbrev pub reading : {S : Type 0} {device : Ghosts S} {q : QueryValue} {olds : List S}
-    {opened : List S} {begun : MergeState} {sources : List S} {merge : MergeState} {bound : Option Pair} {taken : List Member} → Opened device q olds opened begun
+    {opened : List S} {begun : MergeState} {sources : List S} {merge : MergeState} {bound : Option Pair}
+    {taken : List Member} → Opened device q olds opened begun
     → Reached (is_past q.target) device opened begun sources merge bound taken
     → Reading device q olds
 reading start reached = record {

@@ -38,7 +38,8 @@ most_lines : (g : Over) (c : After-pass_group g) (now : ℕ)
     → now ≤ length c.args.sources.now + most)
 most_lines g c now is texts indexes known are most share h =
     let before = c.loop-rest.invariant.most_lines texts indexes known are most share h in
-    let few = held_most c.loop-rest.invariant.came.reached (grouped g c) (reached g c) c.requires.ready.aligned.same texts indexes known are most share in
+    let few = held_most c.loop-rest.invariant.came.reached (grouped g c) (reached g c)
+    c.requires.ready.aligned.same texts indexes known are most share in
     grind (arith, length-map)
 
 order : (g : Over) (c : After-pass_group g)
