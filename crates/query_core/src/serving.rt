@@ -8,7 +8,7 @@ ghost use Rattle.query_core.specs.Refusals.{Refuses, too_many};
 ghost use Rattle.query_core.specs.Replies.{reply_of};
 ghost use Rattle.query_core.specs.ReplyReach.{AllGaveAtMost, GaveForLines, line_most, query_most};
 ghost use Rattle.query_core.specs.AnyReplies.{IsPageReply, IsTextReply};
-ghost use Rattle.query_core.specs.Conversations.{Converses, HoldsOfReplies, IsLineReply, IsMarkedReply, IsOneReply, Replied, RepliedInPart, RepliedToTaken, WritesSome};
+ghost use Rattle.query_core.specs.Conversations.{Converses, HoldsOfReplies, IsLineReply, IsMarkedReply, Replied, RepliedInPart, RepliedToTaken, WritesSome};
 ghost use Rattle.query_core.specs.ReplyFaults.{CountsServing, RepliesFrom};
 
 use crate::answering::answer;
@@ -147,16 +147,12 @@ pub fn serve<S: Source, I: Input, O: Output>(
     ensures part { OverIndexes (map S.text sources.old) (λ texts indexes.
         RepliedInPart QUERY_LIMIT (reply_of QUERY_LIMIT (collection indexes))
         (I.remaining input.old) (O.written out.old) (O.written out.new)) }
-    ensures taken { OverIndexes (map S.text sources.old) (λ texts indexes.
-        result ≡ Err AnswerFault.Input → RepliedToTaken QUERY_LIMIT
-        (IsOneReply (reply_of QUERY_LIMIT (collection indexes))) (I.remaining input.old)
-        (I.remaining input.new) (O.written out.old) (O.written out.new)) }
+    ensures taken { result ≡ Err AnswerFault.Input →
+        HoldsOfReplies (map S.text sources.old) (λ IsReply. RepliedToTaken QUERY_LIMIT IsReply
+        (I.remaining input.old) (I.remaining input.new) (O.written out.old) (O.written out.new)) }
     // Whatever the sources' bytes, each page is that of lines of theirs that rise by place.
     ensures lines { Converses QUERY_LIMIT (IsTextReply (map S.text sources.old)) result
         (I.remaining input.old) (O.written out.old) (O.written out.new) }
-    ensures taken_lines { result ≡ Err AnswerFault.Input →
-        RepliedToTaken QUERY_LIMIT (IsTextReply (map S.text sources.old))
-        (I.remaining input.old) (I.remaining input.new) (O.written out.old) (O.written out.new) }
     // Each source gives no more than the queries may take of the lines that were answered, and of one more.
     ensures bytes { OverIndexes (map S.text sources.old) (λ texts indexes.
         GaveForLines S.Source QUERY_LIMIT (I.remaining input.old) texts indexes (O.written out.old)

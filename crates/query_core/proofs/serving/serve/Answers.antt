@@ -15,11 +15,15 @@ returns-in_err-next-clause-lines g c =
     (replied_front _ _ _ _ _ _ _ c.loop-lines.invariant.any)
 
 pub returns-in_err-next-clause-taken : goal.returns-in_err-next-clause-taken
-returns-in_err-next-clause-taken g c = λ texts indexes known are e.
+returns-in_err-next-clause-taken g c = λ e.
     let failed = c.in_err-next.ensures in
-    replied_taken _ _ _ _ _ _ _ _ _ (c.loop-lines.invariant.told texts indexes known are).so_far
-    c.loop-lines.invariant.taken
-    (input_stops _ _ _ _ _ _ _ c.from_residual-in_err-next.ensures.1 e failed.stopped failed.failures)
+    let stops = input_stops _ _ _ _ _ _ _ c.from_residual-in_err-next.ensures.1 e failed.stopped failed.failures in
+    let inv = c.loop-lines.invariant in
+    record {
+      any = replied_taken _ _ _ _ _ _ _ _ _ inv.any inv.taken stops;
+      over = λ texts indexes known are.
+          replied_taken _ _ _ _ _ _ _ _ _ (inv.told texts indexes known are).so_far inv.taken stops;
+    }
 
 -- ---- a reply ends in a fault
 
