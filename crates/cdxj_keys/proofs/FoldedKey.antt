@@ -28,12 +28,7 @@ pub folded_is_key : (bytes : List ℕ) → All (λ b. b < 256) bytes → 0 < len
 folded_is_key bytes small h = λ i. is_filled bytes h i && bytes_are_key bytes small i
 
 pub graphic_is_key : (text : List ℕ) → list_all is_graphic text ≡ true → 0 < length text → is_key (folded text) ≡ true
-graphic_is_key text h =
-    folded_is_key text (λ k d within. omega (
-      arith,
-      byte_is_ascii (get_or text k d)
-          (AllPass-from_list_all is_graphic text h k d within),
-    ))
+graphic_is_key text h = grind (arith, folded_is_key, byte_is_ascii, get_or, AllPass-from_list_all)
 
 -- the key text of a web URL isn't empty
 pub web_text_is_filled : (url : Parts) → 0 < length (web_text url)

@@ -20,5 +20,4 @@ pub byte_is_ascii : (b : ℕ) → is_graphic b ≡ true → b < 128
 byte_is_ascii b h = grind arith
 
 pub graphic_utf8 : (text : List ℕ) → list_all is_graphic text ≡ true → IsUtf8 text
-graphic_utf8 text h = IsUtf8-from_ascii text (IsAscii-from_all text (λ k d within. byte_is_ascii (get_or text k d)
-    (AllPass-from_list_all is_graphic text h k d within)))
+graphic_utf8 text h = grind (arith, IsUtf8-from_ascii, IsAscii-from_all, byte_is_ascii, get_or, AllPass-from_list_all)

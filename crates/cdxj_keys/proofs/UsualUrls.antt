@@ -31,21 +31,14 @@ path_byte b small h =
 
 -- and one of a domain, if it isn't `/`
 domain_byte : (b : ℕ) → is_usual_byte b ≡ true → (b ≡ 47 → ⊥) → is_domain_byte b ≡ true
-domain_byte b h n =
-    let other : (b == 47) ≡ false = false_from_ne_true (b == 47) (λ e. n (eqb-true b 47 e)) in
-    grind (arith, other)
+domain_byte b h n = grind (arith, false_from_ne_true, eqb-true)
 
 no_percent : (b : ℕ) → is_usual_byte b ≡ true → (b == 37) ≡ false
-no_percent b h =
-    false_from_ne_true (b == 37) (λ e.
-    let k : is_usual_byte 37 ≡ true = subst (λ x. is_usual_byte x ≡ true) (eqb-true b 37 e) h in
-    grind arith)
+no_percent b h = grind (arith, false_from_ne_true, eqb-true)
 
 pub domain_bytes : (host tail : List ℕ) → list_all is_usual_byte (host ++ tail) ≡ true
     → ((k : ℕ) → k < length host → slice_index host k ≡ 47 → ⊥) → list_all is_domain_byte host ≡ true
-domain_bytes host tail h n =
-    let front : list_all is_usual_byte host ≡ true = grind (arith, list_all-append is_usual_byte host tail) in
-    implied is_usual_byte is_domain_byte host (λ k l u. domain_byte (get_or host k 0) u (n k l)) front
+domain_bytes host tail h n = grind (arith, list_all-append, implied, domain_byte, get_or)
 
 pub bytes_behind : (host tail : List ℕ) → list_all is_usual_byte (host ++ tail) ≡ true → list_all is_usual_byte tail
     ≡ true
@@ -53,11 +46,7 @@ bytes_behind host tail h = grind (arith, list_all-append is_usual_byte host tail
 
 -- a byte after another
 plain_pair : (a b : ℕ) → is_usual_byte b ≡ true → (b ≡ 46 → a ≡ 47 → ⊥) → begins_plain a b ≡ true
-plain_pair a b h n =
-    let percent = no_percent b h in
-    let dot : ((a == 47) && (b == 46)) ≡ false =
-    not_both (a == 47) (b == 46) (λ s d. n (eqb-true b 46 d) (eqb-true a 47 s)) in
-    grind (arith, percent, dot)
+plain_pair a b h n = grind (arith, no_percent, not_both, eqb-true)
 
 segments : (path : List ℕ) → list_all is_usual_byte path ≡ true → HasInnerDots path (length path)
     → list_all (λ p. begins_plain p.0 p.1) (zip path (drop 1 path)) ≡ true
@@ -73,11 +62,7 @@ segments (a ∷ b ∷ bs) h n =
 
 pub usual_path : (path : List ℕ) → ((k : ℕ) → get_or path k 0 < 256) → list_all is_usual_byte path ≡ true
     → HasInnerDots path (length path) → IsPlainPath path
-usual_path path small h n =
-    record {
-      bytes = implied is_usual_byte is_path_byte path (λ k l u. path_byte (get_or path k 0) (small k) u) h;
-      segments = segments path h n;
-    }
+usual_path path small h n = grind (arith, implied, path_byte, get_or, segments)
 
 -- a dot that follows no slash
 pub dots_more : (path : List ℕ) (at dot : ℕ) → HasInnerDots path at

@@ -57,11 +57,7 @@ no_colon b h e = grind arith
 pub name_before : (line : List ℕ) (end : ℕ) → 0 < end → end < length line → AllPassBetween is_name_byte line 0 end
     → slice_index line end ≡ 58 → EndsName line end
 unfolding field_in
-name_before line end some within pass mark =
-    let bytes = name_bytes line end pass (omega arith) in
-    let long = length-take-le end line (omega arith) in
-    let colon = colon_at line end within (grind arith) (λ k l. no_colon (get_or line k 0) (pass k (omega arith) l)) in
-    (within, grind (arith, some_byte, nat_tests))
+name_before line end some within pass mark = grind (arith, name_bytes, length-take-le, colon_at, no_colon, get_or, some_byte, nat_tests)
 
 -- a line that begins a field doesn't go on with the field before
 pub not_continued : (line : List ℕ) (f : Field) → field_in line ≡ Ok f → continues line ≡ false

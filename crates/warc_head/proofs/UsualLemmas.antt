@@ -99,12 +99,7 @@ module _ (text : List ℕ) (at stop : ℕ) (ends : EndsLine text at stop) where
     }
 
     body : field_lines_in (take (at + 2) text) ≡ between 10 at text
-    body =
-        let long = length-take-le (at + 2) text (omega (arith, ends.within, empty)) in
-        let n : at + 2 ≡ 10 + (at - 8) = omega (arith, ten) in
-        let m : length (take (at + 2) text) - 2 - 10 ≡ at - 10 = omega (arith, long) in
-        ap (λ k. take k (drop 10 (take (at + 2) text))) m ∙ ap (λ k. take (at - 10) (drop 10 (take k text))) n
-        ∙ ap (take (at - 10)) (drop-take 10 (at - 8) text) ∙ take-take (at - 10) (at - 8) (drop 10 text) (omega arith)
+    body = grind (arith, length-take-le, drop-take, take-take)
 
     pub gives : (seen : List Field) → Seen text at seen → fields_of (field_lines_in (take (at + 2) text)) ≡ Ok seen
     gives seen kept = ap fields_of body ∙ rw append-nil at (kept []) ∙ going-end seen

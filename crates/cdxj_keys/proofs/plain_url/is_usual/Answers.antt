@@ -6,12 +6,7 @@ use Rattle.cdxj_keys.proofs.UsualUrls.{bytes_behind, domain_bytes, usual_path}
 use Rattle.cdxj_keys.proofs.plain_url.is_usual.Goals as goal
 
 pub returns-then-has_plain_label-clause-host : goal.returns-then-has_plain_label-clause-host
-returns-then-has_plain_label-clause-host c _ =
-    let usual : list_all is_usual_byte (c.args.host.now ++ c.args.tail.now) ≡ true = grind arith in
-    record {
-      bytes = domain_bytes c.args.host.now c.args.tail.now usual c.requires.host;
-      letter = c.has_plain_label.ensures c.if-has_plain_label.true;
-    }
+returns-then-has_plain_label-clause-host c _ = grind (arith, domain_bytes)
 
 pub returns-then-has_plain_label-clause-tail : goal.returns-then-has_plain_label-clause-tail
 returns-then-has_plain_label-clause-tail c inner =

@@ -9,15 +9,7 @@ use Rattle.warc_head.proofs.NameLemmas.{not_continued}
 use Rattle.warc_head.proofs.field_lines.usual_fields.Goals as goal
 
 pub lines-init : goal.lines-init
-lines-init c =
-    rw c.emptied-spans.ensures (record {
-      low = omega arith;
-      high = c.requires.within;
-      before = ended-more c.args.text.now 0 8 c.requires;
-      seen = start-seen c.args.text.now c.requires;
-      within = All-nil (IsWithin 10);
-      none = start-none c.args.text.now c.requires;
-    })
+lines-init c = grind (arith, ended-more, start-seen, All-nil, start-none)
 
 pub returns-then-stop-at : goal.returns-then-stop-at
 returns-then-stop-at c =
