@@ -31,8 +31,7 @@ serialized : (b : ℕ) → IsSerializedByte b → (b == 38) ≡ false
 serialized b h = grind arith
 
 named : IsOnePiece (codes "resumeKey=")
-named = All-weaker (λ b. not (b == 38) ≡ true) (λ b. (b == 38) ≡ false) (λ b h. grind arith) (codes "resumeKey=")
-    (AllPass-from_list_all (λ b. not (b == 38)) (codes "resumeKey=") refl)
+named = grind (arith, All-weaker, AllPass-from_list_all)
 
 key_piece : (place : PlaceValue) → IsOnePiece (resume_piece (resume_text place))
 key_piece place =

@@ -122,9 +122,7 @@ pieces_after a b v w (piece ∷ pieces) h =
 
 -- the key's piece is read
 name_utf8 : IsUtf8 (codes "resumeKey")
-name_utf8 =
-    let name = codes "resumeKey" in
-    IsUtf8-from_ascii name (grind arith)
+name_utf8 = grind (arith, IsUtf8-from_ascii)
 
 name_is : (key : Text) → piece_name (resume_piece key) ≡ Some parameter.ResumeKey
 name_is key = ap parameter_named (plain_text_stands (codes "resumeKey") name_utf8 refl)
