@@ -43,11 +43,5 @@ pub passed : (words : List (String Global)) (command option name : String Global
     → command ≡ get_or words 0 command → option ≡ get_or words 1 option → name ≡ get_or words 2 name
     → names_input (string_bytes command) (string_bytes option) (string_bytes name) ≡ false
     → named_later (texts words) ≡ named (texts words)
-passed (a ∷ b ∷ n ∷ words) command option name long at_0 at_1 at_2 names =
-    let first : command ≡ a = at_0 in
-    let after : option ≡ b = at_1 in
-    let last : name ≡ n = at_2 in
-    let not_here : names_input (string_bytes a) (string_bytes b) (string_bytes n) ≡ false =
-    rw (sym first, sym after, sym last) names in
-    rw not_here refl
+passed (a ∷ b ∷ n ∷ words) command option name long at_0 at_1 at_2 names = grind (arith, string_bytes)
 passed words command option name long a b n names = grind arith

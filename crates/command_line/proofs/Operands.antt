@@ -164,17 +164,13 @@ level_unfit name (OfNames make) None [] m f p = refl
 level_unfit name (OfQuery make) None words m f p = grind arith
 level_unfit name (OfSizes make) None [] m f p = refl
 level_unfit name (OfSizes make) None (a ∷ []) m f (p, e) = rw (p.dashes, p.long, p.short) refl
-level_unfit name (OfSizes make) None (a ∷ b ∷ []) m f (p, (q, e)) =
-    rw (p.dashes, p.long, p.short, q.dashes, q.long, q.short) refl
+level_unfit name (OfSizes make) None (a ∷ b ∷ []) m f (p, (q, e)) = grind arith
 level_unfit name (OfOffset make) None [] m f p = refl
 level_unfit name (OfOffset make) None (a ∷ []) m f (p, e) = rw (p.dashes, p.long, p.short) refl
-level_unfit name (OfOffset make) None (a ∷ b ∷ c ∷ more) m f (p, (q, (r, e))) =
-    rw (p.dashes, p.long, p.short, q.dashes, q.long, q.short, r.dashes, r.long, r.short) refl
+level_unfit name (OfOffset make) None (a ∷ b ∷ c ∷ more) m f (p, (q, (r, e))) = grind arith
 level_unfit name (OfOffset make) (Some text) [] (t, c) f p = rw (c.dashes, c.long, c.short) refl
-level_unfit name (OfOffset make) (Some text) (a ∷ []) (t, c) f (p, e) =
-    rw (c.dashes, c.long, c.short, p.dashes, p.long, p.short) refl
-level_unfit name (OfOffset make) (Some text) (a ∷ b ∷ x ∷ more) (t, c) f (p, (q, (r, e))) =
-    rw (c.dashes, c.long, c.short, p.dashes, p.long, p.short, q.dashes, q.long, q.short, r.dashes, r.long, r.short) refl
+level_unfit name (OfOffset make) (Some text) (a ∷ []) (t, c) f (p, e) = grind arith
+level_unfit name (OfOffset make) (Some text) (a ∷ b ∷ x ∷ more) (t, c) f (p, (q, (r, e))) = grind arith
 level_unfit name (OfTyped make) choice [] m f p = grind arith
 level_unfit name (OfTypedSizes make) None [] m f p = refl
 level_unfit name (OfTypedSizes make) None (a ∷ []) m f (p, e) = rw (p.dashes, p.long, p.short) refl

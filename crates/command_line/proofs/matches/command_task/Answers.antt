@@ -1,12 +1,9 @@
-use Rattle.std.proofs.Common.{arith, ◌≡◌, Bool, false, List, ℕ, bytes_eq, refl}
+use Rattle.std.proofs.Common.{arith, ◌≡◌, false, List, ℕ, bytes_eq, refl}
 use Rattle.std.proofs.lemmas.Slice.Eq.{bytes_eq-Decides}
 use Rattle.command_line.proofs.matches.command_task.Goals as goal
 
 other : (name word : List ℕ) → (name ≡ word → ⊥) → bytes_eq word name ≡ false
-other name word differ = go (bytes_eq word name) refl
-  where
-    go : (b : Bool) → bytes_eq word name ≡ b → b ≡ false
-    go b e = grind (arith, bytes_eq-Decides)
+other name word differ = grind (arith, bytes_eq, bytes_eq-Decides)
 
 pub returns-in_default : goal.returns-in_default
 returns-in_default c =
