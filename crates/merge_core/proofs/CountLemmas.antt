@@ -1,24 +1,25 @@
 -- How far sources were read: in lines and in bytes.
 use Rattle.merge_core.proofs.Words.{[], ℕ, ◌++◌, ◌+◌, ◌∙◌, ◌∷◌, ◌≡◌, ◌≤◌, AllByRecursion, AreInputs, AreReadTo, Bool}
-use Rattle.merge_core.proofs.Words.{CursorState, EndsAt, IsInput, MergeInput, Ghosts, IsUpto, LINE_LIMIT, List, Option}
-use Rattle.merge_core.proofs.Words.{Pair, ReadTo, Some, all_done, ap, append-nil, append_assoc, arith, bytes_of, done}
-use Rattle.merge_core.proofs.Words.{drop, drop-set-lt, input_of, first_length, flat_map-append, get_or, given, length}
+use Rattle.merge_core.proofs.Words.{CursorState, EndsAt, MergeInput, Ghosts, IsUpto, LINE_LIMIT, List, Option, Pair}
+use Rattle.merge_core.proofs.Words.{ReadTo, Some, all_done, ap, append-nil, append_assoc, arith, bytes_of, done, drop}
+use Rattle.merge_core.proofs.Words.{drop-set-lt, input_of, first_length, flat_map-append, get_or, given, length}
 use Rattle.merge_core.proofs.Words.{length-append, length-drop, line_entry, lines, longest, member_pair, read_lines}
-use Rattle.merge_core.proofs.Words.{refl, set, suc, sym, take, take-append-drop, take-map, text_or, ◌<◌, AllZip}
-use Rattle.merge_core.proofs.Words.{Grouped, IsCut, IsCutAt, IsIndex, Known, Member, MergeState, OverIndexes, Reached}
-use Rattle.merge_core.proofs.Words.{ShareAtMost, WaitingLine, all_lines, each_weaker, false, inputs, filter}
-use Rattle.merge_core.proofs.Words.{filter-append, is_low, is_of, length-map, length-take, map, map-append, member_of}
-use Rattle.merge_core.proofs.Words.{nil_from_length, not, sum, sum_by-cons, true, waits_of, zero, zip, CameWithin}
-use Rattle.merge_core.proofs.Words.{lines_text, drop_more_same, get_or-drop, AllGaveWithin, take-take, is_at}
+use Rattle.merge_core.proofs.Words.{refl, set, suc, sym, take, take-append-drop, take-map, ◌<◌, AllZip, Grouped}
+use Rattle.merge_core.proofs.Words.{IsCut, IsCutAt, IsIndex, Known, Member, MergeState, Reached, WaitingLine}
+use Rattle.merge_core.proofs.Words.{all_lines, each_weaker, false, inputs, filter, filter-append, is_low, is_of}
+use Rattle.merge_core.proofs.Words.{length-map, length-take, map, map-append, member_of, nil_from_length, not, sum}
+use Rattle.merge_core.proofs.Words.{sum_by-cons, true, waits_of, zero, zip, CameWithin, lines_text, drop_more_same}
+use Rattle.merge_core.proofs.Words.{get_or-drop, AllGaveWithin, take-take, is_at, OverTexts, EachDone, IsInputOf}
+use Rattle.merge_core.proofs.Words.{OverShares}
 use Rattle.source_core.proofs.LongestLines.{first_most, longest_drop}
-use Rattle.merge_core.proofs.InputLemmas.{all_taken, all_upto, done_cut, done_within}
-use Rattle.merge_core.proofs.Many.{each_both, filter_fewer, filter_weaker, filter_front, each_take}
-use Rattle.merge_core.proofs.Many.{zip_set, each_replaced, Move}
+use Rattle.merge_core.proofs.InputLemmas.{all_taken, all_upto, done_cut, done_within, TextRead}
+use Rattle.merge_core.proofs.Many.{each_both, filter_fewer, filter_weaker, filter_front, each_take, zip_set}
+use Rattle.merge_core.proofs.Many.{each_replaced, Move}
 use Rattle.merge_core.proofs.GroupLemmas.{each_cut, filter_all}
-use Rattle.merge_core.proofs.StateLemmas.{cursors_of, few_wait}
+use Rattle.merge_core.proofs.StateLemmas.{cursors_of, few_wait, long_of}
 use Rattle.merge_core.proofs.MergeLemmas.{gathered_now}
 use Rattle.merge_core.proofs.TakenLemmas.{members_are}
-use Rattle.merge_core.proofs.SourceLemmas.{told_known, reached_kept, reached_long, run_after}
+use Rattle.merge_core.proofs.SourceLemmas.{reached_long, run_after, IsSought, each_done, reached_read}
 use Rattle.std.proofs.lemmas.List.Filters.{length-filter_both}
 
 -- ---- how far sources were read
@@ -36,65 +37,68 @@ one_line : (ls : List (List ℕ)) → length ls ≤ 1 → bytes_of ls ≤ longes
 one_line (l ∷ []) h = omega (arith, ap length (append-nil l))
 one_line ls h = omega arith
 
-module _ {past : List ℕ → Bool} {text : Option (List ℕ)} {extent : ℕ} {f : MergeInput}
-    (input : IsInput past text extent f) where
-  -- a cursor that passed one line more at most than those that were read
-  pub read_to : (b : Option Pair) (t : List ℕ) (new : CursorState) → text ≡ Some t
-      → AllByRecursion (λ m. IsUpto b (member_pair m)) (done past t f) → new.start ≡ f.cursor.start
-      → new.at ≤ f.cursor.at + first_length (lines (drop f.cursor.at t)) → length new.ahead ≤ 8192
-      → ReadTo past b t new
-  read_to b t new is upto start near ahead =
-      let told = input.told t is in
-      let from = lines (drop f.cursor.start t) in
-      let all = read_lines t f.cursor in
-      let cut = done_cut input t is in
-      let k = cut.0 in
-      let last = one_line (drop k all) (grind (arith, length-drop)) in
-      let whole = ap bytes_of (take-append-drop k all) in
-      let within = done_within past t f in
-      record {
-        read = take k all;
-        rest = drop k all ++ drop f.cursor.count from;
-        cut = grind (arith, append_assoc, take-append-drop);
-        members = done past t f;
-        entries = rw cut.3 (sym (take-map (line_entry LINE_LIMIT) k all) ∙ ap (take k) told.run.entries
-            ∙ take-map Some k (given t f.cursor));
-        within = each_both _ _ _ within upto;
-        most = grind (arith, flat_map-append, length-append, longest_later, longest_front, longest_drop, first_most);
-      }
+-- a cursor that passed one line more at most than those that were read of a text
+pub read_to : {past : List ℕ → Bool} {t : List ℕ} {f : MergeInput} → IsInputOf past t f → (b : Option Pair)
+    (new : CursorState) → AllByRecursion (λ m. IsUpto b (member_pair m)) (done past t f)
+    → new.start ≡ f.cursor.start → new.at ≤ f.cursor.at + first_length (lines (drop f.cursor.at t))
+    → length new.ahead ≤ 8192 → ReadTo past b t new
+read_to {past = past} {t = t} {f = f} told b new upto start near ahead =
+    let from = lines (drop f.cursor.start t) in
+    let all = read_lines t f.cursor in
+    let cut = done_cut told in
+    let k = cut.0 in
+    let last = one_line (drop k all) (grind (arith, length-drop)) in
+    let whole = ap bytes_of (take-append-drop k all) in
+    let within = done_within past t f in
+    record {
+      read = take k all;
+      rest = drop k all ++ drop f.cursor.count from;
+      cut = grind (arith, append_assoc, take-append-drop);
+      members = done past t f;
+      entries = rw cut.3 (sym (take-map (line_entry LINE_LIMIT) k all) ∙ ap (take k) told.run.entries
+          ∙ take-map Some k (given t f.cursor));
+      within = each_both _ _ _ within upto;
+      most = grind (arith, flat_map-append, length-append, longest_later, longest_front, longest_drop, first_most);
+    }
 
 -- the same where the last line that was read has the pair
-pub group_most : {past : List ℕ → Bool} {text : Option (List ℕ)} {extent : ℕ} {c : CursorState} {pair : Pair}
-    → IsInput past text extent (input_of c []) → (t : List ℕ) → text ≡ Some t → EndsAt past pair (given t c)
-    → (new : CursorState) → new.start ≡ c.start → new.at ≤ c.at + first_length (lines (drop c.at t))
-    → length new.ahead ≤ 8192 → ReadTo past (Some pair) t new
-group_most {pair = pair} input t is end new start near ahead =
-    read_to input (Some pair) t new is (rw (all_taken input t is end) (all_upto input t is end)) start near ahead
+pub group_most : {past : List ℕ → Bool} {t : List ℕ} {c : CursorState} {pair : Pair}
+    → IsInputOf past t (input_of c []) → EndsAt past pair (given t c) → (new : CursorState) → new.start ≡ c.start
+    → new.at ≤ c.at + first_length (lines (drop c.at t)) → length new.ahead ≤ 8192 → ReadTo past (Some pair) t new
+group_most {pair = pair} told end new start near ahead =
+    read_to told (Some pair) new (rw (all_taken told end) (all_upto told end)) start near ahead
 
-module _ (past : List ℕ → Bool) where
-  module _ {S : Type 0} (device : Ghosts S) (b : Option Pair) where
-    each_read_to : (ss : List S) (fs : List MergeInput) → AreInputs past device ss fs
-        → AllByRecursion (λ m. IsUpto b (member_pair m)) (all_done past device.text ss fs)
-        → AreReadTo past device.text b ss (map (λ f. f.cursor) fs)
-    each_read_to (s ∷ ss) (f ∷ fs) input upto =
-        let cut = each_cut (λ m. IsUpto b (member_pair m)) (done past (text_or (device.text s)) f) _ upto in (
-          (λ t e. read_to input.0 b t f.cursor e (grind arith) refl (omega arith) input.0.stands.filled.most),
-          each_read_to ss fs input.1 cut.1,
-        )
-    each_read_to ss fs input upto = grind arith
+module _ (past : List ℕ → Bool) {S : Type 0} (device : Ghosts S) (b : Option Pair) where
+  each_read_to : (ss : List S) (fs : List MergeInput) → AreInputs past device ss fs
+      → EachDone past device.text (AllByRecursion (λ m. IsUpto b (member_pair m))) ss fs
+      → AreReadTo past device.text b ss (map (λ f. f.cursor) fs)
+  each_read_to (s ∷ ss) (f ∷ fs) input upto = (
+    (λ t e. read_to (input.0.told t e) b f.cursor (upto.0 t e) refl (omega arith) input.0.stands.filled.most),
+    each_read_to ss fs input.1 upto.1,
+  )
+  each_read_to ss fs input upto = grind arith
 
-    -- sources of which no line above the bound was taken
-    pub are_read_to : (ss : List S) (m : MergeState) → AreInputs past device ss (inputs m)
-        → AllByRecursion (λ m. IsUpto b (member_pair m)) (all_done past device.text ss (inputs m))
-        → AreReadTo past device.text b ss m.cursors.items
-    are_read_to ss m input upto =
-        rw (cursors_of 0 m.cursors.items m.queue) at (each_read_to ss (inputs m) input upto)
+  -- sources of which no line above the bound was taken
+  pub are_read_to : (ss : List S) (m : MergeState) → AreInputs past device ss (inputs m)
+      → EachDone past device.text (AllByRecursion (λ m. IsUpto b (member_pair m))) ss (inputs m)
+      → AreReadTo past device.text b ss m.cursors.items
+  are_read_to ss m input upto =
+      rw (cursors_of 0 m.cursors.items m.queue) at (each_read_to ss (inputs m) input upto)
 
-    -- one of them was read on
-    pub read_on : (ss : List S) (cs : List CursorState) (i : ℕ) (s : S) (c : CursorState) → AreReadTo past device.text b ss cs
-        → ((t : List ℕ) → device.text s ≡ Some t → ReadTo past b t c)
-        → AreReadTo past device.text b (set ss i s) (set cs i c)
-    read_on ss cs i s c h k = grind (arith, zip_set, each_replaced)
+  -- one of them was read on
+  pub read_on : (ss : List S) (cs : List CursorState) (i : ℕ) (s : S) (c : CursorState) → AreReadTo past device.text b ss cs
+      → ((t : List ℕ) → device.text s ≡ Some t → ReadTo past b t c)
+      → AreReadTo past device.text b (set ss i s) (set cs i c)
+  read_on ss cs i s c h k = grind (arith, zip_set, each_replaced)
+
+-- sources of which a merge came to a bound
+pub reached_read_to : {S : Type 0} {device : Ghosts S} {past : List ℕ → Bool} {old ss : List S} {begun m : MergeState}
+    {b : Option Pair} {taken : List Member} → Reached past device old begun ss m b taken
+    → OverTexts (map device.text old) (λ _. AreReadTo past device.text b ss m.cursors.items)
+reached_read_to {device = device} {past = past} {ss = ss} {m = m} {b = b} reached texts known =
+    let aligned = reached.ready.aligned in
+    are_read_to past device b ss m aligned.input (each_done past device.text (λ m. IsUpto b (member_pair m)) ss (inputs m)
+    texts (long_of aligned) (rw (← reached.kept.0) at known) (reached.handed.told texts known).1)
 
 -- ---- the opening of sources
 
@@ -128,42 +132,38 @@ few_of zero (w ∷ ws) placed few = grind arith
 -- ---- the lines of a group
 
 -- what was taken of an index is among its lines
-pub done_fewer : {past : List ℕ → Bool} {t : List ℕ} {extent : ℕ} {f : MergeInput} {ms : List Member}
-    (test : Member → Bool) → IsInput past (Some t) extent f → IsIndex LINE_LIMIT t ms
+pub done_fewer : {past : List ℕ → Bool} {t : List ℕ} {f : MergeInput} {ms : List Member}
+    (test : Member → Bool) → IsInputOf past t f → IsIndex LINE_LIMIT t ms
     → length (filter test (done past t f)) ≤ length (filter test ms)
-done_fewer {past = past} {t = t} {f = f} {ms = ms} test input index =
-    let told = input.told t refl in
+done_fewer {past = past} {t = t} {f = f} {ms = ms} test told index =
     let all = members_are (lines t) ms index.entries in
-    let cut = done_cut input t refl in
+    let cut = done_cut told in
     let whole = map-append member_of told.begins.0 (lines (drop f.cursor.start t)) in
     let read = take-map member_of f.cursor.count (lines (drop f.cursor.start t)) in
     grind (arith, filter_front, filter-append, length-append)
 
-module _ (past : List ℕ → Bool) {S : Type 0} (device : Ghosts S) where
-  all_fewer : (ss : List S) (fs : List MergeInput) (texts : List (List ℕ)) (indexes : List (List Member))
-      (test : Member → Bool) → Known (map device.text ss) texts → AllZip (IsIndex LINE_LIMIT) texts indexes
-      → AreInputs past device ss fs
-      → length (filter test (all_done past device.text ss fs)) ≤ length (filter test (all_lines indexes))
-  all_fewer (s ∷ ss) (f ∷ fs) (t ∷ ts) (i ∷ is) test known are input =
-      let here = done_fewer test (rw known.0 at input.0) are.0 in
-      grind (arith, filter-append, length-append, all_fewer ss fs ts is test)
-  all_fewer ss fs ts is test known are input = grind arith
+all_fewer : (past : List ℕ → Bool) (texts : List (List ℕ)) (fs : List MergeInput) (indexes : List (List Member))
+    (test : Member → Bool) → AllZip (TextRead past) texts fs → AllZip (IsIndex LINE_LIMIT) texts indexes
+    → length (filter test (all_done past texts fs)) ≤ length (filter test (all_lines indexes))
+all_fewer past (t ∷ ts) (f ∷ fs) (i ∷ is) test read are =
+    let here = done_fewer test read.0.told are.0 in
+    grind (arith, filter-append, length-append, all_fewer past ts fs is test)
+all_fewer past ts fs is test read are = grind arith
 
 module _ {S : Type 0} {device : Ghosts S} {past : List ℕ → Bool}
     {old ss0 ss : List S} {begun m0 m : MergeState} {b c : Option Pair} {pair : Pair} {taken more group : List Member}
     (was : Reached past device old begun ss0 m0 b taken)
     (grouped : Grouped past device ss0 m0 ss m pair group)
-    (now : Reached past device old begun ss m c more) (same : length old ≡ length begun.cursors.items) where
+    (now : Reached past device old begun ss m c more) where
   -- the lines that wait and the group are one line of each source, and as many as share a pair
-  pub held_most : OverIndexes (map device.text old) (λ texts indexes. (most : ℕ) → ShareAtMost most (all_lines indexes)
-      → length m.queue + length group ≤ length old + most)
+  pub held_most : OverShares (map device.text old) (λ most. length m.queue + length group ≤ length old + most)
   held_most texts indexes known are most share =
       let aligned = now.ready.aligned in
-      let known_now = rw (← (reached_kept now same).0) at known in
-      let gathered = gathered_now was grouped (told_known device.text old texts known) in
-      let there = all_fewer past device ss (inputs m) texts indexes (is_at pair) known_now are aligned.input in
+      let gathered = gathered_now was grouped texts known in
+      let there = all_fewer past texts (inputs m) indexes (is_at pair) (reached_read now texts known) are in
       let few = few_of (length ss) m.queue (rw (← aligned.same) at aligned.placed) (λ i l. few_wait aligned i) in
-      grind (arith, filter_weaker, each_weaker, reached_long)
+      let long = reached_long now in
+      grind (arith, filter_weaker, each_weaker)
 
 -- ---- the lines that were read
 
@@ -182,39 +182,35 @@ module _ {past : List ℕ → Bool} {start : Pair} {b : Option Pair} {test : Mem
   each_passes (m ∷ ms) within not_low =
       (p.passes m within.0.0 not_low.0 within.0.1, each_passes ms within.1 not_low.1)
 
-  source_most : {t : List ℕ} {extent : ℕ} {f : MergeInput} {ms : List Member} → IsInput past (Some t) extent f
+  source_most : {t : List ℕ} {f : MergeInput} {ms : List Member} → IsInputOf past t f
       → IsIndex LINE_LIMIT t ms → IsCut start t ms f.cursor.start
       → AllByRecursion (λ m. IsUpto b (member_pair m)) (done past t f)
       → f.cursor.count ≤ length (filter test ms) + 1
-  source_most {t = t} {f = f} {ms = ms} input index cut upto =
-      let told = input.told t refl in
+  source_most {t = t} {f = f} {ms = ms} told index cut upto =
       let run = run_after start t ms f.cursor.start index cut in
       let high : map member_of (lines (drop f.cursor.start t)) ≡ cut.high = members_are _ cut.high run.0.entries in
-      let done_of = done_cut input t refl in
+      let done_of = done_cut told in
       let k = done_of.0 in
       let front : done past t f ≡ take k cut.high = grind (arith, take-map, take-take) in
       let not_low = rw (← front) at (each_take (λ m. is_low start m ≡ false) k cut.high cut.none_below) in
-      let fewer = done_fewer test input index in
+      let fewer = done_fewer test told index in
       let within = done_within past t f in
       grind (arith, length-map, each_both, each_passes, filter_all, length-take)
 
-  module _ {S : Type 0} (device : Ghosts S) where
-    -- No more lines were read than those that pass, and one of each source
-    pub lines_most : (ss : List S) (fs : List MergeInput) (texts : List (List ℕ)) (indexes : List (List Member))
-        → Known (map device.text ss) texts → AllZip (IsIndex LINE_LIMIT) texts indexes
-        → AllByRecursion (λ x. IsCutAt start (device.text x.0) x.1) (zip ss (map (λ f. f.cursor) fs))
-        → AreInputs past device ss fs
-        → AllByRecursion (λ m. IsUpto b (member_pair m)) (all_done past device.text ss fs)
-        → sum (map (λ (c : CursorState). c.count) (map (λ (f : MergeInput). f.cursor) fs))
-        ≤ length (filter test (all_lines indexes)) + length indexes
-    lines_most (s ∷ ss) (f ∷ fs) (t ∷ ts) (i ∷ is) known are cut input upto =
-        let parts = each_cut (λ m. IsUpto b (member_pair m)) (done past (text_or (device.text s)) f)
-        (all_done past device.text ss fs) upto in
-        let here = source_most (rw known.0 at input.0) are.0 (cut.0 t i known.0 are.0) (rw known.0 at parts.0) in
-        let rest = lines_most ss fs ts is known.1 are.1 cut.1 input.1 parts.1 in
-        let count = sum_by-cons (λ (k : ℕ). k) f.cursor.count (map (λ c. c.count) (map (λ f. f.cursor) fs)) in
-        grind (arith, length-append, filter-append)
-    lines_most ss fs ts is known are cut input upto = grind (arith, nil_from_length)
+  -- No more lines were read than those that pass, and one of each source
+  pub lines_most : (texts : List (List ℕ)) (fs : List MergeInput) (indexes : List (List Member))
+      → AllZip (TextRead past) texts fs → AllZip (IsIndex LINE_LIMIT) texts indexes
+      → AllZip (IsSought start) (zip texts fs) indexes
+      → AllByRecursion (λ m. IsUpto b (member_pair m)) (all_done past texts fs)
+      → sum (map (λ (c : CursorState). c.count) (map (λ (f : MergeInput). f.cursor) fs))
+      ≤ length (filter test (all_lines indexes)) + length indexes
+  lines_most (t ∷ ts) (f ∷ fs) (i ∷ is) read are cut upto =
+      let parts = each_cut (λ m. IsUpto b (member_pair m)) (done past t f) (all_done past ts fs) upto in
+      let here = source_most read.0.told are.0 cut.0 parts.0 in
+      let rest = lines_most ts fs is read.1 are.1 cut.1 parts.1 in
+      let count = sum_by-cons (λ (k : ℕ). k) f.cursor.count (map (λ c. c.count) (map (λ f. f.cursor) fs)) in
+      grind (arith, length-append, filter-append)
+  lines_most ts fs is read are cut upto = grind (arith, nil_from_length)
 
 -- ---- how many bytes indexes gave
 

@@ -1,32 +1,24 @@
 -- The lines that wait: whose turn comes first, and the lines of one pair, taken of one source after another.
 use Rattle.merge_core.proofs.Words.{nil_from_length, [], ℕ, ◌++◌, ◌<◌, ◌∙◌, ◌∷◌, ◌≡◌, ◌≢◌, ◌≤◌, AllByRecursion}
-use Rattle.merge_core.proofs.Words.{IsPermutation, List, Member, WaitingLine, arith, cond-false, cond-true, each_weaker}
-use Rattle.merge_core.proofs.Words.{false, filter, get_or, is_of, length, queued, refl, subst, suc, sum_by-cons}
-use Rattle.merge_core.proofs.Words.{sym, true, waits_of, Alike, AllBeyond, Below, Equal, IsAbove, MatchOption}
-use Rattle.merge_core.proofs.Words.{NoneBefore, NoneBelow, Option, Pair, Upto, is_eq, is_lt, length_permutation}
-use Rattle.merge_core.proofs.Words.{pair_cmp, pair_cmp_total, turn_cmp, waiting_pair, ◌+◌, ◌-◌, Bool, Gathered, IsFrom}
-use Rattle.merge_core.proofs.Words.{ap, append-nil, append_assoc, drop, drop-set-lt, each_join, filter-append, flat_map}
-use Rattle.merge_core.proofs.Words.{flat_map-append, member_pair, set, take, take-append-drop, take_more, take_more_set}
-use Rattle.merge_core.proofs.Words.{tied_back, common_steps, cond, sum_by, IfSome, drop-drop, All}
-use Rattle.merge_core.proofs.Words.{All-permutation, sum_by-IsPermutation}
+use Rattle.merge_core.proofs.Words.{IsPermutation, List, Member, WaitingLine, arith, cond-false, cond-true}
+use Rattle.merge_core.proofs.Words.{each_weaker, false, filter, get_or, is_of, length, queued, refl, subst}
+use Rattle.merge_core.proofs.Words.{sum_by-cons, sym, true, waits_of, Alike, AllBeyond, Below, Equal, IsAbove}
+use Rattle.merge_core.proofs.Words.{MatchOption, NoneBefore, NoneBelow, Option, Pair, Upto, is_eq, is_lt}
+use Rattle.merge_core.proofs.Words.{length_permutation, pair_cmp, pair_cmp_total, turn_cmp, waiting_pair, ◌+◌, ◌-◌}
+use Rattle.merge_core.proofs.Words.{Bool, Gathered, IsFrom, ap, append-nil, append_assoc, drop, drop-set-lt}
+use Rattle.merge_core.proofs.Words.{each_join, filter-append, flat_map, flat_map-append, member_pair, set, take}
+use Rattle.merge_core.proofs.Words.{take-append-drop, take_more, take_more_set, tied_back, common_steps, cond, sum_by}
+use Rattle.merge_core.proofs.Words.{IfSome, drop-drop, All-permutation, sum_by-IsPermutation, All-from_recursion}
+use Rattle.merge_core.proofs.Words.{recursion_from_All}
 use Rattle.merge_core.proofs.PairOrder.{from_not_below, below_then, below_upto, same_upto, same_from, upto_upto}
 use Rattle.merge_core.proofs.PairOrder.{not_below_itself}
 use Rattle.merge_core.proofs.Many.{each_both}
 
 -- ---- which lines of each source wait, as lines come and go
 
-pub each_get : {X : Type 0} (P : X → Type 0) (xs : List X) (i : ℕ) (d : X) → AllByRecursion P xs → i < length xs
-    → P (get_or xs i d)
-each_get P (x ∷ xs) (suc i) d h l = each_get P xs i d h.1 (omega arith)
-each_get P xs i d h l = grind arith
-
-pub each_of : {X : Type 0} (P : X → Type 0) (xs : List X) → All P xs → AllByRecursion P xs
-each_of P [] h = tt
-each_of P (x ∷ xs) h = (h 0 x (omega arith), each_of P xs (λ k d l. h (suc k) d (omega arith)))
-
 pub each_permuted : {X : Type 0} (P : X → Type 0) (xs ys : List X) → IsPermutation xs ys → AllByRecursion P xs
     → AllByRecursion P ys
-each_permuted P xs ys p h = each_of P ys (All-permutation P xs ys p (λ k d l. each_get P xs k d h l))
+each_permuted P xs ys p h = recursion_from_All P ys (All-permutation P xs ys p (All-from_recursion P xs h))
 
 -- ---- one line at most of each source
 

@@ -6,7 +6,8 @@ use Rattle.merge_core.proofs.Words.{append-nil, append_assoc, arith, done, drop,
 use Rattle.merge_core.proofs.Words.{false, input_of, filter, filter-append, first_length, flat_map-append, given, inl}
 use Rattle.merge_core.proofs.Words.{inr, length, length-append, length-map, length-take, line_entry, lines, map}
 use Rattle.merge_core.proofs.Words.{map-append, member_pair, not-true, pair_cmp, pair_cmp_total, read_lines, refl}
-use Rattle.merge_core.proofs.Words.{stays, suc, sym, take, take-append-drop, true, nil_from_length, take_at}
+use Rattle.merge_core.proofs.Words.{stays, suc, sym, take, take-append-drop, true, nil_from_length, take_at, EndsPast}
+use Rattle.merge_core.proofs.Words.{IsInputOf}
 use Rattle.std.proofs.Common.{take_all}
 use Rattle.std.specs.FinMap.{nat_cmp-IsAntisymmetric, slice_cmp-IsAntisymmetric}
 use Rattle.cdxj_core.specs.Lines.{body_of}
@@ -95,12 +96,16 @@ module _ (past : List ℕ → Bool) where
     pub low : (t : List ℕ) → text ≡ Some t
         → AllByRecursion (λ k. Upto (member_pair k) (member_pair m)) (given t old)
 
-pub done_cut : {past : List ℕ → Bool} {text : Option (List ℕ)} {extent : ℕ} {f : MergeInput}
-    → IsInput past text extent f → (t : List ℕ) → text ≡ Some t
+pub done_cut : {past : List ℕ → Bool} {t : List ℕ} {f : MergeInput} → IsInputOf past t f
     → Cut f.cursor.count (done past t f) (given t f.cursor)
-done_cut {f = f} input t e =
-    let told = input.told t e in
+done_cut {f = f} told =
     cut_of f.cursor.count _ told.late _ (grind (arith, length-map)) told.one told.split
+
+-- a text was read, and where no line of it waits, to the end of the range
+pub record TextRead (past : List ℕ → Bool) (t : List ℕ) (f : MergeInput) : Type 0 where
+  pub told : IsInputOf past t f
+  pub rest : lines (drop f.cursor.at t) ≡ drop f.cursor.count (lines (drop f.cursor.start t))
+  pub settled : f.waits ≡ [] → (lines (drop f.cursor.at t) ≡ []) ⊎ EndsPast past (given t f.cursor)
 
 module _ {past : List ℕ → Bool} {text : Option (List ℕ)} {extent : ℕ} {old c : CursorState} {m : Member}
     (r : LineRead past text extent old c m) where
@@ -193,14 +198,13 @@ low_of past pair ms falls end =
     pair h up) end.0 (falls_last end.0 last (rw end.2 at falls))) (up, tt))
 
 -- where the last line has the pair and lies within the range, all lines were taken
-module _ {past : List ℕ → Bool} {text : Option (List ℕ)} {extent : ℕ} {c : CursorState} {pair : Pair}
-    (input : IsInput past text extent (input_of c [])) (t : List ℕ) (e : text ≡ Some t)
-    (end : EndsAt past pair (given t c)) where
+module _ {past : List ℕ → Bool} {t : List ℕ} {c : CursorState} {pair : Pair}
+    (told : IsInputOf past t (input_of c [])) (end : EndsAt past pair (given t c)) where
   pub all_upto : AllByRecursion (λ k. Upto (member_pair k) pair) (given t c)
-  all_upto = low_of past pair (given t c) (input.told t e).run.ordered end
+  all_upto = low_of past pair (given t c) told.run.ordered end
 
   pub all_taken : done past t (input_of c []) ≡ given t c
-  all_taken = let told = input.told t e in none_late told.late told.one told.waiting told.split
+  all_taken = none_late told.late told.one told.waiting told.split
     where
       none_late : (late : List Member) → length late ≤ 1 → [] ≡ filter (stays past) late
           → given t c ≡ done past t (input_of c []) ++ late → done past t (input_of c []) ≡ given t c

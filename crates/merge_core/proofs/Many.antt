@@ -1,9 +1,9 @@
 -- Lists, and lists of sources and inputs, seen as one list of pairs.
-use Rattle.merge_core.proofs.Words.{[], ℕ, ◌∷◌, ◌≡◌, ◌≤◌, AllByRecursion, Bool, List, arith, cond-true, false}
-use Rattle.merge_core.proofs.Words.{filter, filter-append, length, length-append, not, suc, take, take-append-drop}
-use Rattle.merge_core.proofs.Words.{true, ◌+◌, ◌-◌, ◌<◌, AllZip, CursorState, Ghosts, Option, Some, ap, get_or}
-use Rattle.merge_core.proofs.Words.{get_or-map, is_some, map, map-set, set, set-get_or, sum-map, text_or, unread, zip}
-use Rattle.merge_core.proofs.Words.{sum_by-set, get_or-zip, length-zip, Moved}
+use Rattle.merge_core.proofs.Words.{[], ℕ, ◌∷◌, ◌≡◌, ◌≤◌, AllByRecursion, Bool, List, arith, cond-true, false, filter}
+use Rattle.merge_core.proofs.Words.{filter-append, length, length-append, not, suc, take, take-append-drop, true, ◌+◌}
+use Rattle.merge_core.proofs.Words.{◌-◌, ◌<◌, AllZip, CursorState, Ghosts, ap, get_or, get_or-map, map, map-set, set}
+use Rattle.merge_core.proofs.Words.{set-get_or, sum-map, unread, zip, sum_by-set, get_or-zip, length-zip, Moved}
+use Rattle.merge_core.proofs.Words.{nil_from_length}
 
 -- ---- lists that are filtered, and what holds of each of a list
 
@@ -42,9 +42,6 @@ each_both A B [] h k = tt
 each_both A B (x ∷ xs) h k = ((h.0, k.0), each_both A B xs h.1 k.1)
 
 -- ---- lists of sources and inputs, seen as one list of pairs
-
-pub is_told : (o : Option (List ℕ)) → is_some o ≡ true → o ≡ Some (text_or o)
-is_told o e = grind arith
 
 pub zip_set : {A B : Type 0} (xs : List A) (ys : List B) (i : ℕ) (x : A) (y : B) → zip (set xs i x) (set ys i y)
     ≡ set (zip xs ys) i (x, y)
@@ -93,14 +90,6 @@ module _ {S : Type 0} (device : Ghosts S) where
   pub moved_still : (xs : List (S × CursorState)) → AllZip Move xs xs
   moved_still = two_same Move move_not
 
-  pub told_moved : (ss ss' : List S) (cs cs' : List CursorState) → length ss' ≡ length cs'
-      → AllZip Move (zip ss cs) (zip ss' cs') → AllByRecursion (λ s. is_some (device.text s) ≡ true) ss
-      → AllByRecursion (λ s. is_some (device.text s) ≡ true) ss'
-  told_moved (s ∷ ss) (s' ∷ ss') (c ∷ cs) (c' ∷ cs') e m h =
-      grind (arith, told_moved ss ss' cs cs' (omega arith) m.1 h.1)
-  told_moved ss [] cs cs' e m h = tt
-  told_moved ss (s' ∷ ss') cs cs' e m h = grind arith
-
   module _ (ss : List S) (cs : List CursorState) (i : ℕ) (a s : S) (b c : CursorState) (same : length ss ≡ length cs)
       (inside : i < length ss) where
     pub moved_set : Move (get_or ss i a, get_or cs i b) (s, c) → AllZip Move (zip ss cs) (zip (set ss i s) (set cs i c))
@@ -128,6 +117,12 @@ pub each_by : {X Y : Type 0} (R : X → Y → Type 0) (Q : Y → Type 0) → ((x
     (ys : List Y) → AllZip R xs ys → AllByRecursion Q ys
 each_by R Q f (x ∷ xs) (y ∷ ys) h = (f x y h.0, each_by R Q f xs ys h.1)
 each_by R Q f xs ys h = grind arith
+
+-- what holds of the second of each pair
+pub each_second : {X Y : Type 0} (P : Y → Type 0) (xs : List X) (ys : List Y) → length xs ≡ length ys
+    → AllByRecursion (λ x. P x.1) (zip xs ys) → AllByRecursion P ys
+each_second P (x ∷ xs) (y ∷ ys) same h = (h.0, each_second P xs ys (omega arith) h.1)
+each_second P xs ys same h = grind (arith, nil_from_length)
 
 -- ---- one of a list is replaced
 

@@ -1,45 +1,53 @@
 -- The steps of a merge: how a group is gathered, and what one group more makes of it.
-use Rattle.merge_core.proofs.GroupLemmas.{filter_none, filter_all, each_get, each_permuted, from_popped, AreAt}
-use Rattle.merge_core.proofs.GroupLemmas.{AreBelow, source_more}
-use Rattle.merge_core.proofs.Words.{ℕ, ◌<◌, ◌≡◌, IsErrAnd, List, Result, arith, get_or, length, set, [], ◌++◌, ◌+◌, ◌∷◌}
-use Rattle.merge_core.proofs.Words.{◌≤◌, Aligned, Alike, AllByRecursion, AreSettled, AreTold, Bool, MergeInput}
-use Rattle.merge_core.proofs.Words.{Gathered, Ghosts, IsDueAt, IsFrom, IsPermutation, IsSettled, Member, MergeState}
-use Rattle.merge_core.proofs.Words.{NoneBefore, NoneBelow, Option, Pair, TookOf, WaitingLine, all_done, append-nil}
-use Rattle.merge_core.proofs.Words.{append_assoc, done, drop, each_join, each_weaker, inputs, flat_map, is_some}
-use Rattle.merge_core.proofs.Words.{length-set, length_permutation, member_pair, sym, text_or, to_come, true}
-use Rattle.merge_core.proofs.Words.{waiting_pair, zip, AllMoved, Below, Grouped, Grows, HasEntry, IsAbove, IsLower}
-use Rattle.merge_core.proofs.Words.{IsUpto, Less, None, Ordering, Reached, Ready, SoFar, Some, each_rising, is_gt}
-use Rattle.merge_core.proofs.Words.{is_low, is_lt, member_place, place_cmp, place_cmp_total, rising, rising_split}
-use Rattle.merge_core.proofs.Words.{MatchResult, set-set, get_or-set_same, Rises, rises_rising, MergePoint, StillWants}
-use Rattle.merge_core.proofs.Words.{BrokenMerge, HaltedGroup, HaltedMerge}
-use Rattle.merge_core.proofs.Many.{map_set_same, is_told, zip_set, zip_at, length_zip, Move, moved_trans}
-use Rattle.merge_core.proofs.Many.{moved_still, told_moved}
+use Rattle.merge_core.proofs.GroupLemmas.{filter_none, filter_all, each_permuted, from_popped, AreAt, AreBelow}
+use Rattle.merge_core.proofs.GroupLemmas.{source_more}
+use Rattle.merge_core.proofs.Words.{ℕ, ◌<◌, ◌≡◌, IsErrAnd, List, Result, arith, get_or, length, set, [], ◌++◌, ◌+◌}
+use Rattle.merge_core.proofs.Words.{◌∷◌, ◌≤◌, Aligned, Alike, AllByRecursion, AreSettled, Bool, MergeInput, Gathered}
+use Rattle.merge_core.proofs.Words.{Ghosts, IsDueAt, IsFrom, IsPermutation, IsSettled, Member, MergeState, NoneBefore}
+use Rattle.merge_core.proofs.Words.{NoneBelow, Option, Pair, TookOf, WaitingLine, all_done, append-nil, append_assoc}
+use Rattle.merge_core.proofs.Words.{done, drop, each_join, each_weaker, inputs, flat_map, length_permutation}
+use Rattle.merge_core.proofs.Words.{member_pair, sym, to_come, true, waiting_pair, zip, AllMoved, Below, Grouped}
+use Rattle.merge_core.proofs.Words.{Grows, HasEntry, IsAbove, IsLower, IsUpto, Less, None, Ordering, Reached, Ready}
+use Rattle.merge_core.proofs.Words.{SoFar, Some, each_rising, is_gt, is_low, is_lt, member_place, place_cmp}
+use Rattle.merge_core.proofs.Words.{place_cmp_total, rising, rising_split, MatchResult, set-set, get_or-set_same}
+use Rattle.merge_core.proofs.Words.{Rises, rises_rising, MergePoint, StillWants, BrokenMerge, HaltedGroup}
+use Rattle.merge_core.proofs.Words.{HaltedMerge, Known, OverTexts, map, ◌∙◌, get_or-map, length-map, set-get_or}
+use Rattle.merge_core.proofs.Words.{AllZip-long, lines, EachDone, refl}
+use Rattle.merge_core.proofs.Many.{map_set_same, zip_set, zip_at, length_zip, Move, moved_trans, moved_still}
 use Rattle.merge_core.proofs.StateLemmas.{any_of, idle, long_of, inside_sources, none_left, popped_aligned}
-use Rattle.merge_core.proofs.StateLemmas.{popped_inputs, popped, popped_due, zip_put}
+use Rattle.merge_core.proofs.StateLemmas.{popped_inputs, popped, popped_due, zip_put, zip_get}
 use Rattle.merge_core.proofs.SourceLemmas.{all_kept}
 use Rattle.merge_core.specs.declared.sink.Sink.{Ghosts as SinkGhosts}
 use Rattle.merge_core.proofs.PairOrder.{from_not_below, below_then, then_below, below_upto, same_upto, same_from}
+use Rattle.merge_core.proofs.OpenLemmas.{none_done}
 
 -- ---- which device failed
 
 -- ---- the steps of a group's gathering
 
--- what was taken of a source
-abbrev of : {S : Type 0} → (List ℕ → Bool) → (S → Option (List ℕ)) → S × MergeInput → List Member
-of past text x = done past (text_or (text x.0)) x.1
+-- what was taken of a text
+abbrev of : (List ℕ → Bool) → List ℕ × MergeInput → List Member
+of past x = done past x.0 x.1
+
+-- the text of a source
+text_of : {S : Type 0} (text : S → Option (List ℕ)) (ss : List S) (texts : List (List ℕ)) (i : ℕ) (s : S)
+    → Known (map text ss) texts → i < length ss → text (get_or ss i s) ≡ Some (get_or texts i [])
+text_of text ss texts i s known inside =
+    rw (get_or-map text ss i s (text s) inside) at (zip_get (λ told t. told ≡ Some t) (map text ss) texts i (text s) [] known
+    (rw length-map inside))
 
 module _ (past : List ℕ → Bool) {S : Type 0} (device : Ghosts S)
     (ss0 : List S) (m0 : MergeState) (pair : Pair) where
   -- of the first n sources the lines with the pair were taken, and the others were left alone
   pub record Gathers (n : ℕ) (ss : List S) (m : MergeState) (group : List Member) : Type 0 where
     pub aligned : Aligned past device ss m
-    pub as_many : length ss ≡ length ss0
+    pub kept : map device.text ss ≡ map device.text ss0
     pub moved : AllMoved device ss0 m0 ss m
     pub each : AreAt pair group
     pub from : AllByRecursion (IsFrom pair n) m.queue
-    pub gathered : AreTold device.text ss0 → AreBelow pair (all_done past device.text ss0 (inputs m0))
-        → Gathered pair (all_done past device.text ss0 (inputs m0)) (all_done past device.text ss (inputs m)) [] group
-        × AreBelow pair (flat_map (of past device.text) (drop n (zip ss (inputs m))))
+    pub gathered : OverTexts (map device.text ss0) (λ texts. AreBelow pair (all_done past texts (inputs m0))
+        → Gathered pair (all_done past texts (inputs m0)) (all_done past texts (inputs m)) [] group
+        × AreBelow pair (flat_map (of past) (drop n (zip texts (inputs m)))))
 
   pub gathers_start : Aligned past device ss0 m0 → NoneBelow pair m0.queue
       → Gathers 0 ss0 m0 []
@@ -59,25 +67,24 @@ module _ {n : ℕ} {past : List ℕ → Bool} {S : Type 0} {device : Ghosts S}
       → Gathers past device ss0 m0 pair (i + 1) ss' m' (lead ++ lines')
   gathers_on {i = i} {ss' = ss'} {m' = m'} lead {lines = lines} {lines' = lines'} is d turn inside aligned moved from = record {
     aligned = aligned;
-    as_many = grind (arith, length-set);
+    kept = rw d.source_is (map_set_same device.text ss i d.source d.source inside (d.text_is d.source) ∙ h.kept);
     moved = grind (arith, moved_trans);
     each = grind (arith, append_assoc, each_join);
     from = from;
-    gathered = λ told low.
-        let s = d.source in let f = d.input in
-        let was = h.gathered told low in
-        let told_here = each_get (λ s. is_some (device.text s) ≡ true) ss i s
-        (told_moved device ss0 ss _ _ h.aligned.same h.moved told) inside in
-        let same_text : device.text s ≡ device.text (get_or ss i s) = d.text_is s in
-        let more = d.done_is f (text_or (device.text s)) (is_told (device.text s) (rw same_text told_here)) in
-        let now : zip ss' (inputs m') ≡ set (zip ss (inputs m)) i (s, f) = grind (arith, zip_set) in
-        let many = length_zip ss (inputs m) long in
-        let here = zip_at ss (inputs m) i s f long inside in
-        let taken_here : of past device.text (s, f) ≡ of past device.text (get_or (zip ss (inputs m)) i (s, f)) ++ d.taken =
-        rw (here, ← same_text) more in
-        rw (now, d.rest_is, ← append_assoc lead lines d.taken, ← is) (source_more pair (of past device.text)
-        (zip ss (inputs m)) n i (s, f) (s, f) (all_done past device.text ss0 (inputs m0)) group d.taken turn (omega arith)
-        taken_here d.alike was.0 was.1);
+    gathered = λ texts known low.
+        let f = d.input in
+        let was = h.gathered texts known low in
+        let t = get_or texts i [] in
+        let known_now : Known (map device.text ss) texts = rw h.kept known in
+        let many : length texts ≡ length ss = grind (arith, AllZip-long, length-map) in
+        let more = d.done_is f t (d.text_is d.source ∙ text_of device.text ss texts i d.source known_now inside) in
+        let now : zip texts (inputs m') ≡ set (zip texts (inputs m)) i (t, f) =
+        rw d.inputs_are (rw (set-get_or texts i []) at (zip_set texts (inputs m) i t f)) in
+        let here = zip_at texts (inputs m) i [] f (many ∙ long) (omega arith) in
+        let all = length_zip texts (inputs m) (many ∙ long) in
+        rw (now, d.rest_is, ← append_assoc lead lines d.taken, ← is) (source_more pair (of past)
+        (zip texts (inputs m)) n i ([], f) (t, f) (all_done past texts (inputs m0)) group d.taken turn (omega arith)
+        (rw here more) d.alike was.0 was.1);
   }
 
   -- the next line is taken out, and its source's next line is to be read
@@ -121,8 +128,25 @@ pub above_none : (ws : List WaitingLine) → AllByRecursion (λ w. IsAbove None 
 above_none [] = tt
 above_none (w ∷ ws) = (tt, above_none ws)
 
+-- before the first group
+pub reached_none : {S : Type 0} {device : Ghosts S} {past : List ℕ → Bool} {ss : List S} {m : MergeState}
+    → Ready past device ss m → EachDone past device.text (λ ms. ms ≡ []) ss (inputs m)
+    → Reached past device ss m ss m None []
+reached_none {device = device} {past = past} {ss = ss} {m = m} ready fresh = record {
+  ready = ready;
+  kept = (refl, refl);
+  moved = moved_still device _;
+  above = above_none m.queue;
+  handed = record {
+    entries = tt;
+    upto = tt;
+    rises = tt;
+    told = λ texts known. rw (none_done past device.text ss (inputs m) texts known fresh) (refl, tt);
+  };
+}
+
 -- where nothing was read, and where more was
-pub ruleset step_rules = (above_none, moved_still, moved_trans, all_kept)
+pub ruleset step_rules = (reached_none, moved_still, moved_trans, all_kept)
 
 -- what is done stands below what comes next
 pub below_next : (b : Option Pair) (pair : Pair) → IsAbove b pair → (ms : List Member)
@@ -160,12 +184,6 @@ place_above pair u v h k =
     let below = place_below u v (below_then (member_pair u) pair (member_pair v) h (same_from _ pair k)) in
     grind arith
 
--- sources that told their bytes before still do
-pub told_here : {S : Type 0} {device : Ghosts S} {past : List ℕ → Bool} {old ss : List S} {begun m : MergeState}
-    {b : Option Pair} {taken : List Member} → Reached past device old begun ss m b taken → AreTold device.text old
-    → AreTold device.text ss
-told_here was = told_moved _ _ _ _ _ was.ready.aligned.same was.moved
-
 module _ {S : Type 0} {device : Ghosts S} {past : List ℕ → Bool}
     {old ss0 ss : List S} {begun m0 m : MergeState} {b : Option Pair} {pair : Pair} {taken group : List Member}
     (was : Reached past device old begun ss0 m0 b taken)
@@ -176,25 +194,33 @@ module _ {S : Type 0} {device : Ghosts S} {past : List ℕ → Bool}
   at : AreAt pair (rising member_place place_cmp group)
   at = grind (arith, each_rising, place_cmp_total)
 
-  pub gathered_now : AreTold device.text old
-      → Gathered pair (all_done past device.text ss0 (inputs m0)) (all_done past device.text ss (inputs m)) [] group
-  gathered_now told =
-      let above = grouped.above b was.above in grind (arith, below_next, told_here)
+  pub gathered_now : OverTexts (map device.text old) (λ texts.
+      Gathered pair (all_done past texts (inputs m0)) (all_done past texts (inputs m)) [] group)
+  gathered_now texts known = grouped.gathered texts (rw (← was.kept.0) at known)
+      (below_next b pair (grouped.above b was.above) _ (was.handed.told texts known).1)
 
   pub reached_next : Ready past device ss m → AllMoved device ss0 m0 ss m
       → AllByRecursion HasEntry group
       → Reached past device old begun ss m (Some pair) (taken ++ rising member_place place_cmp group)
-  reached_next ready moved entries = record {
-    ready = ready;
-    moved = grind (arith, moved_trans);
-    above = grouped.later;
-    handed = record {
-      entries = grind (arith, each_join, each_rising, place_cmp_total);
-      upto = grind (arith, each_join, each_weaker, below_upto, low, same_upto, at);
-      rises = grind (arith, rises_join, rises_rising, place_cmp_total, each_weaker, place_above, at, low);
-      told = grind (arith, gathered_now, risen_on);
-    };
-  }
+  reached_next ready moved entries =
+      let all = AllZip-long (Move device) _ _ moved in
+      let long : length ss ≡ length ss0 = grind (arith, length_zip) in
+      let kept = all_kept device ss0 ss _ _ was.ready.aligned.same long moved in
+      record {
+        ready = ready;
+        kept = grind arith;
+        moved = grind (arith, moved_trans);
+        above = grouped.later;
+        handed = record {
+          entries = grind (arith, each_join, each_rising, place_cmp_total);
+          upto = grind (arith, each_join, each_weaker, below_upto, low, same_upto, at);
+          rises = grind (arith, rises_join, rises_rising, place_cmp_total, each_weaker, place_above, at, low);
+          told = λ texts known.
+              let before = was.handed.told texts known in
+              let gathered = gathered_now texts known in
+              grind (arith, risen_on);
+        };
+      }
 
 -- a merge that differs in its buffers alone
 pub reached_same : {S : Type 0} {device : Ghosts S} {past : List ℕ → Bool}
@@ -209,6 +235,7 @@ reached_same m' is was =
         aligned = record { same = aligned.same; placed = aligned.placed; input = aligned.input };
         settled = was.ready.settled;
       };
+      kept = was.kept;
       moved = was.moved;
       above = was.above;
       handed = was.handed;
@@ -241,7 +268,8 @@ module _ {K S : Type 0} {consumer : SinkGhosts K} {past : List ℕ → Bool} {de
         next = halted.pair;
         above = above;
         least = halted.least;
-        read = grind (arith, below_next, told_here);
+        read = λ texts known. halted.read texts (rw (← reached.kept.0) at known)
+            (below_next so_far.bound halted.pair above _ (reached.handed.told texts known).1);
       }
 
 pub on_fault : {A E : Type 0} (r : Result A E) (e : E) (P : A → Type 0) (Q : Type 0) → IsErrAnd r (λ x. x ≡ e) → Q

@@ -1,13 +1,15 @@
 -- The opening of sources, one after another.
-use Rattle.merge_core.proofs.Words.{[], ℕ, ◌++◌, ◌+◌, ◌<◌, ◌∙◌, ◌∷◌, ◌≡◌, ◌≤◌, AllByRecursion, AllZip, Bool, CameWithin}
-use Rattle.merge_core.proofs.Words.{CursorState, IsInput, MergeInput, Ghosts, IsCutAt, IsLeast, IsNextLine, IsSettled}
-use Rattle.merge_core.proofs.Words.{List, MatchOption, Member, MergeState, None, Option, Pair, Ready, Some, Stands}
-use Rattle.merge_core.proofs.Words.{arith, done, drop, drop_all, each_weaker, input_of, inputs, filter, first_length}
-use Rattle.merge_core.proofs.Words.{given, inl, length, length-append, lines, option_list, refl, set, stays, suc}
-use Rattle.merge_core.proofs.Words.{text_or, zip, all_zipped_more, AddedSource, AreOpened, OpenedAt, IsLineStart}
+use Rattle.merge_core.proofs.Words.{[], ℕ, ◌++◌, ◌+◌, ◌<◌, ◌∙◌, ◌∷◌, ◌≡◌, ◌≤◌, AllByRecursion, AllZip, Bool}
+use Rattle.merge_core.proofs.Words.{CameWithin, CursorState, IsInput, MergeInput, Ghosts, IsCutAt, IsLeast}
+use Rattle.merge_core.proofs.Words.{IsNextLine, IsSettled, List, MatchOption, Member, MergeState, None, Option, Pair}
+use Rattle.merge_core.proofs.Words.{Ready, Some, Stands, arith, done, drop, each_weaker, input_of, inputs, filter}
+use Rattle.merge_core.proofs.Words.{first_length, given, inl, length, length-append, lines, option_list, refl, set}
+use Rattle.merge_core.proofs.Words.{stays, suc, zip, all_zipped_more, AddedSource, AreOpened, OpenedAt, IsLineStart}
+use Rattle.merge_core.proofs.Words.{Known, EachDone, all_done, map}
 use Rattle.merge_core.proofs.Many.{each_by}
 use Rattle.merge_core.proofs.InputLemmas.{LineRead, done_next, input_end, input_more, settled_more}
 use Rattle.merge_core.proofs.StateLemmas.{inputs_added, placed_queued}
+use Rattle.merge_core.proofs.PairOrder.{begins}
 
 -- a source was added to those that are read
 module _ {past : List ℕ → Bool} {S : Type 0} {device : Ghosts S} {ss : List S}
@@ -119,6 +121,10 @@ pub zip_push : {A B : Type 0} (xs : List A) (ys : List B) (i : ℕ) (x : A) (y :
 zip_push (a ∷ xs) (b ∷ ys) (suc i) x y e l = grind (arith, zip_push xs ys i x y)
 zip_push xs ys i x y e l = grind (arith, zip_none)
 
-pub fresh_of : (past : List ℕ → Bool) (text : Option (List ℕ)) (f : MergeInput)
-    → ((t : List ℕ) → text ≡ Some t → done past t f ≡ []) → done past (text_or text) f ≡ []
-fresh_of past text f h = grind (arith, drop_all)
+-- where no line was taken of any source, none was of all
+pub none_done : {S : Type 0} (past : List ℕ → Bool) (text : S → Option (List ℕ)) (ss : List S) (fs : List MergeInput)
+    (texts : List (List ℕ)) → Known (map text ss) texts → EachDone past text (λ ms. ms ≡ []) ss fs
+    → all_done past texts fs ≡ []
+none_done past text (s ∷ ss) (f ∷ fs) (t ∷ ts) known none =
+    rw (none.0 t known.0) (none_done past text ss fs ts known.1 none.1)
+none_done past text ss fs ts known none = grind arith

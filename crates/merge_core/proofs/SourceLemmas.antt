@@ -1,18 +1,18 @@
 -- What was read of sources: from where they are read on, to their ends, and each byte once.
-use Rattle.merge_core.proofs.Words.{[], ℕ, ◌++◌, ◌∙◌, ◌∷◌, ◌≡◌, AllByRecursion, AllZip, MergeInput, Ghosts, IsCut}
-use Rattle.merge_core.proofs.Words.{IsCutAt, IsIndex, IsRun, Known, LINE_LIMIT, List, Member, NeverFalls, Pair, Some}
+use Rattle.merge_core.proofs.Words.{[], ℕ, ◌++◌, ◌∷◌, ◌≡◌, AllByRecursion, AllZip, MergeInput, Ghosts, IsCut, IsCutAt}
+use Rattle.merge_core.proofs.Words.{IsIndex, IsRun, Known, LINE_LIMIT, List, Member, NeverFalls, Pair, Some}
 use Rattle.merge_core.proofs.Words.{all_lines, ap, arith, drop, each_weaker, false, filter, filter-append, is_low}
 use Rattle.merge_core.proofs.Words.{length, length-map, lines, map, map-append, member_pair, not, pair_cmp, refl, sym}
-use Rattle.merge_core.proofs.Words.{zip, AreInputs, AreSettled, Bool, IsInput, IsSettled, KeepsSources, MergeState}
-use Rattle.merge_core.proofs.Words.{Option, all_done, append-nil, done, inputs, flat_map, given, inl, inr, is_some}
-use Rattle.merge_core.proofs.Words.{length-drop, nil_from_length, stays, text_or, true, true≢false, ◌⊎◌, AllZip-long}
-use Rattle.merge_core.proofs.Words.{AreLinesOf, AreTold, HasEntry, Reached, each_join, each_rising, line_entry}
-use Rattle.merge_core.proofs.Words.{member_place, place_cmp, place_cmp_total, read_lines, suc, take, AllGaveOnce}
-use Rattle.merge_core.proofs.Words.{CursorState, IsLeast, AreOpened, ap₂, drop_at, is_below, IsIn, IsLineIn, IsLineOf}
-use Rattle.merge_core.proofs.Words.{take_all}
-use Rattle.merge_core.proofs.GroupLemmas.{filter_none, filter_all}
-use Rattle.merge_core.proofs.Many.{Move, is_told, told_moved, length_zip, each_beside, each_take}
-use Rattle.merge_core.proofs.InputLemmas.{done_cut}
+use Rattle.merge_core.proofs.Words.{zip, AreInputs, AreSettled, Bool, KeepsSources, MergeState, Option, all_done}
+use Rattle.merge_core.proofs.Words.{append-nil, done, inputs, given, inl, inr, length-drop, nil_from_length, stays}
+use Rattle.merge_core.proofs.Words.{true, true≢false, ◌⊎◌, AreLinesOf, HasEntry, Reached, each_join, each_rising}
+use Rattle.merge_core.proofs.Words.{line_entry, member_place, place_cmp, place_cmp_total, read_lines, suc, take}
+use Rattle.merge_core.proofs.Words.{AllGaveOnce, CursorState, IsLeast, AreOpened, drop_at, is_below, IsIn, IsLineIn}
+use Rattle.merge_core.proofs.Words.{IsLineOf, take_all, OverIndexes, OverTexts, EachDone, IsInputOf, None}
+use Rattle.merge_core.proofs.GroupLemmas.{filter_none, filter_all, each_cut}
+use Rattle.merge_core.proofs.Many.{Move, each_beside, each_take}
+use Rattle.merge_core.proofs.InputLemmas.{done_cut, TextRead}
+use Rattle.merge_core.proofs.StateLemmas.{inputs_long, cursors_of}
 
 -- ---- the lines that the sources have from where they are read on
 
@@ -42,26 +42,19 @@ pub run_after : (start : Pair) (t : List ℕ) (ms : List Member) (offset : ℕ) 
 run_after start t ms offset index cut =
     grind (arith, map-append, after_front, length-map, falls_back, filter-append, filter_none, each_weaker, filter_all)
 
-module _ {S : Type 0} (device : Ghosts S) where
-  -- the lines from where the source is read on are these members
-  abbrev pub RunsFrom : S × CursorState → List Member → Type 0
-  RunsFrom x ms = (t : List ℕ) → device.text x.0 ≡ Some t → IsRun LINE_LIMIT (lines (drop x.1.start t)) ms
+-- a text was read from where a search for that pair ended in its index
+abbrev pub IsSought : Pair → List ℕ × MergeInput → List Member → Type 0
+IsSought start x ms = IsCut start x.0 ms x.1.cursor.start
 
-  -- of sources that are read from where a search ended, those that aren't below the start
-  pub runs_sought : (start : Pair) (ss : List S) (cs : List CursorState) (texts : List (List ℕ)) (indexes : List (List Member))
-      → length ss ≡ length cs → Known (map device.text ss) texts → AllZip (IsIndex LINE_LIMIT) texts indexes
-      → AllByRecursion (λ x. IsCutAt start (device.text x.0) x.1) (zip ss cs)
-      → (highs : List (List Member)) × AllZip RunsFrom (zip ss cs) highs
-      × (filter (λ m. not (is_low start m)) (all_lines indexes) ≡ all_lines highs)
-  runs_sought start (s ∷ ss) (c ∷ cs) (t ∷ ts) (i ∷ is) same known are cut =
-      let here = cut.0 t i known.0 are.0 in
-      let run = run_after start t i c.start are.0 here in
-      let others = runs_sought start ss cs ts is (omega arith) known.1 are.1 cut.1 in (
-        here.high ∷ others.0,
-        grind arith,
-        filter-append (λ m. not (is_low start m)) i (all_lines is) ∙ ap₂ (λ u v. u ++ v) run.1 others.2,
-      )
-  runs_sought start ss cs texts is same known are cut = grind arith
+module _ {S : Type 0} (device : Ghosts S) where
+  -- the same of all sources
+  pub all_sought : (start : Pair) (ss : List S) (fs : List MergeInput) (texts : List (List ℕ)) (indexes : List (List Member))
+      → length ss ≡ length fs → Known (map device.text ss) texts → AllZip (IsIndex LINE_LIMIT) texts indexes
+      → AllByRecursion (λ x. IsCutAt start (device.text x.0) x.1) (zip ss (map (λ f. f.cursor) fs))
+      → AllZip (IsSought start) (zip texts fs) indexes
+  all_sought start (s ∷ ss) (f ∷ fs) (t ∷ ts) (i ∷ is) same known are cut =
+      (cut.0 t i known.0 are.0, all_sought start ss fs ts is (omega arith) known.1 are.1 cut.1)
+  all_sought start ss fs texts is same known are cut = grind arith
 
   -- cursors that begin at the start of their sources are cut there
   pub cut_at_start : (x : S × CursorState) → x.1.start ≡ 0 → IsCutAt ([], []) (device.text x.0) x.1
@@ -82,62 +75,43 @@ module _ {S : Type 0} (device : Ghosts S) where
       → AllByRecursion (λ x. IsCutAt start (device.text x.0) x.1) ys
   cuts_kept start = each_beside (Move device) _ _ (λ x y m h. grind arith)
 
-  -- the same after more was read
-  pub runs_kept : (xs ys : List (S × CursorState)) (highs : List (List Member))
-      → AllZip (Move device) xs ys → AllZip RunsFrom xs highs → AllZip RunsFrom ys highs
-  runs_kept (x ∷ xs) (y ∷ ys) (i ∷ is) m h = (
-    λ t e. rw m.0.start_kept (h.0 t (sym m.0.text_kept ∙ e)),
-    runs_kept xs ys is m.1 h.1,
-  )
-  runs_kept xs ys highs m h = grind arith
-
 -- ---- sources of which all lines were read: each that tells its bytes is an index, and all its lines are done
 
 module _ (past : List ℕ → Bool) (never : (key : List ℕ) → past key ≡ false) where
-  -- a source of which no line waits was read to its end
-  ended : (t : List ℕ) (f : MergeInput) → IsSettled past (Some t) f → f.waits ≡ [] → lines (drop f.cursor.at t) ≡ []
-  ended t f settled none =
-      grind (arith, sym, true≢false)
+  -- a text of which no line waits was read to its end
+  ended : {t : List ℕ} {f : MergeInput} → TextRead past t f → f.waits ≡ [] → lines (drop f.cursor.at t) ≡ []
+  ended read none = grind (arith, sym, true≢false)
 
   each_stays : (ms : List Member) → AllByRecursion (λ m. stays past m ≡ true) ms
   each_stays [] = tt
   each_stays (m ∷ ms) = (ap not (never m.values.key), each_stays ms)
 
   -- then it is an index
-  index_read : {t : List ℕ} {extent : ℕ} {f : MergeInput} → f.cursor.start ≡ 0 → f.waits ≡ []
-      → IsSettled past (Some t) f → IsInput past (Some t) extent f → IsIndex LINE_LIMIT t (done past t f)
-  index_read {t = t} {f = f} zero_start none settled input =
-      let told = input.told t refl in
+  index_read : {t : List ℕ} {f : MergeInput} → f.cursor.start ≡ 0 → f.waits ≡ [] → TextRead past t f
+      → IsIndex LINE_LIMIT t (done past t f)
+  index_read zero_start none read =
+      let told = read.told in
+      let end = ended read none in
       let stay = filter_all (stays past) told.late (each_stays told.late) in
       grind (arith, take_all, length-drop {A = List ℕ}, append-nil)
 
-  module _ {S : Type 0} (device : Ghosts S) where
-    -- the lines of each
-    abbrev pub its_lines : List S → List MergeInput → List (List Member)
-    its_lines ss fs = map (λ x. done past (text_or (device.text x.0)) x.1) (zip ss fs)
+  -- the lines of each
+  abbrev pub its_lines : List (List ℕ) → List MergeInput → List (List Member)
+  its_lines texts fs = map (λ x. done past x.0 x.1) (zip texts fs)
 
-    pub are_read : (ss : List S) (fs : List MergeInput) (texts : List (List ℕ))
-        → AllZip (λ told t. told ≡ Some t) (map device.text ss) texts
-        → AllByRecursion (λ x. x.1.start ≡ 0) (zip ss (map (λ f. f.cursor) fs))
-        → AllByRecursion (λ (f : MergeInput). f.waits ≡ []) fs → AreSettled past device ss fs → AreInputs past device ss fs
-        → AllZip (IsIndex LINE_LIMIT) texts (its_lines ss fs)
-    are_read (s ∷ ss) (f ∷ fs) (t ∷ texts) known start none settled input = (
-      rw known.0 (index_read start.0 none.0 (rw known.0 at settled.0) (rw known.0 at input.0)),
-      are_read ss fs texts known.1 start.1 none.1 settled.1 input.1,
-    )
-    are_read ss fs texts known start none settled input = grind arith
+  pub indexes_read : (texts : List (List ℕ)) (fs : List MergeInput) → AllZip (TextRead past) texts fs
+      → AllByRecursion (λ (c : CursorState). c.start ≡ 0) (map (λ f. f.cursor) fs)
+      → AllByRecursion (λ (f : MergeInput). f.waits ≡ []) fs → AllZip (IsIndex LINE_LIMIT) texts (its_lines texts fs)
+  indexes_read (t ∷ texts) (f ∷ fs) read start none =
+      (index_read start.0 none.0 read.0, indexes_read texts fs read.1 start.1 none.1)
+  indexes_read texts fs read start none = grind arith
 
-    pub all_lines_are : (ss : List S) (fs : List MergeInput) → all_done past device.text ss fs
-        ≡ flat_map (λ (members : List Member). members) (its_lines ss fs)
-    all_lines_are (s ∷ ss) (f ∷ fs) = grind (arith, all_lines_are ss fs)
-    all_lines_are ss fs = grind arith
+  pub all_lines_are : (texts : List (List ℕ)) (fs : List MergeInput) → all_done past texts fs
+      ≡ all_lines (its_lines texts fs)
+  all_lines_are (t ∷ texts) (f ∷ fs) = grind (arith, all_lines_are texts fs)
+  all_lines_are texts fs = grind arith
 
 -- ---- what a merge keeps of sources and inputs
-
-pub told_known : {S : Type 0} (text : S → Option (List ℕ)) (ss : List S) (texts : List (List ℕ))
-    → AllZip (λ told t. told ≡ Some t) (map text ss) texts → AllByRecursion (λ s. is_some (text s) ≡ true) ss
-told_known text (s ∷ ss) (t ∷ texts) h = (ap is_some h.0, told_known text ss texts h.1)
-told_known text ss texts h = grind arith
 
 module _ {S : Type 0} (device : Ghosts S) where
   pub all_kept : (ss ss' : List S) (cs cs' : List CursorState) → length ss ≡ length cs → length ss' ≡ length ss
@@ -150,16 +124,29 @@ module _ {S : Type 0} (device : Ghosts S) where
       → AllByRecursion (λ x. x.1.start ≡ 0) ys
   starts_kept = each_beside (Move device) _ _ (λ x y m h. grind arith)
 
--- how far a merge came of sources, each of which has a cursor
-module _ {S : Type 0} {device : Ghosts S} {past : List ℕ → Bool} {old ss : List S} {begun m : MergeState}
-    {b : Option Pair} {taken : List Member} (reached : Reached past device old begun ss m b taken)
-    (same : length old ≡ length begun.cursors.items) where
-  pub reached_long : length ss ≡ length old
-  reached_long =
-      let all = AllZip-long (Move device) _ _ reached.moved in grind (arith, length_zip)
+  texts_read : (past : List ℕ → Bool) (ss : List S) (fs : List MergeInput) (texts : List (List ℕ))
+      → Known (map device.text ss) texts → AreInputs past device ss fs → AreSettled past device ss fs
+      → AllZip (TextRead past) texts fs
+  texts_read past (s ∷ ss) (f ∷ fs) (t ∷ texts) known input settled = (
+    record {
+      told = input.0.told t known.0;
+      rest = input.0.stands.rest t known.0;
+      settled = settled.0 t known.0;
+    },
+    texts_read past ss fs texts known.1 input.1 settled.1,
+  )
+  texts_read past ss fs texts known input settled = grind arith
 
-  pub reached_kept : KeepsSources device old ss
-  reached_kept = all_kept device old ss _ _ same reached_long reached.moved
+-- what holds of all lines that were taken holds of those of each source
+pub each_done : {S : Type 0} (past : List ℕ → Bool) (text : S → Option (List ℕ)) (P : Member → Type 0) (ss : List S)
+    (fs : List MergeInput) (texts : List (List ℕ)) → length ss ≡ length fs → Known (map text ss) texts
+    → AllByRecursion P (all_done past texts fs) → EachDone past text (AllByRecursion P) ss fs
+each_done past text P (s ∷ ss) (f ∷ fs) (t ∷ ts) same known each =
+    let parts = each_cut P (done past t f) (all_done past ts fs) each in (
+      (λ u e. let is : u ≡ t = cc in rw is parts.0),
+      each_done past text P ss fs ts (omega arith) known.1 parts.1,
+    )
+each_done past text P ss fs texts same known each = grind arith
 
 -- ---- the lines that were taken of sources are lines of theirs
 
@@ -180,42 +167,61 @@ each_entry ls all [] e f = tt
 each_entry ls all ms e f = cc
 
 -- what was taken of a source are lines of it
-done_lines : {past : List ℕ → Bool} {t : List ℕ} {extent : ℕ} {f : MergeInput} → IsInput past (Some t) extent f
+done_lines : {past : List ℕ → Bool} {t : List ℕ} {f : MergeInput} → IsInputOf past t f
     → AllByRecursion (IsLineIn t) (done past t f)
-done_lines {t = t} {f = f} input =
-    let told = input.told t refl in
-    let cut = done_cut input t refl in
+done_lines {t = t} {f = f} told =
+    let cut = done_cut told in
     rw cut.3 (each_take (IsLineIn t) _ (given t f.cursor)
     (each_entry (read_lines t f.cursor) (lines t) (given t f.cursor) told.run.entries
     (grind (arith, in_later, in_take))))
 
-module _ {S : Type 0} (device : Ghosts S) where
-  all_lines_of : (past : List ℕ → Bool) (ss : List S) (fs : List MergeInput) → AreTold device.text ss
-      → AreInputs past device ss fs
-      → AllByRecursion (IsLineOf (map device.text ss)) (all_done past device.text ss fs)
-  all_lines_of past (s ∷ ss) (f ∷ fs) told input =
-      let others = all_lines_of past ss fs told.1 input.1 in
-      let here = done_lines (rw (is_told (device.text s) told.0) at input.0) in
-      grind (arith, each_join, each_weaker)
-  all_lines_of past ss fs told input = grind arith
+all_lines_of : (past : List ℕ → Bool) (sources : List (Option (List ℕ))) (texts : List (List ℕ)) (fs : List MergeInput)
+    → Known sources texts → AllZip (TextRead past) texts fs
+    → AllByRecursion (IsLineOf sources) (all_done past texts fs)
+all_lines_of past (o ∷ os) (t ∷ texts) (f ∷ fs) known read =
+    let others = all_lines_of past os texts fs known.1 read.1 in
+    let here = done_lines read.0.told in
+    grind (arith, each_join, each_weaker)
+all_lines_of past os texts fs known read = grind arith
 
-  -- all sources tell their bytes, or one doesn't
-  told_or : (ss : List S) → AreTold device.text ss ⊎ ((m : Member) → HasEntry m → IsLineOf (map device.text ss) m)
-  told_or [] = inl tt
-  told_or (s ∷ ss) = elim (told_or ss) [ inl h ↦ grind arith | inr f ↦ grind (arith, f) ]
+-- all sources tell their bytes, or one doesn't
+told_or : (sources : List (Option (List ℕ))) → ((texts : List (List ℕ)) × Known sources texts)
+    ⊎ ((m : Member) → HasEntry m → IsLineOf sources m)
+told_or [] = inl ([], tt)
+told_or (None ∷ os) = inr (λ m h. inl h)
+told_or (Some t ∷ os) = elim (told_or os) [
+  | inl k ↦ inl (t ∷ k.0, (refl, k.1))
+  | inr f ↦ inr (λ m h. inr (f m h))
+]
+
+-- how far a merge came of sources
+module _ {S : Type 0} {device : Ghosts S} {past : List ℕ → Bool} {old ss : List S} {begun m : MergeState}
+    {b : Option Pair} {taken : List Member} (reached : Reached past device old begun ss m b taken) where
+  pub reached_long : length ss ≡ length old
+  reached_long = let same = ap length reached.kept.0 in grind (arith, length-map)
+
+  pub reached_read : OverTexts (map device.text old) (λ texts. AllZip (TextRead past) texts (inputs m))
+  reached_read texts known =
+      let ready = reached.ready in
+      texts_read device past ss (inputs m) texts (rw (← reached.kept.0) at known) ready.aligned.input ready.settled
+
+  -- indexes, from where the search for that pair ended
+  pub reached_sought : (start : Pair) → AllByRecursion (λ x. IsCutAt start (device.text x.0) x.1) (zip old begun.cursors.items)
+      → OverIndexes (map device.text old) (λ texts indexes. AllZip (IsSought start) (zip texts (inputs m)) indexes)
+  reached_sought start cut texts indexes known are =
+      let aligned = reached.ready.aligned in
+      let kept = cuts_kept device start _ _ reached.moved cut in
+      all_sought device start ss (inputs m) texts indexes (grind (arith, inputs_long))
+      (rw (← reached.kept.0) at known) are (rw (← cursors_of 0 m.cursors.items m.queue) at kept)
 
   -- what was taken are lines of the sources
-  pub taken_lines : (past : List ℕ → Bool) (ss0 : List S) (m0 : MergeState) (ss : List S) (m : MergeState)
-      (b : Option Pair) (taken : List Member) → length ss0 ≡ length m0.cursors.items
-      → Reached past device ss0 m0 ss m b taken → AreLinesOf (map device.text ss0) taken
-  taken_lines past ss0 m0 ss m b taken same reached = record {
+  pub taken_lines : AreLinesOf (map device.text old) taken
+  taken_lines = record {
     rise = reached.handed.rises;
-    each = elim (told_or ss0) [
-      | inl told ↦
-          let aligned = reached.ready.aligned in
-          let told_now = told_moved device ss0 ss _ _ aligned.same reached.moved told in
-          rw ((reached.handed.told told).0, ← (reached_kept reached same).0)
-          (each_rising member_place place_cmp place_cmp_total (IsLineOf (map device.text ss)) _ (all_lines_of past ss (inputs m) told_now aligned.input))
+    each = elim (told_or (map device.text old)) [
+      | inl k ↦ rw (reached.handed.told k.0 k.1).0
+          (each_rising member_place place_cmp place_cmp_total (IsLineOf (map device.text old)) _
+          (all_lines_of past _ k.0 (inputs m) k.1 (reached_read k.0 k.1)))
       | inr f ↦ each_weaker f taken reached.handed.entries
     ];
   }

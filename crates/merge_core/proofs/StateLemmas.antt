@@ -2,11 +2,11 @@
 use Rattle.merge_core.proofs.Words.{filter, [], ℕ, ◌++◌, ◌+◌, ◌<◌, ◌∙◌, ◌∷◌, ◌≡◌, ◌≢◌, ◌≤◌, Aligned, Alike}
 use Rattle.merge_core.proofs.Words.{AllByRecursion, AllZip, Bool, CursorState, IsInput, MergeInput, Ghosts, IsDue}
 use Rattle.merge_core.proofs.Words.{IsPermutation, List, Member, MergeState, Option, Pair, Some, TookOf, WaitingLine}
-use Rattle.merge_core.proofs.Words.{ap, append-nil, arith, done, each_join, each_weaker, input_of, inputs, inputs_from}
-use Rattle.merge_core.proofs.Words.{filter-append, get_or, get_or_default, given, inl, inr, length, length-append}
-use Rattle.merge_core.proofs.Words.{length-map, length-set, length_permutation, map, nil_from_length, not-true, queued}
-use Rattle.merge_core.proofs.Words.{refl, set, set-get_or, stays, suc, sym, true, waiting_pair, waits_of, zero}
-use Rattle.merge_core.proofs.Words.{cases_lt}
+use Rattle.merge_core.proofs.Words.{ap, append-nil, arith, done, each_join, each_weaker, input_of, inputs}
+use Rattle.merge_core.proofs.Words.{inputs_from, filter-append, get_or, get_or_default, given, inl, inr, length}
+use Rattle.merge_core.proofs.Words.{length-append, length-map, length-set, length_permutation, map, nil_from_length}
+use Rattle.merge_core.proofs.Words.{not-true, queued, refl, set, set-get_or, stays, suc, sym, true, waiting_pair}
+use Rattle.merge_core.proofs.Words.{waits_of, zero, cases_lt}
 use Rattle.std.proofs.Common.{take_all}
 use Rattle.merge_core.proofs.InputLemmas.{filter_passes}
 use Rattle.merge_core.proofs.GroupLemmas.{filter_all, each_permuted, waits_beside, waits_here, waits_other}

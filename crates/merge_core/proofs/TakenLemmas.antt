@@ -1,15 +1,15 @@
 -- What was taken of lines, beside all that is wanted of them.
-use Rattle.merge_core.proofs.Words.{◌≤◌, length, [], ℕ, ◌++◌, ◌∙◌, ◌∷◌, ◌≡◌, AllByRecursion, Bool, IsInput, MergeInput}
-use Rattle.merge_core.proofs.Words.{IsLower, IsRun, IsSettled, LINE_LIMIT, List, Member, NeverFalls, Some, Upto, ap}
-use Rattle.merge_core.proofs.Words.{append-nil, append_assoc, arith, done, drop, each_rising, each_weaker, false}
-use Rattle.merge_core.proofs.Words.{filter, filter-append, given, inl, inr, is_gt, line_entry, lines, map, member_of}
-use Rattle.merge_core.proofs.Words.{member_pair, member_place, not, not-false, pair_cmp, place_cmp, place_cmp_total}
-use Rattle.merge_core.proofs.Words.{refl, rising, rising_split, stays, sym, take, take-append-drop, take-map, true}
-use Rattle.merge_core.proofs.Words.{Below, IsAbove, IsUpto, None, NoneBelow, Option, Pair, WaitingLine, is_low, is_lt}
-use Rattle.merge_core.proofs.Words.{not-true, ordering_reverse, pair_cmp_total, true≢false, waiting_pair, ◌&&◌}
-use Rattle.merge_core.proofs.Words.{drop-map, nat_cmp, slice_cmp, nat_list_cmp_total, and_cases}
+use Rattle.merge_core.proofs.Words.{done, ◌≤◌, length, [], ℕ, ◌++◌, ◌∙◌, ◌∷◌, ◌≡◌, AllByRecursion, Bool, MergeInput}
+use Rattle.merge_core.proofs.Words.{IsLower, IsRun, LINE_LIMIT, List, Member, NeverFalls, Some, Upto, ap, append-nil}
+use Rattle.merge_core.proofs.Words.{append_assoc, arith, drop, each_rising, each_weaker, false, filter, filter-append}
+use Rattle.merge_core.proofs.Words.{given, inl, inr, is_gt, line_entry, lines, map, member_of, member_pair}
+use Rattle.merge_core.proofs.Words.{member_place, not, not-false, pair_cmp, place_cmp, place_cmp_total, refl, rising}
+use Rattle.merge_core.proofs.Words.{rising_split, stays, sym, take, take-append-drop, take-map, true, Below, IsAbove}
+use Rattle.merge_core.proofs.Words.{IsUpto, None, NoneBelow, Option, Pair, WaitingLine, is_low, is_lt, not-true}
+use Rattle.merge_core.proofs.Words.{ordering_reverse, pair_cmp_total, true≢false, waiting_pair, ◌&&◌, drop-map}
+use Rattle.merge_core.proofs.Words.{nat_cmp, slice_cmp, nat_list_cmp_total, and_cases}
 use Rattle.merge_core.proofs.Many.{each_both, filter_out, each_filter}
-use Rattle.merge_core.proofs.InputLemmas.{filter_passes}
+use Rattle.merge_core.proofs.InputLemmas.{filter_passes, TextRead}
 use Rattle.merge_core.proofs.PairOrder.{upto_itself, below_then, then_below, from_not_below, upto_upto}
 use Rattle.merge_core.proofs.GroupLemmas.{filter_all, filter_none}
 use Rattle.merge_core.proofs.MergeLemmas.{place_below, below_next, is_less}
@@ -79,9 +79,8 @@ module _ (past : List ℕ → Bool) (upto : Member → Bool) where
   rest_unread before m rest ms e falls f =
       (f m (upto_itself (member_pair m)), grind (arith, each_weaker, falls_after))
 
-module _ {past : List ℕ → Bool} (upward : IsUpward past) (upto : Member → Bool) {t : List ℕ} {extent : ℕ}
-    {f : MergeInput} (input : IsInput past (Some t) extent f) (settled : IsSettled past (Some t) f)
-    (late : AllByRecursion (IsLate upto) f.waits) (each : AllByRecursion (λ m. upto m ≡ true) (done past t f)) where
+module _ {past : List ℕ → Bool} (upward : IsUpward past) (upto : Member → Bool) {t : List ℕ} {f : MergeInput}
+    (r : TextRead past t f) (late : AllByRecursion (IsLate upto) f.waits) (each : AllByRecursion (λ m. upto m ≡ true) (done past t f)) where
   -- a line at which the range has ended, and those after it
   unread_past : (last k : Member) → past last.values.key ≡ true → Upto (member_pair last) (member_pair k)
       → is_read past upto k ≡ false
@@ -103,7 +102,7 @@ module _ {past : List ℕ → Bool} (upward : IsUpward past) (upto : Member → 
     -- the line that was read and not taken, and those after it
     tail_unread : (ls : List Member) → length ls ≤ 1 → f.waits ≡ filter (stays past) ls
         → given t f.cursor ≡ done past t f ++ ls → AllByRecursion (λ m. is_read past upto m ≡ false) (ls ++ rest)
-    tail_unread [] one waiting cut = elim (settled t refl waiting) [
+    tail_unread [] one waiting cut = elim (r.settled waiting) [
       | inl none ↦ rw (end none) tt
       | inr k ↦ (past_unread k.0 k.1 k.2 k.3).1
     ]
@@ -118,7 +117,7 @@ module _ {past : List ℕ → Bool} (upward : IsUpward past) (upto : Member → 
 
     read_of : filter (is_read past upto) ms ≡ done past t f
     read_of =
-        let told = input.told t refl in
+        let told = r.told in
         grind (arith, append_assoc, done_read, filter-append, filter_all, filter_none, append-nil, tail_unread)
 
   -- Of the lines from the start on, those that were come to are those that were taken
@@ -133,7 +132,7 @@ module _ {past : List ℕ → Bool} (upward : IsUpward past) (upto : Member → 
 
   -- the same of the lines that were read
   pub given_read : filter (is_read past upto) (given t f.cursor) ≡ done past t f
-  given_read = read_of _ [] (sym (append-nil _)) (input.told t refl).run.ordered (λ e. refl)
+  given_read = read_of _ [] (sym (append-nil _)) r.told.run.ordered (λ e. refl)
 
 -- ---- what was taken of lines, beside all that is wanted of them
 

@@ -15,12 +15,12 @@ pub use Rattle.devices.proofs.DeviceLemmas.{Appends-join, Appends-none, grows_by
 pub use Rattle.devices.proofs.WritingLemmas.{prefix_after, prefix_longer, prefix_whole, wrote_nothing}
 pub use Rattle.devices.specs.Device.{AppendsPrefix, Grows}
 pub use Rattle.merge_core.specs.BoxedLines.{boxed_line, boxed_lines}
-pub use Rattle.merge_core.specs.Collections.{KeepsSources, Known, OverIndexes, all_lines, collection}
-pub use Rattle.merge_core.specs.Counts.{ShareAtMost, is_at}
-pub use Rattle.merge_core.specs.Gathering.{AreTold, EndsAt, Gathered, Grouped, IsDue, IsDueAt, IsFrom, TookOf, all_done}
-pub use Rattle.merge_core.specs.Gathering.{text_or, to_come, unread}
-pub use Rattle.merge_core.specs.MergeInputs.{Aligned, AllMoved, AreInputs, AreSettled, IsInput, IsSettled, MergeInput}
-pub use Rattle.merge_core.specs.MergeInputs.{Moved, Ready, bytes_of, done, given, input_of, inputs, inputs_from}
+pub use Rattle.merge_core.specs.Collections.{KeepsSources, Known, OverIndexes, OverTexts, all_lines, collection}
+pub use Rattle.merge_core.specs.Counts.{HoldsFew, OverShares, is_at}
+pub use Rattle.merge_core.specs.Gathering.{EachDone, EndsAt, Gathered, Grouped, IsDue, IsDueAt, IsFrom, TookOf, all_done}
+pub use Rattle.merge_core.specs.Gathering.{to_come, unread}
+pub use Rattle.merge_core.specs.MergeInputs.{Aligned, AllMoved, AreInputs, AreSettled, EndsPast, IsInput, IsInputOf, IsSettled}
+pub use Rattle.merge_core.specs.MergeInputs.{MergeInput, Moved, Ready, bytes_of, done, given, input_of, inputs, inputs_from}
 pub use Rattle.merge_core.specs.MergeInputs.{member_of, option_list, read_lines, stays}
 pub use Rattle.merge_core.specs.Merging.{BrokenMerge, HaltedGroup, HaltedMerge, MergePoint, SoFar, StillWants}
 pub use Rattle.merge_core.specs.NextLine.{IsNextLine}
@@ -37,6 +37,7 @@ pub use Rattle.merge_core.specs.Written.{lines_text}
 pub use Rattle.merge_core.specs.declared.fault.FeedFault.{FeedFault}
 pub use Rattle.merge_core.specs.declared.state.MergeState.{MergeState}
 pub use Rattle.source_core.specs.Cursors.{CursorState, Stands, reach}
+pub use Rattle.source_core.specs.Device.{OverText}
 pub use Rattle.source_core.specs.Halving.{digits}
 pub use Rattle.source_core.specs.IndexLines.{IsLineStart, first_length, longest}
 pub use Rattle.source_core.specs.Search.{IsCut, is_below}
@@ -56,7 +57,7 @@ pub use Rattle.std.proofs.lemmas.List.{drop-map, drop_all, drop_at, get_or-map, 
 pub use Rattle.std.proofs.lemmas.List.{length-map, map-append, map-set, map_more, nil_from_length, set-get_or, set-set}
 pub use Rattle.std.proofs.lemmas.List.{take-map, take-take, take_all, take_more, take_more_set}
 pub use Rattle.std.proofs.lemmas.List.Concat.{flat_map-append}
-pub use Rattle.std.proofs.lemmas.List.Elements.{filter-append}
+pub use Rattle.std.proofs.lemmas.List.Elements.{All-from_recursion, filter-append, recursion_from_All}
 pub use Rattle.std.proofs.lemmas.List.Sorted.{All-permutation, IsPermutation-sym, length_permutation}
 pub use Rattle.std.proofs.lemmas.List.Sorted.{sum_by-IsPermutation}
 pub use Rattle.std.proofs.lemmas.List.Sums.{sum-map, sum_by-cons, sum_by-set, sum_by_push}

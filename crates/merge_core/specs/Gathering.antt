@@ -1,14 +1,15 @@
 -- What was taken of several sources.
-use Rattle.std.specs.Prelude.{◌≡◌, ℕ, ◌+◌, ◌-◌, ◌<◌, ◌≤◌, List, [], ◌∷◌, ◌++◌, flat_map, length, map, not, true, false}
+use Rattle.std.specs.Prelude.{◌≡◌, ℕ, ◌+◌, ◌-◌, ◌<◌, ◌≤◌, List, [], ◌∷◌, ◌++◌, flat_map, length, map, not, false}
 use Rattle.std.specs.Prelude.{Bool, Option, None, Some, slice_index_or, slice_set}
-use Rattle.std.specs.List.{AllByRecursion, filter, sum, zip}
+use Rattle.std.specs.List.{AllByRecursion, AllZip, filter, sum, zip}
 use Rattle.std.specs.List.Sorted.{IsPermutation}
-use Rattle.std.specs.Option.{is_some}
 use Rattle.cdxj_places.specs.Pairs.{Pair}
 use Rattle.cdxj_core.specs.Members.{Member, member_pair}
 use Rattle.source_core.specs.Cursors.{CursorState}
+use Rattle.source_core.specs.Device.{OverText}
 use Rattle.source_core.specs.declared.source.Source.{Ghosts}
 use Rattle.merge_core.specs.declared.state.MergeState.{MergeState}
+use Rattle.merge_core.specs.Collections.{OverTexts}
 use Rattle.merge_core.specs.PairOrders.{Alike, Below, Upto, IsAbove, is_low}
 use Rattle.merge_core.specs.WaitingLines.{AllBeyond, NoneBelow, WaitingLine, queued, waiting_pair}
 use Rattle.merge_core.specs.MergeInputs.{Aligned, IsInput, MergeInput, IsSettled, done, input_of, inputs, given}
@@ -19,17 +20,14 @@ pub record Gathered (pair : Pair) (old_done done old_group group : List Member) 
   pub taken : group ≡ old_group ++ filter (λ m. not (is_low pair m)) done
   pub upto : AllByRecursion (λ m. Upto (member_pair m) pair) done
 
-abbrev pub text_or : Option (List ℕ) → List ℕ
-text_or None = []
-text_or (Some t) = t
+-- the lines of all texts that were taken, text by text
+abbrev pub all_done : (List ℕ → Bool) → List (List ℕ) → List MergeInput → List Member
+all_done past texts fs = flat_map (λ x. done past x.0 x.1) (zip texts fs)
 
--- each source tells its bytes
-abbrev pub AreTold : {S : Type 0} → (S → Option (List ℕ)) → List S → Type 0
-AreTold text = AllByRecursion (λ s. is_some (text s) ≡ true)
-
--- the lines of all sources that were taken, source by source
-abbrev pub all_done : {S : Type 0} → (List ℕ → Bool) → (S → Option (List ℕ)) → List S → List MergeInput → List Member
-all_done past text ss fs = flat_map (λ x. done past (text_or (text x.0)) x.1) (zip ss fs)
+-- this holds of the lines that were taken, of each source that tells its bytes
+abbrev pub EachDone : {S : Type 0} → (List ℕ → Bool) → (S → Option (List ℕ)) → (List Member → Type 0) → List S
+    → List MergeInput → Type 0
+EachDone past text P = AllZip (λ s f. OverText (text s) (λ t. P (done past t f)))
 
 -- the bytes of all sources that weren't read
 abbrev pub unread : {S : Type 0} → (S → ℕ) → List S → List CursorState → ℕ
@@ -103,10 +101,9 @@ pub record Grouped {S : Type 0} (past : List ℕ → Bool) (device : Ghosts S) (
   pub later : AllBeyond pair new.queue
   pub each : AllByRecursion (λ m. Alike (member_pair m) pair) group
   pub fewer : to_come device.extent news new < to_come device.extent olds old
-  pub gathered : AreTold device.text olds
-      → AllByRecursion (λ m. Below (member_pair m) pair) (all_done past device.text olds (inputs old))
-      → Gathered pair (all_done past device.text olds (inputs old))
-      (all_done past device.text news (inputs new)) [] group
+  pub gathered : OverTexts (map device.text olds) (λ texts.
+      AllByRecursion (λ m. Below (member_pair m) pair) (all_done past texts (inputs old))
+      → Gathered pair (all_done past texts (inputs old)) (all_done past texts (inputs new)) [] group)
 
 -- a group was taken, which begins with this line, or no line waited
 abbrev pub IsGroup : {S : Type 0} → (List ℕ → Bool) → Ghosts S → List S → MergeState → List S → MergeState

@@ -1,5 +1,6 @@
 -- What a merge passed on to its sink.
 use Rattle.std.specs.Prelude.{◌≡◌, ◌⊎◌, ◌++◌, ℕ, List, [], Bool, true, false, Box, Option, Some, Result, MatchResult}
+use Rattle.std.specs.Prelude.{map}
 use Rattle.std.specs.List.{AllByRecursion}
 use Rattle.std.specs.Global.{Global}
 use Rattle.cdxj_places.specs.Pairs.{Pair}
@@ -12,7 +13,8 @@ use Rattle.merge_core.specs.declared.sink.Sink.{Ghosts as SinkGhosts}
 use Rattle.merge_core.specs.declared.state.MergeState.{MergeState}
 use Rattle.merge_core.specs.MergeInputs.{inputs}
 use Rattle.merge_core.specs.BoxedLines.{boxed_line}
-use Rattle.merge_core.specs.Gathering.{AreTold, IsGroup, all_done}
+use Rattle.merge_core.specs.Collections.{OverTexts}
+use Rattle.merge_core.specs.Gathering.{IsGroup, all_done}
 use Rattle.devices.specs.Device.{Grows}
 use Rattle.merge_core.specs.Reached.{Reached}
 use Rattle.merge_core.specs.Spending.{AreReadTo}
@@ -24,9 +26,9 @@ pub record HaltedGroup {S : Type 0} (past : List ℕ → Bool) (text : S → Opt
   pub pair : Pair
   pub above : (b : Option Pair) → AllByRecursion (λ w. IsAbove b (waiting_pair w)) begun.queue → IsAbove b pair
   pub least : NoneBelow pair begun.queue
-  pub read : AreTold text olds
-      → AllByRecursion (λ m. Below (member_pair m) pair) (all_done past text olds (inputs begun))
-      → AreReadTo past text (Some pair) news merge.cursors.items
+  pub read : OverTexts (map text olds) (λ texts.
+      AllByRecursion (λ m. Below (member_pair m) pair) (all_done past texts (inputs begun))
+      → AreReadTo past text (Some pair) news merge.cursors.items)
 
 -- A sink, by what it wrote of lines: it came from this state and output to others by these lines
 module _ {K : Type 0} (consumer : SinkGhosts K) (sink : K) (old : Option (List ℕ)) where
@@ -107,8 +109,8 @@ module _ {K S : Type 0} (consumer : SinkGhosts K) (past : List ℕ → Bool) (de
       pub next : Pair
       pub above : IsAbove so_far.bound next
       pub least : NoneBelow next point.merge.queue
-      pub read : AreTold device.text before.sources
-          → AreReadTo past device.text (Some next) now.sources now.merge.cursors.items
+      pub read : OverTexts (map device.text before.sources) (λ _.
+          AreReadTo past device.text (Some next) now.sources now.merge.cursors.items)
 
     -- a merge ended, or broke off at a fault
     abbrev pub EndedMerge : {E : Type 0} → Result Bool E → MergePoint S K → Type 0

@@ -12,7 +12,7 @@ use Rattle.source_core.specs.Search.{IsCut}
 use Rattle.source_core.specs.declared.source.Source.{Ghosts}
 use Rattle.merge_core.specs.declared.state.MergeState.{MergeState}
 use Rattle.merge_core.specs.MergeInputs.{IsInput, IsSettled, Ready, done, input_of, inputs}
-use Rattle.merge_core.specs.Gathering.{all_done}
+use Rattle.merge_core.specs.Gathering.{EachDone}
 use Rattle.merge_core.specs.Spending.{CameOnce, CameWithin}
 use Rattle.merge_core.specs.WaitingLines.{queued}
 
@@ -38,7 +38,7 @@ pub record Begun {S : Type 0} (past : List ℕ → Bool) (device : Ghosts S) (st
     (m : MergeState) : Type 0 where
   pub ready : Ready past device news m
   pub opened : AreOpened device start olds (zip news m.cursors.items)
-  pub fresh : all_done past device.text news (inputs m) ≡ []
+  pub fresh : EachDone past device.text (λ ms. ms ≡ []) news (inputs m)
   pub none_held : m.most_lines ≡ 0
 
 -- A source was added, whose cursor is this; its first line waits, if it lies within the range

@@ -1,12 +1,10 @@
 -- The lines that were read of a source: a part of it that is an index by itself.
-use Rattle.std.specs.Prelude.{◌≡◌, ◌⊎◌, ℕ, List, [], ◌++◌, map, Bool, true, Option}
-use Rattle.std.specs.List.{zip}
+use Rattle.std.specs.Prelude.{◌≡◌, ◌⊎◌, ℕ, List, [], ◌++◌, Bool, true}
 use Rattle.cdxj_core.specs.declared.limit.TheConstants.{LINE_LIMIT}
 use Rattle.cdxj_places.specs.TextLines.{lines}
 use Rattle.cdxj_core.specs.Indexes.{IsRun}
 use Rattle.cdxj_core.specs.Members.{Member}
-use Rattle.merge_core.specs.MergeInputs.{EndsPast, MergeInput, given}
-use Rattle.merge_core.specs.Gathering.{text_or}
+use Rattle.merge_core.specs.MergeInputs.{EndsPast}
 
 -- Consecutive lines of a text are these members, whose pairs never fall. Where they are to be all of the range, they go
 -- on to the text's end, or to a line whose key lies past the range.
@@ -18,7 +16,3 @@ pub record IsPart (past : List ℕ → Bool) (whole : Bool) (text : List ℕ) (m
     pub cut : lines text ≡ before ++ read ++ after
     pub run : IsRun LINE_LIMIT read members
     pub ended : whole ≡ true → (after ≡ []) ⊎ EndsPast past members
-
--- the lines that were read, source by source
-abbrev pub parts : {S : Type 0} → (S → Option (List ℕ)) → List S → List MergeInput → List (List Member)
-parts text ss fs = map (λ x. given (text_or (text x.0)) x.1.cursor) (zip ss fs)

@@ -11,7 +11,7 @@ use Rattle.source_core.specs.IndexLines.{longest}
 use Rattle.source_core.specs.declared.source.Source.{Ghosts}
 use Rattle.merge_core.specs.declared.state.MergeState.{MergeState}
 use Rattle.merge_core.specs.MergeInputs.{bytes_of, inputs}
-use Rattle.merge_core.specs.Gathering.{all_done}
+use Rattle.merge_core.specs.Gathering.{EachDone}
 use Rattle.merge_core.specs.PairOrders.{IsUpto, Upto}
 use Rattle.merge_core.specs.Written.{lines_text}
 
@@ -36,7 +36,7 @@ AreReadTo past text b ss cs =
 abbrev pub ReadUpto : {S : Type 0} → (List ℕ → Bool) → (S → Option (List ℕ)) → Pair → List S → MergeState → List S
     → MergeState → Type 0
 ReadUpto past text pair olds old news new =
-    AllByRecursion (λ m. Upto (member_pair m) pair) (all_done past text olds (inputs old))
+    EachDone past text (AllByRecursion (λ m. Upto (member_pair m) pair)) olds (inputs old)
     → AreReadTo past text (Some pair) news new.cursors.items
 
 -- what a search in a source of so many bytes, with this text, takes at most

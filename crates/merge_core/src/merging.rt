@@ -3,7 +3,7 @@ ghost use Rattle.std.specs.Prelude.{◌≡◌, []};
 ghost use Rattle.merge_core.specs.Counts.{HoldsFew};
 ghost use Rattle.merge_core.specs.Failures.{TellsMergeFault};
 ghost use Rattle.merge_core.specs.MergeInputs.{AllMoved, Ready, inputs};
-ghost use Rattle.merge_core.specs.Gathering.{all_done};
+ghost use Rattle.merge_core.specs.Gathering.{EachDone};
 ghost use Rattle.merge_core.specs.Merging.{EndedMerge, point_of};
 
 use crate::fault::MergeFault;
@@ -27,7 +27,8 @@ pub fn merge<S: Source, R: Range, K: Sink, O: Output>(
     out: &mut O,
 ) -> Result<bool, MergeFault>
     requires ready { Ready (R.past range.now) S.Source sources.old merge.old }
-    requires fresh { all_done (R.past range.now) S.text sources.old (inputs merge.old) ≡ [] }
+    requires fresh { EachDone (R.past range.now) S.text (λ ms. ms ≡ []) sources.old
+        (inputs merge.old) }
     ensures moved { AllMoved S.Source sources.old merge.old sources.new merge.new }
     ensures fault { TellsMergeFault S.Source O.Output result sources.old sources.new
         out.old out.new }

@@ -1,11 +1,9 @@
-use Rattle.merge_core.proofs.Words.{ℕ, ◌++◌, ◌+◌, ◌-◌, ◌^◌, ◌∷◌, ◌≡◌, ◌≤◌, Grouped, List, Member}
-use Rattle.merge_core.proofs.Words.{OverIndexes, Reached, ShareAtMost, Some, all_lines, arith, boxed_lines, each_rising}
-use Rattle.merge_core.proofs.Words.{inl, inr, length, length-map, map, member_pair, member_place, min, place_cmp}
-use Rattle.merge_core.proofs.Words.{place_cmp_total, refl, rising, max, grows_not}
-use Rattle.merge_core.proofs.CountLemmas.{are_read_to, held_most}
-use Rattle.merge_core.proofs.SourceLemmas.{reached_kept}
-use Rattle.merge_core.proofs.Many.{moved_trans}
-use Rattle.merge_core.proofs.MergeLemmas.{below_next, broken_there, halted_there, reached_next, reached_same, on_fault}
+use Rattle.merge_core.proofs.Words.{ℕ, ◌++◌, ◌+◌, ◌-◌, ◌^◌, ◌∷◌, ◌≡◌, Grouped, List, Member, Reached, Some, arith}
+use Rattle.merge_core.proofs.Words.{boxed_lines, each_rising, inl, inr, length, length-map, member_pair, member_place}
+use Rattle.merge_core.proofs.Words.{min, place_cmp, place_cmp_total, refl, rising, max, grows_not, HoldsFew}
+use Rattle.merge_core.proofs.CountLemmas.{held_most, reached_read_to}
+use Rattle.merge_core.proofs.MergeLemmas.{below_next, broken_there, halted_there, reached_next, reached_same}
+use Rattle.merge_core.proofs.MergeLemmas.{on_fault}
 use Rattle.merge_core.proofs.merging.merge.Given.{Over}
 use Rattle.merge_core.proofs.merging.merge.Goals.{After-pass_group}
 use Rattle.merge_core.proofs.merging.merge.Goals as goal
@@ -33,13 +31,11 @@ reached g c =
 most_lines : (g : Over) (c : After-pass_group g) (now : ℕ)
     → now ≡ max c.gather.new.self.most_lines (min (length c.gather.new.self.queue + 1 + length c.gather.new.rest.items)
     (2 ^ 64 - 1))
-    → OverIndexes (map g.S.Source.text c.args.sources.now) (λ texts indexes. (most : ℕ)
-    → ShareAtMost most (all_lines indexes) → c.args.merge.now.most_lines ≤ length c.args.sources.now + most
-    → now ≤ length c.args.sources.now + most)
+    → HoldsFew g.S.Source c.args.sources.now c.args.merge.now.most_lines now
 most_lines g c now is texts indexes known are most share h =
     let before = c.loop-rest.invariant.most_lines texts indexes known are most share h in
-    let few = held_most c.loop-rest.invariant.came.reached (grouped g c) (reached g c)
-    c.requires.ready.aligned.same texts indexes known are most share in
+    let few = held_most c.loop-rest.invariant.came.reached (grouped g c) (reached g c) texts indexes known are most
+    share in
     grind (arith, length-map)
 
 order : (g : Over) (c : After-pass_group g)
@@ -56,80 +52,73 @@ loop-rest-preserved g c =
 pub returns-clause-most_lines : goal.returns-clause-most_lines
 returns-clause-most_lines g c = simp c.gather.ensures.most_lines c.loop-rest.invariant.most_lines
 
-pub returns-in_err-first : goal.returns-in_err-first
-returns-in_err-first g c =
-    let came = c.loop-rest.invariant.came in
-    let kept = reached_kept came.reached c.requires.ready.aligned.same in
-    record {
-      moved = grind (arith, moved_trans);
-      fault = grind arith;
-      most_lines = rw c.gather.ensures.most_lines c.loop-rest.invariant.most_lines;
-      ended = on_fault _ _ _ _ c.from_residual.ensures.1 (
-        broken_there came _ refl,
-        halted_there came _ c.loop-rest.invariant.further c.in_err-first.ensures.gathered (grows_not _),
-      );
-    }
+pub returns-in_err-first-clause-most_lines : goal.returns-in_err-first-clause-most_lines
+returns-in_err-first-clause-most_lines g c = rw c.gather.ensures.most_lines c.loop-rest.invariant.most_lines
 
-pub returns-in_err-more : goal.returns-in_err-more
-returns-in_err-more g c =
-    let here = (goal.at.returns-in_err-more g c).After-pass_group in
+pub returns-in_err-first-clause-ended : goal.returns-in_err-first-clause-ended
+returns-in_err-first-clause-ended g c =
+    let came = c.loop-rest.invariant.came in
+    on_fault _ _ _ _ c.from_residual.ensures.1 (
+      broken_there came _ refl,
+      halted_there came _ c.loop-rest.invariant.further c.in_err-first.ensures.gathered (grows_not _),
+    )
+
+pub returns-in_err-more-clause-most_lines : goal.returns-in_err-more-clause-most_lines
+returns-in_err-more-clause-most_lines g c = rw c.gather.ensures.most_lines c.loop-rest.invariant.most_lines
+
+pub returns-in_err-more-clause-ended : goal.returns-in_err-more-clause-ended
+returns-in_err-more-clause-ended g c =
+    let here = (goal.at.returns-in_err-more-clause-ended g c).After-pass_group in
     let came = c.loop-rest.invariant.came in
     let gathered = grouped g here in
-    record {
-      moved = grind (arith, moved_trans);
-      fault = grind arith;
-      most_lines = rw c.gather.ensures.most_lines c.loop-rest.invariant.most_lines;
-      ended = on_fault _ _ _ _ c.from_residual-in_err-more.ensures.1 (
-        elim c.in_err-more.ensures.passed [
-          | inl k ↦ broken_there came _ (grind arith)
-          | inr k ↦ record {
-            sources = c.gather.new.sources;
-            merge = c.gather.new.self;
-            bound = Some (member_pair c.in-Some.first.value);
-            taken = taken g here;
-            reached = reached g here;
-            wrote = grind (arith, order g here);
-          }
-        ],
-        halted_there came _ c.loop-rest.invariant.further (record {
-          pair = member_pair c.in-Some.first.value;
-          above = gathered.above;
-          least = gathered.least;
-          read = λ told low. are_read_to _ g.S.Source (Some (member_pair c.in-Some.first.value)) c.gather.new.sources
-              c.gather.new.self (reached g here).ready.aligned.input
-              (gathered.gathered told low).upto;
-        }) c.pass_group.ensures.grows,
-      );
-    }
+    on_fault _ _ _ _ c.from_residual-in_err-more.ensures.1 (
+      elim c.in_err-more.ensures.passed [
+        | inl k ↦ broken_there came _ (grind arith)
+        | inr k ↦ record {
+          sources = c.gather.new.sources;
+          merge = c.gather.new.self;
+          bound = Some (member_pair c.in-Some.first.value);
+          taken = taken g here;
+          reached = reached g here;
+          wrote = grind (arith, order g here);
+        }
+      ],
+      halted_there came _ c.loop-rest.invariant.further (record {
+        pair = member_pair c.in-Some.first.value;
+        above = gathered.above;
+        least = gathered.least;
+        read = λ texts known low. reached_read_to (reached g here) texts (rw came.reached.kept.0 at known);
+      }) c.pass_group.ensures.grows,
+    )
 
-pub returns-then-not-more : goal.returns-then-not-more
-returns-then-not-more g c =
-    let here = (goal.at.returns-then-not-more g c).After-pass_group in
+pub returns-then-not-more-clause-most_lines : goal.returns-then-not-more-clause-most_lines
+returns-then-not-more-clause-most_lines g c =
+    most_lines g (goal.at.returns-then-not-more-clause-most_lines g c).After-pass_group c.recycle.new.self.most_lines
+    c.recycle.ensures.most_lines
+
+pub returns-then-not-more-clause-ended : goal.returns-then-not-more-clause-ended
+returns-then-not-more-clause-ended g c =
+    let here = (goal.at.returns-then-not-more-clause-ended g c).After-pass_group in
     let came = c.loop-rest.invariant.came in
     let gathered = grouped g here in
     let now = reached_same c.recycle.new.self c.recycle.ensures.kept (reached g here) in
     let above = gathered.above came.bound came.reached.above in
     record {
-      moved = grind (arith, moved_trans);
-      fault = grind arith;
-      most_lines = most_lines g here c.recycle.new.self.most_lines c.recycle.ensures.most_lines;
-      ended = record {
-        so_far = grind (arith, order);
-        last = λ e. record {
-          pair = member_pair c.in-Some.first.value;
-          earlier = came.taken;
-          group = rising member_place place_cmp (group g here);
-          state = c.loop-rest.sink;
-          middle = g.O.Output.written c.loop-rest.out;
-          bound_is = refl;
-          split = refl;
-          below = grind (arith, below_next);
-          alike = each_rising member_place place_cmp place_cmp_total _ (group g here) gathered.each;
-          more = c.loop-rest.invariant.further;
-          came = came.came;
-        };
-        ended = grind arith;
-        enough = grind arith;
-        further = grind arith;
+      so_far = grind (arith, order);
+      last = λ e. record {
+        pair = member_pair c.in-Some.first.value;
+        earlier = came.taken;
+        group = rising member_place place_cmp (group g here);
+        state = c.loop-rest.sink;
+        middle = g.O.Output.written c.loop-rest.out;
+        bound_is = refl;
+        split = refl;
+        below = grind (arith, below_next);
+        alike = each_rising member_place place_cmp place_cmp_total _ (group g here) gathered.each;
+        more = c.loop-rest.invariant.further;
+        came = came.came;
       };
+      ended = grind arith;
+      enough = grind arith;
+      further = grind arith;
     }

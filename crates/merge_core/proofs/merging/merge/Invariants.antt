@@ -1,5 +1,4 @@
-use Rattle.merge_core.proofs.Words.{[], ℕ, ◌+◌, ◌≡◌, ◌≤◌, OverIndexes, ShareAtMost, SoFar, all_lines, length, map}
-use Rattle.merge_core.proofs.Words.{to_come}
+use Rattle.merge_core.proofs.Words.{[], ◌≡◌, SoFar, map, to_come, HoldsFew}
 use Rattle.merge_core.proofs.merging.merge.Given as goal
 
 abbrev pub invariant-loop-rest : goal.invariant-loop-rest
@@ -8,9 +7,7 @@ invariant-loop-rest g l = record {
   reads : map g.S.Source.failures l.sources ≡ map g.S.Source.failures l.fn.sources;
   writes : g.O.Output.failures l.out ≡ g.O.Output.failures l.fn.out;
   further : (g.K.Sink.Enough l.fn.sink → ⊥) → g.K.Sink.Enough l.sink → ⊥;
-  most_lines : OverIndexes (map g.S.Source.text l.fn.sources) (λ texts indexes. (most : ℕ)
-      → ShareAtMost most (all_lines indexes)
-      → l.fn.merge.most_lines ≤ length l.fn.sources + most → l.merge.most_lines ≤ length l.fn.sources + most);
+  most_lines : HoldsFew g.S.Source l.fn.sources l.fn.merge.most_lines l.merge.most_lines;
   came : SoFar g.K.Sink (g.R.Range.past l.range) g.S.Source
       (record { sources = l.fn.sources; merge = l.fn.merge; sink = l.fn.sink; written = g.O.Output.written l.fn.out })
       (record { sources = l.sources; merge = l.merge; sink = l.sink; written = g.O.Output.written l.out });

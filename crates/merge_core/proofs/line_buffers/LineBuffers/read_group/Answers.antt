@@ -1,7 +1,7 @@
-use Rattle.merge_core.proofs.Words.{[], ℕ, ◌++◌, ◌∙◌, ◌∷◌, ◌≡◌, ◌≤◌, Alike, AllByRecursion, Bool, EndsAt}
-use Rattle.merge_core.proofs.Words.{IsInput, List, Member, Some, Upto, append_assoc, arith, boxed_lines, done}
-use Rattle.merge_core.proofs.Words.{each_join, each_weaker, false, input_of, filter, given, inl, inr, is_lt}
-use Rattle.merge_core.proofs.Words.{length, map-append, member_pair, pair_cmp_total, refl, stays, true}
+use Rattle.merge_core.proofs.Words.{[], ℕ, ◌++◌, ◌∙◌, ◌∷◌, ◌≡◌, ◌≤◌, Alike, AllByRecursion, Bool, EndsAt, IsInput}
+use Rattle.merge_core.proofs.Words.{List, Member, Some, Upto, append_assoc, arith, boxed_lines, done, each_join}
+use Rattle.merge_core.proofs.Words.{each_weaker, false, input_of, filter, given, inl, inr, is_lt, length, map-append}
+use Rattle.merge_core.proofs.Words.{member_pair, pair_cmp_total, refl, stays, true, ReadTo, OverText}
 use Rattle.merge_core.proofs.CountLemmas.{group_most}
 use Rattle.merge_core.proofs.InputLemmas.{LineRead, all_inside, all_taken, all_upto, bad_named, done_next, input_end}
 use Rattle.merge_core.proofs.InputLemmas.{input_more, given_next, order_named, same_stays, settled_more}
@@ -29,18 +29,27 @@ was_read g c not_less =
     → EndsAt past first (given t c.loop-line.cursor) = λ t e. inv.last t (cc) in
     let inside : (t : List ℕ) → g.S.Source.text c.next_line.new.source ≡ Some t
     → AllByRecursion (λ m. stays past m ≡ true) (given t c.loop-line.cursor) = λ t e.
-    all_inside was t e (last t e) in
+    all_inside (was.told t e) (last t e) in
     let low : (t : List ℕ) → g.S.Source.text c.next_line.new.source ≡ Some t
     → AllByRecursion (λ k. Upto (member_pair k) next) (given t c.loop-line.cursor) = λ t e.
     each_weaker (λ (k : Member) (q : Upto (member_pair k) first). upto_upto (member_pair k) first next q up) _
-    (all_upto was t e (last t e)) in
+    (all_upto (was.told t e) (last t e)) in
     grind arith
 
 -- before the call, all lines that were read had been taken
 taken_before : (g : Over) (c : After-next_line g) (t : List ℕ) → g.S.Source.text c.args.source.now ≡ Some t
     → done (g.R.Range.past c.args.range.now) t (input_of c.args.cursor.now [])
     ≡ given t c.args.cursor.now
-taken_before g c t e = all_taken c.requires.input t e (c.requires.due.last t e)
+taken_before g c t e = all_taken (c.requires.input.told t e) (c.requires.due.last t e)
+
+-- the source was read no further than the pair
+most : (g : Over) (c : After-next_line g) → OverText (g.S.Source.text c.args.source.now)
+    (λ t. ReadTo (g.R.Range.past c.args.range.now) (Some (member_pair c.args.first.now)) t c.next_line.new.cursor)
+most g c t e =
+    let inv = c.loop-line.invariant in
+    let input = inv.input.told t (inv.text ∙ e) in
+    let near = c.next_line.ensures.most t (inv.text ∙ e) in
+    grind (arith, group_most input (inv.last t e))
 
 pub returns-in-Greater-clause-read : goal.returns-in-Greater-clause-read
 returns-in-Greater-clause-read g c =
@@ -65,7 +74,7 @@ returns-in-Greater-clause-read g c =
     }
 
 pub returns-in-Greater-clause-most : goal.returns-in-Greater-clause-most
-returns-in-Greater-clause-most g c = grind (arith, group_most {pair = member_pair c.args.first.now} c.loop-line.invariant.input)
+returns-in-Greater-clause-most g c = most g (goal.at.returns-in-Greater-clause-most g c).After-next_line
 
 pub returns-clause-read : goal.returns-clause-read
 returns-clause-read g c =
@@ -84,22 +93,22 @@ returns-clause-read g c =
       alike = inv.taken.2;
       done_is = λ t e.
           let before = taken_before g here.After-next_line t (cc) in
-          let now = all_taken was t e (inv.last t (cc)) in
+          let now = all_taken (was.told t e) (inv.last t (cc)) in
           let more = inv.taken.3 t (cc) in
           grind arith;
     }
 
 pub returns-in_err-line-clause-most : goal.returns-in_err-line-clause-most
-returns-in_err-line-clause-most g c = grind (arith, group_most {pair = member_pair c.args.first.now} c.loop-line.invariant.input)
+returns-in_err-line-clause-most g c = most g (goal.at.returns-in_err-line-clause-most g c).After-next_line
 
 pub returns-in-Less-clause-most : goal.returns-in-Less-clause-most
-returns-in-Less-clause-most g c = grind (arith, group_most {pair = member_pair c.args.first.now} c.loop-line.invariant.input)
+returns-in-Less-clause-most g c = most g (goal.at.returns-in-Less-clause-most g c).After-next_line
 
 pub returns-in_err-push-in-Equal-clause-most : goal.returns-in_err-push-in-Equal-clause-most
-returns-in_err-push-in-Equal-clause-most g c = grind (arith, group_most {pair = member_pair c.args.first.now} c.loop-line.invariant.input)
+returns-in_err-push-in-Equal-clause-most g c = most g (goal.at.returns-in_err-push-in-Equal-clause-most g c).After-next_line
 
 pub returns-clause-most : goal.returns-clause-most
-returns-clause-most g c = grind (arith, group_most {pair = member_pair c.args.first.now} c.loop-line.invariant.input)
+returns-clause-most g c = most g (goal.at.returns-clause-most g c).After-next_line
 
 pub loop-line-preserved : goal.loop-line-preserved
 loop-line-preserved g c =

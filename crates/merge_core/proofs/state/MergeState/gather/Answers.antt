@@ -1,12 +1,14 @@
-use Rattle.merge_core.proofs.Words.{[], ◌+◌, ◌∙◌, ◌∷◌, AreReadTo, AreSettled, AreTold, Member, MergeState, Some}
-use Rattle.merge_core.proofs.Words.{Upto, WaitingLine, all_done, ap, arith, boxed_lines, each_weaker, inputs}
-use Rattle.merge_core.proofs.Words.{map-append, member_pair, pair_cmp_total, refl, sym, tied_itself, waiting_pair}
-use Rattle.merge_core.proofs.Words.{IsPermutation-sym}
+use Rattle.merge_core.proofs.Words.{[], ◌+◌, ◌∙◌, ◌∷◌, AreReadTo, AreSettled, Member, MergeState, Some, Upto}
+use Rattle.merge_core.proofs.Words.{WaitingLine, all_done, ap, arith, boxed_lines, each_weaker, inputs, map-append}
+use Rattle.merge_core.proofs.Words.{member_pair, pair_cmp_total, refl, sym, tied_itself, waiting_pair}
+use Rattle.merge_core.proofs.Words.{IsPermutation-sym, OverTexts, map, HaltedGroup, ◌≡◌}
 use Rattle.merge_core.proofs.PairOrder.{upto_itself}
 use Rattle.merge_core.proofs.MergeLemmas.{on_fault, Gathers, TakenNext, gathers_start, taken_next, gathers_on}
 use Rattle.merge_core.proofs.GroupLemmas.{AreBelow, from_waited, each_permuted, above_popped, not_before}
 use Rattle.merge_core.proofs.state.MergeState.gather.Given.{Over}
 use Rattle.merge_core.proofs.state.MergeState.gather.Goals.{After-read_on, After-push, In_ok-read_on}
+use Rattle.merge_core.proofs.SourceLemmas.{each_done}
+use Rattle.merge_core.proofs.StateLemmas.{long_of}
 use Rattle.merge_core.proofs.state.MergeState.gather.Goals as goal
 
 -- what a source's further lines make of the group
@@ -92,40 +94,42 @@ sources-preserved g c =
     grind (arith, map-append)
 
 -- the sources were read up to the pair
-read_to : (g : Over) (c : After-read_on g) → AreTold g.S.Source.text c.args.sources.now
-    → AreBelow (member_pair c.with_start-keyed.result) (all_done (g.R.Range.past c.args.range.now) g.S.Source.text
-    c.args.sources.now (inputs c.args.self.now))
+read_to : (g : Over) (c : After-read_on g) → OverTexts (map g.S.Source.text c.args.sources.now) (λ texts.
+    AreBelow (member_pair c.with_start-keyed.result) (all_done (g.R.Range.past c.args.range.now) texts
+    (inputs c.args.self.now))
     → AreReadTo (g.R.Range.past c.args.range.now) g.S.Source.text (Some (member_pair c.with_start-keyed.result))
-    c.read_on.new.sources c.read_on.new.self.cursors.items
-read_to g c told low =
-    c.read_on.ensures.most (c.sources.invariant.gathers.gathered told low).0.upto
+    c.read_on.new.sources c.read_on.new.self.cursors.items)
+read_to g c texts known low =
+    let h = c.sources.invariant.gathers in
+    c.read_on.ensures.most (each_done _ g.S.Source.text (λ m. Upto (member_pair m) (member_pair c.with_start-keyed.result))
+    c.sources.sources (inputs c.sources.self) texts (long_of h.aligned) (rw h.kept known) (h.gathered texts known low).0.upto)
 
 pub returns-in_default-pop_at : goal.returns-in_default-pop_at
 returns-in_default-pop_at g c =
     grind (arith, drained, drained_settled)
 
+-- the lines of the pair were being taken
+halted : (g : Over) (c : After-read_on g) (m : MergeState) → m.cursors.items ≡ c.read_on.new.self.cursors.items
+    → HaltedGroup (g.R.Range.past c.args.range.now) g.S.Source.text c.args.sources.now c.args.self.now
+    c.read_on.new.sources m
+halted g c m same = record {
+  pair = member_pair c.with_start-keyed.result;
+  above = c.sources.invariant.above;
+  least = c.sources.invariant.least;
+  read = rw same (read_to g c);
+}
+
 pub returns-in_err-read_on-clause-gathered : goal.returns-in_err-read_on-clause-gathered
 returns-in_err-read_on-clause-gathered g c =
-    on_fault _ _ _ _ c.from_residual.ensures.1 (record {
-      pair = member_pair c.with_start-keyed.result;
-      above = c.sources.invariant.above;
-      least = c.sources.invariant.least;
-      read = read_to g (goal.at.returns-in_err-read_on-clause-gathered g c).After-read_on;
-    })
+    on_fault _ _ _ _ c.from_residual.ensures.1
+    (halted g (goal.at.returns-in_err-read_on-clause-gathered g c).After-read_on _ refl)
 
-pub returns-in_err-push : goal.returns-in_err-push
-returns-in_err-push g c =
-    let here = goal.at.returns-in_err-push g c in
-    let t = taken g here.After-push (drained g here.In_ok-read_on) in
-    record {
-      moved = t.gathers.moved;
-      fault = grind arith;
-      ready = grind arith;
-      gathered = on_fault _ _ _ _ c.from_residual-in_err-push.ensures.1 (record {
-        pair = member_pair c.with_start-keyed.result;
-        above = c.sources.invariant.above;
-        least = c.sources.invariant.least;
-        read = read_to g here.After-read_on;
-      });
-      most_lines = grind arith;
-    }
+pub returns-in_err-push-clause-moved : goal.returns-in_err-push-clause-moved
+returns-in_err-push-clause-moved g c =
+    let here = goal.at.returns-in_err-push-clause-moved g c in
+    (taken g here.After-push (drained g here.In_ok-read_on)).gathers.moved
+
+pub returns-in_err-push-clause-gathered : goal.returns-in_err-push-clause-gathered
+returns-in_err-push-clause-gathered g c =
+    on_fault _ _ _ _ c.from_residual-in_err-push.ensures.1
+    (halted g (goal.at.returns-in_err-push-clause-gathered g c).After-read_on _ refl)

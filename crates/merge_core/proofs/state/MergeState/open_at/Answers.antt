@@ -1,13 +1,11 @@
-use Rattle.merge_core.proofs.Words.{sum_by_push, sum-map, get_or-map, map-set, length-map, ◌<◌, ◌≡◌, ap, append-nil}
-use Rattle.merge_core.proofs.Words.{arith, digits, input_of, inputs, flat_map-append, get_or, length, length-append}
-use Rattle.merge_core.proofs.Words.{map, sum, take, take_more, take_more_set, zip, common_steps, all_zipped_more}
+use Rattle.merge_core.proofs.Words.{sum_by_push, sum-map, get_or-map, map-set, length-map, ◌<◌, ◌≡◌, ap, arith}
+use Rattle.merge_core.proofs.Words.{digits, input_of, inputs, get_or, length, length-append, map, sum, take}
+use Rattle.merge_core.proofs.Words.{take_more, take_more_set, zip, common_steps, all_zipped_more, take_all}
 use Rattle.merge_core.proofs.Many.{two_same, map_set_same, two_put}
-use Rattle.merge_core.proofs.Words.{take_all}
 use Rattle.merge_core.proofs.SourceLemmas.{once_none}
 use Rattle.merge_core.proofs.CountLemmas.{left_here, left_after}
 use Rattle.std.proofs.lemmas.Simd.{map-map}
-use Rattle.merge_core.proofs.OpenLemmas.{added_inputs, fresh_of, ready_added, zip_none, zip_push}
-use Rattle.merge_core.proofs.StateLemmas.{inputs_long}
+use Rattle.merge_core.proofs.OpenLemmas.{added_inputs, ready_added, zip_none, zip_push}
 use Rattle.merge_core.proofs.state.MergeState.open_at.Goals as goal
 
 pub loop-i-init : goal.loop-i-init
@@ -19,18 +17,14 @@ loop-i-preserved g c =
     let inv = c.loop-i.invariant in
     let ok = c.in-Ok.ensures in
     let added = ok.added in
-    let past = g.R.Range.past c.args.range.now in
     let olds = c.args.sources.now in let ss = c.loop-i.sources in let m = c.loop-i.merge in
     let fs = inputs m in
     let i = c.loop-i.i in let a = c.index-sources-i.result in let s = c.add_from.new.source in
     let f = input_of added.cursor added.first in
     let inside : i < length ss = omega arith in
-    let text = g.S.Source.text in let extent = g.S.Source.extent in
     let now = added_inputs inv.ready added in
-    let count : length fs ≡ i = let n = inv.count in grind (arith, inputs_long) in
     let ready = ready_added inv.ready added in
     let front = take_more_set ss i s inside in
-    let zipped = zip_push ss fs i s f count inside in
     let same_here : get_or ss i a ≡ get_or olds i a = left_here olds ss i a inv.left in
     record {
       text = grind (arith, map_set_same);
@@ -39,7 +33,7 @@ loop-i-preserved g c =
       most_lines = grind arith;
       count = grind (arith, length-append);
       ready = rw front ready;
-      fresh = rw (now, zipped) (let is = fresh_of past (text s) f added.fresh in grind (arith, flat_map-append, append-nil));
+      fresh = rw (front, now) (all_zipped_more _ (take i ss) fs s f inv.fresh added.fresh);
       probes = grind (arith, take_more_set, sum-map, sum_by_push);
       left = grind (arith, left_after);
       spent = grind (arith, two_put);

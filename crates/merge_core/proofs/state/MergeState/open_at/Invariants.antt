@@ -1,5 +1,5 @@
-use Rattle.merge_core.proofs.Words.{[], ◌≡◌, ◌≤◌, AllGaveOnce, IsLeast, Ready, all_done, drop, inputs, length, map}
-use Rattle.merge_core.proofs.Words.{take, zip, AreOpened, AllOpenedWithin, search_steps}
+use Rattle.merge_core.proofs.Words.{[], ◌≡◌, ◌≤◌, AllGaveOnce, IsLeast, Ready, drop, inputs, length, map, take, zip}
+use Rattle.merge_core.proofs.Words.{AreOpened, AllOpenedWithin, search_steps, EachDone}
 use Rattle.cdxj_places.specs.PairViews.{pair_view}
 use Rattle.merge_core.proofs.state.MergeState.open_at.Given as goal
 
@@ -11,7 +11,7 @@ invariant-loop-i g l = record {
   most_lines : l.merge.most_lines ≡ 0;
   count : length l.merge.cursors.items ≡ l.i;
   ready : Ready (g.R.Range.past l.range) g.S.Source (take l.i l.sources) l.merge;
-  fresh : all_done (g.R.Range.past l.range) g.S.Source.text l.sources (inputs l.merge) ≡ [];
+  fresh : EachDone (g.R.Range.past l.range) g.S.Source.text (λ ms. ms ≡ []) (take l.i l.sources) (inputs l.merge);
   probes : l.probes ≤ search_steps g.S.Source (take l.i l.sources);
   left : drop l.i l.sources ≡ drop l.i l.fn.sources;
   spent : AllOpenedWithin g.S.Source l.fn.sources l.sources;

@@ -1,7 +1,7 @@
 use Rattle.merge_core.proofs.Words.{get_or-map, map-set, length-map, [], ◌≡◌, AllByRecursion, AllZip, ap, AreReadTo}
-use Rattle.merge_core.proofs.Words.{CursorState, MergeInput, List, Member, zip, MergeState, Some, Upto, all_done, arith}
-use Rattle.merge_core.proofs.Words.{boxed_line, input_of, inputs, get_or, get_or_default, member_pair}
-use Rattle.merge_core.proofs.Words.{option_list, refl, set, common_steps}
+use Rattle.merge_core.proofs.Words.{CursorState, MergeInput, List, Member, zip, MergeState, Some, Upto, arith}
+use Rattle.merge_core.proofs.Words.{boxed_line, input_of, inputs, get_or, get_or_default, member_pair, option_list}
+use Rattle.merge_core.proofs.Words.{refl, set, common_steps, EachDone}
 use Rattle.merge_core.proofs.CountLemmas.{are_read_to, read_on}
 use Rattle.merge_core.proofs.Many.{Move, moved_set, map_set_same, unread_set}
 use Rattle.merge_core.proofs.StateLemmas.{input_at, long_of, idle_here, waited_aligned, waited_inputs, waited_length}
@@ -39,8 +39,9 @@ module _ (g : Over) (c : After-read_group g) where
       c.requires.inside (grind arith)
 
   -- no source was read further than the pair
-  most : AllByRecursion (λ m. Upto (member_pair m) (member_pair c.args.first.now))
-      (all_done (g.R.Range.past c.args.range.now) g.S.Source.text c.args.sources.now (inputs c.args.self.now))
+  most : EachDone (g.R.Range.past c.args.range.now) g.S.Source.text
+      (AllByRecursion (λ m. Upto (member_pair m) (member_pair c.args.first.now))) c.args.sources.now
+      (inputs c.args.self.now)
       → AreReadTo (g.R.Range.past c.args.range.now) g.S.Source.text (Some (member_pair c.args.first.now))
       (set c.args.sources.now c.args.i c.read_group.new.source) cursors_now
   most low = read_on _ g.S.Source _ c.args.sources.now _ c.args.i c.read_group.new.source c.read_group.new.cursor
