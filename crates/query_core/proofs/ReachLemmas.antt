@@ -16,12 +16,11 @@ use Rattle.query_text.proofs.RangeLaw.{match_not_below}
 use Rattle.merge_core.specs.declared.state.MergeState.{MergeState}
 use Rattle.merge_core.specs.Openings.{IsCutAt}
 use Rattle.merge_core.specs.Reached.{Reached}
-use Rattle.merge_core.proofs.ReadLemmas.{took_of_indexes, none_wait, parts_are, parts_count, took_of_parts}
+use Rattle.merge_core.proofs.ReadLemmas.{took_of_indexes, none_wait, parts, parts_are, parts_count, took_of_parts}
 use Rattle.merge_core.proofs.TakenLemmas.{Took, taken_before}
 use Rattle.merge_core.specs.SourceLines.{IsLineIn, IsLineOf}
-use Rattle.merge_core.specs.Gathering.{AreTold}
 use Rattle.merge_core.specs.Spending.{CameWithin, AreReadTo, OpenedWithin}
-use Rattle.merge_core.proofs.SourceLemmas.{told_known, each_entry, taken_lines, cuts_kept, reached_kept, reached_long}
+use Rattle.merge_core.proofs.SourceLemmas.{each_entry, taken_lines, reached_long, reached_read, reached_sought}
 use Rattle.query_core.specs.Starts.{first_stamp}
 use Rattle.cdxj_core.proofs.MemberLemmas.{entry_valued}
 use Rattle.std.specs.Char.{is_ascii_digit}
@@ -33,11 +32,10 @@ use Rattle.query_text.specs.Matching.{begins, covers}
 use Rattle.source_core.specs.Cursors.{CursorState}
 use Rattle.merge_core.specs.MergeInputs.{MergeInput}
 use Rattle.merge_core.proofs.StateLemmas.{cursors_of}
-use Rattle.merge_core.proofs.MergeLemmas.{is_less, told_here}
+use Rattle.merge_core.proofs.MergeLemmas.{is_less}
 use Rattle.merge_core.specs.PairOrders.{Alike, IsUpto}
 use Rattle.merge_core.specs.Collections.{OverTexts}
-use Rattle.merge_core.specs.Runs.{parts}
-use Rattle.merge_core.proofs.CountLemmas.{Passes, lines_most, gave_most, tell_both, are_read_to}
+use Rattle.merge_core.proofs.CountLemmas.{Passes, lines_most, gave_most, tell_both, reached_read_to}
 use Rattle.merge_core.proofs.Many.{each_filter, Move, length_zip}
 use Rattle.merge_core.proofs.PairOrder.{below_below, below_upto, from_not_below, not_below_itself, same_from}
 use Rattle.query_core.specs.Reach.{pair_after, is_within}
@@ -157,14 +155,11 @@ module _ (q : QueryValue) where
 module _ {S : Type 0} {device : Ghosts S} {q : QueryValue} {olds : List S}
     (r : Reading device q olds) where
   pub lines_taken : AreLinesOf (map device.text olds) r.taken
-  lines_taken = grind (arith, taken_lines)
+  lines_taken = rw (← r.start.kept) (taken_lines r.reached)
 
   module _ (texts : List (List ℕ)) (known : Known (map device.text olds) texts) where
     pub known_opened : Known (map device.text r.opened) texts
     known_opened = rw r.start.kept known
-
-    pub told : AreTold device.text r.opened
-    told = grind (arith, told_known, known_opened)
 
     module _ (indexes : List (List Member)) (are : AllZip (IsIndex LINE_LIMIT) texts indexes) where
       of_all : filter (sought q) (collection indexes) ≡ filter (is_wanted q q.resume) (collection indexes)
@@ -182,8 +177,8 @@ module _ {S : Type 0} {device : Ghosts S} {q : QueryValue} {olds : List S}
       later_each A rest = grind (arith, each_kept, place_cmp_total)
 
       took_sought : Took (is_past q.target) (sought q) r.bound r.merge.queue (collection indexes) r.taken
-      took_sought = took_of_indexes r.reached r.start.same _ r.start.cut texts indexes known_opened are
-          (past_upward q.target) (sought q) (within q) (beyond q)
+      took_sought = took_of_indexes r.reached (past_upward q.target) (sought q) (within q) _ r.start.cut (beyond q)
+          texts indexes known_opened are
 
       -- what was taken is a front of what is wanted
       pub wanted_first : (rest : List Member) × (captures q (collection indexes) ≡ captures q r.taken ++ rest)
@@ -308,10 +303,7 @@ module _ {S : Type 0} {device : Ghosts S} {q : QueryValue} {olds : List S}
       }
 
   as_long : length r.sources ≡ length r.opened
-  as_long = reached_long r.reached r.start.same
-
-  kept_now : map device.text r.sources ≡ map device.text olds
-  kept_now = (reached_kept r.reached r.start.same).0 ∙ r.start.kept
+  as_long = reached_long r.reached
 
   -- what sources gave that were read up to the bound
   pub gave_upto : (bound : Option Pair) (earlier : List Member) (news : List S) (cs : List CursorState)
@@ -331,36 +323,33 @@ module _ {S : Type 0} {device : Ghosts S} {q : QueryValue} {olds : List S}
   pub gave_within : (earlier : List Member) → Cuts r.bound earlier
       → GaveFor q (map device.text olds) device earlier olds r.sources
   gave_within earlier cuts = gave_upto r.bound earlier r.sources r.merge.cursors.items cuts r.reached.moved as_long
-      (λ texts known. are_read_to _ device _ r.sources r.merge r.reached.ready.aligned.input
-      (r.reached.handed.told (told r texts known)).1)
+      (λ texts known. reached_read_to r.reached texts (known_opened r texts known))
 
   module _ (lines : ℕ) (counted : lines ≡ min (sum (map (λ (c : CursorState). c.count) r.merge.cursors.items)) (2 ^ 64 - 1)) where
     -- no more lines were read than are in reach, and one of each index
     pub lines_within : (earlier : List Member) → Cuts r.bound earlier → ReadFor q (map device.text olds) earlier lines
     lines_within earlier cuts = λ texts indexes known are limit most.
-        let h = rw cursors_of at (lines_most (passes q indexes r.bound earlier (cuts texts indexes known are) limit most) device
-        r.sources (inputs r.merge) texts indexes (rw kept_now known) are
-        (rw cursors_of (cuts_kept device _ _ _ r.reached.moved r.start.cut)) r.reached.ready.aligned.input
-        (r.reached.handed.told (told r texts known)).1) in
+        let there = known_opened r texts known in
+        let pass = passes q indexes r.bound earlier (cuts texts indexes known are) limit most in
+        let h = rw cursors_of at (lines_most pass texts (inputs r.merge) indexes (reached_read r.reached texts there) are
+        (reached_sought r.reached _ r.start.cut texts indexes there are) (r.reached.handed.told texts there).1) in
         grind (arith, AllZip-long)
 
     -- of each source consecutive lines were read
     pub of_parts : (all : Bool) → (all ≡ true → r.merge.queue ≡ [])
         → OverTexts (map device.text olds) (λ texts. IsOfParts q texts r.taken all lines)
     of_parts all ended = λ texts known.
-        let read = parts device.text r.sources (inputs r.merge) in
-        let told_all = told r texts known in
-        let all_took = took_of_parts r.reached told_all (past_upward q.target) (is_wanted q q.resume)
-        (λ m h. grind arith) in
+        let there = known_opened r texts known in
+        let read = reached_read r.reached texts there in
+        let all_took = took_of_parts r.reached (past_upward q.target) (is_wanted q q.resume) (λ m h. grind arith)
+        texts there in
         let found = taken_first all_took in
-        let count = rw cursors_of at (parts_count _ device r.sources (inputs r.merge) (told_here r.reached told_all)
-        r.reached.ready.aligned.input) in
+        let count = rw cursors_of at (parts_count texts (inputs r.merge) read) in
         record {
-          parts = read;
-          each = λ whole is. parts_are _ device _ _ _ _ (rw kept_now known) r.reached.ready.aligned.input
-              r.reached.ready.settled (λ e. rw (ended (is e)) (none_wait 0 r.merge.cursors.items));
+          parts = parts texts (inputs r.merge);
+          each = λ whole is. parts_are texts _ whole read (λ e. rw (ended (is e)) (none_wait 0 r.merge.cursors.items));
           count = cc;
-          first = (_, captures_split q q.resume (collection read) r.taken found.0 found.1);
+          first = (_, captures_split q q.resume _ r.taken found.0 found.1);
           ended = λ e. ap (kept_after q q.resume q.resume) (taken_whole all_took (ended e));
         }
 

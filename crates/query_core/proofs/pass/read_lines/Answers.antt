@@ -2,7 +2,7 @@ use Rattle.query_core.proofs.Words.{[], ◌++◌, ◌∙◌, ◌≡◌, Bool, Li
 use Rattle.query_core.proofs.Words.{err_from_is_err_and, false, grows_not, inl, inputs, length-map, map, refl, sym}
 use Rattle.query_core.proofs.Words.{true}
 use Rattle.query_core.proofs.WriterLemmas.{captures, captures_append}
-use Rattle.query_core.proofs.ReachLemmas.{Opened, reading, told, wanted_whole, cut_all, cut_before, cut_last, gave_upto}
+use Rattle.query_core.proofs.ReachLemmas.{Opened, reading, known_opened, wanted_whole, cut_all, cut_before, cut_last, gave_upto}
 use Rattle.query_core.proofs.ReachLemmas.{gave_within, lines_within, of_parts, took, within_opening}
 use Rattle.merge_core.proofs.OpenLemmas.{came_of, cuts_of}
 use Rattle.query_core.specs.Passes.{WantedMore}
@@ -70,7 +70,7 @@ returns-in_err-all-clause-ended g c =
           came = h.so_far.came;
           within = gave_upto r (Some h.next) r.taken c.merge.new.sources c.merge.new.merge.cursors.items
               (cut_before r h.next h.above h.least) c.merge.ensures.moved (omega arith)
-              (λ texts known. rw c.target.ensures at (h.read (told r texts known)));
+              (λ texts known. rw c.target.ensures at (h.read texts (known_opened r texts known)));
         };
         grows = h.grows;
       },
