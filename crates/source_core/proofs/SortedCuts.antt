@@ -1,11 +1,11 @@
 -- Indexes, cut at a pair.
-use Rattle.source_core.proofs.Words.{take-append-drop, ◌≡◌, ℕ, zero, suc, ◌+◌, ◌-◌, ◌*◌, ◌^◌, ◌<◌, ◌≤◌, List, [], ◌∷◌}
-use Rattle.source_core.proofs.Words.{◌++◌, Bool, true, false, None, not, cond, length, take, drop, flat_map, map, Some}
-use Rattle.source_core.proofs.Words.{refl, sym, ap, ◌∙◌, arith, length-append, length-drop, length-take, is_gt}
-use Rattle.source_core.proofs.Words.{AllByRecursion, flat_map-append, and_parts, take_all, body_of, Member, member_pair}
-use Rattle.source_core.proofs.Words.{line_entry, IsIndex, begins_with_pair, is_key, key_part, pair_of, stamp_part}
-use Rattle.source_core.proofs.Words.{IsLeast, Pair, pair_cmp, lines, from_line, longest, BeginsAfter, is_below}
-use Rattle.source_core.proofs.Words.{is_some_below, line_below, IsCut, stops, stops_lines, digits}
+use Rattle.source_core.proofs.Words.{◌≡◌, ℕ, zero, suc, ◌+◌, ◌-◌, ◌*◌, ◌^◌, ◌<◌, ◌≤◌, List, [], ◌∷◌, ◌++◌, Bool, true}
+use Rattle.source_core.proofs.Words.{false, None, not, cond, length, take, drop, flat_map, map, Some, refl, sym, ap}
+use Rattle.source_core.proofs.Words.{◌∙◌, arith, length-append, length-drop, length-take, is_gt, AllByRecursion}
+use Rattle.source_core.proofs.Words.{flat_map-append, and_parts, take_all, Member, member_pair, line_entry, IsIndex}
+use Rattle.source_core.proofs.Words.{begins_with_pair, is_key, key_part, pair_of, stamp_part, IsLeast, Pair, pair_cmp}
+use Rattle.source_core.proofs.Words.{lines, from_line, longest, BeginsAfter, is_below, is_some_below, line_below}
+use Rattle.source_core.proofs.Words.{IsCut, stops, stops_lines, digits}
 use Rattle.std.proofs.Math.Pow.{pow_mono}
 use Rattle.cdxj_core.proofs.MemberLemmas.{entry_pair_is, entry_is_short}
 use Rattle.cdxj_places.specs.Rising.{NeverFalls}
@@ -68,75 +68,66 @@ module _ (limit : ℕ) (start : Pair) where
       ≡ is_below start (member_pair m)
   unfolding line_below
   entry_below line m h =
-      let short = entry_is_short limit line m h in
-      let long : length line ≤ length (body_of line) + 1 = body_length _ line in
-      rw (take_all limit line (omega arith), entry_pair_is limit line m h)
+      rw (take_all limit line (grind (arith, body_length, entry_is_short)), entry_pair_is limit line m h)
 
-  -- the lines and their entries, one by one
-  data Entries : List (List ℕ) → List Member → Type 0 where
-    none : Entries [] []
-    one : {l : List ℕ} {ls : List (List ℕ)} {m : Member} {ms : List Member} → line_entry limit l ≡ Some m
-        → Entries ls ms → Entries (l ∷ ls) (m ∷ ms)
+  -- these are the entries of the lines
+  abbrev Entries : List (List ℕ) → List Member → Type 0
+  Entries ls ms = map (line_entry limit) ls ≡ map Some ms
 
-  each : (ls : List (List ℕ)) (ms : List Member) → map (line_entry limit) ls ≡ map Some ms → Entries ls ms
-  each [] [] h = none
-  each (l ∷ ls) (m ∷ ms) h = one (cc) (each ls ms (cc))
-  each _ _ h = absurd (cc)
-
-  entries_short : {ls : List (List ℕ)} {ms : List Member} → Entries ls ms → longest ls ≤ limit
-  entries_short none = omega arith
-  entries_short (one e r) = grind (arith, entry_is_short, body_length, entries_short r)
+  entries_short : (ls : List (List ℕ)) (ms : List Member) → Entries ls ms → longest ls ≤ limit
+  entries_short (l ∷ ls) (m ∷ ms) e = grind (arith, entry_is_short, body_length, entries_short ls ms)
+  entries_short ls ms e = grind arith
 
   pub lines_are_short : (t : List ℕ) (ms : List Member) → IsIndex limit t ms → longest (lines t) ≤ limit
-  lines_are_short t ms index = entries_short (each (lines t) ms index.entries)
+  lines_are_short t ms index = entries_short (lines t) ms index.entries
 
-  later_high : {ls : List (List ℕ)} {ms : List Member} (m : Member) → Entries ls ms
+  later_high : (m : Member) (ls : List (List ℕ)) (ms : List Member) → Entries ls ms
       → AllByRecursion (λ k. is_gt (pair_cmp (member_pair m) (member_pair k)) ≡ false) ms
       → is_below start (member_pair m) ≡ false → AllByRecursion (λ k. line_below limit start k ≡ false) ls
-  later_high m none up low = tt
-  later_high m (one e r) up low =
-      (entry_below _ _ e ∙ not_below_later start (member_pair m) _ low up.0, later_high m r up.1 low)
+  later_high m (l ∷ ls) (k ∷ ms) e up low =
+      (entry_below l k (cc) ∙ not_below_later start (member_pair m) _ low up.0, later_high m ls ms (cc) up.1 low)
+  later_high m ls ms e up low = grind arith
 
-  below_first : {ls : List (List ℕ)} {ms : List Member} → Entries ls ms → NeverFalls member_pair pair_cmp ms
+  below_first : (ls : List (List ℕ)) (ms : List Member) → Entries ls ms → NeverFalls member_pair pair_cmp ms
       → BelowFirst (line_below limit start) ls
-  below_first none n = tt
-  below_first (one {m = m} e r) n = (λ low. later_high m r n.0 (sym (entry_below _ _ e) ∙ low), below_first r n.1)
-
-  as_many : {ls : List (List ℕ)} {ms : List Member} → Entries ls ms → length ls ≡ length ms
-  as_many none = refl
-  as_many (one e r) = ap suc (as_many r)
+  below_first (l ∷ ls) (m ∷ ms) e n =
+      (λ low. later_high m ls ms (cc) n.0 (sym (entry_below l m (cc)) ∙ low), below_first ls ms (cc) n.1)
+  below_first ls ms e n = grind arith
 
   -- where each line is below, or none is, so are the entries
-  each_is : {ls : List (List ℕ)} {ms : List Member} (b : Bool) → Entries ls ms
+  each_is : (b : Bool) (ls : List (List ℕ)) (ms : List Member) → Entries ls ms
       → AllByRecursion (λ k. line_below limit start k ≡ b) ls
       → AllByRecursion (λ m. is_below start (member_pair m) ≡ b) ms
-  each_is b none a = tt
-  each_is b (one e r) a = (sym (entry_below _ _ e) ∙ a.0, each_is b r a.1)
+  each_is b (l ∷ ls) (m ∷ ms) e a = (sym (entry_below l m (cc)) ∙ a.0, each_is b ls ms (cc) a.1)
+  each_is b ls [] e a = tt
+  each_is b ls ms e a = absurd (cc)
 
-  parts : (before rest : List (List ℕ)) {ms : List Member} → Entries (before ++ rest) ms
-      → Entries before (take (length before) ms) × Entries rest (drop (length before) ms)
-  parts [] rest h = (none, h)
-  parts (l ∷ before) rest (one e r) = let ih = parts before rest r in (one e ih.0, ih.1)
+  -- the entries of lines that stand before others
+  parts : (before rest : List (List ℕ)) (ms : List Member) → Entries (before ++ rest) ms
+      → (low : List Member) × (high : List Member) × (ms ≡ low ++ high) × (length before ≡ length low)
+      × Entries before low × Entries rest high
+  parts [] rest ms e = ([], ms, refl, refl, refl, e)
+  parts (l ∷ before) rest (m ∷ ms) e =
+      let others = parts before rest ms (cc) in
+      (m ∷ others.0, others.1, ap (λ l. m ∷ l) others.2, ap suc others.3, cc, others.5)
+  parts before rest ms e = absurd (cc)
 
   pub cut_there : (t : List ℕ) (ms : List Member) (r offset : ℕ) → IsIndex limit t ms → offset ≤ length t
       → drop offset t ≡ from_line r t
       → stops (line_below limit start) r t ≡ true → ((k : ℕ) → r ≡ k + 1 → stops (line_below limit start) k t ≡ false)
       → IsCut start t ms offset
   cut_there t ms r offset index inside from here before =
-      let entries = each (lines t) ms index.entries in
-      let s = sought (line_below limit start) t r (below_first entries index.ordered) here before in
-      let cut : lines t ≡ s.before ++ lines (drop offset t) = grind arith in
-      let n = length s.before in
-      let halves = parts s.before (lines (from_line r t)) (rw s.cut at entries) in
+      let s = sought (line_below limit start) t r (below_first (lines t) ms index.entries index.ordered) here before in
+      let halves = parts s.before (lines (from_line r t)) ms (rw s.cut at index.entries) in
       record {
         before = s.before;
         begins = grind (arith, begins_at);
-        low = take n ms;
-        high = drop n ms;
-        members_are = sym (take-append-drop n ms);
-        as_many = as_many halves.0;
-        all_below = each_is true halves.0 s.low;
-        none_below = each_is false halves.1 s.high;
+        low = halves.0;
+        high = halves.1;
+        members_are = halves.2;
+        as_many = halves.3;
+        all_below = each_is true s.before halves.0 halves.4 s.low;
+        none_below = each_is false (lines (from_line r t)) halves.1 halves.5 s.high;
       }
 
 -- ---- the bytes of turns

@@ -21,8 +21,8 @@ pub use Rattle.std.proofs.Common.{arith, cond, drop, drop-drop, eq-eqb, eqb, eqb
 pub use Rattle.std.proofs.Common.{get_or-take, inl, inr, is_gt, length, length-append, length-drop, length-take, map}
 pub use Rattle.std.proofs.Common.{min, not, option_map, refl, rules, suc, sym, take, take-append-drop, true, zero, ℕ}
 pub use Rattle.std.proofs.Common.{◌*◌, ◌++◌, ◌+◌, ◌-◌, ◌/◌, ◌<◌, ◌^◌, ◌∙◌, ◌∷◌, ◌≡◌, ◌≤◌, ◌⊎◌}
-pub use Rattle.std.proofs.lemmas.Bool.{and_parts, cases_Bool, cases_lt, cond-false, cond_both, le-ltb, ltb-false}
-pub use Rattle.std.proofs.lemmas.Bool.{not-false, true≢false}
+pub use Rattle.std.proofs.lemmas.Bool.{and_parts, cases_lt, cond-false, cond_both, le-ltb, ltb-false}
+pub use Rattle.std.proofs.lemmas.Bool.{not-false}
 pub use Rattle.std.proofs.lemmas.Grind.{common_steps, flat_map-append}
 pub use Rattle.std.proofs.lemmas.List.{drop-take, drop_all, drop_more, take-take, take_all, take_at, take_more}
 pub use Rattle.std.specs.List.{AllByRecursion, list_all, prefix_len}

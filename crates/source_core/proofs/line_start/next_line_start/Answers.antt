@@ -41,8 +41,7 @@ returns-clause-gave g c = λ t e.
 
 pub returns-in-Some-clause-line : goal.returns-in-Some-clause-line
 returns-in-Some-clause-line g c = λ t e.
-    let there = piece g (goal.at.returns-in-Some-clause-line g c).After-min-count t e in
-    grind (arith, begins_in, found_in)
+    grind (arith, piece, begins_in, found_in)
 
 pub loop-at-preserved : goal.loop-at-preserved
 loop-at-preserved g c = grind (arith, nowhere_in, piece)
