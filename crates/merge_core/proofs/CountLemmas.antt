@@ -136,18 +136,16 @@ pub done_fewer : {past : List ℕ → Bool} {t : List ℕ} {f : MergeInput} {ms 
     (test : Member → Bool) → IsInputOf past t f → IsIndex LINE_LIMIT t ms
     → length (filter test (done past t f)) ≤ length (filter test ms)
 done_fewer {past = past} {t = t} {f = f} {ms = ms} test told index =
-    let all = members_are (lines t) ms index.entries in
     let cut = done_cut told in
     let whole = map-append member_of told.begins.0 (lines (drop f.cursor.start t)) in
     let read = take-map member_of f.cursor.count (lines (drop f.cursor.start t)) in
-    grind (arith, filter_front, filter-append, length-append)
+    grind (arith, members_are, filter_front, filter-append, length-append)
 
 all_fewer : (past : List ℕ → Bool) (texts : List (List ℕ)) (fs : List MergeInput) (indexes : List (List Member))
     (test : Member → Bool) → AllZip (TextRead past) texts fs → AllZip (IsIndex LINE_LIMIT) texts indexes
     → length (filter test (all_done past texts fs)) ≤ length (filter test (all_lines indexes))
 all_fewer past (t ∷ ts) (f ∷ fs) (i ∷ is) test read are =
-    let here = done_fewer test read.0.told are.0 in
-    grind (arith, filter-append, length-append, all_fewer past ts fs is test)
+    grind (arith, done_fewer, filter-append, length-append, all_fewer past ts fs is test)
 all_fewer past ts fs is test read are = grind arith
 
 module _ {S : Type 0} {device : Ghosts S} {past : List ℕ → Bool}

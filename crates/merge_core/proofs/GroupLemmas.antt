@@ -1,15 +1,15 @@
 -- The lines that wait: whose turn comes first, and the lines of one pair, taken of one source after another.
 use Rattle.merge_core.proofs.Words.{nil_from_length, [], ℕ, ◌++◌, ◌<◌, ◌∙◌, ◌∷◌, ◌≡◌, ◌≢◌, ◌≤◌, AllByRecursion}
 use Rattle.merge_core.proofs.Words.{IsPermutation, List, Member, WaitingLine, arith, cond-false, cond-true}
-use Rattle.merge_core.proofs.Words.{each_weaker, false, filter, get_or, is_of, length, queued, refl, subst}
-use Rattle.merge_core.proofs.Words.{sum_by-cons, sym, true, waits_of, Alike, AllBeyond, Below, Equal, IsAbove}
-use Rattle.merge_core.proofs.Words.{MatchOption, NoneBefore, NoneBelow, Option, Pair, Upto, is_eq, is_lt}
-use Rattle.merge_core.proofs.Words.{length_permutation, pair_cmp, pair_cmp_total, turn_cmp, waiting_pair, ◌+◌, ◌-◌}
-use Rattle.merge_core.proofs.Words.{Bool, Gathered, IsFrom, ap, append-nil, append_assoc, drop, drop-set-lt}
-use Rattle.merge_core.proofs.Words.{each_join, filter-append, flat_map, flat_map-append, member_pair, set, take}
-use Rattle.merge_core.proofs.Words.{take-append-drop, take_more, take_more_set, tied_back, common_steps, cond, sum_by}
-use Rattle.merge_core.proofs.Words.{IfSome, drop-drop, All-permutation, sum_by-IsPermutation, All-from_recursion}
-use Rattle.merge_core.proofs.Words.{recursion_from_All}
+use Rattle.merge_core.proofs.Words.{each_weaker, false, filter, get_or, is_of, length, queued, refl, subst, sym, true}
+use Rattle.merge_core.proofs.Words.{waits_of, Alike, AllBeyond, Below, Equal, MatchOption, NoneBefore, NoneBelow}
+use Rattle.merge_core.proofs.Words.{Option, Pair, Upto, is_eq, is_lt, length_permutation, pair_cmp, pair_cmp_total}
+use Rattle.merge_core.proofs.Words.{turn_cmp, waiting_pair, ◌+◌, ◌-◌, Bool, Gathered, IsFrom, ap, append-nil}
+use Rattle.merge_core.proofs.Words.{append_assoc, drop, drop-set-lt, each_join, filter-append, flat_map}
+use Rattle.merge_core.proofs.Words.{flat_map-append, member_pair, set, take, take-append-drop, take_more}
+use Rattle.merge_core.proofs.Words.{take_more_set, tied_back, common_steps, cond, IfSome, drop-drop, All-permutation}
+use Rattle.merge_core.proofs.Words.{sum_by-IsPermutation, All-from_recursion, recursion_from_All, length-map}
+use Rattle.merge_core.proofs.Words.{length-filter}
 use Rattle.merge_core.proofs.PairOrder.{from_not_below, below_then, below_upto, same_upto, same_from, upto_upto}
 use Rattle.merge_core.proofs.PairOrder.{not_below_itself}
 use Rattle.merge_core.proofs.Many.{each_both}
@@ -39,14 +39,6 @@ pub waits_beside : (i j : ℕ) (ms : List Member) (ws : List WaitingLine) → j 
 waits_beside i j [] ws n = refl
 waits_beside i j (m ∷ ms) ws n = grind (arith, waits_other, waits_beside i j ms ws n)
 
--- how many are of the source
-abbrev many_of : ℕ → List WaitingLine → ℕ
-many_of i ws = sum_by (λ w. cond (is_of i w) 1 0) ws
-
-length_waits : (i : ℕ) (ws : List WaitingLine) → length (waits_of i ws) ≡ many_of i ws
-length_waits i [] = refl
-length_waits i (w ∷ ws) = grind (arith, common_steps, sum_by-cons, cond-true, cond-false, length_waits i ws)
-
 module _ (P : Member → Type 0) (i : ℕ) where
   pub each_waits : (ws : List WaitingLine) → AllByRecursion (λ w. is_of i w ≡ true → P w.member) ws
       → AllByRecursion P (waits_of i ws)
@@ -69,7 +61,7 @@ pub waits_permuted : (i : ℕ) (xs ys : List WaitingLine) → IsPermutation xs y
     → waits_of i ys ≡ waits_of i xs
 waits_permuted i xs ys p few =
     let many = sum_by-IsPermutation (λ (w : WaitingLine). cond (is_of i w) 1 0) xs ys p in
-    all_same (waits_of i xs) (waits_of i ys) few (grind (arith, length_waits))
+    all_same (waits_of i xs) (waits_of i ys) few (grind (arith, length-filter, length-map))
     (λ m e. each_waits (λ k. k ≡ m) i ys
     (each_permuted (λ w. is_of i w ≡ true → w.member ≡ m) xs ys p
     (waits_each (λ k. k ≡ m) i xs (subst (AllByRecursion (λ k. k ≡ m)) (sym e) (refl, tt)))))
@@ -89,13 +81,6 @@ pub source_after : (v w : WaitingLine) → is_lt (turn_cmp v w) ≡ false → pa
     ≡ Equal → w.source ≤ v.source
 source_after v w h e = grind arith
 
--- where the first in turn is above, all are
-pub all_later : (p : Pair) (w : WaitingLine) (ws : List WaitingLine) → Below p (waiting_pair w)
-    → NoneBefore w ws → AllBeyond p ws
-all_later p w ws b h = each_weaker
-    (λ (v : WaitingLine) (q : is_lt (turn_cmp v w) ≡ false). below_then p (waiting_pair w) (waiting_pair v) b
-    (not_before v w q)) ws h
-
 -- what isn't above and doesn't have the pair is below
 pub below_unless : (p q : Pair) → Upto p q → is_eq (pair_cmp q p) ≡ false → Below p q
 below_unless p q h e = grind (arith, pair_cmp_total)
@@ -106,8 +91,10 @@ pub all_later_unless : (p : Pair) (w : WaitingLine) (ws : List WaitingLine) → 
     → NoneBelow p ws → NoneBefore w ws
     → AllBeyond p ws
 all_later_unless p w [] e n u h = tt
-all_later_unless p w (v ∷ ws) e n u h = all_later p w (v ∷ ws)
-    (below_unless p (waiting_pair w) (grind arith) n) h
+all_later_unless p w (v ∷ ws) e n u h =
+    let above = below_unless p (waiting_pair w) (grind arith) n in
+    each_weaker (λ (v : WaitingLine) (q : is_lt (turn_cmp v w) ≡ false). below_then p (waiting_pair w) (waiting_pair v)
+    above (not_before v w q)) (v ∷ ws) h
 
 -- the line that is taken out has the pair that the first in turn has
 pub popped_alike : (p : Pair) (old new : List WaitingLine) (r : Option WaitingLine)
@@ -115,11 +102,6 @@ pub popped_alike : (p : Pair) (old new : List WaitingLine) (r : Option WaitingLi
     → ((d : WaitingLine) → 0 < length old → Alike (waiting_pair (get_or old 0 d)) p)
     → IfSome r (λ w. Alike (waiting_pair w) p)
 popped_alike p old new r out top h = grind (arith, length_permutation)
-
--- the least of lines that all stand above a bound
-pub above_popped : (b : Option Pair) (old new : List WaitingLine) (w : WaitingLine) → IsPermutation old (w ∷ new)
-    → AllByRecursion (λ v. IsAbove b (waiting_pair v)) old → IsAbove b (waiting_pair w)
-above_popped b old new w p h = (each_permuted (λ v. IsAbove b (waiting_pair v)) old (w ∷ new) p h).0
 
 -- ---- the lines of one pair, taken of one source after another
 
@@ -147,10 +129,9 @@ module _ (pair : Pair) where
   gathered_more : (old now later group us : List Member) → Gathered pair old (now ++ later) [] group → AreAt pair us
       → AreBelow pair later → Gathered pair old (now ++ us ++ later) [] (group ++ us)
   gathered_more old now later group us h at low =
-      let high = each_weaker (λ m e. ap is_lt e) us at in
       let parts = each_cut (λ m. Upto (member_pair m) pair) now later h.upto in
       record {
-        before = grind (arith, filter-append, filter_none, append-nil);
+        before = grind (arith, each_weaker, filter-append, filter_none, append-nil);
         taken = grind (arith, append_assoc, append-nil, filter-append, filter_all, filter_none, each_weaker);
         upto = grind (arith, each_join, each_weaker, same_upto);
       }

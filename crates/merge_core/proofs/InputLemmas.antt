@@ -151,7 +151,6 @@ module _ {past : List ℕ → Bool} {text : Option (List ℕ)} {extent : ℕ} {o
         let was = r.was.told t e in
         let more = read_more t e in
         let next = given_next t e in
-        let whole = whole t e in
         record {
           begins = rw r.start was.begins;
           stood = grind (arith, flat_map-append, length-append, append-nil);
@@ -211,8 +210,7 @@ module _ {past : List ℕ → Bool} {t : List ℕ} {c : CursorState} {pair : Pai
       none_late [] one waiting split = sym (split ∙ append-nil _)
       none_late (m ∷ ms) one waiting split =
           let none : ms ≡ [] = grind (arith, nil_from_length) in
-          let last = last_same _ end.0 m end.1 (sym (rw none at split) ∙ end.2) in
-          absurd (grind arith)
+          absurd (grind (arith, last_same))
 
   pub all_inside : AllByRecursion (λ m. stays past m ≡ true) (given t c)
   all_inside = rw (← all_taken) (filter_passes (stays past) _)

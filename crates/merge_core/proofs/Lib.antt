@@ -8,5 +8,4 @@ pub mod MergeLemmas
 pub mod TakenLemmas
 pub mod OpenLemmas
 pub mod SourceLemmas
-pub mod ReadLemmas
 pub mod CountLemmas

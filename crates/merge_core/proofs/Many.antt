@@ -78,17 +78,11 @@ module _ {S : Type 0} (device : Ghosts S) where
   abbrev pub Move : S × CursorState → S × CursorState → Type 0
   Move x y = Moved device x.0 y.0 x.1 y.1
 
-  move_then : (x y z : S × CursorState) → Move x y → Move y z → Move x z
-  move_then x y z a b = grind arith
-
-  move_not : (x : S × CursorState) → Move x x
-  move_not x = grind arith
-
   pub moved_trans : (xs ys zs : List (S × CursorState)) → AllZip Move xs ys → AllZip Move ys zs → AllZip Move xs zs
-  moved_trans = two_trans Move move_then
+  moved_trans = two_trans Move (λ x y z a b. grind arith)
 
   pub moved_still : (xs : List (S × CursorState)) → AllZip Move xs xs
-  moved_still = two_same Move move_not
+  moved_still = two_same Move (λ x. grind arith)
 
   module _ (ss : List S) (cs : List CursorState) (i : ℕ) (a s : S) (b c : CursorState) (same : length ss ≡ length cs)
       (inside : i < length ss) where

@@ -13,7 +13,7 @@ use Rattle.merge_core.proofs.Words.{place_cmp_total, rising, rising_split, Match
 use Rattle.merge_core.proofs.Words.{Rises, rises_rising, MergePoint, StillWants, BrokenMerge, HaltedGroup}
 use Rattle.merge_core.proofs.Words.{HaltedMerge, Known, OverTexts, map, ◌∙◌, get_or-map, length-map, set-get_or}
 use Rattle.merge_core.proofs.Words.{AllZip-long, lines, EachDone, refl}
-use Rattle.merge_core.proofs.Many.{map_set_same, zip_set, zip_at, length_zip, Move, moved_trans, moved_still}
+use Rattle.merge_core.proofs.Many.{map_set_same, zip_set, zip_at, length_zip, moved_trans, moved_still}
 use Rattle.merge_core.proofs.StateLemmas.{any_of, idle, long_of, inside_sources, none_left, popped_aligned}
 use Rattle.merge_core.proofs.StateLemmas.{popped_inputs, popped, popped_due, zip_put, zip_get}
 use Rattle.merge_core.proofs.SourceLemmas.{all_kept}
@@ -203,8 +203,7 @@ module _ {S : Type 0} {device : Ghosts S} {past : List ℕ → Bool}
       → AllByRecursion HasEntry group
       → Reached past device old begun ss m (Some pair) (taken ++ rising member_place place_cmp group)
   reached_next ready moved entries =
-      let all = AllZip-long (Move device) _ _ moved in
-      let long : length ss ≡ length ss0 = grind (arith, length_zip) in
+      let long : length ss ≡ length ss0 = grind (arith, AllZip-long, length_zip) in
       let kept = all_kept device ss0 ss _ _ was.ready.aligned.same long moved in
       record {
         ready = ready;
@@ -215,10 +214,7 @@ module _ {S : Type 0} {device : Ghosts S} {past : List ℕ → Bool}
           entries = grind (arith, each_join, each_rising, place_cmp_total);
           upto = grind (arith, each_join, each_weaker, below_upto, low, same_upto, at);
           rises = grind (arith, rises_join, rises_rising, place_cmp_total, each_weaker, place_above, at, low);
-          told = λ texts known.
-              let before = was.handed.told texts known in
-              let gathered = gathered_now texts known in
-              grind (arith, risen_on);
+          told = grind (arith, gathered_now, risen_on);
         };
       }
 

@@ -88,8 +88,6 @@ first_read {past = past} {text = text} {extent = extent} {old = old} input fresh
     rw is (record {
       input = input_end input c stands start count near next;
       settled = λ t e none.
-          let now = stands.rest t e in
-          let end = next t e in
           inl (grind arith);
       fresh = λ t e. rw zero_count refl;
     })

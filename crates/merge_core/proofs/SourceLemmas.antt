@@ -91,7 +91,6 @@ module _ (past : List ℕ → Bool) (never : (key : List ℕ) → past key ≡ f
       → IsIndex LINE_LIMIT t (done past t f)
   index_read zero_start none read =
       let told = read.told in
-      let end = ended read none in
       let stay = filter_all (stays past) told.late (each_stays told.late) in
       grind (arith, take_all, length-drop {A = List ℕ}, append-nil)
 
@@ -209,7 +208,6 @@ module _ {S : Type 0} {device : Ghosts S} {past : List ℕ → Bool} {old ss : L
   pub reached_sought : (start : Pair) → AllByRecursion (λ x. IsCutAt start (device.text x.0) x.1) (zip old begun.cursors.items)
       → OverIndexes (map device.text old) (λ texts indexes. AllZip (IsSought start) (zip texts (inputs m)) indexes)
   reached_sought start cut texts indexes known are =
-      let aligned = reached.ready.aligned in
       let kept = cuts_kept device start _ _ reached.moved cut in
       all_sought device start ss (inputs m) texts indexes (grind (arith, inputs_long))
       (rw (← reached.kept.0) at known) are (rw (← cursors_of 0 m.cursors.items m.queue) at kept)

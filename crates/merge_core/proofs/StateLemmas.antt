@@ -165,8 +165,7 @@ module _ {past : List ℕ → Bool} {S : Type 0} {device : Ghosts S} {ss : List 
   inputs_added c new queue most p =
       let i = length m.cursors.items in
       let none = waits_none i m.queue was.placed in
-      let here = queued_here i none new most queue p in
-      grind (arith, inputs_push, inputs_same, queued_beside)
+      grind (arith, queued_here, inputs_push, inputs_same, queued_beside)
 
   pub aligned_set : (i : ℕ) (s : S) (f : MergeInput) (m' : MergeState) → inputs m' ≡ set (inputs m) i f
       → length m'.cursors.items ≡ length m.cursors.items

@@ -1,4 +1,4 @@
--- What was taken of lines, beside all that is wanted of them.
+-- What was taken of lines, beside all that is wanted of them: of one source, of all, and where a merge came to.
 use Rattle.merge_core.proofs.Words.{done, ◌≤◌, length, [], ℕ, ◌++◌, ◌∙◌, ◌∷◌, ◌≡◌, AllByRecursion, Bool, MergeInput}
 use Rattle.merge_core.proofs.Words.{IsLower, IsRun, LINE_LIMIT, List, Member, NeverFalls, Some, Upto, ap, append-nil}
 use Rattle.merge_core.proofs.Words.{append_assoc, arith, drop, each_rising, each_weaker, false, filter, filter-append}
@@ -7,12 +7,17 @@ use Rattle.merge_core.proofs.Words.{member_place, not, not-false, pair_cmp, plac
 use Rattle.merge_core.proofs.Words.{rising_split, stays, sym, take, take-append-drop, take-map, true, Below, IsAbove}
 use Rattle.merge_core.proofs.Words.{IsUpto, None, NoneBelow, Option, Pair, WaitingLine, is_low, is_lt, not-true}
 use Rattle.merge_core.proofs.Words.{ordering_reverse, pair_cmp_total, true≢false, waiting_pair, ◌&&◌, drop-map}
-use Rattle.merge_core.proofs.Words.{nat_cmp, slice_cmp, nat_list_cmp_total, and_cases}
+use Rattle.merge_core.proofs.Words.{nat_cmp, slice_cmp, nat_list_cmp_total, and_cases, ◌+◌, AllZip, CursorState}
+use Rattle.merge_core.proofs.Words.{Ghosts, IsCutAt, IsIndex, MergeState, Reached, all_done, all_lines, collection}
+use Rattle.merge_core.proofs.Words.{inputs, inputs_from, zip, length-map, nil_from_length, read_lines, sum}
+use Rattle.merge_core.proofs.Words.{sum_by-cons, OverIndexes, OverTexts}
 use Rattle.merge_core.proofs.Many.{each_both, filter_out, each_filter}
 use Rattle.merge_core.proofs.InputLemmas.{filter_passes, TextRead}
 use Rattle.merge_core.proofs.PairOrder.{upto_itself, below_then, then_below, from_not_below, upto_upto}
-use Rattle.merge_core.proofs.GroupLemmas.{filter_all, filter_none}
-use Rattle.merge_core.proofs.MergeLemmas.{place_below, below_next, is_less}
+use Rattle.merge_core.proofs.GroupLemmas.{filter_all, filter_none, each_cut, each_waits}
+use Rattle.merge_core.proofs.MergeLemmas.{place_below, below_next, is_less, lower_by_pair}
+use Rattle.merge_core.specs.Runs.{IsPart}
+use Rattle.merge_core.proofs.SourceLemmas.{run_after, IsSought, reached_read, reached_sought}
 
 -- ---- the lines of one source that were come to, among all that it has from its start on
 
@@ -117,7 +122,6 @@ module _ {past : List ℕ → Bool} (upward : IsUpward past) (upto : Member → 
 
     read_of : filter (is_read past upto) ms ≡ done past t f
     read_of =
-        let told = r.told in
         grind (arith, append_assoc, done_read, filter-append, filter_all, filter_none, append-nil, tail_unread)
 
   -- Of the lines from the start on, those that were come to are those that were taken
@@ -133,6 +137,80 @@ module _ {past : List ℕ → Bool} (upward : IsUpward past) (upto : Member → 
   -- the same of the lines that were read
   pub given_read : filter (is_read past upto) (given t f.cursor) ≡ done past t f
   given_read = read_of _ [] (sym (append-nil _)) r.told.run.ordered (λ e. refl)
+
+-- ---- all sources
+
+pub late_inputs : (upto : Member → Bool) (n : ℕ) (cs : List CursorState) (ws : List WaitingLine)
+    → AllByRecursion (λ (w : WaitingLine). IsLate upto w.member) ws
+    → AllByRecursion (λ f. AllByRecursion (IsLate upto) f.waits) (inputs_from n cs ws)
+late_inputs upto n [] ws late = tt
+late_inputs upto n (c ∷ cs) ws late = grind (arith, each_waits, each_weaker, late_inputs upto (n + 1) cs ws late)
+
+-- of indexes, by the lines of each that aren't below the start
+all_read : (upto : Member → Bool) {past : List ℕ → Bool} → IsUpward past → (start : Pair) (texts : List (List ℕ))
+    (fs : List MergeInput) (indexes : List (List Member))
+    → AllByRecursion (λ f. AllByRecursion (IsLate upto) f.waits) fs → AllZip (TextRead past) texts fs
+    → AllZip (IsIndex LINE_LIMIT) texts indexes → AllZip (IsSought start) (zip texts fs) indexes
+    → AllByRecursion (λ m. upto m ≡ true) (all_done past texts fs)
+    → filter (is_read past upto) (filter (λ m. not (is_low start m)) (all_lines indexes)) ≡ all_done past texts fs
+all_read upto {past = past} upward start (t ∷ ts) (f ∷ fs) (i ∷ is) late read are cut each =
+    let parts = each_cut (λ m. upto m ≡ true) (done past t f) _ each in
+    let run = run_after start t i f.cursor.start are.0 cut.0 in
+    grind (arith, input_read, filter-append, all_read upto upward start ts fs is)
+all_read upto upward start ts fs is late read are cut each = grind (arith, input_read)
+
+-- ---- what was taken of sources of any bytes, beside the lines that were read of them
+
+-- ---- one source
+
+part_is : {past : List ℕ → Bool} {t : List ℕ} {f : MergeInput} (whole : Bool) → TextRead past t f
+    → (whole ≡ true → f.waits ≡ []) → IsPart past whole t (given t f.cursor)
+part_is {t = t} {f = f} whole read none = record {
+  before = read.told.begins.0;
+  read = read_lines t f.cursor;
+  after = lines (drop f.cursor.at t);
+  cut = grind (arith, take-append-drop, append_assoc);
+  run = read.told.run;
+  ended = λ e. read.settled (none e);
+}
+
+-- ---- all sources
+
+pub none_wait : (n : ℕ) (cs : List CursorState) → AllByRecursion (λ f. f.waits ≡ []) (inputs_from n cs [])
+none_wait n [] = tt
+none_wait n (c ∷ cs) = (refl, none_wait (n + 1) cs)
+
+-- the lines that were read, text by text
+abbrev pub parts : List (List ℕ) → List MergeInput → List (List Member)
+parts texts fs = map (λ x. given x.0 x.1.cursor) (zip texts fs)
+
+module _ (past : List ℕ → Bool) where
+  -- each is a part of its text
+  pub parts_are : (texts : List (List ℕ)) (fs : List MergeInput) (whole : Bool) → AllZip (TextRead past) texts fs
+      → (whole ≡ true → AllByRecursion (λ f. f.waits ≡ []) fs) → AllZip (IsPart past whole) texts (parts texts fs)
+  parts_are (t ∷ ts) (f ∷ fs) whole read none =
+      (part_is whole read.0 (λ e. (none e).0), parts_are ts fs whole read.1 (λ e. (none e).1))
+  parts_are ts fs whole read none = grind arith
+
+  -- they have as many lines as were counted
+  pub parts_count : (texts : List (List ℕ)) (fs : List MergeInput) → AllZip (TextRead past) texts fs
+      → sum (map (λ (c : CursorState). c.count) (map (λ (f : MergeInput). f.cursor) fs))
+      ≡ sum (map (λ (ms : List Member). length ms) (parts texts fs))
+  parts_count (t ∷ ts) (f ∷ fs) read =
+      let a = sum_by-cons (λ (k : ℕ). k) f.cursor.count (map (λ c. c.count) (map (λ f. f.cursor) fs)) in
+      let b = sum_by-cons (λ (k : ℕ). k) (length (given t f.cursor))
+      (map (λ (ms : List Member). length ms) (parts ts fs)) in
+      grind (arith, length-map, parts_count ts fs)
+  parts_count ts fs read = grind (arith, nil_from_length)
+
+  parts_read : (upto : Member → Bool) → IsUpward past → (texts : List (List ℕ)) (fs : List MergeInput)
+      → AllByRecursion (λ f. AllByRecursion (IsLate upto) f.waits) fs → AllZip (TextRead past) texts fs
+      → AllByRecursion (λ m. upto m ≡ true) (all_done past texts fs)
+      → filter (is_read past upto) (all_lines (parts texts fs)) ≡ all_done past texts fs
+  parts_read upto upward (t ∷ ts) (f ∷ fs) late read each =
+      let parts = each_cut (λ m. upto m ≡ true) (done past t f) _ each in
+      grind (arith, given_read, filter-append, parts_read upto upward ts fs)
+  parts_read upto upward ts fs late read each = grind (arith, given_read)
 
 -- ---- what was taken of lines, beside all that is wanted of them
 
@@ -166,12 +244,6 @@ bound_lower (Some p) x y h k = then_below (member_pair x) p (member_pair y) (not
 
 -- ---- what was taken
 
--- Of all that is wanted, what was taken is a front, and the rest stands above the bound
-abbrev pub TakenFirst : (Member → Bool) → Option Pair → List Member → List Member → Type 0
-TakenFirst wanted b all taken =
-    (rest : List Member) × (filter wanted all ≡ filter wanted taken ++ rest)
-    × AllByRecursion (λ m. (wanted m ≡ true) × IsAbove b (member_pair m)) rest
-
 -- what was taken of lines, of which those that were come to are known
 pub record Took (past : List ℕ → Bool) (wanted : Member → Bool) (b : Option Pair) (ws : List WaitingLine)
     (whole taken : List Member) : Type 0 where
@@ -204,8 +276,9 @@ module _ {past : List ℕ → Bool} {wanted : Member → Bool} {b : Option Pair}
             (each_rising member_place place_cmp place_cmp_total (λ m. low m ≡ false) _ (filter_out low r.all)),
       )
 
-  -- it is a front of what is wanted
-  pub taken_first : TakenFirst wanted b whole taken
+  -- it is a front of what is wanted, and the rest stands above the bound
+  pub taken_first : (rest : List Member) × (filter wanted whole ≡ filter wanted taken ++ rest)
+      × AllByRecursion (λ m. (wanted m ≡ true) × IsAbove b (member_pair m)) rest
   taken_first =
       let cut = split (upto_bound b) (bound_lower b) (grind (arith, each_weaker, bound_late))
       (each_weaker (bound_upto b) r.done r.handed.1) in
@@ -243,3 +316,43 @@ module _ {past : List ℕ → Bool} {wanted : Member → Bool} {b : Option Pair}
         (upto_upto next (member_pair w.member) (member_pair k) h u)) ws least)
         (grind (arith, each_weaker, is_lt, below_next)) in
         grind (arith, each_weaker, from_next)
+
+-- ---- where a merge came to: what was taken of the lines that are wanted
+
+module _ {S : Type 0} {device : Ghosts S} {past : List ℕ → Bool} {old ss : List S} {begun m : MergeState}
+    {b : Option Pair} {taken : List Member} (reached : Reached past device old begun ss m b taken)
+    (upward : IsUpward past) (wanted : Member → Bool) (within : (m : Member) → wanted m ≡ true → stays past m ≡ true)
+  where
+    -- of indexes, which were read from where the search for a pair ended, which none of the lines is below
+    pub took_of_indexes : (start : Pair)
+        → AllByRecursion (λ x. IsCutAt start (device.text x.0) x.1) (zip old begun.cursors.items)
+        → ((m : Member) → wanted m ≡ true → is_low start m ≡ false)
+        → OverIndexes (map device.text old) (λ texts indexes. Took past wanted b m.queue (collection indexes) taken)
+    took_of_indexes start cut beyond texts indexes known are =
+        let read = reached_read reached texts known in
+        record {
+          upward = upward;
+          within = within;
+          above = reached.above;
+          all = filter (λ m. not (is_low start m)) (all_lines indexes);
+          wanted_of = wanted_high wanted (is_low start) (lower_by_pair start) beyond (all_lines indexes);
+          done = all_done past texts (inputs m);
+          handed = reached.handed.told texts known;
+          read = grind (arith, reached_sought, all_read, late_inputs);
+        }
+
+    -- of the lines that were read
+    pub took_of_parts : OverTexts (map device.text old) (λ texts.
+        Took past wanted b m.queue (collection (parts texts (inputs m))) taken)
+    took_of_parts texts known =
+        let read = reached_read reached texts known in
+        record {
+          upward = upward;
+          within = within;
+          above = reached.above;
+          all = all_lines (parts texts (inputs m));
+          wanted_of = refl;
+          done = all_done past texts (inputs m);
+          handed = reached.handed.told texts known;
+          read = grind (arith, late_inputs, parts_read);
+        }

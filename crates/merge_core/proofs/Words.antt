@@ -29,7 +29,7 @@ pub use Rattle.merge_core.specs.PairOrders.{Alike, Below, IsAbove, IsUpto, Upto,
 pub use Rattle.merge_core.specs.PairStarts.{IsStart, pair_text}
 pub use Rattle.merge_core.specs.Reached.{Reached}
 pub use Rattle.merge_core.specs.SourceLines.{AreLinesOf, HasEntry, IsLineIn, IsLineOf}
-pub use Rattle.merge_core.specs.Spending.{AllGaveOnce, AllGaveWithin, AllOpenedWithin, AreReadTo, CameOnce, CameWithin}
+pub use Rattle.merge_core.specs.Spending.{AllGaveOnce, AllGaveWithin, AllOpenedWithin, AreReadTo, CameWithin}
 pub use Rattle.merge_core.specs.Spending.{ReadTo, search_steps}
 pub use Rattle.merge_core.specs.WaitingLines.{AllBeyond, NoneBefore, NoneBelow, WaitingLine, is_of, queued, turn_cmp}
 pub use Rattle.merge_core.specs.WaitingLines.{waiting_pair, waits_of}
@@ -42,13 +42,13 @@ pub use Rattle.source_core.specs.Halving.{digits}
 pub use Rattle.source_core.specs.IndexLines.{IsLineStart, first_length, longest}
 pub use Rattle.source_core.specs.Search.{IsCut, is_below}
 pub use Rattle.source_core.specs.declared.source.Source.{Ghosts}
-pub use Rattle.std.proofs.Common.{Bool, Bor, Equal, Fits, IfErr, IfSome, IsErrAnd, Less, List, MatchOption, MatchResult}
-pub use Rattle.std.proofs.Common.{None, Option, Ordering, Result, Some, [], ap, append-nil, append_assoc, ap₂, arith}
+pub use Rattle.std.proofs.Common.{Bool, Bor, Equal, Fits, IfSome, IsErrAnd, Less, List, MatchOption, MatchResult}
+pub use Rattle.std.proofs.Common.{None, Option, Ordering, Result, Some, [], ap, append-nil, append_assoc, arith}
 pub use Rattle.std.proofs.Common.{cond, drop, drop-drop, drop-set-lt, false, filter, flat_map, get_or, get_or-drop, inl}
 pub use Rattle.std.proofs.Common.{inr, is_eq, is_gt, is_lt, length, length-append, length-drop, length-set, length-take}
-pub use Rattle.std.proofs.Common.{map, max, min, nat_lt, not, refl, set, subst, suc, sum_by, sym, take}
+pub use Rattle.std.proofs.Common.{map, max, min, nat_lt, not, refl, set, subst, suc, sym, take}
 pub use Rattle.std.proofs.Common.{take-append-drop, take_at, true, vec_len, w8, zero, zip, ℕ, ◌&&◌, ◌++◌, ◌+◌, ◌-◌, ◌<◌}
-pub use Rattle.std.proofs.Common.{◌==◌, ◌^◌, ◌∙◌, ◌∷◌, ◌≡◌, ◌≢◌, ◌≤◌, ◌⊎◌}
+pub use Rattle.std.proofs.Common.{◌^◌, ◌∙◌, ◌∷◌, ◌≡◌, ◌≢◌, ◌≤◌, ◌⊎◌}
 pub use Rattle.std.proofs.lemmas.Bool.{and_cases, and_parts, cases_Bool, cases_lt, cond-false, cond-true, not-false}
 pub use Rattle.std.proofs.lemmas.Bool.{not-true, true≢false}
 pub use Rattle.std.proofs.lemmas.Cmp.{nat_list_cmp_total, tied_back, tied_itself}
@@ -60,12 +60,11 @@ pub use Rattle.std.proofs.lemmas.List.Concat.{flat_map-append}
 pub use Rattle.std.proofs.lemmas.List.Elements.{All-from_recursion, filter-append, recursion_from_All}
 pub use Rattle.std.proofs.lemmas.List.Sorted.{All-permutation, IsPermutation-sym, length_permutation}
 pub use Rattle.std.proofs.lemmas.List.Sorted.{sum_by-IsPermutation}
-pub use Rattle.std.proofs.lemmas.List.Sums.{sum-map, sum_by-cons, sum_by-set, sum_by_push}
+pub use Rattle.std.proofs.lemmas.List.Sums.{length-filter, sum-map, sum_by-cons, sum_by-set, sum_by_push}
 pub use Rattle.std.proofs.lemmas.Result.{err_from_is_err_and}
 pub use Rattle.std.proofs.lemmas.Slice.Zip.{AllZip-long, all_zipped_more, get_or-zip, length-zip}
 pub use Rattle.std.specs.Cmp.Lexicographic.{slice_cmp}
-pub use Rattle.std.specs.Io.KnownBytes.{Appends, Keeps}
+pub use Rattle.std.specs.Io.KnownBytes.{Appends}
 pub use Rattle.std.specs.List.{All, AllByRecursion, AllZip, list_all, sum}
 pub use Rattle.std.specs.List.Sorted.{IsPermutation}
-pub use Rattle.std.specs.Option.{is_some}
 pub use Rattle.std.specs.Ordering.{nat_cmp, ordering_reverse, ordering_then}

@@ -5,12 +5,11 @@ use Rattle.merge_core.proofs.Words.{err_from_is_err_and, false, inputs, filter, 
 use Rattle.merge_core.proofs.Words.{length-map, lines_text, map, member_pair, member_place, min, place_cmp}
 use Rattle.merge_core.proofs.Words.{prefix_longer, refl, rising, sym, true, true≢false, cases_Bool, Appends-none}
 use Rattle.merge_core.proofs.Words.{prefix_whole, wrote_nothing, zip, CursorState, each_weaker}
-use Rattle.merge_core.proofs.ReadLemmas.{took_of_indexes, none_wait}
+use Rattle.merge_core.proofs.TakenLemmas.{took_of_indexes, none_wait, taken_first}
 use Rattle.merge_core.proofs.SourceLemmas.{gave_once, none_below_empty, taken_lines, all_kept, all_lines_are}
 use Rattle.merge_core.proofs.SourceLemmas.{its_lines, starts_kept, indexes_read, reached_read, cut_at_start}
 use Rattle.merge_core.proofs.OpenLemmas.{begun_of}
 use Rattle.merge_core.proofs.StateLemmas.{cursors_of}
-use Rattle.merge_core.proofs.TakenLemmas.{taken_first}
 use Rattle.merge_core.proofs.indexes.merge_indexes.Given.{Over}
 use Rattle.merge_core.proofs.indexes.merge_indexes.Goals.{After-merge, In_err-merge, In_ok-merge}
 use Rattle.merge_core.proofs.Many.{each_second}
@@ -132,7 +131,6 @@ returns g c =
       part = front g at.After-merge reached _ _ (rw append-nil at (prefix_whole _ _ _ [] wrote.0));
       lines = (taken, grind (arith, lines), wrote);
       most_lines = λ texts indexes known are most share.
-          let same = ap length opened.sources.0.1 in
           let few = c.merge.ensures.most_lines texts indexes (rw (← opened.sources.0.0) at known) are most share
           (omega (arith, opened.begun.none_held)) in
           grind (arith, length-map);

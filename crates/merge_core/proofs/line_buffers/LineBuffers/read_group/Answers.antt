@@ -47,8 +47,7 @@ most : (g : Over) (c : After-next_line g) → OverText (g.S.Source.text c.args.s
     (λ t. ReadTo (g.R.Range.past c.args.range.now) (Some (member_pair c.args.first.now)) t c.next_line.new.cursor)
 most g c t e =
     let inv = c.loop-line.invariant in
-    let input = inv.input.told t (inv.text ∙ e) in
-    let near = c.next_line.ensures.most t (inv.text ∙ e) in
+    let input = inv.input.told t (inv.moved.text_kept ∙ e) in
     grind (arith, group_most input (inv.last t e))
 
 pub returns-in-Greater-clause-read : goal.returns-in-Greater-clause-read
@@ -67,10 +66,9 @@ returns-in-Greater-clause-read g c =
       rest_is = inv.taken.1;
       alike = inv.taken.2;
       done_is = λ t e.
-          let before = taken_before g here.After-next_line t (cc) in
           let now = done_next read _ is t e in
           let more = inv.taken.3 t (cc) in
-          grind arith;
+          grind (arith, taken_before);
     }
 
 pub returns-in-Greater-clause-most : goal.returns-in-Greater-clause-most
@@ -92,10 +90,9 @@ returns-clause-read g c =
       rest_is = inv.taken.1;
       alike = inv.taken.2;
       done_is = λ t e.
-          let before = taken_before g here.After-next_line t (cc) in
           let now = all_taken (was.told t e) (inv.last t (cc)) in
           let more = inv.taken.3 t (cc) in
-          grind arith;
+          grind (arith, taken_before);
     }
 
 pub returns-in_err-line-clause-most : goal.returns-in_err-line-clause-most
@@ -123,11 +120,8 @@ loop-line-preserved g c =
     let read = was_read g (goal.at.loop-line-preserved g c).After-compare_pair (grind arith) in
     let last = λ (t : List ℕ) (e : g.S.Source.text c.args.source.now ≡ Some t). same_stays past first m (given t c.loop-line.cursor) (inv.last t e) alike in
     record {
-      text = cc;
-      extent = cc;
+      moved = grind arith;
       failures = cc;
-      gave = omega arith;
-      start = cc;
       there = grind arith;
       input = input_more read [] (inr (refl, λ t e. let stays = last t (cc) in grind arith));
       begin = c.at-begin-in-Some.ensures;
@@ -144,7 +138,7 @@ pub returns-in_err-line-clause-fault : goal.returns-in_err-line-clause-fault
 returns-in_err-line-clause-fault g c = record {
   counts = grind arith;
   names = λ t e.
-      let input = rw (c.loop-line.invariant.text ∙ e) at c.loop-line.invariant.input in
+      let input = rw (c.loop-line.invariant.moved.text_kept ∙ e) at c.loop-line.invariant.input in
       grind (arith, bad_named input);
 }
 
@@ -154,7 +148,7 @@ returns-in-Less-clause-fault g c =
     record {
       counts = grind arith;
       names = λ t e.
-          rw (← inv.begin) at (order_named (rw (inv.text ∙ e) at inv.input) (member_pair c.args.first.now)
+          rw (← inv.begin) at (order_named (rw (inv.moved.text_kept ∙ e) at inv.input) (member_pair c.args.first.now)
           c.next_line.new.cursor
           c.in-Some.line.value (inv.last t e) (rw c.in-Some.is at (c.in_ok-line.ensures.next t (cc))) (grind arith));
     }

@@ -1,14 +1,11 @@
-use Rattle.merge_core.proofs.Words.{[], ℕ, ◌++◌, ◌+◌, ◌-◌, ◌≡◌, ◌≤◌, Alike, AllByRecursion, EndsAt, IsInput, List}
-use Rattle.merge_core.proofs.Words.{Member, Some, boxed_lines, input_of, given, member_pair, reach}
+use Rattle.merge_core.proofs.Words.{[], ℕ, ◌++◌, ◌-◌, ◌≡◌, ◌≤◌, Alike, AllByRecursion, EndsAt, IsInput, List, Member}
+use Rattle.merge_core.proofs.Words.{Some, boxed_lines, input_of, given, member_pair, Moved}
 use Rattle.merge_core.proofs.line_buffers.LineBuffers.read_group.Given as goal
 
 abbrev pub invariant-loop-line : goal.invariant-loop-line
 invariant-loop-line g l = record {
-  text : g.S.Source.text l.source ≡ g.S.Source.text l.fn.source;
-  extent : g.S.Source.extent l.source ≡ g.S.Source.extent l.fn.source;
+  moved : Moved g.S.Source l.fn.source l.source l.fn.cursor l.cursor;
   failures : g.S.Source.failures l.source ≡ g.S.Source.failures l.fn.source;
-  gave : g.S.Source.gave l.source + reach l.fn.cursor ≤ g.S.Source.gave l.fn.source + reach l.cursor;
-  start : l.cursor.start ≡ l.fn.cursor.start;
   there : l.fn.cursor.at ≤ l.cursor.at;
   input : IsInput (g.R.Range.past l.range) (g.S.Source.text l.source) (g.S.Source.extent l.source)
       (input_of l.cursor []);

@@ -1,10 +1,10 @@
 use Rattle.merge_core.proofs.Words.{[], ◌+◌, ◌∙◌, ◌∷◌, AreReadTo, AreSettled, Member, MergeState, Some, Upto}
 use Rattle.merge_core.proofs.Words.{WaitingLine, all_done, ap, arith, boxed_lines, each_weaker, inputs, map-append}
 use Rattle.merge_core.proofs.Words.{member_pair, pair_cmp_total, refl, sym, tied_itself, waiting_pair}
-use Rattle.merge_core.proofs.Words.{IsPermutation-sym, OverTexts, map, HaltedGroup, ◌≡◌}
+use Rattle.merge_core.proofs.Words.{IsPermutation-sym, OverTexts, map, HaltedGroup, ◌≡◌, IsAbove}
 use Rattle.merge_core.proofs.PairOrder.{upto_itself}
 use Rattle.merge_core.proofs.MergeLemmas.{on_fault, Gathers, TakenNext, gathers_start, taken_next, gathers_on}
-use Rattle.merge_core.proofs.GroupLemmas.{AreBelow, from_waited, each_permuted, above_popped, not_before}
+use Rattle.merge_core.proofs.GroupLemmas.{AreBelow, from_waited, each_permuted, not_before}
 use Rattle.merge_core.proofs.state.MergeState.gather.Given.{Over}
 use Rattle.merge_core.proofs.state.MergeState.gather.Goals.{After-read_on, After-push, In_ok-read_on}
 use Rattle.merge_core.proofs.SourceLemmas.{each_done}
@@ -71,7 +71,7 @@ sources-init g c =
       due = t.due;
       settled = grind arith;
       failures = refl;
-      above = λ b h. above_popped b old.queue left w out h;
+      above = λ b h. (each_permuted (λ (v : WaitingLine). IsAbove b (waiting_pair v)) old.queue (w ∷ left) out h).0;
       least = least;
       fewer = t.fewer;
     }
