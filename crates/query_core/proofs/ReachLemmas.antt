@@ -16,8 +16,8 @@ use Rattle.query_text.proofs.RangeLaw.{match_not_below}
 use Rattle.merge_core.specs.declared.state.MergeState.{MergeState}
 use Rattle.merge_core.specs.Openings.{IsCutAt}
 use Rattle.merge_core.specs.Reached.{Reached}
-use Rattle.merge_core.proofs.ReadLemmas.{took_of_indexes, none_wait, parts, parts_are, parts_count, took_of_parts}
-use Rattle.merge_core.proofs.TakenLemmas.{Took, taken_before}
+use Rattle.merge_core.proofs.TakenLemmas.{Took, none_wait, parts, parts_are, parts_count, taken_before}
+use Rattle.merge_core.proofs.TakenLemmas.{took_of_indexes, took_of_parts}
 use Rattle.merge_core.specs.SourceLines.{IsLineIn, IsLineOf}
 use Rattle.merge_core.specs.Spending.{CameWithin, AreReadTo, OpenedWithin}
 use Rattle.merge_core.proofs.SourceLemmas.{each_entry, taken_lines, reached_long, reached_read, reached_sought}
