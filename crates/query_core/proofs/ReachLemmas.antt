@@ -344,10 +344,10 @@ module _ {S : Type 0} {device : Ghosts S} {q : QueryValue} {olds : List S}
         let all_took = took_of_parts r.reached (past_upward q.target) (is_wanted q q.resume) (λ m h. grind arith)
         texts there in
         let found = taken_first all_took in
-        let count = rw cursors_of at (parts_count texts (inputs r.merge) read) in
+        let count = rw cursors_of at (parts_count _ texts (inputs r.merge) read) in
         record {
           parts = parts texts (inputs r.merge);
-          each = λ whole is. parts_are texts _ whole read (λ e. rw (ended (is e)) (none_wait 0 r.merge.cursors.items));
+          each = λ whole is. parts_are _ texts _ whole read (λ e. rw (ended (is e)) (none_wait 0 r.merge.cursors.items));
           count = cc;
           first = (_, captures_split q q.resume _ r.taken found.0 found.1);
           ended = λ e. ap (kept_after q q.resume q.resume) (taken_whole all_took (ended e));
