@@ -5,12 +5,11 @@ use Rattle.merge_core.proofs.Words.{ReadTo, Some, all_done, ap, append-nil, appe
 use Rattle.merge_core.proofs.Words.{drop-set-lt, input_of, first_length, flat_map-append, get_or, given, length}
 use Rattle.merge_core.proofs.Words.{length-append, length-drop, line_entry, lines, longest, member_pair, read_lines}
 use Rattle.merge_core.proofs.Words.{refl, set, suc, sym, take, take-append-drop, take-map, ◌<◌, AllZip, Grouped}
-use Rattle.merge_core.proofs.Words.{IsCut, IsCutAt, IsIndex, Known, Member, MergeState, Reached, WaitingLine}
-use Rattle.merge_core.proofs.Words.{all_lines, each_weaker, false, inputs, filter, filter-append, is_low, is_of}
-use Rattle.merge_core.proofs.Words.{length-map, length-take, map, map-append, member_of, nil_from_length, not, sum}
-use Rattle.merge_core.proofs.Words.{sum_by-cons, true, waits_of, zero, zip, CameWithin, lines_text, drop_more_same}
-use Rattle.merge_core.proofs.Words.{get_or-drop, AllGaveWithin, take-take, is_at, OverTexts, EachDone, IsInputOf}
-use Rattle.merge_core.proofs.Words.{OverShares}
+use Rattle.merge_core.proofs.Words.{IsCut, IsIndex, Known, Member, MergeState, Reached, WaitingLine, all_lines}
+use Rattle.merge_core.proofs.Words.{each_weaker, false, inputs, filter, filter-append, is_low, is_of, length-map}
+use Rattle.merge_core.proofs.Words.{length-take, map, map-append, member_of, nil_from_length, not, sum, sum_by-cons}
+use Rattle.merge_core.proofs.Words.{true, waits_of, zero, zip, lines_text, drop_more_same, get_or-drop, AllGaveWithin}
+use Rattle.merge_core.proofs.Words.{take-take, is_at, OverTexts, EachDone, IsInputOf, OverShares, AreOpened}
 use Rattle.source_core.proofs.LongestLines.{first_most, longest_drop}
 use Rattle.merge_core.proofs.InputLemmas.{all_taken, all_upto, done_cut, done_within, TextRead}
 use Rattle.merge_core.proofs.Many.{each_both, filter_fewer, filter_weaker, filter_front, each_take, zip_set}
@@ -223,13 +222,6 @@ front_of : (us : List Member) (zs : List (Option Member)) (vs : List Member) →
 front_of (u ∷ us) zs (v ∷ vs) e = grind (arith, front_of us zs vs)
 front_of us zs vs e = grind arith
 
--- sources that tell their bytes, beside their cursors
-pub tell_both : {S : Type 0} (text : S → Option (List ℕ)) (ss : List S) (cs : List CursorState) (texts : List (List ℕ))
-    → length ss ≡ length cs → Known (map text ss) texts
-    → AllZip (λ (t : List ℕ) (x : S × CursorState). text x.0 ≡ Some t) texts (zip ss cs)
-tell_both text (s ∷ ss) (c ∷ cs) (t ∷ ts) same known = (known.0, tell_both text ss cs ts (omega arith) known.1)
-tell_both text ss cs ts same known = grind arith
-
 -- indexes were read from where the search for a pair ended
 module _ {past : List ℕ → Bool} {start : Pair} {b : Option Pair} {test : Member → Bool}
     (p : Passes past start b test) where
@@ -244,16 +236,15 @@ module _ {past : List ℕ → Bool} {start : Pair} {b : Option Pair} {test : Mem
   module _ {S : Type 0} (device : Ghosts S) where
     -- What sources gave from before they were opened, when they were read up to the bound
     pub gave_most : (ss0 : List S) (xs1 xs : List (S × CursorState)) (texts : List (List ℕ)) (indexes : List (List Member))
-        → Known (map device.text ss0) texts → AllZip (λ (t : List ℕ) (x : S × CursorState). device.text x.0 ≡ Some t) texts xs1
-        → AllZip (IsIndex LINE_LIMIT) texts indexes
-        → AllZip (λ x y. CameWithin device x y.0 y.1) ss0 xs1
-        → AllZip (Move device) xs1 xs
-        → AllByRecursion (λ x. IsCutAt start (device.text x.0) x.1) xs1
+        → Known (map device.text ss0) texts → AllZip (IsIndex LINE_LIMIT) texts indexes
+        → AreOpened device start ss0 xs1 → AllZip (Move device) xs1 xs
         → AllByRecursion (λ x. (t : List ℕ) → device.text x.0 ≡ Some t → ReadTo past b t x.1) xs
         → AllGaveWithin device test texts indexes ss0 (map (λ x. x.0) xs)
-    gave_most (s ∷ ss) (y ∷ ys) (x ∷ xs) (t ∷ ts) (i ∷ is) known tells are came moved cut reads =
+    gave_most (s ∷ ss) (y ∷ ys) (x ∷ xs) (t ∷ ts) (i ∷ is) known are opened moved reads =
         let m = moved.0 in
-        let r = reads.0 t (m.text_kept ∙ tells.0) in
-        let here = source_bytes t i x.1 are.0 (rw m.start_kept (cut.0 t i tells.0 are.0)) r in
+        let o = opened.0 in
+        let r = reads.0 t (m.text_kept ∙ o.kept.0 ∙ known.0) in
+        let came = o.came t known.0 in
+        let here = source_bytes t i x.1 are.0 (rw m.start_kept (o.cut t i known.0 are.0)) r in
         grind (arith, gave_most ss ys xs ts is)
-    gave_most ss ys xs ts is known tells are came moved cut reads = grind arith
+    gave_most ss ys xs ts is known are opened moved reads = grind arith

@@ -137,12 +137,7 @@ reached_none {device = device} {past = past} {ss = ss} {m = m} ready fresh = rec
   kept = (refl, refl);
   moved = moved_still device _;
   above = above_none m.queue;
-  handed = record {
-    entries = tt;
-    upto = tt;
-    rises = tt;
-    told = λ texts known. rw (none_done past device.text ss (inputs m) texts known fresh) (refl, tt);
-  };
+  handed = let none = none_done past device.text ss (inputs m) in grind arith;
 }
 
 -- where nothing was read, and where more was

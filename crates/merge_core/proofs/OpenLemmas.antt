@@ -1,11 +1,11 @@
 -- The opening of sources, one after another.
-use Rattle.merge_core.proofs.Words.{[], ℕ, ◌++◌, ◌+◌, ◌<◌, ◌∙◌, ◌∷◌, ◌≡◌, ◌≤◌, AllByRecursion, AllZip, Bool}
-use Rattle.merge_core.proofs.Words.{CameWithin, CursorState, IsInput, MergeInput, Ghosts, IsCutAt, IsLeast}
-use Rattle.merge_core.proofs.Words.{IsNextLine, IsSettled, List, MatchOption, Member, MergeState, None, Option, Pair}
-use Rattle.merge_core.proofs.Words.{Ready, Some, Stands, arith, done, drop, each_weaker, input_of, inputs, filter}
-use Rattle.merge_core.proofs.Words.{first_length, given, inl, length, length-append, lines, option_list, refl, set}
-use Rattle.merge_core.proofs.Words.{stays, suc, zip, all_zipped_more, AddedSource, AreOpened, OpenedAt, IsLineStart}
-use Rattle.merge_core.proofs.Words.{Known, EachDone, all_done, map}
+use Rattle.merge_core.proofs.Words.{[], ℕ, ◌++◌, ◌+◌, ◌<◌, ◌∙◌, ◌∷◌, ◌≡◌, ◌≤◌, AllByRecursion, Bool, CursorState}
+use Rattle.merge_core.proofs.Words.{IsInput, MergeInput, Ghosts, IsCutAt, IsLeast, IsNextLine, IsSettled, List}
+use Rattle.merge_core.proofs.Words.{MatchOption, Member, MergeState, None, Option, Pair, Ready, Some, Stands, arith}
+use Rattle.merge_core.proofs.Words.{done, drop, each_weaker, input_of, inputs, filter, first_length, given, inl}
+use Rattle.merge_core.proofs.Words.{length, length-append, lines, option_list, refl, set, stays, suc, zip}
+use Rattle.merge_core.proofs.Words.{all_zipped_more, AddedSource, AreOpened, OpenedAt, IsLineStart, Known, EachDone}
+use Rattle.merge_core.proofs.Words.{all_done, map}
 use Rattle.merge_core.proofs.Many.{each_by}
 use Rattle.merge_core.proofs.InputLemmas.{LineRead, done_next, input_end, input_more, settled_more}
 use Rattle.merge_core.proofs.StateLemmas.{inputs_added, placed_queued}
@@ -40,11 +40,6 @@ module _ {past : List ℕ → Bool} {S : Type 0} {device : Ghosts S} {ss : List 
 
 -- sources that were opened
 module _ {S : Type 0} (device : Ghosts S) (start : Pair) where
-  pub came_of : (olds : List S) (ys : List (S × CursorState)) → AreOpened device start olds ys
-      → AllZip (λ x y. CameWithin device x y.0 y.1) olds ys
-  came_of (x ∷ olds) (y ∷ ys) h = (h.0.came, came_of olds ys h.1)
-  came_of olds ys h = grind arith
-
   pub cuts_of : (olds : List S) (ys : List (S × CursorState)) → AreOpened device start olds ys
       → AllByRecursion (λ y. IsCutAt start (device.text y.0) y.1) ys
   cuts_of = each_by (λ x y. OpenedAt device start x y.0 y.1) _ (λ x y h. rw h.kept.0 h.cut)

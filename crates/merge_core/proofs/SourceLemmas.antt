@@ -1,14 +1,14 @@
 -- What was read of sources: from where they are read on, to their ends, and each byte once.
 use Rattle.merge_core.proofs.Words.{[], ℕ, ◌++◌, ◌∷◌, ◌≡◌, AllByRecursion, AllZip, MergeInput, Ghosts, IsCut, IsCutAt}
-use Rattle.merge_core.proofs.Words.{IsIndex, IsRun, Known, LINE_LIMIT, List, Member, NeverFalls, Pair, Some}
-use Rattle.merge_core.proofs.Words.{all_lines, ap, arith, drop, each_weaker, false, filter, filter-append, is_low}
-use Rattle.merge_core.proofs.Words.{length, length-map, lines, map, map-append, member_pair, not, pair_cmp, refl, sym}
-use Rattle.merge_core.proofs.Words.{zip, AreInputs, AreSettled, Bool, KeepsSources, MergeState, Option, all_done}
-use Rattle.merge_core.proofs.Words.{append-nil, done, inputs, given, inl, inr, length-drop, nil_from_length, stays}
-use Rattle.merge_core.proofs.Words.{true, true≢false, ◌⊎◌, AreLinesOf, HasEntry, Reached, each_join, each_rising}
-use Rattle.merge_core.proofs.Words.{line_entry, member_place, place_cmp, place_cmp_total, read_lines, suc, take}
-use Rattle.merge_core.proofs.Words.{AllGaveOnce, CursorState, IsLeast, AreOpened, drop_at, is_below, IsIn, IsLineIn}
-use Rattle.merge_core.proofs.Words.{IsLineOf, take_all, OverIndexes, OverTexts, EachDone, IsInputOf, None}
+use Rattle.merge_core.proofs.Words.{IsIndex, IsRun, Known, LINE_LIMIT, List, Member, NeverFalls, Pair, Some, ap}
+use Rattle.merge_core.proofs.Words.{arith, drop, each_weaker, false, filter, filter-append, is_low, length}
+use Rattle.merge_core.proofs.Words.{length-map, lines, map, map-append, member_pair, not, pair_cmp, refl, sym, zip}
+use Rattle.merge_core.proofs.Words.{AreInputs, AreSettled, Bool, KeepsSources, MergeState, Option, all_done, done}
+use Rattle.merge_core.proofs.Words.{inputs, given, inl, inr, length-drop, nil_from_length, true≢false, ◌⊎◌}
+use Rattle.merge_core.proofs.Words.{AreLinesOf, HasEntry, Reached, each_join, each_rising, line_entry, member_place}
+use Rattle.merge_core.proofs.Words.{place_cmp, place_cmp_total, read_lines, suc, take, AllGaveOnce, CursorState}
+use Rattle.merge_core.proofs.Words.{IsLeast, AreOpened, drop_at, is_below, IsIn, IsLineIn, IsLineOf, take_all}
+use Rattle.merge_core.proofs.Words.{OverIndexes, OverTexts, EachDone, IsInputOf, None, subst}
 use Rattle.merge_core.proofs.GroupLemmas.{filter_none, filter_all, each_cut}
 use Rattle.merge_core.proofs.Many.{Move, each_beside, each_take}
 use Rattle.merge_core.proofs.InputLemmas.{done_cut, TextRead}
@@ -77,38 +77,30 @@ module _ {S : Type 0} (device : Ghosts S) where
 
 -- ---- sources of which all lines were read: each that tells its bytes is an index, and all its lines are done
 
+-- the lines that were read, text by text
+abbrev pub parts : List (List ℕ) → List MergeInput → List (List Member)
+parts texts fs = map (λ x. given x.0 x.1.cursor) (zip texts fs)
+
 module _ (past : List ℕ → Bool) (never : (key : List ℕ) → past key ≡ false) where
   -- a text of which no line waits was read to its end
   ended : {t : List ℕ} {f : MergeInput} → TextRead past t f → f.waits ≡ [] → lines (drop f.cursor.at t) ≡ []
   ended read none = grind (arith, sym, true≢false)
 
-  each_stays : (ms : List Member) → AllByRecursion (λ m. stays past m ≡ true) ms
-  each_stays [] = tt
-  each_stays (m ∷ ms) = (ap not (never m.values.key), each_stays ms)
-
   -- then it is an index
   index_read : {t : List ℕ} {f : MergeInput} → f.cursor.start ≡ 0 → f.waits ≡ [] → TextRead past t f
-      → IsIndex LINE_LIMIT t (done past t f)
-  index_read zero_start none read =
-      let told = read.told in
-      let stay = filter_all (stays past) told.late (each_stays told.late) in
-      grind (arith, take_all, length-drop {A = List ℕ}, append-nil)
-
-  -- the lines of each
-  abbrev pub its_lines : List (List ℕ) → List MergeInput → List (List Member)
-  its_lines texts fs = map (λ x. done past x.0 x.1) (zip texts fs)
+      → IsIndex LINE_LIMIT t (given t f.cursor)
+  index_read {t = t} {f = f} zero_start none read =
+      let end = ended read none in
+      let left = length-drop f.cursor.count (lines t) in
+      let whole : read_lines t f.cursor ≡ lines t = grind (arith, take_all, nil_from_length) in
+      subst (λ ls. IsRun LINE_LIMIT ls (given t f.cursor)) whole read.told.run
 
   pub indexes_read : (texts : List (List ℕ)) (fs : List MergeInput) → AllZip (TextRead past) texts fs
       → AllByRecursion (λ (c : CursorState). c.start ≡ 0) (map (λ f. f.cursor) fs)
-      → AllByRecursion (λ (f : MergeInput). f.waits ≡ []) fs → AllZip (IsIndex LINE_LIMIT) texts (its_lines texts fs)
+      → AllByRecursion (λ (f : MergeInput). f.waits ≡ []) fs → AllZip (IsIndex LINE_LIMIT) texts (parts texts fs)
   indexes_read (t ∷ texts) (f ∷ fs) read start none =
       (index_read start.0 none.0 read.0, indexes_read texts fs read.1 start.1 none.1)
   indexes_read texts fs read start none = grind arith
-
-  pub all_lines_are : (texts : List (List ℕ)) (fs : List MergeInput) → all_done past texts fs
-      ≡ all_lines (its_lines texts fs)
-  all_lines_are (t ∷ texts) (f ∷ fs) = grind (arith, all_lines_are texts fs)
-  all_lines_are texts fs = grind arith
 
 -- ---- what a merge keeps of sources and inputs
 
@@ -123,6 +115,7 @@ module _ {S : Type 0} (device : Ghosts S) where
       → AllByRecursion (λ x. x.1.start ≡ 0) ys
   starts_kept = each_beside (Move device) _ _ (λ x y m h. grind arith)
 
+  -- sources that tell their bytes, as texts
   texts_read : (past : List ℕ → Bool) (ss : List S) (fs : List MergeInput) (texts : List (List ℕ))
       → Known (map device.text ss) texts → AreInputs past device ss fs → AreSettled past device ss fs
       → AllZip (TextRead past) texts fs

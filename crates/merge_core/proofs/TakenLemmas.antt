@@ -17,9 +17,7 @@ use Rattle.merge_core.proofs.PairOrder.{upto_itself, below_then, then_below, fro
 use Rattle.merge_core.proofs.GroupLemmas.{filter_all, filter_none, each_cut, each_waits}
 use Rattle.merge_core.proofs.MergeLemmas.{place_below, below_next, is_less, lower_by_pair}
 use Rattle.merge_core.specs.Runs.{IsPart}
-use Rattle.merge_core.proofs.SourceLemmas.{run_after, IsSought, reached_read, reached_sought}
-
--- ---- the lines of one source that were come to, among all that it has from its start on
+use Rattle.merge_core.proofs.SourceLemmas.{parts, run_after, IsSought, reached_read, reached_sought}
 
 -- ---- lists
 
@@ -55,7 +53,7 @@ wanted_high wanted low lower passes xs =
     not_low [] = tt
     not_low (u ∷ us) = grind (arith, not_low us, passes u)
 
--- ---- one source
+-- ---- one text, of which some lines were come to
 
 pub members_are : (ls : List (List ℕ)) (ms : List Member) → map (line_entry LINE_LIMIT) ls ≡ map Some ms
     → map member_of ls ≡ ms
@@ -138,7 +136,7 @@ module _ {past : List ℕ → Bool} (upward : IsUpward past) (upto : Member → 
   pub given_read : filter (is_read past upto) (given t f.cursor) ≡ done past t f
   given_read = read_of _ [] (sym (append-nil _)) r.told.run.ordered (λ e. refl)
 
--- ---- all sources
+-- ---- all texts
 
 pub late_inputs : (upto : Member → Bool) (n : ℕ) (cs : List CursorState) (ws : List WaitingLine)
     → AllByRecursion (λ (w : WaitingLine). IsLate upto w.member) ws
@@ -159,9 +157,7 @@ all_read upto {past = past} upward start (t ∷ ts) (f ∷ fs) (i ∷ is) late r
     grind (arith, input_read, filter-append, all_read upto upward start ts fs is)
 all_read upto upward start ts fs is late read are cut each = grind (arith, input_read)
 
--- ---- what was taken of sources of any bytes, beside the lines that were read of them
-
--- ---- one source
+-- ---- the parts of texts that were read
 
 part_is : {past : List ℕ → Bool} {t : List ℕ} {f : MergeInput} (whole : Bool) → TextRead past t f
     → (whole ≡ true → f.waits ≡ []) → IsPart past whole t (given t f.cursor)
@@ -174,15 +170,9 @@ part_is {t = t} {f = f} whole read none = record {
   ended = λ e. read.settled (none e);
 }
 
--- ---- all sources
-
 pub none_wait : (n : ℕ) (cs : List CursorState) → AllByRecursion (λ f. f.waits ≡ []) (inputs_from n cs [])
 none_wait n [] = tt
 none_wait n (c ∷ cs) = (refl, none_wait (n + 1) cs)
-
--- the lines that were read, text by text
-abbrev pub parts : List (List ℕ) → List MergeInput → List (List Member)
-parts texts fs = map (λ x. given x.0 x.1.cursor) (zip texts fs)
 
 module _ (past : List ℕ → Bool) where
   -- each is a part of its text
@@ -211,8 +201,6 @@ module _ (past : List ℕ → Bool) where
       let parts = each_cut (λ m. upto m ≡ true) (done past t f) _ each in
       grind (arith, given_read, filter-append, parts_read upto upward ts fs)
   parts_read upto upward ts fs late read each = grind (arith, given_read)
-
--- ---- what was taken of lines, beside all that is wanted of them
 
 -- ---- what stands above a bound
 

@@ -1,13 +1,14 @@
-use Rattle.merge_core.proofs.Words.{[], ℕ, ◌++◌, ◌-◌, ◌^◌, ◌∙◌, ◌∷◌, ◌≡◌, AllByRecursion, AllGaveOnce, Appends}
+use Rattle.merge_core.proofs.Words.{[], ℕ, ◌++◌, ◌-◌, ◌^◌, ◌∷◌, ◌≡◌, AllByRecursion, AllGaveOnce, Appends}
 use Rattle.merge_core.proofs.Words.{AppendsPrefix, AreLinesOf, Bool, MergeInput, KeepsSources, List, Member}
 use Rattle.merge_core.proofs.Words.{MergeState, Option, OverIndexes, Pair, Reached, ap, append-nil, arith, collection}
 use Rattle.merge_core.proofs.Words.{err_from_is_err_and, false, inputs, filter, flat_map-append, inl, inr, length}
-use Rattle.merge_core.proofs.Words.{length-map, lines_text, map, member_pair, member_place, min, place_cmp}
-use Rattle.merge_core.proofs.Words.{prefix_longer, refl, rising, sym, true, true≢false, cases_Bool, Appends-none}
-use Rattle.merge_core.proofs.Words.{prefix_whole, wrote_nothing, zip, CursorState, each_weaker}
-use Rattle.merge_core.proofs.TakenLemmas.{took_of_indexes, none_wait, taken_first}
-use Rattle.merge_core.proofs.SourceLemmas.{gave_once, none_below_empty, taken_lines, all_kept, all_lines_are}
-use Rattle.merge_core.proofs.SourceLemmas.{its_lines, starts_kept, indexes_read, reached_read, cut_at_start}
+use Rattle.merge_core.proofs.Words.{length-map, lines_text, map, member_pair, min, prefix_longer, refl, sym, true}
+use Rattle.merge_core.proofs.Words.{true≢false, cases_Bool, Appends-none, prefix_whole, wrote_nothing, zip}
+use Rattle.merge_core.proofs.Words.{CursorState, each_weaker}
+use Rattle.merge_core.proofs.TakenLemmas.{took_of_indexes, none_wait, taken_first, IsUpward, taken_whole}
+use Rattle.merge_core.proofs.TakenLemmas.{took_of_parts}
+use Rattle.merge_core.proofs.SourceLemmas.{gave_once, none_below_empty, taken_lines, all_kept, starts_kept}
+use Rattle.merge_core.proofs.SourceLemmas.{indexes_read, reached_read, cut_at_start, parts}
 use Rattle.merge_core.proofs.OpenLemmas.{begun_of}
 use Rattle.merge_core.proofs.StateLemmas.{cursors_of}
 use Rattle.merge_core.proofs.indexes.merge_indexes.Given.{Over}
@@ -17,6 +18,9 @@ use Rattle.merge_core.proofs.indexes.merge_indexes.Goals as goal
 
 abbrev never : List ℕ → Bool
 never key = false
+
+upward : IsUpward never
+upward key later e h = absurd (true≢false (sym e))
 
 filter_every : (xs : List Member) → filter (λ m. true) xs ≡ xs
 filter_every [] = refl
@@ -37,8 +41,7 @@ module _ (g : Over) (c : After-merge g) {ss : List g.row.S.Denot} {m : MergeStat
   front old new p texts indexes known are =
       let opened = c.in_ok-opened.ensures in
       let cut = each_weaker (cut_at_start g.S.Source) _ (begun g c) in
-      let first = taken_first (took_of_indexes reached (λ key later e h. absurd (true≢false (sym e))) (λ m. true)
-      (λ m e. refl) ([], []) cut (λ m e. none_below_empty (member_pair m).0 (member_pair m).1) texts indexes
+      let first = taken_first (took_of_indexes reached upward (λ m. true) (λ m e. refl) ([], []) cut (λ m e. none_below_empty (member_pair m).0 (member_pair m).1) texts indexes
       (rw (← opened.sources.0.0) at known) are) in
       let whole : collection indexes ≡ taken ++ first.0 = grind (arith, filter_every) in
       rw (whole, flat_map-append) (prefix_longer old new _ _ p)
@@ -112,14 +115,14 @@ returns g c =
       kept = kept;
       fault = grind arith;
       merged = λ texts known.
-          let lines = its_lines never (λ key. refl) texts (inputs m) in
+          let lines = parts texts (inputs m) in
           let there = rw (← opened.sources.0.0) at known in
           let empty : m.queue ≡ [] = grind (arith, cases_Bool) in
           let starts = each_second (λ (c : CursorState). c.start ≡ 0) sources m.cursors.items reached.ready.aligned.same
           (starts_kept device _ _ c.merge.ensures.moved (begun g at.After-merge)) in
           let none : AllByRecursion (λ (f : MergeInput). f.waits ≡ []) (inputs m) = rw empty (none_wait 0 m.cursors.items) in
-          let all : taken ≡ collection lines = (reached.handed.told texts there).0
-          ∙ ap (rising member_place place_cmp) (all_lines_are never (λ key. refl) texts (inputs m)) in
+          let took = took_of_parts reached upward (λ m. true) (λ m e. refl) texts there in
+          let all : taken ≡ collection lines = sym (simp filter_every at (taken_whole took empty)) in
           record {
             indexes = lines;
             are = indexes_read never (λ key. refl) texts (inputs m) (reached_read reached texts there)
