@@ -14,13 +14,15 @@ use Rattle.query_core.proofs.WriterLemmas.{captures, kept_after, captures_split,
 use Rattle.std.proofs.Common.{◌∙◌, replicate, is_lt}
 use Rattle.query_text.proofs.RangeLaw.{match_not_below}
 use Rattle.merge_core.specs.declared.state.MergeState.{MergeState}
-use Rattle.merge_core.specs.Openings.{IsCutAt}
+use Rattle.merge_core.specs.Openings.{AreOpened}
+use Rattle.merge_core.proofs.OpenLemmas.{cuts_of}
 use Rattle.merge_core.specs.Reached.{Reached}
-use Rattle.merge_core.proofs.TakenLemmas.{Took, none_wait, parts, parts_are, parts_count, taken_before}
+use Rattle.merge_core.proofs.TakenLemmas.{Took, none_wait, parts_are, parts_count, taken_before}
 use Rattle.merge_core.proofs.TakenLemmas.{took_of_indexes, took_of_parts}
 use Rattle.merge_core.specs.SourceLines.{IsLineIn, IsLineOf}
-use Rattle.merge_core.specs.Spending.{CameWithin, AreReadTo, OpenedWithin}
-use Rattle.merge_core.proofs.SourceLemmas.{each_entry, taken_lines, reached_long, reached_read, reached_sought}
+use Rattle.merge_core.specs.Spending.{AreReadTo, OpenedWithin}
+use Rattle.merge_core.proofs.SourceLemmas.{each_entry, parts, reached_long, reached_read, reached_sought}
+use Rattle.merge_core.proofs.SourceLemmas.{taken_lines}
 use Rattle.query_core.specs.Starts.{first_stamp}
 use Rattle.cdxj_core.proofs.MemberLemmas.{entry_valued}
 use Rattle.std.specs.Char.{is_ascii_digit}
@@ -35,7 +37,7 @@ use Rattle.merge_core.proofs.StateLemmas.{cursors_of}
 use Rattle.merge_core.proofs.MergeLemmas.{is_less}
 use Rattle.merge_core.specs.PairOrders.{Alike, IsUpto}
 use Rattle.merge_core.specs.Collections.{OverTexts}
-use Rattle.merge_core.proofs.CountLemmas.{Passes, lines_most, gave_most, tell_both, reached_read_to}
+use Rattle.merge_core.proofs.CountLemmas.{Passes, lines_most, gave_most, reached_read_to}
 use Rattle.merge_core.proofs.Many.{each_filter, Move, length_zip}
 use Rattle.merge_core.proofs.PairOrder.{below_below, below_upto, from_not_below, not_below_itself, same_from}
 use Rattle.query_core.specs.Reach.{pair_after, is_within}
@@ -111,9 +113,7 @@ module _ {S : Type 0} (device : Ghosts S) (q : QueryValue) (olds : List S) where
   pub record Opened (opened : List S) (begun : MergeState) : Type 0 where
     pub kept : map device.text opened ≡ map device.text olds
     pub same : length opened ≡ length begun.cursors.items
-    pub came : AllZip (λ x y. CameWithin device x y.0 y.1) olds (zip opened begun.cursors.items)
-    pub cut : AllByRecursion (λ x. IsCutAt (start_pair q q.resume) (device.text x.0) x.1)
-        (zip opened begun.cursors.items)
+    pub found : AreOpened device (start_pair q q.resume) olds (zip opened begun.cursors.items)
 
   -- these lines were taken
   pub record Reading : Type 0 where
@@ -177,8 +177,8 @@ module _ {S : Type 0} {device : Ghosts S} {q : QueryValue} {olds : List S}
       later_each A rest = grind (arith, each_kept, place_cmp_total)
 
       took_sought : Took (is_past q.target) (sought q) r.bound r.merge.queue (collection indexes) r.taken
-      took_sought = took_of_indexes r.reached (past_upward q.target) (sought q) (within q) _ r.start.cut (beyond q)
-          texts indexes known_opened are
+      took_sought = took_of_indexes r.reached (past_upward q.target) (sought q) (within q) _
+          (cuts_of device _ olds _ r.start.found) (beyond q) texts indexes known_opened are
 
       -- what was taken is a front of what is wanted
       pub wanted_first : (rest : List Member) × (captures q (collection indexes) ≡ captures q r.taken ++ rest)
@@ -314,10 +314,8 @@ module _ {S : Type 0} {device : Ghosts S} {q : QueryValue} {olds : List S}
   gave_upto bound earlier news cs cuts moved long reads = λ texts indexes known are limit most.
       let all = AllZip-long (Move device) (zip r.opened r.begun.cursors.items) (zip news cs) moved in
       let pass = passes q indexes bound earlier (cuts texts indexes known are) limit most in
-      let tells = tell_both device.text r.opened r.begun.cursors.items texts r.start.same (known_opened r texts known) in
       rw (firsts news cs (omega (arith, all, long, length_zip r.opened r.begun.cursors.items r.start.same))) at
-      (gave_most pass device olds _ (zip news cs) _ _ known tells are r.start.came moved
-      r.start.cut (reads texts known))
+      (gave_most pass device olds _ (zip news cs) _ _ known are r.start.found moved (reads texts known))
 
   -- what they gave of which these lines were taken
   pub gave_within : (earlier : List Member) → Cuts r.bound earlier
@@ -332,7 +330,7 @@ module _ {S : Type 0} {device : Ghosts S} {q : QueryValue} {olds : List S}
         let there = known_opened r texts known in
         let pass = passes q indexes r.bound earlier (cuts texts indexes known are) limit most in
         let h = rw cursors_of at (lines_most pass texts (inputs r.merge) indexes (reached_read r.reached texts there) are
-        (reached_sought r.reached _ r.start.cut texts indexes there are) (r.reached.handed.told texts there).1) in
+        (reached_sought r.reached _ (cuts_of device _ olds _ r.start.found) texts indexes there are) (r.reached.handed.told texts there).1) in
         grind (arith, AllZip-long)
 
     -- of each source consecutive lines were read

@@ -4,7 +4,6 @@ use Rattle.query_core.proofs.Words.{true}
 use Rattle.query_core.proofs.WriterLemmas.{captures, captures_append}
 use Rattle.query_core.proofs.ReachLemmas.{Opened, reading, known_opened, wanted_whole, cut_all, cut_before, cut_last, gave_upto}
 use Rattle.query_core.proofs.ReachLemmas.{gave_within, lines_within, of_parts, took, within_opening}
-use Rattle.merge_core.proofs.OpenLemmas.{came_of, cuts_of}
 use Rattle.query_core.specs.Passes.{WantedMore}
 use Rattle.query_core.proofs.pass.read_lines.Given.{Over}
 use Rattle.query_core.proofs.pass.read_lines.Goals.{In_ok-opened}
@@ -44,8 +43,7 @@ start g c =
     record {
       kept = c.open_at.ensures.sources.0.0;
       same = c.in_ok-opened.ensures.begun.ready.aligned.same;
-      came = came_of g.S.Source _ _ _ opened;
-      cut = cuts_of g.S.Source _ _ _ opened;
+      found = opened;
     }
 
 pub returns-in_err-all-clause-ended : goal.returns-in_err-all-clause-ended
