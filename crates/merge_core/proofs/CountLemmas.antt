@@ -9,7 +9,7 @@ use Rattle.merge_core.proofs.Words.{IsCut, IsIndex, Known, Member, MergeState, R
 use Rattle.merge_core.proofs.Words.{each_weaker, false, inputs, filter, filter-append, is_low, is_of, length-map}
 use Rattle.merge_core.proofs.Words.{length-take, map, map-append, member_of, nil_from_length, not, sum, sum_by-cons}
 use Rattle.merge_core.proofs.Words.{true, waits_of, zero, zip, lines_text, drop_more_same, get_or-drop, AllGaveWithin}
-use Rattle.merge_core.proofs.Words.{take-take, is_at, OverTexts, EachDone, IsInputOf, OverShares, AreOpened}
+use Rattle.merge_core.proofs.Words.{take-take, is_at, OverTexts, EachDone, IsInputOf, OverShares, AreOpened, IsInput}
 use Rattle.source_core.proofs.LongestLines.{first_most, longest_drop}
 use Rattle.merge_core.proofs.InputLemmas.{all_taken, all_upto, done_cut, done_within, TextRead}
 use Rattle.merge_core.proofs.Many.{each_both, filter_fewer, filter_weaker, filter_front, each_take, zip_set}
@@ -61,10 +61,12 @@ read_to {past = past} {t = t} {f = f} told b new upto start near ahead =
     }
 
 -- the same where the last line that was read has the pair
-pub group_most : {past : List ℕ → Bool} {t : List ℕ} {c : CursorState} {pair : Pair}
-    → IsInputOf past t (input_of c []) → EndsAt past pair (given t c) → (new : CursorState) → new.start ≡ c.start
-    → new.at ≤ c.at + first_length (lines (drop c.at t)) → length new.ahead ≤ 8192 → ReadTo past (Some pair) t new
-group_most {pair = pair} told end new start near ahead =
+pub group_most : {past : List ℕ → Bool} {text : Option (List ℕ)} {extent : ℕ} {c : CursorState} {pair : Pair}
+    → IsInput past text extent (input_of c []) → (t : List ℕ) → text ≡ Some t → EndsAt past pair (given t c)
+    → (new : CursorState) → new.start ≡ c.start → new.at ≤ c.at + first_length (lines (drop c.at t))
+    → length new.ahead ≤ 8192 → ReadTo past (Some pair) t new
+group_most {pair = pair} input t is end new start near ahead =
+    let told = input.told t is in
     read_to told (Some pair) new (rw (all_taken told end) (all_upto told end)) start near ahead
 
 module _ (past : List ℕ → Bool) {S : Type 0} (device : Ghosts S) (b : Option Pair) where

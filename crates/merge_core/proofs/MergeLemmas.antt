@@ -221,16 +221,7 @@ pub reached_same : {S : Type 0} {device : Ghosts S} {past : List ℕ → Bool}
     → Reached past device old begun ss m' b taken
 reached_same m' is was =
     let aligned = was.ready.aligned in
-    rw is (record {
-      ready = record {
-        aligned = record { same = aligned.same; placed = aligned.placed; input = aligned.input };
-        settled = was.ready.settled;
-      };
-      kept = was.kept;
-      moved = was.moved;
-      above = was.above;
-      handed = was.handed;
-    })
+    rw is (grind arith)
 
 -- these lines were passed on, when a fault came
 module _ {K S : Type 0} {consumer : SinkGhosts K} {past : List ℕ → Bool} {device : Ghosts S}

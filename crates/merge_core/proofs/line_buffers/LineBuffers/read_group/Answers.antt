@@ -1,13 +1,13 @@
 use Rattle.merge_core.proofs.Words.{[], ℕ, ◌++◌, ◌∙◌, ◌∷◌, ◌≡◌, ◌≤◌, Alike, AllByRecursion, Bool, EndsAt, IsInput}
 use Rattle.merge_core.proofs.Words.{List, Member, Some, Upto, append_assoc, arith, boxed_lines, done, each_join}
 use Rattle.merge_core.proofs.Words.{each_weaker, false, input_of, filter, given, inl, inr, is_lt, length, map-append}
-use Rattle.merge_core.proofs.Words.{member_pair, pair_cmp_total, refl, stays, true, ReadTo, OverText}
-use Rattle.merge_core.proofs.CountLemmas.{group_most}
+use Rattle.merge_core.proofs.Words.{member_pair, pair_cmp_total, refl, stays, true}
 use Rattle.merge_core.proofs.InputLemmas.{LineRead, all_inside, all_taken, all_upto, bad_named, done_next, input_end}
 use Rattle.merge_core.proofs.InputLemmas.{input_more, given_next, order_named, same_stays, settled_more}
 use Rattle.merge_core.proofs.PairOrder.{from_not_below, upto_upto}
 use Rattle.merge_core.proofs.line_buffers.LineBuffers.read_group.Given.{Over}
 use Rattle.merge_core.proofs.line_buffers.LineBuffers.read_group.Goals.{After-compare_pair, After-next_line}
+use Rattle.merge_core.proofs.CountLemmas.{group_most}
 use Rattle.merge_core.proofs.line_buffers.LineBuffers.read_group.Goals as goal
 
 length_waits : (past : List ℕ → Bool) (m : Member) → length (filter (stays past) (m ∷ [])) ≤ 1
@@ -42,14 +42,6 @@ taken_before : (g : Over) (c : After-next_line g) (t : List ℕ) → g.S.Source.
     ≡ given t c.args.cursor.now
 taken_before g c t e = all_taken (c.requires.input.told t e) (c.requires.due.last t e)
 
--- the source was read no further than the pair
-most : (g : Over) (c : After-next_line g) → OverText (g.S.Source.text c.args.source.now)
-    (λ t. ReadTo (g.R.Range.past c.args.range.now) (Some (member_pair c.args.first.now)) t c.next_line.new.cursor)
-most g c t e =
-    let inv = c.loop-line.invariant in
-    let input = inv.input.told t (inv.moved.text_kept ∙ e) in
-    grind (arith, group_most input (inv.last t e))
-
 pub returns-in-Greater-clause-read : goal.returns-in-Greater-clause-read
 returns-in-Greater-clause-read g c =
     let inv = c.loop-line.invariant in
@@ -70,9 +62,6 @@ returns-in-Greater-clause-read g c =
           let more = inv.taken.3 t (cc) in
           grind (arith, taken_before);
     }
-
-pub returns-in-Greater-clause-most : goal.returns-in-Greater-clause-most
-returns-in-Greater-clause-most g c = most g (goal.at.returns-in-Greater-clause-most g c).After-next_line
 
 pub returns-clause-read : goal.returns-clause-read
 returns-clause-read g c =
@@ -96,16 +85,19 @@ returns-clause-read g c =
     }
 
 pub returns-in_err-line-clause-most : goal.returns-in_err-line-clause-most
-returns-in_err-line-clause-most g c = most g (goal.at.returns-in_err-line-clause-most g c).After-next_line
+returns-in_err-line-clause-most g c = grind (arith, group_most {pair = member_pair c.args.first.now} c.loop-line.invariant.input)
 
 pub returns-in-Less-clause-most : goal.returns-in-Less-clause-most
-returns-in-Less-clause-most g c = most g (goal.at.returns-in-Less-clause-most g c).After-next_line
+returns-in-Less-clause-most g c = grind (arith, group_most {pair = member_pair c.args.first.now} c.loop-line.invariant.input)
+
+pub returns-in-Greater-clause-most : goal.returns-in-Greater-clause-most
+returns-in-Greater-clause-most g c = grind (arith, group_most {pair = member_pair c.args.first.now} c.loop-line.invariant.input)
 
 pub returns-in_err-push-in-Equal-clause-most : goal.returns-in_err-push-in-Equal-clause-most
-returns-in_err-push-in-Equal-clause-most g c = most g (goal.at.returns-in_err-push-in-Equal-clause-most g c).After-next_line
+returns-in_err-push-in-Equal-clause-most g c = grind (arith, group_most {pair = member_pair c.args.first.now} c.loop-line.invariant.input)
 
 pub returns-clause-most : goal.returns-clause-most
-returns-clause-most g c = most g (goal.at.returns-clause-most g c).After-next_line
+returns-clause-most g c = grind (arith, group_most {pair = member_pair c.args.first.now} c.loop-line.invariant.input)
 
 pub loop-line-preserved : goal.loop-line-preserved
 loop-line-preserved g c =
