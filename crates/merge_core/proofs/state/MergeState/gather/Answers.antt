@@ -1,7 +1,7 @@
-use Rattle.merge_core.proofs.Words.{[], ◌+◌, ◌∙◌, ◌∷◌, AreReadTo, AreSettled, Member, MergeState, Some, Upto}
-use Rattle.merge_core.proofs.Words.{WaitingLine, all_done, ap, arith, boxed_lines, each_weaker, inputs, map-append}
-use Rattle.merge_core.proofs.Words.{member_pair, pair_cmp_total, refl, sym, tied_itself, waiting_pair}
-use Rattle.merge_core.proofs.Words.{IsPermutation-sym, OverTexts, map, HaltedGroup, ◌≡◌, IsAbove}
+use Rattle.merge_core.proofs.Words.{[], ◌+◌, ◌∙◌, ◌∷◌, AreReadTo, Member, MergeState, Some, Upto, WaitingLine}
+use Rattle.merge_core.proofs.Words.{all_done, ap, arith, boxed_lines, each_weaker, inputs, map-append, member_pair}
+use Rattle.merge_core.proofs.Words.{pair_cmp_total, refl, sym, tied_itself, waiting_pair, IsPermutation-sym}
+use Rattle.merge_core.proofs.Words.{OverTexts, map, HaltedGroup, ◌≡◌, IsAbove, Pair, Option, AllByRecursion}
 use Rattle.merge_core.proofs.PairOrder.{upto_itself}
 use Rattle.merge_core.proofs.MergeLemmas.{on_fault, Gathers, TakenNext, gathers_start, taken_next, gathers_on}
 use Rattle.merge_core.proofs.GroupLemmas.{AreBelow, from_waited, each_permuted, not_before}
@@ -23,13 +23,6 @@ drained g c =
     gathers_on inv.gathers {m' = c.read_on.new.self} (c.with_start-keyed.result ∷ []) refl read.took (omega arith) inv.inside
     read.aligned c.read_on.ensures.moved
     (from_waited pair (c.sources.i + 1) c.sources.i read.took.input.waits _ _ read.later read.queue_is inv.gathers.from)
-
--- and of the inputs
-drained_settled : (g : Over) (c : In_ok-read_on g)
-    → AreSettled (g.R.Range.past c.args.range.now) g.S.Source c.read_on.new.sources
-    (inputs c.read_on.new.self)
-drained_settled g c =
-    grind arith
 
 -- the line that is taken next
 abbrev taken_line : (g : Over) → After-push g → WaitingLine
@@ -64,17 +57,9 @@ sources-init g c =
     (IsPermutation-sym old.queue (w ∷ left) out) (upto_itself pair, each_weaker (λ v. not_before v w) left later) in
     let t = taken_next (gathers_start (g.R.Range.past c.args.range.now) g.S.Source c.args.sources.now old pair c.requires.ready.aligned least) w now refl out later
     (tied_itself pair_cmp_total pair) in
-    record {
-      gathers = grind arith;
-      most_lines = grind arith;
-      inside = t.inside;
-      due = t.due;
-      settled = grind arith;
-      failures = refl;
-      above = λ b h. (each_permuted (λ (v : WaitingLine). IsAbove b (waiting_pair v)) old.queue (w ∷ left) out h).0;
-      least = least;
-      fewer = t.fewer;
-    }
+    let above = λ (b : Option Pair) (h : AllByRecursion (λ (v : WaitingLine). IsAbove b (waiting_pair v)) old.queue).
+    (each_permuted (λ (v : WaitingLine). IsAbove b (waiting_pair v)) old.queue (w ∷ left) out h).0 in
+    grind arith
 
 pub pop_at-requires : goal.pop_at-requires
 pop_at-requires g c =
@@ -106,7 +91,7 @@ read_to g c texts known low =
 
 pub returns-in_default-pop_at : goal.returns-in_default-pop_at
 returns-in_default-pop_at g c =
-    grind (arith, drained, drained_settled)
+    grind (arith, drained)
 
 -- the lines of the pair were being taken
 halted : (g : Over) (c : After-read_on g) (m : MergeState) → m.cursors.items ≡ c.read_on.new.self.cursors.items
