@@ -12,7 +12,7 @@ use Rattle.merge_core.proofs.Words.{SoFar, Some, each_rising, is_gt, is_low, is_
 use Rattle.merge_core.proofs.Words.{place_cmp_total, rising, rising_split, MatchResult, set-set, get_or-set_same}
 use Rattle.merge_core.proofs.Words.{Rises, rises_rising, MergePoint, StillWants, BrokenMerge, HaltedGroup}
 use Rattle.merge_core.proofs.Words.{HaltedMerge, Known, OverTexts, map, ◌∙◌, get_or-map, length-map, set-get_or}
-use Rattle.merge_core.proofs.Words.{AllZip-long, lines, EachDone, refl}
+use Rattle.merge_core.proofs.Words.{AllZip-long, lines, EachDone}
 use Rattle.merge_core.proofs.Many.{map_set_same, zip_set, zip_at, length_zip, moved_trans, moved_still}
 use Rattle.merge_core.proofs.StateLemmas.{any_of, idle, long_of, inside_sources, none_left, popped_aligned}
 use Rattle.merge_core.proofs.StateLemmas.{popped_inputs, popped, popped_due, zip_put, zip_get}
@@ -132,13 +132,9 @@ above_none (w ∷ ws) = (tt, above_none ws)
 pub reached_none : {S : Type 0} {device : Ghosts S} {past : List ℕ → Bool} {ss : List S} {m : MergeState}
     → Ready past device ss m → EachDone past device.text (λ ms. ms ≡ []) ss (inputs m)
     → Reached past device ss m ss m None []
-reached_none {device = device} {past = past} {ss = ss} {m = m} ready fresh = record {
-  ready = ready;
-  kept = (refl, refl);
-  moved = moved_still device _;
-  above = above_none m.queue;
-  handed = let none = none_done past device.text ss (inputs m) in grind arith;
-}
+reached_none {device = device} {past = past} {ss = ss} {m = m} ready fresh =
+    let none = none_done past device.text ss (inputs m) in
+    grind (arith, moved_still, above_none)
 
 -- where nothing was read, and where more was
 pub ruleset step_rules = (reached_none, moved_still, moved_trans, all_kept)

@@ -88,16 +88,7 @@ first_read {past = past} {text = text} {extent = extent} {old = old} input fresh
     })
 first_read {past = past} {text = text} {extent = extent} {old = old} input fresh c (Some m) ws stands start count near next is =
     let none : (t : List ℕ) → given t old ≡ [] = λ t. rw fresh refl in
-    let read : LineRead past text extent old c m = record {
-      was = input;
-      inside = λ t e. rw (none t) tt;
-      stands = stands;
-      start = start;
-      count = count;
-      near = near;
-      next = next;
-      low = λ t e. rw (none t) tt;
-    } in
+    let read : LineRead past text extent old c m = grind arith in
     record {
       input = input_more read ws (inl is);
       settled = settled_more read ws is;

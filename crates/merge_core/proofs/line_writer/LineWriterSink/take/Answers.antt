@@ -2,7 +2,7 @@ use Rattle.merge_core.proofs.Words.{[], ℕ, ◌++◌, ◌+◌, ◌<◌, ◌∷�
 use Rattle.merge_core.proofs.Words.{Option, append-nil, append_assoc, arith, drop, err_from_is_err_and}
 use Rattle.merge_core.proofs.Words.{flat_map-append, get_or, grows_on, length, length-append, line_row, lines_text}
 use Rattle.merge_core.proofs.Words.{map, map-append, prefix_after, prefix_longer, take, take-append-drop, map_more}
-use Rattle.merge_core.proofs.Words.{Appends-join, lines}
+use Rattle.merge_core.proofs.Words.{Appends-join}
 use Rattle.merge_core.proofs.line_writer.LineWriterSink.take.Goals as goal
 
 -- lines, up to one of them
