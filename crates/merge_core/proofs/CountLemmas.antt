@@ -98,7 +98,8 @@ pub reached_read_to : {S : Type 0} {device : Ghosts S} {past : List ℕ → Bool
     → OverTexts (map device.text old) (λ _. AreReadTo past device.text b ss m.cursors.items)
 reached_read_to {device = device} {past = past} {ss = ss} {m = m} {b = b} reached texts known =
     let aligned = reached.ready.aligned in
-    are_read_to past device b ss m aligned.input (each_done past device.text (λ m. IsUpto b (member_pair m)) ss (inputs m)
+    are_read_to past device b ss m aligned.input (each_done past device.text
+    (λ m. IsUpto b (member_pair m)) ss (inputs m)
     texts (long_of aligned) (rw (← reached.kept.0) at known) (reached.handed.told texts known).1)
 
 -- ---- the opening of sources

@@ -33,7 +33,8 @@ of past x = done past x.0 x.1
 text_of : {S : Type 0} (text : S → Option (List ℕ)) (ss : List S) (texts : List (List ℕ)) (i : ℕ) (s : S)
     → Known (map text ss) texts → i < length ss → text (get_or ss i s) ≡ Some (get_or texts i [])
 text_of text ss texts i s known inside =
-    rw (get_or-map text ss i s (text s) inside) at (zip_get (λ told t. told ≡ Some t) (map text ss) texts i (text s) [] known
+    rw (get_or-map text ss i s (text s) inside) at (zip_get (λ told t. told ≡ Some t) (map text ss)
+    texts i (text s) [] known
     (rw length-map inside))
 
 module _ (past : List ℕ → Bool) {S : Type 0} (device : Ghosts S)

@@ -48,7 +48,8 @@ IsSought start x ms = IsCut start x.0 ms x.1.cursor.start
 
 module _ {S : Type 0} (device : Ghosts S) where
   -- the same of all sources
-  pub all_sought : (start : Pair) (ss : List S) (fs : List MergeInput) (texts : List (List ℕ)) (indexes : List (List Member))
+  pub all_sought : (start : Pair) (ss : List S) (fs : List MergeInput) (texts : List (List ℕ))
+      (indexes : List (List Member))
       → length ss ≡ length fs → Known (map device.text ss) texts → AllZip (IsIndex LINE_LIMIT) texts indexes
       → AllByRecursion (λ x. IsCutAt start (device.text x.0) x.1) (zip ss (map (λ f. f.cursor) fs))
       → AllZip (IsSought start) (zip texts fs) indexes
@@ -198,7 +199,8 @@ module _ {S : Type 0} {device : Ghosts S} {past : List ℕ → Bool} {old ss : L
       texts_read device past ss (inputs m) texts (rw (← reached.kept.0) at known) ready.aligned.input ready.settled
 
   -- indexes, from where the search for that pair ended
-  pub reached_sought : (start : Pair) → AllByRecursion (λ x. IsCutAt start (device.text x.0) x.1) (zip old begun.cursors.items)
+  pub reached_sought : (start : Pair) → AllByRecursion (λ x. IsCutAt start (device.text x.0) x.1)
+      (zip old begun.cursors.items)
       → OverIndexes (map device.text old) (λ texts indexes. AllZip (IsSought start) (zip texts (inputs m)) indexes)
   reached_sought start cut texts indexes known are =
       let kept = cuts_kept device start _ _ reached.moved cut in

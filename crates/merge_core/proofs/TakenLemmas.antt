@@ -83,7 +83,8 @@ module _ (past : List ℕ → Bool) (upto : Member → Bool) where
       (f m (upto_itself (member_pair m)), grind (arith, each_weaker, falls_after))
 
 module _ {past : List ℕ → Bool} (upward : IsUpward past) (upto : Member → Bool) {t : List ℕ} {f : MergeInput}
-    (r : TextRead past t f) (late : AllByRecursion (IsLate upto) f.waits) (each : AllByRecursion (λ m. upto m ≡ true) (done past t f)) where
+    (r : TextRead past t f) (late : AllByRecursion (IsLate upto) f.waits)
+    (each : AllByRecursion (λ m. upto m ≡ true) (done past t f)) where
   -- a line at which the range has ended, and those after it
   unread_past : (last k : Member) → past last.values.key ≡ true → Upto (member_pair last) (member_pair k)
       → is_read past upto k ≡ false

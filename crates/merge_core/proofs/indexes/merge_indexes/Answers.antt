@@ -41,7 +41,8 @@ module _ (g : Over) (c : After-merge g) {ss : List g.row.S.Denot} {m : MergeStat
   front old new p texts indexes known are =
       let opened = c.in_ok-opened.ensures in
       let cut = each_weaker (cut_at_start g.S.Source) _ (begun g c) in
-      let first = taken_first (took_of_indexes reached upward (λ m. true) (λ m e. refl) ([], []) cut (λ m e. none_below_empty (member_pair m).0 (member_pair m).1) texts indexes
+      let first = taken_first (took_of_indexes reached upward (λ m. true) (λ m e. refl) ([], [])
+      cut (λ m e. none_below_empty (member_pair m).0 (member_pair m).1) texts indexes
       (rw (← opened.sources.0.0) at known) are) in
       let whole : collection indexes ≡ taken ++ first.0 = grind (arith, filter_every) in
       rw (whole, flat_map-append) (prefix_longer old new _ _ p)

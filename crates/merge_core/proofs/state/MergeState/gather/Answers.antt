@@ -86,8 +86,10 @@ read_to : (g : Over) (c : After-read_on g) → OverTexts (map g.S.Source.text c.
     c.read_on.new.sources c.read_on.new.self.cursors.items)
 read_to g c texts known low =
     let h = c.sources.invariant.gathers in
-    c.read_on.ensures.most (each_done _ g.S.Source.text (λ m. Upto (member_pair m) (member_pair c.with_start-keyed.result))
-    c.sources.sources (inputs c.sources.self) texts (long_of h.aligned) (rw h.kept known) (h.gathered texts known low).0.upto)
+    c.read_on.ensures.most (each_done _ g.S.Source.text (λ m. Upto (member_pair m)
+    (member_pair c.with_start-keyed.result))
+    c.sources.sources (inputs c.sources.self) texts (long_of h.aligned) (rw h.kept known)
+    (h.gathered texts known low).0.upto)
 
 pub returns-in_default-pop_at : goal.returns-in_default-pop_at
 returns-in_default-pop_at g c =
