@@ -14,7 +14,7 @@ use crate::order::HasPlace;
 use crate::place::Place;
 
 /// Places are totally ordered, and two places compare as equal only if they are the same.
-#[tactic(auto, using(crate::proofs::PlaceOrder::place_cmp_total, crate::proofs::PlaceOrder::same_place))]
+#[tactic(auto, using(crate::proofs::PlaceOrder::order_rules))]
 pub fn places_are_ordered()
     ensures total { IsTotalOrder place_cmp }
     ensures same { (p q : PlaceValue) → place_cmp p q ≡ Equal → p ≡ q }
@@ -61,7 +61,7 @@ pub fn place_is_good(place: Place<'_>)
 /// The list that rises by place has exactly the first thing at each place, and is the only rising
 /// list with these members. If some things are below all others, it is the list of those things,
 /// followed by the list of the others.
-#[tactic(auto, using(crate::proofs::RisingLaws::rising_laws, crate::proofs::PlaceOrder::place_cmp_total))]
+#[tactic(auto, using(crate::proofs::PlaceOrder::rising_rules))]
 pub fn rising_list_is_unique<T: HasPlace>()
     ensures members { (thing : T) → (things : List T)
         → IsIn thing (rising T.place_of place_cmp things) ↔ IsFirst T.place_of place_cmp thing
