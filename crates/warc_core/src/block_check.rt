@@ -44,7 +44,8 @@ pub fn block_digest<I: Input>(
 /// Reads the rest of the open record, and returns this verdict without examining the block.
 #[tactic(auto, using(crate::proofs::VerdictLemmas::judge_rules))]
 fn pass<I: Input>(reader: &mut Reader, input: &mut I, verdict: Verdict) -> Result<Verdict, Fault>
-    ensures { IfOpen reader.old.phase (λ left len. ReadsTo (judge_record (λ _. verdict) left) (reader.old.offset + len) Between
+    ensures { IfOpen reader.old.phase (λ left len.
+        ReadsTo (judge_record (λ _. verdict) left) (reader.old.offset + len) Between
         (state_of reader.old (I.remaining input.old) (I.failures input.old))
         (state_of reader.new (I.remaining input.new) (I.failures input.new)) result) }
 {
@@ -56,7 +57,8 @@ fn pass<I: Input>(reader: &mut Reader, input: &mut I, verdict: Verdict) -> Resul
 #[tactic(auto, using(crate::proofs::VerdictLemmas::judge_rules))]
 fn compare<I: Input>(reader: &mut Reader, input: &mut I, text: &[u8]) -> Result<Verdict, Fault>
     requires { HasLeft 0 reader.old.phase }
-    ensures { IfOpen reader.old.phase (λ left len. ReadsTo (judge_record (λ block. digest_verdict text.now (sha1 block)) left)
+    ensures { IfOpen reader.old.phase (λ left len.
+        ReadsTo (judge_record (λ block. digest_verdict text.now (sha1 block)) left)
         (reader.old.offset + len) Between
         (state_of reader.old (I.remaining input.old) (I.failures input.old))
         (state_of reader.new (I.remaining input.new) (I.failures input.new)) result) }

@@ -20,7 +20,8 @@ pub fn digest_rest<I: Input>(
     start: &[u8],
 ) -> Result<[u8; 20], Fault>
     requires { HasLeft 0 reader.old.phase }
-    ensures { IfOpen reader.old.phase (λ left len. ReadsTo (digest_of_rest left start.now) reader.old.offset (Open 0 len)
+    ensures { IfOpen reader.old.phase (λ left len.
+        ReadsTo (digest_of_rest left start.now) reader.old.offset (Open 0 len)
         (state_of reader.old (I.remaining input.old) (I.failures input.old))
         (state_of reader.new (I.remaining input.new) (I.failures input.new)) result) }
 {
