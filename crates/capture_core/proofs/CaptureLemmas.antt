@@ -2,12 +2,11 @@
 use Rattle.std.proofs.Common.{◌≡◌, ℕ, ◌-◌, ◌≤◌, List, ◌++◌, Option, None, Some, Result, Ok, Err, IfErr}
 use Rattle.std.proofs.Common.{IfSome, length, take, refl, arith}
 use Rattle.std.proofs.lemmas.List.{length-take}
-use Rattle.std.specs.Io.KnownBytes.{prepend_known}
 use Rattle.sha1.specs.Sha1.{sha1}
 use Rattle.warc_core.specs.HeadView.{HeadView, record_length}
 use Rattle.warc_core.specs.Reading.{Reads}
 use Rattle.warc_core.proofs.ReadingLemmas.{GoesOn}
-use Rattle.warc_core.specs.ReaderView.{ReaderView, state_of}
+use Rattle.warc_core.specs.ReaderView.{ReaderState, ahead}
 use Rattle.warc_core.specs.Calls.{Finishes}
 use Rattle.warc_core.specs.Record.{after_record}
 use Rattle.cdxj_core.specs.Entries.{EntryValue}
@@ -23,20 +22,17 @@ use Rattle.warc_core.proofs.VerdictLemmas.{digest-then}
 
 -- ---- how the record was read
 
-module _ {A : Type 0} (left : ℕ) (h : HeadView) (old new : ReaderView) (before after : Option (List ℕ)) (k k' : ℕ) where
-  -- an open record was read to its end, and then this was answered of it
-  pub rest-whole : (r : Result A CaptureFault) (n : ℕ) → old.offset ≡ h.start
-      → Finishes left (record_length h) (state_of old before k) (state_of new after k') (Ok n) → reading_of r ≡ Ok tt
-      → IfErr r (IsCaptureFaultAt h.start) → ReadsRest left h (state_of old before k) (state_of new after k') r
-  rest-whole r n o f own at = grind arith
+-- an open record was read to its end, and then this was answered of it
+pub rest-whole : {A : Type 0} (left n : ℕ) (h : HeadView) (old new : ReaderState) (r : Result A CaptureFault)
+    → old.reader.offset ≡ h.start → Finishes left (record_length h) old new (Ok n) → reading_of r ≡ Ok tt
+    → IfErr r (IsCaptureFaultAt h.start) → ReadsRest left h old new r
+rest-whole left n h old new r o f own at = grind arith
 
 -- reading goes on after what was read of the block
-pub rest-behind : {A : Type 0} (left left' : ℕ) (h : HeadView) (old mid new : ReaderView) (r : Result A CaptureFault)
-    (before between after : Option (List ℕ)) (k l k' : ℕ)
-    → GoesOn (after_record left) (after_record left') (prepend_known old.held before) (prepend_known mid.held between)
-    → l ≡ k → ReadsRest left' h (state_of mid between l) (state_of new after k') r
-    → ReadsRest left h (state_of old before k) (state_of new after k') r
-rest-behind left left' h old mid new r before between after k l k' g e s = grind arith
+pub rest-behind : {A : Type 0} (left left' : ℕ) (h : HeadView) (old mid new : ReaderState) (r : Result A CaptureFault)
+    → GoesOn (after_record left) (after_record left') (ahead old) (ahead mid) → mid.failures ≡ old.failures
+    → ReadsRest left' h mid new r → ReadsRest left h old new r
+rest-behind left left' h old mid new r g e s = grind arith
 
 -- after a digest of what is left, only the closing is left
 pub behind-digest : (left : ℕ) (start digest : List ℕ) (before after : Option (List ℕ))

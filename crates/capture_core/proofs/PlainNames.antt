@@ -8,10 +8,10 @@ use Rattle.std.specs.List.{after_last, list_all, suffix_len}
 use Rattle.json.specs.Run.{is_plain}
 use Rattle.cdxj_core.specs.Entries.{EntryValue, HasPlainTexts, IsGood, entry_texts, line_text, members_of}
 use Rattle.cdxj_core.specs.Objects.{object_text}
-use Rattle.cdxj_core.specs.Plain.{ArePlain, plain_pieces, plain_text}
+use Rattle.cdxj_core.specs.Plain.{ArePlain, pieces, plain_pieces, plain_text}
 use Rattle.cdxj_core.specs.Texts.{TextsValue}
 use Rattle.cdxj_objects.proofs.PlainBytes.{plain_decimal}
-use Rattle.cdxj_objects.proofs.PlainLaw.{Pushed, in_one, plain_text_is}
+use Rattle.cdxj_objects.proofs.PlainLaw.{plain_text_is}
 use Rattle.capture_core.specs.Spelling.{is_quote, last_quoted}
 
 plain_at : (name : List ℕ) (i : ℕ) → list_all is_plain name ≡ true → i < length name
@@ -40,17 +40,19 @@ quoted_last front name h =
     omega (arith, behind_last front name h, size) in
     grind (arith, drop-append-add)
 
+-- what stands before the last pieces of an object
+before_pieces : (ps more : List (List ℕ × List ℕ)) → (front : List ℕ) × (pieces (ps ++ more) ≡ front ++ pieces more)
+before_pieces [] more = ([], refl)
+before_pieces ((front, text) ∷ ps) more =
+    let later = before_pieces ps more in (front ++ (text ++ later.0), grind (arith, append_assoc))
+
 -- the file name is the last text of an object
 plain_end : (t : TextsValue) → (front : List ℕ) × (plain_text t ≡ front ++ 34 ∷ (t.filename ++ 34 ∷ 125 ∷ []))
 plain_end t =
     let all = plain_pieces t in
-    let before : (text : List ℕ) × Pushed (take 6 all) [] text =
-    (_, (_, refl, (_, refl, (_, refl, (_, refl, (_, refl, (_, refl, refl))))))) in
-    let name_front = codes "\", \"filename\": " in (
-      before.0 ++ name_front,
-      sym (in_one (take 6 all) (drop 6 all) [] before.0 before.1)
-          ∙ sym (append_assoc before.0 name_front (34 ∷ (t.filename ++ 34 ∷ 125 ∷ []))),
-    )
+    let before = before_pieces (take 6 all) (drop 6 all) in
+    let name_front = codes "\", \"filename\": " in
+    (before.0 ++ name_front, before.1 ∙ sym (append_assoc before.0 name_front (34 ∷ (t.filename ++ 34 ∷ 125 ∷ []))))
 
 line_ends : (key stamp front name : List ℕ) → (key ++ 32 ∷ (stamp ++ 32 ∷ (front ++ 34 ∷ (name ++ 34 ∷ 125 ∷ [])))) ++ 10 ∷ []
     ≡ ((key ++ 32 ∷ (stamp ++ 32 ∷ front)) ++ 34 ∷ name) ++ 34 ∷ 125 ∷ 10 ∷ []

@@ -8,6 +8,7 @@ use Rattle.warc_core.specs.Kind.{Kind}
 use Rattle.warc_core.specs.Kind.kinds
 use Rattle.capture_core.specs.declared.types.Types.{Types}
 use Rattle.capture_core.specs.Types.{HasType, is_comma, no_types, plus_kind, with_kind, with_name, with_names}
+use Rattle.std.proofs.lemmas.List.Splits.{slice_split_first}
 
 last_of : (o : Option Types) → option_and_then (λ types. with_names types []) o ≡ o
 last_of o = grind arith
@@ -56,3 +57,5 @@ names-have (name ∷ names) types some e = then-has (with_name no_types name) na
     (λ next f. named-has _ no_types next f) (λ next. still-has names next types) e
 
 pub ruleset read_rules = (names-have, length-slice_split)
+
+pub ruleset names_rules = (only_name, slice_split_first)

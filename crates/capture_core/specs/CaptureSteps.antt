@@ -4,7 +4,7 @@ use Rattle.warc_core.specs.declared.fault.Fault.{Fault}
 use Rattle.warc_core.specs.declared.phase.Phase.TheVariants.{Open}
 use Rattle.warc_core.specs.HeadView.{record_length}
 use Rattle.warc_core.specs.Calls.{Fills}
-use Rattle.warc_core.specs.ReaderView.{ReaderView, ReaderState, StandsAt, ahead}
+use Rattle.warc_core.specs.ReaderView.{ReaderView, ReaderState, IfOpen, StandsAt, ahead}
 use Rattle.cdxj_core.specs.Entries.{EntryValue}
 use Rattle.cdxj_core.specs.declared.limit.TheConstants.{LINE_LIMIT}
 use Rattle.capture_core.specs.declared.fault.CaptureFault.{CaptureFault}
@@ -23,9 +23,9 @@ pub record HasFront (indexed : IndexedRecord) (front : List ℕ) (reader : Reade
 
 -- A call filled the front behind its first bytes with the next bytes of an open record's block, or failed by what it
 -- met.
-abbrev pub FillsBehind : List ℕ → ℕ → ℕ → ReaderState → ReaderState → Result (Unit {0}) Fault → List ℕ → Type 0
-FillsBehind first left len old new r front = (piece : List ℕ) × (front ≡ first ++ piece)
-    × Fills left len old new r piece
+abbrev pub FillsBehind : List ℕ → ReaderState → ReaderState → Result (Unit {0}) Fault → List ℕ → Type 0
+FillsBehind first old new r front = (piece : List ℕ) × (front ≡ first ++ piece)
+    × IfOpen old.reader.phase (λ left len. Fills left len old new r piece)
 
 -- A call read the rest of an indexed record, of whose block this much of the front was read, and answered its capture.
 pub record CapturesRest (indexed : IndexedRecord) (front : List ℕ) (old new : ReaderState)

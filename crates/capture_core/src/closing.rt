@@ -1,7 +1,6 @@
 //! The end of a capture: the rest of its record is read, and its line is written.
 ghost use Rattle.std.specs.Prelude.{◌≡◌, ◌<◌, ℕ, length, IfOk, IfSome, option_map};
-ghost use Rattle.warc_core.specs.declared.phase.Phase.TheVariants.{Open};
-ghost use Rattle.warc_core.specs.ReaderView.{state_of};
+ghost use Rattle.warc_core.specs.ReaderView.{IfOpen, state_of};
 ghost use Rattle.capture_core.specs.Capture.{entry_of};
 ghost use Rattle.capture_core.specs.CaptureAnswer.{IsEntryOf, AnswersEntry};
 ghost use Rattle.capture_core.specs.RecordReading.{ReadsRest, IsOpenFor};
@@ -30,10 +29,9 @@ pub(crate) fn capture_closed<I: Input>(
     requires target { 0 < length indexed.url.now }
     requires digested { 0 < length digest.now }
     requires stands { IsOpenFor indexed.head.now reader.old }
-    ensures reads { (left len : ℕ) → reader.old.phase ≡ Open left len →
-        ReadsRest left indexed.entry.head.now
+    ensures reads { IfOpen reader.old.phase (λ left _. ReadsRest left indexed.entry.head.now
         (state_of reader.old (I.remaining input.old) (I.failures input.old))
-        (state_of reader.new (I.remaining input.new) (I.failures input.new)) result }
+        (state_of reader.new (I.remaining input.new) (I.failures input.new)) result) }
     ensures entry { IfOk result (λ captured. IfSome captured
         (IsEntryOf indexed.entry.head.now indexed.entry.name.now LINE_LIMIT)) }
     ensures answers { AnswersEntry LINE_LIMIT

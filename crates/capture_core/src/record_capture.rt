@@ -3,8 +3,7 @@ ghost use Rattle.std.specs.Prelude.{◌≡◌, ℕ, ◌-◌, ◌<◌, ◌≤◌,
 ghost use Rattle.std.specs.Prelude.{OnOk, option_map};
 ghost use Rattle.std.specs.Io.KnownBytes.{prepend_known};
 ghost use Rattle.warc_core.specs.Calls.{GivesBlock};
-ghost use Rattle.warc_core.specs.declared.phase.Phase.TheVariants.{Open};
-ghost use Rattle.warc_core.specs.ReaderView.{HasLeft, IsUnread, state_of};
+ghost use Rattle.warc_core.specs.ReaderView.{HasLeft, IfOpen, IsUnread, state_of};
 ghost use Rattle.capture_core.specs.Indexed.{url_of};
 ghost use Rattle.capture_core.specs.Types.{includes};
 ghost use Rattle.capture_core.specs.ResponseView.{response_view};
@@ -174,10 +173,10 @@ fn read_first<I: Input>(
     first: usize,
 ) -> Result<usize, Fault>
     requires { first ≤ length front.old }
-    ensures { (left len : ℕ) → reader.old.phase ≡ Open left len → GivesBlock left len
+    ensures { IfOpen reader.old.phase (λ left len. GivesBlock left len
         (state_of reader.old (I.remaining input.old) (I.failures input.old))
         (state_of reader.new (I.remaining input.new) (I.failures input.new))
-        result (take first front.new) }
+        result (take first front.new)) }
 {
     reader.block(input, &mut front[..first])
 }
@@ -193,8 +192,7 @@ fn read_behind<I: Input>(
     requires order { filled ≤ goal }
     requires within { goal ≤ length front.old }
     requires left { HasLeft (goal - filled) reader.old.phase }
-    ensures { (left len : ℕ) → reader.old.phase ≡ Open left len →
-        FillsBehind (take filled front.old) left len
+    ensures { FillsBehind (take filled front.old)
         (state_of reader.old (I.remaining input.old) (I.failures input.old))
         (state_of reader.new (I.remaining input.new) (I.failures input.new))
         result (take goal front.new) }

@@ -67,6 +67,7 @@ impl Types {
     }
 
     /// Returns the set with the types of these names added. The names are separated by commas.
+    #[tactic(auto, using(crate::proofs::TypeNames::names_rules))]
     fn with_names(self, names: &str) -> Option<Types>
         ensures { result ≡ with_names self (slice_split is_comma names.now) }
     {

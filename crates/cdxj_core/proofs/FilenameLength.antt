@@ -14,6 +14,7 @@ use Rattle.cdxj_core.specs.Lines.{LineValue, line_object}
 use Rattle.cdxj_core.specs.Members.{Member, line_entry}
 use Rattle.cdxj_core.proofs.MemberLemmas.{entry_valued}
 use Rattle.cdxj_objects.proofs.StringLength.{Each, each_then, UpTo, AreShort, short_tokens}
+use Rattle.cdxj_core.proofs.KeptLemmas.{key_short}
 
 -- ---- the value that the tokens are: a string, or the strings of an object
 
@@ -132,3 +133,5 @@ pub filename_short : (limit : ℕ) (line : List ℕ) (member : Member) → line_
 filename_short limit line member h =
     let its = entry_valued limit line member h in
     grind (arith, filename_in, length-append)
+
+pub ruleset short_rules = (key_short, filename_short)

@@ -79,3 +79,5 @@ entries_stay low high up these members e = grind arith
 pub index_stays : (low high : ℕ) → low ≤ high → (text : List ℕ) (members : List Member) → IsIndex low text members
     → IsIndex high text members
 index_stays low high up text members i = grind (arith, entries_stay low high up (lines text) members i.entries)
+
+pub ruleset index_rules = (index_written, never_falls)

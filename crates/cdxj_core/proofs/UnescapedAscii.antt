@@ -51,3 +51,5 @@ all_parts p n text h = grind (arith, list_all-append p (take n text) (drop n tex
 
 pub unescaped_front : (text : List ℕ) → list_all is_unescaped_ascii (take (prefix_len is_unescaped_ascii text) text) ≡ true
 unescaped_front = front_passes is_unescaped_ascii
+
+pub ruleset ascii_rules = (ascii_utf8, ascii_unescaped)

@@ -43,7 +43,7 @@ fn unescaped_utf8(body: &[u8]) -> Option<&str>
 
 /// Returns a body of ASCII without controls and backslashes as a text.
 #[inline(always)]
-#[tactic(auto, using(crate::proofs::UnescapedAscii::ascii_utf8, crate::proofs::UnescapedAscii::ascii_unescaped))]
+#[tactic(auto, using(crate::proofs::UnescapedAscii::ascii_rules))]
 pub(crate) fn ascii_text(body: &[u8]) -> &str
     requires { list_all is_unescaped_ascii body.now ≡ true }
     ensures value { result.now ≡ body.now }

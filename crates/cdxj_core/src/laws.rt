@@ -45,7 +45,7 @@ pub fn line_begins_with_its_pair()
 
 /// The key of a line is shorter than the line without its line feed, and the file name is no longer
 /// than that.
-#[tactic(auto, using(crate::proofs::KeptLemmas::key_short, crate::proofs::FilenameLength::filename_short))]
+#[tactic(auto, using(crate::proofs::FilenameLength::short_rules))]
 pub fn key_and_file_name_are_no_longer_than_their_line()
     ensures key { (limit : ℕ) → (line : List ℕ) → (member : Member)
         → line_entry limit line ≡ Some member → length member.values.key < length member.line }
@@ -55,7 +55,7 @@ pub fn key_and_file_name_are_no_longer_than_their_line()
 
 /// The lines of good entries are an index with their members, if their pairs never fall, and so
 /// also if their places rise.
-#[tactic(auto, using(crate::proofs::IndexLemmas::index_written, crate::proofs::IndexLemmas::never_falls))]
+#[tactic(auto, using(crate::proofs::IndexLemmas::index_rules))]
 pub fn written_lines_are_an_index()
     ensures pairs { (limit : ℕ) → (entries : List EntryValue)
         → AllByRecursion (HasLine limit) entries

@@ -21,3 +21,5 @@ byte_is_ascii b h = grind arith
 
 pub graphic_utf8 : (text : List ℕ) → list_all is_graphic text ≡ true → IsUtf8 text
 graphic_utf8 text h = grind (arith, IsUtf8-from_ascii, IsAscii-from_all, byte_is_ascii, get_or, AllPass-from_list_all)
+
+pub ruleset graphic_rules = (folded-graphic, graphic_utf8)

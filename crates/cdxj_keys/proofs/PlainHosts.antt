@@ -2,7 +2,7 @@
 use Rattle.std.proofs.Common.{◌≡◌, ℕ, suc, ◌+◌, ◌<◌, ◌==◌, true, false, List, [], ◌∷◌, ◌++◌, Some, None}
 use Rattle.std.proofs.Common.{length, take, drop, get_or, refl, sym, ap, ◌∙◌, arith}
 use Rattle.std.proofs.lemmas.Bool.{eqb-true, false_from_ne_true, ne_eqb}
-use Rattle.std.proofs.lemmas.List.{get_or-drop, length-drop}
+use Rattle.std.proofs.lemmas.List.{get_or-drop, length-drop, take_rest}
 use Rattle.memchr.specs.Find.{IsLastByte, is_byte}
 use Rattle.url.specs.Input.{rsplit_once}
 use Rattle.url.specs.Ipv4.{last_label}
@@ -42,3 +42,5 @@ label_behind host dot found some =
     let free : has_no_dot last =
     grind (arith, no_dot, length-drop, get_or-drop) in
     sym (ap last_label (cut_at host dot found.0.high (eqb-true _ _ found.1)) ∙ behind (take dot host) last free some)
+
+pub ruleset label_rules = (label_behind, lone_label, take_rest)

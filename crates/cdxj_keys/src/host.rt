@@ -31,6 +31,7 @@ fn without_last_dot(domain: &[u8]) -> &[u8]
     }
 }
 
+#[tactic(auto, using(crate::proofs::Labels::www_rules))]
 fn without_www(domain: &[u8]) -> &[u8]
     ensures { slice_split (λ b. b == 46) result.now
         ≡ drop_www (slice_split (λ b. b == 46) domain.now) }
@@ -46,6 +47,7 @@ fn without_www(domain: &[u8]) -> &[u8]
 }
 
 /// Appends the domain's labels, last first, with `,` between them.
+#[tactic(auto, using(crate::proofs::Labels::reversed_rules))]
 fn push_reversed(text: &mut Vec<u8>, domain: &[u8]) -> Result<(), AllocError>
     ensures { IfOk result (λ _. text.new.items
         ≡ text.old.items ++ join_with_byte 44 (reverse (slice_split (λ b. b == 46) domain.now))) }

@@ -51,6 +51,7 @@ fn is_graphic(bytes: &[u8]) -> bool
 }
 
 /// Writes a text without escapes in lower case, in its own memory.
+#[tactic(auto, using(crate::proofs::GraphicLemmas::graphic_rules))]
 fn lowered(text: Vec<u8>) -> String
     requires { list_all is_graphic text.items ≡ true }
     ensures { string_bytes result ≡ folded text.items }

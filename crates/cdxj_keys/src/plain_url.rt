@@ -28,7 +28,7 @@ fn has_domain_bytes(host: &[u8]) -> bool
 }
 
 /// Returns what follows the last dot, or the whole host if there is none.
-#[tactic(auto, using(std::proofs::lemmas::List::take_rest, crate::proofs::PlainHosts::label_behind, crate::proofs::PlainHosts::lone_label))]
+#[tactic(auto, using(crate::proofs::PlainHosts::label_rules))]
 fn last_label(host: &[u8]) -> &[u8]
     ensures { 0 < length result.now → result.now ≡ last_label host.now }
 {
@@ -133,6 +133,7 @@ fn is_plain_query(query: &[u8]) -> bool
 }
 
 /// Returns `true` if the path, and the query that follows it if there is one, are left as they are.
+#[tactic(auto, using(crate::proofs::PlainTails::path_alone))]
 fn is_plain_tail(tail: &[u8]) -> bool
     requires { slice_index tail.now 0 ≡ 47 }
     ensures { result ≡ true → IsPlainTail tail.now }

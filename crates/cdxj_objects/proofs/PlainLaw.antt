@@ -63,12 +63,7 @@ read_plain t h = subst (λ s. read (plain_text s) ≡ Some (data_of t)) (escape_
 
 -- ---- writing
 
--- a text to which pieces were added one after another
-abbrev pub Pushed : List (List ℕ × List ℕ) → List ℕ → List ℕ → Type 0
-Pushed [] old new = new ≡ old
-Pushed ((front, text) ∷ rest) old new = (next : List ℕ) × (next ≡ old ++ (front ++ text)) × Pushed rest next new
-
-pub in_one : (ms more : List (List ℕ × List ℕ)) (old new : List ℕ) → Pushed ms old new → new ++ pieces more
-    ≡ old ++ pieces (ms ++ more)
-in_one [] more old new h = ap (λ s. s ++ pieces more) h
-in_one ((front, text) ∷ rest) more old new h = grind (arith, append_assoc, in_one rest more h.0 new h.2)
+-- a text to which a piece was added, and those that come next
+pub pushed : (piece : List ℕ × List ℕ) (more : List (List ℕ × List ℕ)) (old new : List ℕ)
+    → new ≡ old ++ (piece.0 ++ piece.1) → new ++ pieces more ≡ old ++ pieces (piece ∷ more)
+pushed (front, text) more old new e = grind (arith, append_assoc)

@@ -1,6 +1,6 @@
 -- Where a text is cut at its last space.
-use Rattle.std.proofs.Common.{◌≡◌, ◌≢◌, ℕ, ◌+◌, ◌-◌, ◌<◌, not, List, [], length, drop, Option, Some, None}
-use Rattle.std.proofs.Common.{MatchOption, get_or, Bor, ap, ◌∙◌, arith}
+use Rattle.std.proofs.Common.{◌≡◌, ◌≢◌, ℕ, ◌+◌, ◌-◌, ◌<◌, not, List, [], length, drop, None}
+use Rattle.std.proofs.Common.{get_or, ap, ◌∙◌, arith}
 use Rattle.std.proofs.lemmas.Bool.{ne_eqb, eq-eqb}
 use Rattle.std.proofs.lemmas.List.{get_or-drop}
 use Rattle.std.proofs.lemmas.List.Sums.{suffix_len_is}
@@ -17,19 +17,18 @@ last_at s k within here later =
     let back : k + 1 - 1 ≡ k = omega arith in
     grind (arith, suffix_len_is, eq-eqb)
 
-none_at : (s : List ℕ) → ((i : ℕ) → i < length s → get_or s i 0 ≢ 32) → suffix_len (λ x. not (is_space x)) s ≡ length s
-    - 0
-none_at s none = suffix_len_is (λ x. not (is_space x)) s 0 0 (omega arith)
-    (λ i low high. ap not (ne_eqb (get_or s i 0) 32 (none i high))) (λ h. absurd (omega arith))
-
-pub cuts_at_last : (s : List ℕ) (r : Option (Bor (List ℕ) × Bor (List ℕ))) → MatchOption r (RFindsChar 32 s None)
-    (λ x. SplitsAroundMatch (RFindsChar 32) s x.0.now x.1.now)
-    → MatchOption r (([] ≡ before_last is_space s) × (s ≡ after_last is_space s))
-    (λ x. (x.0.now ≡ before_last is_space s) × (x.1.now ≡ after_last is_space s))
-cuts_at_last s None h =
-    let e = none_at s (λ i. NoCharPasses-char 32 s i h (omega arith)) in
+-- no space is found
+pub cut_nowhere : (s : List ℕ) → RFindsChar 32 s None → ([] ≡ before_last is_space s) × (s ≡ after_last is_space s)
+cut_nowhere s h =
+    let none : (i : ℕ) → i < length s → get_or s i 0 ≢ 32 = λ i within. NoCharPasses-char 32 s i h (omega arith) within in
+    let whole : suffix_len (λ x. not (is_space x)) s ≡ length s - 0 = suffix_len_is (λ x. not (is_space x)) s 0 0
+    (omega arith) (λ i low high. ap not (ne_eqb (get_or s i 0) 32 (none i high))) (λ h. absurd (omega arith)) in
     grind arith
-cuts_at_last s (Some x) h =
+
+-- the text is cut around the space that is found
+pub cut_at_last : (s before after : List ℕ) → SplitsAroundMatch (RFindsChar 32) s before after
+    → (before ≡ before_last is_space s) × (after ≡ after_last is_space s)
+cut_at_last s before after h =
     let i = h.0 in
     let j = h.1 in
     let next : j ≡ i + 1 = h.2.1.ends ∙ ap (λ n. i + n) (len_utf8_ascii 32 (omega arith)) in

@@ -113,8 +113,8 @@ digits_utf8 ds h = IsUtf8-from_ascii ds (IsAscii-from_all ds (digits_ascii ds h)
 small_byte : (b : ℕ) → b < 128 → b < 256
 small_byte b h = omega arith
 
-pub resume_place-resume_text : (p : PlaceValue) → IsPlace p → resume_place (resume_text p) ≡ Some p
-resume_place-resume_text p h =
+pub resume_text_read : (p : PlaceValue) → IsPlace p → resume_place (resume_text p) ≡ Some p
+resume_text_read p h =
     let fits : p.offset < 2 ^ 64 = omega (arith, h.offset) in
     let stamp_digits = (and_parts _ _ h.stamp).1 in
     let decimal_digits = digits_decimal own p.offset fits in

@@ -14,7 +14,7 @@ use crate::order::HasPlace;
 use crate::place::Place;
 
 /// Places are totally ordered, and two places compare as equal only if they are the same.
-#[tactic(auto, using(crate::proofs::PlaceOrder::place_cmp_total, crate::proofs::PlaceOrder::same_place))]
+#[tactic(auto, using(crate::proofs::PlaceOrder::order_rules))]
 pub fn places_are_ordered()
     ensures total { IsTotalOrder place_cmp }
     ensures same { (p q : PlaceValue) → place_cmp p q ≡ Equal → p ≡ q }
@@ -38,6 +38,7 @@ pub fn longer_text_has_the_pair()
 {}
 
 /// The resume key of a place is read as that place.
+#[tactic(auto, using(crate::proofs::PlaceLaw::resume_text_read))]
 pub fn resume_key_is_read()
     ensures { (place : PlaceValue) → IsPlace place → resume_place (resume_text place) ≡ Some place }
 {}
@@ -60,6 +61,7 @@ pub fn place_is_good(place: Place<'_>)
 /// The list that rises by place has exactly the first thing at each place, and is the only rising
 /// list with these members. If some things are below all others, it is the list of those things,
 /// followed by the list of the others.
+#[tactic(auto, using(crate::proofs::PlaceOrder::rising_rules))]
 pub fn rising_list_is_unique<T: HasPlace>()
     ensures members { (thing : T) → (things : List T)
         → IsIn thing (rising T.place_of place_cmp things) ↔ IsFirst T.place_of place_cmp thing

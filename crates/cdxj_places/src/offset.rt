@@ -9,6 +9,7 @@ ghost use Rattle.cdxj_places.specs.Places.{offset_of};
 const MOST_DIGITS: usize = 19;
 
 /// Returns the number that digits spell. If one of the bytes isn't a digit, there is none.
+#[tactic(auto, using(crate::proofs::Offsets::number_rules))]
 fn number_of(text: &[u8]) -> Option<u64>
     requires { length text.now ≤ MOST_DIGITS }
     ensures { result

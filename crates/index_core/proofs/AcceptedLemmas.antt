@@ -1,18 +1,16 @@
 -- Archives that are accepted: their captures are one list, and they are refused for no fault of their own.
-use Rattle.std.proofs.Common.{◌≡◌, ◌∙◌, ℕ, ◌+◌, ◌<◌, Bool, List, [], ◌∷◌, ◌++◌, Some, Ok, length, append_assoc, inl}
-use Rattle.std.proofs.Common.{refl, arith}
-use Rattle.std.specs.List.{AllByRecursion}
-use Rattle.warc_core.specs.Kind.{Kind}
-use Rattle.warc_core.specs.HeadView.{HeadView, record_length}
-use Rattle.warc_core.specs.Walk.{record_at, Walks}
-use Rattle.warc_core.proofs.WalkLemmas.{one_list, walk-extends, not_both, Walks-more}
-use Rattle.cdxj_core.specs.Entries.{EntryValue, line_text}
-use Rattle.capture_core.specs.declared.fault.CaptureFault.{CaptureFault}
-use Rattle.capture_core.specs.CaptureAnswer.{Limits}
-use Rattle.capture_core.specs.Fault.{fault_offset}
+use Rattle.index_core.proofs.Words.{◌≡◌, ◌∙◌, ℕ, ◌+◌, ◌<◌, Bool, List, [], ◌∷◌, ◌++◌, Some, Ok}
+use Rattle.index_core.proofs.Words.{length, append_assoc, inl, refl, arith, AllByRecursion, Kind}
+use Rattle.index_core.proofs.Words.{HeadView, record_length, Walks, walk-extends, not_both}
+use Rattle.index_core.proofs.Words.{Walks-more, EntryValue, CaptureFault, Limits, fault_offset}
+use Rattle.index_core.proofs.Words.{AreCaptured, IsCaptureAt, IsTaken, IsAcceptedTo}
+use Rattle.warc_core.specs.Walk.{record_at}
+use Rattle.warc_core.proofs.WalkLemmas.{one_list}
+use Rattle.cdxj_core.specs.Entries.{line_text}
 use Rattle.capture_core.proofs.Captures.{one_capture}
-use Rattle.index_core.specs.Accepted.{AreCaptured, IsCaptureAt, IsTaken, IsAcceptedTo, IsAcceptedWhole}
-use Rattle.index_core.specs.Laws.{AcceptedIsWhole, IsNoFaultOfArchive, OneIndexed, OneIndexedTo, WholeIsNotRefused}
+use Rattle.index_core.specs.Accepted.{IsAcceptedWhole}
+use Rattle.index_core.specs.Laws.{AcceptedIsWhole, IsNoFaultOfArchive, OneIndexed, OneIndexedTo}
+use Rattle.index_core.specs.Laws.{WholeIsNotRefused}
 use Rattle.index_core.proofs.ArchiveWalks.{from_start, same_heads}
 
 -- what holds of each holds of each behind the first of them

@@ -1,24 +1,17 @@
 -- The captures that are added, one record further, at the end, and at a fault.
-use Rattle.std.proofs.Common.{arith, ◌≡◌, ◌∙◌, ℕ, ◌+◌, Bool, List, [], ◌∷◌, ◌++◌, Option, None, Some, Ok}
-use Rattle.std.proofs.Common.{Err, IfSome, option_to_list, length, drop, ap, append_assoc}
+use Rattle.index_core.proofs.Words.{arith, ◌≡◌, ◌∙◌, ℕ, ◌+◌, Bool, List, [], ◌∷◌, ◌++◌, Option}
+use Rattle.index_core.proofs.Words.{None, Some, Ok, Err, IfSome, option_to_list, length, drop, ap}
+use Rattle.index_core.proofs.Words.{append_assoc, drop-append_seam, Kind, HeadView, record_length}
+use Rattle.index_core.proofs.Words.{Reads, after_record, Walks, next-spelled, Walks-more}
+use Rattle.index_core.proofs.Words.{record-unclosed, record-whole, EntryValue, CaptureFault, Limits}
+use Rattle.index_core.proofs.Words.{IsCaptureAt, AreCaptured, IsAcceptedTo, fault_offset}
 use Rattle.std.specs.Bool.{⊤}
-use Rattle.std.proofs.Math.Seq.{drop-append_seam}
-use Rattle.warc_core.specs.Kind.{Kind}
-use Rattle.warc_core.specs.HeadView.{HeadView, record_length}
 use Rattle.warc_core.specs.Next.{next_at}
-use Rattle.warc_core.specs.Reading.{Reads}
 use Rattle.warc_core.specs.ReaderView.{ReaderView}
-use Rattle.warc_core.specs.Record.{after_record}
-use Rattle.warc_core.specs.Walk.{Walks}
-use Rattle.warc_core.proofs.ArchiveLemmas.{next-spelled}
-use Rattle.warc_core.proofs.WalkLemmas.{Walks-more, record-unclosed, record-whole}
-use Rattle.cdxj_core.specs.Entries.{EntryValue}
-use Rattle.capture_core.specs.declared.fault.CaptureFault.{CaptureFault}
 use Rattle.capture_core.specs.Indexed.{url_of}
-use Rattle.capture_core.specs.CaptureAnswer.{Limits, Captures}
+use Rattle.capture_core.specs.CaptureAnswer.{Captures}
 use Rattle.capture_core.specs.RecordReading.{reading_of}
-use Rattle.index_core.specs.Accepted.{IsCaptureAt, IsCaptured, AreCaptured, IsAcceptedTo, MayBeRefused}
-use Rattle.capture_core.specs.Fault.{fault_offset}
+use Rattle.index_core.specs.Accepted.{IsCaptured, MayBeRefused}
 use Rattle.index_core.specs.Captures.{TakesRecord}
 use Rattle.index_core.proofs.ArchiveWalks.{from_start, record_rules}
 

@@ -1,12 +1,11 @@
 -- Walks over the records of an archive.
-use Rattle.std.proofs.lemmas.Result.{err_from_is_err_and}
-use Rattle.std.proofs.Common.{◌≡◌, ◌∙◌, ℕ, List, [], ◌∷◌, Some, Ok, length, drop, ap, refl, append-nil, arith}
-use Rattle.std.proofs.Math.Seq.{drop-append_seam}
-use Rattle.warc_core.specs.HeadView.{HeadView}
-use Rattle.warc_core.specs.Walk.{record_at, Walks}
+use Rattle.index_core.proofs.Words.{err_from_is_err_and, ◌≡◌, ◌∙◌, ℕ, List, [], ◌∷◌, Some, Ok}
+use Rattle.index_core.proofs.Words.{length, drop, ap, refl, append-nil, arith, drop-append_seam}
+use Rattle.index_core.proofs.Words.{HeadView, Walks, read-spelled, two-walks, record-stopped}
+use Rattle.index_core.proofs.Words.{record-unclosed, record-whole}
+use Rattle.warc_core.specs.Walk.{record_at}
 use Rattle.warc_core.proofs.ArchiveLemmas.{walk-front}
-use Rattle.warc_core.proofs.SpelledLemmas.{read-spelled}
-use Rattle.warc_core.proofs.WalkLemmas.{two-walks, record-stopped, record-end, record-unclosed, record-whole}
+use Rattle.warc_core.proofs.WalkLemmas.{record-end}
 
 -- a walk that ends where it began is over no records
 pub walk_nowhere : (limit o : ℕ) (more : List HeadView) (r t : List ℕ) → Walks limit o r more o t → more ≡ []

@@ -1,17 +1,13 @@
 -- The record of a length at an offset.
-use Rattle.std.proofs.Common.{◌≡◌, ◌≢◌, ℕ, List, [], ◌++◌, Option, None, Some, Result, Ok, Err, IfSome, arith, refl}
-use Rattle.std.proofs.Common.{inr}
-use Rattle.warc_core.specs.HeadView.{HeadView, record_length}
-use Rattle.warc_core.specs.Next.{next_at}
-use Rattle.warc_core.specs.Reading.{Reads}
-use Rattle.warc_core.proofs.WalkLemmas.{record-whole}
-use Rattle.capture_core.specs.declared.fault.CaptureFault.TheVariants.{Archive}
-use Rattle.devices.proofs.DeviceLemmas.{Appends-none}
-use Rattle.index_core.specs.declared.fault.IndexFault.{IndexFault}
+use Rattle.index_core.proofs.Words.{◌≡◌, ℕ, List, [], ◌++◌, Option, None, Some, Result, Ok}
+use Rattle.index_core.proofs.Words.{IfSome, arith, refl, HeadView, record_length, Reads}
+use Rattle.index_core.proofs.Words.{record-whole, Appends-none, IndexFault, CopiesNextOf, Err, inr, Archive}
 use Rattle.index_core.specs.declared.fault.IndexFault.TheVariants as faults
+use Rattle.std.proofs.Common.{◌≢◌}
+use Rattle.warc_core.specs.Next.{next_at}
 use Rattle.index_core.specs.Copying.{WroteFront}
-use Rattle.index_core.specs.FetchingAt.{CopiesNextOf, CopiesRecordOf, PassesRecord}
-use Rattle.index_core.proofs.FetchLemmas.{next_copied, record_head}
+use Rattle.index_core.specs.FetchingAt.{CopiesRecordOf, PassesRecord}
+use Rattle.index_core.proofs.FetchLemmas.{next_copied, next_rules, record_head}
 
 in_front : (known : Option (List ℕ)) → IfSome known (λ bytes. (more : List ℕ) × (bytes ≡ [] ++ more))
 in_front None = tt
@@ -24,10 +20,7 @@ nothing n known w = record { front = []; most = grind arith; begins = in_front k
 pub passed_of : (h : HeadView) (len : ℕ) (r : Result ℕ IndexFault) (before after w : Option (List ℕ))
     → record_length h ≢ len → PassesRecord h.parts.block_length h.start r before after
     → CopiesRecordOf h len r before after w w
-passed_of h len (Err faults.NoRecord) before after w e p = record { other = e; whole = p }
-passed_of h len (Err (faults.Capture (Archive f))) before after w e p =
-    record { wrote = nothing (record_length h) _ w; ends = p }
-passed_of h len r before after w e p = grind arith
+passed_of h len r before after w e p = grind (arith, nothing)
 
 module _ (limit : ℕ) where
   pub next_copied_of : (o : ℕ) (h : HeadView) (len : ℕ) (r : Result ℕ IndexFault)
@@ -42,3 +35,5 @@ module _ (limit : ℕ) where
   next_copied_of o h len (Err faults.Write) before mid after w u n e c =
       next_copied limit o h (Err faults.Write) before mid after w u n e c.1
   next_copied_of o h len r before mid after w u n e c = grind arith
+
+pub ruleset next_of_rules = (next_rules, next_copied_of)

@@ -1,27 +1,21 @@
 -- The walk to an offset, and what was copied there.
-use Rattle.std.proofs.lemmas.Result.{err_from_is_err_and}
-use Rattle.std.proofs.Common.{◌≡◌, ◌∙◌, ℕ, ◌+◌, ◌-◌, ◌≤◌, List, [], ◌∷◌, ◌++◌, ◌⊎◌, inr, Option, None, Some}
-use Rattle.std.proofs.Common.{Result, Ok, Err, IfSome, length, take, refl, subst, arith}
-use Rattle.std.specs.Io.KnownBytes.{Appends}
-use Rattle.warc_core.specs.declared.fault.Cause.{Cause}
-use Rattle.warc_core.specs.declared.fault.Fault.{Fault}
-use Rattle.devices.specs.Device.{AppendsPrefix}
-use Rattle.warc_core.specs.HeadView.{HeadView, record_length}
+use Rattle.index_core.proofs.Words.{err_from_is_err_and, ◌≡◌, ◌∙◌, ℕ, ◌+◌, ◌-◌, ◌≤◌, List, [], ◌∷◌}
+use Rattle.index_core.proofs.Words.{◌++◌, ◌⊎◌, inr, Option, None, Some, Result, Ok, Err, IfSome}
+use Rattle.index_core.proofs.Words.{length, take, refl, subst, arith, Appends, Cause, Fault}
+use Rattle.index_core.proofs.Words.{AppendsPrefix, HeadView, record_length, Reads, Walks}
+use Rattle.index_core.proofs.Words.{next-spelled, Walks-more, none_at_end, record-stopped}
+use Rattle.index_core.proofs.Words.{record-unclosed, record-whole, Archive, IndexFault, IsInRecord}
+use Rattle.index_core.proofs.Words.{Fetches}
 use Rattle.warc_core.specs.Next.{next_at}
-use Rattle.warc_core.specs.Reading.{Reads}
-use Rattle.warc_core.specs.Walk.{record_at, Walks}
-use Rattle.warc_core.proofs.ArchiveLemmas.{next-spelled}
+use Rattle.warc_core.specs.Walk.{record_at}
 use Rattle.warc_core.proofs.ReadingLemmas.{front_of}
-use Rattle.warc_core.proofs.WalkLemmas.{Walks-more, none_at_end, record-stopped, record-end, record-unclosed}
-use Rattle.warc_core.proofs.WalkLemmas.{record-whole}
-use Rattle.capture_core.specs.declared.fault.CaptureFault.TheVariants.{Archive}
+use Rattle.warc_core.proofs.WalkLemmas.{record-end}
 use Rattle.warc_core.proofs.DigestLemmas.{take_past}
-use Rattle.index_core.specs.declared.fault.IndexFault.{IndexFault}
-use Rattle.index_core.specs.declared.fault.IndexFault.TheVariants as faults
-use Rattle.index_core.specs.Fetching.{IsInRecord, IsBehindRecords, most_written, most_written_at, Fetches}
+use Rattle.index_core.specs.Fetching.{IsBehindRecords, most_written, most_written_at}
 use Rattle.index_core.specs.Copying.{CopiesRecord, CopiesNext, WalkedTo}
 use Rattle.devices.proofs.WritingLemmas.{wrote_nothing}
 use Rattle.index_core.proofs.ArchiveWalks.{from_offset}
+use Rattle.index_core.specs.declared.fault.IndexFault.TheVariants as faults
 
 -- ---- the walk
 
@@ -99,3 +93,5 @@ module _ (limit : ℕ) where
 pub ruleset next_rules = (err_from_is_err_and, next_none, next_stopped)
 
 pub ruleset fetch_rules = (err_from_is_err_and, fetched, wrote_nothing)
+
+pub ruleset walk_rules = (WalkedTo-more, ends_before)

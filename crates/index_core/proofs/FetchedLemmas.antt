@@ -1,18 +1,13 @@
 -- A capture's record stands at its offset.
-use Rattle.std.proofs.Common.{arith, ◌≡◌, ℕ, ◌+◌, List, [], ◌∷◌, ◌++◌, Bool, Option, Some, Ok, drop, refl}
-use Rattle.std.proofs.Common.{◌⊎◌, inl, inr, option_to_list}
+use Rattle.index_core.proofs.Words.{arith, ◌≡◌, ℕ, ◌+◌, List, [], ◌∷◌, ◌++◌, Bool, Option, Some, Ok}
+use Rattle.index_core.proofs.Words.{drop, refl, ◌⊎◌, inl, inr, option_to_list, EntryValue, Limits}
+use Rattle.index_core.proofs.Words.{HeadView, record_length, Kind, Walks, read-spelled, Walks-more}
+use Rattle.index_core.proofs.Words.{IsCaptureAt, AreCaptured, IsRecordOf}
 use Rattle.cdxj_places.specs.Rising.{IsIn}
-use Rattle.cdxj_core.specs.Entries.{EntryValue}
 use Rattle.capture_core.specs.Capture.{IsCaptureUnder}
-use Rattle.capture_core.specs.CaptureAnswer.{Limits}
 use Rattle.capture_core.specs.Indexed.{url_of}
-use Rattle.warc_core.specs.HeadView.{HeadView, record_length, block_at}
-use Rattle.warc_core.specs.Kind.{Kind}
-use Rattle.warc_core.specs.Walk.{record_at, Walks}
-use Rattle.warc_core.proofs.SpelledLemmas.{read-spelled}
-use Rattle.warc_core.proofs.WalkLemmas.{Walks-more}
-use Rattle.index_core.specs.Accepted.{IsCaptureAt, AreCaptured}
-use Rattle.index_core.specs.Fetching.{IsRecordOf}
+use Rattle.warc_core.specs.HeadView.{block_at}
+use Rattle.warc_core.specs.Walk.{record_at}
 use Rattle.index_core.specs.Laws.{IsIndexed}
 
 joined_in : {X : Type 0} (x : X) (us vs : List X) → IsIn x (us ++ vs) → IsIn x us ⊎ IsIn x vs

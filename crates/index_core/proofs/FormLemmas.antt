@@ -1,24 +1,19 @@
 -- Both forms of `get` do the same where whole records fill the archive up to the offset.
-use Rattle.std.proofs.Common.{◌≡◌, ◌∙◌, ℕ, ◌+◌, ◌-◌, ◌^◌, ◌≤◌, List, [], ◌∷◌, inl, inr, Option, None, Some}
-use Rattle.std.proofs.Common.{Result, Ok, Err, length, take, drop, refl, sym, ap, length-append, arith}
-use Rattle.warc_core.specs.declared.fault.Cause.{Cause}
-use Rattle.warc_core.specs.declared.fault.Fault.{Fault}
-use Rattle.warc_core.specs.HeadView.{HeadView, record_length}
+use Rattle.index_core.proofs.Words.{◌≡◌, ◌∙◌, ℕ, ◌+◌, ◌-◌, ◌^◌, ◌≤◌, List, [], ◌∷◌, inl, inr}
+use Rattle.index_core.proofs.Words.{Option, None, Some, Result, Ok, Err, length, take, drop, refl}
+use Rattle.index_core.proofs.Words.{sym, ap, length-append, arith, Cause, Fault, HeadView}
+use Rattle.index_core.proofs.Words.{record_length, Walks, read-spelled, none_at_end, Archive}
+use Rattle.index_core.proofs.Words.{IndexFault, IsRecordOf, StandsIn, Fetches, CopiesNextOf}
 use Rattle.warc_core.specs.Reading.{IsPossibleCause}
-use Rattle.warc_core.specs.Walk.{record_at, Walks}
+use Rattle.warc_core.specs.Walk.{record_at}
 use Rattle.warc_core.proofs.ReadingLemmas.{answered, front_of}
-use Rattle.warc_core.proofs.SpelledLemmas.{read-spelled}
-use Rattle.warc_core.proofs.WalkLemmas.{none_at_end}
-use Rattle.capture_core.specs.declared.fault.CaptureFault.TheVariants.{Archive}
-use Rattle.index_core.specs.declared.fault.IndexFault.{IndexFault}
-use Rattle.index_core.specs.declared.fault.IndexFault.TheVariants as faults
-use Rattle.index_core.specs.Fetching.{AreRecordsTo, IsRecordOf, IsTextAt, StandsIn, StopsAt, most_written_at, Fetches}
-use Rattle.index_core.specs.FetchingAt.{CopiesNextOf}
-use Rattle.index_core.specs.FetchingLaws.{IsReached, IsFromOffset, LengthAgrees, OffsetAgrees, WroteRecord}
-use Rattle.index_core.specs.FetchingLaws.{CapturesAreFetched}
+use Rattle.index_core.specs.Fetching.{AreRecordsTo, IsTextAt, StopsAt, most_written_at}
+use Rattle.index_core.specs.FetchingLaws.{IsReached, IsFromOffset, LengthAgrees, OffsetAgrees}
+use Rattle.index_core.specs.FetchingLaws.{WroteRecord, CapturesAreFetched}
 use Rattle.index_core.proofs.ArchiveWalks.{from_offset}
 use Rattle.index_core.proofs.FetchedLemmas.{fetched}
 use Rattle.index_core.proofs.OffsetLemmas.{one_stands}
+use Rattle.index_core.specs.declared.fault.IndexFault.TheVariants as faults
 
 -- a walk ends by the greatest offset
 walk_within : (limit start : ℕ) (bytes : List ℕ) (heads : List HeadView) (end : ℕ) (rest : List ℕ)

@@ -1,20 +1,21 @@
 -- The lines of an index, and captures that have their own places.
-use Rattle.std.proofs.Common.{arith, ◌≡◌, ◌∙◌, ℕ, suc, ◌+◌, ◌<◌, List, [], ◌∷◌, ◌++◌, length, map, take, drop, Option}
-use Rattle.std.proofs.Common.{get_or, refl, sym, ap}
-use Rattle.std.specs.List.{AllByRecursion, filter_map}
+use Rattle.index_core.proofs.Words.{arith, ◌≡◌, ◌∙◌, ℕ, ◌+◌, ◌<◌, List, [], ◌∷◌, ◌++◌, length, map}
+use Rattle.index_core.proofs.Words.{take, drop, Option, refl, sym, ap, AllByRecursion, filter_map}
+use Rattle.index_core.proofs.Words.{EntryValue, entries_text}
+use Rattle.std.proofs.Common.{suc, get_or}
 use Rattle.std.specs.declared.cmp.Ordering.TheVariants.{Equal}
 use Rattle.std.proofs.lemmas.List.{take-append-drop, at_drop_more, take_more}
 use Rattle.std.proofs.lemmas.List.Concat.{flat_map-append}
 use Rattle.std.proofs.lemmas.List.Elements.{filter_map-append}
-use Rattle.cdxj_core.specs.Entries.{EntryValue, HasLine, entry_place}
+use Rattle.cdxj_core.specs.Entries.{HasLine, entry_place}
 use Rattle.cdxj_core.specs.Indexes.{IsIndex}
 use Rattle.cdxj_core.specs.Members.{entry_member}
 use Rattle.cdxj_core.proofs.IndexLemmas.{index_written, never_falls}
 use Rattle.cdxj_places.proofs.PlaceOrder.{place_cmp_total}
-use Rattle.cdxj_places.proofs.RisingLaws.{rises_rising}
+use Rattle.cdxj_places.proofs.RisingLaws.{each_rising, rises_rising}
 use Rattle.cdxj_places.specs.Places.{place_cmp}
 use Rattle.cdxj_places.specs.Rising.{put}
-use Rattle.index_core.specs.Indexing.{entries_text, index_text, in_places, HaveOwnPlaces}
+use Rattle.index_core.specs.Indexing.{index_text, in_places, HaveOwnPlaces}
 
 -- ---- lines
 
@@ -41,17 +42,6 @@ module _ {A : Type 0} (found : A → Option EntryValue) where
 
 -- ---- places
 
-each_put : (A : EntryValue → Type 0) (e : EntryValue) (es : List EntryValue) → A e → AllByRecursion A es
-    → AllByRecursion A (put entry_place place_cmp e es)
-each_put A e [] a h = (a, tt)
-each_put A e (f ∷ es) a h = grind (arith, each_put A e es a h.1)
-
--- what holds of each holds of each in the order of places
-pub each_in_places : (A : EntryValue → Type 0) (es : List EntryValue) → AllByRecursion A es
-    → AllByRecursion A (in_places es)
-each_in_places A [] h = tt
-each_in_places A (e ∷ es) h = each_put A e (in_places es) h.0 (each_in_places A es h.1)
-
 one_more : (e : EntryValue) (es : List EntryValue)
     → AllByRecursion (λ other. place_cmp (entry_place e) (entry_place other) ≡ Equal → ⊥) es
     → length (put entry_place place_cmp e es) ≡ suc (length es)
@@ -61,11 +51,11 @@ one_more e (f ∷ es) h = grind (arith, one_more e es h.1)
 -- none is lost where each has its own place
 pub all_in_places : (es : List EntryValue) → HaveOwnPlaces es → length (in_places es) ≡ length es
 all_in_places [] h = refl
-all_in_places (e ∷ es) h = grind (arith, one_more, each_in_places, all_in_places es h.1)
+all_in_places (e ∷ es) h = grind (arith, one_more, each_rising, place_cmp_total, all_in_places es h.1)
 
 -- the lines of captures that can be written are an index, in the order of places
 pub index_in_places : (limit : ℕ) (es : List EntryValue) → AllByRecursion (HasLine limit) es
     → IsIndex limit (index_text es) (map entry_member (in_places es))
-index_in_places limit es h = grind (arith, index_written, each_in_places, never_falls, rises_rising, place_cmp_total)
+index_in_places limit es h = grind (arith, index_written, each_rising, never_falls, rises_rising, place_cmp_total)
 
 pub ruleset index_rules = (index_in_places, all_in_places)

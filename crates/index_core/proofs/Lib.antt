@@ -1,3 +1,4 @@
+pub mod Words
 mod ArchiveWalks
 pub mod ReportLemmas
 pub mod ListingLemmas

@@ -1,12 +1,7 @@
 -- Archives under higher limits of lines and heads.
-use Rattle.std.proofs.Common.{ℕ, ◌≤◌, Bool, List, [], ◌∷◌, arith}
-use Rattle.std.specs.List.{AllByRecursion}
-use Rattle.warc_core.specs.Kind.{Kind}
-use Rattle.warc_core.specs.HeadView.{HeadView}
+use Rattle.index_core.proofs.Words.{ℕ, ◌≤◌, Bool, List, [], ◌∷◌, arith, AllByRecursion, Kind}
+use Rattle.index_core.proofs.Words.{HeadView, EntryValue, Limits, IsTaken, AreCaptured}
 use Rattle.warc_core.proofs.LimitLemmas.{records_stay}
-use Rattle.cdxj_core.specs.Entries.{EntryValue}
-use Rattle.capture_core.specs.CaptureAnswer.{Limits}
-use Rattle.index_core.specs.Accepted.{IsTaken, AreCaptured}
 use Rattle.index_core.specs.Laws.{WholeStays, CapturesStay}
 
 module _ (types : Kind → Bool) (limits : Limits) (line low high : ℕ) (longer : limits.line ≤ line)
@@ -38,3 +33,5 @@ captures_stay types limits line low high longer up name archive captures a = rec
   whole = grind (arith, records_stay);
   captured = are_captured types limits line low high longer name archive a.heads captures a.captured;
 }
+
+pub ruleset limit_rules = (whole_stays, captures_stay)

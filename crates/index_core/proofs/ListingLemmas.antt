@@ -1,6 +1,6 @@
 -- What a listing says of a record, and what it counts.
-use Rattle.std.proofs.Common.{ℕ, ◌+◌, List, [], ◌∷◌, Option, length, length-append, arith}
-use Rattle.warc_core.specs.HeadView.{HeadView}
+use Rattle.index_core.proofs.Words.{ℕ, ◌+◌, List, [], ◌∷◌, Option, length, length-append, arith}
+use Rattle.index_core.proofs.Words.{HeadView}
 use Rattle.index_core.specs.Listing.{record_line, listing_line, record_count}
 use Rattle.index_core.proofs.ReportLemmas.{Form, CountsOn}
 

@@ -1,10 +1,10 @@
 -- The names of archives, as the keys of a set.
-use Rattle.std.proofs.Common.{arith, ◌≡◌, ℕ, false, List, [], ◌∷◌, ◌++◌, if◌then◌else◌, map, refl}
+use Rattle.index_core.proofs.Words.{arith, ◌≡◌, ℕ, List, [], ◌∷◌, ◌++◌, map, refl, is_among}
+use Rattle.std.proofs.Common.{false, if◌then◌else◌}
 use Rattle.std.specs.List.{list_any}
 use Rattle.std.specs.Str.{bytes_eq}
 use Rattle.std.proofs.lemmas.Bool.{cond-false}
 use Rattle.std.proofs.lemmas.List.{map-append}
-use Rattle.index_core.specs.Indexing.{is_among}
 
 module _ {K : Type 0} (text : K → List ℕ) where
   -- a name is among the texts of the keys that are compared with it

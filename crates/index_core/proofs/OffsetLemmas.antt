@@ -1,21 +1,20 @@
 -- One thing stands at an offset of an archive.
-use Rattle.std.proofs.Common.{◌≡◌, ℕ, ◌+◌, ◌<◌, ◌≤◌, nat_lt, List, [], ◌∷◌, ◌++◌, ◌⊎◌, inl, inr, Some, Result, Ok, Err}
-use Rattle.std.proofs.Common.{take, drop, ap, refl, arith}
+use Rattle.index_core.proofs.Words.{◌≡◌, ℕ, ◌+◌, ◌<◌, ◌≤◌, List, [], ◌∷◌, ◌++◌, ◌⊎◌, inl, inr, Some}
+use Rattle.index_core.proofs.Words.{Result, Ok, Err, take, drop, refl, arith, Cause, Fault}
+use Rattle.index_core.proofs.Words.{HeadView, record_length, Walks, not_both, two-walks}
+use Rattle.index_core.proofs.Words.{walk-extends, Walks-more, Archive, IndexFault, IsRecordOf}
+use Rattle.index_core.proofs.Words.{IsInRecord, StandsIn, ap}
+use Rattle.std.proofs.Common.{nat_lt}
 use Rattle.std.proofs.lemmas.Bool.Decides.{nat_tests}
-use Rattle.warc_core.specs.declared.fault.Cause.{Cause}
-use Rattle.warc_core.specs.declared.fault.Fault.{Fault}
-use Rattle.warc_core.specs.HeadView.{HeadView, record_length}
-use Rattle.warc_core.specs.Walk.{record_at, Walks}
+use Rattle.warc_core.specs.Walk.{record_at}
 use Rattle.warc_core.proofs.ArchiveLemmas.{walk-front}
 use Rattle.warc_core.proofs.HeadLemmas.{which}
 use Rattle.warc_core.proofs.SpelledLemmas.{total}
-use Rattle.warc_core.proofs.WalkLemmas.{not_both, one_fault, two-walks, walk-extends, Walks-more}
-use Rattle.capture_core.specs.declared.fault.CaptureFault.TheVariants.{Archive}
-use Rattle.index_core.specs.declared.fault.IndexFault.{IndexFault}
-use Rattle.index_core.specs.declared.fault.IndexFault.TheVariants as faults
-use Rattle.index_core.specs.Fetching.{IsRecordOf, IsTextAt, IsInRecord, IsBehindRecords, IsDamagedBy, StandsIn}
+use Rattle.warc_core.proofs.WalkLemmas.{one_fault}
+use Rattle.index_core.specs.Fetching.{IsTextAt, IsBehindRecords, IsDamagedBy}
 use Rattle.index_core.specs.Laws.{OneStands, SomeStands}
 use Rattle.index_core.proofs.ArchiveWalks.{from_offset}
+use Rattle.index_core.specs.declared.fault.IndexFault.TheVariants as faults
 
 module _ (limit : ℕ) where
   -- a walk on from a record's beginning ends behind the record, or there
@@ -128,3 +127,5 @@ some_stands limit offset archive =
         )
       ])
     ]
+
+pub ruleset one_thing_rules = (one_stands, some_stands)

@@ -1,28 +1,22 @@
 -- An archive adds one list of captures, with one result, and their index is one text.
-use Rattle.std.proofs.Common.{◌≡◌, ℕ, Bool, List, [], ◌∷◌, ◌++◌, Some, Result, Ok, Err, append_assoc, append-nil}
-use Rattle.std.proofs.Common.{inl, inr, refl, arith}
-use Rattle.std.specs.List.{AllByRecursion}
-use Rattle.warc_core.specs.HeadView.{HeadView}
-use Rattle.warc_core.specs.Kind.{Kind}
-use Rattle.warc_core.specs.Walk.{Walks}
-use Rattle.warc_core.proofs.WalkLemmas.{GoesOnFrom, two-walks, walk-extends}
-use Rattle.cdxj_core.specs.Entries.{EntryValue}
-use Rattle.capture_core.specs.declared.fault.CaptureFault.{CaptureFault}
-use Rattle.capture_core.specs.declared.fault.CaptureFault.TheVariants.{Archive, LineTooLong, KeyTooLong}
-use Rattle.capture_core.specs.CaptureAnswer.{Limits}
-use Rattle.capture_core.specs.Fault.{fault_offset}
+use Rattle.index_core.proofs.Words.{◌≡◌, ℕ, Bool, List, [], ◌∷◌, ◌++◌, Some, Result, Ok, Err}
+use Rattle.index_core.proofs.Words.{append_assoc, append-nil, inl, inr, refl, arith, AllByRecursion}
+use Rattle.index_core.proofs.Words.{HeadView, Kind, Walks, two-walks, walk-extends, EntryValue}
+use Rattle.index_core.proofs.Words.{CaptureFault, Archive, Limits, fault_offset, IndexFault}
+use Rattle.index_core.proofs.Words.{AreCaptured, IsTaken, IsAcceptedTo, IsFailure, IsOfArchive}
+use Rattle.warc_core.proofs.WalkLemmas.{GoesOnFrom}
+use Rattle.capture_core.specs.declared.fault.CaptureFault.TheVariants.{LineTooLong, KeyTooLong}
 use Rattle.capture_core.proofs.Captures.{one_capture}
-use Rattle.index_core.specs.declared.fault.IndexFault.{IndexFault}
-use Rattle.index_core.specs.declared.fault.IndexFault.TheVariants as faults
-use Rattle.index_core.specs.Accepted.{AreCaptured, IsTaken, IsAcceptedTo}
 use Rattle.index_core.specs.Adding.{Adds}
 use Rattle.index_core.specs.Indexing.{Held}
 use Rattle.index_core.specs.Laws.{IsNoFaultOfArchive}
-use Rattle.index_core.specs.OneText.{IsFailure, IsOfArchive, HasFirst, AddsOneList, AddsFirst, WritesOneIndex}
+use Rattle.index_core.specs.OneText.{HasFirst, AddsOneList, AddsFirst, WritesOneIndex}
 use Rattle.index_core.specs.OneText.{WritesIndexFront}
-use Rattle.index_core.proofs.AcceptedLemmas.{accepted_is_whole, all_taken, each_behind, no_long_line, one_indexed}
-use Rattle.index_core.proofs.AcceptedLemmas.{one_indexed_to, whole_is_not_refused}
+use Rattle.index_core.proofs.AcceptedLemmas.{accepted_is_whole, all_taken, each_behind}
+use Rattle.index_core.proofs.AcceptedLemmas.{no_long_line, one_indexed, one_indexed_to}
+use Rattle.index_core.proofs.AcceptedLemmas.{whole_is_not_refused}
 use Rattle.index_core.proofs.OneTextLemmas.{grown, has_front, damage}
+use Rattle.index_core.specs.declared.fault.IndexFault.TheVariants as faults
 
 module _ (types : Kind → Bool) (limits : Limits) (limit : ℕ) (name archive : List ℕ) where
   -- where an archive is refused, no walk over records that are taken goes on

@@ -1,19 +1,18 @@
 -- An archive decides which record is at an offset, and what is written of it.
-use Rattle.std.proofs.Common.{◌≡◌, ℕ, List, [], ◌++◌, ◌⊎◌, inl, inr, Option, Some, Result, Ok}
-use Rattle.std.proofs.Common.{Err, IfOk, length, drop, refl, ap, arith}
+use Rattle.index_core.proofs.Words.{◌≡◌, ℕ, List, [], ◌++◌, ◌⊎◌, inl, inr, Option, Some, Result, Ok}
+use Rattle.index_core.proofs.Words.{Err, length, drop, refl, ap, arith, Archive, IndexFault}
+use Rattle.index_core.proofs.Words.{StandsIn, Fetches, CopiesNextOf, IsFailure, IsOfArchive}
+use Rattle.std.proofs.Common.{IfOk}
 use Rattle.warc_core.specs.Next.{next_at}
 use Rattle.warc_core.specs.Walk.{record_at}
-use Rattle.capture_core.specs.declared.fault.CaptureFault.TheVariants.{Archive}
-use Rattle.index_core.specs.declared.fault.IndexFault.{IndexFault}
-use Rattle.index_core.specs.declared.fault.IndexFault.TheVariants as faults
-use Rattle.index_core.specs.Fetching.{StandsIn, Fetches}
-use Rattle.index_core.specs.FetchingAt.{BeginsRecord, BeginsOther, CopiesNextOf}
+use Rattle.index_core.specs.FetchingAt.{BeginsRecord, BeginsOther}
 use Rattle.index_core.specs.FetchingLaws.{WroteRecord}
-use Rattle.index_core.specs.OneText.{IsFailure, IsOfArchive, HasFront, IsUnwritten, IsNotDamagedAt, FetchesOneText}
+use Rattle.index_core.specs.OneText.{HasFront, IsUnwritten, IsNotDamagedAt, FetchesOneText}
 use Rattle.index_core.specs.OneText.{FetchesFront, FetchesAtOneText, FetchesAtFront}
 use Rattle.index_core.proofs.FormLemmas.{wrote}
 use Rattle.index_core.proofs.OffsetLemmas.{one_stands}
 use Rattle.index_core.proofs.OneTextLemmas.{grown, has_front, damage}
+use Rattle.index_core.specs.declared.fault.IndexFault.TheVariants as faults
 
 -- how long what stands at an offset is
 abbrev length_of : Result (List ℕ) IndexFault → Result ℕ IndexFault

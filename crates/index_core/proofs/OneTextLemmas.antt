@@ -1,21 +1,17 @@
 -- An archive decides what a report on it answers and writes.
-use Rattle.std.proofs.Common.{◌≡◌, ◌∙◌, ℕ, List, [], ◌++◌, ◌⊎◌, inl, inr, Option, Some, Result, Ok}
-use Rattle.std.proofs.Common.{Err, refl, ap, arith}
-use Rattle.std.specs.Io.KnownBytes.{Appends}
-use Rattle.devices.specs.Device.{AppendsPrefix}
-use Rattle.warc_core.specs.declared.fault.Cause.{Cause}
-use Rattle.warc_core.specs.declared.fault.Fault.{Fault}
-use Rattle.warc_core.specs.HeadView.{HeadView}
+use Rattle.index_core.proofs.Words.{◌≡◌, ◌∙◌, ℕ, List, [], ◌++◌, ◌⊎◌, inl, inr, Option, Some}
+use Rattle.index_core.proofs.Words.{Result, Ok, Err, refl, ap, arith, Appends, AppendsPrefix, Cause}
+use Rattle.index_core.proofs.Words.{Fault, HeadView, Walks, not_both, Archive, IndexFault}
+use Rattle.index_core.proofs.Words.{IsFailure, IsOfArchive}
 use Rattle.warc_core.specs.Reading.{IsPossibleCause}
-use Rattle.warc_core.specs.Walk.{record_at, Walks}
-use Rattle.warc_core.proofs.WalkLemmas.{one_list, not_both, one_fault}
-use Rattle.capture_core.specs.declared.fault.CaptureFault.TheVariants.{Archive}
-use Rattle.index_core.specs.declared.fault.IndexFault.{IndexFault}
-use Rattle.index_core.specs.declared.fault.IndexFault.TheVariants as faults
-use Rattle.index_core.specs.OneText.{IsFailure, IsOfArchive, HasFront, HasCut, HasPart}
-use Rattle.index_core.specs.OneText.{ListsOneText, ListsPart, VerifiesOneText, VerifiesPart}
-use Rattle.index_core.specs.Report.{IsNoDamage, RecordLine, IsReport, Reports, report_lines, fault_line}
+use Rattle.warc_core.specs.Walk.{record_at}
+use Rattle.warc_core.proofs.WalkLemmas.{one_list, one_fault}
+use Rattle.index_core.specs.OneText.{HasFront, HasCut, HasPart, ListsOneText, ListsPart}
+use Rattle.index_core.specs.OneText.{VerifiesOneText, VerifiesPart}
+use Rattle.index_core.specs.Report.{IsNoDamage, RecordLine, IsReport, Reports, report_lines}
+use Rattle.index_core.specs.Report.{fault_line}
 use Rattle.index_core.proofs.ReportLemmas.{report_behind}
+use Rattle.index_core.specs.declared.fault.IndexFault.TheVariants as faults
 
 -- what stands behind known bytes
 pub grown : (before bytes : List ℕ) (text : Option (List ℕ)) → Appends (Some before) text bytes
@@ -102,5 +98,7 @@ verifies_one_text limit archive before this that text other i j r s = grind (ari
 
 pub verifies_part : VerifiesPart
 verifies_part limit archive before this that text other i j r s = grind (arith, reports_part)
+
+pub ruleset listing_rules = (lists_one_text, lists_part)
 
 pub ruleset one_report_rules = (verifies_one_text, verifies_part)

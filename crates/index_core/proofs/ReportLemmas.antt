@@ -1,23 +1,20 @@
 -- A report on an archive, one record further, at the end, and at a fault.
-use Rattle.std.proofs.Common.{arith, ◌≡◌, ℕ, ◌+◌, List, [], ◌∷◌, ◌++◌, inl, inr, Option, None, Some, Result}
-use Rattle.std.proofs.Common.{Ok, Err, IfSome, ap, refl, subst, append-nil, append_assoc}
+use Rattle.index_core.proofs.Words.{arith, ◌≡◌, ℕ, ◌+◌, List, [], ◌∷◌, ◌++◌, inl, inr, Option, None}
+use Rattle.index_core.proofs.Words.{Some, Result, Ok, Err, IfSome, ap, refl, subst, append-nil}
+use Rattle.index_core.proofs.Words.{append_assoc, Appends, prepend_known, Fault, AppendsPrefix}
+use Rattle.index_core.proofs.Words.{HeadView, record_length, Reads, Walks, Appends-none}
+use Rattle.index_core.proofs.Words.{Appends-join, Walks-more, none_at_end, walk-extends, Archive}
+use Rattle.index_core.proofs.Words.{IndexFault}
 use Rattle.std.proofs.lemmas.List.Concat.{flat_map-append}
 use Rattle.std.specs.List.{flat_map}
-use Rattle.std.specs.Io.KnownBytes.{Appends, prepend_known}
-use Rattle.warc_core.specs.declared.fault.Cause.TheVariants as causes
-use Rattle.warc_core.specs.declared.fault.Fault.{Fault}
-use Rattle.devices.specs.Device.{AppendsPrefix}
-use Rattle.warc_core.specs.HeadView.{HeadView, RecordBeginsAt, record_length}
-use Rattle.warc_core.specs.Reading.{Reads}
-use Rattle.warc_core.specs.Walk.{record_at, Walks}
-use Rattle.devices.proofs.DeviceLemmas.{Appends-none, Appends-join, AppendsPrefix-behind}
+use Rattle.warc_core.specs.HeadView.{RecordBeginsAt}
+use Rattle.warc_core.specs.Walk.{record_at}
+use Rattle.devices.proofs.DeviceLemmas.{AppendsPrefix-behind}
 use Rattle.warc_core.proofs.SpelledLemmas.{total}
-use Rattle.warc_core.proofs.WalkLemmas.{Walks-more, none_at_end, walk-extends}
-use Rattle.capture_core.specs.declared.fault.CaptureFault.TheVariants.{Archive}
-use Rattle.index_core.specs.declared.fault.IndexFault.{IndexFault}
+use Rattle.index_core.specs.Report.{Follow, IsReport, RecordLine, Reports, ReportedInPart}
+use Rattle.index_core.specs.Report.{ReportsRecords, WritesFault, fault_line, report_lines}
+use Rattle.warc_core.specs.declared.fault.Cause.TheVariants as causes
 use Rattle.index_core.specs.declared.fault.IndexFault.TheVariants as faults
-use Rattle.index_core.specs.Report.{Follow, IsReport, RecordLine, Reports, ReportedInPart, ReportsRecords, WritesFault}
-use Rattle.index_core.specs.Report.{fault_line, report_lines}
 
 -- what a report says of a record, and what it answers: by the archive, and by what was read of each record
 pub record Form (A X : Type 0) : Type 0 where

@@ -1,15 +1,17 @@
 -- Captures that stay sound: each has its own place, under a name that was added.
-use Rattle.std.proofs.Common.{◌≡◌, ℕ, ◌<◌, true, List, [], ◌∷◌, ◌++◌, Option, IfSome, option_to_list, append-nil, arith}
+use Rattle.index_core.proofs.Words.{◌≡◌, ℕ, ◌<◌, List, [], ◌∷◌, ◌++◌, Option, IfSome}
+use Rattle.index_core.proofs.Words.{option_to_list, append-nil, arith, HeadView, EntryValue}
+use Rattle.index_core.proofs.Words.{is_among}
+use Rattle.std.proofs.Common.{true}
 use Rattle.std.specs.FinMap.{slice_cmp-IsAntisymmetric, nat_cmp-IsAntisymmetric}
 use Rattle.std.specs.declared.cmp.Ordering.TheVariants.{Equal}
 use Rattle.std.proofs.lemmas.List.Folds.{list_any-append}
 use Rattle.std.proofs.lemmas.Slice.Eq.{bytes_eq-Decides}
-use Rattle.warc_core.specs.HeadView.{HeadView}
-use Rattle.cdxj_core.specs.Entries.{EntryValue, entry_place}
+use Rattle.cdxj_core.specs.Entries.{entry_place}
 use Rattle.cdxj_places.specs.Places.{place_cmp}
 use Rattle.cdxj_places.proofs.RisingLaws.{each_join, each_weaker}
 use Rattle.capture_core.specs.CaptureAnswer.{IsEntryOf}
-use Rattle.index_core.specs.Indexing.{HaveOwnPlaces, AreSound, is_among}
+use Rattle.index_core.specs.Indexing.{HaveOwnPlaces, AreSound}
 use Rattle.index_core.specs.Captures.{StandBefore}
 
 -- ---- places

@@ -1,18 +1,14 @@
 -- What a verification says of a record, and what it counts.
-use Rattle.std.proofs.Common.{◌≡◌, ℕ, ◌+◌, List, [], ◌∷◌, ◌++◌, Option, Some, Ok, Err, IfSome}
-use Rattle.std.proofs.Common.{take, length-append, arith}
+use Rattle.index_core.proofs.Words.{◌≡◌, ℕ, ◌+◌, List, [], ◌∷◌, ◌++◌, Option, Some, Ok, Err, IfSome}
+use Rattle.index_core.proofs.Words.{take, length-append, arith, drop-append_seam, Cause, HeadView}
+use Rattle.index_core.proofs.Words.{Reads, after_record, next-spelled}
 use Rattle.std.proofs.lemmas.List.Sums.{sum_by-append}
-use Rattle.std.proofs.Math.Seq.{drop-append_seam}
-use Rattle.warc_core.specs.declared.fault.Cause.{Cause}
-use Rattle.warc_core.specs.HeadView.{HeadView, block_at}
+use Rattle.warc_core.specs.HeadView.{block_at}
 use Rattle.warc_core.specs.Next.{next_at}
-use Rattle.warc_core.specs.Reading.{Reads}
-use Rattle.warc_core.specs.Record.{after_record}
-use Rattle.warc_core.proofs.ArchiveLemmas.{next-spelled}
 use Rattle.warc_core.specs.declared.verdict.Verdict.{Verdict}
 use Rattle.capture_core.specs.BlockDigest.{judge_record}
-use Rattle.index_core.specs.Verifying.{verdict_on, verdict_in, verdict_line, verification_line, differing_by, Judged}
-use Rattle.index_core.specs.Verifying.{judged_line, verified_in, verified_of}
+use Rattle.index_core.specs.Verifying.{verdict_on, verdict_in, verdict_line, verification_line}
+use Rattle.index_core.specs.Verifying.{differing_by, Judged, judged_line, verified_in, verified_of}
 use Rattle.index_core.specs.declared.verified.Verified.{Verified}
 use Rattle.index_core.proofs.ArchiveWalks.{from_offset, record_rules}
 use Rattle.index_core.proofs.ReportLemmas.{Form, IsLine, CountsOn, Reporting}

@@ -7,7 +7,7 @@ use Rattle.warc_core.specs.declared.phase.Phase.TheVariants.{Between, Open}
 use Rattle.devices.specs.Device.{AppendsPrefix}
 use Rattle.warc_core.specs.HeadView.{HeadView, record_length}
 use Rattle.warc_core.specs.Reading.{Reads, IsPossibleCause}
-use Rattle.warc_core.specs.ReaderView.{ReaderView, StandsAt}
+use Rattle.warc_core.specs.ReaderView.{ReaderView, ReaderState, StandsAt, ahead}
 use Rattle.warc_core.specs.Record.{after_record}
 use Rattle.warc_core.specs.Walk.{record_at, Walks}
 use Rattle.capture_core.specs.declared.fault.CaptureFault.TheVariants.{Archive}
@@ -38,20 +38,20 @@ pub record CopiesRecord (h : HeadView) (r : Result ℕ IndexFault) (before after
   pub ends : EndsRecord h wrote.front r before after
 
 -- A head and what follows it of its block were copied, but for so many bytes.
-pub record CopiedBut (rest : ℕ) (h : HeadView) (now : ReaderView) (before after written written' : Option (List ℕ)) :
-    Type 0 where
+pub record CopiedBut (rest : ℕ) (h : HeadView) (before : Option (List ℕ)) (now : ReaderState)
+    (written written' : Option (List ℕ)) : Type 0 where
   pub front : List ℕ
   pub whole : length front + rest ≡ h.parts.block_length
-  pub given : Consumes before after front
-  pub stands : StandsAt now h.start (Open rest (record_length h))
+  pub given : Consumes before (ahead now) front
+  pub stands : StandsAt now.reader h.start (Open rest (record_length h))
   pub grown : Appends written written' (h.raw ++ front)
 
 -- a head and its block were copied, or a front of the record
-abbrev pub CopiesHeadAndBlock : HeadView → Result (Unit {0}) IndexFault → ReaderView → Option (List ℕ) → Option (List ℕ)
+abbrev pub CopiesHeadAndBlock : HeadView → Result (Unit {0}) IndexFault → Option (List ℕ) → ReaderState
     → Option (List ℕ) → Option (List ℕ) → Type 0
-CopiesHeadAndBlock h (Ok u) now before after written written' = CopiedBut 0 h now before after written written'
-CopiesHeadAndBlock h (Err fault) now before after written written' =
-    CopiesRecord h (Err fault) before after written written'
+CopiesHeadAndBlock h (Ok u) before now written written' = CopiedBut 0 h before now written written'
+CopiesHeadAndBlock h (Err fault) before now written written' =
+    CopiesRecord h (Err fault) before (ahead now) written written'
 
 -- what comes next at the offset was copied
 abbrev pub CopiesNext : ℕ → ℕ → Result ℕ IndexFault → Option (List ℕ) → Option (List ℕ) → Option (List ℕ) → Type 0

@@ -1,6 +1,6 @@
 //! The copying of a record.
 ghost use Rattle.std.specs.Io.KnownBytes.{prepend_known};
-ghost use Rattle.warc_core.specs.ReaderView.{IsUnread};
+ghost use Rattle.warc_core.specs.ReaderView.{IsUnread, state_of};
 ghost use Rattle.index_core.specs.Counting.{CountsIndex, CountsIndexWrite};
 ghost use Rattle.index_core.specs.Copying.{CopiesHeadAndBlock, CopiesRecord};
 
@@ -17,9 +17,9 @@ fn copy_head_and_block<I: Input, O: Output>(
     out: &mut O,
 ) -> Result<(), IndexFault>
     requires { IsUnread reader.old head.now }
-    ensures copies { CopiesHeadAndBlock head.now result reader.new
+    ensures copies { CopiesHeadAndBlock head.now result
         (prepend_known reader.old.held (I.remaining input.old))
-        (prepend_known reader.new.held (I.remaining input.new)) (O.written out.old)
+        (state_of reader.new (I.remaining input.new) (I.failures input.new)) (O.written out.old)
         (O.written out.new) }
     ensures reads { CountsIndex result (I.failures input.old) (I.failures input.new) }
     ensures writes { CountsIndexWrite result (O.failures out.old) (O.failures out.new) }
@@ -39,6 +39,7 @@ fn copy_head_and_block<I: Input, O: Output>(
 /// none of its block.
 ///
 /// Errors are the archive's fault, and `Write`. A prefix of the record was then written.
+#[tactic(auto, using(std::proofs::lemmas::Result::err_from_is_err_and))]
 pub fn copy_record<I: Input, O: Output>(
     reader: &mut Reader,
     input: &mut I,

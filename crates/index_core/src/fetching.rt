@@ -7,8 +7,7 @@ ghost use Rattle.index_core.specs.Copying.{CopiesNext, Reaches};
 ghost use Rattle.index_core.specs.Fetching.{Fetches, IsFetchFault, IsMetBefore};
 ghost use Rattle.index_core.specs.FetchingAt.{CopiesNextOf, CopiesRecordOf, FetchesAt};
 ghost use Rattle.index_core.specs.FetchingAt.{PassesRecord};
-ghost use Rattle.warc_core.specs.declared.phase.Phase.TheVariants.{Open};
-ghost use Rattle.warc_core.specs.ReaderView.{HasLeft, IsUnread};
+ghost use Rattle.warc_core.specs.ReaderView.{HasLeft, IfOpen, IsUnread};
 
 use crate::copying::copy_record;
 use crate::fault::IndexFault;
@@ -79,7 +78,7 @@ pub fn get_at<I: Input, O: Output>(
 }
 
 /// Writes the next record if it has this length in bytes, and returns the length.
-#[tactic(auto, using(crate::proofs::FetchLemmas::next_rules))]
+#[tactic(auto, using(crate::proofs::FetchAtLemmas::next_of_rules))]
 fn copy_next_of<I: Input, O: Output>(
     reader: &mut Reader,
     input: &mut I,
@@ -102,6 +101,7 @@ fn copy_next_of<I: Input, O: Output>(
 
 /// Writes the record with this head if it has this length in bytes, and returns the length. None of
 /// its block was read. Otherwise reads it to its end.
+#[tactic(auto, using(crate::proofs::FetchAtLemmas::passed_of))]
 fn copy_record_of<I: Input, O: Output>(
     reader: &mut Reader,
     input: &mut I,
@@ -128,10 +128,9 @@ fn copy_record_of<I: Input, O: Output>(
 /// Reads the open record to its end. The error is its fault, or else `NoRecord`.
 fn pass_record<I: Input>(reader: &mut Reader, input: &mut I) -> Result<u64, IndexFault>
     requires { HasLeft 0 reader.old.phase }
-    ensures passes { (left len : ℕ) → reader.old.phase ≡ Open left len →
-        PassesRecord left reader.old.offset result
+    ensures passes { IfOpen reader.old.phase (λ left _. PassesRecord left reader.old.offset result
         (prepend_known reader.old.held (I.remaining input.old))
-        (prepend_known reader.new.held (I.remaining input.new)) }
+        (prepend_known reader.new.held (I.remaining input.new))) }
     ensures reads { CountsIndex result (I.failures input.old) (I.failures input.new) }
 {
     match reader.finish(input) {
@@ -141,7 +140,7 @@ fn pass_record<I: Input>(reader: &mut Reader, input: &mut I) -> Result<u64, Inde
 }
 
 /// Returns a reader that has reached the offset, if whole records fill the archive up to it.
-#[tactic(auto, using(crate::proofs::FetchLemmas::ends_before))]
+#[tactic(auto, using(crate::proofs::FetchLemmas::walk_rules))]
 fn reader_at<I: Input>(alloc: Global, input: &mut I, offset: u64) -> Result<Option<Reader>, Fault>
     ensures reaches { Reaches HEAD_LIMIT offset result (I.remaining input.old)
         (I.remaining input.new) }

@@ -18,7 +18,7 @@ pub fn archive_has_one_list_of_captures()
 
 /// At each offset of an archive there is exactly one of these: a record's text, no record, or the
 /// archive's damage.
-#[tactic(auto, using(crate::proofs::OffsetLemmas::one_stands, crate::proofs::OffsetLemmas::some_stands))]
+#[tactic(auto, using(crate::proofs::OffsetLemmas::one_thing_rules))]
 pub fn one_thing_stands_at_an_offset()
     ensures one { OneStands }
     ensures some { SomeStands }
@@ -53,7 +53,7 @@ pub fn accepted_archive_is_not_refused()
 
 /// An archive that is accepted whole is accepted whole under higher limits of lines and heads, with
 /// the same captures.
-#[tactic(auto, using(crate::proofs::LimitLemmas::whole_stays, crate::proofs::LimitLemmas::captures_stay))]
+#[tactic(auto, using(crate::proofs::LimitLemmas::limit_rules))]
 pub fn accepted_archive_stays_accepted()
     ensures whole { WholeStays }
     ensures captures { CapturesStay }
@@ -72,7 +72,7 @@ pub fn get_writes_one_text()
 /// The archive decides what `list` returns and writes, unless a device fails or memory can't be
 /// allocated. After such a failure the start of that text was written, and the fault's line. If the
 /// output failed, a prefix of this or of the whole text was written.
-#[tactic(auto, using(crate::proofs::OneTextLemmas::lists_one_text, crate::proofs::OneTextLemmas::lists_part))]
+#[tactic(auto, using(crate::proofs::OneTextLemmas::listing_rules))]
 pub fn list_writes_one_text()
     ensures one { ListsOneText }
     ensures part { ListsPart }

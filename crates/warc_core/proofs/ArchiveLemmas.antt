@@ -1,13 +1,13 @@
 -- An archive and the texts of its records.
-use Rattle.std.proofs.Common.{◌≡◌, ℕ, ◌+◌, List, [], ◌∷◌, ◌++◌, Some, Ok, sym, append_assoc, length}
-use Rattle.std.proofs.Common.{length-append, arith}
+use Rattle.warc_core.proofs.Words.{◌≡◌, ℕ, ◌+◌, List, [], ◌∷◌, ◌++◌, Some, Ok, append_assoc, length}
+use Rattle.warc_core.proofs.Words.{append-nil, length-append, arith, HeadView, record_length, Walks}
+use Rattle.std.proofs.Common.{sym}
 use Rattle.std.specs.List.{concat}
-use Rattle.warc_core.specs.HeadView.{HeadView, record_length}
 use Rattle.warc_core.specs.Next.{next_at}
-use Rattle.warc_core.specs.Walk.{Walks}
 use Rattle.warc_core.specs.RecordText.{AreTexts}
 use Rattle.warc_core.specs.Laws.{NoRecordAtDamage}
-use Rattle.warc_core.proofs.SpelledLemmas.{read-spelled, spelled-read, head-there, head-read-there, next-there}
+use Rattle.warc_core.proofs.SpelledLemmas.{read-spelled, spelled-read, head-there, head-read-there}
+use Rattle.warc_core.proofs.SpelledLemmas.{next-there}
 
 -- what is walked is spelled
 pub walk-spelled : (limit start : ℕ) (bytes : List ℕ) (heads : List HeadView) (end : ℕ) (rest : List ℕ)
@@ -50,3 +50,5 @@ pub next-spelled : (limit start : ℕ) (bytes rest : List ℕ) (h : HeadView) �
 next-spelled limit start bytes rest h e =
     let r = head-read-there limit start bytes rest h (next-there limit start bytes rest h e) in
     ((head-there limit bytes h.raw rest r.0).1, r.2)
+
+pub ruleset archive_rules = (walk-spelled, append-nil)

@@ -1,5 +1,6 @@
 -- The bits of a byte, by a computation over all bytes.
-use Rattle.std.proofs.Common.{◌≡◌, ℕ, ◌+◌, ◌*◌, ◌/◌, ◌%◌, ◌<◌, true, eqb, arith}
+use Rattle.warc_core.proofs.Words.{◌≡◌, ℕ, ◌+◌, ◌<◌, true, arith}
+use Rattle.std.proofs.Common.{◌*◌, ◌/◌, ◌%◌, eqb}
 use Rattle.std.proofs.lemmas.Bool.{agree_below, agree_below_at, eqb-true}
 
 -- two functions that agree at each byte, by computing both

@@ -1,10 +1,11 @@
 -- The first CR LF CR LF.
-use Rattle.std.proofs.Common.{◌≡◌, ℕ, ◌+◌, ◌-◌, ◌<◌, ◌≤◌, true, false, List, [], ◌∷◌, length, take, drop, get_or}
-use Rattle.std.proofs.Common.{ap, arith, length-drop, lit<, ◌++◌, length-append}
-use Rattle.std.proofs.lemmas.List.{get_or-drop, get_or-take, length-take-le, take-append-drop}
+use Rattle.warc_core.proofs.Words.{◌≡◌, ℕ, ◌+◌, ◌-◌, ◌<◌, ◌≤◌, true, false, List, [], ◌∷◌, length}
+use Rattle.warc_core.proofs.Words.{take, drop, get_or, ap, arith, length-drop, ◌++◌, length-append}
+use Rattle.warc_core.proofs.Words.{length-take-le, take-append-drop, is_closed, closing}
+use Rattle.std.proofs.Common.{lit<}
+use Rattle.std.proofs.lemmas.List.{get_or-drop, get_or-take}
 use Rattle.memchr.specs.Find.{OccursAt}
-use Rattle.warc_core.specs.HeadText.{is_closed, ClosesFirst, IsOpenAfter}
-use Rattle.warc_core.specs.Record.{closing}
+use Rattle.warc_core.specs.HeadText.{ClosesFirst, IsOpenAfter}
 
 -- four bytes that are CR LF CR LF
 four : (d : List ℕ) → length d ≡ 4 → get_or d 0 0 ≡ 13 → get_or d 1 0 ≡ 10 → get_or d 2 0 ≡ 13 → get_or d 3 0 ≡ 10 → d

@@ -1,15 +1,12 @@
 -- The head in front of a damaged record.
-use Rattle.std.proofs.Common.{arith, ◌≡◌, ℕ, List, Option}
-use Rattle.std.proofs.Common.{Some, Result, Ok, Err, refl}
-use Rattle.warc_core.specs.declared.fault.Cause.{Cause}
+use Rattle.warc_core.proofs.Words.{arith, ◌≡◌, ℕ, List, Option, Some, Result, Ok, Err, refl, Cause}
+use Rattle.warc_core.proofs.Words.{HeadView, ◌>>=◌, closed_at}
 use Rattle.warc_core.specs.Cause.{StopsHead}
 use Rattle.warc_core.specs.Head.{parts_or_cause}
 use Rattle.warc_core.specs.HeadText.{head_text}
-use Rattle.warc_core.specs.HeadView.{HeadView}
 use Rattle.warc_core.specs.Laws.{HeadIsSpelled, HeadAtDamage}
 use Rattle.warc_core.specs.Next.{head_at, next_at}
-use Rattle.warc_core.specs.Reading.{◌>>=◌}
-use Rattle.warc_core.specs.Walk.{record_at, closed_at}
+use Rattle.warc_core.specs.Walk.{record_at}
 use Rattle.warc_core.proofs.HeadTextLemmas.{found-spelled}
 use Rattle.warc_core.proofs.SpelledLemmas.{head-there, head-read-there, next-there}
 

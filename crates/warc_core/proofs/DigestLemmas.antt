@@ -1,14 +1,12 @@
 -- A digest of a block, piece by piece.
-use Rattle.std.proofs.Common.{◌≡◌, ℕ, ◌+◌, ◌-◌, ◌≤◌, List, [], ◌++◌, Option, Ok, Err, length, take, drop, refl}
-use Rattle.std.proofs.Common.{arith, append_assoc, append-nil}
-use Rattle.std.proofs.lemmas.List.{length-take-le, drop_all}
-use Rattle.std.proofs.Math.Seq.{take-append-add}
-use Rattle.std.specs.Io.KnownBytes.{prepend_known}
+use Rattle.warc_core.proofs.Words.{◌≡◌, ℕ, ◌+◌, ◌-◌, ◌<◌, ◌≤◌, List, [], ◌++◌, Ok, Err, length}
+use Rattle.warc_core.proofs.Words.{take, drop, arith, append_assoc, append-nil}
+use Rattle.warc_core.proofs.Words.{length-take-le, drop_all, take-append-add, Open}
 use Rattle.sha1.specs.declared.Sha1.{Sha1}
 use Rattle.sha1.specs.Sha1.{Holds, sha1}
-use Rattle.warc_core.specs.declared.phase.Phase.TheVariants.{Open}
 use Rattle.warc_core.proofs.ReadingLemmas.{GoesOn}
-use Rattle.warc_core.specs.ReaderView.{ReaderView, StandsAt, state_of}
+use Rattle.warc_core.specs.ReaderView.{ReaderState, HasLeft, IfOpen, ahead}
+use Rattle.warc_core.proofs.OpenLemmas.{left_in, StandsIn}
 use Rattle.warc_core.specs.Calls.{GivesBlock, ReadsTo}
 use Rattle.warc_core.specs.declared.fault.Fault.{Fault}
 use Rattle.warc_core.proofs.RecordLemmas.{after_block-part, after_block-zero}
@@ -20,14 +18,19 @@ take_past n xs ys h =
     let e : n ≡ length xs + (n - length xs) = omega arith in
     grind (arith, take-append-add)
 
--- what a hasher took of an open record's block, of which rest bytes are left, and where the reader stands
-pub record Digesting (left len rest : ℕ) (start : List ℕ) (old now : ReaderView) (before mid : Option (List ℕ))
-    (hasher : Sha1) : Type 0 where
+-- what a hasher took of an open record's block, behind what it began with
+pub record Digesting (start : List ℕ) (old now : ReaderState) (hasher : Sha1) : Type 0 where
   pub taken : List ℕ
   pub holds : Holds hasher taken
-  pub stands : StandsAt now old.offset (Open rest len)
-  pub same : GoesOn (digest_of_rest left start) (digest_of_rest rest taken) (prepend_known old.held before)
-      (prepend_known now.held mid)
+  pub opened : HasLeft 0 old.reader.phase
+  pub stands : StandsIn old.reader now.reader
+  pub same : GoesOn (digest_of_rest (left_in old.reader.phase) start) (digest_of_rest (left_in now.reader.phase) taken)
+      (ahead old) (ahead now)
+  pub failures : now.failures ≡ old.failures
+
+pub Digesting-start : (start : List ℕ) (old : ReaderState) (hasher : Sha1) → HasLeft 0 old.reader.phase
+    → Holds hasher start → Digesting start old old hasher
+Digesting-start start old hasher opened holds = grind arith
 
 drop_piece : (n : ℕ) (piece : List ℕ) → length piece ≡ n → drop n piece ≡ []
 drop_piece n piece l = drop_all n piece (omega arith)
@@ -40,28 +43,29 @@ digest-part n m taken piece more l h =
     let e = after_block-part m n piece more h k in
     grind (arith, take_past, drop_piece, append_assoc)
 
-module _ (left len rest : ℕ) (start : List ℕ) (old now next : ReaderView) (before mid after : Option (List ℕ))
-    (hasher : Sha1) (d : Digesting left len rest start old now before mid hasher) where
-  pub Digesting-more : (hasher' : Sha1) (n : ℕ) (piece : List ℕ) (k k' : ℕ)
-      → GivesBlock rest len (state_of now mid k) (state_of next after k') (Ok n) piece
-      → ((m : List ℕ) → Holds hasher m → Holds hasher' (m ++ take n piece))
-      → Digesting left len (rest - n) start old next before after hasher'
-  Digesting-more hasher' n piece k k' g more = grind (arith, digest-part, length-take-le)
-
-  pub Digesting-fault : (fault : Fault) (piece : List ℕ) (count k k' : ℕ)
-      → GivesBlock rest len (state_of now mid k) (state_of next after k') (Err fault) piece → k ≡ count
-      → ReadsTo (digest_of_rest left start) old.offset (Open 0 len) (state_of old before count) (state_of next after k')
-      (Err fault)
-  unfolding digest_of_rest
-  Digesting-fault fault piece count k k' g e = grind arith
-
-digest-none : (taken w : List ℕ) → digest_of_rest 0 taken w ≡ Ok (sha1 taken, w)
+digest-none : (n : ℕ) (taken w : List ℕ) → n ≡ 0 → digest_of_rest n taken w ≡ Ok (sha1 taken, w)
 unfolding digest_of_rest
-digest-none taken w = rw (after_block-zero w, append-nil taken) refl
+digest-none n taken w e = grind (arith, after_block-zero, append-nil)
 
-pub Digesting-end : (left len : ℕ) (start : List ℕ) (old now : ReaderView) (before mid : Option (List ℕ))
-    (hasher : Sha1) → Digesting left len 0 start old now before mid hasher → (digest : List ℕ)
-    → ((m : List ℕ) → Holds hasher m → digest ≡ sha1 m) → (k k' : ℕ) → k' ≡ k
-    → ReadsTo (digest_of_rest left start) old.offset (Open 0 len) (state_of old before k) (state_of now mid k')
-    (Ok digest)
-Digesting-end left len start old now before mid hasher d digest finished k k' e = grind (arith, digest-none)
+module _ (start : List ℕ) (old now next : ReaderState) (hasher : Sha1) (d : Digesting start old now hasher) (piece : List ℕ)
+  where
+    pub Digesting-more : (hasher' : Sha1) (n : ℕ)
+        → IfOpen now.reader.phase (λ left len. GivesBlock left len now next (Ok n) piece)
+        → ((m : List ℕ) → Holds hasher m → Holds hasher' (m ++ take n piece)) → Digesting start old next hasher'
+    Digesting-more hasher' n gave more = grind (arith, digest-part, length-take-le)
+
+    pub Digesting-fault : (fault : Fault)
+        → IfOpen now.reader.phase (λ left len. GivesBlock left len now next (Err fault) piece)
+        → IfOpen old.reader.phase (λ left len. ReadsTo (digest_of_rest left start) old.reader.offset (Open 0 len) old next
+        (Err fault))
+    unfolding digest_of_rest
+    Digesting-fault fault gave = grind arith
+
+    pub Digesting-end : (digest : List ℕ) → 0 < length piece
+        → IfOpen now.reader.phase (λ left len. GivesBlock left len now next (Ok 0) piece)
+        → ((m : List ℕ) → Holds hasher m → digest ≡ sha1 m)
+        → IfOpen old.reader.phase (λ left len. ReadsTo (digest_of_rest left start) old.reader.offset (Open 0 len) old next
+        (Ok digest))
+    Digesting-end digest some gave finished = grind (arith, digest-none)
+
+pub ruleset digest_rules = (Digesting-start, Digesting-more, Digesting-fault, Digesting-end, length-take-le)

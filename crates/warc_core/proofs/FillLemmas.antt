@@ -1,17 +1,14 @@
 -- A block's first bytes, piece by piece.
-use Rattle.std.proofs.Common.{◌≡◌, ℕ, ◌+◌, ◌-◌, ◌≤◌, List, [], ◌++◌, Option, Ok, Err, length, take}
-use Rattle.std.proofs.Common.{arith, append_assoc, length-drop}
-use Rattle.std.proofs.lemmas.List.{length-take-le, drop_all, take-take}
+use Rattle.warc_core.proofs.Words.{◌≡◌, ℕ, ◌+◌, ◌-◌, ◌≤◌, List, [], ◌++◌, Option, Ok, Err, length}
+use Rattle.warc_core.proofs.Words.{take, arith, append_assoc, length-drop, length-take-le, drop_all}
+use Rattle.warc_core.proofs.Words.{take-take, take-append-add, Consumes, Cause, Open}
 use Rattle.std.proofs.lemmas.Slice.{take-put_mid}
-use Rattle.std.proofs.Math.Seq.{take-append-add}
 use borrow.Rule.Slice.PartMut.{put_mid, same_len_mid}
-use Rattle.std.specs.Io.KnownBytes.{prepend_known, Consumes}
-use Rattle.warc_core.specs.declared.fault.Cause.{Cause}
-use Rattle.warc_core.specs.declared.phase.Phase.TheVariants.{Open}
 use Rattle.warc_core.specs.declared.fault.Fault.{Fault}
 use Rattle.warc_core.specs.Reading.{IsPossibleFault}
 use Rattle.warc_core.specs.Record.{after_block}
-use Rattle.warc_core.specs.ReaderView.{ReaderView, StandsAt, state_of}
+use Rattle.warc_core.specs.ReaderView.{ReaderState, HasLeft, IfOpen, StandsAt, ahead}
+use Rattle.warc_core.proofs.OpenLemmas.{left_in, length_in}
 use Rattle.warc_core.specs.Calls.{GivesBlock, Fills}
 use Rattle.warc_core.proofs.RecordLemmas.{after_block-part}
 
@@ -37,29 +34,27 @@ take-written a k n xs ys h m =
     grind (arith, take-put_mid, take-append-add)
 
 -- So many bytes of a piece were filled from an open record's block.
-pub record Filling (left len : ℕ) (old now : ReaderView) (before mid : Option (List ℕ)) (size filled : ℕ)
-    (piece : List ℕ) : Type 0 where
-  pub opened : old.phase ≡ Open left len
-  pub fits : size ≤ left
+pub record Filling (size : ℕ) (old now : ReaderState) (filled : ℕ) (piece : List ℕ) : Type 0 where
+  pub fits : HasLeft size old.reader.phase
   pub long : length piece ≡ size
   pub within : filled ≤ size
-  pub stands : StandsAt now old.offset (Open (left - filled) len)
-  pub given : Consumes (prepend_known old.held before) (prepend_known now.held mid) (take filled piece)
+  pub stands : StandsAt now.reader old.reader.offset
+      (Open (left_in old.reader.phase - filled) (length_in old.reader.phase))
+  pub given : Consumes (ahead old) (ahead now) (take filled piece)
+  pub failures : now.failures ≡ old.failures
 
-pub Filling-more : (left len : ℕ) (old now next : ReaderView) (before mid after : Option (List ℕ)) (size filled n : ℕ)
-    (piece part : List ℕ) (count count' : ℕ) → Filling left len old now before mid size filled piece
-    → GivesBlock (left - filled) len (state_of now mid count) (state_of next after count') (Ok n) part → length part
-    ≡ size - filled
-    → Filling left len old next before after size (filled + n) (put_mid filled (length piece - filled) piece part)
-Filling-more left len old now next before mid after size filled n piece part count count' f g l =
-    let long = f.long in
-    let within = f.within in
-    let fits = f.fits in
-    grind (arith, take-written, Consumes-join, same_len_mid, length-take-le, length-drop)
+module _ (size filled : ℕ) (old now next : ReaderState) (piece part : List ℕ) (f : Filling size old now filled piece) where
+  pub Filling-more : (n : ℕ) → IfOpen now.reader.phase (λ left len. GivesBlock left len now next (Ok n) part)
+      → length part ≡ size - filled
+      → Filling size old next (filled + n) (put_mid filled (length piece - filled) piece part)
+  Filling-more n gave long =
+      grind (arith, take-written, Consumes-join, same_len_mid, length-take-le, length-drop)
 
-pub Filling-fault : (left len : ℕ) (old now next : ReaderView) (before mid after : Option (List ℕ)) (size filled : ℕ)
-    (fault : Fault) (piece part whole : List ℕ) (count k k' : ℕ) → Filling left len old now before mid size filled piece
-    → GivesBlock (left - filled) len (state_of now mid k) (state_of next after k') (Err fault) part → k ≡ count
-    → Fills left len (state_of old before count) (state_of next after k') (Err fault) whole
-Filling-fault left len old now next before mid after size filled fault piece part whole count k k' f g e =
-    grind (arith, found-behind fault.cause left filled (take filled piece), length-take-le filled piece)
+  pub Filling-fault : (fault : Fault) (whole : List ℕ)
+      → IfOpen now.reader.phase (λ left len. GivesBlock left len now next (Err fault) part)
+      → IfOpen old.reader.phase (λ left len. Fills left len old next (Err fault) whole)
+  Filling-fault fault whole gave =
+      let left = left_in old.reader.phase in
+      grind (arith, found-behind fault.cause left filled (take filled piece), length-take-le filled piece)
+
+pub ruleset fill_rules = (Filling-more, Filling-fault)

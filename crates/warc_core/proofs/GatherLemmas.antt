@@ -1,22 +1,18 @@
 -- What a piece of a head does to the reading of it.
-use Rattle.warc_core.proofs.HeadLemmas.{going-start}
-use Rattle.warc_core.proofs.HeadLemmas.{going-end}
-use Rattle.warc_core.proofs.ReadingLemmas.{nil_of}
-use Rattle.warc_core.proofs.HeadLemmas.{going-full}
-use Rattle.std.proofs.Common.{◌≡◌, ◌∙◌, ℕ, ◌+◌, ◌-◌, ◌<◌, ◌≤◌, List, ◌++◌, Option, Ok, Err}
-use Rattle.std.proofs.Common.{true, false, refl, sym, length, take, drop, arith, ap, append_assoc, length-append}
-use Rattle.std.specs.Io.KnownBytes.{prepend_known}
-use Rattle.std.proofs.lemmas.List.{take-append-drop, length-take-le, take-append-le, take-take}
-use Rattle.warc_core.specs.declared.fault.Cause.TheVariants as causes
-use Rattle.warc_core.specs.Reading.{Reads}
-use Rattle.warc_core.proofs.ReadingLemmas.{GoesOn}
-use Rattle.warc_core.specs.HeadText.{has_version, is_closed, head_text, IsFoundHead, ClosesFirst}
-use Rattle.warc_core.proofs.HeadLemmas.{going, going-found, going-wrong, going-gathered}
-use Rattle.std.proofs.Math.Seq.{take-append-add}
-use Rattle.warc_core.proofs.HeadLemmas.{agrees-longer, begins_version}
-use Rattle.warc_core.specs.RecordText.{IsVersionLine}
+use Rattle.warc_core.proofs.Words.{◌≡◌, ℕ, ◌+◌, ◌-◌, ◌<◌, ◌≤◌, List, ◌++◌, Option, Ok, Err, true}
+use Rattle.warc_core.proofs.Words.{false, refl, length, take, drop, arith, ap, append_assoc}
+use Rattle.warc_core.proofs.Words.{length-append, prepend_known, take-append-drop, length-take-le}
+use Rattle.warc_core.proofs.Words.{take-take, Reads, has_version, is_closed, IsFoundHead}
+use Rattle.warc_core.proofs.Words.{take-append-add, IsVersionLine}
+use Rattle.warc_core.proofs.HeadLemmas.{going-start, going-end, going-full, going, going-found}
+use Rattle.warc_core.proofs.HeadLemmas.{going-wrong, going-gathered, agrees-longer, begins_version}
+use Rattle.warc_core.proofs.ReadingLemmas.{nil_of, GoesOn}
+use Rattle.std.proofs.Common.{◌∙◌}
+use Rattle.std.proofs.lemmas.List.{take-append-le}
+use Rattle.warc_core.specs.HeadText.{head_text, ClosesFirst}
 use Rattle.warc_core.proofs.ClosingLemmas.{NoneBetween, none-in-run, found-first, begins-occurs}
 use Rattle.warc_head.specs.Usual.{ClosesAt}
+use Rattle.warc_core.specs.declared.fault.Cause.TheVariants as causes
 
 pub split_at : (count : ℕ) (b z : List ℕ) → b ++ z ≡ take count b ++ (drop count b ++ z)
 split_at count b z = rw (← append_assoc, take-append-drop)
@@ -79,7 +75,7 @@ module _ (limit size : ℕ) (b : List ℕ) (version : IsVersionLine (take 10 b))
         let f : ClosesFirst b 0 size = rw n at first in
         let long = length-take-le size b closes.within in
         record {
-          version = has_version-take size b (begins_version (take 10 b) b (drop 10 b) version (sym (take-append-drop 10 b)));
+          version = has_version-take size b (begins_version b version);
           closed = f.closed;
           first = λ n l. grind (arith, take-take, long, f.first n);
           small = omega (arith, long, small);

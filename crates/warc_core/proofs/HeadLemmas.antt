@@ -1,19 +1,18 @@
 -- The text of a head, found a byte at a time.
-use Rattle.std.proofs.Common.{◌≡◌, ℕ, suc, ◌+◌, ◌-◌, ◌<◌, ◌≤◌, Bool, true, false, ◌&&◌, List, []}
-use Rattle.std.proofs.Common.{◌∷◌, ◌++◌, Option, Some, Result, Ok, Err, length, take, refl, ap, arith}
-use Rattle.std.proofs.Common.{append_assoc, append-nil, length-append, if◌then◌else◌, ◌==◌, ◌⊎◌}
-use Rattle.std.proofs.Math.Seq.{take-append-add, drop-append_seam}
-use Rattle.warc_core.specs.declared.fault.Cause.{Cause}
-use Rattle.warc_core.specs.declared.fault.Cause.TheVariants as causes
-use Rattle.warc_core.specs.HeadText.{has_version, agrees, version_1_1, version_1_0, is_closed, shortest, found_head}
+use Rattle.warc_core.proofs.Words.{◌≡◌, ℕ, suc, ◌+◌, ◌-◌, ◌<◌, ◌≤◌, true, false, List, [], ◌∷◌}
+use Rattle.warc_core.proofs.Words.{◌++◌, Option, Some, Result, Ok, Err, length, take, refl, ap}
+use Rattle.warc_core.proofs.Words.{arith, append_assoc, append-nil, length-append, ◌⊎◌}
+use Rattle.warc_core.proofs.Words.{take-append-add, Cause, has_version, is_closed, get_or, drop}
+use Rattle.warc_core.proofs.Words.{length-drop, closing, IsVersionLine, take-append-drop}
+use Rattle.std.proofs.Common.{Bool, ◌&&◌, if◌then◌else◌, ◌==◌, zip}
+use Rattle.std.proofs.Math.Seq.{drop-append_seam}
+use Rattle.warc_core.specs.HeadText.{agrees, version_1_1, version_1_0, shortest, found_head}
 use Rattle.warc_core.specs.HeadText.{head_text}
 use Rattle.std.proofs.lemmas.List.Folds.{list_all_at}
 use Rattle.std.proofs.lemmas.Slice.Zip.{get_or-zip, length-zip}
-use Rattle.std.proofs.Common.{get_or, drop, length-drop, zip}
 use Rattle.std.specs.Prelude.{not}
-use Rattle.warc_core.specs.Record.{closing}
-use Rattle.warc_core.specs.RecordText.{IsVersionLine}
 use Rattle.std.proofs.lemmas.List.{get_or-drop, get_or-take, nil_from_length}
+use Rattle.warc_core.specs.declared.fault.Cause.TheVariants as causes
 
 pub and_both : (t a : Bool) → (t && a) ≡ true → (t ≡ true) × (a ≡ true)
 and_both t a h = grind arith
@@ -31,9 +30,8 @@ agrees-nil [] = refl
 agrees-nil (x ∷ xs) = refl
 
 -- a text that begins with a version line
-pub begins_version : (version text rest : List ℕ) → IsVersionLine version → text ≡ version ++ rest
-    → has_version text ≡ true
-begins_version version text rest v e = grind (arith, agrees-nil)
+pub begins_version : (text : List ℕ) → IsVersionLine (take 10 text) → has_version text ≡ true
+begins_version text v = grind (arith, take-append-drop 10 text, agrees-nil)
 
 -- a text that agrees to the other's end does so however it goes on
 pub agrees-whole : (xs more ys : List ℕ) → agrees xs ys ≡ true → length ys ≤ length xs → agrees (xs ++ more) ys ≡ true

@@ -1,18 +1,17 @@
 -- A head that is found is a head text, and a head text is found.
-use Rattle.std.proofs.Common.{◌≡◌, ℕ, ◌+◌, ◌-◌, ◌≤◌, true, List, ◌++◌, Ok, length, drop}
-use Rattle.std.proofs.Common.{arith}
-use Rattle.std.proofs.lemmas.List.{take-append-drop, drop-drop}
+use Rattle.warc_core.proofs.Words.{◌≡◌, ℕ, ◌+◌, ◌-◌, ◌≤◌, true, List, ◌++◌, Ok, length, drop, arith}
+use Rattle.warc_core.proofs.Words.{take-append-drop, HeadParts, is_closed, IsFoundHead}
+use Rattle.std.proofs.lemmas.List.{drop-drop}
 use Rattle.warc_head.specs.Fields.{fields_of}
 use Rattle.warc_head.specs.Lines.{line_end}
-use Rattle.warc_head.specs.Parts.{HeadParts, parts_in, field_lines_in}
-use Rattle.warc_head.specs.Parts as parts
+use Rattle.warc_head.specs.Parts.{parts_in, field_lines_in}
 use Rattle.warc_head.proofs.FoldingLemmas.{fields_spelled}
 use Rattle.warc_head.proofs.SpellingLemmas.{body}
 use Rattle.warc_core.specs.Head.{parts_or_cause}
-use Rattle.warc_core.specs.HeadText.{is_closed, IsFoundHead}
 use Rattle.warc_core.specs.RecordText.{IsRecordHead}
 use Rattle.warc_core.proofs.ClosingLemmas.{closed-last}
 use Rattle.warc_core.proofs.HeadLemmas.{version-line, closed-long}
+use Rattle.warc_head.specs.Parts as parts
 
 -- a text that was found as a head, and read as these parts
 pub record IsFoundOf (limit : ℕ) (parts : HeadParts) (text : List ℕ) : Type 0 where

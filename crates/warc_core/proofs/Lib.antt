@@ -1,3 +1,4 @@
+pub mod Words
 pub mod ReadingLemmas
 pub mod RecordLemmas
 pub mod HeadLemmas

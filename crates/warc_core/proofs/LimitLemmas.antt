@@ -1,8 +1,8 @@
 -- Records under a higher limit of heads.
-use Rattle.std.proofs.Common.{◌≡◌, ◌≤◌, ℕ, ◌+◌, List, [], ◌∷◌, None, Some, Ok, arith}
-use Rattle.warc_core.specs.HeadView.{HeadView, record_length}
+use Rattle.warc_core.proofs.Words.{◌≡◌, ◌≤◌, ℕ, ◌+◌, List, [], ◌∷◌, None, Some, Ok, arith, HeadView}
+use Rattle.warc_core.proofs.Words.{record_length, Walks}
 use Rattle.warc_core.specs.Next.{next_at}
-use Rattle.warc_core.specs.Walk.{record_at, Walks}
+use Rattle.warc_core.specs.Walk.{record_at}
 use Rattle.warc_core.specs.Laws.{TextStays, ReadingStays, RecordsStay}
 use Rattle.warc_core.proofs.SpelledLemmas.{read-spelled, spelled-read}
 use Rattle.warc_core.proofs.WalkLemmas.{none_at_end}

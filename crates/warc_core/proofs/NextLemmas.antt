@@ -1,18 +1,14 @@
 -- The head that comes next, step by step.
-use Rattle.warc_core.proofs.ReadingLemmas.{nil_of}
-use Rattle.std.proofs.Common.{◌≡◌, ℕ, ◌+◌, ◌-◌, ◌^◌, ◌<◌, ◌≤◌, List, [], Option, None, Some, Result, Ok, Err}
-use Rattle.std.proofs.Common.{length, arith, refl, length-append}
-use Rattle.std.specs.Io.KnownBytes.{prepend_known}
-use Rattle.warc_core.specs.declared.fault.Cause.{Cause}
-use Rattle.warc_core.specs.declared.fault.Cause.TheVariants as causes
-use Rattle.warc_head.specs.Parts.{HeadParts}
-use Rattle.warc_core.specs.Reading.{Reads, ◌>>=◌}
-use Rattle.warc_core.proofs.ReadingLemmas.{GoesOn}
+use Rattle.warc_core.proofs.Words.{◌≡◌, ℕ, ◌+◌, ◌-◌, ◌<◌, ◌≤◌, List, [], Option, None, Some, Result}
+use Rattle.warc_core.proofs.Words.{Ok, Err, length, arith, refl, length-append, prepend_known}
+use Rattle.warc_core.proofs.Words.{Cause, HeadParts, Reads, ◌>>=◌, HeadView}
+use Rattle.warc_core.proofs.ReadingLemmas.{nil_of, GoesOn}
+use Rattle.std.proofs.Common.{◌^◌}
 use Rattle.warc_core.specs.Answers.{IsFoundPurely}
 use Rattle.warc_core.specs.HeadText.{head_text}
 use Rattle.warc_core.specs.Head.{parts_or_cause}
-use Rattle.warc_core.specs.HeadView.{HeadView}
 use Rattle.warc_core.specs.Next.{head_at, next_at, within_limit}
+use Rattle.warc_core.specs.declared.fault.Cause.TheVariants as causes
 
 -- the head that these parts and this text make
 abbrev pub head_of : ℕ → List ℕ → HeadParts → HeadView

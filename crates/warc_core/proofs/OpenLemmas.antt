@@ -1,27 +1,30 @@
 -- Calls in an open record.
-use Rattle.warc_core.proofs.RecordLemmas.{after_block-short}
-use Rattle.std.proofs.Common.{◌≡◌, ℕ, ◌-◌, ◌<◌, ◌≤◌, List, ◌++◌, Option, Err, length, arith}
+use Rattle.warc_core.proofs.Words.{◌≡◌, ℕ, ◌-◌, ◌≤◌, List, ◌++◌, Option, Err, length, arith}
+use Rattle.warc_core.proofs.Words.{drop_all, Consumes, Cause, Open, Reads}
+use Rattle.warc_core.proofs.RecordLemmas.{after_block-short, after_block-zero, after_block-part}
 use Rattle.std.proofs.Math.Seq.{drop-append-add}
-use Rattle.std.proofs.lemmas.List.{drop_all}
-use Rattle.std.specs.Io.KnownBytes.{Consumes}
-use Rattle.warc_core.specs.declared.fault.Cause.{Cause}
 use Rattle.warc_core.specs.declared.phase.Phase.{Phase}
-use Rattle.warc_core.specs.declared.phase.Phase.TheVariants.{Open}
-use Rattle.warc_core.specs.Reading.{Reads, IsPossibleFault, past}
+use Rattle.warc_core.specs.Reading.{IsPossibleFault, past}
 use Rattle.warc_core.specs.Record.{after_block, after_record}
+use Rattle.warc_core.specs.ReaderView.{ReaderView, StandsAt}
 use Rattle.warc_core.proofs.ReadingLemmas.{GoesOn}
-use Rattle.warc_core.proofs.RecordLemmas.{after_block-part}
 
 -- how many bytes of an open record's block are left
 abbrev pub left_in : Phase → ℕ
 left_in (Open left len) = left
 left_in phase = 0
 
+-- how long an open record is
+abbrev pub length_in : Phase → ℕ
+length_in (Open left len) = len
+length_in phase = 0
+
+-- the reader stands in the record that was open, with what is left of its block
+abbrev pub StandsIn : ReaderView → ReaderView → Type 0
+StandsIn old now = StandsAt now old.offset (Open (left_in now.phase) (length_in old.phase))
+
 pub same_open : (a b c d : ℕ) → Open a b ≡ Open c d → (a ≡ c) × (b ≡ d)
 same_open a b c d e = grind arith
-
-pub zero_of : (n : ℕ) → (0 < n → ⊥) → n ≡ 0
-zero_of n h = omega arith
 
 -- what is met in a block ends its record
 pub found-of-record : (c : Cause) (left : ℕ) (before after : Option (List ℕ)) → IsPossibleFault (after_block left) c before
@@ -47,4 +50,4 @@ behind-front n front before after l c = grind (arith, record-part)
 
 pub ruleset pass_over_rules = (past-part)
 
-pub ruleset skip_block_rules = (block-part, after_block-short)
+pub ruleset skip_block_rules = (block-part, after_block-short, after_block-zero)

@@ -1,11 +1,10 @@
 -- The faults of a head as causes.
-use Rattle.std.proofs.Common.{arith, ◌≡◌, ℕ, List, Ok}
+use Rattle.warc_core.proofs.Words.{arith, ◌≡◌, ℕ, List, Ok, HeadParts}
 use Rattle.warc_head.specs.declared.fault.HeadFault.{HeadFault}
 use Rattle.warc_head.specs.Answers.{IsFound}
-use Rattle.warc_head.specs.Parts as heads
-use Rattle.warc_head.specs.Parts.{HeadParts}
 use Rattle.warc_core.specs.Head.{parts_or_cause, cause_of}
 use Rattle.warc_core.specs.Answers.{IsFoundPurely}
+use Rattle.warc_head.specs.Parts as heads
 
 pub purely-found : (f : HeadFault) (raw : List ℕ) → IsFound f (heads.parts_of raw)
     → IsFoundPurely (cause_of f) (parts_or_cause raw)

@@ -1,13 +1,11 @@
 -- Laws of reading in steps.
-use Rattle.std.proofs.Common.{length-append}
-use Rattle.std.proofs.Common.{length-drop}
-use Rattle.std.proofs.Common.{false, ◌≡◌, ℕ, ◌<◌, List, [], ◌++◌, Option, None, Some, Result, Ok}
-use Rattle.std.proofs.Common.{length, take, drop, arith, append_assoc}
-use Rattle.std.specs.Io.KnownBytes.{Keeps, Consumes, IsAtEnd, prepend_known}
+use Rattle.warc_core.proofs.Words.{length-append, length-drop, ◌≡◌, ℕ, List, [], ◌++◌}
+use Rattle.warc_core.proofs.Words.{Option, None, Some, Result, Ok, length, take, drop, arith}
+use Rattle.warc_core.proofs.Words.{append_assoc, Consumes, prepend_known, take-append-drop, Cause}
+use Rattle.warc_core.proofs.Words.{Reads}
+use Rattle.std.specs.Io.KnownBytes.{Keeps, IsAtEnd}
 use Rattle.std.proofs.Math.Seq.{take-append_seam, drop-nil}
-use Rattle.std.proofs.lemmas.List.{take-append-drop, nil_from_length}
-use Rattle.warc_core.specs.declared.fault.Cause.{Cause}
-use Rattle.warc_core.specs.Reading.{Reads}
+use Rattle.std.proofs.lemmas.List.{nil_from_length}
 
 -- Reading by g from here on is reading by f from the start.
 abbrev pub GoesOn : {A : Type 0} → (List ℕ → Result A Cause) → (List ℕ → Result A Cause) → Option (List ℕ)

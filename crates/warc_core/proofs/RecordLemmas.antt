@@ -1,17 +1,17 @@
 -- Laws of what follows a block and its closing.
-use Rattle.std.proofs.Common.{◌≡◌, ◌≢◌, ℕ, ◌-◌, ◌<◌, ◌≤◌, List, [], ◌∷◌, ◌++◌, Option, Ok, Err, length}
-use Rattle.std.proofs.Common.{drop, refl, arith, length-append, length-drop, get_or, suc}
+use Rattle.warc_core.proofs.Words.{◌≡◌, ℕ, ◌-◌, ◌<◌, ◌≤◌, List, [], ◌∷◌, ◌++◌, Option, Ok, Err}
+use Rattle.warc_core.proofs.Words.{length, drop, refl, arith, length-append, length-drop, get_or}
+use Rattle.warc_core.proofs.Words.{suc, Reads, prepend_known, closing}
+use Rattle.std.proofs.Common.{◌≢◌}
 use Rattle.std.proofs.lemmas.Bool.Decides.{nat_tests}
 use Rattle.std.proofs.lemmas.List.{drop-append-le, drop-drop}
-use Rattle.warc_core.specs.declared.fault.Cause.TheVariants as causes
-use Rattle.warc_core.specs.Reading.{Reads}
 use Rattle.warc_core.proofs.ReadingLemmas.{GoesOn}
-use Rattle.std.specs.Io.KnownBytes.{prepend_known}
-use Rattle.warc_core.specs.Record.{after_block, after_text, closing}
+use Rattle.warc_core.specs.Record.{after_block, after_text}
+use Rattle.warc_core.specs.declared.fault.Cause.TheVariants as causes
 
-pub after_block-zero : (w : List ℕ) → after_block 0 w ≡ Ok (tt, w)
+pub after_block-zero : (n : ℕ) (w : List ℕ) → n ≡ 0 → after_block n w ≡ Ok (tt, w)
 unfolding after_block
-after_block-zero w = grind (arith, nat_tests)
+after_block-zero n w e = grind (arith, nat_tests)
 
 pub after_block-short : (n : ℕ) (w : List ℕ) → 0 < n → w ≡ [] → after_block n w ≡ Err causes.ShortBlock
 unfolding after_block

@@ -1,18 +1,17 @@
 -- What is read as a record is spelled as one.
-use Rattle.std.proofs.Common.{◌≡◌, ℕ, ◌+◌, ◌<◌, ◌≤◌, Bool, true, false, List, [], ◌∷◌, ◌++◌, Option}
-use Rattle.std.proofs.Common.{Some, Result, Ok, Err, ap, refl, length, take, drop, ◌⊎◌, ◌-◌, ◌^◌, zero}
-use Rattle.std.proofs.Common.{suc, length-append, length-take, append_assoc, append-nil, arith}
-use Rattle.std.proofs.lemmas.List.{take-append-drop, length-take-le}
+use Rattle.warc_core.proofs.Words.{◌≡◌, ℕ, ◌+◌, ◌<◌, ◌≤◌, true, false, List, [], ◌∷◌, ◌++◌, Option}
+use Rattle.warc_core.proofs.Words.{Some, Result, Ok, Err, ap, refl, length, take, drop, ◌⊎◌, ◌-◌}
+use Rattle.warc_core.proofs.Words.{suc, length-append, append_assoc, append-nil, arith}
+use Rattle.warc_core.proofs.Words.{take-append-drop, length-take-le, Cause, closing, is_closed}
+use Rattle.warc_core.proofs.Words.{IsFoundHead, ◌>>=◌, Reads, prepend_known, HeadView}
+use Rattle.warc_core.proofs.Words.{record_length, closed_at, Walks}
+use Rattle.std.proofs.Common.{Bool, ◌^◌, zero, length-take}
 use Rattle.std.proofs.Math.Seq.{drop-append_seam, take-append_seam}
-use Rattle.warc_core.specs.declared.fault.Cause.{Cause}
-use Rattle.warc_core.specs.Record.{after_text, after_block, after_record, closing}
-use Rattle.warc_core.specs.HeadText.{shortest, head_text, is_closed, IsFoundHead}
-use Rattle.warc_core.specs.Reading.{◌>>=◌, Reads}
-use Rattle.std.specs.Io.KnownBytes.{prepend_known}
+use Rattle.warc_core.specs.Record.{after_text, after_block, after_record}
+use Rattle.warc_core.specs.HeadText.{shortest, head_text}
 use Rattle.warc_core.specs.Head.{parts_or_cause}
-use Rattle.warc_core.specs.HeadView.{HeadView, record_length}
 use Rattle.warc_core.specs.Next.{head_at, next_at}
-use Rattle.warc_core.specs.Walk.{record_at, closed_at, Walks}
+use Rattle.warc_core.specs.Walk.{record_at}
 use Rattle.warc_core.specs.Laws.{ReadIsSpelled, SpelledIsRead, NoPrefix, RecordsOrDamage}
 use Rattle.warc_core.proofs.HeadTextLemmas.{found-spelled, spelled-found}
 use Rattle.warc_core.proofs.GatherLemmas.{has_version-front}
@@ -175,3 +174,5 @@ outcome limit (suc n) start bytes l = outcome-of limit start n bytes l (λ s lat
 
 pub total : RecordsOrDamage
 total limit archive = grind (arith, outcome limit (length archive) 0 archive)
+
+pub ruleset spelling_rules = (read-spelled, spelled-read)

@@ -1,16 +1,12 @@
 -- The verdict on a block, from how its record was read.
-use Rattle.std.proofs.Common.{arith, ◌≡◌, ℕ, List, [], ◌++◌, Option, None, Some, Result, Ok, Err, take}
+use Rattle.warc_core.proofs.Words.{arith, ◌≡◌, ℕ, List, [], ◌++◌, Option, None, Some, Ok}
+use Rattle.warc_core.proofs.Words.{Err, take, Cause, Reads}
 use Rattle.sha1.specs.Sha1.{sha1}
-use Rattle.warc_core.specs.declared.fault.Cause.{Cause}
-use Rattle.warc_core.specs.declared.fault.Fault.{Fault}
-use Rattle.warc_core.specs.declared.phase.Phase.TheVariants.{Between}
-use Rattle.warc_core.specs.Reading.{Reads, IsPossibleCause}
+use Rattle.warc_core.specs.Reading.{IsPossibleCause}
 use Rattle.warc_core.specs.Record.{after_record}
-use Rattle.warc_core.specs.ReaderView.{ReaderView, state_of}
 use Rattle.warc_core.proofs.RecordLemmas.{after_block-zero}
 use Rattle.warc_core.specs.declared.verdict.Verdict.{Verdict}
 use Rattle.warc_core.specs.RestDigest.{digest_of_rest}
-use Rattle.warc_core.specs.Calls.{ReadsTo}
 use Rattle.warc_core.specs.BlockDigest.{judge_record}
 
 -- what is found of the record is found of its block's verdict
@@ -55,9 +51,4 @@ compare-unclosed judge c left digest (Some z) None after h k = absurd h
 compare-unclosed judge c left digest (Some z) (Some w) after h k = judge-found judge c left z
     (grind (arith, digest-then))
 
--- the same record, by another name of the verdict and of where it ends
-pub judged-as : (judge other : List ℕ → Verdict) (left end other_end : ℕ) (old new : ReaderView)
-    (r : Result Verdict Fault) (before after : Option (List ℕ)) (count count' : ℕ) → other ≡ judge → other_end ≡ end
-    → ReadsTo (judge_record other left) other_end Between (state_of old before count) (state_of new after count') r
-    → ReadsTo (judge_record judge left) end Between (state_of old before count) (state_of new after count') r
-judged-as judge other left end other_end old new r before after count count' e f h = grind arith
+pub ruleset judge_rules = (judge-read, judge-stopped, digest-then, compare-stopped, compare-unclosed)

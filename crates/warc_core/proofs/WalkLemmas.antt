@@ -1,12 +1,10 @@
 -- Two walks over one text.
-use Rattle.std.proofs.Common.{arith, ◌≡◌, ℕ, ◌+◌, List, [], ◌∷◌, ◌++◌, Option, None, Some, Result, Ok, Err}
-use Rattle.std.proofs.Common.{◌⊎◌, append-nil}
-use Rattle.warc_core.specs.declared.fault.Cause.{Cause}
-use Rattle.warc_core.specs.Reading.{Reads, ◌>>=◌}
+use Rattle.warc_core.proofs.Words.{arith, ◌≡◌, ℕ, ◌+◌, List, [], ◌∷◌, ◌++◌, Option, None, Some}
+use Rattle.warc_core.proofs.Words.{Result, Ok, Err, ◌⊎◌, append-nil, Cause, Reads, ◌>>=◌, HeadView}
+use Rattle.warc_core.proofs.Words.{record_length, closed_at, Walks}
 use Rattle.warc_core.specs.Record.{after_record}
-use Rattle.warc_core.specs.HeadView.{HeadView, record_length}
 use Rattle.warc_core.specs.Next.{next_at}
-use Rattle.warc_core.specs.Walk.{record_at, closed_at, Walks}
+use Rattle.warc_core.specs.Walk.{record_at}
 use Rattle.warc_core.proofs.NextLemmas.{as_next}
 
 -- nothing follows the end
@@ -98,3 +96,5 @@ some_read x r e = grind arith
 pub none_at_end : (limit start : ℕ) (z r : List ℕ) → record_at limit start z ≡ Ok (None, r) → z ≡ []
 unfolding record_at next_at
 none_at_end limit start z r e = grind arith
+
+pub ruleset one_reading_rules = (one_list, one_fault, not_both)

@@ -48,13 +48,13 @@ digest_verdict text digest = if str_eq_ignore_ascii_case text (base32_of digest)
 
 -- the verdict on a block, by the digest's text in the value, if there is one
 abbrev pub judged : Option (List ℕ) → List ℕ → Verdict
-judged None block = verdicts.NotSha1
-judged (Some text) block = digest_verdict text (sha1 block)
+judged None = λ block. verdicts.NotSha1
+judged (Some text) = λ block. digest_verdict text (sha1 block)
 
 -- the verdict on a block, by the value of the field
 abbrev pub verdict_of : Option (List ℕ) → List ℕ → Verdict
-verdict_of None block = verdicts.Absent
-verdict_of (Some value) block = judged (sha1_text value) block
+verdict_of None = λ block. verdicts.Absent
+verdict_of (Some value) = judged (sha1_text value)
 
 -- what judge says of the block of n bytes that comes next, and what follows its record
 unfoldable pub judge_record : (List ℕ → Verdict) → ℕ → List ℕ → Result (Verdict × List ℕ) Cause

@@ -1,5 +1,5 @@
 -- What contracts see of a reader.
-use Rattle.std.specs.Prelude.{◌≡◌, ℕ, ◌+◌, ◌-◌, ◌^◌, ◌≤◌, List, Option}
+use Rattle.std.specs.Prelude.{◌≡◌, ℕ, ◌+◌, ◌-◌, ◌^◌, ◌≤◌, ⊤, List, Option}
 use Rattle.std.specs.Io.KnownBytes.{prepend_known}
 use Rattle.warc_core.specs.declared.fault.Fault.{Fault}
 use Rattle.warc_core.specs.declared.phase.Phase.{Phase}
@@ -44,9 +44,15 @@ pub record IsUnread (r : ReaderView) (h : HeadView) : Type 0 where
   pub offset_is : r.offset ≡ h.start
   pub phase_is : r.phase ≡ Open h.parts.block_length (record_length h)
 
+-- if a record is open, this holds of how much of its block is left, and of its length
+abbrev pub IfOpen : Phase → (ℕ → ℕ → Type 0) → Type 0
+IfOpen (Open left length) P = P left length
+IfOpen phase P = ⊤
+
 -- a record is open, and n bytes of its block are left, or more
 abbrev pub HasLeft : ℕ → Phase → Type 0
-HasLeft n phase = (left : ℕ) × (len : ℕ) × (phase ≡ Open left len) × (n ≤ left)
+HasLeft n (Open left length) = n ≤ left
+HasLeft n phase = ⊥
 
 -- the fault is that of the record at the offset, and the reader has failed by it
 pub record FailedBy (r : ReaderView) (offset : ℕ) (f : Fault) : Type 0 where

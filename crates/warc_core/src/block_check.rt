@@ -3,7 +3,7 @@ ghost use Rattle.std.specs.Prelude.{◌≡◌, ℕ, ◌+◌, codes};
 ghost use Rattle.warc_head.specs.Fields.{value_of};
 ghost use Rattle.warc_core.specs.declared.phase.Phase.TheVariants.{Between, Open};
 ghost use Rattle.warc_core.specs.HeadView.{record_length};
-ghost use Rattle.warc_core.specs.ReaderView.{IsUnread, HasLeft, state_of};
+ghost use Rattle.warc_core.specs.ReaderView.{IsUnread, HasLeft, IfOpen, state_of};
 ghost use Rattle.sha1.specs.Sha1.{sha1};
 ghost use Rattle.warc_core.specs.Calls.{ReadsTo};
 ghost use Rattle.warc_core.specs.BlockDigest.{verdict_of, digest_verdict, judge_record};
@@ -42,24 +42,26 @@ pub fn block_digest<I: Input>(
 }
 
 /// Reads the rest of the open record, and returns this verdict without examining the block.
+#[tactic(auto, using(crate::proofs::VerdictLemmas::judge_rules))]
 fn pass<I: Input>(reader: &mut Reader, input: &mut I, verdict: Verdict) -> Result<Verdict, Fault>
-    ensures { (left len : ℕ) → reader.old.phase ≡ Open left len →
+    ensures { IfOpen reader.old.phase (λ left len.
         ReadsTo (judge_record (λ _. verdict) left) (reader.old.offset + len) Between
         (state_of reader.old (I.remaining input.old) (I.failures input.old))
-        (state_of reader.new (I.remaining input.new) (I.failures input.new)) result }
+        (state_of reader.new (I.remaining input.new) (I.failures input.new)) result) }
 {
     reader.finish(input)?;
     Ok(verdict)
 }
 
 /// Reads the rest of the open record, and compares its block with the text of a digest.
+#[tactic(auto, using(crate::proofs::VerdictLemmas::judge_rules))]
 fn compare<I: Input>(reader: &mut Reader, input: &mut I, text: &[u8]) -> Result<Verdict, Fault>
     requires { HasLeft 0 reader.old.phase }
-    ensures { (left len : ℕ) → reader.old.phase ≡ Open left len →
+    ensures { IfOpen reader.old.phase (λ left len.
         ReadsTo (judge_record (λ block. digest_verdict text.now (sha1 block)) left)
         (reader.old.offset + len) Between
         (state_of reader.old (I.remaining input.old) (I.failures input.old))
-        (state_of reader.new (I.remaining input.new) (I.failures input.new)) result }
+        (state_of reader.new (I.remaining input.new) (I.failures input.new)) result) }
 {
     let digest = digest_rest(reader, input, &[])?;
     reader.finish(input)?;

@@ -50,6 +50,7 @@ fn expect_closing<I: Input>(buffer: &mut Buffer, input: &mut I) -> Result<(), Ca
 }
 
 /// Skips the rest of a block, of `left` bytes, and its closing. The errors are `Read`, `ShortBlock` and `Closing`.
+#[tactic(auto, unfolding(crate::specs::Record::after_record))]
 #[inline(never)] // so that `Reader::finish` is inlined, which often finds no record open
 pub fn skip_record<I: Input>(buffer: &mut Buffer, input: &mut I, left: u64) -> Result<(), Cause>
     ensures cause { IfErr result StopsRecord }

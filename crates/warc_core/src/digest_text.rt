@@ -3,6 +3,7 @@ ghost use Rattle.std.specs.Prelude.{◌≡◌, ◌<◌, ◌∷◌, []};
 ghost use Rattle.warc_core.specs.Base32.{letter_of, letters_of, base32_of};
 
 /// Returns the base 32 of a SHA-1 digest (RFC 4648, section 6): 32 of the characters `A` to `Z` and `2` to `7`.
+#[tactic(auto, unfolding(crate::specs::Base32::base32_of))]
 pub fn base32(digest: &[u8; 20]) -> [u8; 32]
     ensures { result ≡ base32_of digest.now }
 {

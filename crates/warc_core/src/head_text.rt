@@ -37,6 +37,7 @@ fn has_version(head: &[u8]) -> bool
 }
 
 /// Returns `true` if the bytes begin with a whole version line.
+#[tactic(auto, using(crate::proofs::HeadLemmas::begins_version))]
 pub(crate) fn begins_with_version(head: &[u8]) -> bool
     ensures version { result ≡ true → has_version head.now ≡ true }
     ensures line { result ≡ true → IsVersionLine (take 10 head.now) }

@@ -5,6 +5,7 @@ ghost use Rattle.warc_core.specs.Laws.{ReadIsSpelled, SpelledIsRead, NoPrefix, R
 
 /// A record is read if and only if its text is there: a head, a block of the length that the head gives, and CR LF CR
 /// LF.
+#[tactic(auto, using(crate::proofs::SpelledLemmas::spelling_rules))]
 pub fn reading_and_spelling()
     ensures spelled { ReadIsSpelled }
     ensures read { SpelledIsRead }
@@ -16,12 +17,14 @@ pub fn no_prefix()
 {}
 
 /// An archive is exactly the texts of its records, one after another.
+#[tactic(auto, using(crate::proofs::ArchiveLemmas::archive_rules))]
 pub fn archive_is_its_records()
     ensures spelled { RecordsAreSpelled }
     ensures read { SpelledAreRecords }
 {}
 
 /// An archive has one list of records or one damage, and never both.
+#[tactic(auto, using(crate::proofs::WalkLemmas::one_reading_rules))]
 pub fn one_reading()
     ensures { (limit : ℕ) (archive : List ℕ) → OneReading limit archive }
 {}

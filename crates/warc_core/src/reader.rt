@@ -45,7 +45,7 @@ impl Reader {
     ghost use Rattle.std.specs.Io.KnownBytes.{prepend_known};
     ghost use Rattle.warc_core.specs.Answers.{causes_of, CountsRead};
     ghost use Rattle.warc_core.specs.Reading.{Reads, past};
-    ghost use Rattle.warc_core.specs.ReaderView.{HasLeft, StandsAt, state_of};
+    ghost use Rattle.warc_core.specs.ReaderView.{HasLeft, IfOpen, StandsAt, state_of};
     ghost use Rattle.warc_core.specs.Calls.{Finishes, GivesBlock, Fills, GoesNext, FinishesAndGoesNext};
 
     /// Creates a reader at the start of an archive, with a buffer of 65,536 bytes.
@@ -120,10 +120,9 @@ impl Reader {
     /// Errors are `Read`, `ShortBlock` and `Closing`, at the record's offset.
     #[inline(always)]
     pub fn finish<I: Input>(&mut self, input: &mut I) -> Result<u64, Fault>
-        ensures open { (left len : ℕ) → self.old.phase ≡ Phase.Open left len →
-            Finishes left len
+        ensures open { IfOpen self.old.phase (λ left len. Finishes left len
             (state_of self.old (I.remaining input.old) (I.failures input.old))
-            (state_of self.new (I.remaining input.new) (I.failures input.new)) result }
+            (state_of self.new (I.remaining input.new) (I.failures input.new)) result) }
         ensures closed { self.old.phase ≡ Phase.Between →
             (result ≡ Ok 0) × (self.new ≡ self.old) × (input.new ≡ input.old) }
         ensures failed { (c : Cause) → self.old.phase ≡ Phase.Failed c →
@@ -155,10 +154,9 @@ impl Reader {
     ///
     /// Errors are `Read` and `ShortBlock`, at the record's offset.
     pub fn block<I: Input>(&mut self, input: &mut I, piece: &mut [u8]) -> Result<usize, Fault>
-        ensures open { (left len : ℕ) → self.old.phase ≡ Phase.Open left len →
-            GivesBlock left len
+        ensures open { IfOpen self.old.phase (λ left len. GivesBlock left len
             (state_of self.old (I.remaining input.old) (I.failures input.old))
-            (state_of self.new (I.remaining input.new) (I.failures input.new)) result piece.new }
+            (state_of self.new (I.remaining input.new) (I.failures input.new)) result piece.new) }
         ensures closed { self.old.phase ≡ Phase.Between →
             (result ≡ Ok 0) × (self.new ≡ self.old) × (input.new ≡ input.old) }
         ensures failed { (c : Cause) → self.old.phase ≡ Phase.Failed c →
@@ -187,12 +185,12 @@ impl Reader {
     /// Fills `piece` with the next bytes of the open record's block, which has at least this many left.
     ///
     /// Errors are those of `block`.
+    #[tactic(auto, using(crate::proofs::FillLemmas::fill_rules))]
     pub fn block_exact<I: Input>(&mut self, input: &mut I, piece: &mut [u8]) -> Result<(), Fault>
         requires { HasLeft (length piece.old) self.old.phase }
-        ensures { (left len : ℕ) → self.old.phase ≡ Phase.Open left len →
-            Fills left len
+        ensures { IfOpen self.old.phase (λ left len. Fills left len
             (state_of self.old (I.remaining input.old) (I.failures input.old))
-            (state_of self.new (I.remaining input.new) (I.failures input.new)) result piece.new }
+            (state_of self.new (I.remaining input.new) (I.failures input.new)) result piece.new) }
     {
         let mut filled = 0;
         while filled < piece.len() {
@@ -249,10 +247,9 @@ impl Reader {
             GoesNext HEAD_LIMIT
             (state_of self.old (I.remaining input.old) (I.failures input.old))
             (state_of self.new (I.remaining input.new) (I.failures input.new)) result }
-        ensures open { (left len : ℕ) → self.old.phase ≡ Phase.Open left len →
-            FinishesAndGoesNext HEAD_LIMIT left len
+        ensures open { IfOpen self.old.phase (λ left len. FinishesAndGoesNext HEAD_LIMIT left len
             (state_of self.old (I.remaining input.old) (I.failures input.old))
-            (state_of self.new (I.remaining input.new) (I.failures input.new)) result }
+            (state_of self.new (I.remaining input.new) (I.failures input.new)) result) }
         ensures failed { (c : Cause) → self.old.phase ≡ Phase.Failed c →
             (result ≡ Err (record { offset = self.old.offset; cause = c }))
             × (self.new ≡ self.old) × (input.new ≡ input.old) }

@@ -1,12 +1,12 @@
 -- The forms of a date.
-use Rattle.std.proofs.Common.{◌≡◌, ℕ, ◌<◌, ◌≤◌, Bool, true, false, ◌&&◌, List, ◌∷◌, length, take, drop, refl}
-use Rattle.std.proofs.Common.{arith, Some, codes, zero, suc, ◌+◌, ◌++◌, get_or}
-use Rattle.std.proofs.Common.{lit≤, append-nil}
-use Rattle.std.specs.List.{list_all, zip}
-use Rattle.std.specs.Prelude.{◌==◌}
-use Rattle.std.proofs.lemmas.Bool.Decides.{nat_tests}
+use Rattle.warc_head.proofs.Words.{◌≡◌, ℕ, ◌<◌, ◌≤◌, Bool, true, false, ◌&&◌, List, ◌∷◌, length}
+use Rattle.warc_head.proofs.Words.{take, drop, refl, arith, Some, codes, suc, ◌+◌, ◌++◌, get_or}
+use Rattle.warc_head.proofs.Words.{append-nil, list_all, ◌==◌, nat_tests}
+use Rattle.std.proofs.Common.{zero, lit≤}
+use Rattle.std.specs.List.{zip}
 use Rattle.warc_head.specs.Length.{is_digit, all_digits}
-use Rattle.warc_head.specs.Date.{fits, fits_byte, two, digits_of, full_date, date_length, has_fraction, to_the_second}
+use Rattle.warc_head.specs.Date.{fits, fits_byte, two, digits_of, full_date, date_length}
+use Rattle.warc_head.specs.Date.{has_fraction, to_the_second}
 
 pub and_both : (t a : Bool) → (t && a) ≡ true → (t ≡ true) × (a ≡ true)
 and_both t a h = grind arith
@@ -64,3 +64,5 @@ two_small w i h a b = grind (arith, digit_at_most, digit_at to_the_second w i, d
 -- the stamp of a date text is of digits
 pub digits_of-digits : (w : List ℕ) → fits to_the_second w ≡ true → all_digits (digits_of w) ≡ true
 digits_of-digits w h = grind (arith, digit_at)
+
+pub ruleset long_rules = (fits_long, long_fraction)

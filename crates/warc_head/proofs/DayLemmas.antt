@@ -1,5 +1,6 @@
 -- The test of a day.
-use Rattle.std.proofs.Common.{◌≡◌, ℕ, Bool, true, false, ◌↔◌, IsTrue, arith}
+use Rattle.warc_head.proofs.Words.{◌≡◌, ℕ, Bool, true, false, arith}
+use Rattle.std.proofs.Common.{◌↔◌, IsTrue}
 use Rattle.warc_head.specs.Calendar.{is_date, DateExists}
 
 -- a day that the calendar has passes the test

@@ -1,17 +1,19 @@
 -- The fields of lines, of which some were read.
-use Rattle.std.proofs.Common.{◌≡◌, ◌<◌, ℕ, List, [], ◌∷◌, ◌++◌, length, None, Result, Ok, Err, refl}
-use Rattle.std.proofs.Common.{true, false, Bool, append_assoc, arith, length-take}
-use Rattle.std.specs.List.{ends_with, list_all}
+use Rattle.warc_head.proofs.Words.{◌≡◌, ◌<◌, ℕ, List, [], ◌∷◌, ◌++◌, length, None, Ok, Err, refl}
+use Rattle.warc_head.proofs.Words.{true, false, Bool, append_assoc, arith, list_all, field_lines_in}
+use Rattle.warc_head.proofs.Words.{line_content, continues, trim, is_content, line_end, Field}
+use Rattle.std.proofs.Common.{Result, length-take}
+use Rattle.std.specs.List.{ends_with}
 use Rattle.std.specs.Prelude.{nat_eq, ◌&&◌, take, drop, ◌-◌}
 use Rattle.std.proofs.lemmas.List.{drop-take, nil_from_length}
-use Rattle.warc_head.specs.Parts.{field_lines_in}
 use Rattle.warc_head.specs.declared.fault.HeadFault.{HeadFault}
-use Rattle.warc_head.specs.declared.fault.HeadFault.TheVariants as faults
 use Rattle.warc_head.specs.Answers.{◌>>=◌}
-use Rattle.warc_head.specs.Lines.{lines_of, line_content, BeginsWithLine, continues, trim, is_content, line_end}
-use Rattle.warc_head.specs.Fields.{Field, Given, given_by, fields_of, joined, longer, added, unless_continued, field_in}
-use Rattle.warc_head.specs.Fields.{with_field, at_colon}
-use Rattle.warc_head.proofs.LineLemmas.{line_first, line_text, concat, concat-lines, IsLine, line_if}
+use Rattle.warc_head.specs.Lines.{lines_of, BeginsWithLine}
+use Rattle.warc_head.specs.Fields.{Given, given_by, fields_of, joined, longer, added}
+use Rattle.warc_head.specs.Fields.{unless_continued, field_in, with_field, at_colon}
+use Rattle.warc_head.proofs.LineLemmas.{line_first, line_text, concat, concat-lines, IsLine}
+use Rattle.warc_head.proofs.LineLemmas.{line_if}
+use Rattle.warc_head.specs.declared.fault.HeadFault.TheVariants as faults
 
 -- fields that were read, and what the lines after them give
 abbrev pub onto : List Field → Given → Result (List Field) HeadFault

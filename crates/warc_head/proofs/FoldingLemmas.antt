@@ -1,20 +1,21 @@
 -- The fields that are read and the texts that spell them.
-use Rattle.std.proofs.Common.{◌≡◌, ℕ, true, List, [], ◌∷◌, ◌++◌, refl, ap, arith, append_assoc}
-use Rattle.std.proofs.Common.{Option, Some, None, Result, Ok, Err, if◌then◌else◌, map}
-use Rattle.std.specs.Prelude.{All}
-use Rattle.std.specs.List.{list_all, flat_map}
+use Rattle.warc_head.proofs.Words.{◌≡◌, ℕ, true, List, [], ◌∷◌, ◌++◌, refl, ap, arith, append_assoc}
+use Rattle.warc_head.proofs.Words.{Some, None, Ok, Err, if◌then◌else◌, All, list_all, nat_tests}
+use Rattle.warc_head.proofs.Words.{All-cons, All-nil, line_content, continues, is_content, trim}
+use Rattle.warc_head.proofs.Words.{is_name, Field}
+use Rattle.std.proofs.Common.{Option, Result, map}
+use Rattle.std.specs.List.{flat_map}
 use Rattle.std.proofs.lemmas.List.Folds.{list_all-append}
-use Rattle.std.proofs.lemmas.Bool.Decides.{nat_tests}
-use Rattle.std.proofs.lemmas.List.Elements.{All-cons, All-nil, All-head, All-tail}
+use Rattle.std.proofs.lemmas.List.Elements.{All-head, All-tail}
 use Rattle.warc_head.specs.declared.fault.HeadFault.{HeadFault}
 use Rattle.warc_head.specs.Answers.{◌>>=◌}
-use Rattle.warc_head.specs.Lines.{lines_of, line_content, continues, is_content, trim}
-use Rattle.warc_head.specs.Names.{is_name}
-use Rattle.warc_head.specs.Fields.{Field, Given, at_colon, field_in, given_by, unless_continued, fields_of}
+use Rattle.warc_head.specs.Lines.{lines_of}
+use Rattle.warc_head.specs.Fields.{Given, at_colon, field_in, given_by, unless_continued, fields_of}
 use Rattle.warc_head.specs.Fields.{with_field, with_folded, added, joined}
-use Rattle.warc_head.specs.Folding.{Folded, IsContinuation, IsFolded, ended, folded_text, joined_all, unfolded}
-use Rattle.warc_head.specs.Folding.{IsSpelling, FieldsAreSpelled}
-use Rattle.warc_head.proofs.LineLemmas.{line_first, line_text, concat, concat-lines, IsLine, line_if}
+use Rattle.warc_head.specs.Folding.{Folded, IsContinuation, IsFolded, ended, folded_text}
+use Rattle.warc_head.specs.Folding.{joined_all, unfolded, IsSpelling, FieldsAreSpelled}
+use Rattle.warc_head.proofs.LineLemmas.{line_first, line_text, concat, concat-lines, IsLine}
+use Rattle.warc_head.proofs.LineLemmas.{line_if}
 use Rattle.warc_head.proofs.SpellingLemmas.{begins, colon_after, names-plain}
 
 -- lines that go on with the field before what the later lines give

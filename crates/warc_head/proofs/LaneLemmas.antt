@@ -1,14 +1,16 @@
 -- The lanes at which two loads have a byte.
-use Rattle.std.proofs.Common.{◌≡◌, ◌∙◌, ℕ, ◌+◌, ◌%◌, ◌^◌, ◌<◌, ◌≤◌, eqb, cond, bit_and, Bool, true, false, not, ◌&&◌}
-use Rattle.std.proofs.Common.{List, ◌∷◌, map, length, get_or, replicate, sym, ap, arith}
+use Rattle.warc_head.proofs.Words.{◌≡◌, ◌∙◌, ℕ, ◌+◌, ◌^◌, ◌<◌, ◌≤◌, Bool, true, false, ◌&&◌, List}
+use Rattle.warc_head.proofs.Words.{◌∷◌, length, get_or, sym, ap, arith, zip2_splat, length-chunk}
+use Rattle.warc_head.proofs.Words.{chunk}
+use Rattle.std.proofs.Common.{◌%◌, eqb, cond, bit_and, not, map, replicate}
 use Rattle.std.specs.List.{prefix_len}
 use Rattle.std.proofs.lemmas.Bool.{eq-eqb, not-true}
 use Rattle.std.proofs.lemmas.List.{map-id}
 use Rattle.std.proofs.lemmas.List.Sums.{prefix_len-le-length, prefix_len_passes}
-use Rattle.std.proofs.lemmas.Simd.{zip2_splat, length-chunk, get_or-chunk, get_or-zip2, length-zip2, mask_l-mod}
+use Rattle.std.proofs.lemmas.Simd.{get_or-chunk, get_or-zip2, length-zip2, mask_l-mod}
 use Rattle.std.proofs.lemmas.Simd.{first_set_mask_l}
 use Rattle.httparse.specs.Pieces.{first_set}
-use lib.Lanes.{chunk, zip2, mask_l, top}
+use lib.Lanes.{zip2, mask_l, top}
 
 -- the lanes of a vector that have a byte: 255, and 0 elsewhere
 abbrev pub has_byte : ℕ → ℕ → ℕ

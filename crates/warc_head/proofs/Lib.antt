@@ -1,3 +1,4 @@
+pub mod Words
 pub mod LineLemmas
 pub mod NameLemmas
 pub mod FieldLemmas

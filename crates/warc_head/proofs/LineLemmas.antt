@@ -1,19 +1,20 @@
 -- The lines of a text.
-use Rattle.std.proofs.lemmas.Grind.{common_steps}
-use Rattle.std.proofs.Common.{◌≡◌, ℕ, suc, ◌+◌, ◌-◌, ◌<◌, ◌≤◌, List, [], ◌∷◌, ◌++◌, length, take, drop}
-use Rattle.std.proofs.Common.{get_or, refl, arith, true, false, Bool, ◌&&◌, add-one, length-drop, Ok}
-use Rattle.std.proofs.Common.{Err, nat_eq, if◌then◌else◌}
-use Rattle.std.specs.Prelude.{◌==◌, Some, None}
-use Rattle.std.specs.List.{list_all, ends_with}
+use Rattle.warc_head.proofs.Words.{common_steps, ◌≡◌, ℕ, suc, ◌+◌, ◌-◌, ◌<◌, ◌≤◌, List, [], ◌∷◌}
+use Rattle.warc_head.proofs.Words.{◌++◌, length, take, drop, get_or, refl, arith, true, false, Bool}
+use Rattle.warc_head.proofs.Words.{◌&&◌, length-drop, Ok, Err, if◌then◌else◌, ◌==◌, list_all}
+use Rattle.warc_head.proofs.Words.{take-append-drop, drop-drop, take-append_seam, drop-append_seam}
+use Rattle.warc_head.proofs.Words.{line_content, line_end, is_content, EndsLine}
+use Rattle.std.proofs.Common.{add-one, nat_eq}
+use Rattle.std.specs.Prelude.{Some, None}
+use Rattle.std.specs.List.{ends_with}
 use Rattle.std.specs.Cmp.Lexicographic.{pointwise}
 use Rattle.httparse.specs.Pieces.{IsRunAt}
-use Rattle.std.proofs.lemmas.List.{take-append-drop, drop-drop, get_or-drop}
-use Rattle.std.proofs.Math.Seq.{take-append_seam, drop-append_seam}
+use Rattle.std.proofs.lemmas.List.{get_or-drop}
 use Rattle.memchr.specs.Find.{is_byte2}
-use Rattle.warc_head.specs.declared.fault.HeadFault.TheVariants as faults
-use Rattle.warc_head.specs.Lines.{lines_of, line_content, line_end, is_content, BeginsWithLine, EndsLine}
+use Rattle.warc_head.specs.Lines.{lines_of, BeginsWithLine}
 use Rattle.warc_head.specs.Fields.{at_colon}
 use Rattle.warc_head.specs.Folding.{ended}
+use Rattle.warc_head.specs.declared.fault.HeadFault.TheVariants as faults
 
 pub false_of : (t : Bool) → (t ≡ true → ⊥) → t ≡ false
 false_of t h = grind arith

@@ -1,8 +1,8 @@
 -- The values of a name among fields, of which the last was looked at.
-use Rattle.std.proofs.Common.{◌≡◌, ◌<◌, ℕ, Bool, true, ◌&&◌, nat_lt, List, [], ◌∷◌, ◌++◌, length, codes, Ok}
-use Rattle.std.proofs.Common.{arith}
-use Rattle.std.proofs.lemmas.Bool.Decides.{nat_tests}
-use Rattle.warc_head.specs.Fields.{Field, field_values, value_of}
+use Rattle.warc_head.proofs.Words.{◌≡◌, ◌<◌, ℕ, Bool, true, ◌&&◌, List, [], ◌∷◌, ◌++◌, length}
+use Rattle.warc_head.proofs.Words.{codes, Ok, arith, nat_tests, Field, field_values}
+use Rattle.std.proofs.Common.{nat_lt}
+use Rattle.warc_head.specs.Fields.{value_of}
 use Rattle.warc_head.specs.Mandatory.{mandatory, none_missing, none_repeated, required, values_in}
 
 module _ (wanted : List ℕ) (last : Field) where

@@ -1,16 +1,13 @@
 -- Tokens of HTTP are the names of fields: both are of the visible ASCII characters but the separators.
-use Rattle.std.proofs.Common.{◌≡◌, ℕ, zero, suc, ◌<◌, ◌≤◌, Bool, true, false, ◌&&◌, List, [], ◌∷◌, get_or, length, take}
-use Rattle.std.proofs.Common.{Ok, arith, length-take-le, refl}
+use Rattle.warc_head.proofs.Words.{◌≡◌, ℕ, suc, ◌<◌, ◌≤◌, Bool, true, false, ◌&&◌, List, [], ◌∷◌}
+use Rattle.warc_head.proofs.Words.{get_or, length, take, Ok, arith, length-take-le, refl, list_all}
+use Rattle.warc_head.proofs.Words.{◌==◌, nat_tests, AllPassBetween, Field, continues, is_name_byte}
+use Rattle.warc_head.proofs.Words.{is_name}
+use Rattle.std.proofs.Common.{zero}
 use Rattle.std.specs.Bool.{beq}
-use Rattle.std.specs.List.{list_all}
-use Rattle.std.specs.Prelude.{◌==◌, not, nat_lt}
-use Rattle.std.proofs.lemmas.Bool.Decides.{nat_tests}
-use Rattle.std.specs.Prelude.{slice_index}
+use Rattle.std.specs.Prelude.{not, nat_lt, slice_index}
 use Rattle.httparse.specs.Grammar.{is_token_byte, is_token}
-use Rattle.httparse.specs.Pieces.{AllPassBetween}
-use Rattle.warc_head.specs.Fields.{Field, at_colon, field_in}
-use Rattle.warc_head.specs.Lines.{continues}
-use Rattle.warc_head.specs.Names.{is_name_byte, is_name}
+use Rattle.warc_head.specs.Fields.{at_colon, field_in}
 use Rattle.warc_head.specs.Spans.{EndsName}
 use Rattle.warc_head.proofs.LineLemmas.{colon_at}
 

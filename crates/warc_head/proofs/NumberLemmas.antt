@@ -1,7 +1,8 @@
 -- Numbers of few digits.
+use Rattle.warc_head.proofs.Words.{◌≡◌, ℕ, ◌+◌, ◌-◌, ◌^◌, ◌<◌, ◌≤◌, arith, List, ◌∷◌, length}
 use Rattle.std.proofs.Math.Nat.{pow-le-pow_right, one-le-pow}
 use Rattle.std.proofs.lemmas.Grind.{pow_more}
-use Rattle.std.proofs.Common.{◌≡◌, ℕ, ◌+◌, ◌-◌, ◌*◌, ◌^◌, ◌<◌, ◌≤◌, arith, lit<, List, ◌∷◌, length}
+use Rattle.std.proofs.Common.{◌*◌, lit<}
 
 -- one digit more
 pub digit-more : (n d k : ℕ) → n < 10 ^ k → d ≤ 9 → 10 * n + d < 10 ^ (k + 1)
@@ -21,3 +22,5 @@ pub step-small : (n : ℕ) (rest : List ℕ) (d : ℕ) (later : List ℕ) → re
 step-small n rest d later e a l h =
     let more = digit-more n (d - 48) (19 - length rest) in
     grind (arith, few-digits (10 * n + (d - 48)) (19 - length later))
+
+pub ruleset number_rules = (start-small, step-small)

@@ -1,9 +1,8 @@
 -- A line of a text that begins with the lines of a head.
-use Rattle.std.proofs.Common.{◌≡◌, ℕ, ◌+◌, ◌-◌, ◌<◌, ◌≤◌, List, ◌++◌, length, take, drop, arith, length-drop}
-use Rattle.std.proofs.Common.{length-append}
-use Rattle.std.proofs.lemmas.List.{take-append-le, take-append-drop, drop-drop, length-take-le}
-use Rattle.warc_head.specs.Lines.{EndsLine}
-use Rattle.warc_head.specs.Spans.{Continues, between}
+use Rattle.warc_head.proofs.Words.{◌≡◌, ℕ, ◌+◌, ◌-◌, ◌<◌, ◌≤◌, List, ◌++◌, length, take, drop}
+use Rattle.warc_head.proofs.Words.{arith, length-drop, length-append, take-append-drop, drop-drop}
+use Rattle.warc_head.proofs.Words.{EndsLine, Continues, between}
+use Rattle.std.proofs.lemmas.List.{take-append-le, length-take-le}
 use Rattle.warc_head.proofs.SpanLemmas.{between_more}
 
 module _ (raw text : List ℕ) (held : Continues raw text) (end at : ℕ) (inside : end ≤ length raw) where

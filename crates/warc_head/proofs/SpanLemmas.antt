@@ -1,14 +1,14 @@
 -- Fields that are stored at spans in one text.
-use Rattle.std.proofs.lemmas.Grind.{common_steps}
-use Rattle.std.proofs.Common.{◌≡◌, ℕ, ◌+◌, ◌≤◌, List, [], ◌∷◌, ◌++◌, length, drop, refl}
-use Rattle.std.proofs.Common.{arith, append-nil, append_assoc, length-append, false}
-use Rattle.std.specs.Prelude.{All}
-use Rattle.std.proofs.lemmas.List.{take-append-le, drop-append-le, map-append, length-drop, take_all}
-use Rattle.std.proofs.lemmas.List.Elements.{All-append, All-cons, All-nil, All-tail}
-use Rattle.warc_head.specs.declared.spans.FieldSpan.{FieldSpan}
+use Rattle.warc_head.proofs.Words.{common_steps, ◌≡◌, ℕ, ◌+◌, ◌≤◌, List, [], ◌∷◌, ◌++◌, length}
+use Rattle.warc_head.proofs.Words.{drop, refl, arith, append-nil, append_assoc, length-append}
+use Rattle.warc_head.proofs.Words.{false, All, take_rest, All-cons, All-nil, FieldSpan, IsWithin}
+use Rattle.warc_head.proofs.Words.{between, field_at, fields_at, moved, Continues}
+use Rattle.std.proofs.lemmas.List.{take-append-le, drop-append-le, map-append, length-drop}
+use Rattle.std.proofs.lemmas.List.{take_all}
+use Rattle.std.proofs.lemmas.List.Elements.{All-append, All-tail}
 use Rattle.warc_head.specs.Names.{same_name}
 use Rattle.warc_head.specs.Fields.{joined, longer, value_of}
-use Rattle.warc_head.specs.Spans.{IsWithin, between, field_at, fields_at, moved, Continues, joint}
+use Rattle.warc_head.specs.Spans.{joint}
 use Rattle.std.proofs.Math.Seq.{drop-append-add}
 
 -- bytes that are appended change nothing before them
@@ -108,3 +108,5 @@ module _ (text name : List ℕ) (rest later : List FieldSpan) (first : FieldSpan
       ≡ value_of name (fields_at text later)
   unfolding value_of
   value_later h = grind arith
+
+pub ruleset longer_rules = (take_rest, between_more, append_assoc)

@@ -1,15 +1,13 @@
 -- Reading what was spelled.
-use Rattle.std.proofs.Common.{◌≡◌, ℕ, suc, ◌-◌, true, false, List, [], ◌∷◌, ◌++◌, length, refl, arith}
-use Rattle.std.proofs.Common.{append_assoc, length-append, Some, None, Ok}
-use Rattle.std.specs.Prelude.{All}
-use Rattle.std.specs.List.{list_all}
+use Rattle.warc_head.proofs.Words.{◌≡◌, ℕ, suc, ◌-◌, true, false, List, [], ◌∷◌, ◌++◌, length, refl}
+use Rattle.warc_head.proofs.Words.{arith, append_assoc, length-append, Some, None, Ok, All}
+use Rattle.warc_head.proofs.Words.{list_all, take-append_seam, line_end, continues, is_content}
+use Rattle.warc_head.proofs.Words.{is_name, is_name_byte, Field, field_lines_in}
 use Rattle.std.proofs.lemmas.List.Folds.{list_all-append}
 use Rattle.std.proofs.lemmas.List.{drop_at}
-use Rattle.std.proofs.Math.Seq.{take-append_seam}
-use Rattle.warc_head.specs.Lines.{lines_of, line_end, continues, is_content}
-use Rattle.warc_head.specs.Names.{is_name, is_name_byte}
-use Rattle.warc_head.specs.Fields.{Field, at_colon, field_in, given_by, fields_of}
-use Rattle.warc_head.specs.Parts.{parts_of, field_lines_in}
+use Rattle.warc_head.specs.Lines.{lines_of}
+use Rattle.warc_head.specs.Fields.{at_colon, field_in, given_by, fields_of}
+use Rattle.warc_head.specs.Parts.{parts_of}
 use Rattle.warc_head.specs.Spelling.{IsOneLine, field_text, spelled, SpellingReadsBack}
 use Rattle.warc_head.proofs.DateLemmas.{and_both}
 use Rattle.warc_head.proofs.LineLemmas.{line_first, line_text}

@@ -1,11 +1,12 @@
 -- White space at the ends of a text, and where the text between it stands.
-use Rattle.std.proofs.Common.{◌≡◌, ℕ, ◌+◌, ◌-◌, ◌≤◌, true, false, List, [], ◌∷◌, ◌++◌, length, drop}
-use Rattle.std.proofs.Common.{reverse, refl, ap, arith, length-append, append_assoc, if◌then◌else◌}
-use Rattle.std.proofs.lemmas.List.{reverse-append, reverse-reverse, length-drop, take-append-drop, drop-drop}
-use Rattle.std.proofs.lemmas.List.{length-take-le}
-use Rattle.std.proofs.Math.Seq.{drop-append_seam, take-append_seam}
+use Rattle.warc_head.proofs.Words.{◌≡◌, ℕ, ◌+◌, ◌-◌, ◌≤◌, true, false, List, [], ◌∷◌, ◌++◌, length}
+use Rattle.warc_head.proofs.Words.{drop, refl, ap, arith, length-append, append_assoc}
+use Rattle.warc_head.proofs.Words.{if◌then◌else◌, take-append-drop, drop-drop, drop-append_seam}
+use Rattle.warc_head.proofs.Words.{take-append_seam, between}
+use Rattle.std.proofs.Common.{reverse}
+use Rattle.std.proofs.lemmas.List.{reverse-append, reverse-reverse, length-drop, length-take-le}
 use Rattle.warc_head.specs.Lines.{is_white_space, trim_front, trim_end}
-use Rattle.warc_head.specs.Spans.{between, IsTrimmed}
+use Rattle.warc_head.specs.Spans.{IsTrimmed}
 
 trimmed_front : (bs : List ℕ) → (before : List ℕ) × (bs ≡ before ++ trim_front bs)
 trimmed_front [] = ([], refl)

@@ -1,17 +1,18 @@
 -- The lines of a head whose end isn't known yet.
-use Rattle.std.proofs.Common.{◌≡◌, ℕ, ◌+◌, ◌-◌, ◌<◌, ◌≤◌, false, List, ◌∷◌, [], ◌++◌, Ok, length, take, drop, get_or}
-use Rattle.std.proofs.Common.{◌∙◌, ap, sym, arith, append_assoc, length-drop, length-take-le, append-nil}
-use Rattle.std.specs.Prelude.{All, slice_index}
-use Rattle.std.proofs.Math.Seq.{take-append-add, drop-append_seam}
-use Rattle.std.proofs.lemmas.List.{take-append-drop, take_all, take-take, drop-drop, drop-take, get_or-drop, get_or-take}
+use Rattle.warc_head.proofs.Words.{◌≡◌, ℕ, ◌+◌, ◌-◌, ◌<◌, ◌≤◌, false, List, ◌∷◌, [], ◌++◌, Ok}
+use Rattle.warc_head.proofs.Words.{length, take, drop, get_or, ◌∙◌, ap, sym, arith, append_assoc}
+use Rattle.warc_head.proofs.Words.{length-drop, length-take-le, append-nil, All, drop-append_seam}
+use Rattle.warc_head.proofs.Words.{take-append-drop, drop-drop, FieldSpan, Field, EndsLine}
+use Rattle.warc_head.proofs.Words.{continues, is_content, line_end, field_lines_in, IsWithin}
+use Rattle.warc_head.proofs.Words.{between, field_at, fields_at, moved, All-cons, All-nil}
+use Rattle.std.specs.Prelude.{slice_index}
+use Rattle.std.proofs.Math.Seq.{take-append-add}
+use Rattle.std.proofs.lemmas.List.{take_all, take-take, drop-take, get_or-drop, get_or-take}
 use Rattle.std.proofs.lemmas.List.Folds.{list_all_at}
-use Rattle.warc_head.specs.declared.spans.FieldSpan.{FieldSpan}
-use Rattle.warc_head.specs.Fields.{Field, fields_of, field_in}
-use Rattle.warc_head.specs.Lines.{EndsLine, continues, is_content, line_end}
-use Rattle.warc_head.specs.Parts.{HeadParts, field_lines_in, parts_in, parts_of}
-use Rattle.warc_head.specs.Spans.{IsWithin, between, field_at, fields_at, moved}
+use Rattle.warc_head.specs.Fields.{fields_of, field_in}
+use Rattle.warc_head.specs.Parts.{HeadParts, parts_in, parts_of}
 use Rattle.warc_head.specs.Usual.{BeginsWithHead, ClosesAt, IsHeadOf}
-use Rattle.std.proofs.lemmas.List.Elements.{All-append, All-cons, All-nil}
+use Rattle.std.proofs.lemmas.List.Elements.{All-append}
 use Rattle.warc_head.proofs.SpanLemmas.{field_added, fields_more}
 use Rattle.warc_head.proofs.FieldLemmas.{going, going-began, going-end, going-start}
 

@@ -61,7 +61,7 @@ fn value_at_end(text: &mut Vec<u8>, span: FieldSpan) -> Result<usize, AllocError
 }
 
 /// Appends the piece between two offsets to a text that ends with a value, which begins at this offset.
-#[tactic(auto, using(std::proofs::lemmas::List::take_rest, crate::proofs::SpanLemmas::between_more, std::proofs::Common::append_assoc))]
+#[tactic(auto, using(crate::proofs::SpanLemmas::longer_rules))]
 fn join(text: &mut Vec<u8>, value: usize, start: usize, end: usize) -> Result<(), AllocError>
     requires value { value ≤ length text.old.items }
     requires order { start ≤ end }

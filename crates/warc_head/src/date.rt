@@ -26,7 +26,7 @@ pub fn stamp_of(text: &[u8]) -> Result<[u8; 14], HeadFault>
 }
 
 /// Returns the length of the date and the time in bytes, without the fraction and `Z`.
-#[tactic(auto, using(crate::proofs::DateLemmas::fits_long, crate::proofs::DateLemmas::long_fraction), unfolding(crate::specs::Date::date_length))]
+#[tactic(auto, using(crate::proofs::DateLemmas::long_rules), unfolding(crate::specs::Date::date_length))]
 fn date_length(text: &[u8]) -> Option<usize>
     ensures is { result ≡ date_length text.now }
     ensures within { MatchOption result ⊤ (λ n. (n ≤ 19) × (n ≤ length text.now)) }

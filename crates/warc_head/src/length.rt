@@ -28,6 +28,7 @@ pub fn all_digits(text: &[u8]) -> bool
 }
 
 /// Returns the number that a text of at most 19 bytes spells, if each byte is a digit.
+#[tactic(auto, using(crate::proofs::NumberLemmas::number_rules))]
 fn number_of(text: &[u8]) -> Option<u64>
     requires { length text.now ≤ 19 }
     ensures { MatchOption result (all_digits text.now ≡ false)

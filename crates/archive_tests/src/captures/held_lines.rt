@@ -5,8 +5,8 @@ use std::alloc::{AllocError, Global};
 use std::cmp::Ordering;
 use std::test::Fail;
 
-/// A file name, the offset of the record, and the line of the entry with both. A quote and a backslash are escaped
-/// (RFC 8259, section 7).
+/// A file name, the offset of the record, and the line of the entry with both. A quote and a
+/// backslash are escaped (RFC 8259, section 7).
 struct Held {
     filename: &'static str,
     offset: u64,

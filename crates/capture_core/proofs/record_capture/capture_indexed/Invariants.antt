@@ -1,5 +1,5 @@
-use Rattle.std.proofs.Common.{◌-◌, ◌≤◌, ℕ, List, [], Option, Result, length, take}
-use Rattle.warc_core.specs.ReaderView.{ReaderView, state_of}
+use Rattle.std.proofs.Common.{◌-◌, ◌≤◌, [], Option, Result, length, take}
+use Rattle.warc_core.specs.ReaderView.{ReaderState, state_of}
 use Rattle.cdxj_core.specs.Entries.{EntryValue}
 use Rattle.capture_core.specs.declared.fault.CaptureFault.{CaptureFault}
 use Rattle.capture_core.specs.CaptureSteps.{HasFront, CapturesRest}
@@ -9,12 +9,11 @@ abbrev pub invariant-steps : goal.invariant-steps
 invariant-steps g l = record {
   within : l.filled ≤ length l.front.items;
   ready : HasFront l.indexed (take l.filled l.front.items) l.reader;
-  rest : (r : Result (Option EntryValue) CaptureFault) (new : ReaderView) (after : Option (List ℕ)) (k : ℕ)
+  rest : (r : Result (Option EntryValue) CaptureFault) (new : ReaderState)
       → CapturesRest l.indexed (take l.filled l.front.items)
-      (state_of l.reader (g.I.Input.remaining l.input) (g.I.Input.failures l.input)) (state_of new after k) r
+      (state_of l.reader (g.I.Input.remaining l.input) (g.I.Input.failures l.input)) new r
       → CapturesRest l.indexed []
-      (state_of l.fn.reader (g.I.Input.remaining l.fn.input) (g.I.Input.failures l.fn.input)) (state_of new after k)
-      r;
+      (state_of l.fn.reader (g.I.Input.remaining l.fn.input) (g.I.Input.failures l.fn.input)) new r;
 }
 
 abbrev pub decreases-steps : goal.decreases-steps

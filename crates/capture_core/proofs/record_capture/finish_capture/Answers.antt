@@ -1,22 +1,15 @@
 use Rattle.warc_core.proofs.VerdictLemmas.{digest-found}
 use Rattle.std.proofs.Common.{arith, ◌≡◌, ◌∙◌, ◌-◌, ◌++◌, length, take, option_map}
 use Rattle.sha1.specs.Sha1.{sha1}
-use Rattle.warc_core.specs.HeadView.{record_length}
 use Rattle.capture_core.specs.ResponseView.{response_view}
 use Rattle.capture_core.specs.CaptureAnswer.{usual_limits}
 use Rattle.capture_core.proofs.CaptureLemmas.{rest-behind, behind-digest, digest-known, digest-settled}
 use Rattle.capture_core.proofs.CaptureLemmas.{digest-made, capture-known, some-always, some-then}
 use Rattle.capture_core.proofs.record_capture.finish_capture.Goals as goal
 
-pub capture_closed-requires-in-None-clause-stands : goal.capture_closed-requires-in-None-clause-stands
-capture_closed-requires-in-None-clause-stands g c =
-    let d = c.in_ok-digest_rest-in-None.ensures _ (record_length c.args.indexed.head.now)
-    c.requires.ready.stands.phase_is in
-    grind arith
-
 pub returns-in-Some : goal.returns-in-Some
 returns-in-Some g c = record {
-  reads = c.capture_closed.ensures.reads _ (record_length c.args.indexed.head.now) c.requires.ready.stands.phase_is;
+  reads = grind arith;
   capture = some-always _ _
       (λ bytes. capture-known usual_limits c.args.indexed.head.now c.args.indexed.name.now c.args.indexed.url.now
       c.args.parted.bytes.now c.args.parted.payload.now bytes c.in-Some.digest.now
@@ -28,13 +21,10 @@ returns-in-Some g c = record {
 
 pub returns-in_ok-digest_rest-in-None : goal.returns-in_ok-digest_rest-in-None
 returns-in_ok-digest_rest-in-None g c =
-    let d = c.in_ok-digest_rest-in-None.ensures _ (record_length c.args.indexed.head.now)
-    c.requires.ready.stands.phase_is in
     let left = c.args.indexed.head.now.parts.block_length - length c.args.parted.bytes.now in
+    let d = rw c.requires.ready.stands.phase_is at c.in_ok-digest_rest-in-None.ensures in
     record {
-      reads = rest-behind _ 0 c.args.indexed.head.now _ _ _ _ _ _ _ _ _ _
-          (behind-digest _ c.args.parted.payload.now c.in_ok-digest_rest-in-None.field-0 _ _ d.bytes) d.failures
-          (c.capture_closed-in-None.ensures.reads 0 (record_length c.args.indexed.head.now) d.state.phase_is);
+      reads = grind (arith, rest-behind, behind-digest);
       capture = some-then _ (λ bytes. c.in_ok-digest_rest-in-None.field-0
           ≡ sha1 (c.args.parted.payload.now ++ take left bytes)) _
           (λ bytes hashed. capture-known usual_limits c.args.indexed.head.now c.args.indexed.name.now
@@ -48,7 +38,4 @@ returns-in_ok-digest_rest-in-None g c =
     }
 
 pub returns-in_err-digest_rest-in-None : goal.returns-in_err-digest_rest-in-None
-returns-in_err-digest_rest-in-None g c =
-    let d = c.in_err-digest_rest-in-None.ensures _ (record_length c.args.indexed.head.now)
-    c.requires.ready.stands.phase_is in
-    grind (arith, digest-found)
+returns-in_err-digest_rest-in-None g c = grind (arith, digest-found)

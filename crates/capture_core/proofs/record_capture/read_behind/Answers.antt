@@ -5,7 +5,7 @@ use Rattle.warc_core.proofs.FillLemmas.{take-written}
 use Rattle.capture_core.proofs.record_capture.read_behind.Goals as goal
 
 pub returns : goal.returns
-returns g c = λ left len phase.
+returns g c =
     let filled = c.args.filled in
     let goal_size = c.args.goal in
     let front = c.args.front.now in
@@ -19,5 +19,5 @@ returns g c = λ left len phase.
           ∙ (take-written filled (goal_size - filled) (length piece) front piece
           (omega (arith, c.requires.order, c.requires.within)) (omega arith)
           ∙ ap (λ t. take filled front ++ t) (take_all (length piece) piece (omega arith))),
-      c.block_exact.ensures left len phase,
+      c.block_exact.ensures,
     )

@@ -1,11 +1,11 @@
-use Rattle.std.proofs.Common.{◌≡◌, ℕ, List, [], ◌++◌, ap, refl, ◌∙◌, arith, codes, length, length-append, string_bytes}
+use Rattle.std.proofs.Common.{◌≡◌, ℕ, List, ◌++◌, ap, drop, ◌∙◌, arith, codes, length, length-append, string_bytes}
 use Rattle.cdxj_objects.specs.declared.members.Members.{Members}
 use Rattle.cdxj_objects.specs.FoundViews.{found_view}
 use Rattle.cdxj_objects.specs.Plain.{fronts, plain_pieces, plain_text}
 use Rattle.cdxj_objects.specs.PlainPlaces.{AreFrontsOf}
 use Rattle.cdxj_objects.specs.Spelling.{raw_texts}
 use Rattle.cdxj_objects.specs.Texts.{TextsValue}
-use Rattle.cdxj_objects.proofs.PlainLaw.{in_one}
+use Rattle.cdxj_objects.proofs.PlainLaw.{pushed}
 use Rattle.cdxj_objects.proofs.spelling.spelled.Goals as goal
 
 -- a front and a text were added to a text, which ends there
@@ -19,34 +19,18 @@ is_written : (t : TextsValue) (at : Members ℕ) (s0 s1 s2 s3 s4 s5 s6 s7 s8 : L
     → IsPushed s4 fronts.length t.length s5 at.offset → IsPushed s5 fronts.offset t.offset s6 at.filename
     → s7 ≡ s6 ++ (fronts.filename ++ t.filename) → s8 ≡ s7 ++ codes "\"}"
     → (s8 ≡ s0 ++ plain_text t) × AreFrontsOf s8 t at
-is_written t at s0 s1 s2 s3 s4 s5 s6 s7 s8 object url mime status digest size offset filename closed = (
-  closed ∙ in_one (plain_pieces t) [] s0 s7 (
-    s1,
-    url.0,
-    (
-      s2,
-      mime.0,
-      (
-        s3,
-        status.0,
-        (
-          s4,
-          digest.0,
-          (
-            s5,
-            size.0,
-            (
-              s6,
-              offset.0,
-              (s7, filename, refl),
-            ),
-          ),
-        ),
-      ),
-    ),
-  ),
-  grind (arith, length-append),
-)
+is_written t at s0 s1 s2 s3 s4 s5 s6 s7 s8 object url mime status digest size offset filename closed =
+    let all = plain_pieces t in (
+      closed
+          ∙ pushed (fronts.filename, t.filename) (drop 7 all) s6 s7 filename
+          ∙ pushed (fronts.offset, t.offset) (drop 6 all) s5 s6 offset.0
+          ∙ pushed (fronts.length, t.length) (drop 5 all) s4 s5 size.0
+          ∙ pushed (fronts.digest, t.digest) (drop 4 all) s3 s4 digest.0
+          ∙ pushed (fronts.status, t.status) (drop 3 all) s2 s3 status.0
+          ∙ pushed (fronts.mime, t.mime) (drop 2 all) s1 s2 mime.0
+          ∙ pushed (fronts.url, t.url) (drop 1 all) s0 s1 url.0,
+      grind (arith, length-append),
+    )
 
 pub returns : goal.returns
 returns c =

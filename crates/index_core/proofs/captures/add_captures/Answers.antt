@@ -1,7 +1,6 @@
+use Rattle.index_core.proofs.Words.{none_at_end, ◌∙◌, ◌++◌, [], append-nil, length-append}
+use Rattle.index_core.proofs.Words.{option_to_list, append_assoc, arith, HEAD_LIMIT}
 use Rattle.cdxj_places.proofs.RisingLaws.{each_join}
-use Rattle.warc_core.proofs.WalkLemmas.{none_at_end}
-use Rattle.std.proofs.Common.{◌∙◌, ◌++◌, [], append-nil, length-append, option_to_list, append_assoc, arith}
-use Rattle.warc_core.specs.declared.next.TheConstants.{HEAD_LIMIT}
 use Rattle.cdxj_core.specs.declared.limit.TheConstants.{LINE_LIMIT}
 use Rattle.capture_core.specs.Types.{includes}
 use Rattle.capture_core.specs.CaptureAnswer.{usual_limits}

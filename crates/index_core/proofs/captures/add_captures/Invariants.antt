@@ -1,12 +1,10 @@
-use Rattle.std.proofs.Common.{◌≡◌, ◌++◌, ◌≤◌, ◌-◌, ◌^◌, List, ℕ, true, length}
-use Rattle.std.specs.Io.KnownBytes.{prepend_known}
-use Rattle.warc_core.specs.declared.next.TheConstants.{HEAD_LIMIT}
-use Rattle.warc_core.specs.declared.phase.Phase.TheVariants.{Between}
+use Rattle.index_core.proofs.Words.{◌≡◌, ◌++◌, ◌≤◌, ◌-◌, ◌^◌, List, ℕ, length, prepend_known}
+use Rattle.index_core.proofs.Words.{HEAD_LIMIT, Between, EntryValue, is_among}
+use Rattle.std.proofs.Common.{true}
 use Rattle.cdxj_core.specs.declared.limit.TheConstants.{LINE_LIMIT}
-use Rattle.cdxj_core.specs.Entries.{EntryValue}
 use Rattle.capture_core.specs.Types.{includes}
 use Rattle.capture_core.specs.CaptureAnswer.{usual_limits}
-use Rattle.index_core.specs.Indexing.{AreNamed, AreSound, is_among}
+use Rattle.index_core.specs.Indexing.{AreNamed, AreSound}
 use Rattle.index_core.specs.Captures.{StandBefore}
 use Rattle.index_core.proofs.AddingLemmas.{AddedSoFar}
 use Rattle.index_core.proofs.captures.add_captures.Given as goal

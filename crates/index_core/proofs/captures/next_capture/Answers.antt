@@ -1,6 +1,4 @@
-use Rattle.std.proofs.Common.{arith}
-use Rattle.std.proofs.lemmas.Result.{err_from_is_err_and}
-use Rattle.warc_core.proofs.WalkLemmas.{record-stopped}
+use Rattle.index_core.proofs.Words.{arith, err_from_is_err_and, record-stopped}
 use Rattle.index_core.proofs.captures.next_capture.Goals as goal
 
 pub returns-in_err-next-clause-takes : goal.returns-in_err-next-clause-takes

@@ -1,4 +1,4 @@
-use Rattle.warc_core.specs.declared.next.TheConstants.{HEAD_LIMIT}
+use Rattle.index_core.proofs.Words.{HEAD_LIMIT}
 use Rattle.index_core.proofs.FetchLemmas.{next_copied}
 use Rattle.index_core.proofs.fetching.copy_next.Goals as goal
 

@@ -1,10 +1,7 @@
-use Rattle.std.proofs.Common.{◌≡◌, ◌<◌, ◌≤◌, ◌-◌, ◌^◌, IfSome}
-use Rattle.std.specs.Io.KnownBytes.{prepend_known}
-use Rattle.warc_core.specs.declared.next.TheConstants.{HEAD_LIMIT}
-use Rattle.warc_core.specs.declared.phase.Phase.TheVariants.{Between}
+use Rattle.index_core.proofs.Words.{◌≡◌, ◌<◌, ◌≤◌, ◌-◌, ◌^◌, IfSome, prepend_known, HEAD_LIMIT}
+use Rattle.index_core.proofs.Words.{Between, IsInRecord}
 use Rattle.warc_core.specs.ReaderView.{StandsAt}
 use Rattle.index_core.specs.Copying.{WalkedTo}
-use Rattle.index_core.specs.Fetching.{IsInRecord}
 use Rattle.index_core.proofs.fetching.reader_at.Given as goal
 
 abbrev pub invariant-loop-end : goal.invariant-loop-end

@@ -1,12 +1,11 @@
-use Rattle.std.proofs.Common.{arith, Option, slice_get, subst, ap, ◌∙◌}
-use Rattle.std.specs.List.{filter_map}
+use Rattle.index_core.proofs.Words.{arith, Option, slice_get, subst, ap, ◌∙◌, filter_map}
+use Rattle.index_core.proofs.Words.{EntryValue, entries_text}
 use Rattle.std.proofs.lemmas.List.{length-map}
 use Rattle.devices.proofs.WritingLemmas.{wrote_nothing}
 use Rattle.devices.specs.Writing.{WritesText}
-use Rattle.cdxj_core.specs.Entries.{EntryValue}
 use Rattle.cdxj_places.specs.declared.order.Row.{Row}
 use Rattle.cdxj_places.proofs.NumberedRising.{found_all}
-use Rattle.index_core.specs.Indexing.{entries_text, in_places}
+use Rattle.index_core.specs.Indexing.{in_places}
 use Rattle.index_core.proofs.index_lines.put_index.Goals as goal
 
 pub returns-in-Err-clause-lines : goal.returns-in-Err-clause-lines

@@ -1,9 +1,6 @@
-use Rattle.std.proofs.Common.{◌∙◌, Option, slice_get, subst, sym}
-use Rattle.std.specs.Io.KnownBytes.{Appends}
-use Rattle.std.proofs.lemmas.Result.{err_from_is_err_and}
-use Rattle.devices.proofs.DeviceLemmas.{Appends-join, AppendsPrefix-behind}
-use Rattle.devices.specs.Device.{AppendsPrefix}
-use Rattle.cdxj_core.specs.Entries.{EntryValue}
+use Rattle.index_core.proofs.Words.{◌∙◌, Option, slice_get, subst, sym, Appends}
+use Rattle.index_core.proofs.Words.{err_from_is_err_and, Appends-join, AppendsPrefix, EntryValue}
+use Rattle.devices.proofs.DeviceLemmas.{AppendsPrefix-behind}
 use Rattle.cdxj_places.specs.declared.order.Row.{Row}
 use Rattle.index_core.proofs.IndexLemmas.{lines_at, lines_more}
 use Rattle.index_core.proofs.index_lines.put_lines.Goals as goal

@@ -1,7 +1,4 @@
-use Rattle.std.proofs.Common.{◌≡◌, take, slice_get}
-use Rattle.std.specs.Io.KnownBytes.{Appends}
-use Rattle.std.specs.List.{filter_map}
-use Rattle.index_core.specs.Indexing.{entries_text}
+use Rattle.index_core.proofs.Words.{◌≡◌, take, slice_get, Appends, filter_map, entries_text}
 use Rattle.index_core.proofs.index_lines.put_lines.Given as goal
 
 abbrev pub invariant-loop-row : goal.invariant-loop-row

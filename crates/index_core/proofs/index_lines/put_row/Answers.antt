@@ -1,5 +1,4 @@
-use Rattle.std.proofs.Common.{arith, append-nil}
-use Rattle.devices.proofs.DeviceLemmas.{Appends-none}
+use Rattle.index_core.proofs.Words.{arith, append-nil, Appends-none}
 use Rattle.index_core.proofs.index_lines.put_row.Goals as goal
 
 pub returns-in-Some-clause-line : goal.returns-in-Some-clause-line

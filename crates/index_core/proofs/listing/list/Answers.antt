@@ -1,9 +1,8 @@
-use Rattle.std.proofs.Common.{◌∙◌, [], ◌∷◌, length-append, arith, refl}
-use Rattle.std.proofs.lemmas.Result.{err_from_is_err_and}
-use Rattle.warc_core.specs.declared.next.TheConstants.{HEAD_LIMIT}
+use Rattle.index_core.proofs.Words.{◌∙◌, [], ◌∷◌, length-append, arith, refl, err_from_is_err_and}
+use Rattle.index_core.proofs.Words.{HEAD_LIMIT}
 use Rattle.index_core.proofs.ListingLemmas.{listing, one_record}
-use Rattle.index_core.proofs.ReportLemmas.{reporting_none, reporting_more, reporting_end, reporting_stopped}
-use Rattle.index_core.proofs.ReportLemmas.{reporting_fault}
+use Rattle.index_core.proofs.ReportLemmas.{reporting_none, reporting_more, reporting_end}
+use Rattle.index_core.proofs.ReportLemmas.{reporting_stopped, reporting_fault}
 use Rattle.index_core.proofs.listing.list.Goals as goal
 
 pub returns-in-Err-clause-lists : goal.returns-in-Err-clause-lists

@@ -1,10 +1,9 @@
-use Rattle.std.proofs.Common.{arith, refl}
-use Rattle.std.proofs.lemmas.Result.{err_from_is_err_and}
-use Rattle.warc_core.specs.declared.next.TheConstants.{HEAD_LIMIT}
+use Rattle.index_core.proofs.Words.{arith, refl, err_from_is_err_and, HEAD_LIMIT}
 use Rattle.index_core.specs.declared.verified.Verified.{Verified}
-use Rattle.index_core.proofs.VerdictLemmas.{is_line, one_judged, one_verdict, verdict_known, verification}
-use Rattle.index_core.proofs.ReportLemmas.{reporting_none, reporting_more, reporting_end, reporting_stopped}
-use Rattle.index_core.proofs.ReportLemmas.{reporting_fault}
+use Rattle.index_core.proofs.VerdictLemmas.{is_line, one_judged, one_verdict, verdict_known}
+use Rattle.index_core.proofs.VerdictLemmas.{verification}
+use Rattle.index_core.proofs.ReportLemmas.{reporting_none, reporting_more, reporting_end}
+use Rattle.index_core.proofs.ReportLemmas.{reporting_stopped, reporting_fault}
 use Rattle.index_core.proofs.verifying.verify.Goals as goal
 
 pub returns-in-Err-clause-verifies : goal.returns-in-Err-clause-verifies

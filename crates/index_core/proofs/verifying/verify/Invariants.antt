@@ -1,7 +1,4 @@
-use Rattle.std.proofs.Common.{◌≡◌, ◌≤◌, ◌-◌, ◌^◌}
-use Rattle.std.specs.Io.KnownBytes.{prepend_known}
-use Rattle.warc_core.specs.declared.next.TheConstants.{HEAD_LIMIT}
-use Rattle.warc_core.specs.declared.phase.Phase.TheVariants.{Between}
+use Rattle.index_core.proofs.Words.{◌≡◌, ◌≤◌, ◌-◌, ◌^◌, prepend_known, HEAD_LIMIT, Between}
 use Rattle.index_core.proofs.ReportLemmas.{Reporting}
 use Rattle.index_core.proofs.VerdictLemmas.{verification}
 use Rattle.index_core.proofs.verifying.verify.Given as goal

@@ -1,5 +1,4 @@
-use Rattle.std.proofs.Common.{arith}
-use Rattle.warc_core.specs.declared.next.TheConstants.{HEAD_LIMIT}
+use Rattle.index_core.proofs.Words.{arith, HEAD_LIMIT}
 use Rattle.index_core.proofs.VerdictLemmas.{judged_verdict}
 use Rattle.index_core.proofs.walk.next_verdict.Goals as goal
 

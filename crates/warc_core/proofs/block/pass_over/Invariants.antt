@@ -1,5 +1,4 @@
-use Rattle.std.proofs.Common.{◌≡◌}
-use Rattle.std.specs.Io.KnownBytes.{prepend_known}
+use Rattle.warc_core.proofs.Words.{◌≡◌, prepend_known}
 use Rattle.warc_core.proofs.ReadingLemmas.{GoesOn}
 use Rattle.warc_core.specs.Reading.{past}
 use Rattle.warc_core.proofs.block.pass_over.Given as goal

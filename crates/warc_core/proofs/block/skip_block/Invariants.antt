@@ -1,5 +1,4 @@
-use Rattle.std.proofs.Common.{◌≡◌}
-use Rattle.std.specs.Io.KnownBytes.{prepend_known}
+use Rattle.warc_core.proofs.Words.{◌≡◌, prepend_known}
 use Rattle.warc_core.proofs.ReadingLemmas.{GoesOn}
 use Rattle.warc_core.specs.Record.{after_block}
 use Rattle.warc_core.proofs.block.skip_block.Given as goal

@@ -1,7 +1,6 @@
-use Rattle.std.proofs.Common.{◌≡◌, drop}
-use Rattle.std.specs.Io.KnownBytes.{prepend_known}
+use Rattle.warc_core.proofs.Words.{◌≡◌, drop, prepend_known, closing}
 use Rattle.warc_core.proofs.ReadingLemmas.{GoesOn}
-use Rattle.warc_core.specs.Record.{after_text, closing}
+use Rattle.warc_core.specs.Record.{after_text}
 use Rattle.warc_core.proofs.closing.expect_closing.Given as goal
 
 abbrev pub invariant-loop-expected : goal.invariant-loop-expected

@@ -1,4 +1,5 @@
-use Rattle.std.proofs.Common.{◌<◌, ◌∙◌, ap, arith}
+use Rattle.warc_core.proofs.Words.{◌<◌, ap, arith}
+use Rattle.std.proofs.Common.{◌∙◌}
 use Rattle.warc_core.specs.Base32.{letter_of}
 use Rattle.warc_core.proofs.Bits.{first, second, third, fourth, fifth, sixth, seventh, eighth}
 use Rattle.warc_core.proofs.digest_text.letters.Goals as goal

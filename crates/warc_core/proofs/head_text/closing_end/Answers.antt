@@ -1,9 +1,10 @@
-use Rattle.std.proofs.Common.{◌+◌, length, drop, arith, length-drop}
+use Rattle.warc_core.proofs.Words.{◌+◌, length, drop, arith, length-drop}
 use Rattle.std.proofs.lemmas.List.{take_rest}
-use Rattle.warc_core.proofs.ClosingLemmas.{begins-occurs, occurs-begins, occurs-before, found-first, found-none}
-use Rattle.warc_core.proofs.ClosingLemmas.{NoneBetween, none-behind, none-in-run, none-at}
-use Rattle.warc_core.proofs.head_text.closing_end.Goals as goal
+use Rattle.warc_core.proofs.ClosingLemmas.{begins-occurs, occurs-begins, occurs-before, found-first}
+use Rattle.warc_core.proofs.ClosingLemmas.{found-none, NoneBetween, none-behind, none-in-run}
+use Rattle.warc_core.proofs.ClosingLemmas.{none-at}
 use Rattle.warc_core.proofs.head_text.closing_end.Goals.{After-run_to_closing-run}
+use Rattle.warc_core.proofs.head_text.closing_end.Goals as goal
 
 none : (c : After-run_to_closing-run)
     → NoneBetween c.args.text.now c.args.before (c.blocks-2.at + c.run_to_closing-run.result)

@@ -1,4 +1,4 @@
-use Rattle.std.proofs.Common.{◌-◌, ◌≤◌, length}
+use Rattle.warc_core.proofs.Words.{◌-◌, ◌≤◌, length}
 use Rattle.warc_core.proofs.ClosingLemmas.{NoneBetween}
 use Rattle.warc_core.proofs.head_text.closing_end.Given as goal
 

@@ -1,6 +1,5 @@
-use Rattle.std.proofs.lemmas.List.{take-append-le}
-use Rattle.std.proofs.Common.{length, arith, ap}
-use Rattle.std.proofs.lemmas.List.{take_all, length-take-le}
+use Rattle.warc_core.proofs.Words.{length, arith, ap, length-take-le}
+use Rattle.std.proofs.lemmas.List.{take-append-le, take_all}
 use Rattle.warc_core.proofs.GatherLemmas.{head-piece, head-is-found}
 use Rattle.warc_core.proofs.head_text.read_head_text.Goals as goal
 

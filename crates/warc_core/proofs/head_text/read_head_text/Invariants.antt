@@ -1,7 +1,7 @@
-use Rattle.std.proofs.Common.{◌≡◌, ℕ, ◌≤◌, ◌-◌, true, false, length, take}
-use Rattle.std.specs.Io.KnownBytes.{prepend_known}
+use Rattle.warc_core.proofs.Words.{◌≡◌, ℕ, ◌≤◌, ◌-◌, true, false, length, take, prepend_known}
+use Rattle.warc_core.proofs.Words.{has_version, is_closed}
 use Rattle.warc_core.proofs.ReadingLemmas.{GoesOn}
-use Rattle.warc_core.specs.HeadText.{has_version, is_closed, head_text}
+use Rattle.warc_core.specs.HeadText.{head_text}
 use Rattle.warc_core.proofs.HeadLemmas.{going}
 use Rattle.warc_core.proofs.head_text.read_head_text.Given as goal
 

@@ -1,9 +1,6 @@
-use Rattle.std.proofs.Common.{arith, append-nil, []}
-use Rattle.warc_core.proofs.ArchiveLemmas.{walk-spelled, spelled-walk, end_of}
+use Rattle.warc_core.proofs.Words.{append-nil, []}
+use Rattle.warc_core.proofs.ArchiveLemmas.{spelled-walk, end_of}
 use Rattle.warc_core.proofs.laws.archive_is_its_records.Goals as goal
-
-pub returns-clause-spelled : goal.returns-clause-spelled
-returns-clause-spelled c limit archive heads r = grind (arith, walk-spelled, append-nil)
 
 pub returns-clause-read : goal.returns-clause-read
 returns-clause-read c limit heads texts a =

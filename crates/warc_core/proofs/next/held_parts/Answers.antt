@@ -1,5 +1,4 @@
-use Rattle.std.proofs.Common.{arith, length}
-use Rattle.warc_core.specs.declared.next.TheConstants.{HEAD_LIMIT}
+use Rattle.warc_core.proofs.Words.{arith, length, HEAD_LIMIT}
 use Rattle.warc_core.proofs.GatherLemmas.{usual-found}
 use Rattle.warc_core.proofs.HeldLemmas.{first-line}
 use Rattle.warc_core.proofs.PartsLemmas.{read-ok}

@@ -1,5 +1,4 @@
-use Rattle.std.proofs.Common.{arith}
-use Rattle.warc_core.specs.declared.next.TheConstants.{HEAD_LIMIT}
+use Rattle.warc_core.proofs.Words.{arith, HEAD_LIMIT}
 use Rattle.warc_core.proofs.HeadTextLemmas.{found-spelled}
 use Rattle.warc_core.proofs.NextLemmas.{head-far, head-read}
 use Rattle.warc_core.proofs.next.read_head.Goals as goal

@@ -1,6 +1,5 @@
-use Rattle.std.proofs.Common.{arith}
+use Rattle.warc_core.proofs.Words.{arith, HEAD_LIMIT}
 use Rattle.std.proofs.lemmas.Result.{err_from_is_err_and}
-use Rattle.warc_core.specs.declared.next.TheConstants.{HEAD_LIMIT}
 use Rattle.warc_core.proofs.NextLemmas.{next-stopped, next-head}
 use Rattle.warc_core.proofs.next.read_next.Goals as goal
 

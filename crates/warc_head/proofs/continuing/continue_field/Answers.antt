@@ -1,7 +1,6 @@
-use Rattle.std.proofs.Common.{◌≡◌, subst, refl, arith, length}
-use Rattle.std.specs.Prelude.{All}
-use Rattle.warc_head.specs.Lines.{trim}
-use Rattle.warc_head.specs.Spans.{IsWithin, between, field_at, fields_at}
+use Rattle.warc_head.proofs.Words.{◌≡◌, refl, arith, length, All, trim, IsWithin, between, field_at}
+use Rattle.warc_head.proofs.Words.{fields_at}
+use Rattle.std.proofs.Common.{subst}
 use Rattle.warc_head.proofs.SpanLemmas.{piece_added, place_longer, old_fields, between_more}
 use Rattle.warc_head.proofs.continuing.continue_field.Goals as goal
 

@@ -1,5 +1,4 @@
-use Rattle.std.proofs.lemmas.Bool.Decides.{nat_tests}
-use Rattle.std.proofs.Common.{arith}
+use Rattle.warc_head.proofs.Words.{nat_tests, arith}
 use Rattle.warc_head.proofs.DateLemmas.{fits_by_zip}
 use Rattle.warc_head.proofs.date.fits.Goals as goal
 

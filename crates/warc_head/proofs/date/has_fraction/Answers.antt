@@ -1,6 +1,5 @@
-use Rattle.std.proofs.Common.{◌∙◌, ◌&&◌, ap, drop}
+use Rattle.warc_head.proofs.Words.{◌∙◌, ◌&&◌, ap, drop, take_rest}
 use Rattle.warc_head.specs.Date.{is_fraction}
-use Rattle.std.proofs.lemmas.List.{take_rest}
 use Rattle.warc_head.proofs.date.has_fraction.Goals as goal
 
 pub returns : goal.returns

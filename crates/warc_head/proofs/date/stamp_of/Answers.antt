@@ -1,4 +1,4 @@
-use Rattle.std.proofs.Common.{arith, ◌≡◌, true}
+use Rattle.warc_head.proofs.Words.{arith, ◌≡◌, true}
 use Rattle.warc_head.specs.Date.{fits, to_the_second}
 use Rattle.warc_head.proofs.DateLemmas.{whole_fits, digits_of-digits}
 use Rattle.warc_head.proofs.date.stamp_of.Goals as goal

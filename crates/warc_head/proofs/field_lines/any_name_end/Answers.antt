@@ -1,5 +1,4 @@
-use Rattle.std.proofs.Common.{arith}
-use Rattle.std.proofs.lemmas.List.{take_rest}
+use Rattle.warc_head.proofs.Words.{arith, take_rest}
 use Rattle.warc_head.specs.Fields.{field_in}
 use Rattle.warc_head.proofs.LineLemmas.{colon_at, colon_none}
 use Rattle.warc_head.proofs.field_lines.any_name_end.Goals as goal

@@ -1,6 +1,4 @@
-use Rattle.std.proofs.Common.{◌-◌, ◌≤◌, length}
-use Rattle.httparse.specs.Pieces.{AllPassBetween}
-use Rattle.warc_head.specs.Names.{is_name_byte}
+use Rattle.warc_head.proofs.Words.{◌-◌, ◌≤◌, length, AllPassBetween, is_name_byte}
 use Rattle.warc_head.proofs.field_lines.letters_end.Given as goal
 
 abbrev pub invariant-steps : goal.invariant-steps

@@ -1,17 +1,15 @@
-use Rattle.std.proofs.lemmas.Grind.{common_steps}
-use Rattle.std.proofs.Common.{◌≡◌, ◌∙◌, ◌+◌, ℕ, List, length, take, drop}
-use Rattle.std.proofs.Common.{arith, append-nil, length-take-le}
-use Rattle.warc_head.specs.declared.fault.HeadFault.TheVariants as faults
-use Rattle.warc_head.specs.Fields.{Field}
-use Rattle.warc_head.specs.Lines.{EndsLine}
-use Rattle.warc_head.specs.Spans.{IsWithin, between, field_at, fields_at, moved}
-use Rattle.warc_head.proofs.FieldLemmas.{going, going-start, going-end, going-fault, going-first, going-unnamed}
-use Rattle.warc_head.proofs.FieldLemmas.{going-began, going-continued, body_is}
+use Rattle.warc_head.proofs.Words.{common_steps, ◌≡◌, ◌∙◌, ◌+◌, ℕ, List, length, take, drop, arith}
+use Rattle.warc_head.proofs.Words.{append-nil, length-take-le, Field, EndsLine, IsWithin, between}
+use Rattle.warc_head.proofs.Words.{field_at, fields_at, moved}
+use Rattle.warc_head.proofs.FieldLemmas.{going, going-start, going-end, going-fault, going-first}
+use Rattle.warc_head.proofs.FieldLemmas.{going-unnamed, going-began, going-continued, body_is}
 use Rattle.warc_head.proofs.SpanLemmas.{field_added, span_added, Continues-trans}
 use Rattle.warc_head.proofs.ReadLemmas.{size, filled, ended, line_is, line_held, inside_text}
-use Rattle.warc_head.proofs.field_lines.read_fields.Goals as goal
-use Rattle.warc_head.proofs.field_lines.read_fields.Goals.{In-Some, then-continues+in_ok-continue_field}
+use Rattle.warc_head.proofs.field_lines.read_fields.Goals.{In-Some}
+use Rattle.warc_head.proofs.field_lines.read_fields.Goals.{then-continues+in_ok-continue_field}
 use Rattle.warc_head.proofs.field_lines.read_fields.Goals.{else-continues+in-Some-field_in+in_ok-push}
+use Rattle.warc_head.specs.declared.fault.HeadFault.TheVariants as faults
+use Rattle.warc_head.proofs.field_lines.read_fields.Goals as goal
 
 pub lines-init : goal.lines-init
 lines-init c = grind (arith, going-start, body_is, append-nil)

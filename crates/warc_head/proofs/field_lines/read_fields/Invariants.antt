@@ -1,8 +1,6 @@
-use Rattle.std.proofs.Common.{◌≡◌, ◌-◌, ◌≤◌, length, take, drop}
-use Rattle.std.specs.Prelude.{All}
+use Rattle.warc_head.proofs.Words.{◌≡◌, ◌-◌, ◌≤◌, length, take, drop, All, field_lines_in}
+use Rattle.warc_head.proofs.Words.{Continues, IsWithin, fields_at}
 use Rattle.warc_head.specs.Fields.{fields_of}
-use Rattle.warc_head.specs.Parts.{field_lines_in}
-use Rattle.warc_head.specs.Spans.{Continues, IsWithin, fields_at}
 use Rattle.warc_head.proofs.FieldLemmas.{going}
 use Rattle.warc_head.proofs.field_lines.read_fields.Given as goal
 

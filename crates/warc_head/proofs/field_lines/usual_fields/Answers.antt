@@ -1,10 +1,8 @@
-use Rattle.std.proofs.Common.{◌≡◌, ◌+◌, Ok, length, arith}
-use Rattle.std.proofs.lemmas.List.Elements.{All-nil}
+use Rattle.warc_head.proofs.Words.{◌≡◌, ◌+◌, Ok, length, arith, All-nil, EndsLine, IsWithin}
+use Rattle.warc_head.proofs.Words.{between, field_at, fields_at, moved}
 use Rattle.warc_head.specs.Fields.{field_in}
-use Rattle.warc_head.specs.Lines.{EndsLine}
-use Rattle.warc_head.specs.Spans.{IsWithin, between, field_at, fields_at, moved}
-use Rattle.warc_head.proofs.UsualLemmas.{seen-more, none-more, ended-more, within-more, closes, gives, start-none, start-seen}
-use Rattle.warc_head.proofs.UsualLemmas.{span-more, field-more}
+use Rattle.warc_head.proofs.UsualLemmas.{seen-more, none-more, ended-more, within-more, closes}
+use Rattle.warc_head.proofs.UsualLemmas.{gives, start-none, start-seen, span-more, field-more}
 use Rattle.warc_head.proofs.NameLemmas.{not_continued}
 use Rattle.warc_head.proofs.field_lines.usual_fields.Goals as goal
 

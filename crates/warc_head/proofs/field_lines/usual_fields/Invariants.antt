@@ -1,7 +1,5 @@
-use Rattle.std.proofs.Common.{◌≡◌, ◌-◌, ◌≤◌, length, take, drop}
-use Rattle.std.specs.Prelude.{All}
-use Rattle.warc_head.specs.Lines.{line_end}
-use Rattle.warc_head.specs.Spans.{IsWithin, fields_at}
+use Rattle.warc_head.proofs.Words.{◌≡◌, ◌-◌, ◌≤◌, length, take, drop, All, line_end, IsWithin}
+use Rattle.warc_head.proofs.Words.{fields_at}
 use Rattle.warc_head.proofs.UsualLemmas.{NoneBefore, Seen}
 use Rattle.warc_head.proofs.field_lines.usual_fields.Given as goal
 

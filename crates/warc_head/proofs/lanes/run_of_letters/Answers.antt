@@ -1,8 +1,7 @@
-use Rattle.std.proofs.Common.{ℕ, leb, cond, bit_and, refl, arith}
-use Rattle.std.proofs.lemmas.Simd.{zip2_splat, length-chunk}
-use lib.Lanes.{chunk}
-use Rattle.httparse.proofs.LaneLemmas.{joined, splat_is, passes_in}
-use Rattle.warc_head.specs.Names.{is_name_byte}
+use Rattle.warc_head.proofs.Words.{ℕ, refl, arith, zip2_splat, length-chunk, chunk, joined}
+use Rattle.warc_head.proofs.Words.{is_name_byte}
+use Rattle.std.proofs.Common.{leb, cond, bit_and}
+use Rattle.httparse.proofs.LaneLemmas.{splat_is, passes_in}
 use Rattle.warc_head.proofs.lanes.run_of_letters.Goals as goal
 
 pub returns : goal.returns

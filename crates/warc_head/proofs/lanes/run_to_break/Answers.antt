@@ -1,8 +1,5 @@
-use Rattle.std.proofs.Common.{refl, arith}
-use Rattle.std.proofs.lemmas.Simd.{zip2_splat, length-chunk}
-use lib.Lanes.{chunk}
-use Rattle.httparse.proofs.LaneLemmas.{joined, run_in}
-use Rattle.warc_head.specs.Lines.{is_content}
+use Rattle.warc_head.proofs.Words.{refl, arith, zip2_splat, length-chunk, chunk, joined, is_content}
+use Rattle.httparse.proofs.LaneLemmas.{run_in}
 use Rattle.warc_head.proofs.lanes.run_to_break.Goals as goal
 
 pub returns : goal.returns

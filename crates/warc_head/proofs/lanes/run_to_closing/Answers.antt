@@ -1,4 +1,4 @@
-use Rattle.std.proofs.Common.{◌≡◌, ◌+◌, arith}
+use Rattle.warc_head.proofs.Words.{◌≡◌, ◌+◌, arith}
 use Rattle.warc_head.proofs.LaneLemmas.{both_bound, both_none}
 use Rattle.warc_head.proofs.lanes.run_to_closing.Goals as goal
 

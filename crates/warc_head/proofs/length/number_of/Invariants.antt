@@ -1,4 +1,4 @@
-use Rattle.std.proofs.Common.{◌≡◌, ◌-◌, ◌≤◌, ◌<◌, ◌^◌, length}
+use Rattle.warc_head.proofs.Words.{◌≡◌, ◌-◌, ◌≤◌, ◌<◌, ◌^◌, length}
 use Rattle.warc_head.specs.Length.{number_of, number_after, all_digits}
 use Rattle.warc_head.proofs.length.number_of.Given as goal
 

@@ -1,8 +1,6 @@
-use Rattle.std.proofs.Common.{arith, ◌-◌, length, drop, take}
+use Rattle.warc_head.proofs.Words.{arith, ◌-◌, length, drop, take, take_rest, line_end}
 use Rattle.std.proofs.lemmas.Bool.Decides.{Decides-eqb}
-use Rattle.std.proofs.lemmas.List.{take_rest}
 use Rattle.std.proofs.lemmas.Slice.Eq.{starts_is}
-use Rattle.warc_head.specs.Lines.{line_end}
 use Rattle.warc_head.proofs.LineLemmas.{ends_line, ends_no_line}
 use Rattle.warc_head.proofs.lines.line_end.Goals as goal
 

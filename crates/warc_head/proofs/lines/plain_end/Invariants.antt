@@ -1,6 +1,4 @@
-use Rattle.std.proofs.Common.{◌-◌, ◌≤◌, length}
-use Rattle.httparse.specs.Pieces.{AllPassBetween}
-use Rattle.warc_head.specs.Lines.{is_content}
+use Rattle.warc_head.proofs.Words.{◌-◌, ◌≤◌, length, AllPassBetween, is_content}
 use Rattle.warc_head.proofs.lines.plain_end.Given as goal
 
 abbrev pub invariant-wide : goal.invariant-wide

@@ -1,4 +1,4 @@
-use Rattle.std.proofs.Common.{◌≡◌, length}
+use Rattle.warc_head.proofs.Words.{◌≡◌, length}
 use Rattle.warc_head.specs.Lines.{trim_end}
 use Rattle.warc_head.proofs.lines.trim_end.Given as goal
 

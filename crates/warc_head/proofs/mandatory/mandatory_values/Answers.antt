@@ -1,7 +1,5 @@
-use Rattle.std.proofs.Common.{arith, ◌≡◌, ◌∙◌, List, true, sym}
-use Rattle.warc_head.specs.Fields.{Field}
+use Rattle.warc_head.proofs.Words.{arith, ◌≡◌, ◌∙◌, List, true, sym, Field, fields_at}
 use Rattle.warc_head.specs.Mandatory.{each_once, none_missing, none_repeated, mandatory}
-use Rattle.warc_head.specs.Spans.{fields_at}
 use Rattle.warc_head.proofs.MandatoryLemmas.{required_is, length_once, date_once, kind_once}
 use Rattle.warc_head.proofs.mandatory.mandatory_values.Goals as goal
 

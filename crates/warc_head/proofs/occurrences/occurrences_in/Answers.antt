@@ -1,7 +1,5 @@
-use Rattle.std.proofs.Common.{take}
+use Rattle.warc_head.proofs.Words.{take, FieldSpan, fields_at}
 use Rattle.std.proofs.lemmas.List.{take_more, map-append}
-use Rattle.warc_head.specs.declared.spans.FieldSpan.{FieldSpan}
-use Rattle.warc_head.specs.Spans.{fields_at}
 use Rattle.warc_head.proofs.occurrences.occurrences_in.Goals as goal
 
 pub loop-span-init : goal.loop-span-init

@@ -1,6 +1,5 @@
-use Rattle.std.proofs.Common.{take}
+use Rattle.warc_head.proofs.Words.{take, fields_at}
 use Rattle.warc_head.specs.Mandatory.{AllOccur}
-use Rattle.warc_head.specs.Spans.{fields_at}
 use Rattle.warc_head.proofs.occurrences.occurrences_in.Given as goal
 
 abbrev pub invariant-loop-span : goal.invariant-loop-span

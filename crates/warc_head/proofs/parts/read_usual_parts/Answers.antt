@@ -1,6 +1,5 @@
-use Rattle.std.proofs.Common.{arith}
+use Rattle.warc_head.proofs.Words.{arith, fields_at}
 use Rattle.warc_head.specs.Said.{said_of}
-use Rattle.warc_head.specs.Spans.{fields_at}
 use Rattle.warc_head.proofs.UsualLemmas.{head-of}
 use Rattle.warc_head.proofs.parts.read_usual_parts.Goals as goal
 

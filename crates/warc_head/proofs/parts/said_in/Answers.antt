@@ -1,4 +1,4 @@
-use Rattle.std.proofs.Common.{arith}
+use Rattle.warc_head.proofs.Words.{arith}
 use Rattle.warc_head.specs.Parts.{parts_in, length_in, stamp_in, kind_in}
 use Rattle.warc_head.proofs.parts.said_in.Goals as goal
 

@@ -1,4 +1,4 @@
-use Rattle.std.proofs.Common.{arith}
+use Rattle.warc_head.proofs.Words.{arith}
 use Rattle.warc_head.proofs.SpanLemmas.{value_later, within_later}
 use Rattle.warc_head.proofs.spans.value_of.Goals as goal
 

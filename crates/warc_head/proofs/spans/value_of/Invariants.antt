@@ -1,7 +1,5 @@
-use Rattle.std.proofs.Common.{◌≡◌, length}
-use Rattle.std.specs.Prelude.{All}
+use Rattle.warc_head.proofs.Words.{◌≡◌, length, All, IsWithin, fields_at}
 use Rattle.warc_head.specs.Fields.{value_of}
-use Rattle.warc_head.specs.Spans.{IsWithin, fields_at}
 use Rattle.warc_head.proofs.spans.value_of.Given as goal
 
 abbrev pub invariant-loop-first : goal.invariant-loop-first

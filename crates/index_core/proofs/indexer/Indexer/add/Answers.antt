@@ -1,5 +1,4 @@
-use Rattle.std.proofs.Common.{arith}
-use Rattle.std.proofs.lemmas.Result.{err_from_is_err_and}
+use Rattle.index_core.proofs.Words.{arith, err_from_is_err_and}
 use Rattle.index_core.proofs.SoundLemmas.{among_last, sound_under}
 use Rattle.index_core.proofs.indexer.Indexer.add.Goals as goal
 

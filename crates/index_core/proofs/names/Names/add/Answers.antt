@@ -1,9 +1,9 @@
-use Rattle.std.proofs.Common.{◌≡◌, false, [], ◌∷◌, ◌++◌, map, ◌∙◌}
+use Rattle.index_core.proofs.Words.{◌≡◌, [], ◌∷◌, ◌++◌, map, ◌∙◌, is_among}
+use Rattle.std.proofs.Common.{false}
 use Rattle.std.specs.String.{string_bytes}
-use Rattle.index_core.specs.Indexing.{is_among}
 use Rattle.index_core.proofs.NameLemmas.{new_goes_last}
-use Rattle.index_core.proofs.names.Names.add.Goals as goal
 use Rattle.index_core.proofs.names.Names.add.Goals.{in-Ok, in-Err}
+use Rattle.index_core.proofs.names.Names.add.Goals as goal
 
 pub returns-clause-ok : goal.returns-clause-ok
 returns-clause-ok c =

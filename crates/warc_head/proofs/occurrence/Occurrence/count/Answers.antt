@@ -1,6 +1,5 @@
-use Rattle.std.proofs.Common.{arith, ◌≡◌, true}
+use Rattle.warc_head.proofs.Words.{arith, ◌≡◌, true, field_at}
 use Rattle.warc_head.specs.Names.{same_name}
-use Rattle.warc_head.specs.Spans.{field_at}
 use Rattle.warc_head.proofs.occurrence.Occurrence.count.Goals as goal
 
 pub returns-then-is_named : goal.returns-then-is_named

@@ -1,12 +1,11 @@
-use Rattle.std.proofs.Common.{◌≡◌, ◌++◌, ◌∷◌, [], List, ℕ, codes, length, arith}
+use Rattle.warc_head.proofs.Words.{◌≡◌, ◌++◌, ◌∷◌, [], List, ℕ, codes, length, arith, Field}
+use Rattle.warc_head.proofs.Words.{field_values, append-nil}
 use Rattle.warc_head.specs.declared.occurrence.Occurrence.{Occurrence}
-use Rattle.warc_head.specs.Fields.{Field, field_values}
 use Rattle.warc_head.specs.Mandatory.{Occurs, values_in}
 use Rattle.warc_head.proofs.MandatoryLemmas.{values_more}
-use Rattle.warc_head.proofs.occurrences.Occurrences.count.Goals as goal
 use Rattle.std.proofs.lemmas.List.{length-map}
 use Rattle.std.proofs.lemmas.Slice.Eq.{bytes_eq-Decides}
-use Rattle.std.proofs.Common.{append-nil}
+use Rattle.warc_head.proofs.occurrences.Occurrences.count.Goals as goal
 
 -- the values of a name, with those that the last field adds
 counted : (text wanted : List ℕ) (last : Field) (fields : List Field) (o : Occurrence)

@@ -1,5 +1,4 @@
-use Rattle.std.proofs.Common.{◌∙◌, ◌&&◌, codes}
-use Rattle.warc_head.specs.Fields.{field_values}
+use Rattle.warc_head.proofs.Words.{◌∙◌, ◌&&◌, codes, field_values}
 use Rattle.warc_head.proofs.MandatoryLemmas.{missing_regrouped}
 use Rattle.warc_head.proofs.occurrences.Occurrences.none_missing.Goals as goal
 
