@@ -2,16 +2,16 @@
 use Rattle.query_core.proofs.Words.{[], ◌&&◌, ◌++◌, ◌-◌, ◌^◌, ◌∷◌, ◌≡◌, ◌≤◌, All, All-head, All-tail, AllByRecursion}
 use Rattle.query_core.proofs.Words.{AllGaveWithin, AllZip, AreAtMost, AreLinesOf, Bool, GaveFor, Ghosts, IsAbove}
 use Rattle.query_core.proofs.Words.{IsIndex, Known, LINE_LIMIT, List, Member, NoneBelow, Option, Ordering, OverIndexes}
-use Rattle.query_core.proofs.Words.{Pair, PlaceValue, QueryValue, ReadFor, Some, TargetValue, Upto, ℕ, all_kept}
+use Rattle.query_core.proofs.Words.{Pair, PlaceValue, QueryValue, ReadFor, Some, TargetValue, Upto, ℕ}
 use Rattle.query_core.proofs.Words.{all_lines, and_parts, ap, append-nil, append_assoc, arith, bytes_eq-Decides}
 use Rattle.query_core.proofs.Words.{collection, each_join, each_kept, each_rising, each_weaker, eqb-true, false}
 use Rattle.query_core.proofs.Words.{false_from_ne_true, filter, in_reach, inl, inputs, inr, is_above, is_gt, is_low}
 use Rattle.query_core.proofs.Words.{is_past, is_stamp, is_wanted, later_pair, length, lines, map, member_pair}
 use Rattle.query_core.proofs.Words.{member_place, min, nat_cmp, nat_tests, not, pair_cmp, pair_cmp_total, past_upward}
 use Rattle.query_core.proofs.Words.{place_before, place_cmp, place_cmp_total, refl, same_part, slice_cmp, start_pair}
-use Rattle.query_core.proofs.Words.{suc, sum, sym, taken_first, taken_whole, true, upto_upto, zero, zip}
+use Rattle.query_core.proofs.Words.{suc, sum, taken_first, taken_whole, true, upto_upto, zero, zip}
 use Rattle.query_core.proofs.WriterLemmas.{captures, kept_after, captures_split, captures_append}
-use Rattle.std.proofs.Common.{◌∙◌, replicate, is_lt}
+use Rattle.std.proofs.Common.{replicate, is_lt}
 use Rattle.query_text.proofs.RangeLaw.{match_not_below}
 use Rattle.merge_core.specs.declared.state.MergeState.{MergeState}
 use Rattle.merge_core.specs.Openings.{AreOpened}
@@ -32,7 +32,6 @@ use Rattle.std.proofs.lemmas.Slice.Zip.{AllZip-long}
 use Rattle.cdxj_places.proofs.PlaceLaw.{both}
 use Rattle.query_text.specs.Matching.{begins, covers}
 use Rattle.source_core.specs.Cursors.{CursorState}
-use Rattle.merge_core.specs.MergeInputs.{MergeInput}
 use Rattle.merge_core.proofs.StateLemmas.{cursors_of}
 use Rattle.merge_core.proofs.MergeLemmas.{is_less}
 use Rattle.merge_core.specs.PairOrders.{Alike, IsUpto}
@@ -329,8 +328,10 @@ module _ {S : Type 0} {device : Ghosts S} {q : QueryValue} {olds : List S}
     lines_within earlier cuts = λ texts indexes known are limit most.
         let there = known_opened r texts known in
         let pass = passes q indexes r.bound earlier (cuts texts indexes known are) limit most in
-        let h = rw cursors_of at (lines_most pass texts (inputs r.merge) indexes (reached_read r.reached texts there) are
-        (reached_sought r.reached _ (cuts_of device _ olds _ r.start.found) texts indexes there are) (r.reached.handed.told texts there).1) in
+        let h = rw cursors_of at (lines_most pass texts (inputs r.merge) indexes
+        (reached_read r.reached texts there) are
+        (reached_sought r.reached _ (cuts_of device _ olds _ r.start.found) texts indexes there are)
+        (r.reached.handed.told texts there).1) in
         grind (arith, AllZip-long)
 
     -- of each source consecutive lines were read
@@ -345,7 +346,8 @@ module _ {S : Type 0} {device : Ghosts S} {q : QueryValue} {olds : List S}
         let count = rw cursors_of at (parts_count _ texts (inputs r.merge) read) in
         record {
           parts = parts texts (inputs r.merge);
-          each = λ whole is. parts_are _ texts _ whole read (λ e. rw (ended (is e)) (none_wait 0 r.merge.cursors.items));
+          each = λ whole is. parts_are _ texts _ whole read (λ e. rw (ended (is e))
+              (none_wait 0 r.merge.cursors.items));
           count = cc;
           first = (_, captures_split q q.resume _ r.taken found.0 found.1);
           ended = λ e. ap (kept_after q q.resume q.resume) (taken_whole all_took (ended e));

@@ -1,5 +1,5 @@
 use Rattle.query_core.proofs.Words.{[], ◌++◌, ◌∙◌, ◌≡◌, Bool, List, Member, ReadFor, Some, ap, append-nil, arith}
-use Rattle.query_core.proofs.Words.{err_from_is_err_and, false, grows_not, inl, inputs, length-map, map, refl, sym}
+use Rattle.query_core.proofs.Words.{err_from_is_err_and, false, grows_not, inl, length-map, map, refl, sym}
 use Rattle.query_core.proofs.Words.{true}
 use Rattle.query_core.proofs.WriterLemmas.{captures, captures_append}
 use Rattle.query_core.proofs.ReachLemmas.{Opened, reading, known_opened, wanted_whole, cut_all, cut_before, cut_last, gave_upto}
