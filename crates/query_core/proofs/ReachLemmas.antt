@@ -1,28 +1,27 @@
 -- What was taken of indexes, beside all that is wanted of their collection.
 use Rattle.query_core.proofs.Words.{[], ◌&&◌, ◌++◌, ◌-◌, ◌^◌, ◌∷◌, ◌≡◌, ◌≤◌, All, All-head, All-tail, AllByRecursion}
 use Rattle.query_core.proofs.Words.{AllGaveWithin, AllZip, AreAtMost, AreLinesOf, Bool, GaveFor, Ghosts, IsAbove}
-use Rattle.query_core.proofs.Words.{IsIndex, Known, LINE_LIMIT, List, Member, NoneBelow, Option, Ordering, OverIndexes}
-use Rattle.query_core.proofs.Words.{Pair, PlaceValue, QueryValue, ReadFor, Some, TargetValue, Upto, ℕ, all_kept}
-use Rattle.query_core.proofs.Words.{all_lines, and_parts, ap, append-nil, append_assoc, arith, bytes_eq-Decides}
-use Rattle.query_core.proofs.Words.{collection, each_join, each_kept, each_rising, each_weaker, eqb-true, false}
-use Rattle.query_core.proofs.Words.{false_from_ne_true, filter, in_reach, inl, inputs, inr, is_above, is_gt, is_low}
-use Rattle.query_core.proofs.Words.{is_past, is_stamp, is_wanted, later_pair, length, lines, map, member_pair}
-use Rattle.query_core.proofs.Words.{member_place, min, nat_cmp, nat_tests, not, pair_cmp, pair_cmp_total, past_upward}
-use Rattle.query_core.proofs.Words.{place_before, place_cmp, place_cmp_total, refl, same_part, slice_cmp, start_pair}
-use Rattle.query_core.proofs.Words.{suc, sum, sym, taken_first, taken_whole, true, upto_upto, zero, zip}
+use Rattle.query_core.proofs.Words.{IsIndex, Known, LINE_LIMIT, List, Member, NoneBelow, Option, Ordering}
+use Rattle.query_core.proofs.Words.{OverIndexes, Pair, PlaceValue, QueryValue, ReadFor, Some, TargetValue, Upto}
+use Rattle.query_core.proofs.Words.{and_parts, ap, append-nil, append_assoc, arith, bytes_eq-Decides, collection}
+use Rattle.query_core.proofs.Words.{each_join, each_kept, each_weaker, eqb-true, false, false_from_ne_true, filter}
+use Rattle.query_core.proofs.Words.{in_reach, inputs, is_above, is_gt, is_low, is_past, is_stamp, is_wanted, length}
+use Rattle.query_core.proofs.Words.{line_entry, line_row, lines, map, member_pair, member_place, min, nat_cmp}
+use Rattle.query_core.proofs.Words.{nat_tests, not, pair_cmp, pair_cmp_total, place_before, place_cmp}
+use Rattle.query_core.proofs.Words.{place_cmp_total, refl, same_part, slice_cmp, suc, sum, true, upto_upto, zero, zip}
+use Rattle.query_core.proofs.Words.{ℕ}
 use Rattle.query_core.proofs.WriterLemmas.{captures, kept_after, captures_split, captures_append}
 use Rattle.std.proofs.Common.{◌∙◌, replicate, is_lt}
-use Rattle.query_text.proofs.RangeLaw.{match_not_below}
+use Rattle.query_text.proofs.RangeLaw.{match_not_below, past_upward}
 use Rattle.merge_core.specs.declared.state.MergeState.{MergeState}
 use Rattle.merge_core.specs.Openings.{IsCutAt}
 use Rattle.merge_core.specs.Reached.{Reached}
 use Rattle.merge_core.proofs.ReadLemmas.{took_of_indexes, none_wait, parts_are, parts_count, took_of_parts}
-use Rattle.merge_core.proofs.TakenLemmas.{Took, taken_before}
-use Rattle.merge_core.specs.SourceLines.{IsLineIn, IsLineOf}
+use Rattle.merge_core.proofs.TakenLemmas.{Took, taken_before, taken_first, taken_whole}
 use Rattle.merge_core.specs.Gathering.{AreTold}
 use Rattle.merge_core.specs.Spending.{CameWithin, AreReadTo, OpenedWithin}
-use Rattle.merge_core.proofs.SourceLemmas.{told_known, each_entry, taken_lines, cuts_kept, reached_kept, reached_long}
-use Rattle.query_core.specs.Starts.{first_stamp}
+use Rattle.merge_core.proofs.SourceLemmas.{told_known, taken_lines, cuts_kept, reached_kept, reached_long}
+use Rattle.query_core.specs.Starts.{first_stamp, later_pair, start_pair}
 use Rattle.cdxj_core.proofs.MemberLemmas.{entry_valued}
 use Rattle.std.specs.Char.{is_ascii_digit}
 use Rattle.std.specs.Ordering.{ordering_then}
@@ -31,7 +30,6 @@ use Rattle.std.proofs.lemmas.Slice.Zip.{AllZip-long}
 use Rattle.cdxj_places.proofs.PlaceLaw.{both}
 use Rattle.query_text.specs.Matching.{begins, covers}
 use Rattle.source_core.specs.Cursors.{CursorState}
-use Rattle.merge_core.specs.MergeInputs.{MergeInput}
 use Rattle.merge_core.proofs.StateLemmas.{cursors_of}
 use Rattle.merge_core.proofs.MergeLemmas.{is_less, told_here}
 use Rattle.merge_core.specs.PairOrders.{Alike, IsUpto}
@@ -42,6 +40,7 @@ use Rattle.merge_core.proofs.Many.{each_filter, Move, length_zip}
 use Rattle.merge_core.proofs.PairOrder.{below_below, below_upto, from_not_below, not_below_itself, same_from}
 use Rattle.query_core.specs.Reach.{pair_after, is_within}
 use Rattle.query_core.specs.Passes.{IsOfParts, Took as LinesTaken}
+use Rattle.query_core.proofs.PageIndexes.{collection_rows}
 
 -- ---- nothing that is wanted stands below the start of a page
 
@@ -76,34 +75,16 @@ start_not_above q from m s h =
     later_not_low _ from m (not_low (q.target.text, first_stamp) m
     (grind (arith, then_not_above, match_not_below, and_parts, stamp_not_below))) (grind (arith, and_parts))
 
--- ---- every line of an index has a stamp
+-- ---- lines have stamps
 
--- a line has a stamp
-line_stamp : (t : List ℕ) (m : Member) → IsLineIn t m → is_stamp m.values.stamp ≡ true
-line_stamp t m h = (entry_valued LINE_LIMIT h.0 m h.2).stamp_rule
+-- a line that has an entry has a stamp
+entry_stamp : (line : List ℕ) (m : Member) → line_entry LINE_LIMIT line ≡ Some m → is_stamp m.values.stamp ≡ true
+entry_stamp line m h = (entry_valued LINE_LIMIT line m h).stamp_rule
 
--- every line has a stamp
 stamped : (f : Member → Bool) (xs : List Member) → AllByRecursion (λ m. is_stamp m.values.stamp ≡ true) xs
     → filter (λ m. f m && is_stamp m.values.stamp) xs ≡ filter f xs
 stamped f [] h = refl
 stamped f (x ∷ xs) h = grind (arith, stamped f xs)
-
-index_stamps : (texts : List (List ℕ)) (indexes : List (List Member)) → AllZip (IsIndex LINE_LIMIT) texts indexes
-    → AllByRecursion (λ m. is_stamp m.values.stamp ≡ true) (all_lines indexes)
-index_stamps (t ∷ ts) (i ∷ is) are =
-    let entries = each_entry (lines t) (lines t) i are.0.entries (λ l h. h) in
-    let here = each_weaker (λ (m : Member). line_stamp t m) i entries in
-    grind (arith, each_join, index_stamps ts is)
-index_stamps texts indexes are = grind arith
-
--- a line of sources that tell their bytes has one
-known_stamp : (told : List (Option (List ℕ))) (texts : List (List ℕ)) (m : Member) → Known told texts
-    → IsLineOf told m → is_stamp m.values.stamp ≡ true
-known_stamp (o ∷ os) (t ∷ ts) m k h = elim (rw k.0 at h) [
-  | inl here ↦ line_stamp t m here
-  | inr later ↦ known_stamp os ts m k.1 later
-]
-known_stamp told texts m k h = grind arith
 
 -- ---- what was taken
 
@@ -169,37 +150,32 @@ module _ {S : Type 0} {device : Ghosts S} {q : QueryValue} {olds : List S}
     module _ (indexes : List (List Member)) (are : AllZip (IsIndex LINE_LIMIT) texts indexes) where
       of_all : filter (sought q) (collection indexes) ≡ filter (is_wanted q q.resume) (collection indexes)
       of_all = stamped (is_wanted q q.resume) (collection indexes)
-          (grind (arith, each_rising, place_cmp_total, index_stamps))
+          (each_weaker (λ m row. entry_stamp (line_row m) m row.1) _ (collection_rows LINE_LIMIT texts indexes are))
 
       of_taken : filter (sought q) r.taken ≡ filter (is_wanted q q.resume) r.taken
-      of_taken = stamped (is_wanted q q.resume) r.taken (grind (arith, each_weaker, known_stamp, lines_taken))
+      of_taken = stamped (is_wanted q q.resume) r.taken
+          (each_weaker (λ m. entry_stamp m.line m) r.taken r.reached.handed.entries)
 
-      -- what is wanted after these lines, collapsed
-      abbrev later : List Member → List Member
-      later rest = kept_after q q.resume (place_before q q.resume r.taken) rest
-
-      later_each : (A : Member → Type 0) (rest : List Member) → AllByRecursion A rest → AllByRecursion A (later rest)
-      later_each A rest = grind (arith, each_kept, place_cmp_total)
-
-      took_sought : Took (is_past q.target) (sought q) r.bound r.merge.queue (collection indexes) r.taken
+      pub took_sought : Took (is_past q.target) (sought q) r.bound r.merge.queue (collection indexes) r.taken
       took_sought = took_of_indexes r.reached r.start.same _ r.start.cut texts indexes known_opened are
           (past_upward q.target) (sought q) (within q) (beyond q)
+
+      -- of all that is wanted, what follows what was taken is so too once it is collapsed
+      pub wanted_rest : (A : Member → Type 0) → (rest : List Member)
+          × (filter (sought q) (collection indexes) ≡ filter (sought q) r.taken ++ rest)
+          × AllByRecursion (λ m. (sought q m ≡ true) × A m) rest → (rest : List Member)
+          × (captures q (collection indexes) ≡ captures q r.taken ++ rest) × AllByRecursion A rest
+      wanted_rest A (rest, split, each) = (
+        _,
+        grind (arith, captures_split, of_all, of_taken),
+        each_kept member_place place_cmp (same_part q.collapse) place_cmp_total A (place_before q q.resume r.taken) rest
+            (each_weaker (λ m h. h.1) rest each),
+      )
 
       -- what was taken is a front of what is wanted
       pub wanted_first : (rest : List Member) × (captures q (collection indexes) ≡ captures q r.taken ++ rest)
           × AllByRecursion (λ m. IsAbove r.bound (member_pair m)) rest
-      wanted_first =
-          let f = taken_first took_sought in
-          (_, grind (arith, captures_split, of_all, of_taken), later_each _ f.0 (grind (arith, each_weaker)))
-
-      -- where the lines that wait don't stand below a pair, the rest doesn't either
-      pub wanted_before : (next : Pair) → IsAbove r.bound next
-          → NoneBelow next r.merge.queue
-          → (rest : List Member) × (captures q (collection indexes) ≡ captures q r.taken ++ rest)
-          × AllByRecursion (λ m. Upto next (member_pair m)) rest
-      wanted_before next above least =
-          let f = taken_before took_sought next above least in
-          (_, grind (arith, captures_split, of_all, of_taken), later_each _ f.0 (grind (arith, each_weaker)))
+      wanted_first = wanted_rest _ (taken_first took_sought)
 
       -- where no line waits, it is all
       pub wanted_whole : r.merge.queue ≡ [] → captures q (collection indexes) ≡ captures q r.taken
@@ -300,7 +276,8 @@ module _ {S : Type 0} {device : Ghosts S} {q : QueryValue} {olds : List S}
   pub cut_before : (next : Pair) → IsAbove r.bound next → NoneBelow next r.merge.queue
       → Cuts (Some next) r.taken
   cut_before next above least = λ texts indexes known are.
-      let before = wanted_before r texts known indexes are next above least in
+      let sought = took_sought r texts known indexes are in
+      let before = wanted_rest r texts known indexes are _ (taken_before sought next above least) in
       record {
         back = before.0;
         whole = before.1;

@@ -1,15 +1,14 @@
 -- The replies to the lines of an input, so far and at its end.
 use Rattle.query_core.proofs.Words.{[], ⊤, ◌++◌, ◌+◌, ◌-◌, ◌<◌, ◌^◌, ◌∙◌, ◌∷◌, ◌≡◌, ◌≤◌, ◌⊎◌, AllGaveWithin, AllZip}
 use Rattle.query_core.proofs.Words.{AnswerFault, Appends, Appends-join, Appends-none, AppendsPrefix, AreLinesOf, Bool}
-use Rattle.query_core.proofs.Words.{CountsTaken, Err, Ghosts, IsAnswerFaultOf, IsIndex, IsMarkedReply, IsOneReply}
-use Rattle.query_core.proofs.Words.{Known, LINE_LIMIT, List, Member, None, Ok, Option, QueryFault, QueryValue, Some}
-use Rattle.query_core.proofs.Words.{TakesLine, ℕ, answer_text, ap, append-nil, append_assoc, arith, asked_most}
-use Rattle.query_core.proofs.Words.{cases_lt, codes, collection, cut_lines, err_from_is_err_and, false}
-use Rattle.query_core.proofs.Words.{false_from_ne_true, flat_map, flat_map-append, grows_not, grows_part, in_reach, inl}
-use Rattle.query_core.proofs.Words.{is_utf8, is_utf8-from_IsUtf8, le-ltb, length, length-append, length-take, line_most}
-use Rattle.query_core.proofs.Words.{lt-ltb, map, map-append, nat_lt, prefix_after, prefix_longer, prepend_known}
-use Rattle.query_core.proofs.Words.{query_of, query_page, refl, reply_of, subst, sum, sym, take, take_all, true}
-use Rattle.query_core.proofs.Words.{without_carriage_return}
+use Rattle.query_core.proofs.Words.{CountsTaken, Err, Ghosts, IsAnswerFaultOf, IsIndex, Known, LINE_LIMIT, List}
+use Rattle.query_core.proofs.Words.{Member, None, Ok, Option, QueryFault, QueryValue, Some, TakesLine, answer_text}
+use Rattle.query_core.proofs.Words.{ap, append-nil, append_assoc, arith, cases_lt, codes, collection, cut_lines}
+use Rattle.query_core.proofs.Words.{err_from_is_err_and, false, false_from_ne_true, flat_map, flat_map-append}
+use Rattle.query_core.proofs.Words.{grows_not, grows_part, in_reach, inl, is_utf8, is_utf8-from_IsUtf8, le-ltb}
+use Rattle.query_core.proofs.Words.{length, length-append, length-take, lt-ltb, map, map-append, nat_lt, prefix_after}
+use Rattle.query_core.proofs.Words.{prefix_longer, prepend_known, query_of, query_page, refl, reply_of, subst, sum}
+use Rattle.query_core.proofs.Words.{sym, take, take_all, true, without_carriage_return, wrote_nothing, ℕ}
 use Rattle.std.proofs.Common.{Result}
 use Rattle.std.specs.Prelude.{IsErrAnd, Result}
 use Rattle.std.proofs.lemmas.List.Elements.{AllZip-push}
@@ -18,15 +17,17 @@ use Rattle.devices.specs.declared.input_lines.InputLineFault.{InputLineFault}
 use Rattle.query_core.specs.Conversions.{fault_of_line}
 use Rattle.query_core.specs.Replies.{marked_reply}
 use Rattle.query_core.specs.ReplyReach.{AreFirstLines, AllGaveAtMost, Amount, GaveForLines, lines_most, query_most}
+use Rattle.query_core.specs.ReplyReach.{asked_most, line_most}
 use Rattle.query_core.specs.Conversations.{AreLeft, Replied, RepliedInPart, RepliedToAll, RepliedToFirst}
-use Rattle.query_core.specs.Conversations.{RepliedToTaken, HoldsOfReplies, IsLineReply, WritesSome}
-use Rattle.query_core.proofs.WriterLemmas.{whole_prefix}
+use Rattle.query_core.specs.Conversations.{RepliedToTaken, HoldsOfReplies, IsLineReply, WritesSome, IsMarkedReply}
+use Rattle.query_core.specs.Conversations.{IsOneReply}
+use Rattle.query_core.proofs.PagesLemmas.{whole_prefix}
 use Rattle.std.proofs.lemmas.Str.{IsUtf8-from_is_utf8}
 use Rattle.devices.specs.Writing.{WritesText}
 use Rattle.query_core.specs.AnyReplies.{IsPageReply, IsQueryReply, fault_text}
+use Rattle.std.proofs.lemmas.List.Sums.{sum_by_push}
 use Rattle.devices.specs.declared.input_lines.InputLineFault.TheVariants as input
 use Rattle.query_core.specs.declared.fault.AnswerFault.TheVariants as fault
-use Rattle.std.proofs.lemmas.List.Sums.{sum_by_push}
 
 -- ---- a line
 
@@ -302,10 +303,9 @@ more_sum : (f : List ℕ → ℕ) (done : List (List ℕ)) (line shown : List �
     → sum (map f done) + f line ≤ sum (map f (done ++ shown ∷ []))
 more_sum f done line shown same = grind (arith, map-append, sum_by_push)
 
-module _ (limit : ℕ) (line shown : List ℕ) (same : AreAlike limit line shown) where
-  most_alike : (all : List Member) (e : ℕ) (t : List ℕ) (i : List Member)
-      → line_most limit all line e t i ≡ line_most limit all shown e t i
-  most_alike all e t i = grind (arith, lt-ltb, nat_lt)
+most_alike : (limit : ℕ) (line shown : List ℕ) → AreAlike limit line shown → (all : List Member) (e : ℕ) (t : List ℕ)
+    (i : List Member) → line_most limit all line e t i ≡ line_most limit all shown e t i
+most_alike limit line shown same all e t i = grind (arith, lt-ltb, nat_lt)
 
 -- ---- the lines so far
 
@@ -376,3 +376,12 @@ pub nothing_spent : {S : Type 0} (device : Ghosts S) (limit : ℕ) (texts : List
     → GaveForLines device limit input texts indexes old old sources sources
 nothing_spent device limit texts indexes input old sources known are =
     spent_stop (spent_none device limit texts indexes input [] old sources known are refl)
+
+-- ---- what the calls cite
+
+pub ruleset query_rules = (fault_reply, gave_page)
+
+pub ruleset line_rules = (line_tests, writes_some, gave_line, gave_none, wrote_nothing)
+
+pub ruleset serve_rules =
+    (one_reply_part, nothing_replied, spent_part, spent_stop, nothing_spent, err_from_is_err_and)

@@ -38,33 +38,10 @@ abbrev pub AreAtMost : Option ℕ → List Member → Type 0
 AreAtMost None members = ⊤
 AreAtMost (Some n) members = length members ≤ n
 
--- After this text these rows of a page stand written, so many; where it is full, the place of the last of them.
-pub record RowsStand (front : List ℕ) (form : FormValue) (limit : Option ℕ) (rows : List Member)
-    (start now : Option (List ℕ)) (given : ℕ) (last : Option PlaceValue) : Type 0 where
-  pub text : Appends start now (front ++ begun form rows)
-  pub given_is : given ≡ min (length rows) (2 ^ 64 - 1)
-  pub room : AreAtMost limit rows
-  pub last_is : limit ≡ Some (length rows) → last ≡ last_of rows
-
 -- one of these follows the page that ends with this place, if there is one
 abbrev pub more_after : Option PlaceValue → List Member → Bool
 more_after last [] = false
 more_after last (m ∷ ms) = is_some last
-
--- these rows of the page of these captures stand written, and these captures follow the page
-pub record AreRows (form : FormValue) (limit : Option ℕ) (captures : List Member) (start now : Option (List ℕ))
-    (given : ℕ) (more : Bool) (last : Option PlaceValue) (rows rest : List Member) : Type 0 where
-  pub split : captures ≡ rows ++ rest
-  pub page : RowsStand [] form limit rows start now given last
-  pub full : (rest ≡ []) ⊎ (limit ≡ Some (length rows))
-  pub more_is : more ≡ more_after last rest
-
--- some rows of the page of these captures stand written
-pub record PageStands (form : FormValue) (limit : Option ℕ) (captures : List Member) (start now : Option (List ℕ))
-    (given : ℕ) (more : Bool) (last : Option PlaceValue) : Type 0 where
-  pub rows : List Member
-  pub rest : List Member
-  pub are : AreRows form limit captures start now given more last rows rest
 
 -- the page has as many as its limit
 abbrev pub is_full : Option ℕ → ℕ → Bool
