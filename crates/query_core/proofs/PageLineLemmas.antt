@@ -232,10 +232,12 @@ module _ (fields : List Field) (ms : List Member) (key : Option (List ℕ)) (ent
 
   -- ---- an empty line, and what follows it
 
-  empty_of : (o : OutputFormat) → (o ≡ output.Json → ⊥) → (fields ≡ [] → ⊥) → (before after : List (List ℕ))
+  empty_of : (o : OutputFormat) → (o ≡ output.Json → ⊥) → (o ≡ output.Text → fields ≡ [] → ⊥)
+      → (before after : List (List ℕ))
       → shown o ≡ before ++ (10 ∷ []) ∷ after → EndsInKey key after
   empty_of output.Text other some before after e =
-      empty_is_key (text_row fields) key above ms before after entries (text_some fields some) (rw text_lines at e)
+      empty_is_key (text_row fields) key above ms before after entries (text_some fields (some refl))
+      (rw text_lines at e)
   empty_of output.Cdxj other some before after e =
       empty_is_key line_row key above ms before after entries (λ m h. cdxj_short m (10 ∷ []) h (omega arith))
       (rw cdxj_lines at e)
@@ -260,15 +262,14 @@ module _ (fields : List Field) (ms : List Member) (key : Option (List ℕ)) (ent
     fault_there (u ∷ us) = inr (fault_there us)
 
     fault_of : (o : OutputFormat) → (1 < length fields) ⊎ (length fields ≤ 1) → shown o ≡ faulted → ⊥
+    fault_of output.Text (inr few) e = grind (arith, each_at, spaceless, fault_there before)
+    fault_of output.Json few e = let r = json_at fault (rw e (fault_there before)) in absurd (grind arith)
     fault_of output.Text (inl more) e =
         key_no_fault key name index offset after
-        (empty_of output.Text (λ j. grind arith) (λ none. omega (arith, more, ap length none)) before (fault ∷ after) e)
-    fault_of output.Text (inr few) e = grind (arith, each_at, spaceless, fault_there before)
+        (empty_of output.Text (λ j. grind arith) (λ t none. omega (arith, more, ap length none)) before (fault ∷ after) e)
     fault_of output.Cdxj few e =
         key_no_fault key name index offset after
-        (empty_is_key line_row key above ms before (fault ∷ after) entries
-        (λ m h. cdxj_short m (10 ∷ []) h (omega arith)) (rw cdxj_lines at e))
-    fault_of output.Json few e = let r = json_at fault (rw e (fault_there before)) in absurd (grind arith)
+        (empty_of output.Cdxj (λ j. grind arith) (λ t. grind arith) before (fault ∷ after) e)
 
 -- ---- the page of a query
 
@@ -297,7 +298,9 @@ no_page_has_faults q found name index offset before after entries e =
     before after q.output (cases_lt 1 (length q.fields)) e
 
 pub empty_line_is_before_key : EmptyLineIsBeforeKey
-empty_line_is_before_key q found before after entries other some e = grind (arith, empty_of, have_entries, above)
+empty_line_is_before_key q found before after entries other some e =
+    empty_of q.fields (members q found) (key q found) (have_entries q found entries) (above q found) q.output other (λ t. some)
+    before after e
 
 pub one_field_has_no_space : OneFieldHasNoSpace
 one_field_has_no_space q found entries is one = grind (arith, spaceless, have_entries, above)

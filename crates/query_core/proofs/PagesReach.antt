@@ -8,14 +8,11 @@ use Rattle.query_core.proofs.Words.{WrotePagesInPart, answer_text, append-nil, a
 use Rattle.query_core.proofs.Words.{collection, err_from_is_err_and, false, false_from_ne_true, first_size, form_of}
 use Rattle.query_core.proofs.Words.{grows_by, grows_not, grows_on, grows_part, inl, inr, is_some, kept, length}
 use Rattle.query_core.proofs.Words.{length-append, length-take, map, member_place, min, next_of, no_pages, not}
-use Rattle.query_core.proofs.Words.{page_end, page_over, pages_text, place_cmp, place_cmp_total, prefix_after}
-use Rattle.query_core.proofs.Words.{prefix_longer, put, query_captures, query_page, refl, rises_rising, rising}
-use Rattle.query_core.proofs.Words.{shown_key, sum, sym, take-append_seam, text_so_far, true, two_same, wrote_nothing}
-use Rattle.query_core.proofs.Words.{ℕ}
-use Rattle.merge_core.specs.declared.sink.Sink.{Ghosts as SinkGhosts}
-use Rattle.query_core.specs.declared.pass.Pass.{Pass}
+use Rattle.query_core.proofs.Words.{page_end, pages_text, place_cmp, place_cmp_total, prefix_after, prefix_longer}
+use Rattle.query_core.proofs.Words.{put, query_captures, query_page, refl, rises_rising, rising, shown_key, sum, sym}
+use Rattle.query_core.proofs.Words.{take-append_seam, text_so_far, true, two_same, wrote_nothing, ℕ}
 use Rattle.query_core.specs.Answering.{HoldsOfLines, Answered}
-use Rattle.query_core.specs.Passes.{Took, TookLines}
+use Rattle.query_core.specs.Passes.{Took}
 use Rattle.query_core.specs.declared.page_writer.PageEnd.{PageEnd}
 use Rattle.query_core.specs.WriterView.{IsEndOf, Stands, state_of}
 use Rattle.query_core.proofs.PagesLemmas.{decided, page_front, page_is, among_rows, few_rows, wrote_front, all_cut}
@@ -30,7 +27,7 @@ use Rattle.std.proofs.lemmas.List.Sums.{count_by-le-length, length-filter, sum-m
 use Rattle.page_core.proofs.PageLemmas.{page_in_pieces}
 
 -- the query's page is that of the lines that are wanted
-pub asked_is : (q : QueryValue) (lines : List Member) → query_page q lines ≡ page_over q q.resume q.limit lines
+pub asked_is : (q : QueryValue) (lines : List Member) → query_page q lines ≡ page q.limit (captures q lines)
 asked_is q lines = grind (arith, page, filter_and)
 
 -- a writer that began with this query, this limit and these sizes wrote what stands of these lines
@@ -52,28 +49,16 @@ module _ {told : List (Option (List ℕ))} {Holds : List Member → Type 0} wher
   of_none holds =
       record { any = ([], grind arith, holds [] tt); over = λ texts indexes known are. holds _ (collection_rises indexes) }
 
-  -- those that were taken come first
-  pub of_taken : {q : QueryValue} {taken : List Member} → Took q told taken
+  -- those that were taken come first, and may be all
+  pub of_taken : {q : QueryValue} {taken : List Member} {whole : Bool} → Took q told taken whole
       → ((all rest : List Member) → Rises member_place place_cmp all → captures q all ≡ captures q taken ++ rest
-      → Holds all) → HoldsOfLines told Holds
+      → (whole ≡ true → captures q all ≡ captures q taken) → Holds all) → HoldsOfLines told Holds
   of_taken t holds = record {
-    any = (_, t.lines, holds _ [] t.lines.rise (sym (append-nil _)));
+    any = (_, t.lines, holds _ [] t.lines.rise (sym (append-nil _)) (λ e. refl));
     over = λ texts indexes known are.
-        let first = t.first texts indexes known are in holds _ first.0 (collection_rises indexes) first.1;
+        let first = t.first texts indexes known are in
+        holds _ first.0 (collection_rises indexes) first.1 (λ e. t.whole e texts indexes known are);
   }
-
--- all lines were taken, or enough
-pub of_whole : {K S : Type 0} {consumer : SinkGhosts K} {device : Ghosts S} {q : QueryValue} {olds news : List S}
-    {sink last : K} {old new : Option (List ℕ)} {pass : Pass} {Holds : List Member → Type 0}
-    (t : TookLines consumer device q olds news sink old last new pass)
-    → ((all rest : List Member) → Rises member_place place_cmp all → captures q all ≡ captures q t.lines ++ rest
-    → (pass.all ≡ true → captures q all ≡ captures q t.lines) → Holds all) → HoldsOfLines (map device.text olds) Holds
-of_whole t holds = record {
-  any = (_, t.took.lines, holds _ [] t.took.lines.rise (sym (append-nil _)) (λ e. refl));
-  over = λ texts indexes known are.
-      let first = t.took.first texts indexes known are in
-      holds _ first.0 (collection_rises indexes) first.1 (λ e. t.whole e texts indexes known are);
-}
 
 module _ {q : QueryValue} {limit : Option ℕ} {sizes : List ℕ} {start mid : Option (List ℕ)} {taken : List Member}
     (w : Writing q limit sizes start mid taken) where
@@ -139,10 +124,10 @@ module _ {q : QueryValue} {start mid : Option (List ℕ)} {taken : List Member}
     -- of all lines those that were taken settle the page
     pub settles : (whole : Bool) (rest : List Member) → captures q all ≡ captures q taken ++ rest
         → (whole ≡ true → captures q all ≡ captures q taken) → (whole ≡ false → w.writer.more ≡ true)
-        → query_page q all ≡ page_over q q.resume q.limit taken
+        → query_page q all ≡ page q.limit (captures q taken)
     settles whole rest first ended enough = let settled = decided stands one in grind (arith, asked_is)
 
-    module _ (new : Option (List ℕ)) (same : query_page q all ≡ page_over q q.resume q.limit taken) where
+    module _ (new : Option (List ℕ)) (same : query_page q all ≡ page q.limit (captures q taken)) where
       text_same : answer_text q (query_page q all)
           ≡ text_so_far q (pages_by q q.limit [] taken) ++ page_end (form_of q) (key_of q)
       text_same = let is = page_is stands one in grind (arith, answer_text_is q taken, asked_is q taken)

@@ -342,10 +342,11 @@ module _ {S : Type 0} {device : Ghosts S} {q : QueryValue} {olds : List S}
         }
 
   -- they are lines of the sources, which over indexes come first
-  pub took : LinesTaken q (map device.text olds) r.taken
-  took = record {
+  pub took : (all : Bool) → (all ≡ true → r.merge.queue ≡ []) → LinesTaken q (map device.text olds) r.taken all
+  took all ended = record {
     lines = lines_taken r;
     first = λ texts indexes known are. let f = wanted_first r texts known indexes are in (f.0, f.1);
+    whole = λ e texts indexes known are. wanted_whole r texts known indexes are (ended e);
   }
 
 pub within_opening : {S : Type 0} (device : Ghosts S) (test : Member → Bool)

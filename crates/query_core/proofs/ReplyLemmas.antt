@@ -168,61 +168,58 @@ module _ (limit : ℕ) (IsReply : List ℕ → List ℕ → Type 0) where
       → AppendsPrefix old new (joined texts) → RepliedToFirst limit IsReply input old new
   first_replied input done texts old new first each p = grind arith
 
-  pub replied_front : (input now : Option (List ℕ)) (count : ℕ) (old new : Option (List ℕ))
-      → RepliedSoFar input now count old new → RepliedToFirst limit IsReply input old new
-  replied_front input now count old new s = grind (arith, first_replied, taken_first, whole_prefix)
-
   marked_alike : (line shown text : List ℕ) → AreAlike limit line shown → IsMarkedReply limit IsReply line text
       → IsMarkedReply limit IsReply shown text
   marked_alike line shown text same marked = grind (arith, lt-ltb, nat_lt)
 
+-- what follows of it
+module _ {limit : ℕ} {IsReply : List ℕ → List ℕ → Type 0} {input now : Option (List ℕ)} {count : ℕ}
+    {old new : Option (List ℕ)} (s : RepliedSoFar limit IsReply input now count old new) where
+  pub replied_front : RepliedToFirst limit IsReply input old new
+  replied_front = grind (arith, first_replied, taken_first, whole_prefix)
+
   -- no line is left
-  pub line_none : (input now after : Option (List ℕ)) (count before taken : ℕ) (old new : Option (List ℕ))
-      (line : List ℕ) (found : Bool) → RepliedSoFar input now count old new
+  pub line_none : (after : Option (List ℕ)) (before taken : ℕ) (line : List ℕ) (found : Bool)
       → TakesLine (limit + 2) found now after line → found ≡ false → CountsTaken input now 0 before
       → CountsTaken now after before taken → taken < 2 ^ 63 - 1 → RepliedToAll limit IsReply input count old new
-  line_none input now after count before taken old new line found s t none n k small =
-      grind (arith, append-nil)
+  line_none after before taken line found t none n k small = grind (arith, append-nil)
 
   -- the input failed in a line, or is too long
-  pub replied_taken : (input now left : Option (List ℕ)) (count taken : ℕ) (old new : Option (List ℕ))
-      → RepliedSoFar input now count old new → CountsTaken input now 0 taken
+  pub replied_taken : (left : Option (List ℕ)) (taken : ℕ) → CountsTaken input now 0 taken
       → StopsInLine now left ⊎ IsTooLong now taken → RepliedToTaken limit IsReply input left old new
-  replied_taken input now left count taken old new s k stopped = grind (arith, left_behind)
+  replied_taken left taken k stopped = grind (arith, left_behind)
 
-  pub nothing_replied : (input old : Option (List ℕ)) → RepliedToFirst limit IsReply input old old
-  nothing_replied input old =
-      replied_front input (prepend_known [] input) 0 old old (replied_none input [] old refl)
+  -- a line more was read, and then more was written
+  module _ (after last : Option (List ℕ)) (line : List ℕ) (takes : TakesLine (limit + 2) true now after line) where
+    abbrev pub next : (shown : List ℕ) × AreTaken input after (s.done ++ shown ∷ [])
+        × AreAlike limit (without_carriage_return line) shown
+    next = taken_more limit input now after s.done line s.taken takes
 
--- a line more was read, and then more was written
-module _ {limit : ℕ} {IsReply : List ℕ → List ℕ → Type 0} {input now : Option (List ℕ)} {count : ℕ}
-    {old new : Option (List ℕ)} (s : RepliedSoFar limit IsReply input now count old new)
-    (after last : Option (List ℕ)) (line : List ℕ) (takes : TakesLine (limit + 2) true now after line) where
-  abbrev pub next : (shown : List ℕ) × AreTaken input after (s.done ++ shown ∷ [])
-      × AreAlike limit (without_carriage_return line) shown
-  next = taken_more limit input now after s.done line s.taken takes
+    pub each_more : (text : List ℕ) → IsMarkedReply limit IsReply (without_carriage_return line) text
+        → AllZip (IsMarkedReply limit IsReply) (s.done ++ next.0 ∷ []) (s.texts ++ text ∷ [])
+    each_more text m = grind (arith, AllZip-push, marked_alike)
 
-  pub each_more : (text : List ℕ) → IsMarkedReply limit IsReply (without_carriage_return line) text
-      → AllZip (IsMarkedReply limit IsReply) (s.done ++ next.0 ∷ []) (s.texts ++ text ∷ [])
-  each_more text m = grind (arith, AllZip-push, marked_alike)
+    abbrev pub line_more : (text : List ℕ) × IsMarkedReply limit IsReply (without_carriage_return line) text
+        × Appends new last text → RepliedSoFar limit IsReply input after (count + 1) old last
+    line_more h = record {
+      done = s.done ++ next.0 ∷ [];
+      texts = s.texts ++ h.0 ∷ [];
+      taken = next.1;
+      counted = grind (arith, length-append);
+      each = each_more h.0 h.1;
+      written = rw (joined_more s.texts h.0) (Appends-join old new last (joined s.texts) h.0 s.written h.2);
+    }
 
-  abbrev pub line_more : (text : List ℕ) × IsMarkedReply limit IsReply (without_carriage_return line) text
-      × Appends new last text → RepliedSoFar limit IsReply input after (count + 1) old last
-  line_more h = record {
-    done = s.done ++ next.0 ∷ [];
-    texts = s.texts ++ h.0 ∷ [];
-    taken = next.1;
-    counted = grind (arith, length-append);
-    each = each_more h.0 h.1;
-    written = rw (joined_more s.texts h.0) (Appends-join old new last (joined s.texts) h.0 s.written h.2);
-  }
+    pub line_within : (text : List ℕ) × IsMarkedReply limit IsReply (without_carriage_return line) text
+        × AppendsPrefix new last text → RepliedToFirst limit IsReply input old last
+    line_within h =
+        first_replied limit IsReply input (s.done ++ next.0 ∷ []) (s.texts ++ h.0 ∷ []) old last
+        (taken_first input after (s.done ++ next.0 ∷ []) next.1) (each_more h.0 h.1)
+        (rw (joined_more s.texts h.0) (prefix_after old new last (joined s.texts) h.0 s.written h.2))
 
-  pub line_within : (text : List ℕ) × IsMarkedReply limit IsReply (without_carriage_return line) text
-      × AppendsPrefix new last text → RepliedToFirst limit IsReply input old last
-  line_within h =
-      first_replied limit IsReply input (s.done ++ next.0 ∷ []) (s.texts ++ h.0 ∷ []) old last
-      (taken_first input after (s.done ++ next.0 ∷ []) next.1) (each_more h.0 h.1)
-      (rw (joined_more s.texts h.0) (prefix_after old new last (joined s.texts) h.0 s.written h.2))
+pub nothing_replied : (limit : ℕ) (IsReply : List ℕ → List ℕ → Type 0) (input old : Option (List ℕ))
+    → RepliedToFirst limit IsReply input old old
+nothing_replied limit IsReply input old = replied_front (replied_none limit IsReply input [] old refl)
 
 -- ---- where each text has one reply
 
@@ -334,7 +331,7 @@ module _ {S : Type 0} {device : Ghosts S} {limit : ℕ} {input now : Option (Lis
 
   pub spent_part : RepliedInPart limit (reply_of limit all) input old new
   spent_part = one_reply_part limit (reply_of limit all) input old new
-      (replied_front limit (IsOneReply (reply_of limit all)) input now count old new s.so_far)
+      (replied_front s.so_far)
 
   -- no line was read
   pub spent_stop : GaveForLines device limit input texts indexes old new olds mids

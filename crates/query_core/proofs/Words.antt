@@ -39,7 +39,7 @@ pub use Rattle.query_core.specs.AnyReplies.{IsTextReply}
 pub use Rattle.query_core.specs.IndexFaults.{IsAnswerFaultOf}
 pub use Rattle.query_core.specs.PageLines.{BeginsWithBracket, HaveEntries}
 pub use Rattle.query_core.specs.PageWriting.{AreAtMost, FitsWord, captures_over, is_full, is_wanted, last_of, more_after}
-pub use Rattle.query_core.specs.PageWriting.{next_of, page_over, place_before}
+pub use Rattle.query_core.specs.PageWriting.{next_of, place_before}
 pub use Rattle.query_core.specs.PagesReach.{GaveInPages, WroteInPages}
 pub use Rattle.query_core.specs.PagesWriting.{AreCut, HasReadKey, IsSized, PagesSoFar, no_pages, text_so_far}
 pub use Rattle.query_core.specs.Passes.{AreFirst, GaveFor, ReadFor}

@@ -1,17 +1,14 @@
 -- A page that is being written, by the lines that were taken for it.
-use Rattle.std.specs.Prelude.{◌≡◌, ◌⊎◌, ℕ, ◌-◌, ◌^◌, ◌<◌, ◌≤◌, ⊤, ◌&&◌, List, [], ◌∷◌, ◌++◌, length, min, Bool, false}
+use Rattle.std.specs.Prelude.{ℕ, ◌^◌, ◌<◌, ◌≤◌, ⊤, ◌&&◌, List, [], ◌∷◌, length, Bool, false}
 use Rattle.std.specs.Prelude.{◌==◌, Option, None, Some, if◌then◌else◌}
 use Rattle.std.specs.List.{filter}
 use Rattle.std.specs.Option.{is_some}
-use Rattle.std.specs.Io.KnownBytes.{Appends}
 use Rattle.cdxj_places.specs.Places.{PlaceValue, place_cmp}
 use Rattle.query_text.specs.Queries.{QueryValue}
 use Rattle.query_text.specs.Matching.{matches}
 use Rattle.query_text.specs.Collapses.{same_part}
 use Rattle.cdxj_core.specs.Members.{Member, member_place}
-use Rattle.page_core.specs.Pages.{Page, is_above, end_place, kept, at_most}
-use Rattle.page_core.specs.PageText.{begun}
-use Rattle.page_core.specs.Form.{FormValue}
+use Rattle.page_core.specs.Pages.{is_above, end_place, kept}
 
 -- the line matches the query and stands above the place
 abbrev pub is_wanted : QueryValue → Option PlaceValue → Member → Bool
@@ -24,10 +21,6 @@ captures_over q from lines = kept member_place (same_part q.collapse) from (filt
 -- the place of the last of them, collapsed or not, or else that after which the page begins
 abbrev pub place_before : QueryValue → Option PlaceValue → List Member → Option PlaceValue
 place_before q from lines = end_place member_place from (filter (is_wanted q from) lines)
-
--- the page of these lines after the place
-abbrev pub page_over : QueryValue → Option PlaceValue → Option ℕ → List Member → Page Member PlaceValue
-page_over q from limit lines = at_most member_place limit (captures_over q from lines)
 
 -- the place of the last of them
 abbrev pub last_of : List Member → Option PlaceValue

@@ -3,8 +3,8 @@ use Rattle.query_core.proofs.Words.{Rises, Some, WrotePages, append-nil, arith, 
 use Rattle.query_core.proofs.Words.{grows_by, grows_part, map, member_place, no_pages, place_cmp, rules, sym, true}
 use Rattle.query_core.proofs.Words.{true≢false, wrote_nothing, ℕ}
 use Rattle.std.proofs.lemmas.Bool.{true_from_ne_false}
-use Rattle.query_core.proofs.PagesReach.{Writing, collection_rises, of_none, of_taken, of_whole, passed, all_ended}
-use Rattle.query_core.proofs.PagesReach.{at_end, stood_pages, pages_reached, broke_front, never_enough}
+use Rattle.query_core.proofs.PagesReach.{Writing, collection_rises, of_none, of_taken, passed, all_ended, at_end}
+use Rattle.query_core.proofs.PagesReach.{stood_pages, pages_reached, broke_front, never_enough}
 use Rattle.query_core.proofs.PagesLemmas.{all_positive, front_more, is_sized}
 use Rattle.query_core.proofs.paging.pages.Given.{Over}
 use Rattle.query_core.proofs.paging.pages.Goals.{In_ok-end, In_ok-read_lines, In_ok-writer}
@@ -87,7 +87,7 @@ returns-in_err-read_lines-clause-pages g c =
     let broke = c.in_err-read_lines.ensures.ended.0 in
     let here = begin g (goal.at.returns-in_err-read_lines-clause-pages g c).In_ok-writer in
     rw (err_from_is_err_and c.from_residual-in_err-read_lines.result c.from_residual-in_err-read_lines.ensures.1).1
-    (of_taken broke.took (λ all rest rise first sized.
+    (of_taken broke.took (λ all rest rise first whole sized.
     let positive = all_positive c.args.sizes.now sized in
     wrote_part c.args.query.now c.args.sizes.now positive all rise _ _
     (broke_front here (is_sized c.args.sizes.now positive) _ _ broke.wrote all rest first)))
@@ -96,7 +96,7 @@ pub returns-in_err-end-clause-pages : goal.returns-in_err-end-clause-pages
 returns-in_err-end-clause-pages g c =
     let here = (goal.at.returns-in_err-end-clause-pages g c).In_ok-read_lines in
     rw (err_from_is_err_and c.from_residual-in_err-end.result c.from_residual-in_err-end.ensures.1).1
-    (of_whole c.in_ok-read_lines.ensures.ended (λ all rest rise first whole sized.
+    (of_taken c.in_ok-read_lines.ensures.ended.took (λ all rest rise first whole sized.
     at_end (positive g here) (writing g here) all rise (whole (all_read g here)) _ c.in_err-end.ensures.text))
 
 -- the pages of lines of which those that were taken have all captures
@@ -111,7 +111,7 @@ pages_of g c all rise whole =
 pub returns-clause-pages : goal.returns-clause-pages
 returns-clause-pages g c =
     let here = goal.at.returns-clause-pages g c in
-    of_whole c.in_ok-read_lines.ensures.ended
+    of_taken c.in_ok-read_lines.ensures.ended.took
     (λ all rest rise first whole. pages_of g here.In_ok-end all rise (whole (all_read g here.In_ok-read_lines)))
 
 pub returns-clause-parts : goal.returns-clause-parts

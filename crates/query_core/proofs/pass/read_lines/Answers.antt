@@ -1,8 +1,7 @@
 use Rattle.query_core.proofs.Words.{[], ◌++◌, ◌∙◌, ◌≡◌, Bool, List, Member, ReadFor, Some, ap, append-nil, arith}
-use Rattle.query_core.proofs.Words.{err_from_is_err_and, false, grows_not, inl, inputs, length-map, map, refl, sym}
-use Rattle.query_core.proofs.Words.{true}
+use Rattle.query_core.proofs.Words.{err_from_is_err_and, false, grows_not, inl, length-map, map, refl, sym, true}
 use Rattle.query_core.proofs.WriterLemmas.{captures, captures_append}
-use Rattle.query_core.proofs.ReachLemmas.{Opened, reading, told, wanted_whole, cut_all, cut_before, cut_last, gave_upto}
+use Rattle.query_core.proofs.ReachLemmas.{Opened, reading, told, cut_all, cut_before, cut_last, gave_upto}
 use Rattle.query_core.proofs.ReachLemmas.{gave_within, lines_within, of_parts, took, within_opening}
 use Rattle.merge_core.proofs.OpenLemmas.{came_of, cuts_of}
 use Rattle.query_core.specs.Passes.{WantedMore}
@@ -18,7 +17,7 @@ returns-in_err-opened-clause-ended g c =
       record {
         lines = [];
         wrote = λ begin start h. inl (_, h);
-        took = record { lines = grind arith; first = λ texts indexes known are. (_, refl) };
+        took = record { lines = grind arith; first = λ texts indexes known are. (_, refl); whole = grind arith };
       },
       record {
         earlier = [];
@@ -58,11 +57,11 @@ returns-in_err-all-clause-ended g c =
       record {
         lines = broke.taken;
         wrote = broke.wrote;
-        took = took (reading opened (rw c.target.ensures at broke.reached));
+        took = took (reading opened (rw c.target.ensures at broke.reached)) false (grind arith);
       },
       record {
         earlier = h.so_far.taken;
-        first = (took r).first;
+        first = (took r false (grind arith)).first;
         before = record {
           state = h.point.sink;
           middle = h.point.written;
@@ -87,7 +86,6 @@ returns-clause-ended g c =
     let passed = c.in_ok-all.ensures.ended in
     let r = reading (start g (goal.at.returns-clause-ended g c).In_ok-opened)
     (rw c.target.ensures at passed.so_far.reached) in
-    let t = took r in
     let read = of_parts r c.lines.result c.lines.ensures c.in_ok-all.all passed.ended in
     let wanted = by_truth c.in_ok-all.all ((earlier : List Member) × (later : List Member)
     × (captures q r.taken ≡ captures q earlier ++ later) × WantedMore g.K.Sink
@@ -113,8 +111,7 @@ returns-clause-ended g c =
     record {
       lines = r.taken;
       came = passed.so_far.came;
-      took = t;
-      whole = λ e texts indexes known are. wanted_whole r texts known indexes are (passed.ended e);
+      took = took r c.in_ok-all.all passed.ended;
       parts = read;
       earlier = wanted.0;
       later = wanted.1;
