@@ -1,5 +1,5 @@
 -- The captures of archives, and the pages that a scan writes of them.
-use Rattle.query_core.proofs.Words.{[], ◌++◌, ◌∷◌, ◌≡◌, AllByRecursion, AllZip, AnswerFault, Bool, Err, IsIndex}
+use Rattle.query_core.proofs.Words.{[], ◌++◌, ◌∷◌, ◌≡◌, AllByRecursion, AllZip, Bool, Err, IsIndex}
 use Rattle.query_core.proofs.Words.{Known, LINE_LIMIT, List, Member, Ok, Option, QueryValue, append-nil, arith}
 use Rattle.query_core.proofs.Words.{collection, each_join, each_weaker, false, flat_map, length, lines_text, map}
 use Rattle.query_core.proofs.Words.{map-append, member_place, place_cmp, place_cmp_total, refl, ℕ}
@@ -16,6 +16,7 @@ use Rattle.warc_core.specs.Kind.{Kind}
 use Rattle.index_core.proofs.SoundLemmas.{among_more, among_last}
 use Rattle.scan_core.specs.Scanning.{IsAsked, Scanned, ScannedInPart, WritesKnownPages}
 use Rattle.index_core.specs.Laws.{OneIndexed}
+use Rattle.query_core.specs.declared.fault.AnswerFault.{AnswerFault}
 use Rattle.query_core.proofs.PageChains.{wrote_one}
 use Rattle.scan_core.specs.Laws.{ScanIsOne}
 

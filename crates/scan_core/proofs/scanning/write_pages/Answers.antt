@@ -1,4 +1,4 @@
-use Rattle.query_core.proofs.Words.{[], ◌∙◌, ◌∷◌, ◌≡◌, ◌≤◌, AllZip, AnswerFault, Err, IsAnswerFaultOf, IsIndex, Known}
+use Rattle.query_core.proofs.Words.{[], ◌∙◌, ◌∷◌, ◌≡◌, ◌≤◌, AllZip, Err, IsAnswerFaultOf, IsIndex, Known}
 use Rattle.query_core.proofs.Words.{LINE_LIMIT, List, Member, Ok, Option, Some, ap, arith, collection, get_or, length}
 use Rattle.query_core.proofs.Words.{length-map, map, nat_tests, refl, same_part, selected, suc, true, wrote_nothing}
 use Rattle.query_core.proofs.Words.{ℕ}
@@ -6,6 +6,7 @@ use Rattle.std.proofs.Common.{Result, IfErr}
 use Rattle.devices.specs.Device.{next_count}
 use Rattle.merge_core.specs.Failures.{RaisedAt}
 use Rattle.query_core.specs.AnswerCounts.{CountsAnswer}
+use Rattle.query_core.specs.declared.fault.AnswerFault.{AnswerFault}
 use Rattle.query_core.specs.declared.merging.TheConstants.{SOURCES_LIMIT}
 use Rattle.query_core.specs.Paging.{are_sizes}
 use Rattle.query_core.specs.QueryLaws.{NoLineIsAtFault}
