@@ -98,32 +98,17 @@ module _ {S : Type 0} (device : Ghosts S) (q : QueryValue) (olds : List S) where
     pub cut : AllByRecursion (λ x. IsCutAt (start_pair q q.resume) (device.text x.0) x.1)
         (zip opened begun.cursors.items)
 
-  -- these lines were taken
-  pub record Reading : Type 0 where
-    pub opened : List S
-    pub begun : MergeState
-    pub sources : List S
-    pub merge : MergeState
-    pub bound : Option Pair
-    pub taken : List Member
+  -- these lines were taken, up to the bound
+  pub record Reading (opened : List S) (begun : MergeState) (sources : List S) (merge : MergeState) (bound : Option Pair)
+      (taken : List Member) : Type 0 where
     pub start : Opened opened begun
     pub reached : Reached (is_past q.target) device opened begun sources merge bound taken
 
-abbrev pub reading : {S : Type 0} {device : Ghosts S} {q : QueryValue} {olds : List S}
-    {opened : List S} {begun : MergeState} {sources : List S} {merge : MergeState} {bound : Option Pair}
-    {taken : List Member} → Opened device q olds opened begun
+abbrev pub reading : {S : Type 0} {device : Ghosts S} {q : QueryValue} {olds opened sources : List S}
+    {begun merge : MergeState} {bound : Option Pair} {taken : List Member} → Opened device q olds opened begun
     → Reached (is_past q.target) device opened begun sources merge bound taken
-    → Reading device q olds
-reading start reached = record {
-  opened = _;
-  begun = _;
-  sources = _;
-  merge = _;
-  bound = _;
-  taken = _;
-  start = start;
-  reached = reached;
-}
+    → Reading device q olds opened begun sources merge bound taken
+reading start reached = record { start = start; reached = reached }
 
 module _ (q : QueryValue) where
   abbrev sought : Member → Bool
@@ -135,16 +120,16 @@ module _ (q : QueryValue) where
   beyond : (m : Member) → sought m ≡ true → is_low (start_pair q q.resume) m ≡ false
   beyond m h = grind (arith, start_not_above, and_parts)
 
-module _ {S : Type 0} {device : Ghosts S} {q : QueryValue} {olds : List S}
-    (r : Reading device q olds) where
-  pub lines_taken : AreLinesOf (map device.text olds) r.taken
+module _ {S : Type 0} {device : Ghosts S} {q : QueryValue} {olds opened sources : List S} {begun merge : MergeState}
+    {bound : Option Pair} {taken : List Member} (r : Reading device q olds opened begun sources merge bound taken) where
+  pub lines_taken : AreLinesOf (map device.text olds) taken
   lines_taken = grind (arith, taken_lines)
 
   module _ (texts : List (List ℕ)) (known : Known (map device.text olds) texts) where
-    pub known_opened : Known (map device.text r.opened) texts
+    pub known_opened : Known (map device.text opened) texts
     known_opened = rw r.start.kept known
 
-    pub told : AreTold device.text r.opened
+    pub told : AreTold device.text opened
     told = grind (arith, told_known, known_opened)
 
     module _ (indexes : List (List Member)) (are : AllZip (IsIndex LINE_LIMIT) texts indexes) where
@@ -152,33 +137,33 @@ module _ {S : Type 0} {device : Ghosts S} {q : QueryValue} {olds : List S}
       of_all = stamped (is_wanted q q.resume) (collection indexes)
           (each_weaker (λ m row. entry_stamp (line_row m) m row.1) _ (collection_rows LINE_LIMIT texts indexes are))
 
-      of_taken : filter (sought q) r.taken ≡ filter (is_wanted q q.resume) r.taken
-      of_taken = stamped (is_wanted q q.resume) r.taken
-          (each_weaker (λ m. entry_stamp m.line m) r.taken r.reached.handed.entries)
+      of_taken : filter (sought q) taken ≡ filter (is_wanted q q.resume) taken
+      of_taken = stamped (is_wanted q q.resume) taken
+          (each_weaker (λ m. entry_stamp m.line m) taken r.reached.handed.entries)
 
-      pub took_sought : Took (is_past q.target) (sought q) r.bound r.merge.queue (collection indexes) r.taken
+      pub took_sought : Took (is_past q.target) (sought q) bound merge.queue (collection indexes) taken
       took_sought = took_of_indexes r.reached r.start.same _ r.start.cut texts indexes known_opened are
           (past_upward q.target) (sought q) (within q) (beyond q)
 
       -- of all that is wanted, what follows what was taken is so too once it is collapsed
       pub wanted_rest : (A : Member → Type 0) → (rest : List Member)
-          × (filter (sought q) (collection indexes) ≡ filter (sought q) r.taken ++ rest)
+          × (filter (sought q) (collection indexes) ≡ filter (sought q) taken ++ rest)
           × AllByRecursion (λ m. (sought q m ≡ true) × A m) rest → (rest : List Member)
-          × (captures q (collection indexes) ≡ captures q r.taken ++ rest) × AllByRecursion A rest
+          × (captures q (collection indexes) ≡ captures q taken ++ rest) × AllByRecursion A rest
       wanted_rest A (rest, split, each) = (
         _,
         grind (arith, captures_split, of_all, of_taken),
-        each_kept member_place place_cmp (same_part q.collapse) place_cmp_total A (place_before q q.resume r.taken) rest
+        each_kept member_place place_cmp (same_part q.collapse) place_cmp_total A (place_before q q.resume taken) rest
             (each_weaker (λ m h. h.1) rest each),
       )
 
       -- what was taken is a front of what is wanted
-      pub wanted_first : (rest : List Member) × (captures q (collection indexes) ≡ captures q r.taken ++ rest)
-          × AllByRecursion (λ m. IsAbove r.bound (member_pair m)) rest
+      pub wanted_first : (rest : List Member) × (captures q (collection indexes) ≡ captures q taken ++ rest)
+          × AllByRecursion (λ m. IsAbove bound (member_pair m)) rest
       wanted_first = wanted_rest _ (taken_first took_sought)
 
       -- where no line waits, it is all
-      pub wanted_whole : r.merge.queue ≡ [] → captures q (collection indexes) ≡ captures q r.taken
+      pub wanted_whole : merge.queue ≡ [] → captures q (collection indexes) ≡ captures q taken
       wanted_whole none = rw (← of_all, taken_whole took_sought none, of_taken) refl
 
 -- ---- what was read of indexes, beside the reach of a page
@@ -240,21 +225,21 @@ module _ (q : QueryValue) (indexes : List (List Member)) where
     passes : Passes (is_past q.target) (start_pair q q.resume) bound (in_reach q q.resume limit (collection indexes))
     passes = grind (arith, both, covered_from_start, past_front)
 
-module _ {S : Type 0} {device : Ghosts S} {q : QueryValue} {olds : List S}
-    (r : Reading device q olds) where
+module _ {S : Type 0} {device : Ghosts S} {q : QueryValue} {olds opened sources : List S} {begun merge : MergeState}
+    {bound : Option Pair} {taken : List Member} (r : Reading device q olds opened begun sources merge bound taken) where
   -- the same over indexes
   abbrev Cuts : Option Pair → List Member → Type 0
   Cuts bound earlier = OverIndexes (map device.text olds) (λ texts indexes. Cut q indexes bound earlier)
 
   -- all was read
-  pub cut_all : r.merge.queue ≡ [] → Cuts r.bound r.taken
+  pub cut_all : merge.queue ≡ [] → Cuts bound taken
   cut_all none = λ texts indexes known are.
       let whole = wanted_whole r texts known indexes are none in
       record { back = []; whole = grind (arith, append-nil); later = grind arith }
 
   -- behind the lines before the pair that was taken last
-  pub cut_last : (pair : Pair) (earlier others : List Member) → r.bound ≡ Some pair → r.taken ≡ earlier ++ others
-      → AllByRecursion (λ m. Alike (member_pair m) pair) others → Cuts r.bound earlier
+  pub cut_last : (pair : Pair) (earlier others : List Member) → bound ≡ Some pair → taken ≡ earlier ++ others
+      → AllByRecursion (λ m. Alike (member_pair m) pair) others → Cuts bound earlier
   cut_last pair earlier others bound parts alike = λ texts indexes known are.
       let first = wanted_first r texts known indexes are in
       let group = filter (is_wanted q q.resume) others in
@@ -273,8 +258,8 @@ module _ {S : Type 0} {device : Ghosts S} {q : QueryValue} {olds : List S}
       }
 
   -- before a pair whose lines couldn't be had or handed on
-  pub cut_before : (next : Pair) → IsAbove r.bound next → NoneBelow next r.merge.queue
-      → Cuts (Some next) r.taken
+  pub cut_before : (next : Pair) → IsAbove bound next → NoneBelow next merge.queue
+      → Cuts (Some next) taken
   cut_before next above least = λ texts indexes known are.
       let sought = took_sought r texts known indexes are in
       let before = wanted_rest r texts known indexes are _ (taken_before sought next above least) in
@@ -284,65 +269,65 @@ module _ {S : Type 0} {device : Ghosts S} {q : QueryValue} {olds : List S}
         later = λ m upto. each_weaker (λ v. upto_upto (member_pair m) next (member_pair v) upto) before.0 before.2;
       }
 
-  as_long : length r.sources ≡ length r.opened
+  as_long : length sources ≡ length opened
   as_long = reached_long r.reached r.start.same
 
-  kept_now : map device.text r.sources ≡ map device.text olds
+  kept_now : map device.text sources ≡ map device.text olds
   kept_now = (reached_kept r.reached r.start.same).0 ∙ r.start.kept
 
   -- what sources gave that were read up to the bound
   pub gave_upto : (bound : Option Pair) (earlier : List Member) (news : List S) (cs : List CursorState)
-      → Cuts bound earlier → AllZip (Move device) (zip r.opened r.begun.cursors.items) (zip news cs)
-      → length news ≡ length r.opened
+      → Cuts bound earlier → AllZip (Move device) (zip opened begun.cursors.items) (zip news cs)
+      → length news ≡ length opened
       → OverTexts (map device.text olds) (λ texts. AreReadTo (is_past q.target) device.text bound news cs)
       → GaveFor q (map device.text olds) device earlier olds news
   gave_upto bound earlier news cs cuts moved long reads = λ texts indexes known are limit most.
-      let all = AllZip-long (Move device) (zip r.opened r.begun.cursors.items) (zip news cs) moved in
+      let all = AllZip-long (Move device) (zip opened begun.cursors.items) (zip news cs) moved in
       let pass = passes q indexes bound earlier (cuts texts indexes known are) limit most in
-      let tells = tell_both device.text r.opened r.begun.cursors.items texts r.start.same (known_opened r texts known) in
-      rw (firsts news cs (omega (arith, all, long, length_zip r.opened r.begun.cursors.items r.start.same))) at
+      let tells = tell_both device.text opened begun.cursors.items texts r.start.same (known_opened r texts known) in
+      rw (firsts news cs (omega (arith, all, long, length_zip opened begun.cursors.items r.start.same))) at
       (gave_most pass device olds _ (zip news cs) _ _ known tells are r.start.came moved
       r.start.cut (reads texts known))
 
   -- what they gave of which these lines were taken
-  pub gave_within : (earlier : List Member) → Cuts r.bound earlier
-      → GaveFor q (map device.text olds) device earlier olds r.sources
-  gave_within earlier cuts = gave_upto r.bound earlier r.sources r.merge.cursors.items cuts r.reached.moved as_long
-      (λ texts known. are_read_to _ device _ r.sources r.merge r.reached.ready.aligned.input
+  pub gave_within : (earlier : List Member) → Cuts bound earlier
+      → GaveFor q (map device.text olds) device earlier olds sources
+  gave_within earlier cuts = gave_upto bound earlier sources merge.cursors.items cuts r.reached.moved as_long
+      (λ texts known. are_read_to _ device _ sources merge r.reached.ready.aligned.input
       (r.reached.handed.told (told r texts known)).1)
 
-  module _ (lines : ℕ) (counted : lines ≡ min (sum (map (λ (c : CursorState). c.count) r.merge.cursors.items)) (2 ^ 64 - 1)) where
+  module _ (lines : ℕ) (counted : lines ≡ min (sum (map (λ (c : CursorState). c.count) merge.cursors.items)) (2 ^ 64 - 1)) where
     -- no more lines were read than are in reach, and one of each index
-    pub lines_within : (earlier : List Member) → Cuts r.bound earlier → ReadFor q (map device.text olds) earlier lines
+    pub lines_within : (earlier : List Member) → Cuts bound earlier → ReadFor q (map device.text olds) earlier lines
     lines_within earlier cuts = λ texts indexes known are limit most.
-        let h = rw cursors_of at (lines_most (passes q indexes r.bound earlier (cuts texts indexes known are) limit most) device
-        r.sources (inputs r.merge) texts indexes (rw kept_now known) are
+        let h = rw cursors_of at (lines_most (passes q indexes bound earlier (cuts texts indexes known are) limit most) device
+        sources (inputs merge) texts indexes (rw kept_now known) are
         (rw cursors_of (cuts_kept device _ _ _ r.reached.moved r.start.cut)) r.reached.ready.aligned.input
         (r.reached.handed.told (told r texts known)).1) in
         grind (arith, AllZip-long)
 
     -- of each source consecutive lines were read
-    pub of_parts : (all : Bool) → (all ≡ true → r.merge.queue ≡ [])
-        → OverTexts (map device.text olds) (λ texts. IsOfParts q texts r.taken all lines)
+    pub of_parts : (all : Bool) → (all ≡ true → merge.queue ≡ [])
+        → OverTexts (map device.text olds) (λ texts. IsOfParts q texts taken all lines)
     of_parts all ended = λ texts known.
-        let read = parts device.text r.sources (inputs r.merge) in
+        let read = parts device.text sources (inputs merge) in
         let told_all = told r texts known in
         let all_took = took_of_parts r.reached told_all (past_upward q.target) (is_wanted q q.resume)
         (λ m h. grind arith) in
         let found = taken_first all_took in
-        let count = rw cursors_of at (parts_count _ device r.sources (inputs r.merge) (told_here r.reached told_all)
+        let count = rw cursors_of at (parts_count _ device sources (inputs merge) (told_here r.reached told_all)
         r.reached.ready.aligned.input) in
         record {
           parts = read;
           each = λ whole is. parts_are _ device _ _ _ _ (rw kept_now known) r.reached.ready.aligned.input
-              r.reached.ready.settled (λ e. rw (ended (is e)) (none_wait 0 r.merge.cursors.items));
+              r.reached.ready.settled (λ e. rw (ended (is e)) (none_wait 0 merge.cursors.items));
           count = cc;
-          first = (_, captures_split q q.resume (collection read) r.taken found.0 found.1);
+          first = (_, captures_split q q.resume (collection read) taken found.0 found.1);
           ended = λ e. ap (kept_after q q.resume q.resume) (taken_whole all_took (ended e));
         }
 
   -- they are lines of the sources, which over indexes come first
-  pub took : (all : Bool) → (all ≡ true → r.merge.queue ≡ []) → LinesTaken q (map device.text olds) r.taken all
+  pub took : (all : Bool) → (all ≡ true → merge.queue ≡ []) → LinesTaken q (map device.text olds) taken all
   took all ended = record {
     lines = lines_taken r;
     first = λ texts indexes known are. let f = wanted_first r texts known indexes are in (f.0, f.1);

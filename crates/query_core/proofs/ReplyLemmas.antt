@@ -168,10 +168,6 @@ module _ (limit : ℕ) (IsReply : List ℕ → List ℕ → Type 0) where
       → AppendsPrefix old new (joined texts) → RepliedToFirst limit IsReply input old new
   first_replied input done texts old new first each p = grind arith
 
-  marked_alike : (line shown text : List ℕ) → AreAlike limit line shown → IsMarkedReply limit IsReply line text
-      → IsMarkedReply limit IsReply shown text
-  marked_alike line shown text same marked = grind (arith, lt-ltb, nat_lt)
-
 -- what follows of it
 module _ {limit : ℕ} {IsReply : List ℕ → List ℕ → Type 0} {input now : Option (List ℕ)} {count : ℕ}
     {old new : Option (List ℕ)} (s : RepliedSoFar limit IsReply input now count old new) where
@@ -197,7 +193,7 @@ module _ {limit : ℕ} {IsReply : List ℕ → List ℕ → Type 0} {input now :
 
     pub each_more : (text : List ℕ) → IsMarkedReply limit IsReply (without_carriage_return line) text
         → AllZip (IsMarkedReply limit IsReply) (s.done ++ next.0 ∷ []) (s.texts ++ text ∷ [])
-    each_more text m = grind (arith, AllZip-push, marked_alike)
+    each_more text m = grind (arith, AllZip-push, lt-ltb, nat_lt)
 
     abbrev pub line_more : (text : List ℕ) × IsMarkedReply limit IsReply (without_carriage_return line) text
         × Appends new last text → RepliedSoFar limit IsReply input after (count + 1) old last
