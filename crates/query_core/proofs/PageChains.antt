@@ -99,13 +99,14 @@ module _ (q : QueryValue) (sizes : List ℕ) (positive : AllPositive sizes) (lin
         → number ≡ min (length (all_pages so_far)) (2 ^ 64 - 1) → WrotePages q lines sizes old new number
     wrote_whole number keyed text count =
         let chain = chain_of (all_pages so_far) cut in
-        let law = chain_law member_place place_cmp (same_part q.collapse) place_cmp_total (selected q lines) q.resume sizes
+        let same = same_part q.collapse in
+        let law = chain_law member_place place_cmp same place_cmp_total (selected q lines) q.resume sizes
         (all_pages so_far) selects positive chain in
         record {
           pages = all_pages so_far;
           chain = chain;
           joined = law.0;
-          rises = rises_collapsed member_place place_cmp (same_part q.collapse) place_cmp_total (selected q lines) q.resume selects;
+          rises = rises_collapsed member_place place_cmp same place_cmp_total (selected q lines) q.resume selects;
           full = law.1;
           keys = keys_but_last sizes (all_pages so_far) (captures q lines) positive cut
               (each_join HasReadKey so_far.whole (last_page so_far.rows ∷ []) keyed (tt, tt));

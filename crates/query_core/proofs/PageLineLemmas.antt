@@ -172,7 +172,8 @@ module _ (row : Member → List ℕ) (key : Option (List ℕ)) where
     rows_lines : (ms : List Member) → HaveEntries ms → ((m : Member) → HasEntry m → IsLine (row m))
         → lines (flat_map row ms ++ key_lines key) ≡ rows ms
     rows_lines ms entries h =
-        let line : (r : List ℕ) → IsRowOfPage r → IsLine r = λ r k. elim k [ inl c ↦ rw c.2 (h c.0 c.1) | inr k ↦ k.line ] in
+        let line : (r : List ℕ) → IsRowOfPage r → IsLine r =
+        λ r k. elim k [ inl c ↦ rw c.2 (h c.0 c.1) | inr k ↦ k.line ] in
         rw (← rows_text ms) (lines_joined (rows ms) (each_weaker line (rows ms) (each_row ms entries)))
 
     -- where no capture's row is an empty line, one stands before a key
@@ -248,7 +249,8 @@ module _ (fields : List Field) (ms : List Member) (key : Option (List ℕ)) (ent
 
   spaceless : length fields ≤ 1 → AllByRecursion (λ line. has_no_space line ≡ true) (shown output.Text)
   spaceless few =
-      rw text_lines (each_weaker (spaceless_row few) (rows (text_row fields) key ms) (each_row (text_row fields) key above ms entries))
+      rw text_lines (each_weaker (spaceless_row few) (rows (text_row fields) key ms)
+      (each_row (text_row fields) key above ms entries))
 
   module _ (name : List ℕ) (index offset : ℕ) (before after : List (List ℕ)) where
     abbrev fault : List ℕ
@@ -266,7 +268,8 @@ module _ (fields : List Field) (ms : List Member) (key : Option (List ℕ)) (ent
     fault_of output.Json few e = let r = json_at fault (rw e (fault_there before)) in absurd (grind arith)
     fault_of output.Text (inl more) e =
         key_no_fault key name index offset after
-        (empty_of output.Text (λ j. grind arith) (λ t none. omega (arith, more, ap length none)) before (fault ∷ after) e)
+        (empty_of output.Text (λ j. grind arith) (λ t none. omega (arith, more, ap length none)) before
+        (fault ∷ after) e)
     fault_of output.Cdxj few e =
         key_no_fault key name index offset after
         (empty_of output.Cdxj (λ j. grind arith) (λ t. grind arith) before (fault ∷ after) e)
@@ -299,8 +302,8 @@ no_page_has_faults q found name index offset before after entries e =
 
 pub empty_line_is_before_key : EmptyLineIsBeforeKey
 empty_line_is_before_key q found before after entries other some e =
-    empty_of q.fields (members q found) (key q found) (have_entries q found entries) (above q found) q.output other (λ t. some)
-    before after e
+    empty_of q.fields (members q found) (key q found) (have_entries q found entries) (above q found) q.output other
+    (λ t. some) before after e
 
 pub one_field_has_no_space : OneFieldHasNoSpace
 one_field_has_no_space q found entries is one = grind (arith, spaceless, have_entries, above)

@@ -80,14 +80,19 @@ module _ (q : QueryValue) (start now : Option (List ℕ)) where
   front_row : (s : PagesSoFar) (m : Member) → IsFrontOf s → IsFrontOf (with_row s m)
   front_row s m p = rw (text_row q s m) (prefix_longer start now _ _ p)
 
-  front_one : (s : PagesSoFar) (m : Member) → IsFrontOf s → IsFrontOf (with_capture s m)
-  front_one s m p = elim (is_ended s) as (λ b. IsFrontOf (if b then record s { rest = s.rest ++ m ∷ [] } else with_row (with_room s) m)) [
-    | true ↦ p
-    | false ↦ front_row (with_room s) m (elim (has_all s) as (λ b. IsFrontOf (if b then turned s else s)) [
-      | true ↦ rw (text_turned q s) (prefix_longer start now _ _ p)
-      | false ↦ p
-    ])
+  front_room : (s : PagesSoFar) → IsFrontOf s → IsFrontOf (with_room s)
+  front_room s p = elim (has_all s) as (λ b. IsFrontOf (if b then turned s else s)) [
+    | true ↦ rw (text_turned q s) (prefix_longer start now _ _ p)
+    | false ↦ p
   ]
+
+  front_one : (s : PagesSoFar) (m : Member) → IsFrontOf s → IsFrontOf (with_capture s m)
+  front_one s m p =
+      let ended = record s { rest = s.rest ++ m ∷ [] } in
+      elim (is_ended s) as (λ b. IsFrontOf (if b then ended else with_row (with_room s) m)) [
+        | true ↦ p
+        | false ↦ front_row (with_room s) m (front_room s p)
+      ]
 
   pub front_more : (s : PagesSoFar) (ms : List Member) → IsFrontOf s → IsFrontOf (pages_after s ms)
   front_more s [] p = p
@@ -330,7 +335,8 @@ more_lines first taken more =
     let q = first.selection.query.now in
     let from = from_view first.selection.from in (
       kept_after q from (place_before q from taken) (filter (is_wanted q from) more),
-      rw (captures_append q from taken more) (pages_join (no_pages first.limit first.sizes.now) (captures_over q from taken) _),
+      rw (captures_append q from taken more)
+          (pages_join (no_pages first.limit first.sizes.now) (captures_over q from taken) _),
     )
 
 pub broke_more : (first : PageWriter) (taken more : List Member) (start now : Option (List ℕ))
@@ -351,9 +357,10 @@ module _ {first w : PageWriter} {taken : List Member} {start now : Option (List 
     pub took_next : {next : Selection} {m : Member} {is : Bool} → TookNext w.selection next taken m is
         → pages_so_far first (taken ++ m ∷ []) ≡ pages_after (pages_so_far first taken) (cond is (m ∷ []) [])
     took_next {m = m} {is} took =
-        let more : captures_of first.selection (taken ++ m ∷ []) ≡ captures_of first.selection taken ++ cond is (m ∷ []) [] =
+        let one = cond is (m ∷ []) [] in
+        let more : captures_of first.selection (taken ++ m ∷ []) ≡ captures_of first.selection taken ++ one =
         rw (s.same.0, s.same.1) at took.captures in
-        rw more (pages_join (no_pages first.limit first.sizes.now) (captures_of first.selection taken) (cond is (m ∷ []) []))
+        rw more (pages_join (no_pages first.limit first.sizes.now) (captures_of first.selection taken) one)
 
     -- where the page isn't ended
     pub goes_on : IsSized first.limit first.sizes.now

@@ -196,7 +196,8 @@ page_reached device {q} {old} {middle} new olds news {taken} earlier tail w grow
       whole = length mine;
       most = grind (arith, length-append);
       wrote = grind (arith, take-append_seam);
-      within = within texts indexes known are (Some (length mine)) (among_rows s (one w) (captures q earlier) tail split most);
+      within = within texts indexes known are (Some (length mine))
+          (among_rows s (one w) (captures q earlier) tail split most);
       page = within texts indexes known are q.limit most;
     }
 
@@ -285,7 +286,8 @@ module _ {q : QueryValue} {sizes : List ℕ} {start now : Option (List ℕ)} {ta
     pages = (pages_by q (Some (first_size sizes)) sizes taken).whole;
     rows = (pages_by q (Some (first_size sizes)) sizes taken).rows;
     cut = all_cut sizes positive (captures q taken);
-    wrote = written q _ _ start now new (has_next (no_pages (Some (first_size sizes)) sizes) (captures q taken) (inl refl))
+    wrote = written q _ _ start now new
+        (has_next (no_pages (Some (first_size sizes)) sizes) (captures q taken) (inl refl))
         all.text grows;
   }
 
@@ -304,7 +306,8 @@ module _ {q : QueryValue} {sizes : List ℕ} {start now : Option (List ℕ)} {ta
         → WrotePages q lines sizes start new number
     all_ended number a n =
         let text = Appends-join _ _ _ _ _ all.text (rw end_is at a) in
-        wrote_whole q sizes positive lines rise start new number (rw same all.keyed) (rw same text) (rw same (grind (arith, length-append)))
+        wrote_whole q sizes positive lines rise start new number (rw same all.keyed) (rw same text)
+        (rw same (grind (arith, length-append)))
 
     pub at_end : AppendsPrefix now new end → WrotePagesInPart q lines sizes start new
     at_end p = wrote_most q sizes positive lines rise start new

@@ -1,6 +1,6 @@
 -- Captures that are cut into pages, as they come.
-use Rattle.std.specs.Prelude.{◌≡◌, ◌⊎◌, ℕ, ◌<◌, ◌≤◌, ⊤, List, [], ◌∷◌, ◌++◌, length, take, drop, ◌&&◌, Bool, true, false}
-use Rattle.std.specs.Prelude.{Option, None, Some, IfSome, if◌then◌else◌}
+use Rattle.std.specs.Prelude.{◌≡◌, ◌⊎◌, ℕ, ◌<◌, ◌≤◌, ⊤, List, [], ◌∷◌, ◌++◌, length, take, drop, ◌&&◌, Bool}
+use Rattle.std.specs.Prelude.{true, false, Option, None, Some, IfSome, if◌then◌else◌}
 use Rattle.cdxj_places.specs.Places.{PlaceValue}
 use Rattle.query_text.specs.Queries.{QueryValue}
 use Rattle.cdxj_core.specs.Members.{Member}
@@ -24,8 +24,8 @@ AreCut sizes (page ∷ other ∷ rest) captures =
 abbrev pub HasReadKey : Page Member PlaceValue → Type 0
 HasReadKey page = IfSome page.next IsReadBack
 
--- Whole pages, the rows of one more, and the captures that follow the only page. The limit of the page of these rows; if
--- all pages are written, its size and those of the pages after it.
+-- Whole pages, the rows of one more, and the captures that follow the only page. The limit of the page of
+-- these rows; if all pages are written, its size and those of the pages after it.
 pub record PagesSoFar : Type 0 where
   pub whole : List (Page Member PlaceValue)
   pub rows : List Member

@@ -79,7 +79,8 @@ returns-in_err-writer-clause-pages g c =
     rw (err_from_is_err_and c.from_residual.result c.from_residual.ensures.1).1
     (of_none (λ all rise sized.
     wrote_part c.args.query.now c.args.sizes.now (all_positive c.args.sizes.now sized) all rise _ _
-    (front_more c.args.query.now _ _ (no_pages (Some (first_size c.args.sizes.now)) c.args.sizes.now) (captures c.args.query.now all)
+    (front_more c.args.query.now _ _ (no_pages (Some (first_size c.args.sizes.now)) c.args.sizes.now)
+    (captures c.args.query.now all)
     (rw append-nil c.in_err-writer.ensures.begins))))
 
 pub returns-in_err-read_lines-clause-pages : goal.returns-in_err-read_lines-clause-pages

@@ -11,9 +11,9 @@ returns-in_ok-put_start-clause-pages g c = λ q s start t.
     let form = form_of w.selection.query.now in
     record {
       stands = stands_turned t _ _ (grind (arith, full_is t.stands t.holds))
-          (rw (← t.query) (Appends-join _ (g.O.Output.written c.put_end.new.out) _ (page_end form (shown_key true w.last))
-          (page_start form) (search rules) (search rules))) (search rules) (search rules) refl refl refl (search rules)
-          (search rules);
+          (rw (← t.query) (Appends-join _ (g.O.Output.written c.put_end.new.out) _
+          (page_end form (shown_key true w.last)) (page_start form) (search rules) (search rules))) (search rules)
+          (search rules) refl refl refl (search rules) (search rules);
       fits = search rules;
     }
 
