@@ -82,3 +82,6 @@ pub text_same : {X : Type 0} (value : X → List ℕ) (fields : List X)
 text_same value [] h = refl
 text_same value (f ∷ fs) h = row_same is_hidden value (λ x. escaped (value x)) (32 ∷ []) (λ x. shown (value x)) refl f
     fs (omega (arith, h))
+
+-- a row that was appended as its values stand
+pub ruleset row_rules = (appended, text_same)

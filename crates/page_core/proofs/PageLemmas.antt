@@ -10,7 +10,7 @@ use Rattle.devices.specs.Device.{AppendsPrefix}
 use Rattle.cdxj_core.specs.Members.{Member}
 use Rattle.page_core.specs.Form.{FormValue, Text}
 use Rattle.page_core.specs.PageText.{page_text, page_start, row_text, page_end, begun, PageInPieces, BegunIsFront}
-use Rattle.devices.proofs.WritingLemmas.{prefix_longer, prefix_after}
+use Rattle.devices.proofs.WritingLemmas.{prefix_longer, prefix_after, writes_prefix}
 
 pub page_in_pieces : PageInPieces
 page_in_pieces (Text fields) members key = refl
@@ -58,3 +58,6 @@ pub front-end : (old now new : Option (List ℕ)) (form : FormValue) (members : 
     (page_text form members key)
 front-end old now new form members key a p = subst (AppendsPrefix old new) (sym (page_in_pieces form members key))
     (prefix_after old now new (begun form members) (page_end form key) a p)
+
+-- a row and the line feed after it, written one after the other
+pub ruleset line_rules = (prefix_longer, writes_prefix)

@@ -15,7 +15,7 @@ use std::alloc::Global;
 use std::marker::Model;
 
 /// Writes a line as it stands in its index, with a line feed.
-#[tactic(auto, using(devices::proofs::WritingLemmas::prefix_longer, devices::proofs::WritingLemmas::writes_prefix))]
+#[tactic(auto, using(crate::proofs::PageLemmas::line_rules))]
 fn put_line<O: Output>(line: &Line, out: &mut O) -> Result<(), WriteFault>
     ensures text { WritesText result (O.written out.old) (O.written out.new) (line_row line.now) }
     ensures failures { CountsWriteFault result (O.failures out.old) (O.failures out.new) }

@@ -60,7 +60,7 @@ fn with_plain_values(
 
 /// Appends the values of the fields to the text, separated by one space. The values are escaped if
 /// they have hidden bytes, so that the row has more of these than the spaces between its values.
-#[tactic(auto, using(crate::proofs::HiddenLemmas::appended, crate::proofs::HiddenLemmas::text_same))]
+#[tactic(auto, using(crate::proofs::HiddenLemmas::row_rules))]
 fn push_values(
     text: &mut Vec<u8>,
     alloc: Global,

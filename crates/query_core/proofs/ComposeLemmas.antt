@@ -119,3 +119,5 @@ added are q some others m i =
     let first : IsFirst member_place place_cmp m (all_lines (some ++ others)) =
     rw (lines_join some others) (first_on m (all_lines some) (all_lines others) f.0) in
     (are q (some ++ others) m).1 (first, f.1)
+
+pub ruleset merges_compose = (merges_commute, merges_group)

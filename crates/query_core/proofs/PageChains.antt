@@ -1,19 +1,23 @@
 -- The pages of a query, by how its captures are cut.
-use Rattle.query_core.proofs.Words.{[], ◌++◌, ◌∙◌, ◌∷◌, ◌≡◌, AllByRecursion, AllPositive, AllZip, Appends, AreCut, Bool}
-use Rattle.query_core.proofs.Words.{HasReadKey, IsChain, IsFront, IsIndex, LINE_LIMIT, List, Member, Option, Page}
-use Rattle.query_core.proofs.Words.{PlaceValue, QueryValue, Rises, Some, WrotePages, WrotePagesInPart, ℕ, ap, arith}
-use Rattle.query_core.proofs.Words.{captures_over, chain_law, collapsed, collection, drop, each_kept, first_positive}
-use Rattle.query_core.proofs.Words.{first_size, is_wanted, later_positive, later_sizes, length-take, member_place}
-use Rattle.query_core.proofs.Words.{next_after, place_cmp, place_cmp_total, rises_collapsed, rises_filter, same_part}
-use Rattle.query_core.proofs.Words.{selected, sym, take, take_all, true, wrote_nothing}
+use Rattle.query_core.proofs.Words.{[], ◌++◌, ◌-◌, ◌^◌, ◌∙◌, ◌∷◌, ◌≡◌, AllByRecursion, AllPositive, AllZip, Appends}
+use Rattle.query_core.proofs.Words.{AppendsPrefix, AreCut, Bool, HasReadKey, IsChain, IsIndex, LINE_LIMIT, List}
+use Rattle.query_core.proofs.Words.{Member, None, Option, Page, PagesSoFar, PlaceValue, QueryValue, Rises, Some}
+use Rattle.query_core.proofs.Words.{WrotePages, WrotePagesInPart, ap, append-nil, append_assoc, arith, captures_over}
+use Rattle.query_core.proofs.Words.{chain_law, collapsed, collection, drop, each_join, each_kept, first_positive}
+use Rattle.query_core.proofs.Words.{first_size, flat_map-append, form_of, is_wanted, later_positive, later_sizes}
+use Rattle.query_core.proofs.Words.{length, length-take, member_place, min, next_after, page_end, pages_text}
+use Rattle.query_core.proofs.Words.{place_cmp, place_cmp_total, prefix_longer, rises_collapsed, rises_filter}
+use Rattle.query_core.proofs.Words.{same_part, selected, subst, sym, take, take_all, text_so_far, true, ℕ}
 use Rattle.page_core.proofs.PageLaws.{split_there, collapse_resumes, chain_one}
 use Rattle.merge_core.proofs.InputLemmas.{filter_passes}
 use Rattle.query_core.specs.QueryPages.{IsQueryChain}
-use Rattle.query_core.proofs.WriterLemmas.{captures_are, next_place, next_short, ends}
-use Rattle.query_core.proofs.PagesLemmas.{Ended, EndedInPart, Pages, cut_there}
+use Rattle.query_core.proofs.WriterLemmas.{captures_are, captures}
+use Rattle.query_core.proofs.PagesLemmas.{next_place, next_short, Pages, pages_by, all_pages, last_page, all_cut}
+use Rattle.query_core.proofs.PagesLemmas.{ends}
 use Rattle.query_core.specs.WrittenPages.{KeysButLast, empty_page}
 use Rattle.cdxj_core.proofs.IndexLemmas.{one_index}
 use Rattle.query_core.specs.OneText.{AnswerIsOne, MergeIsOne, PagesAreOne}
+use Rattle.page_core.proofs.PageLemmas.{page_in_pieces}
 
 -- ---- captures that are cut
 
@@ -70,40 +74,47 @@ module _ (q : QueryValue) (sizes : List ℕ) (positive : AllPositive sizes) (lin
   chain_of : (pages : Pages) → AreCut sizes pages (captures_over q q.resume lines) → IsQueryChain q lines sizes pages
   chain_of pages h = grind (arith, cut_chain, selects, captures_are)
 
-  -- nothing was written of them
-  pub wrote_none : (old : Option (List ℕ)) → WrotePagesInPart q lines sizes old old
-  wrote_none old = let cut = cut_there sizes (captures_over q q.resume lines) positive in
-      grind (arith, chain_of, wrote_nothing)
+  -- the pages of these lines, so far, and their text once the last is ended
+  abbrev so_far : PagesSoFar
+  so_far = pages_by q (Some (first_size sizes)) sizes lines
 
-  module _ (captures : List Member) (old new : Option (List ℕ)) where
-    -- a front of pages that begin with these captures
-    pub wrote_front : (rest : List Member) → captures_over q q.resume lines ≡ captures ++ rest
-        → IsFront q sizes captures old new → WrotePagesInPart q lines sizes old new
-    wrote_front rest split front = let found = front rest in
-        grind (arith, chain_of)
+  cut : AreCut sizes (all_pages so_far) (captures q lines)
+  cut = all_cut sizes positive (captures q lines)
 
-    module _ (all : captures_over q q.resume lines ≡ captures) where
-      -- all of them
-      pub wrote_whole : (number : ℕ) → Ended q sizes captures old new number → WrotePages q lines sizes old new number
-      wrote_whole number found =
-          let same = same_part q.collapse in
-          let chain = chain_of found.0 (rw all found.1) in
-          let law = chain_law member_place place_cmp same place_cmp_total (selected q lines) q.resume sizes found.0
-          selects positive chain in
-          record {
-            pages = found.0;
-            chain = chain;
-            joined = law.0;
-            rises = rises_collapsed member_place place_cmp same place_cmp_total (selected q lines) q.resume selects;
-            full = law.1;
-            keys = keys_but_last sizes found.0 captures positive found.1 found.4;
-            empty = λ none. one_empty sizes found.0 (rw (sym all ∙ sym (captures_are q lines) ∙ none) at found.1);
-            text = found.2;
-            count = found.3;
-          }
+  ended : pages_text q (all_pages so_far) ≡ text_so_far q so_far ++ page_end (form_of q) None
+  ended = grind (arith, flat_map-append, append-nil, page_in_pieces, append_assoc)
 
-      pub wrote_most : EndedInPart q sizes captures old new → WrotePagesInPart q lines sizes old new
-      wrote_most found = grind (arith, chain_of)
+  module _ (old new : Option (List ℕ)) where
+    -- a front of them
+    pub wrote_most : AppendsPrefix old new (text_so_far q so_far ++ page_end (form_of q) None)
+        → WrotePagesInPart q lines sizes old new
+    wrote_most p = (all_pages so_far, chain_of (all_pages so_far) cut, rw ended p)
+
+    pub wrote_part : AppendsPrefix old new (text_so_far q so_far) → WrotePagesInPart q lines sizes old new
+    wrote_part p = wrote_most (prefix_longer old new _ _ p)
+
+    -- all of them
+    pub wrote_whole : (number : ℕ) → AllByRecursion HasReadKey so_far.whole
+        → Appends old new (text_so_far q so_far ++ page_end (form_of q) None)
+        → number ≡ min (length (all_pages so_far)) (2 ^ 64 - 1) → WrotePages q lines sizes old new number
+    wrote_whole number keyed text count =
+        let chain = chain_of (all_pages so_far) cut in
+        let same = same_part q.collapse in
+        let law = chain_law member_place place_cmp same place_cmp_total (selected q lines) q.resume sizes
+        (all_pages so_far) selects positive chain in
+        record {
+          pages = all_pages so_far;
+          chain = chain;
+          joined = law.0;
+          rises = rises_collapsed member_place place_cmp same place_cmp_total (selected q lines) q.resume selects;
+          full = law.1;
+          keys = keys_but_last sizes (all_pages so_far) (captures q lines) positive cut
+              (each_join HasReadKey so_far.whole (last_page so_far.rows ∷ []) keyed (tt, tt));
+          empty = λ none. one_empty sizes (all_pages so_far)
+              (subst (AreCut sizes (all_pages so_far)) (sym (captures_are q lines) ∙ none) cut);
+          text = rw ended text;
+          count = count;
+        }
 
 -- ---- over known indexes and a known output, a call that succeeds writes one text
 

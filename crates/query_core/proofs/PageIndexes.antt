@@ -1,12 +1,13 @@
 -- A page in cdxj is an index.
 use Rattle.query_core.proofs.Words.{[], ◌++◌, ◌<◌, ◌∙◌, ◌∷◌, ◌≡◌, AllByRecursion, AllZip, IsAnswerFaultOf, IsIndex}
 use Rattle.query_core.proofs.Words.{Known, LINE_LIMIT, List, Member, NeverFalls, None, Option, Ordering, QueryValue}
-use Rattle.query_core.proofs.Words.{Rises, Some, ℕ, all_lines, answer_text, append-nil, append_assoc, arith, at_most}
-use Rattle.query_core.proofs.Words.{collection, each_filter, each_join, each_kept, each_rising, each_weaker, false}
-use Rattle.query_core.proofs.Words.{get_or, has_no_feed, is_gt, is_utf8-from_IsUtf8, length, line_entry, line_row}
-use Rattle.query_core.proofs.Words.{lines, lines_front, lines_text, map, member_pair, member_place, pair_cmp, place_cmp}
-use Rattle.query_core.proofs.Words.{place_cmp_total, query_page, refl, rises_collapsed, rises_filter, rises_rising}
-use Rattle.query_core.proofs.Words.{same_part, selected, shown_key, suc, take, true}
+use Rattle.query_core.proofs.Words.{Rises, Some, all_lines, answer_text, append-nil, append_assoc, arith, at_most}
+use Rattle.query_core.proofs.Words.{collection, each_filter, each_join, each_kept, each_rising, each_weaker}
+use Rattle.query_core.proofs.Words.{err_from_is_err_and, false, get_or, has_no_feed, is_gt, is_utf8-from_IsUtf8}
+use Rattle.query_core.proofs.Words.{length, line_entry, line_row, lines, lines_front, lines_text, map, member_pair}
+use Rattle.query_core.proofs.Words.{member_place, pair_cmp, place_cmp, place_cmp_total, query_page, refl}
+use Rattle.query_core.proofs.Words.{rises_collapsed, rises_filter, rises_rising, same_part, selected, shown_key, suc}
+use Rattle.query_core.proofs.Words.{take, true, wrote_nothing, ℕ}
 use Rattle.query_text.specs.declared.output.OutputFormat.TheVariants.{Cdxj}
 use Rattle.merge_core.proofs.Many.{each_take}
 use Rattle.cdxj_core.specs.Lines.{line_in}
@@ -15,6 +16,7 @@ use Rattle.cdxj_core.proofs.MemberLemmas.{entered}
 use Rattle.query_core.specs.QueryLaws.{NoLineIsAtFault}
 use Rattle.merge_core.specs.declared.fault.MergeFault.{MergeFault}
 use Rattle.query_core.specs.Conversions.{fault_of_merge}
+use Rattle.merge_core.proofs.SourceLemmas.{once_none, all_kept}
 use Rattle.query_core.specs.declared.fault.AnswerFault.TheVariants as fault
 use Rattle.merge_core.specs.declared.fault.FeedFault.TheVariants as feed
 use Rattle.merge_core.specs.declared.fault.MergeFault.TheVariants as merge
@@ -155,3 +157,7 @@ pub merge_line : (texts : List (Option (List ℕ))) (e : MergeFault) → lines.I
 merge_line texts (merge.Feed i feed.Memory) h = tt
 merge_line texts (merge.Feed i feed.Read) h = tt
 merge_line texts other h = h
+
+pub ruleset merge_rules = (merge_line, err_from_is_err_and, wrote_nothing, once_none)
+
+pub ruleset pass_rules = (merge_line, err_from_is_err_and, all_kept)

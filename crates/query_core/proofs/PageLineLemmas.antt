@@ -1,12 +1,12 @@
 -- Which lines a page has, beside those of a reply that isn't a page.
 use Rattle.query_core.proofs.Words.{[], ⊤, ◌&&◌, ◌++◌, ◌+◌, ◌<◌, ◌∙◌, ◌∷◌, ◌≡◌, ◌≤◌, ◌⊎◌, AllByRecursion}
 use Rattle.query_core.proofs.Words.{BeginsWithBracket, Bool, Field, HasEntry, HaveEntries, IsIn, LINE_LIMIT, List}
-use Rattle.query_core.proofs.Words.{Member, None, Option, PlaceValue, QueryValue, Some, ℕ, and_parts, ap, append-nil}
+use Rattle.query_core.proofs.Words.{Member, None, Option, PlaceValue, QueryValue, Some, and_parts, ap, append-nil}
 use Rattle.query_core.proofs.Words.{append_assoc, arith, begins_with_pair, cases_lt, codes, cond, drop, each_at}
 use Rattle.query_core.proofs.Words.{each_filter, each_kept, each_weaker, entry_pair_is, false, flat_map, inl, inr}
 use Rattle.query_core.proofs.Words.{is_key, is_stamp, key_part, length, length-append, length-drop, line_row, lines}
 use Rattle.query_core.proofs.Words.{map, member_pair, nat_tests, page_text, place_cmp_total, query_page, refl}
-use Rattle.query_core.proofs.Words.{row_value, shown_key, stamp_part, suc, sym, text_row, true, true≢false}
+use Rattle.query_core.proofs.Words.{row_value, shown_key, stamp_part, suc, sym, text_row, true, true≢false, ℕ}
 use Rattle.std.specs.List.{after_first, position_or_len}
 use Rattle.cdxj_places.specs.Pair.{begins_with_space, is_space, tail_part}
 use Rattle.query_text.specs.declared.output.OutputFormat.{OutputFormat}
@@ -157,21 +157,24 @@ module _ (row : Member → List ℕ) (key : Option (List ℕ)) where
   rows_text [] = grind (arith, append-nil)
   rows_text (m ∷ ms) = grind (arith, append_assoc, rows_text ms)
 
+  -- it is the row of a capture, or of the key
+  abbrev IsRowOfPage : List ℕ → Type 0
+  IsRowOfPage r = ((m : Member) × HasEntry m × (r ≡ row m)) ⊎ IsKeyRow r
+
   module _ (above : KeyIsAbove key) where
-    each_row : (A : List ℕ → Type 0) (ms : List Member) → HaveEntries ms → ((m : Member) → HasEntry m → A (row m))
-        → ((r : List ℕ) → IsKeyRow r → A r) → AllByRecursion A (rows ms)
-    each_row A [] entries f g = each_weaker g (key_rows key) (are_key_rows key above)
-    each_row A (m ∷ ms) entries f g = (f m entries.0, each_row A ms entries.1 f g)
+    each_row : (ms : List Member) → HaveEntries ms → AllByRecursion IsRowOfPage (rows ms)
+    each_row [] entries = each_weaker (λ r k. inr k) (key_rows key) (are_key_rows key above)
+    each_row (m ∷ ms) entries = (inl (m, entries.0, refl), each_row ms entries.1)
+
+    row_at : (r : List ℕ) (ms : List Member) → HaveEntries ms → IsIn r (rows ms) → IsRowOfPage r
+    row_at r ms entries i = each_at IsRowOfPage r (rows ms) (each_row ms entries) i
 
     rows_lines : (ms : List Member) → HaveEntries ms → ((m : Member) → HasEntry m → IsLine (row m))
         → lines (flat_map row ms ++ key_lines key) ≡ rows ms
     rows_lines ms entries h =
-        rw (← rows_text ms) (lines_joined (rows ms) (each_row IsLine ms entries h (λ r k. k.line)))
-
-    -- which row is like this one
-    of_row : (F : List ℕ) (X : Type 0) (ms : List Member) → HaveEntries ms
-        → ((m : Member) → HasEntry m → row m ≡ F → X) → ((r : List ℕ) → IsKeyRow r → r ≡ F → X) → IsIn F (rows ms) → X
-    of_row F X ms entries f g i = each_at (λ r. r ≡ F → X) F (rows ms) (each_row (λ r. r ≡ F → X) ms entries f g) i refl
+        let line : (r : List ℕ) → IsRowOfPage r → IsLine r =
+        λ r k. elim k [ inl c ↦ rw c.2 (h c.0 c.1) | inr k ↦ k.line ] in
+        rw (← rows_text ms) (lines_joined (rows ms) (each_weaker line (rows ms) (each_row ms entries)))
 
     -- where no capture's row is an empty line, one stands before a key
     empty_is_key : (ms : List Member) (before after : List (List ℕ)) → HaveEntries ms
@@ -201,50 +204,53 @@ module _ (fields : List Field) (ms : List Member) (key : Option (List ℕ)) (ent
   cdxj_lines : shown output.Cdxj ≡ rows line_row key ms
   cdxj_lines = rows_lines line_row key above ms entries cdxj_line
 
+  text_at : (r : List ℕ) → IsIn r (shown output.Text) → IsRowOfPage (text_row fields) key r
+  text_at r i = row_at (text_row fields) key above r ms entries (rw text_lines at i)
+
+  cdxj_at : (r : List ℕ) → IsIn r (shown output.Cdxj) → IsRowOfPage line_row key r
+  cdxj_at r i = row_at line_row key above r ms entries (rw cdxj_lines at i)
+
+  json_at : (r : List ℕ) → IsIn r (shown output.Json) → BeginsWithBracket r
+  json_at r i = each_at BeginsWithBracket r (shown output.Json) (json_lines fields ms key) i
+
   mark_of : (o : OutputFormat) → IsIn (codes ".\n") (shown o) → (o ≡ output.Text) × (length fields ≡ 1)
-  mark_of output.Text i = (
-    refl,
-    of_row (text_row fields) key above (codes ".\n") (length fields ≡ 1) ms entries (λ m h. text_marked fields m)
-        (λ r k e. absurd (k.no_mark (ap length e))) (rw text_lines at i),
-  )
-  mark_of output.Cdxj i =
-      absurd (of_row line_row key above (codes ".\n") ⊥ ms entries (λ m h. cdxj_short m (codes ".\n") h (omega arith))
-      (λ r k e. k.no_mark (ap length e)) (rw cdxj_lines at i))
-  mark_of output.Json i =
-      let b = each_at BeginsWithBracket (codes ".\n") (shown output.Json) (json_lines fields ms key) i in
-      absurd (grind arith)
+  mark_of output.Text i = let r = text_at (codes ".\n") i in grind (arith, text_marked)
+  mark_of output.Cdxj i = absurd (elim (cdxj_at (codes ".\n") i) [
+    | inl c ↦ cdxj_short c.0 (codes ".\n") c.1 (omega arith) (sym c.2)
+    | inr k ↦ k.no_mark refl
+  ])
+  mark_of output.Json i = let r = json_at (codes ".\n") i in absurd (grind arith)
 
   module _ (name : List ℕ) (none : has_no_space name ≡ true) where
-    no_refusal : (r : List ℕ) → IsKeyRow r → r ≡ refusal_text name → ⊥
-    no_refusal r k e = omega (arith, k.unspaced, ap spaces e, refusal_spaces name none)
+    refused_at : (o : OutputFormat) → IsIn (refusal_text name) (shown o) → (o ≡ output.Text) × (length fields ≡ 2)
+    refused_at output.Text i = let r = text_at (refusal_text name) i in grind (arith, text_refused, refusal_spaces)
+    refused_at output.Cdxj i = let r = cdxj_at (refusal_text name) i in grind (arith, cdxj_refused, refusal_spaces)
+    refused_at output.Json i = let r = json_at (refusal_text name) i in absurd (grind arith)
 
     refusal_of : (o : OutputFormat) (rest : List (List ℕ)) → shown o ≡ refusal_text name ∷ rest
         → (o ≡ output.Text) × (length fields ≡ 2)
-    refusal_of output.Text rest e = (
-      refl,
-      of_row (text_row fields) key above (refusal_text name) (length fields ≡ 2) ms entries
-          (λ m h. text_refused fields m name none) (λ r k e. absurd (no_refusal r k e)) (rw (rw text_lines at e) (inl refl)),
-    )
-    refusal_of output.Cdxj rest e =
-        absurd (of_row line_row key above (refusal_text name) ⊥ ms entries (λ m h. cdxj_refused m name h none) no_refusal
-        (rw (rw cdxj_lines at e) (inl refl)))
-    refusal_of output.Json rest e = let all = rw e at (json_lines fields ms key) in absurd (grind arith)
+    refusal_of o rest e = refused_at o (rw e (inl refl))
 
   -- ---- an empty line, and what follows it
 
-  empty_of : (o : OutputFormat) → (o ≡ output.Json → ⊥) → (fields ≡ [] → ⊥) → (before after : List (List ℕ))
+  empty_of : (o : OutputFormat) → (o ≡ output.Json → ⊥) → (o ≡ output.Text → fields ≡ [] → ⊥)
+      → (before after : List (List ℕ))
       → shown o ≡ before ++ (10 ∷ []) ∷ after → EndsInKey key after
   empty_of output.Text other some before after e =
-      empty_is_key (text_row fields) key above ms before after entries (text_some fields some) (rw text_lines at e)
+      empty_is_key (text_row fields) key above ms before after entries (text_some fields (some refl))
+      (rw text_lines at e)
   empty_of output.Cdxj other some before after e =
       empty_is_key line_row key above ms before after entries (λ m h. cdxj_short m (10 ∷ []) h (omega arith))
       (rw cdxj_lines at e)
   empty_of output.Json other some before after e = absurd (other refl)
 
+  spaceless_row : length fields ≤ 1 → (r : List ℕ) → IsRowOfPage (text_row fields) key r → has_no_space r ≡ true
+  spaceless_row few r k = grind (arith, unspaced, text_spaces)
+
   spaceless : length fields ≤ 1 → AllByRecursion (λ line. has_no_space line ≡ true) (shown output.Text)
   spaceless few =
-      rw text_lines (each_row (text_row fields) key above (λ line. has_no_space line ≡ true) ms entries
-      (λ m h. unspaced (text_row fields m) (omega (arith, text_spaces fields m, few))) (λ r k. unspaced r k.unspaced))
+      rw text_lines (each_weaker (spaceless_row few) (rows (text_row fields) key ms)
+      (each_row (text_row fields) key above ms entries))
 
   module _ (name : List ℕ) (index offset : ℕ) (before after : List (List ℕ)) where
     abbrev fault : List ℕ
@@ -258,15 +264,15 @@ module _ (fields : List Field) (ms : List Member) (key : Option (List ℕ)) (ent
     fault_there (u ∷ us) = inr (fault_there us)
 
     fault_of : (o : OutputFormat) → (1 < length fields) ⊎ (length fields ≤ 1) → shown o ≡ faulted → ⊥
+    fault_of output.Text (inr few) e = grind (arith, each_at, spaceless, fault_there before)
+    fault_of output.Json few e = let r = json_at fault (rw e (fault_there before)) in absurd (grind arith)
     fault_of output.Text (inl more) e =
         key_no_fault key name index offset after
-        (empty_of output.Text (λ j. grind arith) (λ none. omega (arith, more, ap length none)) before (fault ∷ after) e)
-    fault_of output.Text (inr few) e = grind (arith, each_at, spaceless, fault_there before)
+        (empty_of output.Text (λ j. grind arith) (λ t none. omega (arith, more, ap length none)) before
+        (fault ∷ after) e)
     fault_of output.Cdxj few e =
         key_no_fault key name index offset after
-        (empty_is_key line_row key above ms before (fault ∷ after) entries
-        (λ m h. cdxj_short m (10 ∷ []) h (omega arith)) (rw cdxj_lines at e))
-    fault_of output.Json few e = grind (arith, each_at, json_lines, fault_there before)
+        (empty_of output.Cdxj (λ j. grind arith) (λ t. grind arith) before (fault ∷ after) e)
 
 -- ---- the page of a query
 
@@ -295,10 +301,21 @@ no_page_has_faults q found name index offset before after entries e =
     before after q.output (cases_lt 1 (length q.fields)) e
 
 pub empty_line_is_before_key : EmptyLineIsBeforeKey
-empty_line_is_before_key q found before after entries other some e = grind (arith, empty_of, have_entries, above)
+empty_line_is_before_key q found before after entries other some e =
+    empty_of q.fields (members q found) (key q found) (have_entries q found entries) (above q found) q.output other
+    (λ t. some) before after e
 
 pub one_field_has_no_space : OneFieldHasNoSpace
 one_field_has_no_space q found entries is one = grind (arith, spaceless, have_entries, above)
 
 pub json_lines_begin_with_brackets : JsonLinesBeginWithBrackets
 json_lines_begin_with_brackets q found is = rw is (json_lines q.fields (members q found) (key q found))
+
+pub ruleset page_line_laws = (
+  one_field_has_marks,
+  two_fields_begin_as_refusals,
+  no_page_has_faults,
+  empty_line_is_before_key,
+  one_field_has_no_space,
+  json_lines_begin_with_brackets,
+)

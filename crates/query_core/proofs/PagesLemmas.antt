@@ -1,21 +1,27 @@
--- Captures that are cut into pages, as they come.
-use Rattle.query_core.proofs.Words.{[], ◌++◌, ◌+◌, ◌-◌, ◌<◌, ◌^◌, ◌∷◌, ◌≡◌, ◌≤◌, AllByRecursion, AllPositive, Appends}
-use Rattle.query_core.proofs.Words.{Appends-join, AppendsPrefix, AreCut, FitsWord, FormValue, HasNext, HasReadKey}
-use Rattle.query_core.proofs.Words.{IsFront, List, Member, None, Option, Page, PagesStand, PlaceValue, QueryValue, Some}
-use Rattle.query_core.proofs.Words.{ℕ, and_parts, ap, append-nil, append_assoc, arith, begun, begun_is_front}
-use Rattle.query_core.proofs.Words.{captures_over, cases_lt, drop, each_join, false, filter, first_positive, first_size}
-use Rattle.query_core.proofs.Words.{flat_map-append, form_of, inl, inr, is_full, is_wanted, last_after, last_of}
-use Rattle.query_core.proofs.Words.{later_positive, later_sizes, length, length-append, length-drop, list_all}
-use Rattle.query_core.proofs.Words.{member_place, min, nat_lt, option_map, page_end, page_start, pages_text}
-use Rattle.query_core.proofs.Words.{place_before, prefix_after, prefix_longer, refl, resume_text, row_text, shown_key}
-use Rattle.query_core.proofs.Words.{subst, suc, take, take_all, true, zero}
+-- Pages of captures, as they come, and what a writer has written of them.
+use Rattle.query_core.proofs.Words.{[], ◌++◌, ◌+◌, ◌-◌, ◌<◌, ◌^◌, ◌∙◌, ◌∷◌, ◌≡◌, ◌≤◌, ◌⊎◌, AllPositive, Appends}
+use Rattle.query_core.proofs.Words.{Appends-join, AppendsPrefix, AreAtMost, AreCut, Bool, Broke, FitsWord, IsSized}
+use Rattle.query_core.proofs.Words.{List, Member, None, Option, Page, PageWriter, PagesSoFar, PlaceValue, QueryValue}
+use Rattle.query_core.proofs.Words.{Some, Wrote, and_parts, ap, append-nil, append_assoc, arith, at_most}
+use Rattle.query_core.proofs.Words.{captures_over, cond, each_join, eqb-false, eqb-true, false, filter}
+use Rattle.query_core.proofs.Words.{first_positive, first_size, flat_map-append, form_of, from_view, grows_by}
+use Rattle.query_core.proofs.Words.{grows_not, grows_part, inl, is_full, is_some, is_wanted, last_of, later_positive}
+use Rattle.query_core.proofs.Words.{later_sizes, length, length-append, list_all, member_place, min, more_after}
+use Rattle.query_core.proofs.Words.{nat_lt, next_after, next_of, no_pages, page_end, page_start, place_before}
+use Rattle.query_core.proofs.Words.{prefix_after, prefix_longer, refl, row_text, shown_key, suc, sym, take}
+use Rattle.query_core.proofs.Words.{take-append_seam, take_all, text_so_far, true, ℕ}
 use Rattle.std.proofs.Common.{IfSome}
 use Rattle.std.proofs.lemmas.List.{take_at, drop_at}
-use Rattle.page_core.proofs.PageLemmas.{page_in_pieces}
+use Rattle.page_core.proofs.PageLemmas.{page_in_pieces, begun-more}
 use Rattle.query_core.specs.WrittenPages.{IsReadBack, are_sizes}
-use Rattle.query_core.proofs.WriterLemmas.{captures_append, kept_after, take_front, whole_prefix, row_more, row_front}
-use Rattle.query_core.proofs.WriterLemmas.{room_more, at_limit}
+use Rattle.query_core.proofs.WriterLemmas.{captures, captures_append, end_last, kept_after}
 use Rattle.std.proofs.lemmas.Bool.{ltb-true}
+use Rattle.query_core.specs.PagesWriting.{HoldsRows, with_row, with_room, with_capture, turned, pages_after, has_all}
+use Rattle.query_core.specs.PagesWriting.{is_ended, are_none, full_page}
+use Rattle.query_core.specs.WriterView.{Stands, TakesMore, HasRoom, PageState, state_of, pages_so_far, captures_of}
+use Rattle.query_core.specs.WriterView.{TookNext, SamePage, GaveOne}
+use Rattle.query_core.specs.declared.selection.Selection.{Selection}
+use Rattle.std.specs.Prelude.{if◌then◌else◌}
 
 -- ---- the sizes of pages
 
@@ -27,209 +33,341 @@ pub all_positive : (sizes : List ℕ) → are_sizes sizes ≡ true → AllPositi
 all_positive [] h = cc
 all_positive (n ∷ ns) h = grind (arith, each_positive, and_parts)
 
+-- ---- the last of some captures, and what follows them
+
+-- some have a last
+pub ends : (c : List Member) → 0 < length c
+    → (before : List Member) × (last : Member) × (c ≡ before ++ last ∷ []) × (last_of c ≡ Some (member_place last))
+ends (m ∷ k ∷ c) h = let r = ends (k ∷ c) (omega arith) in (m ∷ r.0, r.1, ap (λ us. m ∷ us) r.2, r.3)
+ends (m ∷ []) h = ([], m, refl, refl)
+ends [] h = absurd (omega arith)
+
+abbrev next : ℕ → List Member → Option PlaceValue
+next = next_after member_place
+
+-- where one more follows
+pub next_place : (n : ℕ) (c : List Member) → n < length c → next n c ≡ last_of (take n c)
+next_place (suc (suc n)) (x ∷ y ∷ c) h = next_place (suc n) (y ∷ c) (omega arith)
+next_place n c h = grind arith
+
+-- where none does
+pub next_short : (n : ℕ) (c : List Member) → length c ≤ n → next n c ≡ None
+next_short (suc (suc n)) (x ∷ xs) h = next_short (suc n) xs (omega arith)
+next_short n c h = grind arith
+
+none_last : (c : List Member) → is_some (last_of c) ≡ false → c ≡ []
+none_last (m ∷ k ∷ c) h = let none = none_last (k ∷ c) h in cc
+none_last c h = grind arith
+
+-- ---- the text so far
+
+pub whole_prefix : (old new : Option (List ℕ)) (text : List ℕ) → Appends old new text → AppendsPrefix old new text
+whole_prefix old new text a = grind (arith, append-nil)
+
+module _ (q : QueryValue) (s : PagesSoFar) where
+  text_row : (m : Member) → text_so_far q (with_row s m) ≡ text_so_far q s ++ row_text (form_of q) m
+  text_row m = grind (arith, begun-more, append_assoc)
+
+  text_turned : text_so_far q (turned s)
+      ≡ text_so_far q s ++ (page_end (form_of q) (shown_key true (last_of s.rows)) ++ page_start (form_of q))
+  text_turned = grind (arith, append_assoc, page_in_pieces, append-nil, flat_map-append)
+
+-- what was written of it is a front of the text of more captures
+module _ (q : QueryValue) (start now : Option (List ℕ)) where
+  abbrev IsFrontOf : PagesSoFar → Type 0
+  IsFrontOf s = AppendsPrefix start now (text_so_far q s)
+
+  front_row : (s : PagesSoFar) (m : Member) → IsFrontOf s → IsFrontOf (with_row s m)
+  front_row s m p = rw (text_row q s m) (prefix_longer start now _ _ p)
+
+  front_room : (s : PagesSoFar) → IsFrontOf s → IsFrontOf (with_room s)
+  front_room s p = elim (has_all s) as (λ b. IsFrontOf (if b then turned s else s)) [
+    | true ↦ rw (text_turned q s) (prefix_longer start now _ _ p)
+    | false ↦ p
+  ]
+
+  front_one : (s : PagesSoFar) (m : Member) → IsFrontOf s → IsFrontOf (with_capture s m)
+  front_one s m p =
+      let ended = record s { rest = s.rest ++ m ∷ [] } in
+      elim (is_ended s) as (λ b. IsFrontOf (if b then ended else with_row (with_room s) m)) [
+        | true ↦ p
+        | false ↦ front_row (with_room s) m (front_room s p)
+      ]
+
+  pub front_more : (s : PagesSoFar) (ms : List Member) → IsFrontOf s → IsFrontOf (pages_after s ms)
+  front_more s [] p = p
+  front_more s (m ∷ ms) p = front_more (with_capture s m) ms (front_one s m p)
+
+pub pages_join : (s : PagesSoFar) (us vs : List Member) → pages_after s (us ++ vs) ≡ pages_after (pages_after s us) vs
+pages_join s [] vs = refl
+pages_join s (u ∷ us) vs = pages_join (with_capture s u) us vs
+
+-- ---- the page has room for its rows
+
+-- where the page is full
+pub at_limit : (s : PagesSoFar) → has_all s ≡ true → s.limit ≡ Some (length s.rows)
+at_limit s f = grind (arith, eqb-true)
+
+module _ {s : PagesSoFar} (h : HoldsRows s) where
+  room_holds : is_ended s ≡ false → HoldsRows (with_room s) × (has_all (with_room s) ≡ false)
+  room_holds goes = grind (arith, first_positive, later_positive, eqb-false)
+
+  holds_one : (m : Member) → HoldsRows (with_capture s m)
+  holds_one m = grind (arith, room_holds, length-append, eqb-false)
+
+pub holds_more : {s : PagesSoFar} (h : HoldsRows s) (ms : List Member) → HoldsRows (pages_after s ms)
+holds_more h [] = h
+holds_more {s = s} h (m ∷ ms) = holds_more {s = with_capture s m} (holds_one h m) ms
+
+pub none_holds : (limit : Option ℕ) (sizes : List ℕ) → IsSized limit sizes → HoldsRows (no_pages limit sizes)
+none_holds limit sizes sized = record { sized = sized; room = grind arith; over = inl refl }
+
+-- ---- one page
+
+abbrev pub page : Option ℕ → List Member → Page Member PlaceValue
+page = at_most member_place
+
+-- the pages of these lines, so far
+abbrev pub pages_by : QueryValue → Option ℕ → List ℕ → List Member → PagesSoFar
+pages_by q limit sizes lines = pages_after (no_pages limit sizes) (captures q lines)
+
+-- more of a list gives a page that begins alike
+take_front : {X : Type 0} (n : ℕ) (us vs : List X) → (later : List X) × (take n (us ++ vs) ≡ take n us ++ later)
+take_front (suc n) (u ∷ us) vs = grind (arith, take_front n us vs)
+take_front X us vs = grind arith
+
+pub page_front : (limit : Option ℕ) (us vs : List Member) → (later : List Member)
+    × ((page limit (us ++ vs)).members ≡ (page limit us).members ++ later)
+page_front None us vs = (vs, refl)
+page_front (Some n) us vs = take_front n us vs
+
+page_rows : (limit : Option ℕ) (rows rest : List Member) (last : Option PlaceValue) → AreAtMost limit rows
+    → (limit ≡ Some (length rows) → last ≡ last_of rows) → (rest ≡ []) ⊎ (limit ≡ Some (length rows))
+    → page limit (rows ++ rest) ≡ record { members = rows; next = next_of (more_after last rest) last }
+page_rows limit rows [] last room is full = grind (arith, append-nil, take_all, next_short)
+page_rows limit rows (m ∷ rest) last room is full = grind (arith, take-append_seam, next_place, length-append)
+
+-- these captures are those of the page, and those that follow it
+pub record IsOnePage (limit : Option ℕ) (c : List Member) (s : PagesSoFar) : Type 0 where
+  pub whole : s.whole ≡ []
+  pub left : s.left ≡ []
+  pub limit_is : s.limit ≡ limit
+  pub split : c ≡ s.rows ++ s.rest
+  pub holds : HoldsRows s
+
+one_more_is : {limit : Option ℕ} {c : List Member} {s : PagesSoFar} → IsOnePage limit c s → (m : Member)
+    → IsOnePage limit (c ++ m ∷ []) (with_capture s m)
+one_more_is o m = let h = holds_one o.holds m in grind (arith, append_assoc, append-nil)
+
+one_after : {limit : Option ℕ} {c : List Member} {s : PagesSoFar} → IsOnePage limit c s → (ms : List Member)
+    → IsOnePage limit (c ++ ms) (pages_after s ms)
+one_after o [] = rw append-nil o
+one_after {c = c} {s} o (m ∷ ms) =
+    rw (← append_assoc c (m ∷ []) ms) (one_after {c = c ++ m ∷ []} {s = with_capture s m} (one_more_is o m) ms)
+
+pub one_page : (limit : Option ℕ) (c : List Member) → IsOnePage limit c (pages_after (no_pages limit []) c)
+one_page limit c = one_after (record {
+  whole = refl;
+  left = refl;
+  limit_is = refl;
+  split = refl;
+  holds = none_holds limit [] tt;
+}) c
+
+page_at : {limit : Option ℕ} {c : List Member} {s : PagesSoFar} → IsOnePage limit c s → (last : Option PlaceValue)
+    → (s.limit ≡ Some (length s.rows) → last ≡ last_of s.rows)
+    → page limit c ≡ record { members = s.rows; next = next_of (more_after last s.rest) last }
+page_at {limit} {s = s} o last is = let at = page_rows limit s.rows s.rest last in grind (arith, at_limit)
+
+pub page_members : {limit : Option ℕ} {c : List Member} {s : PagesSoFar} → IsOnePage limit c s
+    → (page limit c).members ≡ s.rows
+page_members {s = s} o = let at = page_at o (last_of s.rows) (λ e. refl) in cc
+
+-- ---- pages of all sizes
+
 abbrev pub Pages : Type 0
 Pages = List (Page Member PlaceValue)
 
--- all pages of these captures were written, and are so many
-abbrev pub Ended : QueryValue → List ℕ → List Member → Option (List ℕ) → Option (List ℕ) → ℕ → Type 0
-Ended q sizes captures old new number =
-    (pages : Pages) × AreCut sizes pages captures × Appends old new (pages_text q pages)
-    × (number ≡ min (length pages) (2 ^ 64 - 1))
-    × AllByRecursion HasReadKey pages
+abbrev pub last_page : List Member → Page Member PlaceValue
+last_page rows = record { members = rows; next = None }
 
--- a front of them was written
-abbrev pub EndedInPart : QueryValue → List ℕ → List Member → Option (List ℕ) → Option (List ℕ) → Type 0
-EndedInPart q sizes captures old new = (pages : Pages) × AreCut sizes pages captures
-    × AppendsPrefix old new (pages_text q pages)
-
--- ---- a list that is cut
-
--- a page that others follow
-abbrev full_page : List Member → Page Member PlaceValue
-full_page rows = record { members = rows; next = last_of rows }
+abbrev pub all_pages : PagesSoFar → Pages
+all_pages s = s.whole ++ last_page s.rows ∷ []
 
 -- a page more
 cut_more : (sizes : List ℕ) (rows later : List Member) (rest : Pages) → length rows ≡ first_size sizes
     → 0 < length later → AreCut (later_sizes sizes) rest later → AreCut sizes (full_page rows ∷ rest) (rows ++ later)
 cut_more sizes rows later rest full some h = grind (arith, take_at, length-append, drop_at)
 
--- there is such a cut
-cut_at : (fuel : ℕ) (sizes : List ℕ) (captures : List Member) → AllPositive sizes → length captures < fuel
-    → (pages : Pages) × AreCut sizes pages captures
-cut_at zero sizes captures z f = absurd (omega arith)
-cut_at (suc fuel) sizes captures z f =
-    let n = first_size sizes in
-    let some = first_positive sizes z in
-    elim (cases_lt n (length captures)) as (λ _. (pages : Pages) × AreCut sizes pages captures) [
-      | inr few ↦ (record { members = captures; next = None } ∷ [], (refl, few))
-      | inl less ↦ (
-          let rest = cut_at fuel (later_sizes sizes) (drop n captures) (later_positive sizes z)
-          (omega (arith, length-drop n captures)) in (full_page (take n captures) ∷ rest.0, grind arith))
-    ]
+-- the pages from that of the rows on
+cut_from : (s : PagesSoFar) → HoldsRows s → are_none s.left ≡ false → (ms : List Member)
+    → (pages : Pages) × ((pages_after s ms).whole ≡ s.whole ++ pages) × (are_none (pages_after s ms).left ≡ false)
+    × AreCut s.left (pages ++ last_page (pages_after s ms).rows ∷ []) (s.rows ++ ms)
+cut_from s h some [] = ([], grind (arith, append-nil), some, rw append-nil (refl, grind arith))
+cut_from s h some (m ∷ ms) =
+    let r = cut_from (with_capture s m) (holds_one h m) (grind arith) ms in
+    grind (arith, cut_more, append_assoc, at_limit)
 
-pub cut_there : (sizes : List ℕ) (captures : List Member) → AllPositive sizes → (pages : Pages)
-    × AreCut sizes pages captures
-cut_there sizes captures z = cut_at (suc (length captures)) sizes captures z (omega arith)
+pub is_sized : (sizes : List ℕ) → AllPositive sizes → IsSized (Some (first_size sizes)) sizes
+is_sized sizes positive = grind arith
 
--- ---- texts
+module _ (sizes : List ℕ) (positive : AllPositive sizes) (c : List Member) where
+  abbrev so_far : PagesSoFar
+  so_far = pages_after (no_pages (Some (first_size sizes)) sizes) c
 
--- the text of pages begins with that of the captures that the first page has room for
-head_text : (q : QueryValue) (left : List ℕ) (pages : Pages) (rows later : List Member)
-    → AreCut left pages (rows ++ later) → length rows ≤ first_size left
-    → (rest : List ℕ) × (pages_text q pages ≡ begun (form_of q) rows ++ rest)
-head_text q left [] rows later h k = absurd h
-head_text q left (page ∷ []) rows later h k =
-    let f = begun_is_front (form_of q) rows later (option_map resume_text page.next) in grind (arith, append-nil)
-head_text q left (page ∷ other ∷ rest) rows later h k =
-    let t = take_front (first_size left) rows later in
-    let all = take_all (first_size left) rows k in
-    let f = begun_is_front (form_of q) rows t.0 (option_map resume_text page.next) in (
-      f.0 ++ pages_text q (other ∷ rest),
-      grind (arith, append_assoc),
+  begun_holds : HoldsRows (no_pages (Some (first_size sizes)) sizes)
+  begun_holds = none_holds (Some (first_size sizes)) sizes (is_sized sizes positive)
+
+  pub all_cut : AreCut sizes (all_pages so_far) c
+  all_cut =
+      let r = cut_from (no_pages (Some (first_size sizes)) sizes) begun_holds (grind arith) c in grind arith
+
+  -- no page is the only one
+  pub none_follow : so_far.rest ≡ []
+  none_follow =
+      let h = holds_more begun_holds c in
+      let r = cut_from (no_pages (Some (first_size sizes)) sizes) begun_holds (grind arith) c in grind arith
+
+-- no page has been written, or the next one has captures
+abbrev pub HasNext : PagesSoFar → Type 0
+HasNext s = (s.whole ≡ []) ⊎ (0 < length s.rows)
+
+pub has_next : (s : PagesSoFar) (ms : List Member) → HasNext s → HasNext (pages_after s ms)
+has_next s [] h = h
+has_next s (m ∷ ms) h = has_next (with_capture s m) ms (grind (arith, length-append))
+
+-- ---- what a writer has written
+
+more_last : (last : Option PlaceValue) (rest : List Member) (m : Member) → more_after last (rest ++ m ∷ []) ≡ is_some last
+more_last last [] m = refl
+more_last last (k ∷ rest) m = refl
+
+module _ {q : QueryValue} {s : PagesSoFar} {p : PageState} {start now : Option (List ℕ)} (t : Stands q s p start now)
+  where
+    pub stands_front : AppendsPrefix start now (text_so_far q s)
+    stands_front = whole_prefix start now (text_so_far q s) t.text
+
+    -- the writer knows whether the page is full
+    pub full_is : HoldsRows s → FitsWord p.limit → is_full p.limit p.given ≡ has_all s
+    full_is h fits = grind (arith, eqb-true, eqb-false)
+
+    pub ended_is : HoldsRows s → FitsWord p.limit → p.sizes ≡ [] → is_full p.limit p.given ≡ true → is_ended s ≡ true
+    ended_is h fits none full = let is = full_is h fits in grind arith
+
+    -- a capture that follows the only page
+    pub stands_followed : (m : Member) (more : Bool) → is_ended s ≡ true → more ≡ is_some p.last
+        → Stands q (with_capture s m) (record p { more = more }) start now
+    stands_followed m more ended is = grind (arith, more_last)
+
+    module _ {limit : Option ℕ} {c : List Member} (o : IsOnePage limit c s) where
+      pub page_is : page limit c ≡ record { members = s.rows; next = next_of p.more p.last }
+      page_is = let at = page_at o p.last t.last in grind arith
+
+      -- a page that has its next is the page, whatever follows
+      pub decided : p.more ≡ true → (later : List Member) → page limit (c ++ later) ≡ page limit c
+      decided more later =
+          let at = page_rows limit s.rows (s.rest ++ later) p.last in grind (arith, page_is, append_assoc, at_limit)
+
+      -- where no capture follows, they don't pass the page
+      pub few_rows : p.more ≡ false → (limit ≡ Some 0 → ⊥) → AreAtMost limit c
+      few_rows h some = grind (arith, append-nil, none_last, at_limit)
+
+      -- of the page are all that don't pass it
+      pub among_rows : (earlier tail : List Member) → c ≡ earlier ++ tail → AreAtMost limit earlier
+          → length earlier ≤ length s.rows
+      among_rows earlier tail split most =
+          let long = ap length (sym o.split ∙ split) in grind (arith, length-append, at_limit)
+
+-- captures after the one that follows the only page
+pub stands_over : {q : QueryValue} {s : PagesSoFar} {p : PageState} {start now : Option (List ℕ)}
+    → Stands q s p start now → HoldsRows s → p.more ≡ true → (ms : List Member) → Stands q (pages_after s ms) p start now
+stands_over t h more [] = t
+stands_over {s = s} {p} t h more (m ∷ ms) =
+    stands_over {s = with_capture s m} (stands_followed t m p.more (grind arith) (grind arith)) (holds_one h m) more ms
+
+module _ {q : QueryValue} {s : PagesSoFar} {w : PageWriter} {start now : Option (List ℕ)}
+    (t : TakesMore q s w start now) where
+  -- the page is ended, and the next is begun
+  pub stands_turned : (p : PageState) (new : Option (List ℕ)) → has_all s ≡ true
+      → Appends now new (page_end (form_of q) (shown_key true w.last) ++ page_start (form_of q))
+      → p.sizes ≡ later_sizes w.sizes.now → p.limit ≡ Some (first_size p.sizes) → p.given ≡ 0 → p.more ≡ w.more
+      → p.last ≡ w.last → p.count ≡ min (w.count + 1) (2 ^ 64 - 1) → IfSome w.last IsReadBack
+      → Stands q (with_room s) p start new
+  stands_turned p new full a sizes limit none more last count read =
+      let text = Appends-join _ _ _ _ _ t.stands.text a in
+      grind (arith, at_limit, text_turned, first_positive, later_positive, each_join, length-append)
+
+  -- while it is ended, or the next is begun
+  pub turning_front : (new : Option (List ℕ)) → has_all s ≡ true
+      → AppendsPrefix now new (page_end (form_of q) (shown_key true w.last) ++ page_start (form_of q))
+      → AppendsPrefix start new (text_so_far q (with_room s))
+  turning_front new full p =
+      let text = prefix_after _ _ _ _ _ t.stands.text p in grind (arith, at_limit, text_turned)
+
+-- a capture more
+module _ (q : QueryValue) (s : PagesSoFar) {start : Option (List ℕ)} (goes : is_ended s ≡ false) (m : Member) where
+  -- its page was being begun
+  pub room_front : {new : Option (List ℕ)} → AppendsPrefix start new (text_so_far q (with_room s))
+      → AppendsPrefix start new (text_so_far q (with_capture s m))
+  room_front {new} p = rw goes (front_row q start new (with_room s) m p)
+
+  module _ {v : PageWriter} {mid : Option (List ℕ)} (r : HasRoom q s v start mid) where
+    -- its row was written
+    pub row_stands : HoldsRows s → (v' : PageWriter) (new : Option (List ℕ)) → SamePage v v'
+        → GaveOne v v' (member_place m) → Appends mid new (row_text (form_of q) m)
+        → Stands q (with_capture s m) (state_of v') start new
+    row_stands h v' new same gave a =
+        let text = Appends-join _ _ _ _ _ r.stands.text a in
+        grind (arith, room_holds, text_row, length-append, eqb-false, end_last)
+
+    -- a front of its row was written
+    pub row_front : (new : Option (List ℕ)) → AppendsPrefix mid new (row_text (form_of q) m)
+        → AppendsPrefix start new (text_so_far q (with_capture s m))
+    row_front new p =
+        rw (goes, text_row q (with_room s) m) (prefix_after _ _ _ _ _ r.stands.text p)
+
+-- ---- what it wrote of lines
+
+-- the captures of more lines
+pub more_lines : (first : PageWriter) (taken more : List Member) → (later : List Member)
+    × (pages_so_far first (taken ++ more) ≡ pages_after (pages_so_far first taken) later)
+more_lines first taken more =
+    let q = first.selection.query.now in
+    let from = from_view first.selection.from in (
+      kept_after q from (place_before q from taken) (filter (is_wanted q from) more),
+      rw (captures_append q from taken more)
+          (pages_join (no_pages first.limit first.sizes.now) (captures_over q from taken) _),
     )
 
--- pages of which a front was written, up to rows that the first page left has room for
-front_from : (q : QueryValue) (sizes left : List ℕ) (whole : Pages) (all rows later : List Member)
-    (start new : Option (List ℕ)) → AllPositive left → length rows ≤ first_size left
-    → ((rest : Pages) → AreCut left rest (rows ++ later) → AreCut sizes (whole ++ rest) all)
-    → AppendsPrefix start new (pages_text q whole ++ begun (form_of q) rows)
-    → (pages : Pages) × AreCut sizes pages all × AppendsPrefix start new (pages_text q pages)
-front_from q sizes left whole all rows later start new z room goes_on p =
-    let rest = cut_there left (rows ++ later) z in
-    let head = head_text q left rest.0 rows later rest.1 room in (
-      whole ++ rest.0,
-      goes_on rest.0 rest.1,
-      subst (AppendsPrefix start new) (grind (arith, flat_map-append, append_assoc))
-          (prefix_longer start new _ head.0 p),
-    )
+pub broke_more : (first : PageWriter) (taken more : List Member) (start now : Option (List ℕ))
+    → Broke first taken start now → Broke first (taken ++ more) start now
+broke_more first taken more start now broke sized =
+    let more = more_lines first taken more in
+    rw more.1 (front_more first.selection.query.now start now (pages_so_far first taken) more.0 (broke sized))
 
--- ---- the pages so far
+module _ {first w : PageWriter} {taken : List Member} {start now : Option (List ℕ)} (s : Wrote first w taken start now)
+  where
+    pub wrote_front : Broke first taken start now
+    wrote_front sized = stands_front (s.stands sized)
 
--- before the first capture
-pub none_stand : (q : QueryValue) (limit : Option ℕ) (sizes : List ℕ) (start now : Option (List ℕ)) → AllPositive sizes
-    → limit ≡ Some (first_size sizes) → Appends start now (page_start (form_of q))
-    → (s : PagesStand q sizes [] start now limit sizes 0 None 0) × HasNext s.whole s.rows
-none_stand q limit sizes start now z size a =
-    (record { whole = []; rows = []; written = grind (arith, append-nil) }, inl refl)
+    pub wrote_holds : IsSized first.limit first.sizes.now → HoldsRows (pages_so_far first taken)
+    wrote_holds sized = holds_more (none_holds first.limit first.sizes.now sized) (captures_of first.selection taken)
 
-nonempty : (whole : Pages) (page : Page Member PlaceValue) (later : List Member) → HasNext (whole ++ page ∷ []) later
-    → 0 < length later
-nonempty whole page later (inl e) = absurd (omega (arith, ap length e, length-append whole (page ∷ [])))
-nonempty whole page later (inr h) = h
+    -- one line more, which is a capture or not
+    pub took_next : {next : Selection} {m : Member} {is : Bool} → TookNext w.selection next taken m is
+        → pages_so_far first (taken ++ m ∷ []) ≡ pages_after (pages_so_far first taken) (cond is (m ∷ []) [])
+    took_next {m = m} {is} took =
+        let one = cond is (m ∷ []) [] in
+        let more : captures_of first.selection (taken ++ m ∷ []) ≡ captures_of first.selection taken ++ one =
+        rw (s.same.0, s.same.1) at took.captures in
+        rw more (pages_join (no_pages first.limit first.sizes.now) (captures_of first.selection taken) one)
 
-module _ {q : QueryValue} {sizes : List ℕ} {c : List Member} {start now : Option (List ℕ)} {limit : Option ℕ}
-    {left : List ℕ} {given : ℕ} {last : Option PlaceValue} {count : ℕ}
-    (s : PagesStand q sizes c start now limit left given last count) where
-  abbrev form : FormValue
-  form = form_of q
+    -- where the page isn't ended
+    pub goes_on : IsSized first.limit first.sizes.now
+        → (w.sizes.now ≡ [] → (is_full w.limit w.given ≡ false) × FitsWord w.limit)
+        → is_ended (pages_so_far first taken) ≡ false
+    goes_on sized goes =
+        let stands = s.stands sized in let full = full_is stands (wrote_holds sized) in grind arith
 
-  abbrev before : List ℕ
-  before = pages_text q s.whole ++ begun form s.rows
-
-  room : length s.rows ≤ first_size left
-  room = grind arith
-
-  module _ (free : is_full limit given ≡ false) (fits : FitsWord limit) (m : Member) where
-    -- a capture more
-    pub capture_stands : (new : Option (List ℕ)) (given' : ℕ) (last' : Option PlaceValue)
-        → given' ≡ min (given + 1) (2 ^ 64 - 1) → last' ≡ last_after limit given' last (member_place m)
-        → Appends now new (row_text form m)
-        → (s : PagesStand q sizes (c ++ m ∷ []) start new limit left given' last' count) × HasNext s.whole s.rows
-    capture_stands new given' last' g l a =
-        let page = row_more s.written.page free fits m new given' last' g l a in (
-          record { whole = s.whole; rows = s.rows ++ m ∷ []; written = grind (arith, append_assoc) },
-          inr (omega (arith, length-append s.rows (m ∷ []))),
-        )
-
-    -- in the row of a capture more, or after it
-    pub capture_front : (new : Option (List ℕ)) → AppendsPrefix now new (row_text form m)
-        → IsFront q sizes (c ++ m ∷ []) start new
-    capture_front new p later =
-        let more = room_more s.written.page free fits m in
-        front_from q _ left s.whole _ (s.rows ++ m ∷ []) later _ _ s.written.positive (grind arith)
-        (λ rest h. grind (arith, append_assoc, length-append))
-        (row_front s.written.page m new p)
-
-  -- ---- where the page is full
-
-  module _ (full : is_full limit given ≡ true) where
-    abbrev page : Page Member PlaceValue
-    page = full_page s.rows
-
-    are_full : length s.rows ≡ first_size left
-    are_full = grind (arith, at_limit)
-
-    turned : before ++ (page_end form (shown_key true last) ++ page_start form) ≡ pages_text q (s.whole ++ page ∷ [])
-        ++ begun form []
-    turned = grind (arith, at_limit, append_assoc, page_in_pieces, append-nil, flat_map-append)
-
-    goes_on : (later : List Member) (rest : Pages) → 0 < length later → AreCut (later_sizes left) rest later
-        → AreCut sizes ((s.whole ++ page ∷ []) ++ rest) (c ++ later)
-    goes_on later rest some h = grind (arith, append_assoc, length-append, cut_more, are_full)
-
-    -- it is ended, and the next is begun
-    pub turned_stands : (new : Option (List ℕ)) (limit' : Option ℕ) (left' : List ℕ) (given' : ℕ)
-        (last' : Option PlaceValue) (count' : ℕ)
-        → Appends now new (page_end form (shown_key true last) ++ page_start form) → limit' ≡ Some (first_size left')
-        → left' ≡ later_sizes left → given' ≡ 0 → count' ≡ min (count + 1) (2 ^ 64 - 1) → IfSome last IsReadBack
-        → PagesStand q sizes c start new limit' left' given' last' count'
-    turned_stands new limit' left' given' last' count' a size is none n read =
-        let positive : AllPositive left' = rw is (later_positive left s.written.positive) in
-        let some = first_positive left' positive in
-        let text = rw turned at (Appends-join _ _ _ _ _ s.written.page.text a) in
-        record {
-          whole = s.whole ++ page ∷ [];
-          rows = [];
-          written = grind (arith, goes_on, nonempty, each_join, at_limit, length-append);
-        }
-
-    -- while it is ended, or the next is begun
-    pub turning_front : (m : Member) (new : Option (List ℕ))
-        → AppendsPrefix now new (page_end form (shown_key true last) ++ page_start form)
-        → IsFront q sizes (c ++ m ∷ []) start new
-    turning_front m new p later =
-        front_from q _ (later_sizes left) (s.whole ++ page ∷ []) _ [] (m ∷ later) _ _
-        (later_positive left s.written.positive) (omega arith)
-        (λ rest h. rw (append_assoc c (m ∷ []) later) (goes_on (m ∷ later) rest (omega arith) h))
-        (rw turned at (prefix_after _ _ _ _ _ s.written.page.text p))
-
-  -- after what was written so far
-  module _ (more : HasNext s.whole s.rows) where
-    pub stands_front : IsFront q sizes c start now
-    stands_front later =
-        front_from q _ left s.whole _ s.rows later _ _ s.written.positive room
-        (λ rest h. grind (arith, length-append)) (whole_prefix _ _ _ s.written.page.text)
-
-    abbrev last_page : Page Member PlaceValue
-    last_page = record { members = s.rows; next = None }
-
-    pub all_cut : AreCut sizes (s.whole ++ last_page ∷ []) c
-    all_cut = rw append-nil at (s.written.goes_on [] (last_page ∷ []) (rw append-nil more) (rw append-nil (refl, room)))
-
-    ended : pages_text q (s.whole ++ last_page ∷ []) ≡ before ++ page_end form None
-    ended = grind (arith, flat_map-append, append-nil, page_in_pieces, append_assoc)
-
-    -- the last page is ended
-    pub ended_stands : (new : Option (List ℕ)) (number : ℕ) → Appends now new (page_end form None) → number
-        ≡ min (count + 1) (2 ^ 64 - 1)
-        → Ended q sizes c start new number
-    ended_stands new number a n = grind (arith, all_cut, ended, Appends-join, length-append, each_join)
-
-    pub ending_front : (new : Option (List ℕ)) → AppendsPrefix now new (page_end form None)
-        → EndedInPart q sizes c start new
-    ending_front new p = (s.whole ++ last_page ∷ [], all_cut, rw ended (prefix_after _ _ _ _ _ s.written.page.text p))
-
--- a front of the captures of more lines
-pub front_more : (q : QueryValue) (from : Option PlaceValue) (sizes : List ℕ) (taken rest : List Member)
-    (start now : Option (List ℕ))
-    → IsFront q sizes (captures_over q from taken) start now
-    → IsFront q sizes (captures_over q from (taken ++ rest)) start now
-front_more q from sizes taken rest start now front later =
-    let found = front (kept_after q from (place_before q from taken) (filter (is_wanted q from) rest) ++ later) in
-    grind (arith, append_assoc, captures_append)
-
--- in the start of the first page
-pub start_front : (q : QueryValue) (sizes : List ℕ) (start new : Option (List ℕ)) → AllPositive sizes
-    → AppendsPrefix start new (page_start (form_of q)) → IsFront q sizes [] start new
-start_front q sizes start new z p later =
-    front_from q _ sizes [] _ [] later _ _ z (omega arith) (λ rest h. h) (rw append-nil p)
+-- an output that grows with a line
+pub ruleset growing = (grows_not, grows_by, grows_part)

@@ -1,34 +1,33 @@
 -- One page of a query, by what was taken of its sources, and by what a writer has written.
-use Rattle.query_core.proofs.Words.{[], ◌++◌, ◌+◌, ◌-◌, ◌^◌, ◌∷◌, ◌≡◌, ◌≤◌, ◌⊎◌, AllPositive, AllZip, Appends}
-use Rattle.query_core.proofs.Words.{Appends-none, AppendsPrefix, AreAtMost, AreFirst, Bool, Broke, GaveFor, GaveInPages}
-use Rattle.query_core.proofs.Words.{GaveInReach, Ghosts, Grows, HasNext, IsFront, IsIndex, IsWriterOf, Known}
-use Rattle.query_core.proofs.Words.{LINE_LIMIT, List, Member, None, Option, OverIndexes, Page, PageStands, PageWriter}
-use Rattle.query_core.proofs.Words.{PagesStand, PlaceValue, QueryValue, Rises, Some, Wrote, WroteFirst, WroteInPages}
-use Rattle.query_core.proofs.Words.{WrotePages, WrotePagesInPart, ℕ, answer_text, append-nil, arith, begun}
-use Rattle.query_core.proofs.Words.{begun_is_front, captures_text, collection, false, false_from_ne_true, first_size}
-use Rattle.query_core.proofs.Words.{form_of, from_view, grows_by, grows_on, inl, inr, is_some, kept, length}
-use Rattle.query_core.proofs.Words.{length-append, length-take, map, member_place, min, next_of, not, page_end}
-use Rattle.query_core.proofs.Words.{page_over, page_text, pages_text, place_cmp, place_cmp_total, prefix_longer, put}
-use Rattle.query_core.proofs.Words.{query_captures, query_page, refl, rises_rising, rising, shown_key, sum, sym}
-use Rattle.query_core.proofs.Words.{take-append_seam, true, two_same}
-use Rattle.merge_core.specs.declared.sink.Sink.{Ghosts as SinkGhosts}
-use Rattle.query_core.specs.declared.pass.Pass.{Pass}
+use Rattle.query_core.proofs.Words.{[], ◌++◌, ◌+◌, ◌-◌, ◌<◌, ◌^◌, ◌∷◌, ◌≡◌, ◌≤◌, ◌⊎◌, AllPositive, AllZip, Appends}
+use Rattle.query_core.proofs.Words.{Appends-join, Appends-none, AppendsPrefix, AreAtMost, AreFirst, Bool, Broke}
+use Rattle.query_core.proofs.Words.{GaveFor, GaveInPages, GaveInReach, Ghosts, Grows, IsIndex, IsSized, IsWriterOf}
+use Rattle.query_core.proofs.Words.{Known, LINE_LIMIT, List, Member, None, Option, OverIndexes, Page, PageWriter}
+use Rattle.query_core.proofs.Words.{PlaceValue, QueryValue, Rises, Some, Wrote, WroteFirst, WroteInPages, WrotePages}
+use Rattle.query_core.proofs.Words.{WrotePagesInPart, answer_text, append-nil, arith, begun, captures_text}
+use Rattle.query_core.proofs.Words.{collection, err_from_is_err_and, false, false_from_ne_true, first_size, form_of}
+use Rattle.query_core.proofs.Words.{grows_by, grows_not, grows_on, grows_part, inl, inr, is_some, kept, length}
+use Rattle.query_core.proofs.Words.{length-append, length-take, map, member_place, min, next_of, no_pages, not}
+use Rattle.query_core.proofs.Words.{page_end, pages_text, place_cmp, place_cmp_total, prefix_after, prefix_longer}
+use Rattle.query_core.proofs.Words.{put, query_captures, query_page, refl, rises_rising, rising, shown_key, sum, sym}
+use Rattle.query_core.proofs.Words.{take-append_seam, text_so_far, true, two_same, wrote_nothing, ℕ}
 use Rattle.query_core.specs.Answering.{HoldsOfLines, Answered}
-use Rattle.query_core.specs.Passes.{Took, TookLines}
-use Rattle.page_core.proofs.PageLemmas.{written-whole, front-end}
+use Rattle.query_core.specs.Passes.{Took}
 use Rattle.query_core.specs.declared.page_writer.PageEnd.{PageEnd}
-use Rattle.query_core.specs.WriterView.{IsEndOf, WroteAll}
-use Rattle.query_core.proofs.WriterLemmas.{captures, decided, filter_and, goes_last, page, page_front, page_is}
-use Rattle.query_core.proofs.WriterLemmas.{written_front, among_rows, captures_are, few_rows, none_more}
+use Rattle.query_core.specs.WriterView.{IsEndOf, Stands, state_of}
+use Rattle.query_core.proofs.PagesLemmas.{decided, page_front, page_is, among_rows, few_rows, wrote_front, all_cut}
+use Rattle.query_core.proofs.PagesLemmas.{pages_by, pages_join, front_more, one_page, page_members, IsOnePage}
+use Rattle.query_core.proofs.PagesLemmas.{is_sized, none_follow, has_next, page}
+use Rattle.query_core.proofs.WriterLemmas.{filter_and, captures_are, captures}
 use Rattle.query_core.specs.declared.report.Report.{Report}
 use Rattle.query_core.proofs.ReachLemmas.{within_opening}
-use Rattle.query_core.proofs.PageChains.{wrote_front, wrote_most, wrote_whole}
-use Rattle.query_core.proofs.PagesLemmas.{ended_stands, ending_front, stands_front, all_cut}
+use Rattle.query_core.proofs.PageChains.{wrote_most, wrote_whole}
 use Rattle.std.proofs.lemmas.List.Concat.{length-flat_map}
 use Rattle.std.proofs.lemmas.List.Sums.{count_by-le-length, length-filter, sum-map}
+use Rattle.page_core.proofs.PageLemmas.{page_in_pieces}
 
 -- the query's page is that of the lines that are wanted
-pub asked_is : (q : QueryValue) (lines : List Member) → query_page q lines ≡ page_over q q.resume q.limit lines
+pub asked_is : (q : QueryValue) (lines : List Member) → query_page q lines ≡ page q.limit (captures q lines)
 asked_is q lines = grind (arith, page, filter_and)
 
 -- a writer that began with this query, this limit and these sizes wrote what stands of these lines
@@ -50,36 +49,21 @@ module _ {told : List (Option (List ℕ))} {Holds : List Member → Type 0} wher
   of_none holds =
       record { any = ([], grind arith, holds [] tt); over = λ texts indexes known are. holds _ (collection_rises indexes) }
 
-  -- those that were taken come first
-  pub of_taken : {q : QueryValue} {taken : List Member} → Took q told taken
+  -- those that were taken come first, and may be all
+  pub of_taken : {q : QueryValue} {taken : List Member} {whole : Bool} → Took q told taken whole
       → ((all rest : List Member) → Rises member_place place_cmp all → captures q all ≡ captures q taken ++ rest
-      → Holds all) → HoldsOfLines told Holds
+      → (whole ≡ true → captures q all ≡ captures q taken) → Holds all) → HoldsOfLines told Holds
   of_taken t holds = record {
-    any = (_, t.lines, holds _ [] t.lines.rise (sym (append-nil _)));
+    any = (_, t.lines, holds _ [] t.lines.rise (sym (append-nil _)) (λ e. refl));
     over = λ texts indexes known are.
-        let first = t.first texts indexes known are in holds _ first.0 (collection_rises indexes) first.1;
+        let first = t.first texts indexes known are in
+        holds _ first.0 (collection_rises indexes) first.1 (λ e. t.whole e texts indexes known are);
   }
-
--- all lines were taken, or enough
-pub of_whole : {K S : Type 0} {consumer : SinkGhosts K} {device : Ghosts S} {q : QueryValue} {olds news : List S}
-    {sink last : K} {old new : Option (List ℕ)} {pass : Pass} {Holds : List Member → Type 0}
-    (t : TookLines consumer device q olds news sink old last new pass)
-    → ((all rest : List Member) → Rises member_place place_cmp all → captures q all ≡ captures q t.lines ++ rest
-    → (pass.all ≡ true → captures q all ≡ captures q t.lines) → Holds all) → HoldsOfLines (map device.text olds) Holds
-of_whole t holds = record {
-  any = (_, t.took.lines, holds _ [] t.took.lines.rise (sym (append-nil _)) (λ e. refl));
-  over = λ texts indexes known are.
-      let first = t.took.first texts indexes known are in
-      holds _ first.0 (collection_rises indexes) first.1 (λ e. t.whole e texts indexes known are);
-}
 
 module _ {q : QueryValue} {limit : Option ℕ} {sizes : List ℕ} {start mid : Option (List ℕ)} {taken : List Member}
     (w : Writing q limit sizes start mid taken) where
   pub query_is : w.writer.selection.query.now ≡ q
   query_is = cc
-
-  pub from_same : from_view w.writer.selection.from ≡ q.resume
-  from_same = cc
 
   -- it took more lines
   abbrev pub passed : (more : List Member) (now : Option (List ℕ)) (writer : PageWriter) → ((first : PageWriter)
@@ -87,13 +71,46 @@ module _ {q : QueryValue} {limit : Option ℕ} {sizes : List ℕ} {start mid : O
       → Writing q limit sizes start now more
   passed more now writer came = record { first = w.first; is = w.is; writer = writer; wrote = came w.first start w.wrote }
 
+  pub stood : IsSized limit sizes → Stands q (pages_by q limit sizes taken) (state_of w.writer) start mid
+  stood sized = rw (w.is.query_is, w.is.from_is, w.is.limit_is, w.is.sizes_are) at
+      (w.wrote.stands (rw (w.is.limit_is, w.is.sizes_are) sized))
+
+-- what was written before a fault is a front of the pages of lines of which these come first
+pub broke_front : {q : QueryValue} {limit : Option ℕ} {sizes : List ℕ} {start mid : Option (List ℕ)}
+    (b : Writing q limit sizes start mid []) → IsSized limit sizes → (taken : List Member) (now : Option (List ℕ))
+    → ((first : PageWriter) (start : Option (List ℕ)) → Wrote first b.writer [] start mid
+    → ((k : PageWriter) × Wrote first k taken start now) ⊎ Broke first taken start now)
+    → (all rest : List Member) → captures q all ≡ captures q taken ++ rest
+    → AppendsPrefix start now (text_so_far q (pages_by q limit sizes all))
+broke_front {q = q} {start = start} b sized taken now came all rest split =
+    let broke : Broke b.first taken start now =
+    elim (came b.first start b.wrote) [ inl k ↦ wrote_front k.1 | inr broke ↦ broke ] in
+    let text = rw (b.is.query_is, b.is.from_is, b.is.limit_is, b.is.sizes_are) at
+    (broke (rw (b.is.limit_is, b.is.sizes_are) sized)) in
+    rw (split, pages_join _ _ rest) (front_more q start now _ rest text)
+
+-- ---- one page
+
+-- the answer to a query, by the rows of its page
+answer_text_is : (q : QueryValue) (lines : List Member) → answer_text q (query_page q lines)
+    ≡ text_so_far q (pages_by q q.limit [] lines) ++ page_end (form_of q)
+    (shown_key q.show_resume_key (query_page q lines).next)
+answer_text_is q lines =
+    let one = one_page q.limit (captures q lines) in
+    grind (arith, asked_is, page_members, page_in_pieces)
+
+pub answer_front : (q : QueryValue) (lines : List Member) (start now : Option (List ℕ))
+    → AppendsPrefix start now (text_so_far q (pages_by q q.limit [] lines))
+    → AppendsPrefix start now (answer_text q (query_page q lines))
+answer_front q lines start now p = rw (answer_text_is q lines) (prefix_longer _ _ _ _ p)
+
 module _ {q : QueryValue} {start mid : Option (List ℕ)} {taken : List Member}
     (w : Writing q q.limit [] start mid taken) where
-  abbrev taken_page : Page Member PlaceValue
-  taken_page = page_over q q.resume q.limit taken
+  abbrev stands : Stands q (pages_by q q.limit [] taken) (state_of w.writer) start mid
+  stands = stood w tt
 
-  pub stood : PageStands (form_of q) q.limit (captures q taken) start mid w.writer.given w.writer.more w.writer.last
-  stood = grind (arith, query_is, from_same)
+  one : IsOnePage q.limit (captures q taken) (pages_by q q.limit [] taken)
+  one = one_page q.limit (captures q taken)
 
   abbrev key_of : QueryValue → Option (List ℕ)
   key_of r = shown_key r.show_resume_key (next_of w.writer.more w.writer.last)
@@ -101,61 +118,39 @@ module _ {q : QueryValue} {start mid : Option (List ℕ)} {taken : List Member}
   -- where no capture follows the page, no line was left
   pub no_more : (whole more : Bool) → (whole ≡ false → w.writer.more ≡ true)
       → more ≡ is_some (next_of w.writer.more w.writer.last) → not more ≡ true → whole ≡ true
-  no_more whole more enough is none = let s = stood in grind (arith, goes_last)
+  no_more whole more enough is none = let s = stands in grind arith
 
   module _ (all : List Member) where
     -- of all lines those that were taken settle the page
     pub settles : (whole : Bool) (rest : List Member) → captures q all ≡ captures q taken ++ rest
         → (whole ≡ true → captures q all ≡ captures q taken) → (whole ≡ false → w.writer.more ≡ true)
-        → query_page q all ≡ taken_page
-    settles whole rest first ended enough = let s = stood in grind (arith, asked_is, decided)
+        → query_page q all ≡ page q.limit (captures q taken)
+    settles whole rest first ended enough = let settled = decided stands one in grind (arith, asked_is)
 
-    module _ (new : Option (List ℕ)) (same : query_page q all ≡ taken_page) where
-      text_same : page_text (form_of q) taken_page.members (key_of q) ≡ answer_text q (query_page q all)
-      text_same = let is = page_is stood in grind arith
+    module _ (new : Option (List ℕ)) (same : query_page q all ≡ page q.limit (captures q taken)) where
+      text_same : answer_text q (query_page q all)
+          ≡ text_so_far q (pages_by q q.limit [] taken) ++ page_end (form_of q) (key_of q)
+      text_same = let is = page_is stands one in grind (arith, answer_text_is q taken, asked_is q taken)
 
       -- with its end it is written
       pub page_ended : (end : PageEnd) (report : Report)
           → Appends mid new (page_end (form_of w.writer.selection.query.now) (key_of w.writer.selection.query.now))
           → IsEndOf w.writer end → report.given ≡ end.given → report.more ≡ is_some end.next → Answered q all start new report
       page_ended end report a of_end given more =
-          let is = page_is stood in let s = stood.are in grind (arith, query_is, text_same, written-whole)
+          let s = stands in
+          let is = page_is s one in
+          let text = Appends-join _ _ _ _ _ s.text (rw (query_is w) at a) in grind (arith, text_same)
 
       pub end_front : AppendsPrefix mid new
           (page_end (form_of w.writer.selection.query.now) (key_of w.writer.selection.query.now))
           → AppendsPrefix start new (answer_text q (query_page q all))
-      end_front p = rw (← text_same)
-          (front-end start mid new (form_of q) taken_page.members (key_of q)
-          (rw (page_is stood) stood.are.page.text) (rw (query_is w) at p))
-
-module _ {q : QueryValue} {start mid : Option (List ℕ)} (b : Writing q q.limit [] start mid []) (taken : List Member)
-    (now : Option (List ℕ)) where
-  -- are a front of the page of lines of which these come first
-  pub page_broke : ((first : PageWriter) → (start : Option (List ℕ)) → Wrote first b.writer [] start mid
-      → ((k : PageWriter) × Wrote first k taken start now) ⊎ Broke first taken start now)
-      → (all rest : List Member) → captures q all ≡ captures q taken ++ rest
-      → AppendsPrefix start now (answer_text q (query_page q all))
-  page_broke came all rest split =
-      let members = (page_over q q.resume q.limit taken).members in
-      let r = page_front q.limit (captures q taken) rest in
-      let key = shown_key q.show_resume_key (query_page q all).next in
-      let same : (query_page q all).members ≡ members ++ r.0 = grind (arith, asked_is, page) in
-      let f = begun_is_front (form_of q) members r.0 key in
-      let rows : AppendsPrefix start now (begun (form_of q) members) =
-      elim (came b.first start b.wrote) as (λ _. AppendsPrefix start now (begun (form_of q) members)) [
-        | inl k ↦ (
-            let w : Writing q q.limit [] start now taken =
-            record { first = b.first; is = b.is; writer = k.0; wrote = k.1 } in
-            written_front (stood w))
-        | inr p ↦ rw (b.is.query_is, b.is.from_is, b.is.limit_is) at (p.one b.is.sizes_are)
-      ] in
-      rw (same, f.1) (prefix_longer start now (begun (form_of q) members) f.0 rows)
+      end_front p = rw text_same (prefix_after _ _ _ _ _ stands.text (rw (query_is w) at p))
 
 -- ---- what was read for pages, beside what stands written of them
 
 -- what stands written of rows, where those of a page that others precede aren't none
 written : (q : QueryValue) (whole : List (Page Member PlaceValue)) (rows : List Member)
-    (start now new : Option (List ℕ)) → HasNext whole rows
+    (start now new : Option (List ℕ)) → (whole ≡ []) ⊎ (0 < length rows)
     → Appends start now (pages_text q whole ++ begun (form_of q) rows) → Grows now new
     → WroteFirst start new (pages_text q whole ++ captures_text (form_of q) rows)
 written q whole [] start now new (inl none) a g = rw none (record {
@@ -174,10 +169,10 @@ pub within : {q : QueryValue} {start mid : Option (List ℕ)} (b : Writing q q.l
     → ((first : PageWriter) → (start : Option (List ℕ)) → Wrote first b.writer [] start mid
     → Wrote first writer taken start now)
     → ((b.writer.more ≡ true → ⊥) → writer.more ≡ true → ⊥) → AreAtMost q.limit (captures q taken)
-within b some taken now writer came more =
-    let none = none_more (stood b) in
-    let last = few_rows (stood (passed b taken now writer came)) in
-    grind (arith, false_from_ne_true)
+within {q} b some taken now writer came more =
+    let none = (stood b tt).more in
+    few_rows (stood (passed b taken now writer came) tt) (one_page q.limit (captures q taken))
+    (grind (arith, false_from_ne_true)) some
 
 -- What was written of the page of these lines, which come first, and what sources gave for the captures of the earlier
 -- of them
@@ -191,17 +186,18 @@ pub page_reached : {S : Type 0} (device : Ghosts S) {q : QueryValue}
 page_reached device {q} {old} {middle} new olds news {taken} earlier tail w grows first split most within =
     λ texts indexes known are.
     let front = first texts indexes known are in
-    let stands = stood w in
-    let mine = stands.rows in
+    let s = stands w in
+    let mine = (pages_by q q.limit [] taken).rows in
     let later = page_front q.limit (captures q taken) front.0 in
     let members : (query_page q (collection indexes)).members ≡ mine ++ later.0 =
-    rw (asked_is q (collection indexes), front.1, later.1, page_is stands) refl in
-    let front_written = written q [] mine old middle new (inl refl) stands.are.page.text grows in
+    rw (asked_is q (collection indexes), front.1, later.1, page_is s (one w)) refl in
+    let front_written = written q [] mine old middle new (inl refl) (rw (one w).whole at s.text) grows in
     record {
       whole = length mine;
       most = grind (arith, length-append);
       wrote = grind (arith, take-append_seam);
-      within = within texts indexes known are (Some (length mine)) (among_rows stands (captures q earlier) tail split most);
+      within = within texts indexes known are (Some (length mine))
+          (among_rows s (one w) (captures q earlier) tail split most);
       page = within texts indexes known are q.limit most;
     }
 
@@ -233,18 +229,6 @@ pub page_fewer : (q : QueryValue) (parts : List (List Member)) (given lines : �
     → lines ≡ min (sum (map (λ (ms : List Member). length ms) parts)) (2 ^ 64 - 1) → given ≤ lines
 page_fewer q parts given lines g l =
     grind (arith, asked_is, kept_fewer, length-filter, count_by-le-length, length-take, rising_fewer, length-flat_map, sum-map)
-
--- a writer's captures stand written in pages
-pub in_pages : {q : QueryValue} {sizes : List ℕ} {c : List Member} {start now : Option (List ℕ)} {limit : Option ℕ}
-    {left : List ℕ} {given : ℕ} {last : Option PlaceValue} {count : ℕ}
-    (s : PagesStand q sizes c start now limit left given last count) → HasNext s.whole s.rows
-    → (new : Option (List ℕ)) → Grows now new → WroteInPages q sizes c start new
-in_pages {q} {start = start} {now} s more new grows = record {
-  pages = s.whole;
-  rows = s.rows;
-  cut = all_cut s more;
-  wrote = written q s.whole s.rows start now new more s.written.page.text grows;
-}
 
 module _ {S : Type 0} (device : Ghosts S) (q : QueryValue) (sizes : List ℕ) where
   -- nothing was read at all, and no capture was written
@@ -289,20 +273,23 @@ module _ {S : Type 0} (device : Ghosts S) (q : QueryValue) (sizes : List ℕ) wh
 -- pages of all sizes
 module _ {q : QueryValue} {sizes : List ℕ} {start now : Option (List ℕ)} {taken : List Member}
     (positive : AllPositive sizes) (w : Writing q (Some (first_size sizes)) sizes start now taken) where
-  pub all : WroteAll w.first w.writer taken start now
-  all = w.wrote.all (rw w.is.sizes_are positive)
+  all : Stands q (pages_by q (Some (first_size sizes)) sizes taken) (state_of w.writer) start now
+  all = stood w (is_sized sizes positive)
 
-  between : IsFront q sizes (captures q taken) start now
-  between = rw (query_is w, from_same w, w.is.sizes_are) at (stands_front all.stands.0 all.stands.1)
+  -- it wants each line
+  pub never_enough : w.writer.more ≡ false
+  never_enough = let s = all in grind (arith, none_follow sizes positive (captures q taken))
 
   -- they stand written in pages
   pub stood_pages : (new : Option (List ℕ)) → Grows now new → WroteInPages q sizes (captures q taken) start new
-  stood_pages new grows = rw (query_is w, from_same w, w.is.sizes_are) at
-      (in_pages all.stands.0 all.stands.1 new grows)
-
-  -- no resume key ends them
-  no_key : (shows : Bool) → shown_key shows (next_of w.writer.more w.writer.last) ≡ None
-  no_key shows = grind arith
+  stood_pages new grows = record {
+    pages = (pages_by q (Some (first_size sizes)) sizes taken).whole;
+    rows = (pages_by q (Some (first_size sizes)) sizes taken).rows;
+    cut = all_cut sizes positive (captures q taken);
+    wrote = written q _ _ start now new
+        (has_next (no_pages (Some (first_size sizes)) sizes) (captures q taken) (inl refl))
+        all.text grows;
+  }
 
   -- the lines that were taken have all captures of these lines
   module _ (lines : List Member) (rise : Rises member_place place_cmp lines)
@@ -311,27 +298,23 @@ module _ {q : QueryValue} {sizes : List ℕ} {start now : Option (List ℕ)} {ta
     end = page_end (form_of w.writer.selection.query.now)
         (shown_key w.writer.selection.query.now.show_resume_key (next_of w.writer.more w.writer.last))
 
+    -- no resume key ends them
+    end_is : end ≡ page_end (form_of q) None
+    end_is = grind (arith, never_enough, query_is w)
+
     pub all_ended : (number : ℕ) → Appends now new end → number ≡ min (w.writer.count + 1) (2 ^ 64 - 1)
         → WrotePages q lines sizes start new number
-    all_ended number a n = wrote_whole _ _ positive lines rise _ _ _ same number
-        (rw (query_is w, from_same w, w.is.sizes_are) at (ended_stands all.stands.0 all.stands.1 new
-        number (rw (no_key w.writer.selection.query.now.show_resume_key) at a) n))
+    all_ended number a n =
+        let text = Appends-join _ _ _ _ _ all.text (rw end_is at a) in
+        wrote_whole q sizes positive lines rise start new number (rw same all.keyed) (rw same text)
+        (rw same (grind (arith, length-append)))
 
     pub at_end : AppendsPrefix now new end → WrotePagesInPart q lines sizes start new
-    at_end p = wrote_most q sizes positive lines rise (captures q taken) start new same
-        (rw (query_is w, from_same w, w.is.sizes_are) at (ending_front all.stands.0 all.stands.1 new
-        (rw (no_key w.writer.selection.query.now.show_resume_key) at p)))
+    at_end p = wrote_most q sizes positive lines rise start new
+        (rw same (prefix_after _ _ _ _ _ all.text (rw end_is at p)))
 
--- the captures of the lines that were taken come first
-pub any_front : {q : QueryValue} {sizes : List ℕ} {start mid : Option (List ℕ)} (positive : AllPositive sizes)
-    (b : Writing q (Some (first_size sizes)) sizes start mid []) (now : Option (List ℕ)) (lines taken rest : List Member)
-    → ((first : PageWriter) → (start : Option (List ℕ)) → Wrote first b.writer [] start mid
-    → ((k : PageWriter) × Wrote first k taken start now) ⊎ Broke first taken start now)
-    → Rises member_place place_cmp lines → captures q lines ≡ captures q taken ++ rest
-    → WrotePagesInPart q lines sizes start now
-any_front {q} {sizes} {start} positive b now lines taken rest came rise split =
-    wrote_front q sizes positive lines rise (captures q taken) start now rest split
-    (elim (came b.first start b.wrote) [
-      | inl k ↦ between positive (record { first = b.first; is = b.is; writer = k.0; wrote = k.1 })
-      | inr p ↦ rw (b.is.query_is, b.is.from_is, b.is.sizes_are) at (p.all (rw b.is.sizes_are positive))
-    ])
+-- ---- what the calls cite
+
+pub ruleset answer_rules = (page_not_reached, grows_not, grows_part, err_from_is_err_and, wrote_nothing)
+
+pub ruleset pages_rules = (within_opening, two_same, no_pages_reached, grows_not, grows_part)

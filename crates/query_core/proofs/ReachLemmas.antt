@@ -1,29 +1,28 @@
 -- What was taken of indexes, beside all that is wanted of their collection.
 use Rattle.query_core.proofs.Words.{[], ◌&&◌, ◌++◌, ◌-◌, ◌^◌, ◌∷◌, ◌≡◌, ◌≤◌, All, All-head, All-tail, AllByRecursion}
 use Rattle.query_core.proofs.Words.{AllGaveWithin, AllZip, AreAtMost, AreLinesOf, Bool, GaveFor, Ghosts, IsAbove}
-use Rattle.query_core.proofs.Words.{IsIndex, Known, LINE_LIMIT, List, Member, NoneBelow, Option, Ordering, OverIndexes}
-use Rattle.query_core.proofs.Words.{Pair, PlaceValue, QueryValue, ReadFor, Some, TargetValue, Upto, ℕ}
-use Rattle.query_core.proofs.Words.{all_lines, and_parts, ap, append-nil, append_assoc, arith, bytes_eq-Decides}
-use Rattle.query_core.proofs.Words.{collection, each_join, each_kept, each_rising, each_weaker, eqb-true, false}
-use Rattle.query_core.proofs.Words.{false_from_ne_true, filter, in_reach, inl, inputs, inr, is_above, is_gt, is_low}
-use Rattle.query_core.proofs.Words.{is_past, is_stamp, is_wanted, later_pair, length, lines, map, member_pair}
-use Rattle.query_core.proofs.Words.{member_place, min, nat_cmp, nat_tests, not, pair_cmp, pair_cmp_total, past_upward}
-use Rattle.query_core.proofs.Words.{place_before, place_cmp, place_cmp_total, refl, same_part, slice_cmp, start_pair}
-use Rattle.query_core.proofs.Words.{suc, sum, taken_first, taken_whole, true, upto_upto, zero, zip}
+use Rattle.query_core.proofs.Words.{IsIndex, Known, LINE_LIMIT, List, Member, NoneBelow, Option, Ordering}
+use Rattle.query_core.proofs.Words.{OverIndexes, Pair, PlaceValue, QueryValue, ReadFor, Some, TargetValue, Upto}
+use Rattle.query_core.proofs.Words.{and_parts, ap, append-nil, append_assoc, arith, bytes_eq-Decides, collection}
+use Rattle.query_core.proofs.Words.{each_join, each_kept, each_weaker, eqb-true, false, false_from_ne_true, filter}
+use Rattle.query_core.proofs.Words.{in_reach, inputs, is_above, is_gt, is_low, is_past, is_stamp, is_wanted, length}
+use Rattle.query_core.proofs.Words.{line_entry, line_row, lines, map, member_pair, member_place, min, nat_cmp}
+use Rattle.query_core.proofs.Words.{nat_tests, not, pair_cmp, pair_cmp_total, place_before, place_cmp}
+use Rattle.query_core.proofs.Words.{place_cmp_total, refl, same_part, slice_cmp, suc, sum, true, upto_upto, zero, zip}
+use Rattle.query_core.proofs.Words.{ℕ}
 use Rattle.query_core.proofs.WriterLemmas.{captures, kept_after, captures_split, captures_append}
 use Rattle.std.proofs.Common.{replicate, is_lt}
-use Rattle.query_text.proofs.RangeLaw.{match_not_below}
+use Rattle.query_text.proofs.RangeLaw.{match_not_below, past_upward}
 use Rattle.merge_core.specs.declared.state.MergeState.{MergeState}
 use Rattle.merge_core.specs.Openings.{AreOpened}
 use Rattle.merge_core.proofs.OpenLemmas.{cuts_of}
 use Rattle.merge_core.specs.Reached.{Reached}
-use Rattle.merge_core.proofs.TakenLemmas.{Took, none_wait, parts_are, parts_count, taken_before}
-use Rattle.merge_core.proofs.TakenLemmas.{took_of_indexes, took_of_parts}
-use Rattle.merge_core.specs.SourceLines.{IsLineIn, IsLineOf}
+use Rattle.merge_core.proofs.TakenLemmas.{Took, none_wait, parts_are, parts_count, taken_before, taken_first}
+use Rattle.merge_core.proofs.TakenLemmas.{taken_whole, took_of_indexes, took_of_parts}
 use Rattle.merge_core.specs.Spending.{AreReadTo, OpenedWithin}
-use Rattle.merge_core.proofs.SourceLemmas.{each_entry, parts, reached_long, reached_read, reached_sought}
+use Rattle.merge_core.proofs.SourceLemmas.{parts, reached_long, reached_read, reached_sought}
 use Rattle.merge_core.proofs.SourceLemmas.{taken_lines}
-use Rattle.query_core.specs.Starts.{first_stamp}
+use Rattle.query_core.specs.Starts.{first_stamp, later_pair, start_pair}
 use Rattle.cdxj_core.proofs.MemberLemmas.{entry_valued}
 use Rattle.std.specs.Char.{is_ascii_digit}
 use Rattle.std.specs.Ordering.{ordering_then}
@@ -41,6 +40,7 @@ use Rattle.merge_core.proofs.Many.{each_filter, Move, length_zip}
 use Rattle.merge_core.proofs.PairOrder.{below_below, below_upto, from_not_below, not_below_itself, same_from}
 use Rattle.query_core.specs.Reach.{pair_after, is_within}
 use Rattle.query_core.specs.Passes.{IsOfParts, Took as LinesTaken}
+use Rattle.query_core.proofs.PageIndexes.{collection_rows}
 
 -- ---- nothing that is wanted stands below the start of a page
 
@@ -75,34 +75,16 @@ start_not_above q from m s h =
     later_not_low _ from m (not_low (q.target.text, first_stamp) m
     (grind (arith, then_not_above, match_not_below, and_parts, stamp_not_below))) (grind (arith, and_parts))
 
--- ---- every line of an index has a stamp
+-- ---- lines have stamps
 
--- a line has a stamp
-line_stamp : (t : List ℕ) (m : Member) → IsLineIn t m → is_stamp m.values.stamp ≡ true
-line_stamp t m h = (entry_valued LINE_LIMIT h.0 m h.2).stamp_rule
+-- a line that has an entry has a stamp
+entry_stamp : (line : List ℕ) (m : Member) → line_entry LINE_LIMIT line ≡ Some m → is_stamp m.values.stamp ≡ true
+entry_stamp line m h = (entry_valued LINE_LIMIT line m h).stamp_rule
 
--- every line has a stamp
 stamped : (f : Member → Bool) (xs : List Member) → AllByRecursion (λ m. is_stamp m.values.stamp ≡ true) xs
     → filter (λ m. f m && is_stamp m.values.stamp) xs ≡ filter f xs
 stamped f [] h = refl
 stamped f (x ∷ xs) h = grind (arith, stamped f xs)
-
-index_stamps : (texts : List (List ℕ)) (indexes : List (List Member)) → AllZip (IsIndex LINE_LIMIT) texts indexes
-    → AllByRecursion (λ m. is_stamp m.values.stamp ≡ true) (all_lines indexes)
-index_stamps (t ∷ ts) (i ∷ is) are =
-    let entries = each_entry (lines t) (lines t) i are.0.entries (λ l h. h) in
-    let here = each_weaker (λ (m : Member). line_stamp t m) i entries in
-    grind (arith, each_join, index_stamps ts is)
-index_stamps texts indexes are = grind arith
-
--- a line of sources that tell their bytes has one
-known_stamp : (told : List (Option (List ℕ))) (texts : List (List ℕ)) (m : Member) → Known told texts
-    → IsLineOf told m → is_stamp m.values.stamp ≡ true
-known_stamp (o ∷ os) (t ∷ ts) m k h = elim (rw k.0 at h) [
-  | inl here ↦ line_stamp t m here
-  | inr later ↦ known_stamp os ts m k.1 later
-]
-known_stamp told texts m k h = grind arith
 
 -- ---- what was taken
 
@@ -114,32 +96,17 @@ module _ {S : Type 0} (device : Ghosts S) (q : QueryValue) (olds : List S) where
     pub same : length opened ≡ length begun.cursors.items
     pub found : AreOpened device (start_pair q q.resume) olds (zip opened begun.cursors.items)
 
-  -- these lines were taken
-  pub record Reading : Type 0 where
-    pub opened : List S
-    pub begun : MergeState
-    pub sources : List S
-    pub merge : MergeState
-    pub bound : Option Pair
-    pub taken : List Member
+  -- these lines were taken, up to the bound
+  pub record Reading (opened : List S) (begun : MergeState) (sources : List S) (merge : MergeState) (bound : Option Pair)
+      (taken : List Member) : Type 0 where
     pub start : Opened opened begun
     pub reached : Reached (is_past q.target) device opened begun sources merge bound taken
 
-abbrev pub reading : {S : Type 0} {device : Ghosts S} {q : QueryValue} {olds : List S}
-    {opened : List S} {begun : MergeState} {sources : List S} {merge : MergeState} {bound : Option Pair}
-    {taken : List Member} → Opened device q olds opened begun
+abbrev pub reading : {S : Type 0} {device : Ghosts S} {q : QueryValue} {olds opened sources : List S}
+    {begun merge : MergeState} {bound : Option Pair} {taken : List Member} → Opened device q olds opened begun
     → Reached (is_past q.target) device opened begun sources merge bound taken
-    → Reading device q olds
-reading start reached = record {
-  opened = _;
-  begun = _;
-  sources = _;
-  merge = _;
-  bound = _;
-  taken = _;
-  start = start;
-  reached = reached;
-}
+    → Reading device q olds opened begun sources merge bound taken
+reading start reached = record { start = start; reached = reached }
 
 module _ (q : QueryValue) where
   abbrev sought : Member → Bool
@@ -151,52 +118,47 @@ module _ (q : QueryValue) where
   beyond : (m : Member) → sought m ≡ true → is_low (start_pair q q.resume) m ≡ false
   beyond m h = grind (arith, start_not_above, and_parts)
 
-module _ {S : Type 0} {device : Ghosts S} {q : QueryValue} {olds : List S}
-    (r : Reading device q olds) where
-  pub lines_taken : AreLinesOf (map device.text olds) r.taken
+module _ {S : Type 0} {device : Ghosts S} {q : QueryValue} {olds opened sources : List S} {begun merge : MergeState}
+    {bound : Option Pair} {taken : List Member} (r : Reading device q olds opened begun sources merge bound taken) where
+  pub lines_taken : AreLinesOf (map device.text olds) taken
   lines_taken = rw (← r.start.kept) (taken_lines r.reached)
 
   module _ (texts : List (List ℕ)) (known : Known (map device.text olds) texts) where
-    pub known_opened : Known (map device.text r.opened) texts
+    pub known_opened : Known (map device.text opened) texts
     known_opened = rw r.start.kept known
 
     module _ (indexes : List (List Member)) (are : AllZip (IsIndex LINE_LIMIT) texts indexes) where
       of_all : filter (sought q) (collection indexes) ≡ filter (is_wanted q q.resume) (collection indexes)
       of_all = stamped (is_wanted q q.resume) (collection indexes)
-          (grind (arith, each_rising, place_cmp_total, index_stamps))
+          (each_weaker (λ m row. entry_stamp (line_row m) m row.1) _ (collection_rows LINE_LIMIT texts indexes are))
 
-      of_taken : filter (sought q) r.taken ≡ filter (is_wanted q q.resume) r.taken
-      of_taken = stamped (is_wanted q q.resume) r.taken (grind (arith, each_weaker, known_stamp, lines_taken))
+      of_taken : filter (sought q) taken ≡ filter (is_wanted q q.resume) taken
+      of_taken = stamped (is_wanted q q.resume) taken
+          (each_weaker (λ m. entry_stamp m.line m) taken r.reached.handed.entries)
 
-      -- what is wanted after these lines, collapsed
-      abbrev later : List Member → List Member
-      later rest = kept_after q q.resume (place_before q q.resume r.taken) rest
-
-      later_each : (A : Member → Type 0) (rest : List Member) → AllByRecursion A rest → AllByRecursion A (later rest)
-      later_each A rest = grind (arith, each_kept, place_cmp_total)
-
-      took_sought : Took (is_past q.target) (sought q) r.bound r.merge.queue (collection indexes) r.taken
+      pub took_sought : Took (is_past q.target) (sought q) bound merge.queue (collection indexes) taken
       took_sought = took_of_indexes r.reached (past_upward q.target) (sought q) (within q) _
           (cuts_of device _ olds _ r.start.found) (beyond q) texts indexes known_opened are
 
-      -- what was taken is a front of what is wanted
-      pub wanted_first : (rest : List Member) × (captures q (collection indexes) ≡ captures q r.taken ++ rest)
-          × AllByRecursion (λ m. IsAbove r.bound (member_pair m)) rest
-      wanted_first =
-          let f = taken_first took_sought in
-          (_, grind (arith, captures_split, of_all, of_taken), later_each _ f.0 (grind (arith, each_weaker)))
+      -- of all that is wanted, what follows what was taken is so too once it is collapsed
+      pub wanted_rest : (A : Member → Type 0) → (rest : List Member)
+          × (filter (sought q) (collection indexes) ≡ filter (sought q) taken ++ rest)
+          × AllByRecursion (λ m. (sought q m ≡ true) × A m) rest → (rest : List Member)
+          × (captures q (collection indexes) ≡ captures q taken ++ rest) × AllByRecursion A rest
+      wanted_rest A (rest, split, each) = (
+        _,
+        grind (arith, captures_split, of_all, of_taken),
+        each_kept member_place place_cmp (same_part q.collapse) place_cmp_total A (place_before q q.resume taken) rest
+            (each_weaker (λ m h. h.1) rest each),
+      )
 
-      -- where the lines that wait don't stand below a pair, the rest doesn't either
-      pub wanted_before : (next : Pair) → IsAbove r.bound next
-          → NoneBelow next r.merge.queue
-          → (rest : List Member) × (captures q (collection indexes) ≡ captures q r.taken ++ rest)
-          × AllByRecursion (λ m. Upto next (member_pair m)) rest
-      wanted_before next above least =
-          let f = taken_before took_sought next above least in
-          (_, grind (arith, captures_split, of_all, of_taken), later_each _ f.0 (grind (arith, each_weaker)))
+      -- what was taken is a front of what is wanted
+      pub wanted_first : (rest : List Member) × (captures q (collection indexes) ≡ captures q taken ++ rest)
+          × AllByRecursion (λ m. IsAbove bound (member_pair m)) rest
+      wanted_first = wanted_rest _ (taken_first took_sought)
 
       -- where no line waits, it is all
-      pub wanted_whole : r.merge.queue ≡ [] → captures q (collection indexes) ≡ captures q r.taken
+      pub wanted_whole : merge.queue ≡ [] → captures q (collection indexes) ≡ captures q taken
       wanted_whole none = rw (← of_all, taken_whole took_sought none, of_taken) refl
 
 -- ---- what was read of indexes, beside the reach of a page
@@ -258,21 +220,21 @@ module _ (q : QueryValue) (indexes : List (List Member)) where
     passes : Passes (is_past q.target) (start_pair q q.resume) bound (in_reach q q.resume limit (collection indexes))
     passes = grind (arith, both, covered_from_start, past_front)
 
-module _ {S : Type 0} {device : Ghosts S} {q : QueryValue} {olds : List S}
-    (r : Reading device q olds) where
+module _ {S : Type 0} {device : Ghosts S} {q : QueryValue} {olds opened sources : List S} {begun merge : MergeState}
+    {bound : Option Pair} {taken : List Member} (r : Reading device q olds opened begun sources merge bound taken) where
   -- the same over indexes
   abbrev Cuts : Option Pair → List Member → Type 0
   Cuts bound earlier = OverIndexes (map device.text olds) (λ texts indexes. Cut q indexes bound earlier)
 
   -- all was read
-  pub cut_all : r.merge.queue ≡ [] → Cuts r.bound r.taken
+  pub cut_all : merge.queue ≡ [] → Cuts bound taken
   cut_all none = λ texts indexes known are.
       let whole = wanted_whole r texts known indexes are none in
       record { back = []; whole = grind (arith, append-nil); later = grind arith }
 
   -- behind the lines before the pair that was taken last
-  pub cut_last : (pair : Pair) (earlier others : List Member) → r.bound ≡ Some pair → r.taken ≡ earlier ++ others
-      → AllByRecursion (λ m. Alike (member_pair m) pair) others → Cuts r.bound earlier
+  pub cut_last : (pair : Pair) (earlier others : List Member) → bound ≡ Some pair → taken ≡ earlier ++ others
+      → AllByRecursion (λ m. Alike (member_pair m) pair) others → Cuts bound earlier
   cut_last pair earlier others bound parts alike = λ texts indexes known are.
       let first = wanted_first r texts known indexes are in
       let group = filter (is_wanted q q.resume) others in
@@ -291,73 +253,75 @@ module _ {S : Type 0} {device : Ghosts S} {q : QueryValue} {olds : List S}
       }
 
   -- before a pair whose lines couldn't be had or handed on
-  pub cut_before : (next : Pair) → IsAbove r.bound next → NoneBelow next r.merge.queue
-      → Cuts (Some next) r.taken
+  pub cut_before : (next : Pair) → IsAbove bound next → NoneBelow next merge.queue
+      → Cuts (Some next) taken
   cut_before next above least = λ texts indexes known are.
-      let before = wanted_before r texts known indexes are next above least in
+      let sought = took_sought r texts known indexes are in
+      let before = wanted_rest r texts known indexes are _ (taken_before sought next above least) in
       record {
         back = before.0;
         whole = before.1;
         later = λ m upto. each_weaker (λ v. upto_upto (member_pair m) next (member_pair v) upto) before.0 before.2;
       }
 
-  as_long : length r.sources ≡ length r.opened
+  as_long : length sources ≡ length opened
   as_long = reached_long r.reached
 
   -- what sources gave that were read up to the bound
   pub gave_upto : (bound : Option Pair) (earlier : List Member) (news : List S) (cs : List CursorState)
-      → Cuts bound earlier → AllZip (Move device) (zip r.opened r.begun.cursors.items) (zip news cs)
-      → length news ≡ length r.opened
+      → Cuts bound earlier → AllZip (Move device) (zip opened begun.cursors.items) (zip news cs)
+      → length news ≡ length opened
       → OverTexts (map device.text olds) (λ texts. AreReadTo (is_past q.target) device.text bound news cs)
       → GaveFor q (map device.text olds) device earlier olds news
   gave_upto bound earlier news cs cuts moved long reads = λ texts indexes known are limit most.
-      let all = AllZip-long (Move device) (zip r.opened r.begun.cursors.items) (zip news cs) moved in
+      let all = AllZip-long (Move device) (zip opened begun.cursors.items) (zip news cs) moved in
       let pass = passes q indexes bound earlier (cuts texts indexes known are) limit most in
-      rw (firsts news cs (omega (arith, all, long, length_zip r.opened r.begun.cursors.items r.start.same))) at
+      rw (firsts news cs (omega (arith, all, long, length_zip opened begun.cursors.items r.start.same))) at
       (gave_most pass device olds _ (zip news cs) _ _ known are r.start.found moved (reads texts known))
 
   -- what they gave of which these lines were taken
-  pub gave_within : (earlier : List Member) → Cuts r.bound earlier
-      → GaveFor q (map device.text olds) device earlier olds r.sources
-  gave_within earlier cuts = gave_upto r.bound earlier r.sources r.merge.cursors.items cuts r.reached.moved as_long
+  pub gave_within : (earlier : List Member) → Cuts bound earlier
+      → GaveFor q (map device.text olds) device earlier olds sources
+  gave_within earlier cuts = gave_upto bound earlier sources merge.cursors.items cuts r.reached.moved as_long
       (λ texts known. reached_read_to r.reached texts (known_opened r texts known))
 
-  module _ (lines : ℕ) (counted : lines ≡ min (sum (map (λ (c : CursorState). c.count) r.merge.cursors.items)) (2 ^ 64 - 1)) where
+  module _ (lines : ℕ) (counted : lines ≡ min (sum (map (λ (c : CursorState). c.count) merge.cursors.items)) (2 ^ 64 - 1)) where
     -- no more lines were read than are in reach, and one of each index
-    pub lines_within : (earlier : List Member) → Cuts r.bound earlier → ReadFor q (map device.text olds) earlier lines
+    pub lines_within : (earlier : List Member) → Cuts bound earlier → ReadFor q (map device.text olds) earlier lines
     lines_within earlier cuts = λ texts indexes known are limit most.
         let there = known_opened r texts known in
-        let pass = passes q indexes r.bound earlier (cuts texts indexes known are) limit most in
-        let h = rw cursors_of at (lines_most pass texts (inputs r.merge) indexes
+        let pass = passes q indexes bound earlier (cuts texts indexes known are) limit most in
+        let h = rw cursors_of at (lines_most pass texts (inputs merge) indexes
         (reached_read r.reached texts there) are
         (reached_sought r.reached _ (cuts_of device _ olds _ r.start.found) texts indexes there are)
         (r.reached.handed.told texts there).1) in
         grind (arith, AllZip-long)
 
     -- of each source consecutive lines were read
-    pub of_parts : (all : Bool) → (all ≡ true → r.merge.queue ≡ [])
-        → OverTexts (map device.text olds) (λ texts. IsOfParts q texts r.taken all lines)
+    pub of_parts : (all : Bool) → (all ≡ true → merge.queue ≡ [])
+        → OverTexts (map device.text olds) (λ texts. IsOfParts q texts taken all lines)
     of_parts all ended = λ texts known.
         let there = known_opened r texts known in
         let read = reached_read r.reached texts there in
         let all_took = took_of_parts r.reached (past_upward q.target) (is_wanted q q.resume) (λ m h. grind arith)
         texts there in
         let found = taken_first all_took in
-        let count = rw cursors_of at (parts_count _ texts (inputs r.merge) read) in
+        let count = rw cursors_of at (parts_count _ texts (inputs merge) read) in
         record {
-          parts = parts texts (inputs r.merge);
+          parts = parts texts (inputs merge);
           each = λ whole is. parts_are _ texts _ whole read (λ e. rw (ended (is e))
-              (none_wait 0 r.merge.cursors.items));
+              (none_wait 0 merge.cursors.items));
           count = cc;
-          first = (_, captures_split q q.resume _ r.taken found.0 found.1);
+          first = (_, captures_split q q.resume _ taken found.0 found.1);
           ended = λ e. ap (kept_after q q.resume q.resume) (taken_whole all_took (ended e));
         }
 
   -- they are lines of the sources, which over indexes come first
-  pub took : LinesTaken q (map device.text olds) r.taken
-  took = record {
+  pub took : (all : Bool) → (all ≡ true → merge.queue ≡ []) → LinesTaken q (map device.text olds) taken all
+  took all ended = record {
     lines = lines_taken r;
     first = λ texts indexes known are. let f = wanted_first r texts known indexes are in (f.0, f.1);
+    whole = λ e texts indexes known are. wanted_whole r texts known indexes are (ended e);
   }
 
 pub within_opening : {S : Type 0} (device : Ghosts S) (test : Member → Bool)

@@ -1,15 +1,14 @@
 -- The replies to the lines of an input, so far and at its end.
 use Rattle.query_core.proofs.Words.{[], ⊤, ◌++◌, ◌+◌, ◌-◌, ◌<◌, ◌^◌, ◌∙◌, ◌∷◌, ◌≡◌, ◌≤◌, ◌⊎◌, AllGaveWithin, AllZip}
 use Rattle.query_core.proofs.Words.{AnswerFault, Appends, Appends-join, Appends-none, AppendsPrefix, AreLinesOf, Bool}
-use Rattle.query_core.proofs.Words.{CountsTaken, Err, Ghosts, IsAnswerFaultOf, IsIndex, IsMarkedReply, IsOneReply}
-use Rattle.query_core.proofs.Words.{Known, LINE_LIMIT, List, Member, None, Ok, Option, QueryFault, QueryValue, Some}
-use Rattle.query_core.proofs.Words.{TakesLine, ℕ, answer_text, ap, append-nil, append_assoc, arith, asked_most}
-use Rattle.query_core.proofs.Words.{cases_lt, codes, collection, cut_lines, err_from_is_err_and, false}
-use Rattle.query_core.proofs.Words.{false_from_ne_true, flat_map, flat_map-append, grows_not, grows_part, in_reach, inl}
-use Rattle.query_core.proofs.Words.{is_utf8, is_utf8-from_IsUtf8, le-ltb, length, length-append, length-take, line_most}
-use Rattle.query_core.proofs.Words.{lt-ltb, map, map-append, nat_lt, prefix_after, prefix_longer, prepend_known}
-use Rattle.query_core.proofs.Words.{query_of, query_page, refl, reply_of, subst, sum, sym, take, take_all, true}
-use Rattle.query_core.proofs.Words.{without_carriage_return}
+use Rattle.query_core.proofs.Words.{CountsTaken, Err, Ghosts, IsAnswerFaultOf, IsIndex, Known, LINE_LIMIT, List}
+use Rattle.query_core.proofs.Words.{Member, None, Ok, Option, QueryFault, QueryValue, Some, TakesLine, answer_text}
+use Rattle.query_core.proofs.Words.{ap, append-nil, append_assoc, arith, cases_lt, codes, collection, cut_lines}
+use Rattle.query_core.proofs.Words.{err_from_is_err_and, false, false_from_ne_true, flat_map, flat_map-append}
+use Rattle.query_core.proofs.Words.{grows_not, grows_part, in_reach, inl, is_utf8, is_utf8-from_IsUtf8, le-ltb}
+use Rattle.query_core.proofs.Words.{length, length-append, length-take, lt-ltb, map, map-append, nat_lt, prefix_after}
+use Rattle.query_core.proofs.Words.{prefix_longer, prepend_known, query_of, query_page, refl, reply_of, subst, sum}
+use Rattle.query_core.proofs.Words.{sym, take, take_all, true, without_carriage_return, wrote_nothing, ℕ}
 use Rattle.std.proofs.Common.{Result}
 use Rattle.std.specs.Prelude.{IsErrAnd, Result}
 use Rattle.std.proofs.lemmas.List.Elements.{AllZip-push}
@@ -18,15 +17,17 @@ use Rattle.devices.specs.declared.input_lines.InputLineFault.{InputLineFault}
 use Rattle.query_core.specs.Conversions.{fault_of_line}
 use Rattle.query_core.specs.Replies.{marked_reply}
 use Rattle.query_core.specs.ReplyReach.{AreFirstLines, AllGaveAtMost, Amount, GaveForLines, lines_most, query_most}
+use Rattle.query_core.specs.ReplyReach.{asked_most, line_most}
 use Rattle.query_core.specs.Conversations.{AreLeft, Replied, RepliedInPart, RepliedToAll, RepliedToFirst}
-use Rattle.query_core.specs.Conversations.{RepliedToTaken, HoldsOfReplies, IsLineReply, WritesSome}
-use Rattle.query_core.proofs.WriterLemmas.{whole_prefix}
+use Rattle.query_core.specs.Conversations.{RepliedToTaken, HoldsOfReplies, IsLineReply, WritesSome, IsMarkedReply}
+use Rattle.query_core.specs.Conversations.{IsOneReply}
+use Rattle.query_core.proofs.PagesLemmas.{whole_prefix}
 use Rattle.std.proofs.lemmas.Str.{IsUtf8-from_is_utf8}
 use Rattle.devices.specs.Writing.{WritesText}
 use Rattle.query_core.specs.AnyReplies.{IsPageReply, IsQueryReply, fault_text}
+use Rattle.std.proofs.lemmas.List.Sums.{sum_by_push}
 use Rattle.devices.specs.declared.input_lines.InputLineFault.TheVariants as input
 use Rattle.query_core.specs.declared.fault.AnswerFault.TheVariants as fault
-use Rattle.std.proofs.lemmas.List.Sums.{sum_by_push}
 
 -- ---- a line
 
@@ -167,61 +168,54 @@ module _ (limit : ℕ) (IsReply : List ℕ → List ℕ → Type 0) where
       → AppendsPrefix old new (joined texts) → RepliedToFirst limit IsReply input old new
   first_replied input done texts old new first each p = grind arith
 
-  pub replied_front : (input now : Option (List ℕ)) (count : ℕ) (old new : Option (List ℕ))
-      → RepliedSoFar input now count old new → RepliedToFirst limit IsReply input old new
-  replied_front input now count old new s = grind (arith, first_replied, taken_first, whole_prefix)
-
-  marked_alike : (line shown text : List ℕ) → AreAlike limit line shown → IsMarkedReply limit IsReply line text
-      → IsMarkedReply limit IsReply shown text
-  marked_alike line shown text same marked = grind (arith, lt-ltb, nat_lt)
+-- what follows of it
+module _ {limit : ℕ} {IsReply : List ℕ → List ℕ → Type 0} {input now : Option (List ℕ)} {count : ℕ}
+    {old new : Option (List ℕ)} (s : RepliedSoFar limit IsReply input now count old new) where
+  pub replied_front : RepliedToFirst limit IsReply input old new
+  replied_front = grind (arith, first_replied, taken_first, whole_prefix)
 
   -- no line is left
-  pub line_none : (input now after : Option (List ℕ)) (count before taken : ℕ) (old new : Option (List ℕ))
-      (line : List ℕ) (found : Bool) → RepliedSoFar input now count old new
+  pub line_none : (after : Option (List ℕ)) (before taken : ℕ) (line : List ℕ) (found : Bool)
       → TakesLine (limit + 2) found now after line → found ≡ false → CountsTaken input now 0 before
       → CountsTaken now after before taken → taken < 2 ^ 63 - 1 → RepliedToAll limit IsReply input count old new
-  line_none input now after count before taken old new line found s t none n k small =
-      grind (arith, append-nil)
+  line_none after before taken line found t none n k small = grind (arith, append-nil)
 
   -- the input failed in a line, or is too long
-  pub replied_taken : (input now left : Option (List ℕ)) (count taken : ℕ) (old new : Option (List ℕ))
-      → RepliedSoFar input now count old new → CountsTaken input now 0 taken
+  pub replied_taken : (left : Option (List ℕ)) (taken : ℕ) → CountsTaken input now 0 taken
       → StopsInLine now left ⊎ IsTooLong now taken → RepliedToTaken limit IsReply input left old new
-  replied_taken input now left count taken old new s k stopped = grind (arith, left_behind)
+  replied_taken left taken k stopped = grind (arith, left_behind)
 
-  pub nothing_replied : (input old : Option (List ℕ)) → RepliedToFirst limit IsReply input old old
-  nothing_replied input old =
-      replied_front input (prepend_known [] input) 0 old old (replied_none input [] old refl)
+  -- a line more was read, and then more was written
+  module _ (after last : Option (List ℕ)) (line : List ℕ) (takes : TakesLine (limit + 2) true now after line) where
+    abbrev pub next : (shown : List ℕ) × AreTaken input after (s.done ++ shown ∷ [])
+        × AreAlike limit (without_carriage_return line) shown
+    next = taken_more limit input now after s.done line s.taken takes
 
--- a line more was read, and then more was written
-module _ {limit : ℕ} {IsReply : List ℕ → List ℕ → Type 0} {input now : Option (List ℕ)} {count : ℕ}
-    {old new : Option (List ℕ)} (s : RepliedSoFar limit IsReply input now count old new)
-    (after last : Option (List ℕ)) (line : List ℕ) (takes : TakesLine (limit + 2) true now after line) where
-  abbrev pub next : (shown : List ℕ) × AreTaken input after (s.done ++ shown ∷ [])
-      × AreAlike limit (without_carriage_return line) shown
-  next = taken_more limit input now after s.done line s.taken takes
+    pub each_more : (text : List ℕ) → IsMarkedReply limit IsReply (without_carriage_return line) text
+        → AllZip (IsMarkedReply limit IsReply) (s.done ++ next.0 ∷ []) (s.texts ++ text ∷ [])
+    each_more text m = grind (arith, AllZip-push, lt-ltb, nat_lt)
 
-  pub each_more : (text : List ℕ) → IsMarkedReply limit IsReply (without_carriage_return line) text
-      → AllZip (IsMarkedReply limit IsReply) (s.done ++ next.0 ∷ []) (s.texts ++ text ∷ [])
-  each_more text m = grind (arith, AllZip-push, marked_alike)
+    abbrev pub line_more : (text : List ℕ) × IsMarkedReply limit IsReply (without_carriage_return line) text
+        × Appends new last text → RepliedSoFar limit IsReply input after (count + 1) old last
+    line_more h = record {
+      done = s.done ++ next.0 ∷ [];
+      texts = s.texts ++ h.0 ∷ [];
+      taken = next.1;
+      counted = grind (arith, length-append);
+      each = each_more h.0 h.1;
+      written = rw (joined_more s.texts h.0) (Appends-join old new last (joined s.texts) h.0 s.written h.2);
+    }
 
-  abbrev pub line_more : (text : List ℕ) × IsMarkedReply limit IsReply (without_carriage_return line) text
-      × Appends new last text → RepliedSoFar limit IsReply input after (count + 1) old last
-  line_more h = record {
-    done = s.done ++ next.0 ∷ [];
-    texts = s.texts ++ h.0 ∷ [];
-    taken = next.1;
-    counted = grind (arith, length-append);
-    each = each_more h.0 h.1;
-    written = rw (joined_more s.texts h.0) (Appends-join old new last (joined s.texts) h.0 s.written h.2);
-  }
+    pub line_within : (text : List ℕ) × IsMarkedReply limit IsReply (without_carriage_return line) text
+        × AppendsPrefix new last text → RepliedToFirst limit IsReply input old last
+    line_within h =
+        first_replied limit IsReply input (s.done ++ next.0 ∷ []) (s.texts ++ h.0 ∷ []) old last
+        (taken_first input after (s.done ++ next.0 ∷ []) next.1) (each_more h.0 h.1)
+        (rw (joined_more s.texts h.0) (prefix_after old new last (joined s.texts) h.0 s.written h.2))
 
-  pub line_within : (text : List ℕ) × IsMarkedReply limit IsReply (without_carriage_return line) text
-      × AppendsPrefix new last text → RepliedToFirst limit IsReply input old last
-  line_within h =
-      first_replied limit IsReply input (s.done ++ next.0 ∷ []) (s.texts ++ h.0 ∷ []) old last
-      (taken_first input after (s.done ++ next.0 ∷ []) next.1) (each_more h.0 h.1)
-      (rw (joined_more s.texts h.0) (prefix_after old new last (joined s.texts) h.0 s.written h.2))
+pub nothing_replied : (limit : ℕ) (IsReply : List ℕ → List ℕ → Type 0) (input old : Option (List ℕ))
+    → RepliedToFirst limit IsReply input old old
+nothing_replied limit IsReply input old = replied_front (replied_none limit IsReply input [] old refl)
 
 -- ---- where each text has one reply
 
@@ -302,10 +296,9 @@ more_sum : (f : List ℕ → ℕ) (done : List (List ℕ)) (line shown : List �
     → sum (map f done) + f line ≤ sum (map f (done ++ shown ∷ []))
 more_sum f done line shown same = grind (arith, map-append, sum_by_push)
 
-module _ (limit : ℕ) (line shown : List ℕ) (same : AreAlike limit line shown) where
-  most_alike : (all : List Member) (e : ℕ) (t : List ℕ) (i : List Member)
-      → line_most limit all line e t i ≡ line_most limit all shown e t i
-  most_alike all e t i = grind (arith, lt-ltb, nat_lt)
+most_alike : (limit : ℕ) (line shown : List ℕ) → AreAlike limit line shown → (all : List Member) (e : ℕ) (t : List ℕ)
+    (i : List Member) → line_most limit all line e t i ≡ line_most limit all shown e t i
+most_alike limit line shown same all e t i = grind (arith, lt-ltb, nat_lt)
 
 -- ---- the lines so far
 
@@ -334,7 +327,7 @@ module _ {S : Type 0} {device : Ghosts S} {limit : ℕ} {input now : Option (Lis
 
   pub spent_part : RepliedInPart limit (reply_of limit all) input old new
   spent_part = one_reply_part limit (reply_of limit all) input old new
-      (replied_front limit (IsOneReply (reply_of limit all)) input now count old new s.so_far)
+      (replied_front s.so_far)
 
   -- no line was read
   pub spent_stop : GaveForLines device limit input texts indexes old new olds mids
@@ -376,3 +369,12 @@ pub nothing_spent : {S : Type 0} (device : Ghosts S) (limit : ℕ) (texts : List
     → GaveForLines device limit input texts indexes old old sources sources
 nothing_spent device limit texts indexes input old sources known are =
     spent_stop (spent_none device limit texts indexes input [] old sources known are refl)
+
+-- ---- what the calls cite
+
+pub ruleset query_rules = (fault_reply, gave_page)
+
+pub ruleset line_rules = (line_tests, writes_some, gave_line, gave_none, wrote_nothing)
+
+pub ruleset serve_rules =
+    (one_reply_part, nothing_replied, spent_part, spent_stop, nothing_spent, err_from_is_err_and)

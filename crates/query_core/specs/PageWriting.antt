@@ -1,17 +1,14 @@
 -- A page that is being written, by the lines that were taken for it.
-use Rattle.std.specs.Prelude.{◌≡◌, ◌⊎◌, ℕ, ◌-◌, ◌^◌, ◌<◌, ◌≤◌, ⊤, ◌&&◌, List, [], ◌∷◌, ◌++◌, length, min, Bool, false}
+use Rattle.std.specs.Prelude.{ℕ, ◌^◌, ◌<◌, ◌≤◌, ⊤, ◌&&◌, List, [], ◌∷◌, length, Bool, false}
 use Rattle.std.specs.Prelude.{◌==◌, Option, None, Some, if◌then◌else◌}
 use Rattle.std.specs.List.{filter}
 use Rattle.std.specs.Option.{is_some}
-use Rattle.std.specs.Io.KnownBytes.{Appends}
 use Rattle.cdxj_places.specs.Places.{PlaceValue, place_cmp}
 use Rattle.query_text.specs.Queries.{QueryValue}
 use Rattle.query_text.specs.Matching.{matches}
 use Rattle.query_text.specs.Collapses.{same_part}
 use Rattle.cdxj_core.specs.Members.{Member, member_place}
-use Rattle.page_core.specs.Pages.{Page, is_above, end_place, kept, at_most}
-use Rattle.page_core.specs.PageText.{begun}
-use Rattle.page_core.specs.Form.{FormValue}
+use Rattle.page_core.specs.Pages.{is_above, end_place, kept}
 
 -- the line matches the query and stands above the place
 abbrev pub is_wanted : QueryValue → Option PlaceValue → Member → Bool
@@ -25,10 +22,6 @@ captures_over q from lines = kept member_place (same_part q.collapse) from (filt
 abbrev pub place_before : QueryValue → Option PlaceValue → List Member → Option PlaceValue
 place_before q from lines = end_place member_place from (filter (is_wanted q from) lines)
 
--- the page of these lines after the place
-abbrev pub page_over : QueryValue → Option PlaceValue → Option ℕ → List Member → Page Member PlaceValue
-page_over q from limit lines = at_most member_place limit (captures_over q from lines)
-
 -- the place of the last of them
 abbrev pub last_of : List Member → Option PlaceValue
 last_of = end_place member_place None
@@ -38,33 +31,10 @@ abbrev pub AreAtMost : Option ℕ → List Member → Type 0
 AreAtMost None members = ⊤
 AreAtMost (Some n) members = length members ≤ n
 
--- After this text these rows of a page stand written, so many; where it is full, the place of the last of them.
-pub record RowsStand (front : List ℕ) (form : FormValue) (limit : Option ℕ) (rows : List Member)
-    (start now : Option (List ℕ)) (given : ℕ) (last : Option PlaceValue) : Type 0 where
-  pub text : Appends start now (front ++ begun form rows)
-  pub given_is : given ≡ min (length rows) (2 ^ 64 - 1)
-  pub room : AreAtMost limit rows
-  pub last_is : limit ≡ Some (length rows) → last ≡ last_of rows
-
 -- one of these follows the page that ends with this place, if there is one
 abbrev pub more_after : Option PlaceValue → List Member → Bool
 more_after last [] = false
 more_after last (m ∷ ms) = is_some last
-
--- these rows of the page of these captures stand written, and these captures follow the page
-pub record AreRows (form : FormValue) (limit : Option ℕ) (captures : List Member) (start now : Option (List ℕ))
-    (given : ℕ) (more : Bool) (last : Option PlaceValue) (rows rest : List Member) : Type 0 where
-  pub split : captures ≡ rows ++ rest
-  pub page : RowsStand [] form limit rows start now given last
-  pub full : (rest ≡ []) ⊎ (limit ≡ Some (length rows))
-  pub more_is : more ≡ more_after last rest
-
--- some rows of the page of these captures stand written
-pub record PageStands (form : FormValue) (limit : Option ℕ) (captures : List Member) (start now : Option (List ℕ))
-    (given : ℕ) (more : Bool) (last : Option PlaceValue) : Type 0 where
-  pub rows : List Member
-  pub rest : List Member
-  pub are : AreRows form limit captures start now given more last rows rest
 
 -- the page has as many as its limit
 abbrev pub is_full : Option ℕ → ℕ → Bool

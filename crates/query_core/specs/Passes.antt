@@ -34,10 +34,12 @@ module _ (q : QueryValue) where
     pub ended : all ≡ true → captures_over q q.resume (collection parts) ≡ captures_over q q.resume taken
 
 module _ (q : QueryValue) (told : List (Option (List ℕ))) where
-  -- lines of the sources, which over indexes come first
-  pub record Took (taken : List Member) : Type 0 where
+  -- lines of the sources, which over indexes come first, and are all of the range if this says so
+  pub record Took (taken : List Member) (all : Bool) : Type 0 where
     pub lines : AreLinesOf told taken
     pub first : OverIndexes told (λ texts indexes. AreFirst q (collection indexes) taken)
+    pub whole : all ≡ true → OverIndexes told (λ texts indexes.
+        captures_over q q.resume (collection indexes) ≡ captures_over q q.resume taken)
 
   -- what sources gave for so many captures
   abbrev pub GaveFor : {S : Type 0} → Ghosts S → List Member → List S → List S → Type 0
@@ -67,9 +69,7 @@ module _ {K S : Type 0} (consumer : SinkGhosts K) (device : Ghosts S) (q : Query
   pub record TookLines (last : K) (new : Option (List ℕ)) (pass : Pass) : Type 0 where
     pub lines : List Member
     pub came : CameTo consumer sink old last new lines
-    pub took : Took q (map device.text olds) lines
-    pub whole : pass.all ≡ true → OverIndexes (map device.text olds) (λ texts indexes.
-        captures_over q q.resume (collection indexes) ≡ captures_over q q.resume lines)
+    pub took : Took q (map device.text olds) lines pass.all
     pub parts : OverTexts (map device.text olds) (λ texts. IsOfParts q texts lines pass.all pass.lines)
     pub earlier : List Member
     pub later : List Member
@@ -85,7 +85,7 @@ module _ {K S : Type 0} (consumer : SinkGhosts K) (device : Ghosts S) (q : Query
     pub lines : List Member
     pub wrote : (begin : K) → (start : Option (List ℕ)) → consumer.Wrote begin sink [] start old
         → ((k : K) × consumer.Wrote begin k lines start new) ⊎ consumer.Broke begin lines start new
-    pub took : Took q (map device.text olds) lines
+    pub took : Took q (map device.text olds) lines false
 
   -- these lines were taken before a fault, after which the output may have grown
   pub record Halted (new : Option (List ℕ)) : Type 0 where

@@ -1,23 +1,22 @@
 -- What contracts see of pages that are being written.
-use Rattle.std.specs.Prelude.{◌≡◌, ℕ, ◌+◌, ◌-◌, ◌^◌, min, List, [], ◌∷◌, ◌++◌, Bool, false, cond, Option}
+use Rattle.std.specs.Prelude.{◌≡◌, ℕ, ◌+◌, ◌-◌, ◌^◌, min, List, [], ◌∷◌, ◌++◌, length, Bool, false, cond, Option, Some}
 use Rattle.std.specs.Prelude.{option_map}
+use Rattle.std.specs.List.{AllByRecursion}
+use Rattle.std.specs.Io.KnownBytes.{Appends}
 use Rattle.devices.specs.Device.{AppendsPrefix}
 use Rattle.cdxj_places.specs.declared.place.Place.{Place}
 use Rattle.cdxj_places.specs.Places.{PlaceValue}
 use Rattle.cdxj_places.specs.PlaceViews.{place_view}
 use Rattle.cdxj_core.specs.Members.{Member}
-use Rattle.page_core.specs.Pages.{Page, AllPositive}
-use Rattle.page_core.specs.PageText.{begun}
 use Rattle.query_core.specs.declared.selection.Selection.{Selection}
 use Rattle.query_core.specs.declared.page_writer.PageEnd.{PageEnd}
 use Rattle.query_core.specs.declared.page_writer.PageWriter.{PageWriter}
 use Rattle.query_text.specs.Queries.{QueryValue}
 use Rattle.query_core.specs.Collapsings.{collapsing_at}
-use Rattle.query_core.specs.WrittenPages.{pages_text}
-use Rattle.query_core.specs.QueryPages.{form_of}
-use Rattle.query_core.specs.PageWriting.{FitsWord, PageStands, captures_over, is_full, last_after, next_of, place_before}
-use Rattle.query_core.specs.PageWriting.{page_over}
-use Rattle.query_core.specs.PagesWriting.{AreCut, HasNext, PagesStand}
+use Rattle.query_core.specs.PageWriting.{FitsWord, captures_over, last_after, last_of, more_after, next_of}
+use Rattle.query_core.specs.PageWriting.{place_before}
+use Rattle.query_core.specs.PagesWriting.{HasReadKey, HoldsRows, IsSized, PagesSoFar, is_ended, no_pages, pages_after}
+use Rattle.query_core.specs.PagesWriting.{text_so_far, with_room}
 
 abbrev pub from_view : Option Place → Option PlaceValue
 from_view = option_map place_view
@@ -73,52 +72,60 @@ pub record IsEndOf (w : PageWriter) (end : PageEnd) : Type 0 where
   pub next : end.next ≡ next_of w.more w.last
   pub count : end.count ≡ min (w.count + 1) (2 ^ 64 - 1)
 
--- what stands written of these captures, in pages of these sizes
-abbrev pub AreInPages : List ℕ → PageWriter → List Member → Option (List ℕ) → Option (List ℕ) → Type 0
-AreInPages sizes w captures start now =
-    PagesStand w.selection.query.now sizes captures start now w.limit w.sizes.now w.given w.last w.count
+-- what it keeps of the page, and of those before it
+pub record PageState : Type 0 where
+  pub limit : Option ℕ
+  pub sizes : List ℕ
+  pub given : ℕ
+  pub more : Bool
+  pub last : Option PlaceValue
+  pub count : ℕ
 
--- the same where the page has room for one more
-pub record HaveRoom (sizes : List ℕ) (w : PageWriter) (captures : List Member) (start now : Option (List ℕ)) : Type 0
-  where
-    pub pages : AreInPages sizes w captures start now
-    pub room : is_full w.limit w.given ≡ false
-    pub fits : FitsWord w.limit
+abbrev pub state_of : PageWriter → PageState
+state_of w = record {
+  limit = w.limit;
+  sizes = w.sizes.now;
+  given = w.given;
+  more = w.more;
+  last = w.last;
+  count = w.count;
+}
 
--- the same between two lines
-abbrev pub pages_stand : List ℕ → PageWriter → List Member → Option (List ℕ) → Option (List ℕ) → Type 0
-pages_stand sizes w captures start now = (s : AreInPages sizes w captures start now) × HasNext s.whole s.rows
+-- these pages stand written, and so much is kept of them
+pub record Stands (q : QueryValue) (s : PagesSoFar) (p : PageState) (start now : Option (List ℕ)) : Type 0 where
+  pub text : Appends start now (text_so_far q s)
+  pub limit : p.limit ≡ s.limit
+  pub sizes : p.sizes ≡ s.left
+  pub given : p.given ≡ min (length s.rows) (2 ^ 64 - 1)
+  pub last : s.limit ≡ Some (length s.rows) → p.last ≡ last_of s.rows
+  pub more : p.more ≡ more_after p.last s.rest
+  pub keyed : AllByRecursion HasReadKey s.whole
+  pub count : p.count ≡ min (length s.whole) (2 ^ 64 - 1)
 
--- a front of pages of these captures was written, whatever captures follow
-abbrev pub IsFront : QueryValue → List ℕ → List Member → Option (List ℕ) → Option (List ℕ) → Type 0
-IsFront q sizes captures start now = (later : List Member)
-    → (pages : List (Page Member PlaceValue)) × AreCut sizes pages (captures ++ later)
-    × AppendsPrefix start now (pages_text q pages)
+-- the same where the page has room for a capture, or may be followed by another
+pub record TakesMore (q : QueryValue) (s : PagesSoFar) (w : PageWriter) (start now : Option (List ℕ)) : Type 0 where
+  pub query : w.selection.query.now ≡ q
+  pub stands : Stands q s (state_of w) start now
+  pub holds : HoldsRows s
+  pub goes : is_ended s ≡ false
+
+-- the same where the page has room
+pub record HasRoom (q : QueryValue) (s : PagesSoFar) (w : PageWriter) (start now : Option (List ℕ)) : Type 0 where
+  pub stands : Stands q (with_room s) (state_of w) start now
+  pub fits : FitsWord w.limit
 
 -- ---- what it wrote of these lines, where it was the first before them
 
--- as one page
-pub record WroteOne (first w : PageWriter) (taken : List Member) (start now : Option (List ℕ)) : Type 0 where
-  pub limit : w.limit ≡ first.limit
-  pub sizes : w.sizes.now ≡ []
-  pub stands : PageStands (form_of w.selection.query.now) w.limit (captures_of w.selection taken) start now w.given
-      w.more w.last
-
--- in pages of all sizes
-pub record WroteAll (first w : PageWriter) (taken : List Member) (start now : Option (List ℕ)) : Type 0 where
-  pub more : w.more ≡ false
-  pub stands : pages_stand first.sizes.now w (captures_of w.selection taken) start now
+abbrev pub pages_so_far : PageWriter → List Member → PagesSoFar
+pages_so_far first taken = pages_after (no_pages first.limit first.sizes.now) (captures_of first.selection taken)
 
 pub record Wrote (first w : PageWriter) (taken : List Member) (start now : Option (List ℕ)) : Type 0 where
   pub same : IsSame first.selection w.selection
   pub selects : w.more ≡ false → Selects w.selection taken
-  pub one : first.sizes.now ≡ [] → WroteOne first w taken start now
-  pub all : AllPositive first.sizes.now → WroteAll first w taken start now
+  pub stands : IsSized first.limit first.sizes.now
+      → Stands first.selection.query.now (pages_so_far first taken) (state_of w) start now
 
 -- a front of what these lines make of the page, or of the pages
-pub record Broke (first : PageWriter) (taken : List Member) (start now : Option (List ℕ)) : Type 0 where
-  pub one : first.sizes.now ≡ [] → AppendsPrefix start now
-      (begun (form_of first.selection.query.now)
-      (page_over first.selection.query.now (from_view first.selection.from) first.limit taken).members)
-  pub all : AllPositive first.sizes.now
-      → IsFront first.selection.query.now first.sizes.now (captures_of first.selection taken) start now
+abbrev pub Broke : PageWriter → List Member → Option (List ℕ) → Option (List ℕ) → Type 0
+Broke first taken start now = IsSized first.limit first.sizes.now
+    → AppendsPrefix start now (text_so_far first.selection.query.now (pages_so_far first taken))

@@ -2,7 +2,8 @@
 ghost use Rattle.std.specs.Prelude.{◌≡◌, length, map, IfOk, IfErr};
 ghost use Rattle.merge_core.specs.Collections.{KeepsSources, OverTexts};
 ghost use Rattle.query_core.specs.AnswerCounts.{CountsAnswer};
-ghost use Rattle.query_core.specs.Answering.{AnsweredParts, HoldsOfLines, ReadsInReach, WritesAnswer};
+ghost use Rattle.query_core.specs.Answering.{AnsweredParts, HoldsOfLines, ReadsInReach};
+ghost use Rattle.query_core.specs.Answering.{WritesAnswer};
 ghost use Rattle.query_core.specs.IndexFaults.{IsAnswerFaultOf};
 ghost use Rattle.query_core.specs.Refusals.{Refuses, too_many};
 
@@ -30,7 +31,7 @@ use std::alloc::Global;
 /// A binary search finds where the page begins in each index. From there on, lines of the target's range are read, up
 /// to the key and stamp of the first capture after the page, and at most one more line of each index. Each capture is
 /// written before a line is read that stands behind the next key and stamp of its index.
-#[tactic(auto, using(crate::proofs::PagesReach::page_not_reached, devices::proofs::DeviceLemmas::grows_not, devices::proofs::DeviceLemmas::grows_part, std::proofs::lemmas::Result::err_from_is_err_and, devices::proofs::WritingLemmas::wrote_nothing))]
+#[tactic(auto, using(crate::proofs::PagesReach::answer_rules))]
 pub fn answer<S: Source, O: Output>(
     alloc: Global,
     sources: &mut [S],

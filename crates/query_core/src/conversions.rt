@@ -1,6 +1,7 @@
 //! The faults of parts, as faults of the calls on indexes.
 ghost use Rattle.std.specs.Prelude.{◌≡◌};
-ghost use Rattle.query_core.specs.Conversions.{fault_of_index, fault_of_line, fault_of_merge, fault_of_text};
+ghost use Rattle.query_core.specs.Conversions.{fault_of_index, fault_of_line, fault_of_merge};
+ghost use Rattle.query_core.specs.Conversions.{fault_of_text};
 
 use crate::fault::AnswerFault;
 use devices::{InputLineFault, WriteFault};

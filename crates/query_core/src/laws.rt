@@ -6,8 +6,12 @@ ghost use Rattle.query_core.specs.Limits.{LINE_LIMIT, QUERY_LIMIT};
 ghost use Rattle.query_core.specs.MergeLaws.{MergedIsIndex, MergesCommute, MergesGroup};
 ghost use Rattle.query_core.specs.NothingAsked.{AppendedSelectsNothing, EmptyIsRefused};
 ghost use Rattle.query_core.specs.OneText.{AnswerIsOne, MergeIsOne, PagesAreOne};
-ghost use Rattle.query_core.specs.PageLines.{EmptyLineIsBeforeKey, JsonLinesBeginWithBrackets, NoPageHasFaults, OneFieldHasMarks, OneFieldHasNoSpace, TwoFieldsBeginAsRefusals};
-ghost use Rattle.query_core.specs.QueryLaws.{AddedOnlyAdd, AllAreKept, CdxjPageIsIndex, KeysContinue, NamesNameFields, NoLineIsAtFault, PagesRise, SelectedAreFirst, SelectedRise};
+ghost use Rattle.query_core.specs.PageLines.{EmptyLineIsBeforeKey, JsonLinesBeginWithBrackets};
+ghost use Rattle.query_core.specs.PageLines.{NoPageHasFaults, OneFieldHasMarks, OneFieldHasNoSpace};
+ghost use Rattle.query_core.specs.PageLines.{TwoFieldsBeginAsRefusals};
+ghost use Rattle.query_core.specs.QueryLaws.{AddedOnlyAdd, AllAreKept, CdxjPageIsIndex};
+ghost use Rattle.query_core.specs.QueryLaws.{KeysContinue, NamesNameFields, NoLineIsAtFault};
+ghost use Rattle.query_core.specs.QueryLaws.{PagesRise, SelectedAreFirst, SelectedRise};
 
 use query_text::resume_key_is_put_into_query;
 
@@ -40,7 +44,7 @@ pub fn merged_lines_are_an_index()
 
 /// A merge may take the merge of some indexes in their stead. If the indexes have one line at each place, their order is
 /// of no account either.
-#[tactic(auto, using(crate::proofs::ComposeLemmas::merges_commute, crate::proofs::ComposeLemmas::merges_group))]
+#[tactic(auto, using(crate::proofs::ComposeLemmas::merges_compose))]
 pub fn merges_compose()
     ensures group { MergesGroup }
     ensures order { MergesCommute }
@@ -70,7 +74,7 @@ pub fn indexes_have_no_line_at_fault()
 /// lines of the page have entries. A line `.` is only in a page of one field, in text. A page begins with a line of a
 /// refusal only if it has two, in text. No page has the line of a fault after an empty line. In text and cdxj an empty line
 /// stands only before a resume key. A page of one field, in text, has no space. In json each line begins with `[`.
-#[tactic(auto, using(crate::proofs::PageLineLemmas::one_field_has_marks, crate::proofs::PageLineLemmas::two_fields_begin_as_refusals, crate::proofs::PageLineLemmas::no_page_has_faults, crate::proofs::PageLineLemmas::empty_line_is_before_key, crate::proofs::PageLineLemmas::one_field_has_no_space, crate::proofs::PageLineLemmas::json_lines_begin_with_brackets))]
+#[tactic(auto, using(crate::proofs::PageLineLemmas::page_line_laws))]
 pub fn replies_are_told_from_pages()
     ensures mark { OneFieldHasMarks }
     ensures refused { TwoFieldsBeginAsRefusals }

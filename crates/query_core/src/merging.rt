@@ -2,7 +2,8 @@
 ghost use Rattle.std.specs.Prelude.{◌≡◌, List, length, map, IfOk, IfErr};
 ghost use Rattle.cdxj_core.specs.Members.{Member};
 ghost use Rattle.devices.specs.Device.{AppendsPrefix};
-ghost use Rattle.merge_core.specs.Collections.{KeepsSources, Merged, OverIndexes, OverTexts, collection};
+ghost use Rattle.merge_core.specs.Collections.{KeepsSources, Merged, OverIndexes, OverTexts};
+ghost use Rattle.merge_core.specs.Collections.{collection};
 ghost use Rattle.merge_core.specs.SourceLines.{WritesLinesOf};
 ghost use Rattle.merge_core.specs.Spending.{AllGaveOnce};
 ghost use Rattle.merge_core.specs.Written.{lines_text};
@@ -30,7 +31,7 @@ pub const SOURCES_LIMIT: usize = 1_024;
 /// allocated. After an error, lines that rise by place were written, the last of them in whole or in part.
 ///
 /// One line of each index is held, and the lines of one key and stamp.
-#[tactic(auto, using(crate::proofs::PageIndexes::merge_line, std::proofs::lemmas::Result::err_from_is_err_and, devices::proofs::WritingLemmas::wrote_nothing, merge_core::proofs::SourceLemmas::once_none))]
+#[tactic(auto, using(crate::proofs::PageIndexes::merge_rules))]
 pub fn merge<S: Source, O: Output>(
     alloc: Global,
     sources: &mut [S],

@@ -1,5 +1,6 @@
 //! The writing of pages.
-ghost use Rattle.std.specs.Prelude.{◌≡◌, ◌++◌, ◌∷◌, [], List, Option, None, Some, ℕ, OnOk, IfOk, MatchResult, IfSome, option_map, string_bytes};
+ghost use Rattle.std.specs.Prelude.{◌≡◌, ◌++◌, ◌∷◌, [], List, Option, None, Some, ℕ, OnOk, IfOk};
+ghost use Rattle.std.specs.Prelude.{MatchResult, IfSome, option_map, string_bytes};
 ghost use Rattle.cdxj_core.specs.Members.{Member, member_place};
 ghost use Rattle.page_core.specs.FormView.{form_view};
 ghost use Rattle.devices.specs.WriteFaults.{CountsWriteFault};
@@ -117,11 +118,13 @@ pub(crate) struct PageWriter<'q> {
 impl<'q> PageWriter<'q> {
     ghost use Rattle.std.specs.Prelude.{false, IsOkAnd};
     ghost use Rattle.devices.specs.Device.{AppendsPrefix, Grows};
-    ghost use Rattle.page_core.specs.Pages.{AllPositive, first_size};
     ghost use Rattle.page_core.specs.PageText.{page_start, row_text};
     ghost use Rattle.merge_core.specs.Sinks.{TakesOrBreaks};
+    ghost use Rattle.query_text.specs.Queries.{QueryValue};
     ghost use Rattle.query_core.specs.PageWriting.{is_full, next_of, FitsWord};
-    ghost use Rattle.query_core.specs.WriterView.{AreInPages, Broke, GaveOne, HaveRoom, IsEndOf, IsFront, IsWriterOf, KeepsLines, SamePage, Wrote};
+    ghost use Rattle.query_core.specs.PagesWriting.{PagesSoFar, text_so_far, with_room};
+    ghost use Rattle.query_core.specs.WriterView.{Broke, GaveOne, HasRoom, IsEndOf, IsWriterOf};
+    ghost use Rattle.query_core.specs.WriterView.{KeepsLines, SamePage, TakesMore, Wrote};
 
     /// Writes what precedes the first capture of a page of at most `limit` captures, or of pages of these sizes if there
     /// are any. Then `limit` is the first of them.
@@ -134,8 +137,7 @@ impl<'q> PageWriter<'q> {
         sizes: &'q [u64],
         out: &mut O,
     ) -> Result<PageWriter<'q>, WriteFault>
-        ensures wrote { (AllPositive sizes.now → limit ≡ Some (first_size sizes.now))
-            → IfOk result (λ writer.
+        ensures wrote { IfOk result (λ writer.
             Wrote writer writer [] (O.written out.old) (O.written out.new)) }
         ensures begins { MatchResult result (IsWriterOf query.now limit sizes.now) (λ _.
             AppendsPrefix (O.written out.old) (O.written out.new) (page_start (form_of query.now))) }
@@ -168,11 +170,10 @@ impl<'q> PageWriter<'q> {
 
     /// Ends the page if it is full, and begins the next.
     fn make_room<O: Output>(&mut self, alloc: Global, out: &mut O) -> Result<(), WriteFault>
-        ensures pages { (sizes : List ℕ) → (captures : List Member) → (start : Option (List ℕ))
-            → AreInPages sizes self.old captures start (O.written out.old)
-            → MatchResult result (λ _. HaveRoom sizes self.new captures start (O.written out.new))
-            (λ _. (next : Member) → IsFront self.old.selection.query.now sizes
-            (captures ++ next ∷ []) start (O.written out.new)) }
+        ensures pages { (q : QueryValue) → (s : PagesSoFar) → (start : Option (List ℕ))
+            → TakesMore q s self.old start (O.written out.old)
+            → MatchResult result (λ _. HasRoom q s self.new start (O.written out.new)) (λ _.
+            AppendsPrefix start (O.written out.new) (text_so_far q (with_room s))) }
         ensures room { is_full self.old.limit self.old.given ≡ false
             → IsOkAnd result (λ _. (self.new ≡ self.old) × (out.new ≡ out.old)) }
         ensures lines { KeepsLines self.old self.new }
@@ -214,7 +215,7 @@ impl<'q> PageWriter<'q> {
         Ok(())
     }
 
-    #[tactic(auto, using(devices::proofs::DeviceLemmas::grows_not, devices::proofs::DeviceLemmas::grows_by, devices::proofs::DeviceLemmas::grows_part))]
+    #[tactic(auto, using(crate::proofs::PagesLemmas::growing))]
     fn take_line<O: Output>(
         &mut self,
         alloc: Global,

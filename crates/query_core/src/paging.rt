@@ -29,7 +29,7 @@ use std::alloc::Global;
 /// Returns `BadSizes` if there are no sizes, or one of them is 0; then `TooManySources` for more than `SOURCES_LIMIT`
 /// indexes. Both come before it reads or writes. The other errors are those of `answer`: `BadLine`, `OutOfOrder`, `Read`,
 /// `Write` and `Memory`. After one, a prefix of the pages was written.
-#[tactic(auto, using(crate::proofs::ReachLemmas::within_opening, merge_core::proofs::Many::two_same, crate::proofs::PagesReach::no_pages_reached, devices::proofs::DeviceLemmas::grows_not, devices::proofs::DeviceLemmas::grows_part))]
+#[tactic(auto, using(crate::proofs::PagesReach::pages_rules))]
 pub fn pages<S: Source, O: Output>(
     alloc: Global,
     sources: &mut [S],

@@ -30,7 +30,7 @@ pub struct Pass {
 
 /// Passes the lines of the query's range to the sink, in the order of places, from its resume key on, until it wants no
 /// more.
-#[tactic(auto, using(crate::proofs::PageIndexes::merge_line, std::proofs::lemmas::Result::err_from_is_err_and, merge_core::proofs::SourceLemmas::all_kept))]
+#[tactic(auto, using(crate::proofs::PageIndexes::pass_rules))]
 pub(crate) fn read_lines<S: Source, K: Sink, O: Output>(
     alloc: Global,
     sources: &mut [S],

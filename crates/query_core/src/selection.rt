@@ -79,7 +79,7 @@ impl<'q> Selection<'q> {
 
     /// Takes the next line. Returns `true` if it is a capture of the query.
     /// The only error is refused memory.
-    #[tactic(auto, using(crate::proofs::WriterLemmas::captures_repeated, crate::proofs::WriterLemmas::capture_compares, crate::proofs::WriterLemmas::capture_is_one, crate::proofs::WriterLemmas::repeated_compares))]
+    #[tactic(auto, using(crate::proofs::WriterLemmas::selection_rules))]
     pub fn takes(&mut self, line: &Line) -> Result<bool, AllocError>
         ensures took { (taken : List Member) → Selects self.old taken
             → IfOk result (TookNext self.old self.new taken line.now) }

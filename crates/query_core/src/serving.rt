@@ -8,7 +8,9 @@ ghost use Rattle.query_core.specs.Refusals.{Refuses, too_many};
 ghost use Rattle.query_core.specs.Replies.{reply_of};
 ghost use Rattle.query_core.specs.ReplyReach.{AllGaveAtMost, GaveForLines, line_most, query_most};
 ghost use Rattle.query_core.specs.AnyReplies.{IsPageReply, IsTextReply};
-ghost use Rattle.query_core.specs.Conversations.{Converses, HoldsOfReplies, IsLineReply, IsMarkedReply, Replied, RepliedInPart, RepliedToTaken, WritesSome};
+ghost use Rattle.query_core.specs.Conversations.{Converses, HoldsOfReplies, IsLineReply};
+ghost use Rattle.query_core.specs.Conversations.{IsMarkedReply, Replied, RepliedInPart};
+ghost use Rattle.query_core.specs.Conversations.{RepliedToTaken, WritesSome};
 ghost use Rattle.query_core.specs.ReplyFaults.{CountsServing, RepliesFrom};
 
 use crate::answering::answer;
@@ -25,7 +27,7 @@ use std::alloc::{AllocError, Global};
 const LINE_HELD: usize = QUERY_LIMIT + 2;
 
 /// Writes the page of a query. A fault of an index is written after what was written of the page.
-#[tactic(auto, using(crate::proofs::ReplyLemmas::fault_reply, crate::proofs::ReplyLemmas::gave_page))]
+#[tactic(auto, using(crate::proofs::ReplyLemmas::query_rules))]
 fn reply_to_query<S: Source, O: Output>(
     alloc: Global,
     sources: &mut [S],
@@ -56,7 +58,7 @@ fn reply_to_query<S: Source, O: Output>(
 }
 
 /// Writes the reply to a line, of which at least the first `LINE_HELD` bytes are given.
-#[tactic(auto, using(crate::proofs::ReplyLemmas::line_tests, crate::proofs::ReplyLemmas::writes_some, crate::proofs::ReplyLemmas::gave_line, crate::proofs::ReplyLemmas::gave_none, devices::proofs::WritingLemmas::wrote_nothing))]
+#[tactic(auto, using(crate::proofs::ReplyLemmas::line_rules))]
 fn reply_to_line<S: Source, O: Output>(
     alloc: Global,
     sources: &mut [S],
@@ -128,7 +130,7 @@ fn line_reader(alloc: Global) -> Result<InputLines, AllocError>
 /// Returns `TooManySources` for more than `SOURCES_LIMIT` indexes, before it reads. `Memory`, `Read` of an index, `Write`
 /// and `Input` end the conversation. `Input` comes if the input failed, and for an input of 2^63 - 1 bytes. Then each line
 /// that was taken whole has its reply.
-#[tactic(auto, using(crate::proofs::ReplyLemmas::one_reply_part, crate::proofs::ReplyLemmas::nothing_replied, crate::proofs::ReplyLemmas::spent_part, crate::proofs::ReplyLemmas::spent_stop, crate::proofs::ReplyLemmas::nothing_spent, std::proofs::lemmas::Result::err_from_is_err_and))]
+#[tactic(auto, using(crate::proofs::ReplyLemmas::serve_rules))]
 pub fn serve<S: Source, I: Input, O: Output>(
     alloc: Global,
     sources: &mut [S],

@@ -1,23 +1,22 @@
 -- Archives that are indexed one after another.
-use Rattle.std.specs.List.{AllZip}
-use Rattle.std.proofs.Common.{◌≡◌, ℕ, ◌+◌, ◌<◌, List, [], ◌∷◌, ◌++◌, length, map, take, drop, get_or, set}
-use Rattle.std.proofs.Common.{length-append, Option, None, Err, ap, Bool, ◌∙◌, arith, append_assoc, append-nil}
-use Rattle.std.proofs.lemmas.List.{take_more, length-map, get_or-map, map-set, set-get_or}
+use Rattle.query_core.proofs.Words.{[], ◌++◌, ◌+◌, ◌<◌, ◌∙◌, ◌∷◌, ◌≡◌, AllZip, Bool, Err, IsIndex, LINE_LIMIT, List}
+use Rattle.query_core.proofs.Words.{None, Option, ap, append-nil, append_assoc, arith, drop, each_join, get_or}
+use Rattle.query_core.proofs.Words.{length, length-append, length-map, map, take, ℕ}
+use Rattle.std.proofs.Common.{set}
+use Rattle.std.proofs.lemmas.List.{take_more, get_or-map, map-set, set-get_or}
 use Rattle.warc_core.specs.Kind.{Kind}
 use Rattle.cdxj_core.specs.Entries.{EntryValue}
-use Rattle.cdxj_core.specs.Indexes.{IsIndex}
 use Rattle.index_core.specs.declared.fault.IndexFault.{IndexFault}
 use Rattle.index_core.specs.Counting.{CountsIndex}
 use Rattle.index_core.specs.Indexing.{Held}
 use Rattle.capture_core.specs.declared.types.Types.{Types}
 use Rattle.capture_core.specs.Types.{includes}
-use Rattle.cdxj_core.specs.declared.limit.TheConstants.{LINE_LIMIT}
 use Rattle.merge_core.proofs.Many.{map_set_same}
-use Rattle.cdxj_places.proofs.RisingLaws.{each_join}
 use Rattle.merge_core.proofs.CountLemmas.{left_here, left_after}
 use Rattle.scan_core.specs.declared.fault.ScanFault.TheVariants.{Archive}
 use Rattle.scan_core.specs.Archives.{IsNewName, AreNewNames, AreCapturesOf, AreCapturesOfEach, HaveLines, AreIndexed}
-use Rattle.scan_core.specs.Archives.{HasIndex, HaveIndexes, IsFaultOfArchive, IsFirstFault, IsNameFault, index_members}
+use Rattle.scan_core.specs.Archives.{HasIndex, HaveIndexes, IsFaultOfArchive, IsFirstFault, IsNameFault}
+use Rattle.scan_core.specs.Archives.{index_members}
 use Rattle.scan_core.specs.Failures.{CountsAt}
 use Rattle.scan_core.specs.Scanning.{LeavesUnread}
 

@@ -1,28 +1,22 @@
 -- The captures of archives, and the pages that a scan writes of them.
-use Rattle.std.proofs.Common.{arith, ◌≡◌, List, [], ◌∷◌, map, refl, append-nil, ℕ, Bool, false, ◌++◌, Option, Equal}
-use Rattle.std.proofs.Common.{Err, Ok, length}
-use Rattle.std.specs.List.{flat_map, AllByRecursion, AllZip}
-use Rattle.std.proofs.lemmas.List.{map-append}
-use Rattle.cdxj_places.specs.Places.{place_cmp}
-use Rattle.cdxj_places.proofs.PlaceOrder.{place_cmp_total, same_place}
+use Rattle.query_core.proofs.Words.{[], ◌++◌, ◌∷◌, ◌≡◌, AllByRecursion, AllZip, Bool, Err, IsIndex}
+use Rattle.query_core.proofs.Words.{Known, LINE_LIMIT, List, Member, Ok, Option, QueryValue, append-nil, arith}
+use Rattle.query_core.proofs.Words.{collection, each_join, each_weaker, false, flat_map, length, lines_text, map}
+use Rattle.query_core.proofs.Words.{map-append, member_place, place_cmp, place_cmp_total, refl, ℕ}
+use Rattle.std.proofs.Common.{Equal}
+use Rattle.cdxj_places.proofs.PlaceOrder.{same_place}
 use Rattle.cdxj_places.proofs.RisingAlike.{rising_referred}
 use Rattle.cdxj_core.specs.Entries.{EntryValue, entry_place}
-use Rattle.cdxj_core.specs.Members.{entry_member, member_place, Member}
+use Rattle.cdxj_core.specs.Members.{entry_member}
 use Rattle.index_core.specs.Indexing.{entries_text, in_places, index_text, AreNamed, HaveOwnPlaces, is_among}
-use Rattle.merge_core.specs.Collections.{collection, Known}
-use Rattle.merge_core.specs.Written.{lines_text}
 use Rattle.query_core.proofs.ComposeLemmas.{rising_parts}
 use Rattle.scan_core.specs.Archives.{index_members, AreNewNames, AreCapturesOfEach, HaveLines, HaveIndexes}
 use Rattle.scan_core.specs.Captures.{all_captures, captured_lines}
 use Rattle.warc_core.specs.Kind.{Kind}
-use Rattle.cdxj_places.proofs.RisingLaws.{each_join, each_weaker}
 use Rattle.index_core.proofs.SoundLemmas.{among_more, among_last}
-use Rattle.query_core.specs.declared.fault.AnswerFault.{AnswerFault}
-use Rattle.cdxj_core.specs.declared.limit.TheConstants.{LINE_LIMIT}
-use Rattle.cdxj_core.specs.Indexes.{IsIndex}
-use Rattle.query_text.specs.Queries.{QueryValue}
 use Rattle.scan_core.specs.Scanning.{IsAsked, Scanned, ScannedInPart, WritesKnownPages}
 use Rattle.index_core.specs.Laws.{OneIndexed}
+use Rattle.query_core.specs.declared.fault.AnswerFault.{AnswerFault}
 use Rattle.query_core.proofs.PageChains.{wrote_one}
 use Rattle.scan_core.specs.Laws.{ScanIsOne}
 

@@ -1,20 +1,19 @@
 -- A scan of which nothing is at fault is refused for want of memory.
-use Rattle.std.specs.List.{AllZip, AllByRecursion}
-use Rattle.std.proofs.Common.{◌≡◌, ℕ, zero, suc, ◌<◌, Bool, List, [], ◌∷◌, ◌++◌, length, take, get_or, set, Option}
-use Rattle.std.proofs.Common.{None, Some, arith, append_assoc, append-nil}
+use Rattle.query_core.proofs.Words.{[], ◌++◌, ◌<◌, ◌∷◌, ◌≡◌, AllByRecursion, AllZip, Bool, Known, List, None, Option}
+use Rattle.query_core.proofs.Words.{Some, append-nil, append_assoc, arith, get_or, length, suc, take, zero, ℕ}
+use Rattle.std.proofs.Common.{set}
 use Rattle.warc_core.specs.Kind.{Kind}
 use Rattle.warc_core.specs.declared.next.TheConstants.{HEAD_LIMIT}
 use Rattle.devices.specs.Device.{next_count}
 use Rattle.capture_core.specs.CaptureAnswer.{usual_limits}
 use Rattle.index_core.specs.declared.fault.IndexFault.{IndexFault}
-use Rattle.index_core.specs.declared.fault.IndexFault.TheVariants as index
 use Rattle.index_core.specs.Accepted.{IsAcceptedWhole}
 use Rattle.index_core.specs.Laws.{WholeIsNotRefused}
-use Rattle.merge_core.specs.Collections.{Known}
 use Rattle.scan_core.specs.declared.fault.ScanFault.TheVariants.{Archive}
 use Rattle.scan_core.specs.Archives.{IsNewName, AreNewNames, IsFaultOfArchive}
 use Rattle.scan_core.specs.Failures.{CountsAt}
 use Rattle.scan_core.specs.Laws.{IsWantOfRoom, MayRise, OnlyMemoryIsWanting}
+use Rattle.index_core.specs.declared.fault.IndexFault.TheVariants as index
 
 -- ---- what is known of each archive
 

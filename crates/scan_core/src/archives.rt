@@ -1,11 +1,13 @@
 //! Archives that are indexed in memory.
-ghost use Rattle.std.specs.Prelude.{◌≡◌, ◌∷◌, ◌++◌, [], length, map, IfOk, IfErr, OnOk, string_bytes};
+ghost use Rattle.std.specs.Prelude.{◌≡◌, ◌∷◌, ◌++◌, [], length, map, IfOk, IfErr, OnOk};
+ghost use Rattle.std.specs.Prelude.{string_bytes};
 ghost use Rattle.capture_core.specs.Types.{includes};
 ghost use Rattle.cdxj_core.specs.declared.limit.TheConstants.{LINE_LIMIT};
 ghost use Rattle.cdxj_core.specs.Indexes.{IsIndex};
 ghost use Rattle.devices.specs.Gathered.{gathered};
 ghost use Rattle.index_core.specs.Counting.{CountsIndex};
-ghost use Rattle.scan_core.specs.Archives.{HasIndex, HaveIndexes, HaveLines, IsFaultOfArchive, IsNameFault, index_members};
+ghost use Rattle.scan_core.specs.Archives.{HasIndex, HaveIndexes, HaveLines, IsFaultOfArchive};
+ghost use Rattle.scan_core.specs.Archives.{IsNameFault, index_members};
 ghost use Rattle.scan_core.specs.Failures.{CountsInputs};
 ghost use Rattle.scan_core.specs.Scanning.{LeavesUnread, IsArchiveFault};
 

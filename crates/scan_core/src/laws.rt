@@ -2,7 +2,8 @@
 ghost use Rattle.std.specs.Prelude.{◌≡◌};
 ghost use Rattle.capture_core.specs.CaptureAnswer.{usual_limits};
 ghost use Rattle.warc_core.specs.declared.next.TheConstants.{HEAD_LIMIT};
-ghost use Rattle.scan_core.specs.Laws.{IndexIsMerge, OnlyMemoryIsWanting, ScanIsOne, ScanIsOverIndex};
+ghost use Rattle.scan_core.specs.Laws.{IndexIsMerge, OnlyMemoryIsWanting, ScanIsOne};
+ghost use Rattle.scan_core.specs.Laws.{ScanIsOverIndex};
 
 use index_core::{accepted_archive_is_not_refused, archive_has_one_list_of_captures};
 

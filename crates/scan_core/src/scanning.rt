@@ -1,6 +1,7 @@
 //! The pages of a query over archives.
 ghost use Rattle.std.specs.List.{AllZip};
-ghost use Rattle.std.specs.Prelude.{◌≡◌, ◌<◌, ◌≤◌, List, length, map, true, Err, IfOk, IfErr, string_bytes};
+ghost use Rattle.std.specs.Prelude.{◌≡◌, ◌<◌, ◌≤◌, List, length, map, true, Err, IfOk, IfErr};
+ghost use Rattle.std.specs.Prelude.{string_bytes};
 ghost use Rattle.capture_core.specs.Types.{includes};
 ghost use Rattle.cdxj_core.specs.declared.limit.TheConstants.{LINE_LIMIT};
 ghost use Rattle.cdxj_core.specs.Indexes.{IsIndex};
@@ -11,7 +12,8 @@ ghost use Rattle.source_core.specs.Slices.{slice_text};
 ghost use Rattle.query_core.specs.declared.merging.TheConstants.{SOURCES_LIMIT};
 ghost use Rattle.query_core.specs.Paging.{are_sizes};
 ghost use Rattle.scan_core.specs.Failures.{CountsWriting, CountsInputs, CountsOutput};
-ghost use Rattle.scan_core.specs.Scanning.{Scanned, ScannedInPart, WritesKnownPages, IsScanFault, IsBeforeWriting, LeavesUnread};
+ghost use Rattle.scan_core.specs.Scanning.{Scanned, ScannedInPart, WritesKnownPages, IsScanFault};
+ghost use Rattle.scan_core.specs.Scanning.{IsBeforeWriting, LeavesUnread};
 
 use crate::archives::index_archives;
 use crate::fault::ScanFault;

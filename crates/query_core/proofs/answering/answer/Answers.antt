@@ -1,12 +1,13 @@
 use Rattle.query_core.proofs.Words.{[], ◌++◌, ◌∙◌, ◌≡◌, AreAtMost, GaveInReach, Grows, List, Member, Option}
-use Rattle.query_core.proofs.Words.{OverIndexes, ℕ, ap, append-nil, arith, err_from_is_err_and, grows_by, grows_part}
-use Rattle.query_core.proofs.Words.{is_some, length-map, map, page_over, query_page, refl, sym, true, wrote_nothing}
-use Rattle.query_core.proofs.PagesReach.{no_more, Writing, end_front, of_none, of_taken, of_whole, page_broke}
-use Rattle.query_core.proofs.PagesReach.{page_ended, passed, settles, page_fewer, page_reached, within}
-use Rattle.query_core.proofs.WriterLemmas.{captures}
+use Rattle.query_core.proofs.Words.{OverIndexes, ap, append-nil, arith, err_from_is_err_and, grows_by, grows_part}
+use Rattle.query_core.proofs.Words.{is_some, length-map, map, query_page, refl, sym, true, wrote_nothing, ℕ}
+use Rattle.query_core.proofs.PagesReach.{no_more, Writing, end_front, of_none, of_taken, page_ended, passed, settles}
+use Rattle.query_core.proofs.PagesReach.{page_fewer, page_reached, answer_front, broke_front, within}
 use Rattle.page_core.proofs.PageLemmas.{front-start}
 use Rattle.query_core.proofs.answering.answer.Given.{Over}
 use Rattle.query_core.proofs.answering.answer.Goals.{In_ok-writer, In_ok-pass}
+use Rattle.query_core.proofs.PagesLemmas.{page}
+use Rattle.query_core.proofs.WriterLemmas.{captures}
 use Rattle.query_core.proofs.answering.answer.Goals as goal
 
 -- ---- the writer
@@ -17,7 +18,7 @@ begin g c = record {
   first = c.in_ok-writer.writer;
   is = rw c.limit.ensures.value at c.in_ok-writer.ensures.begins;
   writer = c.in_ok-writer.writer;
-  wrote = c.in_ok-writer.ensures.wrote (λ none. absurd none);
+  wrote = c.in_ok-writer.ensures.wrote;
 }
 
 -- after all lines that were taken
@@ -34,7 +35,7 @@ settled : (g : Over) (c : In_ok-pass g) (all rest : List Member)
     → (c.in_ok-pass.pass.all ≡ true
     → captures c.args.query.now all ≡ captures c.args.query.now c.in_ok-pass.ensures.ended.lines)
     → query_page c.args.query.now all
-    ≡ page_over c.args.query.now c.args.query.now.resume c.args.query.now.limit c.in_ok-pass.ensures.ended.lines
+    ≡ page c.args.query.now.limit (captures c.args.query.now c.in_ok-pass.ensures.ended.lines)
 settled g c all rest first whole = settles (writing g c) all c.in_ok-pass.pass.all rest first whole
     c.in_ok-pass.ensures.ended.enough
 
@@ -51,20 +52,21 @@ returns-in_err-pass-clause-page g c =
     let broke = c.in_err-pass.ensures.ended.0 in
     let here = begin g (goal.at.returns-in_err-pass-clause-page g c).In_ok-writer in
     rw (err_from_is_err_and c.from_residual-in_err-pass.result c.from_residual-in_err-pass.ensures.1).1
-    (of_taken broke.took (λ all rest rise first. page_broke here _ _ broke.wrote all rest first))
+    (of_taken broke.took (λ all rest rise first whole.
+    answer_front c.args.query.now all _ _ (broke_front here tt _ _ broke.wrote all rest first)))
 
 pub returns-in_err-end-clause-page : goal.returns-in_err-end-clause-page
 returns-in_err-end-clause-page g c =
     let here = (goal.at.returns-in_err-end-clause-page g c).In_ok-pass in
     rw (err_from_is_err_and c.from_residual-in_err-end.result c.from_residual-in_err-end.ensures.1).1
-    (of_whole c.in_ok-pass.ensures.ended (λ all rest rise first whole.
+    (of_taken c.in_ok-pass.ensures.ended.took (λ all rest rise first whole.
     end_front (writing g here) all _ (settled g here all rest first whole) c.in_err-end.ensures.text))
 
 pub returns-clause-page : goal.returns-clause-page
 returns-clause-page g c =
     let here = (goal.at.returns-clause-page g c).In_ok-pass in
     let end = c.in_ok-end.ensures in
-    of_whole c.in_ok-pass.ensures.ended (λ all rest rise first whole.
+    of_taken c.in_ok-pass.ensures.ended.took (λ all rest rise first whole.
     page_ended (writing g here) all _ (settled g here all rest first whole) c.in_ok-end.end _ end.text end.end refl
     c.is_some.ensures)
 
@@ -114,7 +116,7 @@ reached g c new grows =
 pub returns-in_err-end-clause-reads : goal.returns-in_err-end-clause-reads
 returns-in_err-end-clause-reads g c =
     let here = (goal.at.returns-in_err-end-clause-reads g c).In_ok-pass in
-    grind (arith, err_from_is_err_and, grows_part, reached g here)
+    let bytes = reached g here _ (grows_part _ _ _ c.in_err-end.ensures.text) in grind (arith, err_from_is_err_and)
 
 pub returns-clause-reads : goal.returns-clause-reads
 returns-clause-reads g c =

@@ -1,24 +1,16 @@
 use Rattle.query_core.proofs.Words.{[], ◌∙◌, ◌≡◌, AllPositive, GaveInPages, Grows, List, Member, Option, OverIndexes}
-use Rattle.query_core.proofs.Words.{Rises, Some, WrotePages, WrotePagesInPart, ℕ, ap, append-nil, arith}
-use Rattle.query_core.proofs.Words.{err_from_is_err_and, first_size, grows_by, grows_part, map, member_place, place_cmp}
-use Rattle.query_core.proofs.Words.{refl, rules, sym, true, true≢false}
+use Rattle.query_core.proofs.Words.{Rises, Some, WrotePages, append-nil, arith, err_from_is_err_and, first_size}
+use Rattle.query_core.proofs.Words.{grows_by, grows_part, map, member_place, no_pages, place_cmp, rules, sym, true}
+use Rattle.query_core.proofs.Words.{true≢false, wrote_nothing, ℕ}
 use Rattle.std.proofs.lemmas.Bool.{true_from_ne_false}
-use Rattle.query_core.proofs.PageChains.{wrote_front, wrote_none}
-use Rattle.query_core.proofs.PagesReach.{Writing, collection_rises, of_none, of_taken, of_whole, passed, all, all_ended}
-use Rattle.query_core.proofs.PagesReach.{any_front, at_end, stood_pages, pages_reached}
-use Rattle.query_core.proofs.WriterLemmas.{captures}
-use Rattle.query_core.proofs.PagesLemmas.{start_front, all_positive}
+use Rattle.query_core.proofs.PagesReach.{Writing, collection_rises, of_none, of_taken, passed, all_ended, at_end}
+use Rattle.query_core.proofs.PagesReach.{stood_pages, pages_reached, broke_front, never_enough}
+use Rattle.query_core.proofs.PagesLemmas.{all_positive, front_more, is_sized}
 use Rattle.query_core.proofs.paging.pages.Given.{Over}
-use Rattle.query_core.proofs.paging.pages.Goals.{In_err-writer, In_ok-end, In_ok-read_lines, In_ok-writer}
+use Rattle.query_core.proofs.paging.pages.Goals.{In_ok-end, In_ok-read_lines, In_ok-writer}
+use Rattle.query_core.proofs.PageChains.{wrote_part}
+use Rattle.query_core.proofs.WriterLemmas.{captures}
 use Rattle.query_core.proofs.paging.pages.Goals as goal
-
-before : (g : Over) (c : In_err-writer g) → (lines : List Member) → Rises member_place place_cmp lines
-    → WrotePagesInPart c.args.query.now lines c.args.sizes.now (g.O.Output.written c.args.out.now)
-    (g.O.Output.written c.begin.new.out)
-before g c lines rise =
-    let positive = all_positive c.args.sizes.now (search rules) in
-    wrote_front c.args.query.now c.args.sizes.now positive lines rise [] _ _ _ refl
-    (start_front c.args.query.now c.args.sizes.now _ _ positive c.in_err-writer.ensures.begins)
 
 abbrev begin : (g : Over) (c : In_ok-writer g) → Writing c.args.query.now (Some (first_size c.args.sizes.now))
     c.args.sizes.now (g.O.Output.written c.args.out.now) (g.O.Output.written c.begin.new.out) []
@@ -26,7 +18,7 @@ begin g c = record {
   first = c.in_ok-writer.writer;
   is = rw c.first_size.ensures at c.in_ok-writer.ensures.begins;
   writer = c.in_ok-writer.writer;
-  wrote = c.in_ok-writer.ensures.wrote (λ p. ap Some c.first_size.ensures);
+  wrote = c.in_ok-writer.ensures.wrote;
 }
 
 abbrev writing : (g : Over) (c : In_ok-read_lines g) → Writing c.args.query.now (Some (first_size c.args.sizes.now))
@@ -41,7 +33,7 @@ positive g c = all_positive c.args.sizes.now (search rules)
 -- it never has enough
 all_read : (g : Over) (c : In_ok-read_lines g) → c.in_ok-read_lines.field-0.all ≡ true
 all_read g c = true_from_ne_false c.in_ok-read_lines.field-0.all
-    (λ e. true≢false (sym (c.in_ok-read_lines.ensures.ended.enough e) ∙ (all (positive g c) (writing g c)).more))
+    (λ e. true≢false (sym (c.in_ok-read_lines.ensures.ended.enough e) ∙ never_enough (positive g c) (writing g c)))
 
 -- ---- how far it was read for the captures that were written
 
@@ -79,26 +71,33 @@ returns-then-not-are_sizes-clause-pages g c = of_none (λ all rise. grind arith)
 
 pub returns-then-sources-gt-SOURCES_LIMIT-clause-pages : goal.returns-then-sources-gt-SOURCES_LIMIT-clause-pages
 returns-then-sources-gt-SOURCES_LIMIT-clause-pages g c =
-    of_none (λ all rise sized. wrote_none c.args.query.now c.args.sizes.now (all_positive c.args.sizes.now sized) all rise _)
+    of_none (λ all rise sized.
+    wrote_part c.args.query.now c.args.sizes.now (all_positive c.args.sizes.now sized) all rise _ _ (wrote_nothing _ _))
 
 pub returns-in_err-writer-clause-pages : goal.returns-in_err-writer-clause-pages
 returns-in_err-writer-clause-pages g c =
-    let here = (goal.at.returns-in_err-writer-clause-pages g c).In_err-writer in
-    of_none (λ all rise. let b = before g here all rise in grind (arith, err_from_is_err_and))
+    rw (err_from_is_err_and c.from_residual.result c.from_residual.ensures.1).1
+    (of_none (λ all rise sized.
+    wrote_part c.args.query.now c.args.sizes.now (all_positive c.args.sizes.now sized) all rise _ _
+    (front_more c.args.query.now _ _ (no_pages (Some (first_size c.args.sizes.now)) c.args.sizes.now)
+    (captures c.args.query.now all)
+    (rw append-nil c.in_err-writer.ensures.begins))))
 
 pub returns-in_err-read_lines-clause-pages : goal.returns-in_err-read_lines-clause-pages
 returns-in_err-read_lines-clause-pages g c =
     let broke = c.in_err-read_lines.ensures.ended.0 in
     let here = begin g (goal.at.returns-in_err-read_lines-clause-pages g c).In_ok-writer in
     rw (err_from_is_err_and c.from_residual-in_err-read_lines.result c.from_residual-in_err-read_lines.ensures.1).1
-    (of_taken broke.took (λ all rest rise first sized.
-    any_front (all_positive c.args.sizes.now sized) here _ all broke.lines rest broke.wrote rise first))
+    (of_taken broke.took (λ all rest rise first whole sized.
+    let positive = all_positive c.args.sizes.now sized in
+    wrote_part c.args.query.now c.args.sizes.now positive all rise _ _
+    (broke_front here (is_sized c.args.sizes.now positive) _ _ broke.wrote all rest first)))
 
 pub returns-in_err-end-clause-pages : goal.returns-in_err-end-clause-pages
 returns-in_err-end-clause-pages g c =
     let here = (goal.at.returns-in_err-end-clause-pages g c).In_ok-read_lines in
     rw (err_from_is_err_and c.from_residual-in_err-end.result c.from_residual-in_err-end.ensures.1).1
-    (of_whole c.in_ok-read_lines.ensures.ended (λ all rest rise first whole sized.
+    (of_taken c.in_ok-read_lines.ensures.ended.took (λ all rest rise first whole sized.
     at_end (positive g here) (writing g here) all rise (whole (all_read g here)) _ c.in_err-end.ensures.text))
 
 -- the pages of lines of which those that were taken have all captures
@@ -113,7 +112,7 @@ pages_of g c all rise whole =
 pub returns-clause-pages : goal.returns-clause-pages
 returns-clause-pages g c =
     let here = goal.at.returns-clause-pages g c in
-    of_whole c.in_ok-read_lines.ensures.ended
+    of_taken c.in_ok-read_lines.ensures.ended.took
     (λ all rest rise first whole. pages_of g here.In_ok-end all rise (whole (all_read g here.In_ok-read_lines)))
 
 pub returns-clause-parts : goal.returns-clause-parts

@@ -1,8 +1,7 @@
 use Rattle.query_core.proofs.Words.{[], ◌++◌, ◌∙◌, ◌≡◌, Bool, List, Member, ReadFor, Some, ap, append-nil, arith}
-use Rattle.query_core.proofs.Words.{err_from_is_err_and, false, grows_not, inl, length-map, map, refl, sym}
-use Rattle.query_core.proofs.Words.{true}
+use Rattle.query_core.proofs.Words.{err_from_is_err_and, false, grows_not, inl, length-map, map, refl, sym, true}
 use Rattle.query_core.proofs.WriterLemmas.{captures, captures_append}
-use Rattle.query_core.proofs.ReachLemmas.{Opened, reading, known_opened, wanted_whole, cut_all, cut_before, cut_last, gave_upto}
+use Rattle.query_core.proofs.ReachLemmas.{Opened, reading, known_opened, cut_all, cut_before, cut_last, gave_upto}
 use Rattle.query_core.proofs.ReachLemmas.{gave_within, lines_within, of_parts, took, within_opening}
 use Rattle.query_core.specs.Passes.{WantedMore}
 use Rattle.query_core.proofs.pass.read_lines.Given.{Over}
@@ -17,7 +16,7 @@ returns-in_err-opened-clause-ended g c =
       record {
         lines = [];
         wrote = λ begin start h. inl (_, h);
-        took = record { lines = grind arith; first = λ texts indexes known are. (_, refl) };
+        took = record { lines = grind arith; first = λ texts indexes known are. (_, refl); whole = grind arith };
       },
       record {
         earlier = [];
@@ -56,17 +55,17 @@ returns-in_err-all-clause-ended g c =
       record {
         lines = broke.taken;
         wrote = broke.wrote;
-        took = took (reading opened (rw c.target.ensures at broke.reached));
+        took = took (reading opened (rw c.target.ensures at broke.reached)) false (grind arith);
       },
       record {
         earlier = h.so_far.taken;
-        first = (took r).first;
+        first = (took r false (grind arith)).first;
         before = record {
           state = h.point.sink;
           middle = h.point.written;
           more = h.more;
           came = h.so_far.came;
-          within = gave_upto r (Some h.next) r.taken c.merge.new.sources c.merge.new.merge.cursors.items
+          within = gave_upto r (Some h.next) h.so_far.taken c.merge.new.sources c.merge.new.merge.cursors.items
               (cut_before r h.next h.above h.least) c.merge.ensures.moved (omega arith)
               (λ texts known. rw c.target.ensures at (h.read texts (known_opened r texts known)));
         };
@@ -83,22 +82,22 @@ pub returns-clause-ended : goal.returns-clause-ended
 returns-clause-ended g c =
     let q = c.args.query.now in
     let passed = c.in_ok-all.ensures.ended in
+    let taken = passed.so_far.taken in
     let r = reading (start g (goal.at.returns-clause-ended g c).In_ok-opened)
     (rw c.target.ensures at passed.so_far.reached) in
-    let t = took r in
     let read = of_parts r c.lines.result c.lines.ensures c.in_ok-all.all passed.ended in
     let wanted = by_truth c.in_ok-all.all ((earlier : List Member) × (later : List Member)
-    × (captures q r.taken ≡ captures q earlier ++ later) × WantedMore g.K.Sink
+    × (captures q taken ≡ captures q earlier ++ later) × WantedMore g.K.Sink
     g.S.Source q c.args.sources.now c.merge.new.sources c.args.sink.now
     (g.O.Output.written c.args.out.now) earlier
     × ReadFor q (map g.S.Source.text c.args.sources.now) earlier c.lines.result) (λ e.
     let cut = cut_all r (passed.ended e) in
     let came = passed.so_far.came in (
-      r.taken,
+      taken,
       [],
       sym (append-nil _),
-      record { state = _; middle = _; more = passed.further e; came = came; within = gave_within r r.taken cut },
-      lines_within r c.lines.result c.lines.ensures r.taken cut,
+      record { state = _; middle = _; more = passed.further e; came = came; within = gave_within r taken cut },
+      lines_within r c.lines.result c.lines.ensures taken cut,
     )) (λ e.
     let l = passed.last e in
     let cut = cut_last r l.pair l.earlier l.group l.bound_is l.split l.alike in (
@@ -109,10 +108,9 @@ returns-clause-ended g c =
       lines_within r c.lines.result c.lines.ensures l.earlier cut,
     )) in
     record {
-      lines = r.taken;
+      lines = taken;
       came = passed.so_far.came;
-      took = t;
-      whole = λ e texts indexes known are. wanted_whole r texts known indexes are (passed.ended e);
+      took = took r c.in_ok-all.all passed.ended;
       parts = read;
       earlier = wanted.0;
       later = wanted.1;

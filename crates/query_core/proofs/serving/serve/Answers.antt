@@ -1,4 +1,5 @@
-use Rattle.query_core.proofs.Words.{◌+◌, QUERY_LIMIT, TakesLine, arith, err_from_is_err_and, prepend_known, refl, true}
+use Rattle.query_core.proofs.Words.{◌+◌, QUERY_LIMIT, TakesLine, arith, err_from_is_err_and, prepend_known, refl}
+use Rattle.query_core.proofs.Words.{true}
 use Rattle.devices.proofs.Takings.{taken-join}
 use Rattle.query_core.proofs.ReplyLemmas.{spent_none, spent_more, spent_within, input_stops, line_more, line_none}
 use Rattle.query_core.proofs.ReplyLemmas.{line_within, one_reply, one_reply_part, replied_front, replied_none}
@@ -12,7 +13,7 @@ use Rattle.query_core.proofs.serving.serve.Goals as goal
 pub returns-in_err-next-clause-lines : goal.returns-in_err-next-clause-lines
 returns-in_err-next-clause-lines g c =
     rw (err_from_is_err_and c.from_residual-in_err-next.result c.from_residual-in_err-next.ensures.1).1
-    (replied_front _ _ _ _ _ _ _ c.loop-lines.invariant.any)
+    (replied_front c.loop-lines.invariant.any)
 
 pub returns-in_err-next-clause-taken : goal.returns-in_err-next-clause-taken
 returns-in_err-next-clause-taken g c = λ e.
@@ -20,9 +21,8 @@ returns-in_err-next-clause-taken g c = λ e.
     let stops = input_stops _ _ _ _ _ _ _ c.from_residual-in_err-next.ensures.1 e failed.stopped failed.failures in
     let inv = c.loop-lines.invariant in
     record {
-      any = replied_taken _ _ _ _ _ _ _ _ _ inv.any inv.taken stops;
-      over = λ texts indexes known are.
-          replied_taken _ _ _ _ _ _ _ _ _ (inv.told texts indexes known are).so_far inv.taken stops;
+      any = replied_taken inv.any _ _ inv.taken stops;
+      over = λ texts indexes known are. replied_taken (inv.told texts indexes known are).so_far _ _ inv.taken stops;
     }
 
 -- ---- a reply ends in a fault
@@ -101,5 +101,5 @@ pub returns-clause-replies : goal.returns-clause-replies
 returns-clause-replies g c = λ texts indexes known are.
     let inv = c.loop-lines.invariant in
     let read = c.in_ok-next.ensures in
-    one_reply _ _ _ _ _ _ (line_none _ _ _ _ _ _ _ _ _ _ _ _ (inv.told texts indexes known are).so_far
-    (rw inv.most at read.line) c.if-branch.false inv.taken read.count read.within)
+    one_reply _ _ _ _ _ _ (line_none (inv.told texts indexes known are).so_far _ _ _ _ _ (rw inv.most at read.line)
+    c.if-branch.false inv.taken read.count read.within)

@@ -1,6 +1,5 @@
-use Rattle.std.proofs.Common.{◌≡◌, ◌↔◌, ℕ, true, List, length, Result, Ok, Err, arith}
-use Rattle.std.proofs.lemmas.Bool.{cases_lt}
-use Rattle.std.proofs.lemmas.Result.{err_from_is_err_and}
+use Rattle.query_core.proofs.Words.{◌↔◌, ◌≡◌, Err, List, Ok, arith, cases_lt, err_from_is_err_and, length, true, ℕ}
+use Rattle.std.proofs.Common.{Result}
 use Rattle.index_core.specs.declared.fault.IndexFault.{IndexFault}
 use Rattle.index_core.specs.declared.fault.IndexFault.TheVariants.{BadName, DuplicateName}
 use Rattle.index_core.specs.Indexing.{IsName, is_among}

@@ -1,6 +1,4 @@
-use Rattle.std.proofs.Common.{arith}
-use Rattle.std.proofs.lemmas.Result.{err_from_is_err_and}
-use Rattle.std.proofs.lemmas.List.{length-map}
+use Rattle.query_core.proofs.Words.{arith, err_from_is_err_and, length-map}
 use Rattle.scan_core.proofs.ScanLemmas.{scanned_whole, scanned_part}
 use Rattle.scan_core.proofs.scanning.scan.Goals as goal
 

@@ -1,26 +1,19 @@
-use Rattle.std.specs.List.{AllZip}
-use Rattle.std.proofs.Common.{◌≡◌, ℕ, suc, ◌≤◌, true, List, [], ◌∷◌, map, get_or, Option, Some, Result, Ok, Err, IfErr}
-use Rattle.std.proofs.Common.{refl, arith, length, ap, ◌∙◌}
-use Rattle.std.proofs.lemmas.Bool.Decides.{nat_tests}
-use Rattle.cdxj_core.specs.declared.limit.TheConstants.{LINE_LIMIT}
-use Rattle.cdxj_core.specs.Indexes.{IsIndex}
-use Rattle.cdxj_core.specs.Members.{Member}
+use Rattle.query_core.proofs.Words.{[], ◌∙◌, ◌∷◌, ◌≡◌, ◌≤◌, AllZip, Err, IsAnswerFaultOf, IsIndex, Known}
+use Rattle.query_core.proofs.Words.{LINE_LIMIT, List, Member, Ok, Option, Some, ap, arith, collection, get_or, length}
+use Rattle.query_core.proofs.Words.{length-map, map, nat_tests, refl, same_part, selected, suc, true, wrote_nothing}
+use Rattle.query_core.proofs.Words.{ℕ}
+use Rattle.std.proofs.Common.{Result, IfErr}
 use Rattle.devices.specs.Device.{next_count}
-use Rattle.merge_core.specs.Collections.{Known, collection}
 use Rattle.merge_core.specs.Failures.{RaisedAt}
-use Rattle.query_core.specs.declared.fault.AnswerFault.{AnswerFault}
 use Rattle.query_core.specs.AnswerCounts.{CountsAnswer}
-use Rattle.query_core.specs.IndexFaults.{IsAnswerFaultOf}
+use Rattle.query_core.specs.declared.fault.AnswerFault.{AnswerFault}
 use Rattle.query_core.specs.declared.merging.TheConstants.{SOURCES_LIMIT}
 use Rattle.query_core.specs.Paging.{are_sizes}
 use Rattle.query_core.specs.QueryLaws.{NoLineIsAtFault}
 use Rattle.query_core.specs.Refusals.{Refuses, bad_sizes_or_too_many}
-use Rattle.std.proofs.lemmas.List.{get_or-set_same, length-map}
+use Rattle.std.proofs.lemmas.List.{get_or-set_same}
 use Rattle.scan_core.specs.Scanning.{IsPagesFault}
-use Rattle.devices.proofs.WritingLemmas.{wrote_nothing}
 use Rattle.source_core.specs.Slices.{slice_text}
-use Rattle.query_text.specs.Collapses.{same_part}
-use Rattle.query_core.specs.QueryPages.{selected}
 use Rattle.query_core.proofs.PagesLemmas.{all_positive}
 use Rattle.scan_core.proofs.scanning.write_pages.Goals as goal
 

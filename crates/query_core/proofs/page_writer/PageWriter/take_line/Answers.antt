@@ -1,65 +1,51 @@
-use Rattle.query_core.proofs.Words.{[], ◌∙◌, ◌≡◌, FitsWord, ap, append-nil, arith, err_from_is_err_and, false}
-use Rattle.query_core.proofs.Words.{from_view, grows_by, grows_on, grows_part, is_full, rules, sym, true≢false}
-use Rattle.std.proofs.lemmas.List.{nil_from_length}
-use Rattle.query_core.specs.WriterView.{captures_of}
-use Rattle.query_core.proofs.WriterLemmas.{captures_append, after_end, after_full, written_one, broke_row, broke_longer}
-use Rattle.query_core.proofs.WriterLemmas.{written_front}
-use Rattle.query_core.proofs.PagesLemmas.{stands_front, front_more, capture_stands, capture_front}
+use Rattle.query_core.proofs.Words.{[], ◌∙◌, ◌∷◌, ◌≡◌, FitsWord, arith, err_from_is_err_and, false, grows_by}
+use Rattle.query_core.proofs.Words.{grows_on, grows_part, is_full, rules, sym, true≢false}
 use Rattle.query_core.proofs.page_writer.PageWriter.take_line.Given.{Over}
 use Rattle.query_core.proofs.page_writer.PageWriter.take_line.Goals.{After-make_room}
+use Rattle.query_core.proofs.PagesLemmas.{more_lines, stands_over, wrote_holds, took_next, stands_followed}
+use Rattle.query_core.proofs.PagesLemmas.{broke_more, wrote_front, row_stands, row_front, room_front, ended_is}
+use Rattle.query_core.proofs.PagesLemmas.{goes_on}
+use Rattle.std.proofs.lemmas.List.{nil_from_length}
+use Rattle.query_core.specs.WriterView.{pages_so_far}
 use Rattle.query_core.proofs.page_writer.PageWriter.take_line.Goals as goal
 
 -- ---- nothing more is wanted
 
 pub returns-then-self-clause-wrote : goal.returns-then-self-clause-wrote
 returns-then-self-clause-wrote g c = λ first taken start s.
-    let w = c.args.self.now.selection in
+    let more = more_lines first taken (c.args.line.now ∷ []) in
     record {
       same = s.same;
       selects = λ e. absurd (true≢false (sym c.if-self.true ∙ e));
-      one = λ none. let one = s.one none in record {
-        limit = one.limit;
-        sizes = one.sizes;
-        stands = after_end one.stands _ _ (captures_append w.query.now (from_view w.from) taken _) c.if-self.true;
-      };
-      all = λ positive. absurd (true≢false (sym c.if-self.true ∙ (s.all positive).more));
+      stands = λ sized. rw more.1 (stands_over (s.stands sized) (wrote_holds s sized) c.if-self.true more.0);
     }
 
 -- ---- the line is no capture
 
 pub returns-then-not-branch-clause-wrote : goal.returns-then-not-branch-clause-wrote
 returns-then-not-branch-clause-wrote g c = λ first taken start s.
-    let same = c.takes.ensures.same in
     let took = c.in_ok-takes.ensures.took taken (s.selects c.if-self.false) in
+    let same = c.takes.ensures.same in
     record {
       same = (same.0 ∙ s.same.0, same.1 ∙ s.same.1);
       selects = λ e. took.selects;
-      one = λ none. let one = s.one none in record {
-        limit = one.limit;
-        sizes = one.sizes;
-        stands = rw (same.0, same.1, took.captures, c.if-not-branch.true, append-nil) one.stands;
-      };
-      all = λ positive. let all = s.all positive in record {
-        more = all.more;
-        stands = rw (same.0, same.1, took.captures, c.if-not-branch.true, append-nil) all.stands;
-      };
+      stands = λ sized. rw (took_next s took, c.if-not-branch.true) (s.stands sized);
     }
 
 -- ---- a capture follows the page, which is the only one
 
 pub returns-then-is_full-clause-wrote : goal.returns-then-is_full-clause-wrote
 returns-then-is_full-clause-wrote g c = λ first taken start s.
-    let same = c.takes.ensures.same in
     let took = c.in_ok-takes.ensures.took taken (s.selects c.if-self.false) in
+    let same = c.takes.ensures.same in
     let none = nil_from_length c.args.self.now.sizes.now (search rules) in
     record {
       same = (same.0 ∙ s.same.0, same.1 ∙ s.same.1);
       selects = λ e. took.selects;
-      one = λ none.
-          let one = s.one none in
-          let stood = after_full one.stands c.args.line.now (search rules) in
-          record { limit = one.limit; sizes = one.sizes; stands = grind arith };
-      all = λ positive. absurd (rw none at (s.all positive).stands.0.written.positive);
+      stands = λ sized.
+          let ended = ended_is (s.stands sized) (wrote_holds s sized) (search rules) none (search rules) in
+          rw (took_next s took, c.if-not-branch.false) (stands_followed (s.stands sized) c.args.line.now _ ended
+          c.is_some-self.ensures);
     }
 
 -- ---- a capture is written
@@ -71,46 +57,22 @@ no_end g c none = grind arith
 
 pub returns-clause-wrote : goal.returns-clause-wrote
 returns-clause-wrote g c = λ first taken start s.
-    let same = c.takes.ensures.same in
     let took = c.in_ok-takes.ensures.took taken (s.selects c.if-self.false) in
-    let room = c.in_ok-make_room.ensures in
+    let same = c.takes.ensures.same in
     let put = c.in_ok-put_capture.ensures in
-    let page = put.same in
+    let here = (goal.at.returns-clause-wrote g c).After-make_room in
     let selection : c.put_capture.new.self.selection ≡ c.takes.new.self =
-    page.lines.selection ∙ c.make_room.ensures.lines.selection in
+    put.same.lines.selection ∙ c.make_room.ensures.lines.selection in
     record {
       same = rw selection (same.0 ∙ s.same.0, same.1 ∙ s.same.1);
       selects = λ e. rw selection took.selects;
-      one = λ none.
-          let one = s.one none in
-          let free = no_end g (goal.at.returns-clause-wrote g c).After-make_room one.sizes in
-          let kept = room.room free.0 in
-          let stood = written_one one.stands free.0 free.1 _ _ _ _ (rw kept.0 at put.gave.given)
-          (rw kept.0 at put.gave.last) (rw (kept.0, kept.1, same.0) at put.text) c.if-self.false in
-          record {
-            limit = page.limit ∙ ap (λ w. w.limit) kept.0 ∙ one.limit;
-            sizes = ap (λ r. r.now) page.sizes ∙ ap (λ w. w.sizes.now) kept.0 ∙ one.sizes;
-            stands = grind arith;
-          };
-      all = λ positive.
-          let all = s.all positive in
-          let pages = room.pages first.sizes.now (captures_of c.args.self.now.selection taken) start
-          (rw same.0 all.stands.0) in
-          let stands = capture_stands pages.pages pages.room pages.fits c.args.line.now _ _ _ put.gave.given put.gave.last
-          put.text in
-          record {
-            more = page.lines.more ∙ c.make_room.ensures.lines.more ∙ all.more;
-            stands = rw (
-              selection,
-              page.limit,
-              page.sizes,
-              page.count,
-              same.0,
-              same.1,
-              took.captures,
-              c.if-not-branch.false,
-            ) (rw (c.make_room.ensures.lines.selection, same.0) at stands);
-          };
+      stands = λ sized.
+          let goes = goes_on s sized (no_end g here) in
+          let holds = wrote_holds s sized in
+          let room = c.in_ok-make_room.ensures.pages first.selection.query.now _ start
+          (record { query = grind arith; stands = s.stands sized; holds = holds; goes = goes }) in
+          rw (took_next s took, c.if-not-branch.false)
+          (row_stands _ _ goes c.args.line.now room holds _ _ put.same put.gave (grind arith));
     }
 
 pub returns-clause-grows : goal.returns-clause-grows
@@ -120,49 +82,33 @@ returns-clause-grows g c = grows_on _ _ _ c.make_room.ensures.grows (grind (arit
 
 pub returns-in_err-takes-clause-wrote : goal.returns-in_err-takes-clause-wrote
 returns-in_err-takes-clause-wrote g c = λ first taken start s.
-    let w = c.args.self.now.selection in
-    rw (err_from_is_err_and c.from_residual.result c.from_residual.ensures.1).1 (record {
-      one = λ none. let one = s.one none in
-          rw (← s.same.0, ← s.same.1, ← one.limit) (broke_longer w.query.now (from_view w.from) c.args.self.now.limit taken
-          _ start _ (written_front one.stands));
-      all = λ positive. let all = s.all positive in
-          rw (← s.same.0, ← s.same.1) (front_more w.query.now (from_view w.from) first.sizes.now taken _ start _
-          (stands_front all.stands.0 all.stands.1));
-    })
+    rw (err_from_is_err_and c.from_residual.result c.from_residual.ensures.1).1
+    (broke_more first taken _ start _ (wrote_front s))
 
 pub returns-in_err-make_room-clause-wrote : goal.returns-in_err-make_room-clause-wrote
 returns-in_err-make_room-clause-wrote g c = λ first taken start s.
-    let same = c.takes.ensures.same in
     let took = c.in_ok-takes.ensures.took taken (s.selects c.if-self.false) in
-    rw (err_from_is_err_and c.from_residual-in_err-make_room.result c.from_residual-in_err-make_room.ensures.1).1 (record {
-      one = λ none. absurd (c.in_err-make_room.ensures.room
-          (no_end g (goal.at.returns-in_err-make_room-clause-wrote g c).After-make_room (s.one none).sizes).0);
-      all = λ positive.
-          rw (← s.same.0, ← s.same.1, took.captures, c.if-not-branch.false, ← same.0)
-          (c.in_err-make_room.ensures.pages first.sizes.now _ start (rw same.0 (s.all positive).stands.0) c.args.line.now);
-    })
+    let here = (goal.at.returns-in_err-make_room-clause-wrote g c).After-make_room in
+    rw (err_from_is_err_and c.from_residual-in_err-make_room.result c.from_residual-in_err-make_room.ensures.1).1
+    (λ sized.
+    let goes = goes_on s sized (no_end g here) in
+    let broke = c.in_err-make_room.ensures.pages first.selection.query.now _ start
+    (record { query = grind arith; stands = s.stands sized; holds = wrote_holds s sized; goes = goes }) in
+    rw (took_next s took, c.if-not-branch.false) (room_front first.selection.query.now (pages_so_far first taken) goes
+    c.args.line.now broke))
 
 pub returns-in_err-put_capture-clause-wrote : goal.returns-in_err-put_capture-clause-wrote
 returns-in_err-put_capture-clause-wrote g c = λ first taken start s.
-    let same = c.takes.ensures.same in
     let took = c.in_ok-takes.ensures.took taken (s.selects c.if-self.false) in
-    let room = c.in_ok-make_room.ensures in
-    let part = c.in_err-put_capture.ensures.text in
+    let here = (goal.at.returns-in_err-put_capture-clause-wrote g c).After-make_room in
+    let same_query : c.make_room.new.self.selection.query.now ≡ first.selection.query.now = grind arith in
     rw (err_from_is_err_and c.from_residual-in_err-put_capture.result c.from_residual-in_err-put_capture.ensures.1).1
-    (record {
-      one = λ none.
-          let one = s.one none in
-          let free = no_end g (goal.at.returns-in_err-put_capture-clause-wrote g c).After-make_room one.sizes in
-          let kept = room.room free.0 in
-          rw (← s.same.0, ← s.same.1, ← one.limit, took.captures, c.if-not-branch.false)
-          (broke_row one.stands free.0 free.1 c.args.line.now _ (rw (kept.0, kept.1, same.0) at part));
-      all = λ positive.
-          let pages = room.pages first.sizes.now (captures_of c.args.self.now.selection taken) start
-          (rw same.0 (s.all positive).stands.0) in
-          rw (← s.same.0, ← s.same.1, took.captures, c.if-not-branch.false)
-          (rw (c.make_room.ensures.lines.selection, same.0) at (capture_front pages.pages pages.room pages.fits
-          c.args.line.now _ part));
-    })
+    (λ sized.
+    let goes = goes_on s sized (no_end g here) in
+    let room = c.in_ok-make_room.ensures.pages first.selection.query.now _ start
+    (record { query = grind arith; stands = s.stands sized; holds = wrote_holds s sized; goes = goes }) in
+    rw (took_next s took, c.if-not-branch.false) (row_front _ _ goes c.args.line.now room _
+    (rw (← same_query) c.in_err-put_capture.ensures.text)))
 
 pub returns-in_err-put_capture-clause-grows : goal.returns-in_err-put_capture-clause-grows
 returns-in_err-put_capture-clause-grows g c = grows_on _ _ _ c.make_room.ensures.grows (grind (arith, grows_part))

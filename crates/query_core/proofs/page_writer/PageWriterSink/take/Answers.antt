@@ -1,7 +1,6 @@
-use Rattle.query_core.proofs.Words.{◌≡◌, arith, err_from_is_err_and, from_view, grows_on, take}
-use Rattle.query_core.proofs.Words.{take_all}
-use Rattle.query_core.proofs.PagesLemmas.{front_more}
-use Rattle.query_core.proofs.WriterLemmas.{one_more, parted, broke_longer}
+use Rattle.query_core.proofs.Words.{◌≡◌, arith, err_from_is_err_and, grows_on, take, take_all}
+use Rattle.query_core.proofs.WriterLemmas.{one_more, parted}
+use Rattle.query_core.proofs.PagesLemmas.{broke_more}
 use Rattle.query_core.proofs.page_writer.PageWriterSink.take.Goals as goal
 
 pub loop-line-preserved : goal.loop-line-preserved
@@ -22,12 +21,8 @@ pub returns-in_err-take_line-clause-wrote : goal.returns-in_err-take_line-clause
 returns-in_err-take_line-clause-wrote g c = λ first taken start s.
     let parts = parted (λ l. l.now) taken c.args.lines.now _ c.line-item.result c.loop-line-test.true c.line-item.is in
     let broke = c.in_err-take_line.ensures.wrote first _ start (c.loop-line.invariant.wrote first taken start s) in
-    rw ((err_from_is_err_and c.from_residual.result c.from_residual.ensures.1).1, parts.1) (record {
-      one = λ none. broke_longer first.selection.query.now (from_view first.selection.from) first.limit _ parts.0 start _
-          (broke.one none);
-      all = λ positive. front_more first.selection.query.now (from_view first.selection.from) first.sizes.now _ parts.0
-          start _ (broke.all positive);
-    })
+    rw ((err_from_is_err_and c.from_residual.result c.from_residual.ensures.1).1, parts.1)
+    (broke_more first _ parts.0 start _ broke)
 
 pub returns-in_err-take_line-clause-grows : goal.returns-in_err-take_line-clause-grows
 returns-in_err-take_line-clause-grows g c = grows_on _ _ _ c.loop-line.invariant.grows c.take_line.ensures.grows
