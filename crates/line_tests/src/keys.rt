@@ -117,17 +117,14 @@ const TARGETS: &[&[(&str, &str)]] = &[
     OTHER_SCHEMES,
 ];
 
-fn has_key(alloc: Global, target: &str, key: &str) -> Result<bool, KeyFault> {
-    let without_room = url_key_with_room(alloc, target, 0)?;
-    Ok(url_key(alloc, target)?.as_str() == key && without_room.as_str() == key)
-}
-
 /// The URL's parts by the URL Standard, the key by the rules of docs/CDXJ.md.
 #[test]
 fn targets_have_keys(rt: HostRuntime) -> Result<(), KeyFault> {
     for table in TARGETS {
         for (target, key) in *table {
-            assert!(rt; has_key(rt.alloc(), target, key)?, "{target}");
+            assert!(rt; url_key(rt.alloc(), target)?.as_str() == *key, "{target}");
+            let without_room = url_key_with_room(rt.alloc(), target, 0)?;
+            assert!(rt; without_room.as_str() == *key, "{target}");
         }
     }
     Ok(())

@@ -20,12 +20,6 @@ fn offset_of(alloc: Global, line: &[u8]) -> Result<Option<u64>, LineFault> {
     }
 }
 
-/// Returns `true` if a line of this length is read, or is too long.
-fn is_limited(alloc: Global, length: usize, feed: bool, is_read: bool) -> Result<bool, LineFault> {
-    let line = long_line(alloc, length, feed)?;
-    Ok(offset_of(alloc, &line)? == is_read.then_some(7))
-}
-
 /// Lengths of lines, whether their last byte is a line feed, and whether they are read.
 const LENGTHS: &[(usize, bool, bool)] = &[
     (1_048_577, true, true),
@@ -41,24 +35,20 @@ const LENGTHS: &[(usize, bool, bool)] = &[
 fn a_line_is_read_up_to_the_limit(rt: HostRuntime) -> Result<(), LineFault> {
     assert!(rt; LINE_LIMIT == 16_777_216);
     for (length, feed, is_read) in LENGTHS {
+        let line = long_line(rt.alloc(), *length, *feed)?;
         assert!(rt;
-            is_limited(rt.alloc(), *length, *feed, *is_read)?,
+            offset_of(rt.alloc(), &line)? == is_read.then_some(7),
             "{length}, {feed}"
         );
     }
     Ok(())
 }
 
-/// Returns `true` if a line of this byte, over the limit, is too long.
-fn is_too_long(alloc: Global, byte: u8) -> Result<bool, LineFault> {
-    let line = padded(alloc, b"", byte, b"x", 16_777_217)?;
-    Ok(offset_of(alloc, &line)?.is_none())
-}
-
 #[test]
 fn a_line_over_the_limit_is_too_long_before_all_else(rt: HostRuntime) -> Result<(), LineFault> {
     for byte in b"\xff\n \0" {
-        assert!(rt; is_too_long(rt.alloc(), *byte)?, "{byte}");
+        let line = padded(rt.alloc(), b"", *byte, b"x", 16_777_217)?;
+        assert!(rt; offset_of(rt.alloc(), &line)?.is_none(), "{byte}");
     }
     Ok(())
 }
@@ -96,16 +86,12 @@ pub fn has_pair(line: &[u8], key: &[u8]) -> bool {
     }
 }
 
-fn has_no_pair(line: &[u8]) -> bool {
-    split_pair(line).is_none()
-}
-
 #[test]
 fn pairs_stand_in_front(rt: HostRuntime) {
     for (line, key) in PAIRS {
         assert!(rt; has_pair(line, key));
     }
     for line in WITHOUT_PAIR {
-        assert!(rt; has_no_pair(line));
+        assert!(rt; split_pair(line).is_none());
     }
 }

@@ -24,20 +24,17 @@ fn has_foreign_values(read: &LineRef<'_>) -> bool {
         .all(|(field, value)| read.value(*field) == *value)
 }
 
-fn has_foreign_pair(read: &LineRef<'_>) -> bool {
-    read.pair()
-        == Pair {
-            key: "com,example)/",
-            stamp: *b"20140103030321",
-        }
-}
+const FOREIGN_PAIR: Pair<'static> = Pair {
+    key: "com,example)/",
+    stamp: *b"20140103030321",
+};
 
 #[test]
 fn a_foreign_line_is_read(rt: HostRuntime) -> Result<(), LineFault> {
     let kept = Line::read(rt.alloc(), FOREIGN)?;
     let read = kept.values();
-    assert!(rt; has_foreign_values(&read));
-    assert!(rt; has_foreign_pair(&read) && read.line() == FOREIGN);
+    assert!(rt; has_foreign_values(&read) && read.pair() == FOREIGN_PAIR);
+    assert!(rt; read.line() == FOREIGN);
     Ok(())
 }
 

@@ -286,22 +286,13 @@ const NOT_GOOD: &[Members] = &[
     },
 ];
 
-fn is_good(alloc: Global, members: &Members) -> Result<bool, AllocError> {
-    Ok(entry(alloc, members)?.good())
-}
-
 #[test]
 fn an_entry_is_good_where_each_member_is(rt: HostRuntime) -> Result<(), Fail> {
     for members in [&HOME, &RESOURCE, &ESCAPED, &GREATEST] {
-        assert!(rt; is_good(rt.alloc(), members)?);
+        assert!(rt; entry(rt.alloc(), members)?.good());
     }
-    for members in NOT_GOOD {
-        assert!(rt;
-            !is_good(rt.alloc(), members)?,
-            "{} of length {}",
-            members.key,
-            members.length
-        );
+    for (number, members) in NOT_GOOD.iter().enumerate() {
+        assert!(rt; !entry(rt.alloc(), members)?.good(), "row {number}");
     }
     Ok(())
 }

@@ -1,8 +1,9 @@
 //! Conversations: the replies to the lines of an input.
+use crate::calls::served;
 use crate::small_indexes::{APART, index_texts, slices};
-use devices::{Fuse, Gather, Slice};
-use fixtures::{FIRST_OF_2016, Refused, Rows, joined, padded};
-use query_core::{AnswerFault, serve};
+use devices::{Fuse, Slice};
+use fixtures::{FIRST_OF_2016, Rows, joined, padded};
+use query_core::AnswerFault;
 use std::alloc::{AllocError, Global};
 use std::test::Fail;
 
@@ -23,11 +24,8 @@ fn is_served(
     let texts = index_texts(alloc, indexes)?;
     let mut sources = slices(alloc, &texts)?;
     let mut input = Fuse::new(Slice::new(input), piece, at);
-    let mut out = Gather::new(alloc);
-    match serve(alloc, &mut sources, &mut input, &mut out) {
-        Err(AnswerFault::Memory | AnswerFault::Write) => Err(Refused::Memory)?,
-        answer => Ok(answer == wanted && out.bytes() == replies),
-    }
+    let (result, out) = served(alloc, &mut sources, &mut input)?;
+    Ok(result == wanted && out.bytes() == replies)
 }
 
 /// Three queries, the last line without a line feed, and the replies to them.

@@ -1,4 +1,3 @@
 //! Devices that fail, and indexes at fault.
 mod failing_devices;
 mod lines;
-mod one_index;

@@ -27,19 +27,11 @@ const YEARS: Rows = &[
     ("com,example)/", "20170101000000", "a.warc", 1),
 ];
 
-/// Returns `true` if the query selects the lines with these numbers.
-fn asks_for(alloc: Global, text: &str, rows: Rows, wanted: &str) -> Result<bool, Fail> {
-    let lines = index_lines(alloc, rows)?;
-    Ok(selected(alloc, text, &lines)?.as_str() == wanted)
-}
+/// Queries, and the numbers of the lines that they select, each with a space before it.
+type Selections = &'static [(&'static str, &'static str)];
 
-/// Returns `true` if the query selects the line of another tool.
-fn asks_for_foreign(alloc: Global, text: &str, wanted: &str) -> Result<bool, Fail> {
-    let lines = [FOREIGN.to_vec(alloc)?];
-    Ok(selected(alloc, text, &lines)?.as_str() == wanted)
-}
-
-const IN_HOSTS: &[(&str, &str)] = &[
+/// A domain has its subdomains and ports.
+const IN_HOSTS: Selections = &[
     ("url=*.example.com&fl=offset", " 0 1 3"),
     ("url=example.com&matchType=domain", " 0 1 3"),
     ("url=example.com&matchType=host&fl=offset", " 0 3"),
@@ -58,15 +50,8 @@ const IN_HOSTS: &[(&str, &str)] = &[
     ("key=", ""),
 ];
 
-#[test]
-fn a_domain_has_its_subdomains_and_ports(rt: HostRuntime) -> Result<(), Fail> {
-    for (text, wanted) in IN_HOSTS {
-        assert!(rt; asks_for(rt.alloc(), text, HOSTS, wanted)?, "{text}");
-    }
-    Ok(())
-}
-
-const IN_YEARS: &[(&str, &str)] = &[
+/// Stamps are compared in the digits given.
+const IN_YEARS: Selections = &[
     ("url=example.com&from=2016&to=20161&fl=timestamp", " 0"),
     ("url=example.com&to=2016", " 0"),
     ("url=example.com&to=2", " 0 1"),
@@ -83,15 +68,8 @@ const IN_YEARS: &[(&str, &str)] = &[
     ("url=example.com&from=0&to=9", " 0 1"),
 ];
 
-#[test]
-fn stamps_are_compared_in_the_digits_given(rt: HostRuntime) -> Result<(), Fail> {
-    for (text, wanted) in IN_YEARS {
-        assert!(rt; asks_for(rt.alloc(), text, YEARS, wanted)?, "{text}");
-    }
-    Ok(())
-}
-
-const IN_LETTERS: &[(&str, &str)] = &[
+/// A key is taken as it stands.
+const IN_LETTERS: Selections = &[
     ("key=a)/&fl=offset", " 0"),
     ("key=c)/&fl=offset", " 2"),
     ("key=0", ""),
@@ -101,29 +79,8 @@ const IN_LETTERS: &[(&str, &str)] = &[
     ("key=b&matchType=host", " 1"),
 ];
 
-#[test]
-fn a_key_is_taken_as_it_stands(rt: HostRuntime) -> Result<(), Fail> {
-    for (text, wanted) in IN_LETTERS {
-        assert!(rt; asks_for(rt.alloc(), text, LETTER_ROWS, wanted)?, "{text}");
-    }
-    Ok(())
-}
-
-const IN_FOREIGN: &[(&str, &str)] = &[
-    ("url=example.com&output=cdxj", " 0"),
-    ("url=example.com&is=statuscode:200", " 0"),
-    ("url=example.com&filter=statuscode:404", ""),
-];
-
-#[test]
-fn lines_of_other_tools_are_selected(rt: HostRuntime) -> Result<(), Fail> {
-    for (text, wanted) in IN_FOREIGN {
-        assert!(rt; asks_for_foreign(rt.alloc(), text, wanted)?, "{text}");
-    }
-    Ok(())
-}
-
-const FILTERED: &[(&str, &str)] = &[
+/// All filters have to hold.
+const FILTERED: Selections = &[
     ("key=a)/&is=mimetype:text/html", " 0"),
     ("key=a)/&is=mimetype:text", ""),
     ("key=a)/&is=mimetype:", ""),
@@ -151,60 +108,95 @@ const FILTERED: &[(&str, &str)] = &[
     ("key=&matchType=prefix&isnot=offset:1", " 0 2"),
 ];
 
+const INDEXES: &[(Rows, Selections)] = &[
+    (HOSTS, IN_HOSTS),
+    (YEARS, IN_YEARS),
+    (LETTER_ROWS, IN_LETTERS),
+    (LETTER_ROWS, FILTERED),
+];
+
 #[test]
-fn all_filters_have_to_hold(rt: HostRuntime) -> Result<(), Fail> {
-    for (text, wanted) in FILTERED {
-        assert!(rt; asks_for(rt.alloc(), text, LETTER_ROWS, wanted)?, "{text}");
+fn lines_are_selected_by_target_stamps_and_filters(rt: HostRuntime) -> Result<(), Fail> {
+    for (rows, selections) in INDEXES {
+        let lines = index_lines(rt.alloc(), rows)?;
+        for (text, wanted) in *selections {
+            assert!(rt;
+                selected(rt.alloc(), text, &lines)?.as_str() == *wanted,
+                "{text}"
+            );
+        }
     }
     Ok(())
 }
 
-/// Returns `true` if the key is past the range of a query.
-fn is_past(alloc: Global, text: &str, key: &str) -> Result<bool, QueryFault> {
-    Ok(Query::read(alloc, text)?.target().is_past(key))
-}
-
-/// Returns `true` if the key is in the range of a query.
-fn covers(alloc: Global, text: &str, key: &str) -> Result<bool, QueryFault> {
-    Ok(Query::read(alloc, text)?.target().covers(key))
-}
-
-/// Queries, keys, and whether these are past the range.
-const PAST: &[(&str, &str, bool)] = &[
-    ("url=*.example.com", "com,a)/", false),
-    ("url=*.example.com", "com,example", false),
-    ("url=*.example.com", "com,example-shop)/", false),
-    ("url=*.example.com", "com,examplf)/", true),
-    ("key=a)/", "a)", false),
-    ("key=a)/", "a)/", false),
-    ("key=a)/", "a)/b", true),
-    ("key=a)/&matchType=prefix", "a)/b", false),
-    ("key=a)/&matchType=prefix", "a)0", true),
-    ("key=&matchType=prefix", "z", false),
-    ("key=", "a", true),
+const IN_FOREIGN: Selections = &[
+    ("url=example.com&output=cdxj", " 0"),
+    ("url=example.com&is=statuscode:200", " 0"),
+    ("url=example.com&filter=statuscode:404", ""),
 ];
 
 #[test]
-fn keys_past_the_range_end_it(rt: HostRuntime) -> Result<(), QueryFault> {
-    for (text, key, wanted) in PAST {
-        assert!(rt; is_past(rt.alloc(), text, key)? == *wanted, "{text} {key}");
+fn lines_of_other_tools_are_selected(rt: HostRuntime) -> Result<(), Fail> {
+    let lines = [FOREIGN.to_vec(rt.alloc())?];
+    for (text, wanted) in IN_FOREIGN {
+        assert!(rt;
+            selected(rt.alloc(), text, &lines)?.as_str() == *wanted,
+            "{text}"
+        );
     }
     Ok(())
 }
 
-/// Queries, keys, and whether these are in the range.
-const COVERED: &[(&str, &str, bool)] = &[
-    ("key=a)/", "a)/", true),
-    ("key=a)/", "a)/b", false),
-    ("url=*.example.com", "com,example-shop)/", true),
-    ("url=*.example.com", "com,exampl", false),
-    ("url=example.com&matchType=host", "com,example,a)/", true),
+/// Where a key is: outside a query's range but not past it, in the range, or past it.
+#[derive(Clone, Copy, Drop, PartialEq)]
+enum Position {
+    Outside,
+    Within,
+    Past,
+}
+
+/// Returns the position of a key, unless it is said to be in the range and past it.
+fn position_of(alloc: Global, text: &str, key: &str) -> Result<Option<Position>, QueryFault> {
+    let query = Query::read(alloc, text)?;
+    Ok(
+        match (query.target().covers(key), query.target().is_past(key)) {
+            (false, false) => Some(Position::Outside),
+            (true, false) => Some(Position::Within),
+            (false, true) => Some(Position::Past),
+            (true, true) => None,
+        },
+    )
+}
+
+const POSITIONS: &[(&str, &str, Position)] = &[
+    ("url=*.example.com", "com,a)/", Position::Outside),
+    ("url=*.example.com", "com,exampl", Position::Outside),
+    ("url=*.example.com", "com,example", Position::Within),
+    ("url=*.example.com", "com,example-shop)/", Position::Within),
+    ("url=*.example.com", "com,examplf)/", Position::Past),
+    (
+        "url=example.com&matchType=host",
+        "com,example,a)/",
+        Position::Within,
+    ),
+    ("key=a)/", "a)", Position::Outside),
+    ("key=a)/", "a)/", Position::Within),
+    ("key=a)/", "a)/b", Position::Past),
+    ("key=a)/&matchType=prefix", "a)/b", Position::Within),
+    ("key=a)/&matchType=prefix", "a)0", Position::Past),
+    ("key=&matchType=prefix", "z", Position::Within),
+    ("key=", "a", Position::Past),
 ];
 
 #[test]
-fn ranges_begin_with_their_target(rt: HostRuntime) -> Result<(), QueryFault> {
-    for (text, key, wanted) in COVERED {
-        assert!(rt; covers(rt.alloc(), text, key)? == *wanted, "{text} {key}");
+fn ranges_begin_with_their_target_and_keys_past_it_end_them(
+    rt: HostRuntime,
+) -> Result<(), QueryFault> {
+    for (text, key, wanted) in POSITIONS {
+        assert!(rt;
+            position_of(rt.alloc(), text, key)? == Some(*wanted),
+            "{text} {key}"
+        );
     }
     Ok(())
 }

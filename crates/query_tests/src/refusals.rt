@@ -4,21 +4,12 @@ use query_text::{Query, QueryFault};
 use std::alloc::Global;
 use std::test::Fail;
 
-/// Returns `true` if the text is refused for this reason. Failed allocations are errors of the test.
-fn is_refused(alloc: Global, text: &str, wanted: QueryFault) -> Result<bool, QueryFault> {
+/// Returns why the text is refused, if it is. A failed allocation is an error of the test.
+fn refusal(alloc: Global, text: &str) -> Result<Option<QueryFault>, QueryFault> {
     match Query::read(alloc, text) {
-        Ok(_query) => Ok(false),
+        Ok(_query) => Ok(None),
         Err(QueryFault::Memory) => Err(QueryFault::Memory),
-        Err(fault) => Ok(fault == wanted),
-    }
-}
-
-/// Returns `true` if the text is accepted.
-fn is_accepted(alloc: Global, text: &str) -> Result<bool, QueryFault> {
-    match Query::read(alloc, text) {
-        Ok(_query) => Ok(true),
-        Err(QueryFault::Memory) => Err(QueryFault::Memory),
-        Err(_fault) => Ok(false),
+        Err(fault) => Ok(Some(fault)),
     }
 }
 
@@ -258,23 +249,24 @@ const REFUSED: &[&[(&str, QueryFault)]] = &[VALUES, EMPTY_VALUES, TWO_FAULTS, WI
 fn texts_are_refused_for_their_first_fault(rt: HostRuntime) -> Result<(), QueryFault> {
     for table in REFUSED {
         for (text, fault) in *table {
-            assert!(rt; is_refused(rt.alloc(), text, *fault)?, "{text}");
+            assert!(rt; refusal(rt.alloc(), text)? == Some(*fault), "{text}");
         }
     }
     Ok(())
 }
 
-const REFUSED_ALIKE: &[(&[&str], QueryFault)] = &[
-    (UNKNOWN, QueryFault::Unknown),
-    (REPEATED, QueryFault::RepeatedParameter),
-    (NO_PLACES, QueryFault::BadResume),
+const ALIKE: &[(&[&str], Option<QueryFault>)] = &[
+    (UNKNOWN, Some(QueryFault::Unknown)),
+    (REPEATED, Some(QueryFault::RepeatedParameter)),
+    (NO_PLACES, Some(QueryFault::BadResume)),
+    (ACCEPTED, None),
 ];
 
 #[test]
-fn parameters_are_unknown_repeated_or_no_places(rt: HostRuntime) -> Result<(), QueryFault> {
-    for (table, fault) in REFUSED_ALIKE {
+fn parameters_are_unknown_repeated_no_places_or_good(rt: HostRuntime) -> Result<(), QueryFault> {
+    for (table, fault) in ALIKE {
         for text in *table {
-            assert!(rt; is_refused(rt.alloc(), text, *fault)?, "{text}");
+            assert!(rt; refusal(rt.alloc(), text)? == *fault, "{text}");
         }
     }
     Ok(())
@@ -288,15 +280,15 @@ fn around(alloc: Global, front: &str, pattern: &str, end: &str) -> Result<String
     Ok(text)
 }
 
-/// Returns `true` if a filter with this pattern is refused, or accepted.
+/// Returns `true` if the pattern is refused in `filter`, and accepted in `is`.
 fn is_no_literal(alloc: Global, pattern: &str) -> Result<bool, QueryFault> {
     let filter = around(alloc, "url=a&filter=original:x", pattern, "y")?;
     let not = around(alloc, "url=a&filter=!original:", pattern, "")?;
     let is = around(alloc, "url=a&is=original:x", pattern, "y")?;
     Ok(
-        is_refused(alloc, filter.as_str(), QueryFault::NotLiteral)?
-            && is_refused(alloc, not.as_str(), QueryFault::NotLiteral)?
-            && is_accepted(alloc, is.as_str())?,
+        refusal(alloc, filter.as_str())? == Some(QueryFault::NotLiteral)
+            && refusal(alloc, not.as_str())? == Some(QueryFault::NotLiteral)
+            && refusal(alloc, is.as_str())?.is_none(),
     )
 }
 
@@ -308,14 +300,7 @@ fn patterns_are_refused_in_filter_alone(rt: HostRuntime) -> Result<(), QueryFaul
     Ok(())
 }
 
-#[test]
-fn texts_are_accepted(rt: HostRuntime) -> Result<(), QueryFault> {
-    for text in ACCEPTED {
-        assert!(rt; is_accepted(rt.alloc(), text)?, "{text}");
-    }
-    Ok(())
-}
-
+/// Texts, how many letters follow each, and why it is refused, if it is.
 const LENGTHS: &[(&str, usize, Option<QueryFault>)] = &[
     ("", 65_536, Some(QueryFault::Unknown)),
     ("", 65_537, Some(QueryFault::QueryTooLong)),
@@ -324,32 +309,13 @@ const LENGTHS: &[(&str, usize, Option<QueryFault>)] = &[
     ("key=", 65_533, Some(QueryFault::QueryTooLong)),
 ];
 
-/// Returns `true` if the text, followed by `letters` letters, is refused for this reason, or accepted.
-fn is_limited(
-    alloc: Global,
-    text: &str,
-    letters: usize,
-    fault: Option<QueryFault>,
-) -> Result<bool, Fail> {
-    let long = padded(
-        alloc,
-        text.as_bytes(),
-        b'a',
-        b"",
-        text.len().saturating_add(letters),
-    )?;
-    let long = str::from_utf8(&long)?;
-    match fault {
-        Some(fault) => Ok(is_refused(alloc, long, fault)?),
-        None => Ok(is_accepted(alloc, long)?),
-    }
-}
-
 #[test]
 fn texts_have_at_most_65536_bytes(rt: HostRuntime) -> Result<(), Fail> {
     for (text, letters, fault) in LENGTHS {
+        let length = text.len().saturating_add(*letters);
+        let long = padded(rt.alloc(), text.as_bytes(), b'a', b"", length)?;
         assert!(rt;
-            is_limited(rt.alloc(), text, *letters, *fault)?,
+            refusal(rt.alloc(), str::from_utf8(&long)?)? == *fault,
             "{letters}"
         );
     }

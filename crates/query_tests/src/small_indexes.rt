@@ -1,6 +1,6 @@
 //! Small indexes, and sources over them.
 use fixtures::{FIRST_OF_2016, Rows, index_text};
-use query_core::{AnswerFault, FileSource, SliceSource, SystemFile};
+use query_core::{FileSource, SliceSource, SystemFile};
 use std::alloc::{AllocError, Global};
 use std::fs::{self, File, Files};
 use std::rt::Runtime;
@@ -12,15 +12,6 @@ pub const APART: &[Rows] = &[
     &[("com,example)/", FIRST_OF_2016, "a.warc", 20)],
     &[("com,example)/", FIRST_OF_2016, "a.warc", 5)],
 ];
-
-/// Returns the result of a call that writes into memory. A failed allocation of the output is a write error there; here
-/// it is lack of memory.
-pub fn in_memory<T>(answer: Result<T, AnswerFault>) -> Result<T, AnswerFault> {
-    match answer {
-        Err(AnswerFault::Write) => Err(AnswerFault::Memory),
-        answer => answer,
-    }
-}
 
 /// Returns the texts of indexes.
 pub fn index_texts(alloc: Global, indexes: &[Rows]) -> Result<Vec<Vec<u8>>, Fail> {
@@ -49,6 +40,16 @@ pub fn empty_sources(alloc: Global, count: usize) -> Result<Vec<SliceSource<'sta
     Ok(sources)
 }
 
+/// Writes a text to a file, and returns a source over the file.
+pub fn file_of<R: Runtime>(
+    rt: &R,
+    name: &str,
+    text: &[u8],
+) -> Result<FileSource<SystemFile<<R as Files>::File>>, Fail> {
+    fs::write(rt, name, text)?;
+    Ok(FileSource::new(SystemFile(File::open(rt, name)?))?)
+}
+
 /// Returns sources over files that are newly written.
 pub fn files<R: Runtime + AllocGlobal>(
     rt: &R,
@@ -57,9 +58,7 @@ pub fn files<R: Runtime + AllocGlobal>(
     let mut sources = Vec::new(rt.alloc());
     for (number, text) in texts.iter().enumerate() {
         let name = format!(in rt.alloc(); "{number}.cdxj")?;
-        fs::write(rt, name.as_str(), text.as_slice())?;
-        let file = SystemFile(File::open(rt, name.as_str())?);
-        sources.push(FileSource::new(file)?)?;
+        sources.push(file_of(rt, name.as_str(), text)?)?;
     }
     Ok(sources)
 }

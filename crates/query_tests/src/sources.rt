@@ -1,38 +1,18 @@
 //! The lines of sources: checking them, and searching in them.
+use crate::calls::{checked, page};
+use crate::small_indexes::file_of;
 use cdxj_core::{LEAST_PAIR, Pair};
-use devices::{Fuse, Gather};
+use devices::Fuse;
 use fixtures::{
-    FALLING, FIRST_OF_2016, LETTERS, Refused, Row, TORN, UNENDED_LETTERS, cut, falling_lines,
-    index_text, joined, keyed_lines, padded,
+    FALLING, FIRST_OF_2016, LETTERS, Refused, Rows, TORN, UNENDED_LETTERS, cut, index_text, joined,
+    keyed_lines, padded,
 };
-use query_core::{AnswerFault, FileSource, Query, SliceSource, Source, SystemFile, answer, check};
+use query_core::{AnswerFault, FileSource, SliceSource, Source};
 use source_core::{SearchFault, search};
 use std::alloc::Global;
-use std::fs::{self, File, Files};
+use std::fs;
 use std::io::Cursor;
-use std::rt::Runtime;
 use std::test::Fail;
-
-/// Returns `true` if checking a source has this result. A failed allocation is an error.
-fn is_checked<S: Source>(
-    alloc: Global,
-    source: &mut S,
-    wanted: Result<u64, AnswerFault>,
-) -> Result<bool, Refused> {
-    match check(alloc, source) {
-        Err(AnswerFault::Memory) => Err(Refused::Memory),
-        answer => Ok(answer == wanted),
-    }
-}
-
-/// Returns the same of a source over this text.
-fn is_text_checked(
-    alloc: Global,
-    text: &[u8],
-    wanted: Result<u64, AnswerFault>,
-) -> Result<bool, Refused> {
-    is_checked(alloc, &mut SliceSource::new(text), wanted)
-}
 
 /// Texts, and what checking them returns.
 const TEXTS: &[(&[u8], Result<u64, AnswerFault>)] = &[
@@ -44,70 +24,39 @@ const TEXTS: &[(&[u8], Result<u64, AnswerFault>)] = &[
 ];
 
 /// Lines with one key and stamp, whose offsets fall.
-const ONE_PAIR: &[Row] = &[
+const ONE_PAIR: Rows = &[
     ("com,example)/", FIRST_OF_2016, "a.warc", 1000),
     ("com,example)/", FIRST_OF_2016, "a.warc", 99),
 ];
 
 #[test]
 fn an_index_is_counted_or_its_first_line_at_fault_is_named(rt: HostRuntime) -> Result<(), Refused> {
+    let alloc = rt.alloc();
     for (number, (text, wanted)) in TEXTS.iter().enumerate() {
-        assert!(rt; is_text_checked(rt.alloc(), text, *wanted)?, "row {number}");
+        assert!(rt;
+            checked(alloc, &mut SliceSource::new(text))? == *wanted,
+            "row {number}"
+        );
     }
-    let one_pair = index_text(rt.alloc(), ONE_PAIR)?;
-    assert!(rt; is_text_checked(rt.alloc(), &one_pair, Ok(2))?);
-    let with_empty = joined(rt.alloc(), &[cut(LETTERS, 145), b"\n", LETTERS])?;
+    let one_pair = index_text(alloc, ONE_PAIR)?;
+    assert!(rt; checked(alloc, &mut SliceSource::new(&one_pair))? == Ok(2));
+    let with_empty = joined(alloc, &[cut(LETTERS, 145), b"\n", LETTERS])?;
     let bad = Err(AnswerFault::BadLine(0, 145));
-    assert!(rt; is_text_checked(rt.alloc(), &with_empty, bad)?);
+    assert!(rt; checked(alloc, &mut SliceSource::new(&with_empty))? == bad);
     Ok(())
 }
+
+/// Numbers of bytes that a source gives a call, and of its calls for a check of the letters.
+const CALLS: &[(usize, u64)] = &[(1, 434), (2, 217), (8192, 1)];
 
 #[test]
-fn the_second_of_falling_lines_is_out_of_order(rt: HostRuntime) -> Result<(), Refused> {
-    let text = falling_lines(rt.alloc(), 1_000)?;
-    let fault = Err(AnswerFault::OutOfOrder(0, 157));
-    assert!(rt; is_text_checked(rt.alloc(), &text, fault)?);
-    Ok(())
-}
-
-/// Returns `true` if the check of a source over the letters, which gives `piece` bytes a call, fails if the call `at`
-/// does.
-fn fails_at(alloc: Global, piece: usize, at: u64) -> Result<bool, Refused> {
-    let mut source = Fuse::new(SliceSource::new(UNENDED_LETTERS), piece, at);
-    let is_failed = is_checked(alloc, &mut source, Err(AnswerFault::Read(0)))?;
-    Ok(is_failed && source.failures == 1)
-}
-
-/// Returns `true` if the letters are read in `calls` calls, at each of which the check fails.
-fn fails_at_each_call(alloc: Global, piece: usize, calls: u64) -> Result<bool, Refused> {
-    let mut whole = Fuse::new(SliceSource::new(UNENDED_LETTERS), piece, 0);
-    if !is_checked(alloc, &mut whole, Ok(3))? || whole.calls != calls {
-        return Ok(false);
-    }
-    for at in 1..calls.saturating_add(1) {
-        if !fails_at(alloc, piece, at)? {
-            return Ok(false);
-        }
-    }
-    Ok(true)
-}
-
-#[test]
-fn a_check_ends_at_a_failed_read(rt: HostRuntime) -> Result<(), Refused> {
-    for (piece, calls) in &[(1, 434), (2, 217), (8192, 1)] {
-        assert!(rt; fails_at_each_call(rt.alloc(), *piece, *calls)?, "{piece}");
+fn a_check_reads_each_byte_once(rt: HostRuntime) -> Result<(), Refused> {
+    for (piece, calls) in CALLS {
+        let mut source = Fuse::new(SliceSource::new(UNENDED_LETTERS), *piece, 0);
+        assert!(rt; checked(rt.alloc(), &mut source)? == Ok(3), "{piece}");
+        assert!(rt; source.calls == *calls, "{piece}");
     }
     Ok(())
-}
-
-/// Writes a text to a file, and returns a source over the file.
-fn written<R: Runtime>(
-    rt: &R,
-    name: &str,
-    text: &[u8],
-) -> Result<FileSource<SystemFile<<R as Files>::File>>, Fail> {
-    fs::write(rt, name, text)?;
-    Ok(FileSource::new(SystemFile(File::open(rt, name)?))?)
 }
 
 /// Returns `true` if `count` bytes are read at this offset into a piece of 145 bytes, which then begins with this byte.
@@ -129,7 +78,7 @@ const PLACES: &[(u64, usize, u8)] = &[
 
 #[test]
 fn a_file_is_read_at_any_offset(rt: HostRuntime) -> Result<(), Fail> {
-    let mut source = written(&rt, "offsets.cdxj", UNENDED_LETTERS)?;
+    let mut source = file_of(&rt, "offsets.cdxj", UNENDED_LETTERS)?;
     let mut in_memory = FileSource::new(Cursor::new(UNENDED_LETTERS))?;
     for (at, count, first) in PLACES {
         assert!(rt; gives(&mut source, *at, *count, *first), "{at}");
@@ -141,10 +90,10 @@ fn a_file_is_read_at_any_offset(rt: HostRuntime) -> Result<(), Fail> {
 #[test]
 fn a_file_that_was_cut_after_it_was_opened_fails(rt: HostRuntime) -> Result<(), Fail> {
     let alloc = rt.alloc();
-    let mut source = written(&rt, "letters.cdxj", UNENDED_LETTERS)?;
-    assert!(rt; is_checked(alloc, &mut source, Ok(3))?);
+    let mut source = file_of(&rt, "letters.cdxj", UNENDED_LETTERS)?;
+    assert!(rt; checked(alloc, &mut source)? == Ok(3));
     fs::write(&rt, "letters.cdxj", cut(UNENDED_LETTERS, 290))?;
-    assert!(rt; is_checked(alloc, &mut source, Err(AnswerFault::Read(0)))?);
+    assert!(rt; checked(alloc, &mut source)? == Err(AnswerFault::Read(0)));
     Ok(())
 }
 
@@ -184,91 +133,45 @@ fn the_search_finds_the_first_line_at_or_above_a_key(rt: HostRuntime) -> Result<
     Ok(())
 }
 
-/// Returns `true` if the search fails if the first call of its source does.
-fn is_unread(alloc: Global) -> Result<bool, SearchFault> {
-    let mut source = Fuse::new(SliceSource::new(UNENDED_LETTERS), 2, 1);
-    match search(alloc, &mut source, first_at("b)/")) {
-        Err(SearchFault::Memory) => Err(SearchFault::Memory),
-        Err(fault) => Ok(fault == SearchFault::Read),
-        Ok(_found) => Ok(false),
-    }
-}
-
 #[test]
 fn the_search_fails_where_its_source_does(rt: HostRuntime) -> Result<(), SearchFault> {
-    assert!(rt; is_unread(rt.alloc())?);
+    let mut source = Fuse::new(SliceSource::new(UNENDED_LETTERS), 2, 1);
+    match search(rt.alloc(), &mut source, first_at("b)/")) {
+        Err(SearchFault::Memory) => return Err(SearchFault::Memory),
+        found => assert!(rt; matches!(found, Err(SearchFault::Read))),
+    }
     Ok(())
-}
-
-/// Returns `true` if the last of 100,000 lines of one length is found, and less than a hundredth of them read.
-fn is_last_found(alloc: Global, text: &[u8]) -> Result<bool, SearchFault> {
-    let length = text.len() as u64 / 100_000;
-    let mut source = SliceSource::new(text);
-    let found = search(alloc, &mut source, LAST)?;
-    Ok(
-        found.cursor.at() / 99_999 == length
-            && found.cursor.at() % 99_999 == 0
-            && source.gave() / 1_000 < length,
-    )
-}
-
-#[test]
-fn the_search_for_the_last_of_100_000_lines_reads_less_than_a_hundredth(
-    rt: HostRuntime,
-) -> Result<(), Fail> {
-    let text = keyed_lines(rt.alloc(), 100_000)?;
-    assert!(rt; is_last_found(rt.alloc(), &text)?);
-    Ok(())
-}
-
-/// Returns `true` if the search for the last of 100,000 lines takes more than 20 steps, and no more reads than this.
-fn is_found_in(alloc: Global, text: &[u8], reads: u64) -> Result<bool, SearchFault> {
-    let mut source = Fuse::new(SliceSource::new(text), 8_192, 0);
-    let found = search(alloc, &mut source, LAST)?;
-    Ok(found.probes > 20 && source.calls <= reads)
 }
 
 /// The lines have 17,900,000 bytes. Twelve steps leave less than 7,680 of them, which one read gives.
 #[test]
-fn the_last_steps_of_a_search_read_nothing(rt: HostRuntime) -> Result<(), Fail> {
+fn the_search_for_the_last_of_100_000_lines_reads_13_times(rt: HostRuntime) -> Result<(), Fail> {
     let text = keyed_lines(rt.alloc(), 100_000)?;
-    assert!(rt; text.len() == 17_900_000);
-    assert!(rt; is_found_in(rt.alloc(), &text, 13)?);
+    let mut source = Fuse::new(SliceSource::new(&text), 8_192, 0);
+    let found = search(rt.alloc(), &mut source, LAST)?;
+    assert!(rt; text.len() == 17_900_000 && found.cursor.at() == 17_899_821);
+    assert!(rt; found.probes > 20 && source.calls <= 13);
     Ok(())
-}
-
-/// Returns `true` if a query for one key reads a small index once, and gives a capture.
-fn is_read_once(alloc: Global) -> Result<bool, Fail> {
-    let query = Query::read(alloc, "key=b)/")?;
-    let mut sources = [Fuse::new(SliceSource::new(UNENDED_LETTERS), 8_192, 0)];
-    let mut out = Gather::new(alloc);
-    match answer(alloc, &mut sources, &query, &mut out) {
-        Ok(report) => Ok(report.given == 1 && sources[0].calls == 1),
-        Err(_fault) => Err(Refused::Memory)?,
-    }
 }
 
 #[test]
 fn a_query_reads_on_from_what_its_search_has_read(rt: HostRuntime) -> Result<(), Fail> {
-    assert!(rt; is_read_once(rt.alloc())?);
+    let mut sources = [Fuse::new(SliceSource::new(UNENDED_LETTERS), 8_192, 0)];
+    let (report, _page) = page(rt.alloc(), &mut sources, "key=b)/")?;
+    assert!(rt; report.given == 1 && sources[0].calls == 1);
     Ok(())
 }
 
 /// The number of bytes in a source's longest good line.
 const LINE: u64 = 16_777_216;
 
-/// Returns `true` if a line of 40 MB is bad, and no more of it is read than a good line has and a
-/// piece of 8,192 bytes.
-fn is_read_up_to_the_limit(alloc: Global) -> Result<bool, Refused> {
-    let line = padded(alloc, cut(LETTERS, 100), b'x', b"\n", 40_000_000)?;
-    let mut source = SliceSource::new(&line);
-    let is_bad = is_checked(alloc, &mut source, Err(AnswerFault::BadLine(0, 0)))?;
-    Ok(is_bad && source.gave() > LINE - 8_192 && source.gave() <= LINE + 8_192)
-}
-
+/// No more is read of a bad line of 40 MB than a good line has, and a piece of 8,192 bytes.
 #[test]
 fn a_line_that_is_too_long_is_read_up_to_the_limit(rt: HostRuntime) -> Result<(), Refused> {
-    assert!(rt; is_read_up_to_the_limit(rt.alloc())?);
+    let line = padded(rt.alloc(), cut(LETTERS, 100), b'x', b"\n", 40_000_000)?;
+    let mut source = SliceSource::new(&line);
+    assert!(rt; checked(rt.alloc(), &mut source)? == Err(AnswerFault::BadLine(0, 0)));
+    assert!(rt; source.gave() > LINE - 8_192 && source.gave() <= LINE + 8_192);
     Ok(())
 }
 

@@ -1,7 +1,7 @@
 //! Archives with a long block that are cut, or whose input fails.
 use super::{INDEX, first_of, indexes, listing, lists, long_archive, written};
-use devices::{FromFile, Fuse, Input, Slice};
-use fixtures::{Refused, cut};
+use devices::{FromFile, Fuse, Slice};
+use fixtures::cut;
 use std::alloc::Global;
 use std::fs;
 use std::io::Cursor;
@@ -55,23 +55,15 @@ fn a_file_that_was_cut_at_any_byte_is_read_to_its_cut(rt: HostRuntime) -> Result
     Ok(())
 }
 
-/// Returns `true` if the second record has no closing.
-fn lacks_closing<I: Input>(alloc: Global, input: &mut I) -> Result<bool, Refused> {
-    let fault = Fault {
-        offset: 213,
-        cause: Cause::Closing,
-    };
-    let lines = b"0 213 resource\nfault 213 Closing\n";
-    lists(alloc, input, lines, Err(fault))
-}
-
-/// A skip goes past the cut, and the read after it returns nothing: no closing follows the block.
+/// A skip goes past the cut, and the read after it returns nothing: no closing follows the second record's block.
 #[test]
 fn a_file_that_is_cut_after_it_was_opened_is_damaged(rt: HostRuntime) -> Result<(), Fail> {
     let archive = long_archive(rt.alloc())?;
     let mut file = written(&rt, "shrunk.warc", &archive)?;
     fs::write(&rt, "shrunk.warc", cut(&archive, 9_000))?;
-    assert!(rt; lacks_closing(rt.alloc(), &mut file)?);
+    let (offset, cause) = (213, Cause::Closing);
+    let lines = b"0 213 resource\nfault 213 Closing\n";
+    assert!(rt; lists(rt.alloc(), &mut file, lines, Err(Fault { offset, cause }))?);
     Ok(())
 }
 
@@ -96,19 +88,14 @@ fn ends_at_failed_call(alloc: Global, archive: &[u8], call: u64) -> Result<bool,
     Ok(lists(alloc, &mut input, &lines, Err(fault))? && input.failures == 1)
 }
 
-/// Returns `true` if no call fails, and there are `calls` calls.
-fn is_listed_in(alloc: Global, archive: &[u8], calls: u64) -> Result<bool, Fail> {
-    let lines = listing(alloc, 3, None)?;
-    let mut input = Fuse::new(Slice::new(archive), 100, calls.saturating_add(1));
-    Ok(lists(alloc, &mut input, &lines, Ok(3))? && input.calls == calls)
-}
-
 #[test]
 fn a_listing_ends_at_a_failed_read_or_skip(rt: HostRuntime) -> Result<(), Fail> {
     let archive = long_archive(rt.alloc())?;
     for call in 1..210 {
         assert!(rt; ends_at_failed_call(rt.alloc(), &archive, call)?, "{call}");
     }
-    assert!(rt; is_listed_in(rt.alloc(), &archive, 209)?);
+    let lines = listing(rt.alloc(), 3, None)?;
+    let mut whole = Fuse::new(Slice::new(&archive), 100, 210);
+    assert!(rt; lists(rt.alloc(), &mut whole, &lines, Ok(3))? && whole.calls == 209);
     Ok(())
 }

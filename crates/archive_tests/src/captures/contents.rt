@@ -1,6 +1,5 @@
 //! The media type, the status and the digest of captures.
 use super::{ABC, EMPTY, HTTP, capture_of, says};
-use std::alloc::Global;
 use std::test::Fail;
 
 /// A record of `http://x/`: its type, further lines of its head, each with its CR LF, and its block; and the media
@@ -282,24 +281,16 @@ const DIGESTS: &[Sample] = &[
     ),
 ];
 
-fn is_captured(alloc: Global, sample: Sample) -> Result<bool, Fail> {
-    let (kind, fields, block, mime, status, digest) = sample;
-    let captured = capture_of(alloc, kind, fields, block)?;
-    Ok(says(&captured, mime, status, digest))
-}
-
 #[test]
 fn captures_say_what_the_records_say(rt: HostRuntime) -> Result<(), Fail> {
-    for (number, sample) in CONTENTS.iter().enumerate() {
-        assert!(rt; is_captured(rt.alloc(), *sample)?, "row {number}");
-    }
-    Ok(())
-}
-
-#[test]
-fn captures_have_the_digest_of_the_payload(rt: HostRuntime) -> Result<(), Fail> {
-    for (number, sample) in DIGESTS.iter().enumerate() {
-        assert!(rt; is_captured(rt.alloc(), *sample)?, "row {number}");
+    for table in &[CONTENTS, DIGESTS] {
+        for (kind, fields, block, mime, status, digest) in *table {
+            let captured = capture_of(rt.alloc(), kind, fields, block)?;
+            assert!(rt;
+                says(&captured, mime, status, digest),
+                "{kind} {mime} {digest}"
+            );
+        }
     }
     Ok(())
 }

@@ -75,15 +75,14 @@ fn push_line(alloc: Global, lines: &mut Vec<u8>, entry: &Entry) -> Result<(), Fa
     Ok(())
 }
 
-fn have_lines(alloc: Global, records: &[&[u8]], lines: &[u8]) -> Result<bool, Fail> {
-    let archive = joined(alloc, records)?;
-    Ok(lines_of(alloc, &archive)?.as_slice() == lines)
-}
-
 #[test]
 fn captures_have_their_lines(rt: HostRuntime) -> Result<(), Fail> {
     for (number, (records, lines)) in ARCHIVES.iter().enumerate() {
-        assert!(rt; have_lines(rt.alloc(), records, lines)?, "row {number}");
+        let archive = joined(rt.alloc(), records)?;
+        assert!(rt;
+            lines_of(rt.alloc(), &archive)?.as_slice() == *lines,
+            "row {number}"
+        );
     }
     Ok(())
 }

@@ -1,7 +1,6 @@
 //! Blocks with and without an HTTP head according to RFC 9112.
 use super::{ABC, HTTP, capture_of, says, says_no_head};
 use fixtures::joined;
-use std::alloc::Global;
 use std::test::Fail;
 
 /// HTTP heads, with the status and the media type of the capture.
@@ -123,33 +122,24 @@ const NO_FIELDS: &[&[u8]] = &[
     b"HTTP/1.1 200 OK\r\nA(: b\r\n\r\n",
 ];
 
-/// Returns `true` if the head is found before a payload of `abc`.
-fn has_head(alloc: Global, head: &[u8], status: &str, mime: &str) -> Result<bool, Fail> {
-    let block = joined(alloc, &[head, b"abc"])?;
-    let captured = capture_of(alloc, "response", HTTP, block.as_slice())?;
-    Ok(says(&captured, mime, status, ABC))
-}
-
-fn has_no_head(alloc: Global, block: &[u8]) -> Result<bool, Fail> {
-    let captured = capture_of(alloc, "response", HTTP, block)?;
-    Ok(says_no_head(&captured))
-}
-
+/// Each head precedes a payload of `abc`.
 #[test]
 fn http_heads_are_found(rt: HostRuntime) -> Result<(), Fail> {
     for (number, (head, status, mime)) in HEADS.iter().enumerate() {
-        assert!(rt; has_head(rt.alloc(), head, status, mime)?, "row {number}");
+        let block = joined(rt.alloc(), &[head, b"abc"])?;
+        let captured = capture_of(rt.alloc(), "response", HTTP, &block)?;
+        assert!(rt; says(&captured, mime, status, ABC), "row {number}");
     }
     Ok(())
 }
 
 #[test]
 fn other_blocks_have_no_http_head(rt: HostRuntime) -> Result<(), Fail> {
-    for (number, block) in NO_STATUS.iter().enumerate() {
-        assert!(rt; has_no_head(rt.alloc(), block)?, "row {number}");
-    }
-    for (number, block) in NO_FIELDS.iter().enumerate() {
-        assert!(rt; has_no_head(rt.alloc(), block)?, "row {number}");
+    for table in &[NO_STATUS, NO_FIELDS] {
+        for (number, block) in table.iter().enumerate() {
+            let captured = capture_of(rt.alloc(), "response", HTTP, block)?;
+            assert!(rt; says_no_head(&captured), "row {number}");
+        }
     }
     Ok(())
 }

@@ -28,28 +28,14 @@ const LENGTHS: &[(usize, bool)] = &[
     (16_777_216, true),
 ];
 
-/// Returns `true` if the line of the first record's capture is too long under a name of `letters` letters, and the second
-/// record can then be read.
-fn is_limited(
-    alloc: Global,
-    archive: &[u8],
-    letters: usize,
-    is_too_long: bool,
-) -> Result<bool, Fail> {
-    let name = "a".repeat(alloc, letters)?;
-    let found = too_long(alloc, archive, name.as_str())?;
-    Ok(found == is_too_long.then_some((0, 264)))
-}
-
-/// Under a name of six letters, the line has 198 bytes.
+/// Under a name of six letters, the line has 198 bytes. The second record can be read after a line that is too long.
 #[test]
 fn lines_of_captures_are_limited(rt: HostRuntime) -> Result<(), Fail> {
     let archive = joined(rt.alloc(), &[RESPONSE, RESOURCE])?;
     for (letters, is_too_long) in LENGTHS {
-        assert!(rt;
-            is_limited(rt.alloc(), &archive, *letters, *is_too_long)?,
-            "{letters}"
-        );
+        let name = "a".repeat(rt.alloc(), *letters)?;
+        let found = too_long(rt.alloc(), &archive, name.as_str())?;
+        assert!(rt; found == is_too_long.then_some((0, 264)), "{letters}");
     }
     Ok(())
 }

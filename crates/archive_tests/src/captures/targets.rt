@@ -1,7 +1,6 @@
 //! The targets of captures.
 use super::{captured, record_text};
 use cdxj_core::Entry;
-use std::alloc::Global;
 use std::test::Fail;
 
 /// Types and targets, with the URL of the capture, if there is one.
@@ -33,16 +32,14 @@ fn has_url(captured: &Option<Entry>, wanted: Option<&str>) -> bool {
     }
 }
 
-/// Returns `true` if a record of this type and target has a capture with this URL, or none.
-fn is_under(alloc: Global, kind: &str, target: &[u8], url: Option<&str>) -> Result<bool, Fail> {
-    let text = record_text(alloc, kind, target, b"", b"")?;
-    Ok(has_url(&captured(alloc, &text)?, url))
-}
-
 #[test]
 fn captures_are_under_their_targets(rt: HostRuntime) -> Result<(), Fail> {
     for (number, (kind, target, url)) in TARGETS.iter().enumerate() {
-        assert!(rt; is_under(rt.alloc(), kind, target, *url)?, "row {number}");
+        let text = record_text(rt.alloc(), kind, target, b"", b"")?;
+        assert!(rt;
+            has_url(&captured(rt.alloc(), &text)?, *url),
+            "row {number}"
+        );
     }
     Ok(())
 }

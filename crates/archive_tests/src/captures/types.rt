@@ -1,7 +1,6 @@
 //! Sets of types, and the captures of records of types other than the usual ones.
 use super::{ABC, EMPTY, HTTP, capture_among, capture_of, says};
 use capture_core::Types;
-use std::alloc::Global;
 use std::test::Fail;
 use warc_core::Kind;
 
@@ -60,29 +59,22 @@ const NO_TYPES: &[&str] = &[
     "response,request",
 ];
 
+/// Returns `true` if these are the types, and no others.
+fn are(types: Types, kinds: &[Kind]) -> bool {
+    KINDS
+        .iter()
+        .all(|kind| types.includes(*kind) == kinds.contains(kind))
+}
+
 /// Returns `true` if the text names these types and no others.
 fn names(text: &str, kinds: &[Kind]) -> bool {
     match Types::read(text) {
-        Some(types) => KINDS
-            .iter()
-            .all(|kind| types.includes(*kind) == kinds.contains(kind)),
+        Some(types) => are(types, kinds),
         None => false,
     }
 }
 
-fn is_no_set(text: &str) -> bool {
-    Types::read(text).is_none()
-}
-
 const USUAL: &[Kind] = &[Kind::Response, Kind::Resource, Kind::Revisit];
-
-/// Returns `true` if these types are the usual ones.
-fn are_usual(kinds: &[Kind]) -> bool {
-    let usual = Types::usual();
-    KINDS
-        .iter()
-        .all(|kind| usual.includes(*kind) == kinds.contains(kind))
-}
 
 #[test]
 fn types_are_read_from_their_names(rt: HostRuntime) {
@@ -90,9 +82,9 @@ fn types_are_read_from_their_names(rt: HostRuntime) {
         assert!(rt; names(text, kinds), "{text}");
     }
     for text in NO_TYPES {
-        assert!(rt; is_no_set(text), "{text}");
+        assert!(rt; Types::read(text).is_none(), "{text}");
     }
-    assert!(rt; names("revisit,resource,response", USUAL) && are_usual(USUAL));
+    assert!(rt; names("revisit,resource,response", USUAL) && are(Types::usual(), USUAL));
 }
 
 const PLAIN: &[u8] = b"Content-Type: text/plain; charset=utf-8\r\n";
@@ -120,51 +112,33 @@ const SAMPLES: &[(&str, &[u8], &[u8], &str, &str)] = &[
     ("conversion", HTTP, PAGE, "-", WHOLE_PAGE),
 ];
 
-/// Returns `true` if a record has this capture among conversion and metadata records, and none among records of the usual
-/// types.
-fn is_captured(
-    alloc: Global,
-    kind: &str,
-    fields: &[u8],
-    block: &[u8],
-    mime: &str,
-    digest: &str,
-) -> Result<bool, Fail> {
-    let Some(types) = Types::read("conversion,metadata") else {
-        return Ok(false);
-    };
-    let captured = capture_among(alloc, types, kind, fields, block)?;
-    let usual = capture_of(alloc, kind, fields, block)?;
-    Ok(says(&captured, mime, "-", digest) && usual.is_none())
-}
-
+/// None of them has a capture among records of the usual types.
 #[test]
 fn conversion_and_metadata_records_are_captured_as_resources_are(
     rt: HostRuntime,
 ) -> Result<(), Fail> {
+    let types = Types::read("conversion,metadata").ok_or("no set of types")?;
     for (kind, fields, block, mime, digest) in SAMPLES {
+        let captured = capture_among(rt.alloc(), types, kind, fields, block)?;
+        let usual = capture_of(rt.alloc(), kind, fields, block)?;
         assert!(rt;
-            is_captured(rt.alloc(), kind, fields, block, mime, digest)?,
+            says(&captured, mime, "-", digest) && usual.is_none(),
             "{kind} {mime}"
         );
     }
     Ok(())
 }
 
-fn is_left_out(alloc: Global, kind: &str) -> Result<bool, Fail> {
-    let Some(types) = Types::read("conversion,metadata") else {
-        return Ok(false);
-    };
-    let captured = capture_among(alloc, types, kind, b"", b"abc")?;
-    Ok(captured.is_none())
-}
-
 #[test]
 fn other_types_are_left_out(rt: HostRuntime) -> Result<(), Fail> {
+    let types = Types::read("conversion,metadata").ok_or("no set of types")?;
     for kind in &[
         "response", "resource", "revisit", "warcinfo", "request", "x",
     ] {
-        assert!(rt; is_left_out(rt.alloc(), kind)?, "{kind}");
+        assert!(rt;
+            capture_among(rt.alloc(), types, kind, b"", b"abc")?.is_none(),
+            "{kind}"
+        );
     }
     Ok(())
 }

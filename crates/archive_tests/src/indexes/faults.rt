@@ -82,23 +82,16 @@ fn record_of_read(call: u64) -> u64 {
     }
 }
 
-fn keeps_to_failed_read(alloc: Global, archive: &[u8], call: u64) -> Result<bool, Refused> {
-    let fault = Fault {
-        offset: record_of_read(call),
-        cause: Cause::Read,
-    };
-    keeps(
-        alloc,
-        &mut Fuse::new(Slice::new(archive), 1, call),
-        Err(fault),
-    )
-}
-
 #[test]
 fn an_indexer_keeps_the_records_before_a_failed_read(rt: HostRuntime) -> Result<(), Refused> {
     let archive = three_records(rt.alloc())?;
     for call in 1..714 {
-        assert!(rt; keeps_to_failed_read(rt.alloc(), &archive, call)?, "{call}");
+        let (offset, cause) = (record_of_read(call), Cause::Read);
+        let mut input = Fuse::new(Slice::new(&archive), 1, call);
+        assert!(rt;
+            keeps(rt.alloc(), &mut input, Err(Fault { offset, cause }))?,
+            "{call}"
+        );
     }
     Ok(())
 }

@@ -123,24 +123,16 @@ fn listing(alloc: Global, records: &[u8], fault: Option<Fault>) -> Result<Vec<u8
     Ok(text)
 }
 
-fn lists_prefix(alloc: Global, archive: &[u8]) -> Result<bool, Refused> {
-    let (records, fault) = prefix_gives(archive.len());
-    let lines = listing(alloc, lines_of(records), fault)?;
-    lists(
-        alloc,
-        archive,
-        lines.as_slice(),
-        fault.map_or(Ok(records), Err),
-    )
-}
-
 #[test]
 fn every_prefix_of_an_archive_is_listed_to_its_end(rt: HostRuntime) -> Result<(), Refused> {
     let archive = three_records(rt.alloc())?;
     assert!(rt; archive.len() == 712);
     for length in 0..713 {
+        let (records, fault) = prefix_gives(length);
+        let lines = listing(rt.alloc(), lines_of(records), fault)?;
+        let wanted = fault.map_or(Ok(records), Err);
         assert!(rt;
-            lists_prefix(rt.alloc(), cut(&archive, length))?,
+            lists(rt.alloc(), cut(&archive, length), &lines, wanted)?,
             "{length}"
         );
     }
@@ -163,17 +155,13 @@ fn failed_read_gives(at: u64) -> (&'static [u8], Fault) {
     }
 }
 
-fn lists_to_failed_read(alloc: Global, archive: &[u8], at: u64) -> Result<bool, Refused> {
-    let (lines, fault) = failed_read_gives(at);
-    let (out, answer) = listed(alloc, &mut Fuse::new(Slice::new(archive), 1, at))?;
-    Ok(out.bytes() == lines && answer == Err(fault))
-}
-
 #[test]
 fn a_listing_ends_at_a_failed_read(rt: HostRuntime) -> Result<(), Refused> {
     let archive = joined(rt.alloc(), &[RESPONSE, RESOURCE])?;
     for at in 1..450 {
-        assert!(rt; lists_to_failed_read(rt.alloc(), &archive, at)?, "{at}");
+        let (lines, fault) = failed_read_gives(at);
+        let (out, answer) = listed(rt.alloc(), &mut Fuse::new(Slice::new(&archive), 1, at))?;
+        assert!(rt; out.bytes() == lines && answer == Err(fault), "{at}");
     }
     Ok(())
 }

@@ -127,16 +127,14 @@ fn counts(line: &[u8]) -> Result<Verified, Fault> {
     })
 }
 
-/// Returns `true` if a resource with these fields, whose block is `abc`, has this verdict.
-fn has_verdict(alloc: Global, fields: &[u8], line: &[u8]) -> Result<bool, Refused> {
-    let archive = joined(alloc, &[RESOURCE, fields, b"\r\nabc\r\n\r\n"])?;
-    verifies(alloc, &archive, line, counts(line))
-}
-
 #[test]
 fn a_block_is_compared_with_the_digest_of_its_field(rt: HostRuntime) -> Result<(), Refused> {
     for (number, (fields, line)) in FIELDS.iter().enumerate() {
-        assert!(rt; has_verdict(rt.alloc(), fields, line)?, "row {number}");
+        let archive = joined(rt.alloc(), &[RESOURCE, fields, b"\r\nabc\r\n\r\n"])?;
+        assert!(rt;
+            verifies(rt.alloc(), &archive, line, counts(line))?,
+            "row {number}"
+        );
     }
     Ok(())
 }
@@ -149,19 +147,6 @@ const OTHER: &[u8] = b"WARC-Block-Digest: sha1:AGMT4NSHA2AWVOR6EVYXQUGCNSONBWE5\
 /// The head of a record whose block is a million letters `a`, with the digest of the example in FIPS 180-4.
 const MILLION: &[u8] =
     b"WARC/1.1\r\nWARC-Type: resource\r\nWARC-Record-ID: <urn:x:4>\r\nWARC-Date: 2016\r\nContent-Length: 1000000\r\nWARC-Block-Digest: sha1:GSVJOPGUYTNKJ5Q65MV5XLJHGFSTIALP\r\n\r\n";
-
-/// Returns `true` if the archive, read one byte a call, of which the call `at` fails, is verified up to this offset.
-fn verifies_to_failed_read(
-    alloc: Global,
-    archive: &[u8],
-    at: u64,
-    lines: &[u8],
-    offset: u64,
-) -> Result<bool, Refused> {
-    let (out, answer) = verified(alloc, &mut Fuse::new(Slice::new(archive), 1, at))?;
-    let cause = Cause::Read;
-    Ok(out.bytes() == lines && answer == Err(Fault { offset, cause }))
-}
 
 /// Calls that fail, with the lines and the offset at which the verification ends.
 const FAILED_READS: &[(u64, &[u8], u64)] = &[
@@ -177,8 +162,11 @@ const FAILED_READS: &[(u64, &[u8], u64)] = &[
 fn a_verification_ends_at_a_failed_read(rt: HostRuntime) -> Result<(), Refused> {
     let archive = joined(rt.alloc(), &[RESOURCE, OTHER, RESPONSE])?;
     for (at, lines, offset) in FAILED_READS {
+        let mut input = Fuse::new(Slice::new(&archive), 1, *at);
+        let (out, answer) = verified(rt.alloc(), &mut input)?;
+        let (offset, cause) = (*offset, Cause::Read);
         assert!(rt;
-            verifies_to_failed_read(rt.alloc(), &archive, *at, lines, *offset)?,
+            out.bytes() == *lines && answer == Err(Fault { offset, cause }),
             "{at}"
         );
     }
@@ -235,20 +223,12 @@ const ARCHIVES: &[(&[&[u8]], &[u8], Result<Verified, Fault>)] = &[
     ),
 ];
 
-fn verifies_pieces(
-    alloc: Global,
-    pieces: &[&[u8]],
-    lines: &[u8],
-    answer: Result<Verified, Fault>,
-) -> Result<bool, Refused> {
-    verifies(alloc, &joined(alloc, pieces)?, lines, answer)
-}
-
 #[test]
 fn each_record_of_an_archive_has_a_verdict(rt: HostRuntime) -> Result<(), Refused> {
     for (number, (pieces, lines, answer)) in ARCHIVES.iter().enumerate() {
+        let archive = joined(rt.alloc(), pieces)?;
         assert!(rt;
-            verifies_pieces(rt.alloc(), pieces, lines, *answer)?,
+            verifies(rt.alloc(), &archive, lines, *answer)?,
             "row {number}"
         );
     }
@@ -259,8 +239,8 @@ fn each_record_of_an_archive_has_a_verdict(rt: HostRuntime) -> Result<(), Refuse
 #[test]
 fn a_long_block_has_a_verdict(rt: HostRuntime) -> Result<(), Refused> {
     let letters = padded(rt.alloc(), b"", b'a', b"", 1_000_000)?;
-    let pieces = [MILLION, letters.as_slice(), b"\r\n\r\n"];
+    let archive = joined(rt.alloc(), &[MILLION, &letters, b"\r\n\r\n"])?;
     let line = b"0 same\n";
-    assert!(rt; verifies_pieces(rt.alloc(), &pieces, line, counts(line))?);
+    assert!(rt; verifies(rt.alloc(), &archive, line, counts(line))?);
     Ok(())
 }

@@ -1,11 +1,12 @@
 //! Calls on indexes whose sources, input or output fail at each of their calls in turn, and work again afterwards.
+use crate::calls::served;
 use devices::{Fuse, Gather, Slice};
-use fixtures::{OFFSET_5, OFFSET_10, OFFSET_20, RISEN, Refused};
+use fixtures::{LETTERS, OFFSET_5, OFFSET_10, OFFSET_20, RISEN, Refused, UNENDED_LETTERS};
 use query_core::{AnswerFault, Query, SliceSource, answer, check, merge, pages, serve};
 use std::alloc::Global;
 
 /// Three queries, the last line without a line feed.
-const QUERIES: &[u8] = b"url=example.com&fl=offset\nlimit=0\nkey=x";
+const QUERIES: &str = "url=example.com&fl=offset\nlimit=0\nkey=x";
 
 /// The replies to the first of them, to the first two, and to all.
 const FIRST_REPLY: &[u8] = b"5\n20\n10\n.\n";
@@ -14,78 +15,170 @@ const TWO_REPLIES: &[u8] = b"5\n20\n10\n.\nrefused BadLimit\n.\n";
 
 const REPLIES: &[u8] = b"5\n20\n10\n.\nrefused BadLimit\n.\n.\n";
 
-/// A call on the three indexes.
+/// The texts of three indexes.
+type Texts = [&'static [u8]; 3];
+
+/// Three lines with one pair.
+const ONE_PAIR: Texts = [OFFSET_10, OFFSET_20, OFFSET_5];
+
+const ONE_INDEX: Texts = [UNENDED_LETTERS, b"", b""];
+
+/// Four lines of three keys.
+const THREE_KEYS: Texts = [
+    b"a)/ 20160101000000 {\"offset\": 0, \"filename\": \"a\"}\nb)/ 20160101000000 {\"offset\": 1, \"filename\": \"a\"}\nb)/ 20160101000001 {\"offset\": 3, \"filename\": \"a\"}\nc)/ 20160101000000 {\"offset\": 2, \"filename\": \"a\"}\n",
+    b"",
+    b"",
+];
+
+/// Asks for the first capture of each key. It makes all the allocations, reads and writes of a query that collapses
+/// nothing, and some more.
+const COLLAPSED: &str = "key=&matchType=prefix&output=json&fl=urlkey,offset&collapse=urlkey";
+
+/// A call on the three indexes, or on the first.
 #[derive(Clone, Copy)]
 enum Call {
     Answer(&'static str),
     Pages(&'static [u64], &'static str),
     Merge,
-    Serve(&'static [u8]),
+    Check,
+    Serve(&'static str),
 }
 
-/// A call, what it writes, and how many bytes of that are written at most if a source failed. All captures have one
-/// pair, so the last read comes before the first row of a page, and after its start.
+/// A call, the number that it returns, what it writes, and how many bytes of that are written at most if a source failed.
+/// Rows of captures with one pair come after the last read, and all but the end of the last page may come before it.
 struct Row {
     call: Call,
-    text: &'static [u8],
+    texts: Texts,
+    count: u64,
+    written: &'static [u8],
     before_reads: usize,
+    /// The numbers of bytes that a source or the output transfers at once.
+    pieces: &'static [usize],
 }
+
+const ONE_BYTE_TO_ALL: &[usize] = &[1, 2, 8192];
 
 const ROWS: &[Row] = &[
     Row {
         call: Call::Answer(
             "url=example.com&fl=filename,offset&output=json&limit=1&showResumeKey=true",
         ),
-        text: b"[[\"filename\",\"offset\"],\n[\"a.warc\",\"5\"],\n[],\n[\"com%2Cexample%29%2F+20160101000000+a.warc+5\"]]\n",
+        texts: ONE_PAIR,
+        count: 1,
+        written: b"[[\"filename\",\"offset\"],\n[\"a.warc\",\"5\"],\n[],\n[\"com%2Cexample%29%2F+20160101000000+a.warc+5\"]]\n",
         before_reads: 22,
+        pieces: &[64],
     },
     Row {
         call: Call::Answer("url=example.com&fl=offset&output=json"),
-        text: b"[[\"offset\"],\n[\"5\"],\n[\"20\"],\n[\"10\"]]\n",
+        texts: ONE_PAIR,
+        count: 3,
+        written: b"[[\"offset\"],\n[\"5\"],\n[\"20\"],\n[\"10\"]]\n",
         before_reads: 11,
+        pieces: &[64],
     },
     Row {
         call: Call::Answer("url=example.com&fl=offset"),
-        text: b"5\n20\n10\n",
+        texts: ONE_PAIR,
+        count: 3,
+        written: b"5\n20\n10\n",
         before_reads: 0,
+        pieces: &[64],
     },
     Row {
         call: Call::Pages(&[1, 2], "url=example.com&fl=filename,offset"),
-        text: b"a.warc 5\n\ncom%2Cexample%29%2F+20160101000000+a.warc+5\na.warc 20\nb.warc 10\n",
+        texts: ONE_PAIR,
+        count: 2,
+        written: b"a.warc 5\n\ncom%2Cexample%29%2F+20160101000000+a.warc+5\na.warc 20\nb.warc 10\n",
         before_reads: 54,
+        pieces: &[64],
     },
     Row {
         call: Call::Pages(&[2], "url=example.com&fl=offset&output=json"),
-        text: b"[[\"offset\"],\n[\"5\"],\n[\"20\"],\n[],\n[\"com%2Cexample%29%2F+20160101000000+a.warc+20\"]]\n[[\"offset\"],\n[\"10\"]]\n",
+        texts: ONE_PAIR,
+        count: 2,
+        written: b"[[\"offset\"],\n[\"5\"],\n[\"20\"],\n[],\n[\"com%2Cexample%29%2F+20160101000000+a.warc+20\"]]\n[[\"offset\"],\n[\"10\"]]\n",
         before_reads: 93,
+        pieces: &[64],
     },
     Row {
         call: Call::Merge,
-        text: RISEN,
+        texts: ONE_PAIR,
+        count: 3,
+        written: RISEN,
         before_reads: 0,
+        pieces: &[64],
     },
     Row {
         call: Call::Serve(QUERIES),
-        text: REPLIES,
+        texts: ONE_PAIR,
+        count: 3,
+        written: REPLIES,
         before_reads: 29,
+        pieces: &[64],
+    },
+    Row {
+        call: Call::Merge,
+        texts: ONE_INDEX,
+        count: 3,
+        written: LETTERS,
+        before_reads: 290,
+        pieces: ONE_BYTE_TO_ALL,
+    },
+    Row {
+        call: Call::Check,
+        texts: ONE_INDEX,
+        count: 3,
+        written: b"",
+        before_reads: 0,
+        pieces: ONE_BYTE_TO_ALL,
+    },
+    Row {
+        call: Call::Answer(COLLAPSED),
+        texts: THREE_KEYS,
+        count: 3,
+        written: b"[[\"urlkey\",\"offset\"],\n[\"a)/\",\"0\"],\n[\"b)/\",\"1\"],\n[\"c)/\",\"2\"]]\n",
+        before_reads: 59,
+        pieces: ONE_BYTE_TO_ALL,
+    },
+    Row {
+        call: Call::Pages(&[2], COLLAPSED),
+        texts: THREE_KEYS,
+        count: 2,
+        written: b"[[\"urlkey\",\"offset\"],\n[\"a)/\",\"0\"],\n[\"b)/\",\"1\"],\n[],\n[\"b%29%2F+20160101000000+a+1\"]]\n[[\"urlkey\",\"offset\"],\n[\"c)/\",\"2\"]]\n",
+        before_reads: 117,
+        pieces: ONE_BYTE_TO_ALL,
+    },
+    Row {
+        call: Call::Serve(COLLAPSED),
+        texts: THREE_KEYS,
+        count: 1,
+        written: b"[[\"urlkey\",\"offset\"],\n[\"a)/\",\"0\"],\n[\"b)/\",\"1\"],\n[\"c)/\",\"2\"]]\n.\n",
+        before_reads: 59,
+        pieces: ONE_BYTE_TO_ALL,
     },
 ];
 
 type Failing = Fuse<Fuse<SliceSource<'static>>>;
 
-/// Returns a source that gives 64 bytes a call. Its call `first` fails, and of its other calls the call `second`; 0
+/// Returns a source that gives `piece` bytes a call. Its call `first` fails, and of its other calls the call `second`; 0
 /// means none.
-fn failing(text: &'static [u8], first: u64, second: u64) -> Failing {
-    Fuse::new(Fuse::new(SliceSource::new(text), 64, second), 64, first)
+fn failing(text: &'static [u8], piece: usize, first: u64, second: u64) -> Failing {
+    Fuse::new(
+        Fuse::new(SliceSource::new(text), piece, second),
+        piece,
+        first,
+    )
 }
 
-/// Returns sources over the three indexes, of which the one with this number fails.
-fn sources(number: usize, first: u64, second: u64) -> [Failing; 3] {
+/// Returns sources over the row's indexes, of which the one with this number fails.
+fn sources(row: &Row, piece: usize, number: usize, first: u64, second: u64) -> [Failing; 3] {
     let at = |i: usize, call: u64| if i == number { call } else { 0 };
+    let [a, b, c] = row.texts;
     [
-        failing(OFFSET_10, at(0, first), at(0, second)),
-        failing(OFFSET_20, at(1, first), at(1, second)),
-        failing(OFFSET_5, at(2, first), at(2, second)),
+        failing(a, piece, at(0, first), at(0, second)),
+        failing(b, piece, at(1, first), at(1, second)),
+        failing(c, piece, at(2, first), at(2, second)),
     ]
 }
 
@@ -96,87 +189,88 @@ fn query_of(alloc: Global, text: &str) -> Result<Query, AnswerFault> {
     }
 }
 
+/// Makes the call. Returns the number of captures in the page, of pages, of lines, or of replies.
 fn called(
     alloc: Global,
     call: Call,
     sources: &mut [Failing],
     out: &mut Fuse<Gather>,
-) -> Result<(), AnswerFault> {
+) -> Result<u64, AnswerFault> {
     match call {
         Call::Answer(text) => {
-            answer(alloc, sources, &query_of(alloc, text)?, out)?;
+            answer(alloc, sources, &query_of(alloc, text)?, out).map(|report| report.given)
         }
-        Call::Pages(sizes, text) => {
-            pages(alloc, sources, &query_of(alloc, text)?, sizes, out)?;
-        }
-        Call::Merge => {
-            merge(alloc, sources, out)?;
-        }
-        Call::Serve(lines) => {
-            serve(alloc, sources, &mut Slice::new(lines), out)?;
-        }
+        Call::Pages(sizes, text) => pages(alloc, sources, &query_of(alloc, text)?, sizes, out),
+        Call::Merge => merge(alloc, sources, out),
+        Call::Check => match sources {
+            [first, ..] => check(alloc, first),
+            [] => Ok(0),
+        },
+        Call::Serve(lines) => serve(alloc, sources, &mut Slice::new(lines.as_bytes()), out),
     }
-    Ok(())
 }
 
-/// Makes a call over an output that takes one byte a call and fails at this call. Returns the fault, and how many bytes
-/// were written if they are a prefix of the row's text.
-fn ended(
+/// How a call ended: its result, how many bytes were written if they are a prefix of the row's, and how often the output
+/// was called.
+#[derive(Clone, Copy, Drop)]
+struct Ended {
+    result: Result<u64, AnswerFault>,
+    written: Option<usize>,
+    writes: u64,
+}
+
+/// Makes a call over an output that takes `piece` bytes a call and fails at its call `write`; 0 means none. A failed
+/// allocation is an error.
+fn end_of(
     alloc: Global,
     row: &Row,
     sources: &mut [Failing],
+    piece: usize,
     write: u64,
-) -> Result<(Result<(), AnswerFault>, Option<usize>), Refused> {
-    let mut out = Fuse::new(Gather::new(alloc), 1, write);
-    let answer = called(alloc, row.call, sources, &mut out);
-    if answer == Err(AnswerFault::Memory)
-        || (answer == Err(AnswerFault::Write) && out.calls != write)
+) -> Result<Ended, Refused> {
+    let mut out = Fuse::new(Gather::new(alloc), piece, write);
+    let result = called(alloc, row.call, sources, &mut out);
+    if result == Err(AnswerFault::Memory)
+        || (result == Err(AnswerFault::Write) && out.calls != write)
     {
         return Err(Refused::Memory);
     }
     let written = out.device.bytes();
-    let is_front = row.text.starts_with(written);
-    Ok((answer, is_front.then_some(written.len())))
+    Ok(Ended {
+        result,
+        written: row.written.starts_with(written).then_some(written.len()),
+        writes: out.calls,
+    })
 }
 
 /// Returns `true` if everything was written.
-fn is_whole(alloc: Global, row: &Row) -> Result<bool, Refused> {
-    let (answer, written) = ended(alloc, row, &mut sources(0, 0, 0), 0)?;
-    Ok(answer == Ok(()) && written == Some(row.text.len()))
+fn is_whole(row: &Row, ended: Ended) -> bool {
+    ended.result == Ok(row.count) && ended.written == Some(row.written.len())
 }
 
-/// Returns how many calls each source has if none fails.
-fn calls_of(alloc: Global, row: &Row) -> Result<[u64; 3], Refused> {
-    let mut sources = sources(0, 0, 0);
-    let _ended = ended(alloc, row, &mut sources, 0)?;
-    Ok([sources[0].calls, sources[1].calls, sources[2].calls])
-}
-
-/// Returns `true` if this many bytes can be written if a source failed.
-fn is_unended(row: &Row, written: Option<usize>) -> bool {
-    match written {
-        Some(count) => count <= row.before_reads,
-        None => false,
-    }
-}
-
-/// Returns `true` if the call ends if this call of a source fails.
-fn ends_unread(alloc: Global, row: &Row, number: usize, read: u64) -> Result<bool, Refused> {
-    let (answer, written) = ended(alloc, row, &mut sources(number, read, 0), 0)?;
-    Ok(answer == Err(AnswerFault::Read(number)) && is_unended(row, written))
+/// Returns `true` if the call ended because this source failed, with no more written than is known by then.
+fn is_unread(row: &Row, ended: Ended, number: usize) -> bool {
+    ended.result == Err(AnswerFault::Read(number))
+        && ended.written.is_some_and(|count| count <= row.before_reads)
 }
 
 /// Returns `true` if the calls after a failure of the source continue as if it hadn't failed, until the source fails
 /// again two calls after the first failure, and then write everything.
-fn goes_on(alloc: Global, row: &Row, number: usize, read: u64) -> Result<bool, Refused> {
-    let mut sources = sources(number, read, read.saturating_add(1));
+fn goes_on(
+    alloc: Global,
+    row: &Row,
+    piece: usize,
+    number: usize,
+    read: u64,
+) -> Result<bool, Refused> {
+    let mut sources = sources(row, piece, number, read, read.saturating_add(1));
     let mut has_failed = false;
     for _ in 0..3 {
-        let (answer, written) = ended(alloc, row, &mut sources, 0)?;
-        if answer == Ok(()) {
-            return Ok(has_failed && written == Some(row.text.len()));
+        let ended = end_of(alloc, row, &mut sources, 1, 0)?;
+        if ended.result.is_ok() {
+            return Ok(has_failed && is_whole(row, ended));
         }
-        if answer != Err(AnswerFault::Read(number)) || !is_unended(row, written) {
+        if !is_unread(row, ended, number) {
             return Ok(false);
         }
         has_failed = true;
@@ -185,40 +279,61 @@ fn goes_on(alloc: Global, row: &Row, number: usize, read: u64) -> Result<bool, R
 }
 
 /// Returns `true` if each of the first `calls` reads of this source ends the call if it fails.
-fn ends_at_reads_of(alloc: Global, row: &Row, number: usize, calls: u64) -> Result<bool, Refused> {
+fn ends_at_reads_of(
+    alloc: Global,
+    row: &Row,
+    piece: usize,
+    number: usize,
+    calls: u64,
+) -> Result<bool, Refused> {
     for read in 1..calls.saturating_add(1) {
-        if !ends_unread(alloc, row, number, read)? || !goes_on(alloc, row, number, read)? {
+        if !goes_on(alloc, row, piece, number, read)? {
             return Ok(false);
         }
     }
     Ok(true)
 }
 
-/// Returns `true` if each read of each source ends the call if it fails.
-fn ends_at_each_read(alloc: Global, row: &Row) -> Result<bool, Refused> {
-    let [first, second, third] = calls_of(alloc, row)?;
+/// Returns `true` if everything is written if no source fails, and each read of each source ends the call if it fails.
+fn ends_at_each_read(alloc: Global, row: &Row, piece: usize) -> Result<bool, Refused> {
+    let mut whole = sources(row, piece, 0, 0, 0);
+    let is_whole = is_whole(row, end_of(alloc, row, &mut whole, piece, 0)?);
     Ok(
-        ends_at_reads_of(alloc, row, 0, first)?
-            && ends_at_reads_of(alloc, row, 1, second)?
-            && ends_at_reads_of(alloc, row, 2, third)?,
+        is_whole
+            && ends_at_reads_of(alloc, row, piece, 0, whole[0].calls)?
+            && ends_at_reads_of(alloc, row, piece, 1, whole[1].calls)?
+            && ends_at_reads_of(alloc, row, piece, 2, whole[2].calls)?,
     )
 }
 
 #[test]
 fn a_call_ends_at_a_failed_read_of_any_index(rt: HostRuntime) -> Result<(), Refused> {
     for (number, row) in ROWS.iter().enumerate() {
-        assert!(rt; is_whole(rt.alloc(), row)?, "row {number}");
-        assert!(rt; ends_at_each_read(rt.alloc(), row)?, "row {number}");
+        for piece in row.pieces {
+            assert!(rt;
+                ends_at_each_read(rt.alloc(), row, *piece)?,
+                "row {number}, {piece}"
+            );
+        }
     }
     Ok(())
 }
 
-/// Returns `true` if each write ends the call if it fails, with as many bytes written as there were writes before.
-fn ends_at_each_write(alloc: Global, row: &Row) -> Result<bool, Refused> {
-    for before in 0..row.text.len() {
-        let write = before as u64 + 1;
-        let (answer, written) = ended(alloc, row, &mut sources(0, 0, 0), write)?;
-        if answer != Err(AnswerFault::Write) || written != Some(before) {
+/// Returns `true` if the call ended at this failed write, before everything was written. At one byte a call, as many
+/// bytes were written as there were writes before.
+fn is_unwritten(row: &Row, ended: Ended, piece: usize, write: u64) -> bool {
+    ended.result == Err(AnswerFault::Write)
+        && ended.written.is_some_and(|count| {
+            count < row.written.len() && (piece > 1 || count as u64 + 1 == write)
+        })
+}
+
+/// Returns `true` if each write ends the call if it fails.
+fn ends_at_each_write(alloc: Global, row: &Row, piece: usize) -> Result<bool, Refused> {
+    let whole = end_of(alloc, row, &mut sources(row, piece, 0, 0, 0), piece, 0)?;
+    for write in 1..whole.writes.saturating_add(1) {
+        let ended = end_of(alloc, row, &mut sources(row, piece, 0, 0, 0), piece, write)?;
+        if !is_unwritten(row, ended, piece, write) {
             return Ok(false);
         }
     }
@@ -228,7 +343,12 @@ fn ends_at_each_write(alloc: Global, row: &Row) -> Result<bool, Refused> {
 #[test]
 fn a_call_ends_at_a_failed_write(rt: HostRuntime) -> Result<(), Refused> {
     for (number, row) in ROWS.iter().enumerate() {
-        assert!(rt; ends_at_each_write(rt.alloc(), row)?, "row {number}");
+        for piece in row.pieces {
+            assert!(rt;
+                ends_at_each_write(rt.alloc(), row, *piece)?,
+                "row {number}, {piece}"
+            );
+        }
     }
     Ok(())
 }
@@ -245,61 +365,24 @@ fn served_to(read: u64) -> (Result<u64, AnswerFault>, &'static [u8]) {
     }
 }
 
-fn is_served_so(
-    answer: Result<u64, AnswerFault>,
-    written: &[u8],
-    wanted: (Result<u64, AnswerFault>, &[u8]),
-) -> bool {
-    answer == wanted.0 && written == wanted.1
-}
-
 /// Returns `true` if a conversation ends in this way if its input gives one byte a call and fails at this call.
 fn is_served_to(alloc: Global, read: u64) -> Result<bool, Refused> {
-    let mut input = Fuse::new(Slice::new(QUERIES), 1, read);
-    let mut out = Gather::new(alloc);
-    let answer = serve(alloc, &mut sources(0, 0, 0), &mut input, &mut out);
-    match answer {
-        Err(AnswerFault::Memory | AnswerFault::Write) => Err(Refused::Memory),
-        answer => Ok(is_served_so(answer, out.bytes(), served_to(read))),
-    }
+    let [a, b, c] = ONE_PAIR;
+    let mut sources = [
+        SliceSource::new(a),
+        SliceSource::new(b),
+        SliceSource::new(c),
+    ];
+    let mut input = Fuse::new(Slice::new(QUERIES.as_bytes()), 1, read);
+    let (result, out) = served(alloc, &mut sources, &mut input)?;
+    let (wanted, replies) = served_to(read);
+    Ok(result == wanted && out.bytes() == replies)
 }
 
 #[test]
 fn a_conversation_ends_at_a_failed_read_of_its_lines(rt: HostRuntime) -> Result<(), Refused> {
     for read in 1..43 {
         assert!(rt; is_served_to(rt.alloc(), read)?, "{read}");
-    }
-    Ok(())
-}
-
-/// Returns `true` if checking the index has this result.
-fn is_checked(
-    alloc: Global,
-    source: &mut Failing,
-    wanted: Result<u64, AnswerFault>,
-) -> Result<bool, Refused> {
-    match check(alloc, source) {
-        Err(AnswerFault::Memory) => Err(Refused::Memory),
-        answer => Ok(answer == wanted),
-    }
-}
-
-/// Returns `true` if the check of an index that fails at this call and at the next one fails twice, and then counts its
-/// line.
-fn is_checked_again(alloc: Global, read: u64) -> Result<bool, Refused> {
-    let mut source = failing(OFFSET_5, read, read);
-    let fault = Err(AnswerFault::Read(0));
-    Ok(
-        is_checked(alloc, &mut source, fault)?
-            && is_checked(alloc, &mut source, fault)?
-            && is_checked(alloc, &mut source, Ok(1))?,
-    )
-}
-
-#[test]
-fn an_index_that_failed_is_checked_again(rt: HostRuntime) -> Result<(), Refused> {
-    for read in 1..4 {
-        assert!(rt; is_checked_again(rt.alloc(), read)?, "{read}");
     }
     Ok(())
 }

@@ -1,9 +1,8 @@
 //! Indexes of arbitrary bytes: cut off, too long, out of order, or not text.
-use devices::{Gather, Slice};
+use crate::calls::{answered, checked, merged, served};
+use devices::Slice;
 use fixtures::{Refused, TORN, cut, falling_lines, padded};
-use query_core::{
-    AnswerFault, FileSource, Query, SliceSource, Source, SystemFile, answer, check, merge, serve,
-};
+use query_core::{AnswerFault, FileSource, SliceSource, Source, SystemFile};
 use std::alloc::{AllocError, Global};
 use std::fs::{self, File};
 use std::test::Fail;
@@ -43,30 +42,15 @@ const ODD_LINES: &[&[u8]] = &[
     b"a)/ 00000000000000 {\"offset\": 9223372036854775807, \"filename\": \"\\u0000\"}",
 ];
 
-/// Returns `true` if a check has this result. A failed allocation is an error.
-fn is_checked(
-    alloc: Global,
-    text: &[u8],
-    wanted: Result<u64, AnswerFault>,
-) -> Result<bool, Refused> {
-    match check(alloc, &mut SliceSource::new(text)) {
-        Err(AnswerFault::Memory) => Err(Refused::Memory),
-        answer => Ok(answer == wanted),
-    }
-}
+const ALL: &str = "key=&matchType=prefix";
 
-/// Returns `true` if a merge has this result, and writes `length` bytes.
-fn is_merged<S: Source>(
+/// Returns the result of a merge, and how many bytes it writes.
+fn merged_length<S: Source>(
     alloc: Global,
     sources: &mut [S],
-    wanted: Result<u64, AnswerFault>,
-    length: usize,
-) -> Result<bool, Refused> {
-    let mut out = Gather::new(alloc);
-    match merge(alloc, sources, &mut out) {
-        Err(AnswerFault::Memory | AnswerFault::Write) => Err(Refused::Memory),
-        answer => Ok(answer == wanted && out.bytes().len() == length),
-    }
+) -> Result<(Result<u64, AnswerFault>, usize), Refused> {
+    let (result, out) = merged(alloc, sources)?;
+    Ok((result, out.bytes().len()))
 }
 
 /// Returns `true` if the query has this result, the number of captures if it succeeds, and writes nothing.
@@ -75,43 +59,35 @@ fn answers_empty<S: Source>(
     sources: &mut [S],
     query: &str,
     wanted: Result<u64, AnswerFault>,
-) -> Result<bool, Refused> {
-    let Ok(query) = Query::read(alloc, query) else {
-        return Err(Refused::Memory);
-    };
-    let mut out = Gather::new(alloc);
-    let answer = match answer(alloc, sources, &query, &mut out) {
-        Err(AnswerFault::Memory | AnswerFault::Write) => return Err(Refused::Memory),
-        Err(fault) => Err(fault),
-        Ok(report) => Ok(report.given),
-    };
-    Ok(answer == wanted && out.bytes().is_empty())
+) -> Result<bool, Fail> {
+    let (result, out) = answered(alloc, sources, query)?;
+    Ok(result.map(|report| report.given) == wanted && out.bytes().is_empty())
 }
-
-const ALL: &str = "key=&matchType=prefix";
 
 /// Returns `true` if a check, a merge and a query of all lines report the line at this offset as bad, before anything is
 /// written.
-fn is_bad_at(alloc: Global, text: &[u8], offset: u64) -> Result<bool, Refused> {
+fn is_bad_at(alloc: Global, text: &[u8], offset: u64) -> Result<bool, Fail> {
     let fault = Err(AnswerFault::BadLine(0, offset));
+    let mut source = [SliceSource::new(text)];
     Ok(
-        is_checked(alloc, text, fault)?
-            && is_merged(alloc, &mut [SliceSource::new(text)], fault, 0)?
-            && answers_empty(alloc, &mut [SliceSource::new(text)], ALL, fault)?,
+        checked(alloc, &mut source[0])? == fault
+            && merged_length(alloc, &mut source)? == (fault, 0)
+            && answers_empty(alloc, &mut source, ALL, fault)?,
     )
 }
 
 /// Returns `true` if the text is an index of one line, which a merge writes with a line feed.
-fn is_one_line(alloc: Global, text: &[u8]) -> Result<bool, Refused> {
+fn is_one_line(alloc: Global, text: &[u8]) -> Result<bool, Fail> {
     let ended = text.len() + usize::from(!text.ends_with(b"\n"));
+    let mut source = [SliceSource::new(text)];
     Ok(
-        is_checked(alloc, text, Ok(1))?
-            && is_merged(alloc, &mut [SliceSource::new(text)], Ok(1), ended)?,
+        checked(alloc, &mut source[0])? == Ok(1)
+            && merged_length(alloc, &mut source)? == (Ok(1), ended),
     )
 }
 
 #[test]
-fn lines_without_an_entry_are_bad_wherever_they_are_read(rt: HostRuntime) -> Result<(), Refused> {
+fn lines_without_an_entry_are_bad_wherever_they_are_read(rt: HostRuntime) -> Result<(), Fail> {
     for (number, text) in BAD_LINES.iter().enumerate() {
         assert!(rt; is_bad_at(rt.alloc(), text, 50)?, "line {number}");
     }
@@ -125,19 +101,43 @@ fn lines_without_an_entry_are_bad_wherever_they_are_read(rt: HostRuntime) -> Res
 /// has a start and no end.
 const REPLIES_BEFORE_50: &[u8] = b"[[\"offset\"]\nfault BadLine 0 50\n.\nrefused BadLimit\n.\n";
 
-fn is_served_to_bad_line(alloc: Global, text: &[u8]) -> Result<bool, Refused> {
-    let mut lines = Slice::new(b"key=&matchType=prefix&output=json&fl=offset\nlimit=0\n");
-    let mut out = Gather::new(alloc);
-    match serve(alloc, &mut [SliceSource::new(text)], &mut lines, &mut out) {
-        Err(AnswerFault::Memory | AnswerFault::Write) => Err(Refused::Memory),
-        answer => Ok(answer == Ok(2) && out.bytes() == REPLIES_BEFORE_50),
+#[test]
+fn a_bad_line_ends_its_reply_and_no_other(rt: HostRuntime) -> Result<(), Fail> {
+    for (number, text) in BAD_LINES.iter().enumerate() {
+        let mut sources = [SliceSource::new(text)];
+        let mut lines = Slice::new(b"key=&matchType=prefix&output=json&fl=offset\nlimit=0\n");
+        let (result, out) = served(rt.alloc(), &mut sources, &mut lines)?;
+        assert!(rt;
+            result == Ok(2) && out.bytes() == REPLIES_BEFORE_50,
+            "line {number}"
+        );
     }
+    Ok(())
 }
 
+/// Indexes whose second line is at fault, and the fault.
+const AT_FAULT: &[(&[u8], AnswerFault)] = &[
+    (
+        b"a)/ 20160101000000 {\"offset\": 0, \"filename\": \"a\"}\n\nc)/ 20160101000000 {\"offset\": 2, \"filename\": \"a\"}\n",
+        AnswerFault::BadLine(0, 50),
+    ),
+    (
+        b"b)/ 20160101000000 {\"offset\": 0, \"filename\": \"a\"}\na)/ 20160101000000 {\"offset\": 1, \"filename\": \"a\"}\n",
+        AnswerFault::OutOfOrder(0, 50),
+    ),
+    (
+        b"a)/ 20160101000000 {\"offset\": 0, \"filename\": \"a\"}\nb)/ 20160101000000 {\"offset\": 1",
+        AnswerFault::BadLine(0, 50),
+    ),
+];
+
 #[test]
-fn a_bad_line_ends_its_reply_and_no_other(rt: HostRuntime) -> Result<(), Refused> {
-    for (number, text) in BAD_LINES.iter().enumerate() {
-        assert!(rt; is_served_to_bad_line(rt.alloc(), text)?, "line {number}");
+fn a_line_at_fault_ends_the_page(rt: HostRuntime) -> Result<(), Fail> {
+    let query = "key=&matchType=prefix&output=json&fl=urlkey,offset&collapse=urlkey";
+    for (number, (text, fault)) in AT_FAULT.iter().enumerate() {
+        let (result, out) = answered(rt.alloc(), &mut [SliceSource::new(text)], query)?;
+        let is_open = !out.bytes().ends_with(b"]\n");
+        assert!(rt; result == Err(*fault) && is_open, "row {number}");
     }
     Ok(())
 }
@@ -150,7 +150,7 @@ const QUERIES_OF_TORN: &[(&str, Result<u64, AnswerFault>)] = &[
 ];
 
 #[test]
-fn a_torn_line_is_bad_where_it_is_reached(rt: HostRuntime) -> Result<(), Refused> {
+fn a_torn_line_is_bad_where_it_is_reached(rt: HostRuntime) -> Result<(), Fail> {
     assert!(rt; is_bad_at(rt.alloc(), TORN, 145)?);
     for (query, wanted) in QUERIES_OF_TORN {
         let sources = &mut [SliceSource::new(TORN)];
@@ -183,7 +183,7 @@ fn is_read_or_bad(
     length: usize,
     has_feed: bool,
     is_good: bool,
-) -> Result<bool, Refused> {
+) -> Result<bool, Fail> {
     let line = long_line(alloc, length, has_feed)?;
     if is_good {
         is_one_line(alloc, &line)
@@ -193,7 +193,7 @@ fn is_read_or_bad(
 }
 
 #[test]
-fn a_line_has_at_most_16_777_216_bytes_with_its_line_feed(rt: HostRuntime) -> Result<(), Refused> {
+fn a_line_has_at_most_16_777_216_bytes_with_its_line_feed(rt: HostRuntime) -> Result<(), Fail> {
     for (length, has_feed, is_good) in LENGTHS {
         assert!(rt;
             is_read_or_bad(rt.alloc(), *length, *has_feed, *is_good)?,
@@ -223,18 +223,9 @@ fn are_rising_offsets(written: &[u8], above: i64) -> bool {
 
 /// Returns `true` if a query of the falling lines returns, after no more steps of the search than their size allows, with
 /// offsets that rise above this number.
-fn is_answered_in_part(
-    alloc: Global,
-    text: &[u8],
-    query: &str,
-    above: i64,
-) -> Result<bool, Refused> {
-    let Ok(query) = Query::read(alloc, query) else {
-        return Err(Refused::Memory);
-    };
-    let mut out = Gather::new(alloc);
-    let is_bounded = match answer(alloc, &mut [SliceSource::new(text)], &query, &mut out) {
-        Err(AnswerFault::Memory | AnswerFault::Write) => return Err(Refused::Memory),
+fn is_answered_in_part(alloc: Global, text: &[u8], query: &str, above: i64) -> Result<bool, Fail> {
+    let (result, out) = answered(alloc, &mut [SliceSource::new(text)], query)?;
+    let is_bounded = match result {
         Err(fault) => matches!(fault, AnswerFault::OutOfOrder(0, _)),
         Ok(report) => report.probes <= 19,
     };
@@ -264,11 +255,11 @@ const QUERIES_OF_FALLING: &[(&str, i64)] = &[
 ];
 
 #[test]
-fn falling_lines_are_answered_in_part(rt: HostRuntime) -> Result<(), Refused> {
+fn falling_lines_are_answered_in_part(rt: HostRuntime) -> Result<(), Fail> {
     let text = falling_lines(rt.alloc(), 1_000)?;
     let fault = Err(AnswerFault::OutOfOrder(0, 157));
-    assert!(rt; is_checked(rt.alloc(), &text, fault)?);
-    assert!(rt; is_merged(rt.alloc(), &mut [SliceSource::new(&text)], fault, 0)?);
+    assert!(rt; checked(rt.alloc(), &mut SliceSource::new(&text))? == fault);
+    assert!(rt; merged_length(rt.alloc(), &mut [SliceSource::new(&text)])? == (fault, 0));
     for (query, above) in QUERIES_OF_FALLING {
         assert!(rt;
             is_answered_in_part(rt.alloc(), &text, query, *above)?,
@@ -287,24 +278,16 @@ fn reply_to_byte(byte: u8) -> &'static [u8] {
     }
 }
 
-fn is_replied_to(alloc: Global, byte: u8) -> Result<bool, Refused> {
-    let line = [byte];
-    let mut out = Gather::new(alloc);
-    match serve(
-        alloc,
-        &mut [SliceSource::new(TORN)],
-        &mut Slice::new(&line),
-        &mut out,
-    ) {
-        Err(AnswerFault::Memory | AnswerFault::Write) => Err(Refused::Memory),
-        answer => Ok(answer == Ok(1) && out.bytes() == reply_to_byte(byte)),
-    }
-}
-
 #[test]
-fn each_byte_has_its_reply(rt: HostRuntime) -> Result<(), Refused> {
+fn each_byte_has_its_reply(rt: HostRuntime) -> Result<(), Fail> {
     for byte in 0..=u8::MAX {
-        assert!(rt; is_replied_to(rt.alloc(), byte)?, "{byte}");
+        let line = [byte];
+        let mut sources = [SliceSource::new(TORN)];
+        let (result, out) = served(rt.alloc(), &mut sources, &mut Slice::new(&line))?;
+        assert!(rt;
+            result == Ok(1) && out.bytes() == reply_to_byte(byte),
+            "{byte}"
+        );
     }
     Ok(())
 }
@@ -317,7 +300,7 @@ fn a_file_that_was_cut_cannot_be_read(rt: HostRuntime) -> Result<(), Fail> {
     let to_merge = FileSource::new(SystemFile(File::open(&rt, "cut.cdxj")?))?;
     let to_ask = FileSource::new(SystemFile(File::open(&rt, "cut.cdxj")?))?;
     fs::write(&rt, "cut.cdxj", cut(BAD_LINES[0], 60))?;
-    assert!(rt; is_merged(rt.alloc(), &mut [to_merge], read, 0)?);
+    assert!(rt; merged_length(rt.alloc(), &mut [to_merge])? == (read, 0));
     assert!(rt; answers_empty(rt.alloc(), &mut [to_ask], ALL, read)?);
     Ok(fs::remove_file(&rt, "cut.cdxj")?)
 }

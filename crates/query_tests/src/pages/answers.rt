@@ -1,8 +1,8 @@
 //! Answers to queries over indexes.
-use crate::small_indexes::{APART, empty_sources, files, in_memory, index_texts, slices};
-use devices::Gather;
+use crate::calls::{answered, page};
+use crate::small_indexes::{APART, empty_sources, files, index_texts, slices};
 use fixtures::{FIRST_OF_2016, HOSTS, IMAGE, LETTER_ROWS, LETTERS, PAGE, Rows, rising_lines};
-use query_core::{AnswerFault, Query, Report, SliceSource, Source, answer};
+use query_core::{AnswerFault, SliceSource, Source};
 use std::alloc::Global;
 use std::rt::Runtime;
 use std::test::Fail;
@@ -164,9 +164,7 @@ const CASES: &[Case] = &[
 
 /// Returns `true` if the sources give this answer.
 fn answers<S: Source>(alloc: Global, sources: &mut [S], case: &Case) -> Result<bool, Fail> {
-    let query = Query::read(alloc, case.query)?;
-    let mut out = Gather::new(alloc);
-    let report = in_memory(answer(alloc, sources, &query, &mut out))?;
+    let (report, out) = page(alloc, sources, case.query)?;
     Ok(
         report.given == case.given
             && report.more == case.more
@@ -221,36 +219,14 @@ const TEXTS: &[(&[u8], &[u8], &str, &[u8])] = &[
     ),
 ];
 
-/// Returns `true` if this page answers a query over these texts.
-fn is_page(
-    alloc: Global,
-    first: &[u8],
-    second: &[u8],
-    text: &str,
-    page: &[u8],
-) -> Result<bool, Fail> {
-    let query = Query::read(alloc, text)?;
-    let mut sources = [SliceSource::new(first), SliceSource::new(second)];
-    let mut out = Gather::new(alloc);
-    let _report = in_memory(answer(alloc, &mut sources, &query, &mut out))?;
-    Ok(out.bytes() == page)
-}
-
 #[test]
 fn the_first_line_of_a_place_counts_before_filters_do(rt: HostRuntime) -> Result<(), Fail> {
     for (first, second, query, wanted) in TEXTS {
-        assert!(rt;
-            is_page(rt.alloc(), first, second, query, wanted)?,
-            "{query}"
-        );
+        let mut sources = [SliceSource::new(first), SliceSource::new(second)];
+        let (_report, out) = page(rt.alloc(), &mut sources, query)?;
+        assert!(rt; out.bytes() == *wanted, "{query}");
     }
     Ok(())
-}
-
-/// Returns the report of a query over these sources.
-fn report<S: Source>(alloc: Global, sources: &mut [S], text: &str) -> Result<Report, Fail> {
-    let query = Query::read(alloc, text)?;
-    Ok(in_memory(answer(alloc, sources, &query, &mut Gather::new(alloc)))?)
 }
 
 /// Queries over the letters, the number of lines in the answer, and the greatest number of lines read.
@@ -261,31 +237,23 @@ const READ_OF_LETTERS: &[(&str, u64, u64)] = &[
     ("key=z)/", 0, 1),
 ];
 
-/// Returns `true` if the query has `given` captures, and reads no more lines of the letters than this.
-fn reads_little(alloc: Global, query: &str, given: u64, lines: u64) -> Result<bool, Fail> {
-    let report = report(alloc, &mut [SliceSource::new(LETTERS)], query)?;
-    Ok(report.given == given && report.lines <= lines && report.probes <= 10)
-}
-
 #[test]
 fn little_is_read_of_an_index(rt: HostRuntime) -> Result<(), Fail> {
     for (query, given, lines) in READ_OF_LETTERS {
-        assert!(rt; reads_little(rt.alloc(), query, *given, *lines)?, "{query}");
+        let (report, _page) = page(rt.alloc(), &mut [SliceSource::new(LETTERS)], query)?;
+        assert!(rt; report.given == *given && report.lines <= *lines, "{query}");
+        assert!(rt; report.probes <= 10, "{query}");
     }
     Ok(())
 }
 
-/// Returns `true` if one capture is given, more follow, and three lines are read and held.
-fn holds_three(alloc: Global, indexes: &[Rows]) -> Result<bool, Fail> {
-    let texts = index_texts(alloc, indexes)?;
-    let query = "url=example.com&fl=offset&limit=1";
-    let report = report(alloc, &mut slices(alloc, &texts)?, query)?;
-    Ok(report.given == 1 && report.more && report.lines == 3 && report.held == 3)
-}
-
 #[test]
 fn one_line_of_each_index_is_held_and_those_of_one_pair(rt: HostRuntime) -> Result<(), Fail> {
-    assert!(rt; holds_three(rt.alloc(), APART)?);
+    let texts = index_texts(rt.alloc(), APART)?;
+    let mut sources = slices(rt.alloc(), &texts)?;
+    let query = "url=example.com&fl=offset&limit=1";
+    let (report, _page) = page(rt.alloc(), &mut sources, query)?;
+    assert!(rt; report.given == 1 && report.more && report.lines == 3 && report.held == 3);
     Ok(())
 }
 
@@ -296,40 +264,29 @@ const FROM_500: &str =
     "500\n501\n502\n503\n504\n505\n506\n507\n508\n509\n\ncom%2Cexample%29%2F+20160101000509+a.warc+509\n";
 
 #[test]
-fn a_page_begins_where_its_resume_key_says(rt: HostRuntime) -> Result<(), Fail> {
+fn a_page_is_read_from_its_resume_key_on(rt: HostRuntime) -> Result<(), Fail> {
     let text = rising_lines(rt.alloc(), 1_000)?;
-    assert!(rt; is_page(rt.alloc(), &text, b"", AFTER_499, FROM_500.as_bytes())?);
+    let (report, out) = page(rt.alloc(), &mut [SliceSource::new(&text)], AFTER_499)?;
+    assert!(rt; out.bytes() == FROM_500.as_bytes());
+    assert!(rt; report.lines >= 10 && report.lines <= 13 && report.held <= 2);
     Ok(())
 }
 
-/// Returns `true` if little more is read than the ten lines of the page.
-fn reads_the_page(alloc: Global, text: &[u8]) -> Result<bool, Fail> {
-    let report = report(alloc, &mut [SliceSource::new(text)], AFTER_499)?;
-    Ok(report.lines >= 10 && report.lines <= 13 && report.held <= 2)
-}
-
-#[test]
-fn what_stands_before_a_resume_key_is_not_read(rt: HostRuntime) -> Result<(), Fail> {
-    let text = rising_lines(rt.alloc(), 1_000)?;
-    assert!(rt; reads_the_page(rt.alloc(), &text)?);
-    Ok(())
-}
-
-/// Returns `true` if this many empty indexes are too many. Nothing is written then.
-fn are_too_many(alloc: Global, count: usize) -> Result<bool, Fail> {
-    let query = Query::read(alloc, "url=example.com&output=json")?;
-    let mut sources = empty_sources(alloc, count)?;
-    let mut out = Gather::new(alloc);
-    match in_memory(answer(alloc, &mut sources, &query, &mut out)) {
-        Err(AnswerFault::TooManySources) => Ok(out.bytes().is_empty()),
-        Err(fault) => Err(Fail::from(fault)),
-        Ok(_) => Ok(false),
-    }
-}
+/// Numbers of empty indexes, and the fault of a query over them.
+const COUNTS: &[(usize, Option<AnswerFault>)] = &[
+    (1_024, None),
+    (1_025, Some(AnswerFault::TooManySources)),
+];
 
 #[test]
 fn at_most_1024_indexes_are_asked(rt: HostRuntime) -> Result<(), Fail> {
-    assert!(rt; !are_too_many(rt.alloc(), 1_024)?);
-    assert!(rt; are_too_many(rt.alloc(), 1_025)?);
+    for (count, fault) in COUNTS {
+        let mut sources = empty_sources(rt.alloc(), *count)?;
+        let (result, out) = answered(rt.alloc(), &mut sources, "url=example.com&output=json")?;
+        assert!(rt;
+            result.err() == *fault && out.bytes().is_empty() == fault.is_some(),
+            "{count}"
+        );
+    }
     Ok(())
 }

@@ -1,8 +1,8 @@
 //! The pages of queries, one after another.
-use crate::small_indexes::{APART, empty_sources, files, in_memory, index_texts, slices};
-use devices::Gather;
-use fixtures::{HOSTS, LETTER_ROWS, Refused, Rows};
-use query_core::{AnswerFault, Query, SliceSource, Source, answer, pages};
+use crate::calls::{page, paged};
+use crate::small_indexes::{APART, empty_sources, files, index_texts, slices};
+use fixtures::{HOSTS, LETTER_ROWS, Rows};
+use query_core::{AnswerFault, SliceSource, Source};
 use std::alloc::Global;
 use std::rt::Runtime;
 use std::test::Fail;
@@ -70,10 +70,8 @@ const CASES: &[Case] = &[
 
 /// Returns `true` if the sources give this answer.
 fn answers<S: Source>(alloc: Global, sources: &mut [S], case: &Case) -> Result<bool, Fail> {
-    let query = Query::read(alloc, case.query)?;
-    let mut out = Gather::new(alloc);
-    let count = in_memory(pages(alloc, sources, &query, case.sizes, &mut out))?;
-    Ok(count == case.count && out.bytes() == case.pages.as_bytes())
+    let (count, out) = paged(alloc, sources, case.query, case.sizes)?;
+    Ok(count == Ok(case.count) && out.bytes() == case.pages.as_bytes())
 }
 
 fn answers_from_memory(alloc: Global, case: &Case) -> Result<bool, Fail> {
@@ -104,24 +102,13 @@ fn all_gave(sources: &[SliceSource<'_>]) -> u64 {
 }
 
 /// Returns `true` if pages of one capture read as many bytes as one page of all captures.
-fn reads_once(alloc: Global, text: &str) -> Result<bool, Fail> {
+fn reads_once(alloc: Global, query: &str) -> Result<bool, Fail> {
     let texts = index_texts(alloc, &[APART[0], APART[1], APART[2], HOSTS])?;
-    let query = Query::read(alloc, text)?;
-    Ok(gave_for_pages(alloc, &texts, &query)? == gave_for_page(alloc, &texts, &query)?)
-}
-
-/// Returns how many bytes the sources give for pages of one capture.
-fn gave_for_pages(alloc: Global, texts: &[Vec<u8>], query: &Query) -> Result<u64, Fail> {
-    let mut sources = slices(alloc, texts)?;
-    let _count = in_memory(pages(alloc, &mut sources, query, &[1], &mut Gather::new(alloc)))?;
-    Ok(all_gave(&sources))
-}
-
-/// Returns how many bytes the sources give for one page of all captures.
-fn gave_for_page(alloc: Global, texts: &[Vec<u8>], query: &Query) -> Result<u64, Fail> {
-    let mut sources = slices(alloc, texts)?;
-    let _report = in_memory(answer(alloc, &mut sources, query, &mut Gather::new(alloc)))?;
-    Ok(all_gave(&sources))
+    let mut for_pages = slices(alloc, &texts)?;
+    let (_count, _pages) = paged(alloc, &mut for_pages, query, &[1])?;
+    let mut for_page = slices(alloc, &texts)?;
+    let (_report, _page) = page(alloc, &mut for_page, query)?;
+    Ok(all_gave(&for_pages) == all_gave(&for_page))
 }
 
 #[test]
@@ -147,14 +134,6 @@ fn query_after(alloc: Global, limit: u64, key: &str) -> Result<String, Fail> {
     Ok(text)
 }
 
-/// Returns the page that answers a query.
-fn page(alloc: Global, sources: &mut [SliceSource<'_>], text: &str) -> Result<Gather, Fail> {
-    let query = Query::read(alloc, text)?;
-    let mut out = Gather::new(alloc);
-    let _report = in_memory(answer(alloc, sources, &query, &mut out))?;
-    Ok(out)
-}
-
 /// Appends the rows of a page, and returns what a query has to say for the next.
 fn append_rows(alloc: Global, page: &str, rows: &mut String) -> Result<Option<String>, Fail> {
     let (page, next) = cut_key(page);
@@ -175,8 +154,8 @@ fn step(
     rows: &mut String,
 ) -> Result<Option<String>, Fail> {
     let text = query_after(alloc, limit, key)?;
-    let page = page(alloc, sources, text.as_str())?;
-    append_rows(alloc, str::from_utf8(page.bytes())?, rows)
+    let (_report, out) = page(alloc, sources, text.as_str())?;
+    append_rows(alloc, str::from_utf8(out.bytes())?, rows)
 }
 
 const ALL_ROWS: &str = "a.warc 0\na.warc 5\na.warc 20\nb.warc 10\na.warc 1\na.warc 3\n";
@@ -208,23 +187,6 @@ fn resume_keys_lead_through_all_captures(rt: HostRuntime) -> Result<(), Fail> {
     Ok(())
 }
 
-/// Returns `true` if pages over this many empty indexes have this fault, with nothing written, or none.
-fn is_early(
-    alloc: Global,
-    count: usize,
-    sizes: &[u64],
-    wanted: Option<AnswerFault>,
-) -> Result<bool, Fail> {
-    let query = Query::read(alloc, "url=example.com&output=json")?;
-    let mut sources = empty_sources(alloc, count)?;
-    let mut out = Gather::new(alloc);
-    match pages(alloc, &mut sources, &query, sizes, &mut out) {
-        Err(AnswerFault::Memory | AnswerFault::Write) => Err(Refused::Memory)?,
-        Err(fault) => Ok(wanted == Some(fault) && out.bytes().is_empty()),
-        Ok(_count) => Ok(wanted.is_none()),
-    }
-}
-
 /// Numbers of indexes, sizes, and the fault for both.
 const EARLY_FAULTS: &[(usize, &[u64], Option<AnswerFault>)] = &[
     (1, &[], Some(AnswerFault::BadSizes)),
@@ -238,8 +200,16 @@ const EARLY_FAULTS: &[(usize, &[u64], Option<AnswerFault>)] = &[
 #[test]
 fn sizes_are_looked_at_before_the_number_of_indexes(rt: HostRuntime) -> Result<(), Fail> {
     for (number, (count, sizes, fault)) in EARLY_FAULTS.iter().enumerate() {
+        let mut sources = empty_sources(rt.alloc(), *count)?;
+        let (result, out) = paged(
+            rt.alloc(),
+            &mut sources,
+            "url=example.com&output=json",
+            sizes,
+        )?;
+        let is_written = !out.bytes().is_empty();
         assert!(rt;
-            is_early(rt.alloc(), *count, sizes, *fault)?,
+            result.err() == *fault && is_written == fault.is_none(),
             "row {number}"
         );
     }

@@ -1,8 +1,7 @@
 //! Queries that collapse captures with a part in common.
-use crate::small_indexes::in_memory;
-use devices::Gather;
+use crate::calls::{page, paged};
 use fixtures::{FIRST_OF_2016, Rows, index_text, rising_lines};
-use query_core::{Query, SliceSource, answer, pages};
+use query_core::SliceSource;
 use std::alloc::Global;
 use std::test::Fail;
 
@@ -52,25 +51,13 @@ const COLLAPSED: &[(&str, &str)] = &[
     ("collapse=urlkey&limit=2&showResumeKey=true", "0\n3\n"),
 ];
 
-/// Returns the page of a query over an index.
-fn page(alloc: Global, index: &[u8], text: &str) -> Result<Gather, Fail> {
-    let query = Query::read(alloc, text)?;
-    let mut out = Gather::new(alloc);
-    let _report = in_memory(answer(alloc, &mut [SliceSource::new(index)], &query, &mut out))?;
-    Ok(out)
-}
-
-/// Returns `true` if this page answers a query with this rest.
-fn is_collapsed(alloc: Global, index: &[u8], rest: &str, wanted: &str) -> Result<bool, Fail> {
-    let query = format!(in alloc; "url=example.com&matchType=prefix&fl=offset&{rest}")?;
-    Ok(page(alloc, index, query.as_str())?.bytes() == wanted.as_bytes())
-}
-
 #[test]
 fn the_first_of_those_with_a_part_in_common_is_given(rt: HostRuntime) -> Result<(), Fail> {
     let index = index_text(rt.alloc(), DAYS)?;
     for (rest, wanted) in COLLAPSED {
-        assert!(rt; is_collapsed(rt.alloc(), &index, rest, wanted)?, "{rest}");
+        let query = format!(in rt.alloc(); "url=example.com&matchType=prefix&fl=offset&{rest}")?;
+        let (_report, out) = page(rt.alloc(), &mut [SliceSource::new(&index)], query.as_str())?;
+        assert!(rt; out.bytes() == wanted.as_bytes(), "{rest}");
     }
     Ok(())
 }
@@ -79,20 +66,11 @@ const BY_DAY: &str = "url=example.com&matchType=prefix&fl=offset&collapse=timest
 
 const PAGES_BY_DAY: &str = "0\n\ncom%2Cexample%29%2F+20160101000000+a.warc+0\n2\n";
 
-/// Returns the pages of a query over an index, and their number.
-fn pages_of(alloc: Global, index: &[u8], text: &str, size: u64) -> Result<(u64, Gather), Fail> {
-    let query = Query::read(alloc, text)?;
-    let mut out = Gather::new(alloc);
-    let mut sources = [SliceSource::new(index)];
-    let count = in_memory(pages(alloc, &mut sources, &query, &[size], &mut out))?;
-    Ok((count, out))
-}
-
 #[test]
 fn a_page_goes_on_with_another_part(rt: HostRuntime) -> Result<(), Fail> {
     let index = index_text(rt.alloc(), DAYS)?;
-    let (count, out) = pages_of(rt.alloc(), &index, BY_DAY, 1)?;
-    assert!(rt; count == 2 && out.bytes() == PAGES_BY_DAY.as_bytes());
+    let (count, out) = paged(rt.alloc(), &mut [SliceSource::new(&index)], BY_DAY, &[1])?;
+    assert!(rt; count == Ok(2) && out.bytes() == PAGES_BY_DAY.as_bytes());
     Ok(())
 }
 
@@ -114,11 +92,12 @@ const BY_TEN_SECONDS: &str = "url=example.com&fl=offset&collapse=timestamp:13";
 /// Sizes of pages, and the number of pages.
 const SIZES: &[(u64, u64)] = &[(1, 100), (2, 50), (7, 15), (1_000, 1)];
 
-/// Returns `true` if there are this many pages of this size, and whether they have the captures of one page of all.
+/// Returns `true` if there are this many pages of this size, and they have the captures of one page of all.
 fn are_alike(alloc: Global, index: &[u8], size: u64, wanted: u64) -> Result<bool, Fail> {
-    let (count, out) = pages_of(alloc, index, BY_TEN_SECONDS, size)?;
-    let whole = page(alloc, index, BY_TEN_SECONDS)?;
-    Ok(count == wanted && rows(alloc, out.bytes())?.as_bytes() == whole.bytes())
+    let mut sources = [SliceSource::new(index)];
+    let (count, out) = paged(alloc, &mut sources, BY_TEN_SECONDS, &[size])?;
+    let (_report, whole) = page(alloc, &mut sources, BY_TEN_SECONDS)?;
+    Ok(count == Ok(wanted) && rows(alloc, out.bytes())?.as_bytes() == whole.bytes())
 }
 
 #[test]

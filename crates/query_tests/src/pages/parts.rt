@@ -1,5 +1,5 @@
 //! The parts of pages, and the opening of sources at a pair.
-use cdxj_core::{Field, Line, Pair, field_name};
+use cdxj_core::{Field, Line, Pair};
 use devices::Gather;
 use fixtures::LETTERS;
 use merge_core::{All, LineWriter, MergeState, merge};
@@ -57,29 +57,6 @@ fn a_page_is_written_in_its_form(rt: HostRuntime) -> Result<(), Fail> {
         assert!(rt; is_page(rt.alloc(), *form, &line, page)?, "row {number}");
     }
     Ok(())
-}
-
-const NAMES: &[(Field, &str)] = &[
-    (Field::Urlkey, "urlkey"),
-    (Field::Timestamp, "timestamp"),
-    (Field::Original, "original"),
-    (Field::Mimetype, "mimetype"),
-    (Field::Statuscode, "statuscode"),
-    (Field::Digest, "digest"),
-    (Field::Length, "length"),
-    (Field::Offset, "offset"),
-    (Field::Filename, "filename"),
-];
-
-fn has_name(field: Field, name: &str) -> bool {
-    field_name(field) == name
-}
-
-#[test]
-fn fields_have_names(rt: HostRuntime) {
-    for (field, name) in NAMES {
-        assert!(rt; has_name(*field, name));
-    }
 }
 
 /// Pairs at which two sources are opened, and how many bytes of the letters precede them.

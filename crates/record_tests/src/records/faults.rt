@@ -147,19 +147,28 @@ fn second_of_length(alloc: Global, digits: &str) -> Result<Vec<u8>, AllocError> 
     joined(alloc, &[RESPONSE, before, digits.as_bytes(), behind])
 }
 
-/// Returns `true` if a second record of this length has this fault, behind its head.
-fn is_second_refused(alloc: Global, digits: &str, cause: Cause) -> Result<bool, Fail> {
-    let fault = Fault { offset: 264, cause };
-    let text = second_of_length(alloc, digits)?;
-    Ok(text.len() == 264 + 99 && walks(alloc, (&text, 8192, 0), 1, Some(fault))?)
-}
+/// Lengths of a second record, and the faults behind its head. 264 bytes, a head of 99, the block and a closing of 4 end
+/// at 2^63 - 1 = 9223372036854775807, or one past it.
+const GREATEST: &[(&str, Cause)] = &[
+    ("9223372036854775440", Cause::ShortBlock),
+    ("9223372036854775441", Cause::TooFar),
+];
 
-/// 264 bytes, a head of 99, the block and a closing of 4 end at 2^63 - 1 = 9223372036854775807, or one past it.
 #[test]
 fn a_record_ends_at_the_greatest_offset_at_most(rt: HostRuntime) -> Result<(), Fail> {
-    let alloc = rt.alloc();
-    assert!(rt; is_second_refused(alloc, "9223372036854775440", Cause::ShortBlock)?);
-    assert!(rt; is_second_refused(alloc, "9223372036854775441", Cause::TooFar)?);
+    for (digits, cause) in GREATEST {
+        let text = second_of_length(rt.alloc(), digits)?;
+        let (offset, cause) = (264, *cause);
+        assert!(rt; text.len() == 264 + 99);
+        assert!(rt;
+            walks(
+                rt.alloc(),
+                (&text, 8192, 0),
+                1,
+                Some(Fault { offset, cause })
+            )?
+        );
+    }
     Ok(())
 }
 
@@ -173,23 +182,17 @@ fn stand_before(at: u64) -> (u64, u64) {
     }
 }
 
-/// Returns `true` if reading ends at the call `at`, which fails, if the input gives one byte a call.
-fn ends_at_failed_read(alloc: Global, archive: &[u8], at: u64) -> Result<bool, Fault> {
-    let (records, offset) = stand_before(at);
-    let cause = Cause::Read;
-    walks(
-        alloc,
-        (archive, 1, at),
-        records,
-        Some(Fault { offset, cause }),
-    )
-}
-
 #[test]
 fn reading_ends_at_the_record_whose_read_fails(rt: HostRuntime) -> Result<(), Fail> {
     let archive = joined(rt.alloc(), &[RESPONSE, RESOURCE])?;
     for at in 1..450 {
-        assert!(rt; ends_at_failed_read(rt.alloc(), &archive, at)?, "{at}");
+        let (records, offset) = stand_before(at);
+        let cause = Cause::Read;
+        let fault = Some(Fault { offset, cause });
+        assert!(rt;
+            walks(rt.alloc(), (&archive, 1, at), records, fault)?,
+            "{at}"
+        );
     }
     Ok(())
 }

@@ -28,26 +28,17 @@ fn behind(open: bool) -> &'static [u8] {
     if open { b"" } else { b"abc\r\n\r\n" }
 }
 
-/// Returns `true` if a record with such a head is read, or refused for this cause.
-fn is_limited(
-    alloc: Global,
-    length: usize,
-    open: bool,
-    cause: Option<Cause>,
-) -> Result<bool, Fail> {
-    let head = head_of(alloc, length, open)?;
-    let text = joined(alloc, &[&head, behind(open)])?;
-    let fault = cause.map(|cause| Fault { offset: 0, cause });
-    let records = u64::from(cause.is_none());
-    Ok(head.len() == length && walks(alloc, (&text, 8192, 0), records, fault)?)
-}
-
 #[test]
 fn a_head_has_at_most_1_048_576_bytes(rt: HostRuntime) -> Result<(), Fail> {
     assert!(rt; HEAD_LIMIT == 1_048_576);
     for (length, open, cause) in LENGTHS {
+        let head = head_of(rt.alloc(), *length, *open)?;
+        let text = joined(rt.alloc(), &[&head, behind(*open)])?;
+        let fault = cause.map(|cause| Fault { offset: 0, cause });
+        let records = u64::from(cause.is_none());
+        assert!(rt; head.len() == *length, "{length}");
         assert!(rt;
-            is_limited(rt.alloc(), *length, *open, *cause)?,
+            walks(rt.alloc(), (&text, 8192, 0), records, fault)?,
             "{length} {open}"
         );
     }

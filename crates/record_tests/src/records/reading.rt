@@ -1,6 +1,5 @@
 //! A record's head, its block and its length.
 use fixtures::{RESOURCE, RESPONSE, joined};
-use std::alloc::Global;
 use std::test::Fail;
 use warc_core::{Fault, Head, Kind, Reader, Slice};
 
@@ -38,40 +37,27 @@ fn gives_its_block(reader: &mut Reader, input: &mut Slice<'_>) -> Result<bool, F
     Ok(none == 0 && all == 59 && end == 0 && piece.starts_with(BLOCK) && piece[59] == 0)
 }
 
-/// Opens the response, and reads its block.
-fn opens(alloc: Global, input: &mut Slice<'_>) -> Result<(Reader, bool), Fault> {
-    let mut reader = Reader::new(alloc)?;
-    let is_open = reader.next(input)?.is_some();
-    let is_given = gives_its_block(&mut reader, input)?;
-    Ok((reader, is_open && is_given))
-}
-
-/// Returns `true` if the first call of `finish` returns the length of the record, and the second nothing.
-fn is_finished_once(reader: &mut Reader, input: &mut Slice<'_>) -> Result<bool, Fault> {
-    Ok(reader.finish(input)? == 264 && reader.finish(input)? == 0)
-}
-
+/// The first call of `finish` returns the length of the record, and the second nothing.
 #[test]
 fn a_record_has_a_block_and_a_length(rt: HostRuntime) -> Result<(), Fault> {
     let mut input = Slice::new(RESPONSE);
-    let (mut reader, is_given) = opens(rt.alloc(), &mut input)?;
-    assert!(rt; is_given);
-    assert!(rt; is_finished_once(&mut reader, &mut input)?);
+    let mut reader = Reader::new(rt.alloc())?;
+    assert!(rt; reader.next(&mut input)?.is_some());
+    assert!(rt; gives_its_block(&mut reader, &mut input)?);
+    assert!(rt; reader.finish(&mut input)? == 264);
+    assert!(rt; reader.finish(&mut input)? == 0);
     Ok(())
-}
-
-/// Returns `true` if there is no record and no block, at any number of calls.
-fn is_at_end(alloc: Global, input: &mut Slice<'_>) -> Result<bool, Fault> {
-    let mut reader = Reader::new(alloc)?;
-    let is_end = reader.next(input)?.is_none();
-    Ok(is_end && reader.next(input)?.is_none() && reader.block(input, &mut [0; 10])? == 0)
 }
 
 #[test]
 fn an_input_without_bytes_has_no_record_however_often_it_is_read(
     rt: HostRuntime,
 ) -> Result<(), Fault> {
-    assert!(rt; is_at_end(rt.alloc(), &mut Slice::new(b""))?);
+    let mut input = Slice::new(b"");
+    let mut reader = Reader::new(rt.alloc())?;
+    assert!(rt; reader.next(&mut input)?.is_none());
+    assert!(rt; reader.next(&mut input)?.is_none());
+    assert!(rt; reader.block(&mut input, &mut [0; 10])? == 0);
     Ok(())
 }
 
