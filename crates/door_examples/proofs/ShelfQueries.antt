@@ -3,7 +3,6 @@ use native.Mathlib.Omega.{arith}
 use lib.Utf8.{encode}
 use Rattle.std.proofs.Common.{◌≡◌, ◌∙◌, ℕ, List, [], ◌∷◌, ◌++◌, Some, None, Result, Ok, Err, MatchResult, IfOk, codes, refl, sym, ap, subst, inl, inr}
 use Rattle.std.specs.Fmt.{digits}
-use Rattle.std.specs.List.{AllZip}
 use Rattle.std.specs.Str.{is_utf8, chars}
 use Rattle.std.specs.Str.Lossy.{utf8_lossy, utf8_valid_len}
 use Rattle.json.specs.Print.{escape_byte}

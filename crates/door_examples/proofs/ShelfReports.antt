@@ -9,7 +9,6 @@ use Rattle.warc_core.specs.HeadView.{HeadView}
 use Rattle.warc_core.specs.Laws.{OneReading}
 use Rattle.warc_core.specs.Walk.{AreRecords}
 use Rattle.capture_core.specs.Types.{includes, usual_types}
-use Rattle.index_core.specs.Adding.{with_archive}
 use Rattle.index_core.specs.Indexing.{Held, index_text}
 use Rattle.index_core.specs.Laws.{OneIndexed, OneStands}
 use Rattle.index_core.specs.Limits.{HEAD_LIMIT}
@@ -24,7 +23,7 @@ use Rattle.tasks.specs.declared.reports.ArchiveReport.{ArchiveReport}
 use Rattle.tasks.specs.declared.reports.ArchiveReport.TheVariants as reports
 use Rattle.tasks.specs.Fetching.{FetchesRecord}
 use Rattle.tasks.specs.Indexing.{AddsOne, WritesIndex, nothing_of}
-use Rattle.tasks.specs.Outcome.{ends_command, outcome_of, verification_outcome}
+use Rattle.tasks.specs.Outcome.{ends_command, outcome_of}
 use Rattle.tasks.specs.Performing.{Performs}
 use Rattle.tasks.specs.Reports.{ReportsOn, ReportsOnOne, WritesReport}
 use Rattle.door_examples.specs.Archives.{a_archive, a_entry, a_view}

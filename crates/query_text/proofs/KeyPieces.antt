@@ -1,5 +1,5 @@
 -- A query text with a printed key is cut into its pieces again.
-use Rattle.std.proofs.Common.{◌≡◌, ℕ, ◌<◌, true, false, not, List, [], ◌∷◌, length, codes, refl, arith}
+use Rattle.std.proofs.Common.{◌≡◌, ℕ, ◌<◌, false, List, [], ◌∷◌, length, codes, arith}
 use Rattle.std.proofs.Common.{◌==◌}
 use Rattle.std.specs.List.{All, AllByRecursion, slice_split, onto_first, join_with_byte}
 use Rattle.std.proofs.lemmas.List.Elements.{All-weaker, All-append}

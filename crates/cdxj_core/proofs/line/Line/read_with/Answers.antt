@@ -9,7 +9,7 @@ use Rattle.cdxj_core.specs.Members.{line_entry}
 use Rattle.cdxj_core.proofs.FoundLines.{line_found, found_line}
 use Rattle.cdxj_core.proofs.KeptLemmas.{json_kept}
 use Rattle.cdxj_core.proofs.MemberLemmas.{body_none, entry_none, line_of_body}
-use Rattle.cdxj_core.proofs.line.Line.read_with.Goals.{In-Some, In_ok-found, In_ok-text}
+use Rattle.cdxj_core.proofs.line.Line.read_with.Goals.{In-Some}
 use Rattle.cdxj_core.proofs.line.Line.read_with.Goals as goal
 
 pub returns-in_default : goal.returns-in_default
