@@ -2,6 +2,7 @@
 use super::{ABC, HTTP, capture_of, says, says_no_head};
 use cdxj_core::Entry;
 use fixtures::{joined, repeated};
+use std::alloc::Global;
 use std::test::Fail;
 
 /// A first part, a part that is repeated, how often, and whether they make a head: of 256 and 257 fields, and of
@@ -23,13 +24,17 @@ fn says_head(captured: &Option<Entry>, is_head: bool) -> bool {
     }
 }
 
+/// Returns `true` if a head of these parts is found, or not found, before `abc`.
+fn is_limited(alloc: Global, first: &[u8], parts: &[u8], is_head: bool) -> Result<bool, Fail> {
+    let block = joined(alloc, &[first, parts, b"\r\n\r\nabc"])?;
+    Ok(says_head(&capture_of(alloc, "response", HTTP, &block)?, is_head))
+}
+
 #[test]
 fn http_heads_are_limited(rt: HostRuntime) -> Result<(), Fail> {
     for (first, part, count, is_head) in HEADS {
         let parts = repeated(rt.alloc(), part, *count)?;
-        let block = joined(rt.alloc(), &[first, &parts, b"\r\n\r\nabc"])?;
-        let captured = capture_of(rt.alloc(), "response", HTTP, &block)?;
-        assert!(rt; says_head(&captured, *is_head), "{count}");
+        assert!(rt; is_limited(rt.alloc(), first, &parts, *is_head)?, "{count}");
     }
     Ok(())
 }
