@@ -6,7 +6,7 @@ ghost use Rattle.std.specs.Char.{is_ascii_digit};
 ghost use Rattle.std.specs.List.{list_all, prefix_len};
 ghost use Rattle.std.specs.Str.Parse.{digits_value};
 ghost use Rattle.cdxj_objects.specs.PlainPlaces.{ArePlainMembers, AreParts, IsNumberAfter};
-ghost use Rattle.cdxj_objects.specs.PlainPlaces.{IsTextAfter, texts_at};
+ghost use Rattle.cdxj_objects.specs.PlainPlaces.{IsPartBetween, IsTextAfter, part, texts_at};
 ghost use Rattle.cdxj_objects.specs.Texts.{borrowed_view};
 
 use crate::lanes::{Front, digits_before, has_front, holds_lanes, place_of_either};
@@ -128,6 +128,15 @@ pub fn plain_members(text: &[u8], object: usize) -> Option<PlainMembers>
     })
 }
 
+/// Returns the text between a front that stands at a place and an end.
+#[inline(always)]
+fn text_behind<'a>(text: &'a str, at: usize, front: &str, end: usize) -> &'a str
+    requires { IsPartBetween text.now (at + length front.now) end }
+    ensures { result.now ≡ part text.now (at + length front.now) end }
+{
+    &text[at + front.len()..end]
+}
+
 /// Returns the texts of the members whose fronts stand there.
 #[inline(always)]
 pub fn texts_at<'a>(text: &'a str, fronts: &Members<usize>) -> Members<&'a str>
@@ -136,12 +145,12 @@ pub fn texts_at<'a>(text: &'a str, fronts: &Members<usize>) -> Members<&'a str>
 {
     let at = *fronts;
     Members {
-        url: &text[at.url + BEFORE.url.len()..at.mime],
-        mime: &text[at.mime + BEFORE.mime.len()..at.status],
-        status: &text[at.status + BEFORE.status.len()..at.digest],
-        digest: &text[at.digest + BEFORE.digest.len()..at.length],
-        length: &text[at.length + BEFORE.length.len()..at.offset],
-        offset: &text[at.offset + BEFORE.offset.len()..at.filename],
-        filename: &text[at.filename + BEFORE.filename.len()..text.len() - AFTER.len()],
+        url: text_behind(text, at.url, BEFORE.url, at.mime),
+        mime: text_behind(text, at.mime, BEFORE.mime, at.status),
+        status: text_behind(text, at.status, BEFORE.status, at.digest),
+        digest: text_behind(text, at.digest, BEFORE.digest, at.length),
+        length: text_behind(text, at.length, BEFORE.length, at.offset),
+        offset: text_behind(text, at.offset, BEFORE.offset, at.filename),
+        filename: text_behind(text, at.filename, BEFORE.filename, text.len() - AFTER.len()),
     }
 }

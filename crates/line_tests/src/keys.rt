@@ -117,15 +117,27 @@ const TARGETS: &[&[(&str, &str)]] = &[
     OTHER_SCHEMES,
 ];
 
+fn has_key(alloc: Global, target: &str, key: &str) -> Result<bool, KeyFault> {
+    let with_room = url_key(alloc, target)?;
+    let without_room = url_key_with_room(alloc, target, 0)?;
+    Ok(with_room.as_str() == key && without_room.as_str() == key)
+}
+
+/// Returns the first of these targets that has another key.
+fn other_key<'a>(alloc: Global, table: &[(&'a str, &str)]) -> Result<Option<&'a str>, KeyFault> {
+    for (target, key) in table {
+        if !has_key(alloc, target, key)? {
+            return Ok(Some(*target));
+        }
+    }
+    Ok(None)
+}
+
 /// The URL's parts by the URL Standard, the key by the rules of docs/CDXJ.md.
 #[test]
 fn targets_have_keys(rt: HostRuntime) -> Result<(), KeyFault> {
     for table in TARGETS {
-        for (target, key) in *table {
-            assert!(rt; url_key(rt.alloc(), target)?.as_str() == *key, "{target}");
-            let without_room = url_key_with_room(rt.alloc(), target, 0)?;
-            assert!(rt; without_room.as_str() == *key, "{target}");
-        }
+        assert!(rt; other_key(rt.alloc(), table)?.is_none());
     }
     Ok(())
 }
