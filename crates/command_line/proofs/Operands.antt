@@ -59,7 +59,11 @@ begun : (form : Form) (choice : Option Text) (words : List Text) → MayChoose f
     → walk (rules_of form) [] nothing_held (choice_words form choice ++ words)
     ≡ fold (walked (rules_of form) []) (start form choice) words
 unfolding walked
-begun form choice words m = grind arith
+begun form None words m = refl
+begun (OfTyped make) (Some text) words (t, c) = rw (c.dashes, c.long, c.short) refl
+begun (OfTypedSizes make) (Some text) words (t, c) = rw (c.dashes, c.long, c.short) refl
+begun (OfOffset make) (Some text) words (t, c) = rw (c.dashes, c.long, c.short) refl
+begun _ (Some text) words m = cc
 
 begun_clear : (name : Text) (form : Form) (choice : Option Text) (words : List Text) → MayChoose form choice
     → walk_fault (shaped (name, form)) [] (walk_from nothing_held) (choice_words form choice ++ words)

@@ -1,5 +1,5 @@
 -- What a task promises of an output that is unchanged, it promises too where less is said of it.
-use Rattle.std.proofs.Common.{inl, inr, ℕ, List, Option, None, Some, Bool, true, false, Result, Ok, Err}
+use Rattle.std.proofs.Common.{arith, inl, inr, ℕ, List, Option, None, Some, Bool, true, false, Result, Ok, Err}
 use Rattle.std.specs.Prelude.{IfErr, MatchBool}
 use Rattle.command_line.specs.Commands.{Meaning, ToList, ToVerify, ToIndex, ToMerge, ToCheck, ToQuery, ToPages, ToServe}
 use Rattle.command_line.specs.Commands.{ToGet, ToScan}
@@ -37,52 +37,20 @@ module _ {U V : Type 0} (less : U → V) where
 
   merges : (told : List (Option (List ℕ))) (before after : Option (List ℕ)) (outcome : Outcome)
       → MergesIndexes told before after U outcome → MergesIndexes told before after V outcome
-  merges told before after outcome h = record {
-    answer = h.answer;
-    outcome_is = h.outcome_is;
-    refused = refuses _ _ h.refused;
-    merged = h.merged;
-    part = h.part;
-    lines = h.lines;
-    fault = h.fault;
-  }
+  merges told before after outcome h = grind (arith, refuses)
 
   answers : (query : QueryValue) (told : List (Option (List ℕ))) (before after : Option (List ℕ)) (outcome : Outcome)
       → AnswersQuery query told before after U outcome → AnswersQuery query told before after V outcome
-  answers query told before after outcome h = record {
-    answer = h.answer;
-    outcome_is = h.outcome_is;
-    refused = refuses _ _ h.refused;
-    lines = h.lines;
-    parts = h.parts;
-    page = h.page;
-    fault = h.fault;
-  }
+  answers query told before after outcome h = grind (arith, refuses)
 
   pages : (query : QueryValue) (sizes : List ℕ) (told : List (Option (List ℕ))) (before after : Option (List ℕ))
       (outcome : Outcome) → AnswersPages query sizes told before after U outcome
       → AnswersPages query sizes told before after V outcome
-  pages query sizes told before after outcome h = record {
-    answer = h.answer;
-    outcome_is = h.outcome_is;
-    refused = refuses _ _ h.refused;
-    lines = h.lines;
-    parts = h.parts;
-    pages = h.pages;
-    fault = h.fault;
-  }
+  pages query sizes told before after outcome h = grind (arith, refuses)
 
   serves : (told : List (Option (List ℕ))) (lines before after : Option (List ℕ)) (outcome : Outcome)
       → AnswersLines told lines before after U outcome → AnswersLines told lines before after V outcome
-  serves told lines before after outcome h = record {
-    answer = h.answer;
-    outcome_is = h.outcome_is;
-    refused = refuses _ _ h.refused;
-    converses = h.converses;
-    taken = h.taken;
-    replies = h.replies;
-    part = h.part;
-  }
+  serves told lines before after outcome h = grind (arith, refuses)
 
   unwritten : (P : IndexFault → Type 0) (answer : Result ℕ IndexFault) → IfErr answer (λ fault. P fault → U)
       → IfErr answer (λ fault. P fault → V)
@@ -91,12 +59,7 @@ module _ {U V : Type 0} (less : U → V) where
 
   fetches : (len : Option ℕ) (offset : ℕ) (archive before after : Option (List ℕ)) (outcome : Outcome)
       → WritesRecord len offset archive before after U outcome → WritesRecord len offset archive before after V outcome
-  fetches len offset archive before after outcome h = record {
-    answer = h.answer;
-    outcome_is = h.outcome_is;
-    fetches = h.fetches;
-    unwritten = unwritten (IsMetBefore offset) h.answer h.unwritten;
-  }
+  fetches len offset archive before after outcome h = grind (arith, unwritten)
 
   pub performs_less : (files : Openings) (before after : Option (List ℕ)) (outcome : Outcome) (task : Meaning)
       → Performs files before after U outcome task → Performs files before after V outcome task

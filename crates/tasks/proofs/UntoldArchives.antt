@@ -21,22 +21,7 @@ module _ (archive : Option (List ℕ)) where
 
   report_untold : (report : ArchiveReport) (outcome : Outcome) (before after : Option (List ℕ))
       → WritesReport report archive outcome before after → WritesReport report None outcome before after
-  report_untold reports.Listing outcome before after w = (
-    w.0,
-    w.1,
-    record {
-      report = reports_untold _ _ _ w.0 before after w.2.report;
-      records = w.2.records;
-    },
-  )
-  report_untold reports.Verdicts outcome before after w = (
-    w.0,
-    w.1,
-    record {
-      report = reports_untold _ _ _ w.0 before after w.2.report;
-      records = w.2.records;
-    },
-  )
+  report_untold report outcome before after w = grind (arith, reports_untold)
 
   pub below_untold : (heading : List ℕ) (report : ArchiveReport) (outcome : Outcome) (before after : Option (List ℕ))
       → WritesBelow heading report archive outcome before after → WritesBelow heading report None outcome before after
@@ -61,9 +46,4 @@ module _ (archive : Option (List ℕ)) where
   pub written_untold : (len : Option ℕ) (offset : ℕ) (before after : Option (List ℕ)) (unchanged : Type 0)
       (outcome : Outcome) → WritesRecord len offset archive before after unchanged outcome
       → WritesRecord len offset None before after unchanged outcome
-  written_untold len offset before after unchanged outcome w = record {
-    answer = w.answer;
-    outcome_is = w.outcome_is;
-    fetches = record_untold len offset w.answer before after w.fetches;
-    unwritten = w.unwritten;
-  }
+  written_untold len offset before after unchanged outcome w = grind (arith, record_untold)

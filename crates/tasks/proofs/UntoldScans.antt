@@ -28,11 +28,7 @@ module _ (types : Kind → Bool) where
 
   indexed_told : (names : List (List ℕ)) (told left : List (Option (List ℕ))) (captures : List (List EntryValue))
       → AllZip HasTold told left → AreIndexed types names left captures → AreIndexed types names told captures
-  indexed_told names told left captures has indexed = record {
-    named = indexed.named;
-    accepted = all_accepted_told names told left captures has indexed.accepted;
-    lines = indexed.lines;
-  }
+  indexed_told names told left captures has indexed = grind (arith, all_accepted_told)
 
   fault_untold : (earlier : List (List ℕ)) (name : List ℕ) (left : Option (List ℕ)) (fault : IndexFault)
       → IsFaultOfArchive types earlier name left fault → IsFaultOfArchive types earlier name None fault
@@ -58,33 +54,13 @@ module _ (types : Kind → Bool) where
     scanned_told : (before after : Option (List ℕ)) (number : ℕ)
         → Scanned types names left sizes query before after number
         → Scanned types names told sizes query before after number
-    scanned_told before after number s = record {
-      query = s.query;
-      asked = s.asked;
-      captures = s.captures;
-      indexed = indexed_told names told left s.captures has s.indexed;
-      once = s.once;
-      wrote = s.wrote;
-    }
+    scanned_told before after number s = grind (arith, indexed_told)
 
     part_told : (before after : Option (List ℕ)) → ScannedInPart types names left sizes query before after
         → ScannedInPart types names told sizes query before after
-    part_told before after s = record {
-      query = s.query;
-      asked = s.asked;
-      captures = s.captures;
-      indexed = indexed_told names told left s.captures has s.indexed;
-      part = s.part;
-    }
+    part_told before after s = grind (arith, indexed_told)
 
     pub scans_told : (before after : Option (List ℕ)) (outcome : Outcome)
         → ScansArchives types names left sizes query before after outcome
         → ScansArchives types names told sizes query before after outcome
-    scans_told before after outcome s = record {
-      answer = s.answer;
-      outcome_is = s.outcome_is;
-      scanned = grind (arith, scanned_told);
-      fault = grind (arith, scan_fault_told);
-      part = grind (arith, part_told);
-      unwritten = s.unwritten;
-    }
+    scans_told before after outcome s = grind (arith, scanned_told, scan_fault_told, part_told)
