@@ -4,7 +4,6 @@ use Rattle.std.specs.Prelude.{IfErr, MatchBool}
 use Rattle.command_line.specs.Commands.{Meaning, ToList, ToVerify, ToIndex, ToMerge, ToCheck, ToQuery, ToPages, ToServe}
 use Rattle.command_line.specs.Commands.{ToGet, ToScan}
 use Rattle.index_core.specs.declared.fault.IndexFault.{IndexFault}
-use Rattle.index_core.specs.Fetching.{IsMetBefore}
 use Rattle.query_core.specs.declared.fault.AnswerFault.{AnswerFault}
 use Rattle.query_core.specs.Refusals.{Refuses}
 use Rattle.query_text.specs.Queries.{QueryValue}

@@ -7,7 +7,6 @@ use Rattle.index_core.specs.FetchingAt.{FetchesAt}
 use Rattle.index_core.specs.Report.{RecordLine, Reports}
 use Rattle.tasks.specs.declared.outcome.Outcome.{Outcome}
 use Rattle.tasks.specs.declared.reports.ArchiveReport.{ArchiveReport}
-use Rattle.tasks.specs.declared.reports.ArchiveReport.TheVariants as reports
 use Rattle.tasks.specs.Fetching.{FetchesRecord, WritesRecord}
 use Rattle.tasks.specs.Indexing.{AddsArchive}
 use Rattle.index_core.specs.Indexing.{Held}
