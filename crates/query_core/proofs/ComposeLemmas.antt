@@ -48,19 +48,12 @@ module _ {X P : Type 0} (place : X → P) (R : P → P → Ordering) (o : IsTota
   pub rising_left : (us vs : List X) → rising place R (rising place R us ++ vs) ≡ rising place R (us ++ vs)
   rising_left us vs =
       rising_same place R o (rising place R (rising place R us ++ vs)) (rising place R (us ++ vs))
-      (grind (arith, rises_rising)) (rises_rising place R o (us ++ vs)) (λ x. grind (
-        arith,
-        rising_members,
-        of_first x us vs,
-        of_first x (rising place R us) vs,
-        first_of x us vs,
-        first_of x (rising place R us) vs,
-        is_first,
-        rises_rising,
-        in_list,
-        absent_rising,
-        each_rising,
-      ))
+      (grind (arith, rises_rising)) (rises_rising place R o (us ++ vs)) (λ x.
+      let of_both = of_first x us vs in
+      let both_of = first_of x us vs in
+      let of_rising = of_first x (rising place R us) vs in
+      let rising_of = first_of x (rising place R us) vs in
+      grind (arith, rising_members, is_first, rises_rising, in_list, absent_rising, each_rising))
 
   pub rising_right : (xs us vs : List X) → rising place R us ≡ rising place R vs → rising place R (xs ++ us)
       ≡ rising place R (xs ++ vs)
@@ -115,9 +108,6 @@ first_on m (u ∷ us) vs h = grind (arith, first_on m us vs)
 pub added : SelectedAreFirst → (q : QueryValue) (some others : List (List Member)) (m : Member)
     → IsIn m (selected q (collection some)) → IsIn m (selected q (collection (some ++ others)))
 added are q some others m i =
-    let f = (are q some m).0 i in
-    let first : IsFirst member_place place_cmp m (all_lines (some ++ others)) =
-    rw (lines_join some others) (first_on m (all_lines some) (all_lines others) f.0) in
-    (are q (some ++ others) m).1 (first, f.1)
+    let f = (are q some m).0 i in let back = are q (some ++ others) m in grind (arith, lines_join, first_on)
 
 pub ruleset merges_compose = (merges_commute, merges_group)

@@ -45,17 +45,7 @@ record IsKeyRow (row : List ℕ) : Type 0 where
 are_key_rows : (key : Option (List ℕ)) → KeyIsAbove key → AllByRecursion IsKeyRow (key_rows key)
 unfolding spaces
 are_key_rows None h = tt
-are_key_rows (Some k) h = (
-  record { line = ([], refl, refl); unspaced = refl; no_mark = λ e. omega arith },
-  (
-    record {
-      line = above_line k h.0;
-      unspaced = omega (arith, spaces_join k (10 ∷ []), above_spaces k h.0);
-      no_mark = λ e. omega (arith, length-append k (10 ∷ []));
-    },
-    tt,
-  ),
-)
+are_key_rows (Some k) h = grind (arith, above_line, spaces_join, above_spaces, length-append)
 
 -- ---- spaces
 
@@ -121,16 +111,9 @@ some_left text h = grind arith
 cdxj_short : (m : Member) (row : List ℕ) → HasEntry m → length row ≤ 2 → line_row m ≡ row → ⊥
 cdxj_short m row h short e =
     let some = some_left (tail_part m.line) (spaced_tail m h) in
-    let after = after_first is_space m.line in
-    omega (
-      arith,
-      some,
-      length-drop 14 after,
-      length-drop (position_or_len is_space m.line + 1) m.line,
-      short,
-      ap length e,
-      length-append m.line (10 ∷ []),
-    )
+    let tail = length-drop 14 (after_first is_space m.line) in
+    let after = length-drop (position_or_len is_space m.line + 1) m.line in
+    let same = ap length e in omega (arith, length-append m.line (10 ∷ []))
 
 no_space_later : (n : ℕ) (name : List ℕ) → has_no_space name ≡ true → begins_with_space (drop n name) ≡ false
 no_space_later (suc n) (b ∷ name) h = no_space_later n name (grind arith)
@@ -140,9 +123,8 @@ no_space_later n name h = grind arith
 cdxj_refused : (m : Member) (name : List ℕ) → HasEntry m → has_no_space name ≡ true
     → line_row m ≡ refusal_text name → ⊥
 cdxj_refused m name h none e =
-    let line : m.line ≡ codes "refused " ++ name = append_cancel_right m.line (codes "refused " ++ name) (10 ∷ []) e in
-    let tail : begins_with_space (drop 14 name) ≡ true = rw line at (spaced_tail m h) in
-    true≢false (sym tail ∙ no_space_later 14 name none)
+    let line = append_cancel_right m.line (codes "refused " ++ name) (10 ∷ []) e in
+    true≢false (sym (rw line at (spaced_tail m h)) ∙ no_space_later 14 name none)
 
 cdxj_line : (m : Member) → HasEntry m → IsLine (line_row m)
 cdxj_line m h = (m.line, refl, (is_row LINE_LIMIT m.line m h).0)
@@ -244,12 +226,9 @@ module _ (fields : List Field) (ms : List Member) (key : Option (List ℕ)) (ent
       (rw cdxj_lines at e)
   empty_of output.Json other some before after e = absurd (other refl)
 
-  spaceless_row : length fields ≤ 1 → (r : List ℕ) → IsRowOfPage (text_row fields) key r → has_no_space r ≡ true
-  spaceless_row few r k = grind (arith, unspaced, text_spaces)
-
   spaceless : length fields ≤ 1 → AllByRecursion (λ line. has_no_space line ≡ true) (shown output.Text)
   spaceless few =
-      rw text_lines (each_weaker (spaceless_row few) (rows (text_row fields) key ms)
+      rw text_lines (each_weaker (λ r k. grind (arith, unspaced, text_spaces)) (rows (text_row fields) key ms)
       (each_row (text_row fields) key above ms entries))
 
   module _ (name : List ℕ) (index offset : ℕ) (before after : List (List ℕ)) where
@@ -297,13 +276,10 @@ two_fields_begin_as_refusals q found name rest entries none e = grind (arith, re
 
 pub no_page_has_faults : NoPageHasFaults
 no_page_has_faults q found name index offset before after entries e =
-    fault_of q.fields (members q found) (key q found) (have_entries q found entries) (above q found) name index offset
-    before after q.output (cases_lt 1 (length q.fields)) e
+    let few = cases_lt 1 (length q.fields) in grind (arith, fault_of, have_entries, above)
 
 pub empty_line_is_before_key : EmptyLineIsBeforeKey
-empty_line_is_before_key q found before after entries other some e =
-    empty_of q.fields (members q found) (key q found) (have_entries q found entries) (above q found) q.output other
-    (λ t. some) before after e
+empty_line_is_before_key q found before after entries other some e = grind (arith, empty_of, have_entries, above)
 
 pub one_field_has_no_space : OneFieldHasNoSpace
 one_field_has_no_space q found entries is one = grind (arith, spaceless, have_entries, above)

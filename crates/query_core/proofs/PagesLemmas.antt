@@ -166,13 +166,8 @@ one_after {c = c} {s} o (m ∷ ms) =
     rw (← append_assoc c (m ∷ []) ms) (one_after {c = c ++ m ∷ []} {s = with_capture s m} (one_more_is o m) ms)
 
 pub one_page : (limit : Option ℕ) (c : List Member) → IsOnePage limit c (pages_after (no_pages limit []) c)
-one_page limit c = one_after (record {
-  whole = refl;
-  left = refl;
-  limit_is = refl;
-  split = refl;
-  holds = none_holds limit [] tt;
-}) c
+one_page limit c =
+    let o : IsOnePage limit [] (no_pages limit []) = grind (arith, none_holds) in one_after o c
 
 page_at : {limit : Option ℕ} {c : List Member} {s : PagesSoFar} → IsOnePage limit c s → (last : Option PlaceValue)
     → (s.limit ≡ Some (length s.rows) → last ≡ last_of s.rows)
@@ -244,9 +239,6 @@ more_last last (k ∷ rest) m = refl
 
 module _ {q : QueryValue} {s : PagesSoFar} {p : PageState} {start now : Option (List ℕ)} (t : Stands q s p start now)
   where
-    pub stands_front : AppendsPrefix start now (text_so_far q s)
-    stands_front = whole_prefix start now (text_so_far q s) t.text
-
     -- the writer knows whether the page is full
     pub full_is : HoldsRows s → FitsWord p.limit → is_full p.limit p.given ≡ has_all s
     full_is h fits = grind (arith, eqb-true, eqb-false)
@@ -348,7 +340,7 @@ broke_more first taken more start now broke sized =
 module _ {first w : PageWriter} {taken : List Member} {start now : Option (List ℕ)} (s : Wrote first w taken start now)
   where
     pub wrote_front : Broke first taken start now
-    wrote_front sized = stands_front (s.stands sized)
+    wrote_front sized = whole_prefix _ _ _ (s.stands sized).text
 
     pub wrote_holds : IsSized first.limit first.sizes.now → HoldsRows (pages_so_far first taken)
     wrote_holds sized = holds_more (none_holds first.limit first.sizes.now sized) (captures_of first.selection taken)
@@ -356,11 +348,7 @@ module _ {first w : PageWriter} {taken : List Member} {start now : Option (List 
     -- one line more, which is a capture or not
     pub took_next : {next : Selection} {m : Member} {is : Bool} → TookNext w.selection next taken m is
         → pages_so_far first (taken ++ m ∷ []) ≡ pages_after (pages_so_far first taken) (cond is (m ∷ []) [])
-    took_next {m = m} {is} took =
-        let one = cond is (m ∷ []) [] in
-        let more : captures_of first.selection (taken ++ m ∷ []) ≡ captures_of first.selection taken ++ one =
-        rw (s.same.0, s.same.1) at took.captures in
-        rw more (pages_join (no_pages first.limit first.sizes.now) (captures_of first.selection taken) one)
+    took_next took = let same = s.same in grind (arith, pages_join)
 
     -- where the page isn't ended
     pub goes_on : IsSized first.limit first.sizes.now

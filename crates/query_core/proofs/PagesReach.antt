@@ -153,11 +153,8 @@ written : (q : QueryValue) (whole : List (Page Member PlaceValue)) (rows : List 
     (start now new : Option (List ℕ)) → (whole ≡ []) ⊎ (0 < length rows)
     → Appends start now (pages_text q whole ++ begun (form_of q) rows) → Grows now new
     → WroteFirst start new (pages_text q whole ++ captures_text (form_of q) rows)
-written q whole [] start now new (inl none) a g = rw none (record {
-  middle = start;
-  front = Appends-none start;
-  grows = grows_on _ _ _ (grows_by _ _ _ a) g;
-})
+written q whole [] start now new (inl none) a g =
+    rw none (record { middle = start; front = Appends-none start; grows = grows_on _ _ _ (grows_by _ _ _ a) g })
 written q whole [] start now new (inr some) a g = absurd (omega (arith, some))
 written q whole (m ∷ ms) start now new more a g = record { middle = now; front = a; grows = g }
 
@@ -235,18 +232,15 @@ module _ {S : Type 0} (device : Ghosts S) (q : QueryValue) (sizes : List ℕ) wh
   pub no_pages_reached : (texts : List (List ℕ)) (indexes : List (List Member)) (old new : Option (List ℕ))
       (sources : List S) → Known (map device.text sources) texts → AllZip (IsIndex LINE_LIMIT) texts indexes → Grows old new
       → GaveInPages device q sizes texts indexes old new sources sources
-  no_pages_reached texts indexes old new sources known are grows = record {
-    whole = 0;
-    most = omega arith;
-    wrote = record {
-      pages = [];
-      rows = [];
-      cut = (refl, omega arith);
-      wrote = record { middle = old; front = Appends-none old; grows = grows };
-    };
-    within = grind (arith, within_opening, two_same);
-    all = grind (arith, within_opening, two_same);
-  }
+  no_pages_reached texts indexes old new sources known are grows =
+      let front : WroteFirst old new [] = record { middle = old; front = Appends-none old; grows = grows } in
+      record {
+        whole = 0;
+        most = omega arith;
+        wrote = record { pages = []; rows = []; cut = (refl, omega arith); wrote = front };
+        within = grind (arith, within_opening, two_same);
+        all = grind (arith, within_opening, two_same);
+      }
 
   -- The captures of these lines, which come first, were written, and then perhaps more. What the sources gave is in
   -- reach of the earlier of them.
@@ -258,15 +252,9 @@ module _ {S : Type 0} (device : Ghosts S) (q : QueryValue) (sizes : List ℕ) wh
       (λ texts indexes. GaveInPages device q sizes texts indexes old new olds news)
   pages_reached new olds news taken earlier tail wrote first split within = λ texts indexes known are.
       let front = first texts indexes known are in
-      let all : query_captures q (collection indexes) ≡ captures q taken ++ front.0 =
-      rw (captures_are q (collection indexes)) front.1 in
-      record {
-        whole = length (captures q taken);
-        most = grind (arith, length-append);
-        wrote = rw (all, take-append_seam (captures q taken) front.0) wrote;
-        within = within texts indexes known are (Some (length (captures q taken))) (grind (arith, length-append));
-        all = within texts indexes known are None tt;
-      }
+      let one = within texts indexes known are (Some (length (captures q taken))) (grind (arith, length-append)) in
+      let all = within texts indexes known are None tt in
+      grind (arith, captures_are, take-append_seam, length-append)
 
 -- ---- where a writer of pages ends, and where it fails
 

@@ -14,12 +14,9 @@ use Rattle.query_core.proofs.answering.answer.Goals as goal
 
 abbrev begin : (g : Over) (c : In_ok-writer g) → Writing c.args.query.now c.args.query.now.limit []
     (g.O.Output.written c.args.out.now) (g.O.Output.written c.begin.new.out) []
-begin g c = record {
-  first = c.in_ok-writer.writer;
-  is = rw c.limit.ensures.value at c.in_ok-writer.ensures.begins;
-  writer = c.in_ok-writer.writer;
-  wrote = c.in_ok-writer.ensures.wrote;
-}
+begin g c =
+    let is = rw c.limit.ensures.value at c.in_ok-writer.ensures.begins in
+    record { first = _; is = is; writer = _; wrote = c.in_ok-writer.ensures.wrote }
 
 -- after all lines that were taken
 abbrev writing : (g : Over) (c : In_ok-pass g) → Writing c.args.query.now c.args.query.now.limit []
