@@ -11,8 +11,7 @@ use Rattle.cdxj_core.specs.declared.field.Field.TheVariants.{Urlkey}
 use Rattle.cdxj_core.specs.Fields.{field_named}
 use Rattle.query_text.specs.declared.filter.Test.TheVariants.{HasNot}
 use Rattle.query_text.specs.Filters.{FilterValue, occurs}
-use Rattle.query_text.specs.Parameters.{ParameterValues, no_values, pieces_of, with_filter, with_piece}
-use Rattle.query_text.specs.Parameters.{with_pieces}
+use Rattle.query_text.specs.Parameters.{ParameterValues, no_values, pieces_of, with_filter, with_piece, with_pieces}
 use Rattle.query_text.specs.Parts.{decoded}
 use Rattle.query_text.specs.Queries.{query_with, target_of, with_target}
 use Rattle.query_text.specs.Readings.{Read, and_then}

@@ -4,7 +4,7 @@ use Rattle.query_core.proofs.Words.{BeginsWithBracket, Bool, Field, HasEntry, LI
 use Rattle.query_core.proofs.Words.{Option, PlaceValue, Some, ℕ, append_assoc, arith, codes, cond, each_join, eqb-true}
 use Rattle.query_core.proofs.Words.{escaped, false, flat_map, has_no_feed, is_key, is_stamp, length, length-append}
 use Rattle.query_core.proofs.Words.{lines, lines_front, list_all-append, map, nat_tests, option_map, refl, resume_text}
-use Rattle.query_core.proofs.Words.{row_value, subst, suc, sym, text_row, true, zero}
+use Rattle.query_core.proofs.Words.{row_value, suc, text_row, true, zero}
 use Rattle.std.proofs.lemmas.List.Elements.{recursion_from_All}
 use Rattle.std.specs.Prelude.{◌==◌, option_and_then}
 use Rattle.form_urlencoded.proofs.FormLemmas.{IsSerializedByte, All-byte_serialize, byte_serialize-append}

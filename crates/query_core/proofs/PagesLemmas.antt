@@ -2,14 +2,13 @@
 use Rattle.query_core.proofs.Words.{[], ◌++◌, ◌+◌, ◌-◌, ◌<◌, ◌^◌, ◌∙◌, ◌∷◌, ◌≡◌, ◌≤◌, ◌⊎◌, AllPositive, Appends}
 use Rattle.query_core.proofs.Words.{Appends-join, AppendsPrefix, AreAtMost, AreCut, Bool, Broke, FitsWord, IsSized}
 use Rattle.query_core.proofs.Words.{List, Member, None, Option, Page, PageWriter, PagesSoFar, PlaceValue, QueryValue}
-use Rattle.query_core.proofs.Words.{Some, Wrote, and_parts, ap, append-nil, append_assoc, arith, at_most}
-use Rattle.query_core.proofs.Words.{captures_over, cond, each_join, eqb-false, eqb-true, false, filter}
-use Rattle.query_core.proofs.Words.{first_positive, first_size, flat_map-append, form_of, from_view, grows_by}
-use Rattle.query_core.proofs.Words.{grows_not, grows_part, inl, is_full, is_some, is_wanted, last_of, later_positive}
-use Rattle.query_core.proofs.Words.{later_sizes, length, length-append, list_all, member_place, min, more_after}
-use Rattle.query_core.proofs.Words.{nat_lt, next_after, next_of, no_pages, page_end, page_start, place_before}
-use Rattle.query_core.proofs.Words.{prefix_after, prefix_longer, refl, row_text, shown_key, suc, sym, take}
-use Rattle.query_core.proofs.Words.{take-append_seam, take_all, text_so_far, true, ℕ}
+use Rattle.query_core.proofs.Words.{Some, Wrote, and_parts, ap, append-nil, append_assoc, arith, at_most, captures_over}
+use Rattle.query_core.proofs.Words.{cond, each_join, eqb-false, eqb-true, false, filter, first_positive, first_size}
+use Rattle.query_core.proofs.Words.{flat_map-append, form_of, from_view, grows_by, grows_not, grows_part, inl, is_full}
+use Rattle.query_core.proofs.Words.{is_some, is_wanted, last_of, later_positive, later_sizes, length, length-append}
+use Rattle.query_core.proofs.Words.{list_all, member_place, min, more_after, nat_lt, next_after, next_of, no_pages}
+use Rattle.query_core.proofs.Words.{page_end, page_start, place_before, prefix_after, prefix_longer, refl, row_text}
+use Rattle.query_core.proofs.Words.{shown_key, suc, sym, take, take-append_seam, take_all, text_so_far, true, ℕ}
 use Rattle.std.proofs.Common.{IfSome}
 use Rattle.std.proofs.lemmas.List.{take_at, drop_at}
 use Rattle.page_core.proofs.PageLemmas.{page_in_pieces, begun-more}

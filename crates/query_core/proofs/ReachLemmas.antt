@@ -1,15 +1,14 @@
 -- What was taken of indexes, beside all that is wanted of their collection.
 use Rattle.query_core.proofs.Words.{[], ◌&&◌, ◌++◌, ◌-◌, ◌^◌, ◌∷◌, ◌≡◌, ◌≤◌, All, All-head, All-tail, AllByRecursion}
 use Rattle.query_core.proofs.Words.{AllGaveWithin, AllZip, AreAtMost, AreLinesOf, Bool, GaveFor, Ghosts, IsAbove}
-use Rattle.query_core.proofs.Words.{IsIndex, Known, LINE_LIMIT, List, Member, NoneBelow, Option, Ordering}
-use Rattle.query_core.proofs.Words.{OverIndexes, Pair, PlaceValue, QueryValue, ReadFor, Some, TargetValue, Upto}
-use Rattle.query_core.proofs.Words.{and_parts, ap, append-nil, append_assoc, arith, bytes_eq-Decides, collection}
-use Rattle.query_core.proofs.Words.{each_join, each_kept, each_weaker, eqb-true, false, false_from_ne_true, filter}
-use Rattle.query_core.proofs.Words.{in_reach, inputs, is_above, is_gt, is_low, is_past, is_stamp, is_wanted, length}
-use Rattle.query_core.proofs.Words.{line_entry, line_row, lines, map, member_pair, member_place, min, nat_cmp}
-use Rattle.query_core.proofs.Words.{nat_tests, not, pair_cmp, pair_cmp_total, place_before, place_cmp}
-use Rattle.query_core.proofs.Words.{place_cmp_total, refl, same_part, slice_cmp, suc, sum, true, upto_upto, zero, zip}
-use Rattle.query_core.proofs.Words.{ℕ}
+use Rattle.query_core.proofs.Words.{IsIndex, Known, LINE_LIMIT, List, Member, NoneBelow, Option, Ordering, OverIndexes}
+use Rattle.query_core.proofs.Words.{Pair, PlaceValue, QueryValue, ReadFor, Some, TargetValue, Upto, and_parts, ap}
+use Rattle.query_core.proofs.Words.{append-nil, append_assoc, arith, bytes_eq-Decides, collection, each_join, each_kept}
+use Rattle.query_core.proofs.Words.{each_weaker, eqb-true, false, false_from_ne_true, filter, in_reach, inputs}
+use Rattle.query_core.proofs.Words.{is_above, is_gt, is_low, is_past, is_stamp, is_wanted, length, line_row, lines, map}
+use Rattle.query_core.proofs.Words.{member_pair, member_place, min, nat_cmp, nat_tests, not, pair_cmp, pair_cmp_total}
+use Rattle.query_core.proofs.Words.{place_before, place_cmp, place_cmp_total, refl, same_part, slice_cmp, suc, sum}
+use Rattle.query_core.proofs.Words.{true, upto_upto, zero, zip, ℕ}
 use Rattle.query_core.proofs.WriterLemmas.{captures, kept_after, captures_split, captures_append}
 use Rattle.std.proofs.Common.{replicate, is_lt}
 use Rattle.query_text.proofs.RangeLaw.{match_not_below, past_upward}
@@ -20,8 +19,7 @@ use Rattle.merge_core.specs.Reached.{Reached}
 use Rattle.merge_core.proofs.TakenLemmas.{Took, none_wait, parts_are, parts_count, taken_before, taken_first}
 use Rattle.merge_core.proofs.TakenLemmas.{taken_whole, took_of_indexes, took_of_parts}
 use Rattle.merge_core.specs.Spending.{AreReadTo, OpenedWithin}
-use Rattle.merge_core.proofs.SourceLemmas.{parts, reached_long, reached_read, reached_sought}
-use Rattle.merge_core.proofs.SourceLemmas.{taken_lines}
+use Rattle.merge_core.proofs.SourceLemmas.{parts, reached_long, reached_read, reached_sought, taken_lines}
 use Rattle.query_core.specs.Starts.{first_stamp, later_pair, start_pair}
 use Rattle.cdxj_core.proofs.MemberLemmas.{entry_valued}
 use Rattle.std.specs.Char.{is_ascii_digit}

@@ -94,6 +94,7 @@ pub fn appended_condition_selects_nothing()
 
 /// Over indexes, and an output whose bytes are known, there is one text that an answer that succeeds writes, and one report
 /// of the captures.
+#[tactic(auto, using(crate::proofs::PageChains::one_text))]
 pub fn answer_writes_one_text()
     ensures { AnswerIsOne }
 {}
@@ -106,6 +107,7 @@ pub fn pages_write_one_text()
 
 /// Over sources and an output whose bytes are known, there is one text that a merge that succeeds writes, and one number
 /// of lines.
+#[tactic(auto, using(crate::proofs::PageChains::one_text))]
 pub fn merge_writes_one_text()
     ensures { MergeIsOne }
 {}

@@ -1,5 +1,4 @@
-use Rattle.query_core.proofs.Words.{◌+◌, QUERY_LIMIT, TakesLine, arith, err_from_is_err_and, prepend_known, refl}
-use Rattle.query_core.proofs.Words.{true}
+use Rattle.query_core.proofs.Words.{arith, err_from_is_err_and, refl, true}
 use Rattle.devices.proofs.Takings.{taken-join}
 use Rattle.query_core.proofs.ReplyLemmas.{spent_none, spent_more, spent_within, input_stops, line_more, line_none}
 use Rattle.query_core.proofs.ReplyLemmas.{line_within, one_reply, one_reply_part, replied_front, replied_none}

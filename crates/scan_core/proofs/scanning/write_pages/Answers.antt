@@ -1,7 +1,6 @@
-use Rattle.query_core.proofs.Words.{[], ◌∙◌, ◌∷◌, ◌≡◌, ◌≤◌, AllZip, Err, IsAnswerFaultOf, IsIndex, Known}
-use Rattle.query_core.proofs.Words.{LINE_LIMIT, List, Member, Ok, Option, Some, ap, arith, collection, get_or, length}
-use Rattle.query_core.proofs.Words.{length-map, map, nat_tests, refl, same_part, selected, suc, true, wrote_nothing}
-use Rattle.query_core.proofs.Words.{ℕ}
+use Rattle.query_core.proofs.Words.{[], ◌∙◌, ◌∷◌, ◌≡◌, ◌≤◌, AllZip, Err, IsAnswerFaultOf, IsIndex, Known, LINE_LIMIT}
+use Rattle.query_core.proofs.Words.{List, Member, Ok, Option, Some, ap, arith, collection, get_or, length, length-map}
+use Rattle.query_core.proofs.Words.{map, nat_tests, refl, same_part, selected, suc, true, wrote_nothing, ℕ}
 use Rattle.std.proofs.Common.{Result, IfErr}
 use Rattle.devices.specs.Device.{next_count}
 use Rattle.merge_core.specs.Failures.{RaisedAt}

@@ -1,8 +1,7 @@
-use Rattle.query_core.proofs.Words.{[], ◌∙◌, ◌∷◌, ◌≡◌, FitsWord, arith, err_from_is_err_and, false, grows_by}
-use Rattle.query_core.proofs.Words.{grows_on, grows_part, is_full, rules, sym, true≢false}
-use Rattle.query_core.proofs.PagesLemmas.{more_lines, stands_over, wrote_holds, took_next, stands_followed}
-use Rattle.query_core.proofs.PagesLemmas.{broke_more, wrote_front, row_stands, row_front, room_front, ended_is}
-use Rattle.query_core.proofs.PagesLemmas.{goes_on}
+use Rattle.query_core.proofs.Words.{[], ◌∙◌, ◌∷◌, ◌≡◌, arith, err_from_is_err_and, false, grows_by}
+use Rattle.query_core.proofs.Words.{grows_on, grows_part, rules, sym, true≢false}
+use Rattle.query_core.proofs.PagesLemmas.{more_lines, stands_over, wrote_holds, took_next, stands_followed, broke_more}
+use Rattle.query_core.proofs.PagesLemmas.{wrote_front, row_stands, row_front, room_front, ended_is, goes_on}
 use Rattle.std.proofs.lemmas.List.{nil_from_length}
 use Rattle.query_core.specs.WriterView.{pages_so_far}
 use Rattle.query_core.proofs.page_writer.PageWriter.take_line.Goals as goal
