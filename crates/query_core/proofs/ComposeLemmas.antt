@@ -1,7 +1,7 @@
 -- Merges of merges, and of indexes in another order.
 use Rattle.query_core.proofs.Words.{[], ◌++◌, ◌↔◌, ◌∷◌, ◌≡◌, ◌⊎◌, AllByRecursion, IsFirst, IsIn, List, Member, Ordering}
 use Rattle.query_core.proofs.Words.{QueryValue, Rises, all_lines, ap, append_assoc, arith, collection, each_at}
-use Rattle.query_core.proofs.Words.{each_rising, flat_map, inr, member_place, place_cmp, place_cmp_total, put, refl}
+use Rattle.query_core.proofs.Words.{each_rising, flat_map, inl, inr, member_place, place_cmp, place_cmp_total, put, refl}
 use Rattle.query_core.proofs.Words.{rises_rising, rising, rising_members, rising_same, selected}
 use Rattle.query_core.specs.MergeLaws.{HaveOneLine}
 use Rattle.query_core.specs.QueryLaws.{SelectedAreFirst}
@@ -100,14 +100,11 @@ merges_commute these those one same =
 
 -- ---- more lines
 
-first_on : (m : Member) (us vs : List Member) → IsFirst member_place place_cmp m us
-    → IsFirst member_place place_cmp m (us ++ vs)
-first_on m [] vs h = absurd h
-first_on m (u ∷ us) vs h = grind (arith, first_on m us vs)
-
 pub added : SelectedAreFirst → (q : QueryValue) (some others : List (List Member)) (m : Member)
     → IsIn m (selected q (collection some)) → IsIn m (selected q (collection (some ++ others)))
 added are q some others m i =
-    let f = (are q some m).0 i in let back = are q (some ++ others) m in grind (arith, lines_join, first_on)
+    let f = (are q some m).0 i in
+    let first = of_first member_place place_cmp place_cmp_total m (all_lines some) (all_lines others) (inl f.0) in
+    let back = are q (some ++ others) m in grind (arith, lines_join)
 
 pub ruleset merges_compose = (merges_commute, merges_group)

@@ -195,7 +195,7 @@ module _ (fields : List Field) (ms : List Member) (key : Option (List ℕ)) (ent
   json_at : (r : List ℕ) → IsIn r (shown output.Json) → BeginsWithBracket r
   json_at r i = each_at BeginsWithBracket r (shown output.Json) (json_lines fields ms key) i
 
-  mark_of : (o : OutputFormat) → IsIn (codes ".\n") (shown o) → (o ≡ output.Text) × (length fields ≡ 1)
+  pub mark_of : (o : OutputFormat) → IsIn (codes ".\n") (shown o) → (o ≡ output.Text) × (length fields ≡ 1)
   mark_of output.Text i = let r = text_at (codes ".\n") i in grind (arith, text_marked)
   mark_of output.Cdxj i = absurd (elim (cdxj_at (codes ".\n") i) [
     | inl c ↦ cdxj_short c.0 (codes ".\n") c.1 (omega arith) (sym c.2)
@@ -209,13 +209,13 @@ module _ (fields : List Field) (ms : List Member) (key : Option (List ℕ)) (ent
     refused_at output.Cdxj i = let r = cdxj_at (refusal_text name) i in grind (arith, cdxj_refused, refusal_spaces)
     refused_at output.Json i = let r = json_at (refusal_text name) i in absurd (grind arith)
 
-    refusal_of : (o : OutputFormat) (rest : List (List ℕ)) → shown o ≡ refusal_text name ∷ rest
+    pub refusal_of : (o : OutputFormat) (rest : List (List ℕ)) → shown o ≡ refusal_text name ∷ rest
         → (o ≡ output.Text) × (length fields ≡ 2)
     refusal_of o rest e = refused_at o (rw e (inl refl))
 
   -- ---- an empty line, and what follows it
 
-  empty_of : (o : OutputFormat) → (o ≡ output.Json → ⊥) → (o ≡ output.Text → fields ≡ [] → ⊥)
+  pub empty_of : (o : OutputFormat) → (o ≡ output.Json → ⊥) → (o ≡ output.Text → fields ≡ [] → ⊥)
       → (before after : List (List ℕ))
       → shown o ≡ before ++ (10 ∷ []) ∷ after → EndsInKey key after
   empty_of output.Text other some before after e =
@@ -226,7 +226,7 @@ module _ (fields : List Field) (ms : List Member) (key : Option (List ℕ)) (ent
       (rw cdxj_lines at e)
   empty_of output.Json other some before after e = absurd (other refl)
 
-  spaceless : length fields ≤ 1 → AllByRecursion (λ line. has_no_space line ≡ true) (shown output.Text)
+  pub spaceless : length fields ≤ 1 → AllByRecursion (λ line. has_no_space line ≡ true) (shown output.Text)
   spaceless few =
       rw text_lines (each_weaker (λ r k. grind (arith, unspaced, text_spaces)) (rows (text_row fields) key ms)
       (each_row (text_row fields) key above ms entries))
@@ -235,14 +235,11 @@ module _ (fields : List Field) (ms : List Member) (key : Option (List ℕ)) (ent
     abbrev fault : List ℕ
     fault = fault_row name index offset
 
-    abbrev faulted : List (List ℕ)
-    faulted = before ++ (10 ∷ []) ∷ fault ∷ after
-
     fault_there : (us : List (List ℕ)) → IsIn fault (us ++ (10 ∷ []) ∷ fault ∷ after)
     fault_there [] = inr (inl refl)
     fault_there (u ∷ us) = inr (fault_there us)
 
-    fault_of : (o : OutputFormat) → (1 < length fields) ⊎ (length fields ≤ 1) → shown o ≡ faulted → ⊥
+    pub fault_of : (o : OutputFormat) → (1 < length fields) ⊎ (length fields ≤ 1) → shown o ≡ before ++ (10 ∷ []) ∷ fault ∷ after → ⊥
     fault_of output.Text (inr few) e = grind (arith, each_at, spaceless, fault_there before)
     fault_of output.Json few e = let r = json_at fault (rw e (fault_there before)) in absurd (grind arith)
     fault_of output.Text (inl more) e =
@@ -262,36 +259,14 @@ module _ (q : QueryValue) (found : List Member) where
   abbrev key : Option (List ℕ)
   key = shown_key q.show_resume_key (query_page q found).next
 
-  above : KeyIsAbove key
+  pub above : KeyIsAbove key
   above = shown_is_above q.show_resume_key (query_page q found).next
 
-  have_entries : HaveEntries found → HaveEntries members
+  pub have_entries : HaveEntries found → HaveEntries members
   have_entries h = grind (arith, each_at_most, each_kept, place_cmp_total, each_filter)
-
-pub one_field_has_marks : OneFieldHasMarks
-one_field_has_marks q found entries i = grind (arith, mark_of, have_entries, above)
-
-pub two_fields_begin_as_refusals : TwoFieldsBeginAsRefusals
-two_fields_begin_as_refusals q found name rest entries none e = grind (arith, refusal_of, have_entries, above)
-
-pub no_page_has_faults : NoPageHasFaults
-no_page_has_faults q found name index offset before after entries e =
-    let few = cases_lt 1 (length q.fields) in grind (arith, fault_of, have_entries, above)
-
-pub empty_line_is_before_key : EmptyLineIsBeforeKey
-empty_line_is_before_key q found before after entries other some e = grind (arith, empty_of, have_entries, above)
-
-pub one_field_has_no_space : OneFieldHasNoSpace
-one_field_has_no_space q found entries is one = grind (arith, spaceless, have_entries, above)
 
 pub json_lines_begin_with_brackets : JsonLinesBeginWithBrackets
 json_lines_begin_with_brackets q found is = rw is (json_lines q.fields (members q found) (key q found))
 
-pub ruleset page_line_laws = (
-  one_field_has_marks,
-  two_fields_begin_as_refusals,
-  no_page_has_faults,
-  empty_line_is_before_key,
-  one_field_has_no_space,
-  json_lines_begin_with_brackets,
-)
+pub ruleset page_line_laws =
+    (mark_of, refusal_of, fault_of, cases_lt, empty_of, spaceless, have_entries, above, json_lines_begin_with_brackets)

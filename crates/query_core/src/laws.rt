@@ -37,7 +37,7 @@ pub fn cdxj_pages_are_indexes()
 {}
 
 /// The lines that a merge of indexes writes are an index, with these lines.
-#[tactic(auto, using(crate::proofs::PageIndexes::merged_index))]
+#[tactic(auto, using(crate::proofs::PageIndexes::merged_rules))]
 pub fn merged_lines_are_an_index()
     ensures { MergedIsIndex }
 {}

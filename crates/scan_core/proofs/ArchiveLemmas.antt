@@ -1,9 +1,8 @@
 -- Archives that are indexed one after another.
 use Rattle.query_core.proofs.Words.{[], ◌++◌, ◌+◌, ◌<◌, ◌∙◌, ◌∷◌, ◌≡◌, AllZip, Bool, Err, IsIndex, LINE_LIMIT, List}
 use Rattle.query_core.proofs.Words.{None, Option, ap, append-nil, append_assoc, arith, drop, each_join, get_or}
-use Rattle.query_core.proofs.Words.{length, length-append, length-map, map, map-append, take, ℕ}
+use Rattle.query_core.proofs.Words.{length, length-append, length-map, map, take, ℕ}
 use Rattle.std.proofs.Common.{set}
-use Rattle.std.proofs.lemmas.List.Elements.{AllZip-push}
 use Rattle.std.proofs.lemmas.List.{take_more, get_or-map, map-set, set-get_or}
 use Rattle.warc_core.specs.Kind.{Kind}
 use Rattle.cdxj_core.specs.Entries.{EntryValue}
@@ -46,7 +45,10 @@ indexes_push : {I : Type 0} (limit : ℕ) (text : I → List ℕ) (indexes : Lis
     (index : I) (captures : List EntryValue) → AllZip (IsIndex limit) (map text indexes) (map index_members archives)
     → IsIndex limit (text index) (index_members captures)
     → AllZip (IsIndex limit) (map text (indexes ++ index ∷ [])) (map index_members (archives ++ captures ∷ []))
-indexes_push limit text indexes archives index captures h k = grind (arith, map-append, AllZip-push)
+indexes_push limit text [] [] index captures h k = (k, tt)
+indexes_push limit text (x ∷ indexes) (c ∷ archives) index captures h k =
+    (h.0, indexes_push limit text indexes archives index captures h.1 k)
+indexes_push limit text indexes archives index captures h k = absurd h
 
 -- Of these archives, those before the i-th are indexed, and the others are as they were
 pub record Indexing {X I : Type 0} (name : X → List ℕ) (input : X → Option (List ℕ)) (count : X → ℕ)
