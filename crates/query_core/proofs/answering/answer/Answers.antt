@@ -2,7 +2,7 @@ use Rattle.query_core.proofs.Words.{[], ◌++◌, ◌∙◌, ◌≡◌, AreAtMos
 use Rattle.query_core.proofs.Words.{OverIndexes, ap, append-nil, arith, err_from_is_err_and, grows_by, grows_part}
 use Rattle.query_core.proofs.Words.{is_some, length-map, map, query_page, refl, sym, true, wrote_nothing, ℕ}
 use Rattle.query_core.proofs.PagesReach.{no_more, Writing, end_front, of_none, of_taken, page_ended, passed}
-use Rattle.query_core.proofs.PagesReach.{page_fewer, page_reached, answer_front, broke_front, within}
+use Rattle.query_core.proofs.PagesReach.{page_fewer, page_reached, answer_front, answer_rules, broke_front, within}
 use Rattle.page_core.proofs.PageLemmas.{front-start}
 use Rattle.query_core.proofs.answering.answer.Given.{Over}
 use Rattle.query_core.proofs.answering.answer.Goals.{In_ok-writer, In_ok-pass}
@@ -25,6 +25,23 @@ writing g c =
     let took = c.in_ok-pass.ensures.ended in
     passed (begin g (goal.at.In_ok-pass g c).In_ok-writer) took.lines (g.O.Output.written c.read_lines.new.out)
     c.read_lines.new.sink took.came
+
+-- ---- faults
+
+pub returns-in_err-writer-clause-refused : goal.returns-in_err-writer-clause-refused
+returns-in_err-writer-clause-refused g c = grind (arith, answer_rules)
+
+pub returns-in_err-writer-clause-fault : goal.returns-in_err-writer-clause-fault
+returns-in_err-writer-clause-fault g c = grind (arith, answer_rules)
+
+pub returns-in_err-pass-clause-fault : goal.returns-in_err-pass-clause-fault
+returns-in_err-pass-clause-fault g c = grind (arith, answer_rules)
+
+pub returns-in_err-end-clause-refused : goal.returns-in_err-end-clause-refused
+returns-in_err-end-clause-refused g c = grind (arith, answer_rules)
+
+pub returns-in_err-end-clause-fault : goal.returns-in_err-end-clause-fault
+returns-in_err-end-clause-fault g c = grind (arith, answer_rules)
 
 -- ---- the page
 
