@@ -2,10 +2,19 @@ use Rattle.query_core.proofs.Words.{arith, err_from_is_err_and, refl, true}
 use Rattle.devices.proofs.Takings.{taken-join}
 use Rattle.query_core.proofs.ReplyLemmas.{spent_none, spent_more, spent_within, input_stops, line_more, line_none}
 use Rattle.query_core.proofs.ReplyLemmas.{line_within, one_reply, one_reply_part, replied_front, replied_none}
-use Rattle.query_core.proofs.ReplyLemmas.{replied_taken}
+use Rattle.query_core.proofs.ReplyLemmas.{replied_taken, serve_rules}
 use Rattle.query_core.proofs.serving.serve.Goals as goal
 
 -- ---- a line isn't read
+
+pub returns-in_err-next-clause-refused : goal.returns-in_err-next-clause-refused
+returns-in_err-next-clause-refused g c = grind (arith, serve_rules)
+
+pub returns-in_err-next-clause-part : goal.returns-in_err-next-clause-part
+returns-in_err-next-clause-part g c = grind (arith, serve_rules)
+
+pub returns-in_err-next-clause-bytes : goal.returns-in_err-next-clause-bytes
+returns-in_err-next-clause-bytes g c = grind (arith, serve_rules)
 
 pub returns-in_err-next-clause-lines : goal.returns-in_err-next-clause-lines
 returns-in_err-next-clause-lines g c =
