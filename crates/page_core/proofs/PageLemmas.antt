@@ -1,7 +1,6 @@
 -- A page in the pieces in which it is written.
 use Rattle.std.proofs.Common.{arith, ◌≡◌, ℕ, List, [], ◌∷◌, ◌++◌, Option, refl, sym, append_assoc}
 use Rattle.std.proofs.Common.{append-nil, subst}
-use Rattle.std.proofs.lemmas.Grind.{common_steps}
 use Rattle.std.specs.Prelude.{flat_map}
 use Rattle.std.proofs.lemmas.List.Concat.{flat_map-append}
 use Rattle.std.proofs.lemmas.List.Folds.{flat_map-map}
@@ -10,7 +9,7 @@ use Rattle.devices.specs.Device.{AppendsPrefix}
 use Rattle.cdxj_core.specs.Members.{Member}
 use Rattle.page_core.specs.Form.{FormValue, Text}
 use Rattle.page_core.specs.PageText.{page_text, page_start, row_text, page_end, begun, PageInPieces, BegunIsFront}
-use Rattle.devices.proofs.WritingLemmas.{prefix_longer, prefix_after, writes_prefix}
+use Rattle.devices.proofs.WritingLemmas.{prefix_longer, writes_prefix}
 
 pub page_in_pieces : PageInPieces
 page_in_pieces (Text fields) members key = refl
@@ -38,12 +37,6 @@ pub written-start : (old now : Option (List ℕ)) (form : FormValue) → Appends
     → Appends old now (begun form [])
 written-start old now form = grind (arith, append-nil)
 
--- after the end
-pub written-whole : (old now new : Option (List ℕ)) (form : FormValue) (members : List Member) (key : Option (List ℕ))
-    → Appends old now (begun form members) → Appends now new (page_end form key)
-    → Appends old new (page_text form members key)
-written-whole old now new form members key a b = grind (arith, common_steps, page_in_pieces)
-
 -- ---- after a fault: a front of each page that begins with these captures
 
 -- in the start
@@ -51,13 +44,6 @@ pub front-start : (old new : Option (List ℕ)) (form : FormValue) (members : Li
     → AppendsPrefix old new (page_start form) → AppendsPrefix old new (page_text form members key)
 front-start old new form members key p =
     subst (AppendsPrefix old new) (sym (page_in_pieces form members key)) (grind (arith, prefix_longer))
-
--- in the end
-pub front-end : (old now new : Option (List ℕ)) (form : FormValue) (members : List Member) (key : Option (List ℕ))
-    → Appends old now (begun form members) → AppendsPrefix now new (page_end form key) → AppendsPrefix old new
-    (page_text form members key)
-front-end old now new form members key a p = subst (AppendsPrefix old new) (sym (page_in_pieces form members key))
-    (prefix_after old now new (begun form members) (page_end form key) a p)
 
 -- a row and the line feed after it, written one after the other
 pub ruleset line_rules = (prefix_longer, writes_prefix)

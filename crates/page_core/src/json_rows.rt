@@ -105,16 +105,6 @@ fn push_values(
     Ok(())
 }
 
-// A row of one text.
-fn push_single(text: &mut Vec<u8>, alloc: Global, value: &str) -> Result<(), AllocError>
-    ensures { IfOk result (λ _. text.new.items ≡ text.old.items ++ json_row (value.now ∷ [])) }
-{
-    text.extend_from_slice(b"[")?;
-    push_quoted(text, alloc, value)?;
-    text.extend_from_slice(b"]")?;
-    Ok(())
-}
-
 /// Appends the start of the array to the text, with the row of the names of the fields.
 pub(crate) fn push_json_start(
     text: &mut Vec<u8>,
@@ -152,8 +142,9 @@ pub(crate) fn push_json_end(
         ++ (flat_map later_row (key_rows (option_map (λ k. k.now) key.entry)) ++ codes "]\n")) }
 {
     if let Some(key) = key {
-        text.extend_from_slice(b",\n[],\n")?;
-        push_single(text, alloc, key)?;
+        text.extend_from_slice(b",\n[],\n[")?;
+        push_quoted(text, alloc, key)?;
+        text.extend_from_slice(b"]")?;
     }
     text.extend_from_slice(b"]\n")?;
     Ok(())

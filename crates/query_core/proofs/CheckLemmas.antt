@@ -74,18 +74,7 @@ module _ (t : List ℕ) where
 
       pub checked_falls : (to : ℕ) (m : Member) → IsNextLine t at to (Some m) → FallsAfter previous m
           → EndsOutOfOrder t at
-      checked_falls to m next falls = record {
-        before = _;
-        line = _;
-        begins = begins next.0 (lines (drop to t)) next.1;
-        members = _;
-        run = checked.run;
-        previous = _;
-        previous_is = checked.last;
-        member = _;
-        entry = next.2;
-        falls = falls;
-      }
+      checked_falls to m next falls = let there = begins next.0 (lines (drop to t)) next.1 in grind arith
 
       pub checked_fault : (e : FeedFault) → IsFeedFaultAt (lines (drop at t)) at e
           → IsChecked t (Err (fault_of_index 0 e))

@@ -1,7 +1,7 @@
 -- Merges of merges, and of indexes in another order.
 use Rattle.query_core.proofs.Words.{[], ◌++◌, ◌↔◌, ◌∷◌, ◌≡◌, ◌⊎◌, AllByRecursion, IsFirst, IsIn, List, Member, Ordering}
 use Rattle.query_core.proofs.Words.{QueryValue, Rises, all_lines, ap, append_assoc, arith, collection, each_at}
-use Rattle.query_core.proofs.Words.{each_rising, flat_map, inr, member_place, place_cmp, place_cmp_total, put, refl}
+use Rattle.query_core.proofs.Words.{each_rising, flat_map, inl, inr, member_place, place_cmp, place_cmp_total, put, refl}
 use Rattle.query_core.proofs.Words.{rises_rising, rising, rising_members, rising_same, selected}
 use Rattle.query_core.specs.MergeLaws.{HaveOneLine}
 use Rattle.query_core.specs.QueryLaws.{SelectedAreFirst}
@@ -48,19 +48,12 @@ module _ {X P : Type 0} (place : X → P) (R : P → P → Ordering) (o : IsTota
   pub rising_left : (us vs : List X) → rising place R (rising place R us ++ vs) ≡ rising place R (us ++ vs)
   rising_left us vs =
       rising_same place R o (rising place R (rising place R us ++ vs)) (rising place R (us ++ vs))
-      (grind (arith, rises_rising)) (rises_rising place R o (us ++ vs)) (λ x. grind (
-        arith,
-        rising_members,
-        of_first x us vs,
-        of_first x (rising place R us) vs,
-        first_of x us vs,
-        first_of x (rising place R us) vs,
-        is_first,
-        rises_rising,
-        in_list,
-        absent_rising,
-        each_rising,
-      ))
+      (grind (arith, rises_rising)) (rises_rising place R o (us ++ vs)) (λ x.
+      let of_both = of_first x us vs in
+      let both_of = first_of x us vs in
+      let of_rising = of_first x (rising place R us) vs in
+      let rising_of = first_of x (rising place R us) vs in
+      grind (arith, rising_members, is_first, rises_rising, in_list, absent_rising, each_rising))
 
   pub rising_right : (xs us vs : List X) → rising place R us ≡ rising place R vs → rising place R (xs ++ us)
       ≡ rising place R (xs ++ vs)
@@ -107,17 +100,11 @@ merges_commute these those one same =
 
 -- ---- more lines
 
-first_on : (m : Member) (us vs : List Member) → IsFirst member_place place_cmp m us
-    → IsFirst member_place place_cmp m (us ++ vs)
-first_on m [] vs h = absurd h
-first_on m (u ∷ us) vs h = grind (arith, first_on m us vs)
-
 pub added : SelectedAreFirst → (q : QueryValue) (some others : List (List Member)) (m : Member)
     → IsIn m (selected q (collection some)) → IsIn m (selected q (collection (some ++ others)))
 added are q some others m i =
     let f = (are q some m).0 i in
-    let first : IsFirst member_place place_cmp m (all_lines (some ++ others)) =
-    rw (lines_join some others) (first_on m (all_lines some) (all_lines others) f.0) in
-    (are q (some ++ others) m).1 (first, f.1)
+    let first = of_first member_place place_cmp place_cmp_total m (all_lines some) (all_lines others) (inl f.0) in
+    let back = are q (some ++ others) m in grind (arith, lines_join)
 
 pub ruleset merges_compose = (merges_commute, merges_group)

@@ -5,13 +5,13 @@ use Rattle.query_core.proofs.Words.{refl, selected, true}
 use Rattle.std.proofs.Common.{◌==◌}
 use Rattle.std.specs.Prelude.{MatchResult}
 use Rattle.std.specs.List.{onto_first, slice_split}
+use Rattle.std.proofs.lemmas.List.Splits.{length-slice_split}
 use Rattle.std.proofs.lemmas.Str.{IsUtf8-from_ascii}
 use Rattle.cdxj_core.specs.declared.field.Field.TheVariants.{Urlkey}
 use Rattle.cdxj_core.specs.Fields.{field_named}
 use Rattle.query_text.specs.declared.filter.Test.TheVariants.{HasNot}
 use Rattle.query_text.specs.Filters.{FilterValue, occurs}
-use Rattle.query_text.specs.Parameters.{ParameterValues, no_values, pieces_of, with_filter, with_piece}
-use Rattle.query_text.specs.Parameters.{with_pieces}
+use Rattle.query_text.specs.Parameters.{ParameterValues, no_values, pieces_of, with_filter, with_piece, with_pieces}
 use Rattle.query_text.specs.Parts.{decoded}
 use Rattle.query_text.specs.Queries.{query_with, target_of, with_target}
 use Rattle.query_text.specs.Readings.{Read, and_then}
@@ -24,17 +24,10 @@ onto_more : (b : ℕ) (parts : List (List ℕ)) (tail : List ℕ) → 0 < length
     → onto_first b (parts ++ tail ∷ []) ≡ onto_first b parts ++ tail ∷ []
 onto_more b parts tail h = grind arith
 
-onto_some : (b : ℕ) (parts : List (List ℕ)) → 0 < length (onto_first b parts)
-onto_some b parts = grind arith
-
-split_some : (text : List ℕ) → 0 < length (slice_split (λ b. b == 38) text)
-split_some [] = omega arith
-split_some (b ∷ text) = grind (arith, onto_some)
-
 split_more : (tail : List ℕ) → slice_split (λ b. b == 38) tail ≡ tail ∷ [] → (text : List ℕ)
     → slice_split (λ b. b == 38) (text ++ 38 ∷ tail) ≡ slice_split (λ b. b == 38) text ++ tail ∷ []
 split_more tail one [] = ap (λ parts. [] ∷ parts) one
-split_more tail one (b ∷ text) = grind (arith, split_more tail one text, onto_more, split_some)
+split_more tail one (b ∷ text) = grind (arith, split_more tail one text, onto_more, length-slice_split)
 
 pieces_more : (text : List ℕ) → pieces_of (text ++ nothing) ≡ pieces_of text ++ codes "hasnot=urlkey:" ∷ []
 pieces_more text = split_more (codes "hasnot=urlkey:") refl text
@@ -67,7 +60,7 @@ value_is = plain_text_stands (codes "urlkey:") (IsUtf8-from_ascii (codes "urlkey
 
 condition_read : (w : ParameterValues) → with_piece w (codes "hasnot=urlkey:") ≡ Ok (with_filter w no_key)
 unfolding field_named
-condition_read w = grind (arith, name_is, value_is)
+condition_read w = rw (name_is, value_is) refl
 
 -- ---- the query
 
@@ -97,9 +90,4 @@ of_values (Err e) = refl
 pub appended : AppendedSelectsNothing
 appended text short =
     let within : length text ≤ QUERY_LIMIT = omega (arith, short, length-append text nothing) in
-    rw (
-      le-ltb QUERY_LIMIT (length text) within,
-      le-ltb QUERY_LIMIT (length (text ++ nothing)) short,
-      pieces_more text,
-      with_more no_values (pieces_of text) (codes "hasnot=urlkey:"),
-    ) (of_values (with_pieces no_values (pieces_of text)))
+    rw (le-ltb _ _ within, le-ltb _ _ short, pieces_more, with_more) (of_values (with_pieces no_values (pieces_of text)))

@@ -12,8 +12,7 @@ use Rattle.page_core.proofs.PageLaws.{split_there, collapse_resumes, chain_one}
 use Rattle.merge_core.proofs.InputLemmas.{filter_passes}
 use Rattle.query_core.specs.QueryPages.{IsQueryChain}
 use Rattle.query_core.proofs.WriterLemmas.{captures_are, captures}
-use Rattle.query_core.proofs.PagesLemmas.{next_place, next_short, Pages, pages_by, all_pages, last_page, all_cut}
-use Rattle.query_core.proofs.PagesLemmas.{ends}
+use Rattle.query_core.proofs.PagesLemmas.{next_place, next_short, Pages, pages_by, all_pages, last_page, all_cut, ends}
 use Rattle.query_core.specs.WrittenPages.{KeysButLast, empty_page}
 use Rattle.cdxj_core.proofs.IndexLemmas.{one_index}
 use Rattle.query_core.specs.OneText.{AnswerIsOne, MergeIsOne, PagesAreOne}
@@ -119,17 +118,14 @@ module _ (q : QueryValue) (sizes : List ℕ) (positive : AllPositive sizes) (lin
 -- ---- over known indexes and a known output, a call that succeeds writes one text
 
 -- texts are indexes with one list of members each
-one_indexes : (texts : List (List ℕ)) (these those : List (List Member)) → AllZip (IsIndex LINE_LIMIT) texts these
+pub one_indexes : (texts : List (List ℕ)) (these those : List (List Member)) → AllZip (IsIndex LINE_LIMIT) texts these
     → AllZip (IsIndex LINE_LIMIT) texts those → these ≡ those
 one_indexes (t ∷ ts) (i ∷ is) (j ∷ js) h k = grind (arith, one_index, one_indexes ts)
 one_indexes texts these those h k = grind arith
 
-one_written : (old text : List ℕ) (new new' : Option (List ℕ)) → Appends (Some old) new text
+pub one_written : (old text : List ℕ) (new new' : Option (List ℕ)) → Appends (Some old) new text
     → Appends (Some old) new' text → new ≡ new'
 one_written old text new new' a b = grind arith
-
-pub answer_one : AnswerIsOne
-answer_one texts these those q old new new' report report' are a b = grind (arith, one_indexes, one_written)
 
 -- pages of the same lines
 pub wrote_one : (q : QueryValue) (lines : List Member) (sizes old : List ℕ) (new new' : Option (List ℕ))
@@ -142,5 +138,5 @@ pages_one texts these those q sizes old new new' number number' are a b =
     let same = one_indexes texts these those are.0 are.1 in
     wrote_one q (collection these) sizes old new new' number number' a (rw same b)
 
-pub merge_one : MergeIsOne
-merge_one texts old new new' number number' a b = grind (arith, one_indexes, one_written)
+-- what an answer or a merge writes
+pub ruleset one_text = (one_indexes, one_written)

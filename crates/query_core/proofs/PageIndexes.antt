@@ -71,9 +71,8 @@ pub collection_rows : (limit : ℕ) (texts : List (List ℕ)) (indexes : List (L
     → AllZip (IsIndex limit) texts indexes → AllByRecursion (IsRow limit) (collection indexes)
 collection_rows limit texts indexes h = grind (arith, each_rising, place_cmp_total, all_rows)
 
-pub merged_index : (limit : ℕ) (texts : List (List ℕ)) (indexes : List (List Member))
-    → AllZip (IsIndex limit) texts indexes → IsIndex limit (lines_text (collection indexes)) (collection indexes)
-merged_index limit texts indexes h = grind (arith, rows_index, collection_rows, rises_rising, place_cmp_total)
+-- what a merge writes is an index
+pub ruleset merged_rules = (rows_index, collection_rows, rises_rising, place_cmp_total)
 
 rises_take : (n : ℕ) (ms : List Member) → Rises member_place place_cmp ms → Rises member_place place_cmp (take n ms)
 rises_take (suc n) (m ∷ ms) h = (each_take _ n ms h.0, rises_take n ms h.1)

@@ -45,17 +45,7 @@ record IsKeyRow (row : List ℕ) : Type 0 where
 are_key_rows : (key : Option (List ℕ)) → KeyIsAbove key → AllByRecursion IsKeyRow (key_rows key)
 unfolding spaces
 are_key_rows None h = tt
-are_key_rows (Some k) h = (
-  record { line = ([], refl, refl); unspaced = refl; no_mark = λ e. omega arith },
-  (
-    record {
-      line = above_line k h.0;
-      unspaced = omega (arith, spaces_join k (10 ∷ []), above_spaces k h.0);
-      no_mark = λ e. omega (arith, length-append k (10 ∷ []));
-    },
-    tt,
-  ),
-)
+are_key_rows (Some k) h = grind (arith, above_line, spaces_join, above_spaces, length-append)
 
 -- ---- spaces
 
@@ -121,16 +111,9 @@ some_left text h = grind arith
 cdxj_short : (m : Member) (row : List ℕ) → HasEntry m → length row ≤ 2 → line_row m ≡ row → ⊥
 cdxj_short m row h short e =
     let some = some_left (tail_part m.line) (spaced_tail m h) in
-    let after = after_first is_space m.line in
-    omega (
-      arith,
-      some,
-      length-drop 14 after,
-      length-drop (position_or_len is_space m.line + 1) m.line,
-      short,
-      ap length e,
-      length-append m.line (10 ∷ []),
-    )
+    let tail = length-drop 14 (after_first is_space m.line) in
+    let after = length-drop (position_or_len is_space m.line + 1) m.line in
+    let same = ap length e in omega (arith, length-append m.line (10 ∷ []))
 
 no_space_later : (n : ℕ) (name : List ℕ) → has_no_space name ≡ true → begins_with_space (drop n name) ≡ false
 no_space_later (suc n) (b ∷ name) h = no_space_later n name (grind arith)
@@ -140,9 +123,8 @@ no_space_later n name h = grind arith
 cdxj_refused : (m : Member) (name : List ℕ) → HasEntry m → has_no_space name ≡ true
     → line_row m ≡ refusal_text name → ⊥
 cdxj_refused m name h none e =
-    let line : m.line ≡ codes "refused " ++ name = append_cancel_right m.line (codes "refused " ++ name) (10 ∷ []) e in
-    let tail : begins_with_space (drop 14 name) ≡ true = rw line at (spaced_tail m h) in
-    true≢false (sym tail ∙ no_space_later 14 name none)
+    let line = append_cancel_right m.line (codes "refused " ++ name) (10 ∷ []) e in
+    true≢false (sym (rw line at (spaced_tail m h)) ∙ no_space_later 14 name none)
 
 cdxj_line : (m : Member) → HasEntry m → IsLine (line_row m)
 cdxj_line m h = (m.line, refl, (is_row LINE_LIMIT m.line m h).0)
@@ -213,7 +195,7 @@ module _ (fields : List Field) (ms : List Member) (key : Option (List ℕ)) (ent
   json_at : (r : List ℕ) → IsIn r (shown output.Json) → BeginsWithBracket r
   json_at r i = each_at BeginsWithBracket r (shown output.Json) (json_lines fields ms key) i
 
-  mark_of : (o : OutputFormat) → IsIn (codes ".\n") (shown o) → (o ≡ output.Text) × (length fields ≡ 1)
+  pub mark_of : (o : OutputFormat) → IsIn (codes ".\n") (shown o) → (o ≡ output.Text) × (length fields ≡ 1)
   mark_of output.Text i = let r = text_at (codes ".\n") i in grind (arith, text_marked)
   mark_of output.Cdxj i = absurd (elim (cdxj_at (codes ".\n") i) [
     | inl c ↦ cdxj_short c.0 (codes ".\n") c.1 (omega arith) (sym c.2)
@@ -227,13 +209,13 @@ module _ (fields : List Field) (ms : List Member) (key : Option (List ℕ)) (ent
     refused_at output.Cdxj i = let r = cdxj_at (refusal_text name) i in grind (arith, cdxj_refused, refusal_spaces)
     refused_at output.Json i = let r = json_at (refusal_text name) i in absurd (grind arith)
 
-    refusal_of : (o : OutputFormat) (rest : List (List ℕ)) → shown o ≡ refusal_text name ∷ rest
+    pub refusal_of : (o : OutputFormat) (rest : List (List ℕ)) → shown o ≡ refusal_text name ∷ rest
         → (o ≡ output.Text) × (length fields ≡ 2)
     refusal_of o rest e = refused_at o (rw e (inl refl))
 
   -- ---- an empty line, and what follows it
 
-  empty_of : (o : OutputFormat) → (o ≡ output.Json → ⊥) → (o ≡ output.Text → fields ≡ [] → ⊥)
+  pub empty_of : (o : OutputFormat) → (o ≡ output.Json → ⊥) → (o ≡ output.Text → fields ≡ [] → ⊥)
       → (before after : List (List ℕ))
       → shown o ≡ before ++ (10 ∷ []) ∷ after → EndsInKey key after
   empty_of output.Text other some before after e =
@@ -244,26 +226,20 @@ module _ (fields : List Field) (ms : List Member) (key : Option (List ℕ)) (ent
       (rw cdxj_lines at e)
   empty_of output.Json other some before after e = absurd (other refl)
 
-  spaceless_row : length fields ≤ 1 → (r : List ℕ) → IsRowOfPage (text_row fields) key r → has_no_space r ≡ true
-  spaceless_row few r k = grind (arith, unspaced, text_spaces)
-
-  spaceless : length fields ≤ 1 → AllByRecursion (λ line. has_no_space line ≡ true) (shown output.Text)
+  pub spaceless : length fields ≤ 1 → AllByRecursion (λ line. has_no_space line ≡ true) (shown output.Text)
   spaceless few =
-      rw text_lines (each_weaker (spaceless_row few) (rows (text_row fields) key ms)
+      rw text_lines (each_weaker (λ r k. grind (arith, unspaced, text_spaces)) (rows (text_row fields) key ms)
       (each_row (text_row fields) key above ms entries))
 
   module _ (name : List ℕ) (index offset : ℕ) (before after : List (List ℕ)) where
     abbrev fault : List ℕ
     fault = fault_row name index offset
 
-    abbrev faulted : List (List ℕ)
-    faulted = before ++ (10 ∷ []) ∷ fault ∷ after
-
     fault_there : (us : List (List ℕ)) → IsIn fault (us ++ (10 ∷ []) ∷ fault ∷ after)
     fault_there [] = inr (inl refl)
     fault_there (u ∷ us) = inr (fault_there us)
 
-    fault_of : (o : OutputFormat) → (1 < length fields) ⊎ (length fields ≤ 1) → shown o ≡ faulted → ⊥
+    pub fault_of : (o : OutputFormat) → (1 < length fields) ⊎ (length fields ≤ 1) → shown o ≡ before ++ (10 ∷ []) ∷ fault ∷ after → ⊥
     fault_of output.Text (inr few) e = grind (arith, each_at, spaceless, fault_there before)
     fault_of output.Json few e = let r = json_at fault (rw e (fault_there before)) in absurd (grind arith)
     fault_of output.Text (inl more) e =
@@ -283,39 +259,14 @@ module _ (q : QueryValue) (found : List Member) where
   abbrev key : Option (List ℕ)
   key = shown_key q.show_resume_key (query_page q found).next
 
-  above : KeyIsAbove key
+  pub above : KeyIsAbove key
   above = shown_is_above q.show_resume_key (query_page q found).next
 
-  have_entries : HaveEntries found → HaveEntries members
+  pub have_entries : HaveEntries found → HaveEntries members
   have_entries h = grind (arith, each_at_most, each_kept, place_cmp_total, each_filter)
-
-pub one_field_has_marks : OneFieldHasMarks
-one_field_has_marks q found entries i = grind (arith, mark_of, have_entries, above)
-
-pub two_fields_begin_as_refusals : TwoFieldsBeginAsRefusals
-two_fields_begin_as_refusals q found name rest entries none e = grind (arith, refusal_of, have_entries, above)
-
-pub no_page_has_faults : NoPageHasFaults
-no_page_has_faults q found name index offset before after entries e =
-    fault_of q.fields (members q found) (key q found) (have_entries q found entries) (above q found) name index offset
-    before after q.output (cases_lt 1 (length q.fields)) e
-
-pub empty_line_is_before_key : EmptyLineIsBeforeKey
-empty_line_is_before_key q found before after entries other some e =
-    empty_of q.fields (members q found) (key q found) (have_entries q found entries) (above q found) q.output other
-    (λ t. some) before after e
-
-pub one_field_has_no_space : OneFieldHasNoSpace
-one_field_has_no_space q found entries is one = grind (arith, spaceless, have_entries, above)
 
 pub json_lines_begin_with_brackets : JsonLinesBeginWithBrackets
 json_lines_begin_with_brackets q found is = rw is (json_lines q.fields (members q found) (key q found))
 
-pub ruleset page_line_laws = (
-  one_field_has_marks,
-  two_fields_begin_as_refusals,
-  no_page_has_faults,
-  empty_line_is_before_key,
-  one_field_has_no_space,
-  json_lines_begin_with_brackets,
-)
+pub ruleset page_line_laws =
+    (mark_of, refusal_of, fault_of, cases_lt, empty_of, spaceless, have_entries, above, json_lines_begin_with_brackets)

@@ -1,10 +1,11 @@
 -- The lines of a page, in each output.
-use Rattle.query_core.proofs.Words.{[], ◌++◌, ◌+◌, ◌-◌, ◌<◌, ◌∷◌, ◌≡◌, All, All-head, All-tail, AllByRecursion}
+use Rattle.query_core.proofs.Words.{[], ◌++◌, ◌+◌, ◌-◌, ◌<◌, ◌∷◌, ◌≡◌, AllByRecursion, each_weaker}
 use Rattle.query_core.proofs.Words.{BeginsWithBracket, Bool, Field, HasEntry, LINE_LIMIT, LineValue, List, Member}
 use Rattle.query_core.proofs.Words.{Option, PlaceValue, Some, ℕ, append_assoc, arith, codes, cond, each_join, eqb-true}
 use Rattle.query_core.proofs.Words.{escaped, false, flat_map, has_no_feed, is_key, is_stamp, length, length-append}
 use Rattle.query_core.proofs.Words.{lines, lines_front, list_all-append, map, nat_tests, option_map, refl, resume_text}
-use Rattle.query_core.proofs.Words.{row_value, subst, suc, sym, text_row, true, zero}
+use Rattle.query_core.proofs.Words.{row_value, suc, text_row, true, zero}
+use Rattle.std.proofs.lemmas.List.Elements.{recursion_from_All}
 use Rattle.std.specs.Prelude.{◌==◌, option_and_then}
 use Rattle.form_urlencoded.proofs.FormLemmas.{IsSerializedByte, All-byte_serialize, byte_serialize-append}
 use Rattle.form_urlencoded.proofs.FormLemmas.{byte_serialize-cons}
@@ -149,12 +150,8 @@ text_spaces (f ∷ fields) m = grind (arith, spaces_join, above_spaces, escaped_
 key_byte : (b : ℕ) → IsSerializedByte b → 32 < b
 key_byte b h = grind arith
 
-each_of : (text : List ℕ) → All IsSerializedByte text → AllAbove text
-each_of [] h = tt
-each_of (b ∷ text) h = (key_byte b (All-head IsSerializedByte b text h), each_of text (All-tail IsSerializedByte b text h))
-
 pub key_above : (place : PlaceValue) → AllAbove (resume_text place)
-key_above place = each_of (resume_text place) (All-byte_serialize (place_text place))
+key_above place = each_weaker key_byte (resume_text place) (recursion_from_All _ _ (All-byte_serialize (place_text place)))
 
 pub key_long : (place : PlaceValue) → 1 < length (resume_text place)
 key_long place = grind (arith, byte_serialize-append, byte_serialize-cons, length-append)
@@ -184,23 +181,15 @@ bracket_lines : (front : List ℕ) (others : List (List (List ℕ))) → has_no_
     → AllByRecursion BeginsWithBracket (lines ((91 ∷ front) ++ (flat_map later_row others ++ codes "]\n")))
 bracket_lines front [] h =
     let one = lines_front (91 ∷ (front ++ codes "]")) [] (feedless front (codes "]") h refl) in
-    let e : lines (91 ∷ (front ++ codes "]\n")) ≡ (91 ∷ ((front ++ codes "]") ++ 10 ∷ [])) ∷ [] =
-    rw (← append_assoc front (codes "]") (10 ∷ [])) one in
-    rw e ((_, refl), tt)
+    grind (arith, append_assoc)
 bracket_lines front (o ∷ others) h =
     let rest = flat_map later_row others ++ codes "]\n" in
     let one = lines_front (91 ∷ (front ++ codes ",")) ((91 ∷ inside o) ++ rest) (feedless front (codes ",") h refl) in
-    let e : lines ((91 ∷ front) ++ (flat_map later_row (o ∷ others) ++ codes "]\n"))
-    ≡ (91 ∷ ((front ++ codes ",") ++ 10 ∷ [])) ∷ lines ((91 ∷ inside o) ++ rest) =
-    grind (arith, one, append_assoc, row_is) in
-    rw e ((_, refl), bracket_lines (inside o) others (inside_feedless o))
+    let later = bracket_lines (inside o) others (inside_feedless o) in grind (arith, append_assoc, row_is)
 
 pub json_lines : (fields : List Field) (ms : List Member) (key : Option (List ℕ))
     → AllByRecursion BeginsWithBracket (lines (json_page fields ms key))
 json_lines fields ms key =
     let names = map field_name fields in
     let others = map (λ m. map (row_value m) fields) ms ++ key_rows key in
-    let e : json_page fields ms key ≡ (91 ∷ 91 ∷ inside names) ++ (flat_map later_row others ++ codes "]\n") =
-    grind (arith, append_assoc, row_is) in
-    subst (λ t. AllByRecursion BeginsWithBracket (lines t)) (sym e)
-    (bracket_lines (91 ∷ inside names) others (inside_feedless names))
+    let all = bracket_lines (91 ∷ inside names) others (inside_feedless names) in grind (arith, append_assoc, row_is)

@@ -2,14 +2,13 @@
 use Rattle.query_core.proofs.Words.{[], ◌++◌, ◌+◌, ◌-◌, ◌<◌, ◌^◌, ◌∙◌, ◌∷◌, ◌≡◌, ◌≤◌, ◌⊎◌, AllPositive, Appends}
 use Rattle.query_core.proofs.Words.{Appends-join, AppendsPrefix, AreAtMost, AreCut, Bool, Broke, FitsWord, IsSized}
 use Rattle.query_core.proofs.Words.{List, Member, None, Option, Page, PageWriter, PagesSoFar, PlaceValue, QueryValue}
-use Rattle.query_core.proofs.Words.{Some, Wrote, and_parts, ap, append-nil, append_assoc, arith, at_most}
-use Rattle.query_core.proofs.Words.{captures_over, cond, each_join, eqb-false, eqb-true, false, filter}
-use Rattle.query_core.proofs.Words.{first_positive, first_size, flat_map-append, form_of, from_view, grows_by}
-use Rattle.query_core.proofs.Words.{grows_not, grows_part, inl, is_full, is_some, is_wanted, last_of, later_positive}
-use Rattle.query_core.proofs.Words.{later_sizes, length, length-append, list_all, member_place, min, more_after}
-use Rattle.query_core.proofs.Words.{nat_lt, next_after, next_of, no_pages, page_end, page_start, place_before}
-use Rattle.query_core.proofs.Words.{prefix_after, prefix_longer, refl, row_text, shown_key, suc, sym, take}
-use Rattle.query_core.proofs.Words.{take-append_seam, take_all, text_so_far, true, ℕ}
+use Rattle.query_core.proofs.Words.{Some, Wrote, and_parts, ap, append-nil, append_assoc, arith, at_most, captures_over}
+use Rattle.query_core.proofs.Words.{cond, each_join, eqb-false, eqb-true, false, filter, first_positive, first_size}
+use Rattle.query_core.proofs.Words.{flat_map-append, form_of, from_view, grows_by, grows_not, grows_part, inl, is_full}
+use Rattle.query_core.proofs.Words.{is_some, is_wanted, last_of, later_positive, later_sizes, length, length-append}
+use Rattle.query_core.proofs.Words.{list_all, member_place, min, more_after, nat_lt, next_after, next_of, no_pages}
+use Rattle.query_core.proofs.Words.{page_end, page_start, place_before, prefix_after, prefix_longer, refl, row_text}
+use Rattle.query_core.proofs.Words.{shown_key, suc, sym, take, take-append_seam, take_all, text_so_far, true, ℕ}
 use Rattle.std.proofs.Common.{IfSome}
 use Rattle.std.proofs.lemmas.List.{take_at, drop_at}
 use Rattle.page_core.proofs.PageLemmas.{page_in_pieces, begun-more}
@@ -166,13 +165,8 @@ one_after {c = c} {s} o (m ∷ ms) =
     rw (← append_assoc c (m ∷ []) ms) (one_after {c = c ++ m ∷ []} {s = with_capture s m} (one_more_is o m) ms)
 
 pub one_page : (limit : Option ℕ) (c : List Member) → IsOnePage limit c (pages_after (no_pages limit []) c)
-one_page limit c = one_after (record {
-  whole = refl;
-  left = refl;
-  limit_is = refl;
-  split = refl;
-  holds = none_holds limit [] tt;
-}) c
+one_page limit c =
+    let o : IsOnePage limit [] (no_pages limit []) = grind (arith, none_holds) in one_after o c
 
 page_at : {limit : Option ℕ} {c : List Member} {s : PagesSoFar} → IsOnePage limit c s → (last : Option PlaceValue)
     → (s.limit ≡ Some (length s.rows) → last ≡ last_of s.rows)
@@ -244,9 +238,6 @@ more_last last (k ∷ rest) m = refl
 
 module _ {q : QueryValue} {s : PagesSoFar} {p : PageState} {start now : Option (List ℕ)} (t : Stands q s p start now)
   where
-    pub stands_front : AppendsPrefix start now (text_so_far q s)
-    stands_front = whole_prefix start now (text_so_far q s) t.text
-
     -- the writer knows whether the page is full
     pub full_is : HoldsRows s → FitsWord p.limit → is_full p.limit p.given ≡ has_all s
     full_is h fits = grind (arith, eqb-true, eqb-false)
@@ -348,7 +339,7 @@ broke_more first taken more start now broke sized =
 module _ {first w : PageWriter} {taken : List Member} {start now : Option (List ℕ)} (s : Wrote first w taken start now)
   where
     pub wrote_front : Broke first taken start now
-    wrote_front sized = stands_front (s.stands sized)
+    wrote_front sized = whole_prefix _ _ _ (s.stands sized).text
 
     pub wrote_holds : IsSized first.limit first.sizes.now → HoldsRows (pages_so_far first taken)
     wrote_holds sized = holds_more (none_holds first.limit first.sizes.now sized) (captures_of first.selection taken)
@@ -356,11 +347,7 @@ module _ {first w : PageWriter} {taken : List Member} {start now : Option (List 
     -- one line more, which is a capture or not
     pub took_next : {next : Selection} {m : Member} {is : Bool} → TookNext w.selection next taken m is
         → pages_so_far first (taken ++ m ∷ []) ≡ pages_after (pages_so_far first taken) (cond is (m ∷ []) [])
-    took_next {m = m} {is} took =
-        let one = cond is (m ∷ []) [] in
-        let more : captures_of first.selection (taken ++ m ∷ []) ≡ captures_of first.selection taken ++ one =
-        rw (s.same.0, s.same.1) at took.captures in
-        rw more (pages_join (no_pages first.limit first.sizes.now) (captures_of first.selection taken) one)
+    took_next took = let same = s.same in grind (arith, pages_join)
 
     -- where the page isn't ended
     pub goes_on : IsSized first.limit first.sizes.now

@@ -9,7 +9,7 @@ use Rattle.query_core.proofs.Words.{collection, err_from_is_err_and, false, fals
 use Rattle.query_core.proofs.Words.{grows_by, grows_not, grows_on, grows_part, inl, inr, is_some, kept, length}
 use Rattle.query_core.proofs.Words.{length-append, length-take, map, member_place, min, next_of, no_pages, not}
 use Rattle.query_core.proofs.Words.{page_end, pages_text, place_cmp, place_cmp_total, prefix_after, prefix_longer}
-use Rattle.query_core.proofs.Words.{put, query_captures, query_page, refl, rises_rising, rising, shown_key, sum, sym}
+use Rattle.query_core.proofs.Words.{put, query_page, refl, rises_rising, rising, shown_key, sum, sym}
 use Rattle.query_core.proofs.Words.{take-append_seam, text_so_far, true, two_same, wrote_nothing, ℕ}
 use Rattle.query_core.specs.Answering.{HoldsOfLines, Answered}
 use Rattle.query_core.specs.Passes.{Took}
@@ -120,31 +120,32 @@ module _ {q : QueryValue} {start mid : Option (List ℕ)} {taken : List Member}
       → more ≡ is_some (next_of w.writer.more w.writer.last) → not more ≡ true → whole ≡ true
   no_more whole more enough is none = let s = stands in grind arith
 
-  module _ (all : List Member) where
-    -- of all lines those that were taken settle the page
-    pub settles : (whole : Bool) (rest : List Member) → captures q all ≡ captures q taken ++ rest
-        → (whole ≡ true → captures q all ≡ captures q taken) → (whole ≡ false → w.writer.more ≡ true)
-        → query_page q all ≡ page q.limit (captures q taken)
-    settles whole rest first ended enough = let settled = decided stands one in grind (arith, asked_is)
+  -- of all lines those that were taken come first, and are all or enough: they settle the page
+  module _ (all : List Member) (new : Option (List ℕ)) (whole : Bool) (rest : List Member)
+      (first : captures q all ≡ captures q taken ++ rest) (ended : whole ≡ true → captures q all ≡ captures q taken)
+      (enough : whole ≡ false → w.writer.more ≡ true) where
+    same : query_page q all ≡ page q.limit (captures q taken)
+    same = let settled = decided stands one in grind (arith, asked_is)
 
-    module _ (new : Option (List ℕ)) (same : query_page q all ≡ page q.limit (captures q taken)) where
-      text_same : answer_text q (query_page q all)
-          ≡ text_so_far q (pages_by q q.limit [] taken) ++ page_end (form_of q) (key_of q)
-      text_same = let is = page_is stands one in grind (arith, answer_text_is q taken, asked_is q taken)
+    text_same : answer_text q (query_page q all)
+        ≡ text_so_far q (pages_by q q.limit [] taken) ++ page_end (form_of q) (key_of q)
+    text_same =
+        let is = page_is stands one in let same = same in grind (arith, answer_text_is q taken, asked_is q taken)
 
-      -- with its end it is written
-      pub page_ended : (end : PageEnd) (report : Report)
-          → Appends mid new (page_end (form_of w.writer.selection.query.now) (key_of w.writer.selection.query.now))
-          → IsEndOf w.writer end → report.given ≡ end.given → report.more ≡ is_some end.next → Answered q all start new report
-      page_ended end report a of_end given more =
-          let s = stands in
-          let is = page_is s one in
-          let text = Appends-join _ _ _ _ _ s.text (rw (query_is w) at a) in grind (arith, text_same)
+    -- with its end it is written
+    pub page_ended : (end : PageEnd) (report : Report)
+        → Appends mid new (page_end (form_of w.writer.selection.query.now) (key_of w.writer.selection.query.now))
+        → IsEndOf w.writer end → report.given ≡ end.given → report.more ≡ is_some end.next → Answered q all start new report
+    page_ended end report a of_end given more =
+        let s = stands in
+        let is = page_is s one in
+        let page = same in
+        let text = Appends-join _ _ _ _ _ s.text (rw (query_is w) at a) in grind (arith, text_same)
 
-      pub end_front : AppendsPrefix mid new
-          (page_end (form_of w.writer.selection.query.now) (key_of w.writer.selection.query.now))
-          → AppendsPrefix start new (answer_text q (query_page q all))
-      end_front p = rw text_same (prefix_after _ _ _ _ _ stands.text (rw (query_is w) at p))
+    pub end_front : AppendsPrefix mid new
+        (page_end (form_of w.writer.selection.query.now) (key_of w.writer.selection.query.now))
+        → AppendsPrefix start new (answer_text q (query_page q all))
+    end_front p = rw text_same (prefix_after _ _ _ _ _ stands.text (rw (query_is w) at p))
 
 -- ---- what was read for pages, beside what stands written of them
 
@@ -153,11 +154,8 @@ written : (q : QueryValue) (whole : List (Page Member PlaceValue)) (rows : List 
     (start now new : Option (List ℕ)) → (whole ≡ []) ⊎ (0 < length rows)
     → Appends start now (pages_text q whole ++ begun (form_of q) rows) → Grows now new
     → WroteFirst start new (pages_text q whole ++ captures_text (form_of q) rows)
-written q whole [] start now new (inl none) a g = rw none (record {
-  middle = start;
-  front = Appends-none start;
-  grows = grows_on _ _ _ (grows_by _ _ _ a) g;
-})
+written q whole [] start now new (inl none) a g =
+    rw none (record { middle = start; front = Appends-none start; grows = grows_on _ _ _ (grows_by _ _ _ a) g })
 written q whole [] start now new (inr some) a g = absurd (omega (arith, some))
 written q whole (m ∷ ms) start now new more a g = record { middle = now; front = a; grows = g }
 
@@ -235,18 +233,15 @@ module _ {S : Type 0} (device : Ghosts S) (q : QueryValue) (sizes : List ℕ) wh
   pub no_pages_reached : (texts : List (List ℕ)) (indexes : List (List Member)) (old new : Option (List ℕ))
       (sources : List S) → Known (map device.text sources) texts → AllZip (IsIndex LINE_LIMIT) texts indexes → Grows old new
       → GaveInPages device q sizes texts indexes old new sources sources
-  no_pages_reached texts indexes old new sources known are grows = record {
-    whole = 0;
-    most = omega arith;
-    wrote = record {
-      pages = [];
-      rows = [];
-      cut = (refl, omega arith);
-      wrote = record { middle = old; front = Appends-none old; grows = grows };
-    };
-    within = grind (arith, within_opening, two_same);
-    all = grind (arith, within_opening, two_same);
-  }
+  no_pages_reached texts indexes old new sources known are grows =
+      let front : WroteFirst old new [] = record { middle = old; front = Appends-none old; grows = grows } in
+      record {
+        whole = 0;
+        most = omega arith;
+        wrote = record { pages = []; rows = []; cut = (refl, omega arith); wrote = front };
+        within = grind (arith, within_opening, two_same);
+        all = grind (arith, within_opening, two_same);
+      }
 
   -- The captures of these lines, which come first, were written, and then perhaps more. What the sources gave is in
   -- reach of the earlier of them.
@@ -258,15 +253,9 @@ module _ {S : Type 0} (device : Ghosts S) (q : QueryValue) (sizes : List ℕ) wh
       (λ texts indexes. GaveInPages device q sizes texts indexes old new olds news)
   pages_reached new olds news taken earlier tail wrote first split within = λ texts indexes known are.
       let front = first texts indexes known are in
-      let all : query_captures q (collection indexes) ≡ captures q taken ++ front.0 =
-      rw (captures_are q (collection indexes)) front.1 in
-      record {
-        whole = length (captures q taken);
-        most = grind (arith, length-append);
-        wrote = rw (all, take-append_seam (captures q taken) front.0) wrote;
-        within = within texts indexes known are (Some (length (captures q taken))) (grind (arith, length-append));
-        all = within texts indexes known are None tt;
-      }
+      let one = within texts indexes known are (Some (length (captures q taken))) (grind (arith, length-append)) in
+      let all = within texts indexes known are None tt in
+      grind (arith, captures_are, take-append_seam, length-append)
 
 -- ---- where a writer of pages ends, and where it fails
 

@@ -1,15 +1,14 @@
 -- What was taken of indexes, beside all that is wanted of their collection.
 use Rattle.query_core.proofs.Words.{[], ◌&&◌, ◌++◌, ◌-◌, ◌^◌, ◌∷◌, ◌≡◌, ◌≤◌, All, All-head, All-tail, AllByRecursion}
 use Rattle.query_core.proofs.Words.{AllGaveWithin, AllZip, AreAtMost, AreLinesOf, Bool, GaveFor, Ghosts, IsAbove}
-use Rattle.query_core.proofs.Words.{IsIndex, Known, LINE_LIMIT, List, Member, NoneBelow, Option, Ordering}
-use Rattle.query_core.proofs.Words.{OverIndexes, Pair, PlaceValue, QueryValue, ReadFor, Some, TargetValue, Upto}
-use Rattle.query_core.proofs.Words.{and_parts, ap, append-nil, append_assoc, arith, bytes_eq-Decides, collection}
-use Rattle.query_core.proofs.Words.{each_join, each_kept, each_weaker, eqb-true, false, false_from_ne_true, filter}
-use Rattle.query_core.proofs.Words.{in_reach, inputs, is_above, is_gt, is_low, is_past, is_stamp, is_wanted, length}
-use Rattle.query_core.proofs.Words.{line_entry, line_row, lines, map, member_pair, member_place, min, nat_cmp}
-use Rattle.query_core.proofs.Words.{nat_tests, not, pair_cmp, pair_cmp_total, place_before, place_cmp}
-use Rattle.query_core.proofs.Words.{place_cmp_total, refl, same_part, slice_cmp, suc, sum, true, upto_upto, zero, zip}
-use Rattle.query_core.proofs.Words.{ℕ}
+use Rattle.query_core.proofs.Words.{IsIndex, Known, LINE_LIMIT, List, Member, NoneBelow, Option, Ordering, OverIndexes}
+use Rattle.query_core.proofs.Words.{Pair, PlaceValue, QueryValue, ReadFor, Some, TargetValue, Upto, and_parts, ap}
+use Rattle.query_core.proofs.Words.{append-nil, append_assoc, arith, bytes_eq-Decides, collection, each_join, each_kept}
+use Rattle.query_core.proofs.Words.{each_weaker, eqb-true, false, false_from_ne_true, filter, in_reach, inputs}
+use Rattle.query_core.proofs.Words.{is_above, is_gt, is_low, is_past, is_stamp, is_wanted, length, line_row, lines, map}
+use Rattle.query_core.proofs.Words.{member_pair, member_place, min, nat_cmp, nat_tests, not, pair_cmp, pair_cmp_total}
+use Rattle.query_core.proofs.Words.{place_before, place_cmp, place_cmp_total, refl, same_part, slice_cmp, suc, sum}
+use Rattle.query_core.proofs.Words.{true, upto_upto, zero, zip, ℕ}
 use Rattle.query_core.proofs.WriterLemmas.{captures, kept_after, captures_split, captures_append}
 use Rattle.std.proofs.Common.{replicate, is_lt}
 use Rattle.query_text.proofs.RangeLaw.{match_not_below, past_upward}
@@ -20,8 +19,7 @@ use Rattle.merge_core.specs.Reached.{Reached}
 use Rattle.merge_core.proofs.TakenLemmas.{Took, none_wait, parts_are, parts_count, taken_before, taken_first}
 use Rattle.merge_core.proofs.TakenLemmas.{taken_whole, took_of_indexes, took_of_parts}
 use Rattle.merge_core.specs.Spending.{AreReadTo, OpenedWithin}
-use Rattle.merge_core.proofs.SourceLemmas.{parts, reached_long, reached_read, reached_sought}
-use Rattle.merge_core.proofs.SourceLemmas.{taken_lines}
+use Rattle.merge_core.proofs.SourceLemmas.{parts, reached_long, reached_read, reached_sought, taken_lines}
 use Rattle.query_core.specs.Starts.{first_stamp, later_pair, start_pair}
 use Rattle.cdxj_core.proofs.MemberLemmas.{entry_valued}
 use Rattle.std.specs.Char.{is_ascii_digit}
@@ -77,10 +75,6 @@ start_not_above q from m s h =
 
 -- ---- lines have stamps
 
--- a line that has an entry has a stamp
-entry_stamp : (line : List ℕ) (m : Member) → line_entry LINE_LIMIT line ≡ Some m → is_stamp m.values.stamp ≡ true
-entry_stamp line m h = (entry_valued LINE_LIMIT line m h).stamp_rule
-
 stamped : (f : Member → Bool) (xs : List Member) → AllByRecursion (λ m. is_stamp m.values.stamp ≡ true) xs
     → filter (λ m. f m && is_stamp m.values.stamp) xs ≡ filter f xs
 stamped f [] h = refl
@@ -112,12 +106,6 @@ module _ (q : QueryValue) where
   abbrev sought : Member → Bool
   sought m = is_wanted q q.resume m && is_stamp m.values.stamp
 
-  within : (m : Member) → sought m ≡ true → not (is_past q.target m.values.key) ≡ true
-  within m h = grind arith
-
-  beyond : (m : Member) → sought m ≡ true → is_low (start_pair q q.resume) m ≡ false
-  beyond m h = grind (arith, start_not_above, and_parts)
-
 module _ {S : Type 0} {device : Ghosts S} {q : QueryValue} {olds opened sources : List S} {begun merge : MergeState}
     {bound : Option Pair} {taken : List Member} (r : Reading device q olds opened begun sources merge bound taken) where
   pub lines_taken : AreLinesOf (map device.text olds) taken
@@ -130,27 +118,27 @@ module _ {S : Type 0} {device : Ghosts S} {q : QueryValue} {olds opened sources 
     module _ (indexes : List (List Member)) (are : AllZip (IsIndex LINE_LIMIT) texts indexes) where
       of_all : filter (sought q) (collection indexes) ≡ filter (is_wanted q q.resume) (collection indexes)
       of_all = stamped (is_wanted q q.resume) (collection indexes)
-          (each_weaker (λ m row. entry_stamp (line_row m) m row.1) _ (collection_rows LINE_LIMIT texts indexes are))
+          (each_weaker (λ m row. (entry_valued LINE_LIMIT (line_row m) m row.1).stamp_rule) _
+          (collection_rows LINE_LIMIT texts indexes are))
 
       of_taken : filter (sought q) taken ≡ filter (is_wanted q q.resume) taken
       of_taken = stamped (is_wanted q q.resume) taken
-          (each_weaker (λ m. entry_stamp m.line m) taken r.reached.handed.entries)
+          (each_weaker (λ m h. (entry_valued LINE_LIMIT m.line m h).stamp_rule) taken r.reached.handed.entries)
 
       pub took_sought : Took (is_past q.target) (sought q) bound merge.queue (collection indexes) taken
-      took_sought = took_of_indexes r.reached (past_upward q.target) (sought q) (within q) _
-          (cuts_of device _ olds _ r.start.found) (beyond q) texts indexes known_opened are
+      took_sought = took_of_indexes r.reached (past_upward q.target) (sought q) (λ m h. grind arith) _
+          (cuts_of device _ olds _ r.start.found) (λ m h. grind (arith, start_not_above, and_parts)) texts indexes
+          known_opened are
 
       -- of all that is wanted, what follows what was taken is so too once it is collapsed
       pub wanted_rest : (A : Member → Type 0) → (rest : List Member)
           × (filter (sought q) (collection indexes) ≡ filter (sought q) taken ++ rest)
           × AllByRecursion (λ m. (sought q m ≡ true) × A m) rest → (rest : List Member)
           × (captures q (collection indexes) ≡ captures q taken ++ rest) × AllByRecursion A rest
-      wanted_rest A (rest, split, each) = (
-        _,
-        grind (arith, captures_split, of_all, of_taken),
-        each_kept member_place place_cmp (same_part q.collapse) place_cmp_total A (place_before q q.resume taken) rest
-            (each_weaker (λ m h. h.1) rest each),
-      )
+      wanted_rest A (rest, split, each) =
+          let kept = each_kept member_place place_cmp (same_part q.collapse) place_cmp_total A
+          (place_before q q.resume taken) rest (each_weaker (λ m h. h.1) rest each) in
+          (_, grind (arith, captures_split, of_all, of_taken), kept)
 
       -- what was taken is a front of what is wanted
       pub wanted_first : (rest : List Member) × (captures q (collection indexes) ≡ captures q taken ++ rest)
@@ -160,8 +148,6 @@ module _ {S : Type 0} {device : Ghosts S} {q : QueryValue} {olds opened sources 
       -- where no line waits, it is all
       pub wanted_whole : merge.queue ≡ [] → captures q (collection indexes) ≡ captures q taken
       wanted_whole none = rw (← of_all, taken_whole took_sought none, of_taken) refl
-
--- ---- what was read of indexes, beside the reach of a page
 
 -- ---- the range
 
@@ -264,9 +250,6 @@ module _ {S : Type 0} {device : Ghosts S} {q : QueryValue} {olds opened sources 
         later = λ m upto. each_weaker (λ v. upto_upto (member_pair m) next (member_pair v) upto) before.0 before.2;
       }
 
-  as_long : length sources ≡ length opened
-  as_long = reached_long r.reached
-
   -- what sources gave that were read up to the bound
   pub gave_upto : (bound : Option Pair) (earlier : List Member) (news : List S) (cs : List CursorState)
       → Cuts bound earlier → AllZip (Move device) (zip opened begun.cursors.items) (zip news cs)
@@ -282,7 +265,7 @@ module _ {S : Type 0} {device : Ghosts S} {q : QueryValue} {olds opened sources 
   -- what they gave of which these lines were taken
   pub gave_within : (earlier : List Member) → Cuts bound earlier
       → GaveFor q (map device.text olds) device earlier olds sources
-  gave_within earlier cuts = gave_upto bound earlier sources merge.cursors.items cuts r.reached.moved as_long
+  gave_within earlier cuts = gave_upto bound earlier sources merge.cursors.items cuts r.reached.moved (reached_long r.reached)
       (λ texts known. reached_read_to r.reached texts (known_opened r texts known))
 
   module _ (lines : ℕ) (counted : lines ≡ min (sum (map (λ (c : CursorState). c.count) merge.cursors.items)) (2 ^ 64 - 1)) where

@@ -9,7 +9,6 @@ use Rattle.query_core.proofs.Words.{grows_not, grows_part, in_reach, inl, is_utf
 use Rattle.query_core.proofs.Words.{length, length-append, length-take, lt-ltb, map, map-append, nat_lt, prefix_after}
 use Rattle.query_core.proofs.Words.{prefix_longer, prepend_known, query_of, query_page, refl, reply_of, subst, sum}
 use Rattle.query_core.proofs.Words.{sym, take, take_all, true, without_carriage_return, wrote_nothing, ℕ}
-use Rattle.std.proofs.Common.{Result}
 use Rattle.std.specs.Prelude.{IsErrAnd, Result}
 use Rattle.std.proofs.lemmas.List.Elements.{AllZip-push}
 use Rattle.devices.specs.LineReading.{IsInputLineFault, IsTooLong, StopsInLine}
@@ -28,8 +27,6 @@ use Rattle.query_core.specs.AnyReplies.{IsPageReply, IsQueryReply, fault_text}
 use Rattle.std.proofs.lemmas.List.Sums.{sum_by_push}
 use Rattle.devices.specs.declared.input_lines.InputLineFault.TheVariants as input
 use Rattle.query_core.specs.declared.fault.AnswerFault.TheVariants as fault
-
--- ---- a line
 
 -- ---- what was written
 
@@ -106,27 +103,19 @@ AreTaken (Some input) None done = ⊥
 AreTaken (Some input) (Some rest) done =
     (seen : List (List ℕ)) × (cut_lines input ≡ seen ++ cut_lines rest) × (done ≡ map without_carriage_return seen)
 
-pub taken_none : (left : Option (List ℕ)) (buffer : List ℕ) → buffer ≡ [] → AreTaken left (prepend_known buffer left) []
-taken_none left buffer e = grind arith
-
 pub taken_more : (limit : ℕ) (input now after : Option (List ℕ)) (done : List (List ℕ)) (line : List ℕ)
     → AreTaken input now done → TakesLine (limit + 2) true now after line
     → (shown : List ℕ) × AreTaken input after (done ++ shown ∷ []) × AreAlike limit (without_carriage_return line) shown
-taken_more limit None now after done line a t = (without_carriage_return line, tt, inl refl)
-taken_more limit (Some input) None after done line a t = absurd a
-taken_more limit (Some input) (Some now) None done line a t = absurd t
-taken_more limit (Some input) (Some now) (Some rest) done line (seen, cut, is) (next, first, held) = (
-  without_carriage_return next,
-  (seen ++ next ∷ [], grind (arith, append_assoc), grind (arith, map-append)),
-  rw held (alike limit next),
-)
+taken_more limit (Some input) (Some now) (Some rest) done line (seen, cut, is) (next, first, held) =
+    let step : cut_lines input ≡ (seen ++ next ∷ []) ++ cut_lines rest = grind (arith, append_assoc) in
+    (without_carriage_return next, (seen ++ next ∷ [], step, grind (arith, map-append)), rw held (alike limit next))
+taken_more limit input now after done line a t = (without_carriage_return line, grind arith, inl refl)
 
 pub taken_first : (input now : Option (List ℕ)) (done : List (List ℕ)) → AreTaken input now done
     → AreFirstLines input done
-taken_first None now done a = tt
-taken_first (Some input) None done a = absurd a
 taken_first (Some input) (Some now) done (seen, cut, is) =
     (map without_carriage_return (cut_lines now), grind (arith, map-append))
+taken_first input now done a = grind arith
 
 -- what is left of an input that isn't too long
 left_behind : (now : List ℕ) (left : Option (List ℕ)) (whole taken : ℕ) → 0 + whole ≡ taken + length now
@@ -154,14 +143,8 @@ module _ (limit : ℕ) (IsReply : List ℕ → List ℕ → Type 0) where
 
   abbrev pub replied_none : (left : Option (List ℕ)) (buffer : List ℕ) (old : Option (List ℕ)) → buffer ≡ []
       → RepliedSoFar left (prepend_known buffer left) 0 old old
-  replied_none left buffer old e = record {
-    done = [];
-    texts = [];
-    taken = taken_none left buffer e;
-    counted = refl;
-    each = tt;
-    written = Appends-none old;
-  }
+  replied_none left buffer old e =
+      record { done = []; texts = []; taken = grind arith; counted = refl; each = tt; written = Appends-none old }
 
   first_replied : (input : Option (List ℕ)) (done texts : List (List ℕ)) (old new : Option (List ℕ))
       → AreFirstLines input done → AllZip (IsMarkedReply limit IsReply) done texts
@@ -197,21 +180,22 @@ module _ {limit : ℕ} {IsReply : List ℕ → List ℕ → Type 0} {input now :
 
     abbrev pub line_more : (text : List ℕ) × IsMarkedReply limit IsReply (without_carriage_return line) text
         × Appends new last text → RepliedSoFar limit IsReply input after (count + 1) old last
-    line_more h = record {
-      done = s.done ++ next.0 ∷ [];
-      texts = s.texts ++ h.0 ∷ [];
-      taken = next.1;
-      counted = grind (arith, length-append);
-      each = each_more h.0 h.1;
-      written = rw (joined_more s.texts h.0) (Appends-join old new last (joined s.texts) h.0 s.written h.2);
-    }
+    line_more h =
+        let text = Appends-join old new last (joined s.texts) h.0 s.written h.2 in
+        record {
+          done = s.done ++ next.0 ∷ [];
+          texts = s.texts ++ h.0 ∷ [];
+          taken = next.1;
+          counted = grind (arith, length-append);
+          each = each_more h.0 h.1;
+          written = rw (joined_more s.texts h.0) text;
+        }
 
     pub line_within : (text : List ℕ) × IsMarkedReply limit IsReply (without_carriage_return line) text
         × AppendsPrefix new last text → RepliedToFirst limit IsReply input old last
     line_within h =
-        first_replied limit IsReply input (s.done ++ next.0 ∷ []) (s.texts ++ h.0 ∷ []) old last
-        (taken_first input after (s.done ++ next.0 ∷ []) next.1) (each_more h.0 h.1)
-        (rw (joined_more s.texts h.0) (prefix_after old new last (joined s.texts) h.0 s.written h.2))
+        let written = prefix_after old new last (joined s.texts) h.0 s.written h.2 in
+        let each = each_more h.0 h.1 in grind (arith, first_replied, taken_first, next, joined_more)
 
 pub nothing_replied : (limit : ℕ) (IsReply : List ℕ → List ℕ → Type 0) (input old : Option (List ℕ))
     → RepliedToFirst limit IsReply input old old
@@ -240,8 +224,6 @@ module _ (limit : ℕ) (reply : List ℕ → List ℕ) where
       ∙ ap (flat_map (marked_reply limit reply)) (sym split)) (grind (arith, prefix_longer, texts_are))
 
 -- ---- what sources give for the lines of an input, one after another
-
--- ---- amounts
 
 pub gave_none : {S : Type 0} (device : Ghosts S) (most : Amount) (texts : List (List ℕ))
     (indexes : List (List Member)) (sources : List S) → Known (map device.text sources) texts
@@ -276,11 +258,8 @@ gave_line device limit line q all short utf8 is =
     gave_more device (query_most q all) (line_most limit all line)
     (λ e t i.
     let within = le-ltb limit (length line) short in
-    rw (within, utf8) (rw within at (asked (query_of limit line) is e t i)))
-  where
-    asked : (read : Result QueryValue QueryFault) → read ≡ Ok q → (e : ℕ) (t : List ℕ) (i : List Member)
-        → query_most q all e t i ≤ asked_most read all e t i
-    asked read is e t i = rw is (omega arith)
+    rw (within, utf8) (rw within at
+    (subst (λ read. query_most q all e t i ≤ asked_most read all e t i) (sym is) (omega arith))))
 
 gave_join : {S : Type 0} (device : Ghosts S) (f g h : Amount)
     → ((e : ℕ) (t : List ℕ) (i : List Member) → f e t i + g e t i ≤ h e t i)

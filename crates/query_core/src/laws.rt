@@ -37,7 +37,7 @@ pub fn cdxj_pages_are_indexes()
 {}
 
 /// The lines that a merge of indexes writes are an index, with these lines.
-#[tactic(auto, using(crate::proofs::PageIndexes::merged_index))]
+#[tactic(auto, using(crate::proofs::PageIndexes::merged_rules))]
 pub fn merged_lines_are_an_index()
     ensures { MergedIsIndex }
 {}
@@ -94,6 +94,7 @@ pub fn appended_condition_selects_nothing()
 
 /// Over indexes, and an output whose bytes are known, there is one text that an answer that succeeds writes, and one report
 /// of the captures.
+#[tactic(auto, using(crate::proofs::PageChains::one_text))]
 pub fn answer_writes_one_text()
     ensures { AnswerIsOne }
 {}
@@ -106,6 +107,7 @@ pub fn pages_write_one_text()
 
 /// Over sources and an output whose bytes are known, there is one text that a merge that succeeds writes, and one number
 /// of lines.
+#[tactic(auto, using(crate::proofs::PageChains::one_text))]
 pub fn merge_writes_one_text()
     ensures { MergeIsOne }
 {}

@@ -1,5 +1,5 @@
 //! The parameters of a query text, read from left to right.
-ghost use Rattle.std.specs.Prelude.{◌≡◌, Ok};
+ghost use Rattle.std.specs.Prelude.{◌≡◌, Ok, Err, Some, MatchResult};
 ghost use Rattle.query_text.specs.Readings.{IsReadingBy};
 ghost use Rattle.query_text.specs.ParameterViews.{IsReadingInto, parameter_values};
 ghost use Rattle.query_text.specs.Parameters.{no_values, is_given, with_filter, with_value, with_piece, with_pieces, pieces_of};
@@ -33,6 +33,15 @@ pub(crate) struct Parameters {
     pub fields: Option<Vec<Field>>,
     pub output: Option<OutputFormat>,
     pub collapse: Option<Collapse>,
+}
+
+/// Stores what was read, or returns why it couldn't be read.
+fn store<T: Drop>(slot: &mut Option<T>, read: Result<T, QueryFault>) -> Result<(), QueryFault>
+    ensures { MatchResult read (λ value. (result ≡ Ok tt) × (slot.new ≡ Some value))
+        (λ fault. result ≡ Err fault) }
+{
+    *slot = Some(read?);
+    Ok(())
 }
 
 impl Parameters {
@@ -78,25 +87,30 @@ impl Parameters {
     {
         let value = decoded(alloc, text)?;
         match parameter {
-            Parameter::Url => self.url = Some(value.into_owned(alloc)?),
-            Parameter::Key => self.key = Some(value.into_owned(alloc)?),
-            Parameter::MatchType => self.kind = Some(read_kind(value.as_str())?),
-            Parameter::From => self.from = Some(StampStart::read(value.as_str())?),
-            Parameter::To => self.to = Some(StampStart::read(value.as_str())?),
-            Parameter::Filter => self.add_filter(Filter::read_literal(alloc, value.as_str())?)?,
-            Parameter::Condition(test) => self.add_filter(Filter::read(
-                alloc,
-                test,
-                value.as_str(),
-            )?)?,
-            Parameter::Limit => self.limit = Some(Limit::read(value.as_str())?),
-            Parameter::ResumeKey => self.resume = Some(read_resume_key(alloc, text)?),
-            Parameter::ShowResumeKey => self.show_resume_key = Some(read_flag(value.as_str())?),
-            Parameter::Fl => self.fields = Some(read_fields(alloc, value.as_str())?),
-            Parameter::Output => self.output = Some(read_output(value.as_str())?),
-            Parameter::Collapse => self.collapse = Some(read_collapse(value.as_str())?),
+            Parameter::Url => {
+                self.url = Some(value.into_owned(alloc)?);
+                Ok(())
+            }
+            Parameter::Key => {
+                self.key = Some(value.into_owned(alloc)?);
+                Ok(())
+            }
+            Parameter::MatchType => store(&mut self.kind, read_kind(value.as_str())),
+            Parameter::From => store(&mut self.from, StampStart::read(value.as_str())),
+            Parameter::To => store(&mut self.to, StampStart::read(value.as_str())),
+            Parameter::Filter => self.add_filter(Filter::read_literal(alloc, value.as_str())?),
+            Parameter::Condition(test) => {
+                self.add_filter(Filter::read(alloc, test, value.as_str())?)
+            }
+            Parameter::Limit => store(&mut self.limit, Limit::read(value.as_str())),
+            Parameter::ResumeKey => store(&mut self.resume, read_resume_key(alloc, text)),
+            Parameter::ShowResumeKey => {
+                store(&mut self.show_resume_key, read_flag(value.as_str()))
+            }
+            Parameter::Fl => store(&mut self.fields, read_fields(alloc, value.as_str())),
+            Parameter::Output => store(&mut self.output, read_output(value.as_str())),
+            Parameter::Collapse => store(&mut self.collapse, read_collapse(value.as_str())),
         }
-        Ok(())
     }
 
     /// Reads one more piece of the text: a name, `=` and a value.

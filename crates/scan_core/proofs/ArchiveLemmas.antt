@@ -15,8 +15,7 @@ use Rattle.merge_core.proofs.Many.{map_set_same}
 use Rattle.merge_core.proofs.CountLemmas.{left_here, left_after}
 use Rattle.scan_core.specs.declared.fault.ScanFault.TheVariants.{Archive}
 use Rattle.scan_core.specs.Archives.{IsNewName, AreNewNames, AreCapturesOf, AreCapturesOfEach, HaveLines, AreIndexed}
-use Rattle.scan_core.specs.Archives.{HasIndex, HaveIndexes, IsFaultOfArchive, IsFirstFault, IsNameFault}
-use Rattle.scan_core.specs.Archives.{index_members}
+use Rattle.scan_core.specs.Archives.{HasIndex, HaveIndexes, IsFaultOfArchive, IsFirstFault, IsNameFault, index_members}
 use Rattle.scan_core.specs.Failures.{CountsAt}
 use Rattle.scan_core.specs.Scanning.{LeavesUnread}
 

@@ -29,14 +29,8 @@ all_members (captures ∷ archives) = grind (arith, map-append, all_members arch
 
 pub collected : (archives : List (List EntryValue)) → collection (map index_members archives) ≡ captured_lines archives
 collected archives =
-    grind (
-      arith,
-      all_members archives,
-      rising_referred entry_member member_place place_cmp
-          (flat_map in_places archives),
-      rising_parts,
-      place_cmp_total,
-    )
+    let referred = rising_referred entry_member member_place place_cmp (flat_map in_places archives) in
+    grind (arith, all_members archives, rising_parts, place_cmp_total)
 
 lines_of : (entries : List EntryValue) → lines_text (map entry_member entries) ≡ entries_text entries
 lines_of [] = refl

@@ -1,8 +1,8 @@
 use Rattle.query_core.proofs.Words.{[], ◌++◌, ◌∙◌, ◌≡◌, AreAtMost, GaveInReach, Grows, List, Member, Option}
 use Rattle.query_core.proofs.Words.{OverIndexes, ap, append-nil, arith, err_from_is_err_and, grows_by, grows_part}
 use Rattle.query_core.proofs.Words.{is_some, length-map, map, query_page, refl, sym, true, wrote_nothing, ℕ}
-use Rattle.query_core.proofs.PagesReach.{no_more, Writing, end_front, of_none, of_taken, page_ended, passed, settles}
-use Rattle.query_core.proofs.PagesReach.{page_fewer, page_reached, answer_front, broke_front, within}
+use Rattle.query_core.proofs.PagesReach.{no_more, Writing, end_front, of_none, of_taken, page_ended, passed}
+use Rattle.query_core.proofs.PagesReach.{page_fewer, page_reached, answer_front, answer_rules, broke_front, within}
 use Rattle.page_core.proofs.PageLemmas.{front-start}
 use Rattle.query_core.proofs.answering.answer.Given.{Over}
 use Rattle.query_core.proofs.answering.answer.Goals.{In_ok-writer, In_ok-pass}
@@ -14,12 +14,9 @@ use Rattle.query_core.proofs.answering.answer.Goals as goal
 
 abbrev begin : (g : Over) (c : In_ok-writer g) → Writing c.args.query.now c.args.query.now.limit []
     (g.O.Output.written c.args.out.now) (g.O.Output.written c.begin.new.out) []
-begin g c = record {
-  first = c.in_ok-writer.writer;
-  is = rw c.limit.ensures.value at c.in_ok-writer.ensures.begins;
-  writer = c.in_ok-writer.writer;
-  wrote = c.in_ok-writer.ensures.wrote;
-}
+begin g c =
+    let is = rw c.limit.ensures.value at c.in_ok-writer.ensures.begins in
+    record { first = _; is = is; writer = _; wrote = c.in_ok-writer.ensures.wrote }
 
 -- after all lines that were taken
 abbrev writing : (g : Over) (c : In_ok-pass g) → Writing c.args.query.now c.args.query.now.limit []
@@ -29,15 +26,22 @@ writing g c =
     passed (begin g (goal.at.In_ok-pass g c).In_ok-writer) took.lines (g.O.Output.written c.read_lines.new.out)
     c.read_lines.new.sink took.came
 
--- of lines of which those that were taken come first, and are all or enough, the page is that of these
-settled : (g : Over) (c : In_ok-pass g) (all rest : List Member)
-    → captures c.args.query.now all ≡ captures c.args.query.now c.in_ok-pass.ensures.ended.lines ++ rest
-    → (c.in_ok-pass.pass.all ≡ true
-    → captures c.args.query.now all ≡ captures c.args.query.now c.in_ok-pass.ensures.ended.lines)
-    → query_page c.args.query.now all
-    ≡ page c.args.query.now.limit (captures c.args.query.now c.in_ok-pass.ensures.ended.lines)
-settled g c all rest first whole = settles (writing g c) all c.in_ok-pass.pass.all rest first whole
-    c.in_ok-pass.ensures.ended.enough
+-- ---- faults
+
+pub returns-in_err-writer-clause-refused : goal.returns-in_err-writer-clause-refused
+returns-in_err-writer-clause-refused g c = grind (arith, answer_rules)
+
+pub returns-in_err-writer-clause-fault : goal.returns-in_err-writer-clause-fault
+returns-in_err-writer-clause-fault g c = grind (arith, answer_rules)
+
+pub returns-in_err-pass-clause-fault : goal.returns-in_err-pass-clause-fault
+returns-in_err-pass-clause-fault g c = grind (arith, answer_rules)
+
+pub returns-in_err-end-clause-refused : goal.returns-in_err-end-clause-refused
+returns-in_err-end-clause-refused g c = grind (arith, answer_rules)
+
+pub returns-in_err-end-clause-fault : goal.returns-in_err-end-clause-fault
+returns-in_err-end-clause-fault g c = grind (arith, answer_rules)
 
 -- ---- the page
 
@@ -60,23 +64,23 @@ returns-in_err-end-clause-page g c =
     let here = (goal.at.returns-in_err-end-clause-page g c).In_ok-pass in
     rw (err_from_is_err_and c.from_residual-in_err-end.result c.from_residual-in_err-end.ensures.1).1
     (of_taken c.in_ok-pass.ensures.ended.took (λ all rest rise first whole.
-    end_front (writing g here) all _ (settled g here all rest first whole) c.in_err-end.ensures.text))
+    end_front (writing g here) all _ _ rest first whole c.in_ok-pass.ensures.ended.enough c.in_err-end.ensures.text))
 
 pub returns-clause-page : goal.returns-clause-page
 returns-clause-page g c =
     let here = (goal.at.returns-clause-page g c).In_ok-pass in
     let end = c.in_ok-end.ensures in
     of_taken c.in_ok-pass.ensures.ended.took (λ all rest rise first whole.
-    page_ended (writing g here) all _ (settled g here all rest first whole) c.in_ok-end.end _ end.text end.end refl
-    c.is_some.ensures)
+    page_ended (writing g here) all _ _ rest first whole c.in_ok-pass.ensures.ended.enough c.in_ok-end.end _ end.text
+    end.end refl c.is_some.ensures)
 
 pub returns-clause-parts : goal.returns-clause-parts
 returns-clause-parts g c = λ texts known.
     let end = c.in_ok-end.ensures in
     let read = c.in_ok-pass.ensures.ended.parts texts known in
     let here = (goal.at.returns-clause-parts g c).In_ok-pass in
-    let page = page_ended (writing g here) _ _ (settled g here _ read.first.0 read.first.1 read.ended) c.in_ok-end.end _
-    end.text end.end refl c.is_some.ensures in
+    let page = page_ended (writing g here) _ _ _ _ read.first.1 read.ended c.in_ok-pass.ensures.ended.enough
+    c.in_ok-end.end _ end.text end.end refl c.is_some.ensures in
     record {
       parts = read.parts;
       each = read.each _ (no_more (writing g here) c.in_ok-pass.pass.all _ c.in_ok-pass.ensures.ended.enough

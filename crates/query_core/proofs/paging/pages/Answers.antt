@@ -14,12 +14,9 @@ use Rattle.query_core.proofs.paging.pages.Goals as goal
 
 abbrev begin : (g : Over) (c : In_ok-writer g) → Writing c.args.query.now (Some (first_size c.args.sizes.now))
     c.args.sizes.now (g.O.Output.written c.args.out.now) (g.O.Output.written c.begin.new.out) []
-begin g c = record {
-  first = c.in_ok-writer.writer;
-  is = rw c.first_size.ensures at c.in_ok-writer.ensures.begins;
-  writer = c.in_ok-writer.writer;
-  wrote = c.in_ok-writer.ensures.wrote;
-}
+begin g c =
+    let is = rw c.first_size.ensures at c.in_ok-writer.ensures.begins in
+    record { first = _; is = is; writer = _; wrote = c.in_ok-writer.ensures.wrote }
 
 abbrev writing : (g : Over) (c : In_ok-read_lines g) → Writing c.args.query.now (Some (first_size c.args.sizes.now))
     c.args.sizes.now (g.O.Output.written c.args.out.now) (g.O.Output.written c.read_lines.new.out)

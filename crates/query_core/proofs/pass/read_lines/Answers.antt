@@ -39,11 +39,7 @@ start : (g : Over) (c : In_ok-opened g) → Opened g.S.Source
     c.args.query.now c.args.sources.now c.open_at.new.sources c.in_ok-opened.opened.merge
 start g c =
     let opened = rw c.start_pair.ensures at c.in_ok-opened.ensures.begun.opened in
-    record {
-      kept = c.open_at.ensures.sources.0.0;
-      same = c.in_ok-opened.ensures.begun.ready.aligned.same;
-      found = opened;
-    }
+    record { kept = c.open_at.ensures.sources.0.0; same = c.in_ok-opened.ensures.begun.ready.aligned.same; found = opened }
 
 pub returns-in_err-all-clause-ended : goal.returns-in_err-all-clause-ended
 returns-in_err-all-clause-ended g c =
@@ -87,8 +83,8 @@ returns-clause-ended g c =
     (rw c.target.ensures at passed.so_far.reached) in
     let read = of_parts r c.lines.result c.lines.ensures c.in_ok-all.all passed.ended in
     let wanted = by_truth c.in_ok-all.all ((earlier : List Member) × (later : List Member)
-    × (captures q taken ≡ captures q earlier ++ later) × WantedMore g.K.Sink
-    g.S.Source q c.args.sources.now c.merge.new.sources c.args.sink.now
+    × (captures q taken ≡ captures q earlier ++ later)
+    × WantedMore g.K.Sink g.S.Source q c.args.sources.now c.merge.new.sources c.args.sink.now
     (g.O.Output.written c.args.out.now) earlier
     × ReadFor q (map g.S.Source.text c.args.sources.now) earlier c.lines.result) (λ e.
     let cut = cut_all r (passed.ended e) in

@@ -1,14 +1,20 @@
-use Rattle.query_core.proofs.Words.{◌+◌, QUERY_LIMIT, TakesLine, arith, err_from_is_err_and, prepend_known, refl}
-use Rattle.query_core.proofs.Words.{true}
+use Rattle.query_core.proofs.Words.{arith, err_from_is_err_and, refl, true}
 use Rattle.devices.proofs.Takings.{taken-join}
 use Rattle.query_core.proofs.ReplyLemmas.{spent_none, spent_more, spent_within, input_stops, line_more, line_none}
 use Rattle.query_core.proofs.ReplyLemmas.{line_within, one_reply, one_reply_part, replied_front, replied_none}
-use Rattle.query_core.proofs.ReplyLemmas.{replied_taken}
-use Rattle.query_core.proofs.serving.serve.Given.{Over}
-use Rattle.query_core.proofs.serving.serve.Goals.{After-reply_and_mark}
+use Rattle.query_core.proofs.ReplyLemmas.{replied_taken, serve_rules}
 use Rattle.query_core.proofs.serving.serve.Goals as goal
 
 -- ---- a line isn't read
+
+pub returns-in_err-next-clause-refused : goal.returns-in_err-next-clause-refused
+returns-in_err-next-clause-refused g c = grind (arith, serve_rules)
+
+pub returns-in_err-next-clause-part : goal.returns-in_err-next-clause-part
+returns-in_err-next-clause-part g c = grind (arith, serve_rules)
+
+pub returns-in_err-next-clause-bytes : goal.returns-in_err-next-clause-bytes
+returns-in_err-next-clause-bytes g c = grind (arith, serve_rules)
 
 pub returns-in_err-next-clause-lines : goal.returns-in_err-next-clause-lines
 returns-in_err-next-clause-lines g c =
@@ -27,22 +33,17 @@ returns-in_err-next-clause-taken g c = λ e.
 
 -- ---- a reply ends in a fault
 
-takes : (g : Over) (c : After-reply_and_mark g) → TakesLine (QUERY_LIMIT + 2) true
-    (prepend_known c.loop-lines.lines.buffer (g.I.Input.remaining c.loop-lines.input))
-    (prepend_known c.next.new.self.buffer (g.I.Input.remaining c.next.new.input)) c.next.new.self.line
-takes g c = rw (c.loop-lines.invariant.most, c.if-branch.true) at c.in_ok-next.ensures.line
-
 pub returns-in_err-reply_and_mark-clause-part : goal.returns-in_err-reply_and_mark-clause-part
 returns-in_err-reply_and_mark-clause-part g c = λ texts indexes known are.
     let inv = c.loop-lines.invariant in
-    let there = takes g (goal.at.returns-in_err-reply_and_mark-clause-part g c).After-reply_and_mark in
+    let there = rw (inv.most, c.if-branch.true) at c.in_ok-next.ensures.line in
     one_reply_part _ _ _ _ _ (line_within (inv.told texts indexes known are).so_far _ _ _ there
     (rw c.line.ensures at (c.in_err-reply_and_mark.ensures.reply.over texts indexes (rw inv.kept.0 known) are)))
 
 pub returns-in_err-reply_and_mark-clause-lines : goal.returns-in_err-reply_and_mark-clause-lines
 returns-in_err-reply_and_mark-clause-lines g c =
     let inv = c.loop-lines.invariant in
-    let there = takes g (goal.at.returns-in_err-reply_and_mark-clause-lines g c).After-reply_and_mark in
+    let there = rw (inv.most, c.if-branch.true) at c.in_ok-next.ensures.line in
     let first = line_within inv.any _ _ _ there
     (rw (c.line.ensures, inv.kept.0) at c.in_err-reply_and_mark.ensures.reply.any) in
     grind (arith, err_from_is_err_and)
@@ -51,7 +52,7 @@ pub returns-in_err-reply_and_mark-clause-bytes : goal.returns-in_err-reply_and_m
 returns-in_err-reply_and_mark-clause-bytes g c = λ texts indexes known are.
     let inv = c.loop-lines.invariant in
     let marked = c.in_err-reply_and_mark.ensures in
-    let there = takes g (goal.at.returns-in_err-reply_and_mark-clause-bytes g c).After-reply_and_mark in
+    let there = rw (inv.most, c.if-branch.true) at c.in_ok-next.ensures.line in
     spent_within (inv.told texts indexes known are) _ _ _ c.reply_and_mark.new.sources there
     inv.kept.1 (rw c.line.ensures at (marked.bytes texts indexes (rw inv.kept.0 known) are))
     (rw c.line.ensures at (marked.reply.over texts indexes (rw inv.kept.0 known) are))
@@ -63,9 +64,7 @@ loop-lines-init g c =
     let new = c.in_ok-lines.ensures in
     record {
       kept = (refl, refl);
-      sources = refl;
-      writes = refl;
-      reads = refl;
+      counts = (refl, refl, refl);
       most = new.2;
       taken = grind arith;
       within = omega (arith, new.1);
@@ -79,12 +78,10 @@ loop-lines-preserved g c =
     let inv = c.loop-lines.invariant in
     let read = c.in_ok-next.ensures in
     let marked = c.in_ok-reply_and_mark.ensures in
-    let there = takes g (goal.at.loop-lines-preserved g c).After-reply_and_mark in
+    let there = rw (inv.most, c.if-branch.true) at c.in_ok-next.ensures.line in
     record {
       kept = (cc, cc);
-      sources = cc;
-      writes = cc;
-      reads = cc;
+      counts = (cc, cc, cc);
       most = cc;
       taken = grind (arith, taken-join);
       within = read.within;

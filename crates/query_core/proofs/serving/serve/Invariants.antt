@@ -1,15 +1,14 @@
 use Rattle.query_core.proofs.Words.{◌+◌, ◌-◌, ◌<◌, ◌^◌, ◌≡◌, ◌≤◌, CountsTaken, IsTextReply, KeepsSources, OverIndexes}
 use Rattle.query_core.proofs.Words.{QUERY_LIMIT, map, prepend_known}
-use Rattle.query_core.proofs.ReplyLemmas.{Spent}
-use Rattle.query_core.proofs.ReplyLemmas.{RepliedSoFar}
+use Rattle.query_core.proofs.ReplyLemmas.{Spent, RepliedSoFar}
 use Rattle.query_core.proofs.serving.serve.Given as goal
 
 abbrev pub invariant-loop-lines : goal.invariant-loop-lines
 invariant-loop-lines g l = record {
   kept : KeepsSources g.S.Source l.fn.sources l.sources;
-  sources : map g.S.Source.failures l.sources ≡ map g.S.Source.failures l.fn.sources;
-  writes : g.O.Output.failures l.out ≡ g.O.Output.failures l.fn.out;
-  reads : g.I.Input.failures l.input ≡ g.I.Input.failures l.fn.input;
+  counts : (map g.S.Source.failures l.sources ≡ map g.S.Source.failures l.fn.sources)
+      × (g.O.Output.failures l.out ≡ g.O.Output.failures l.fn.out)
+      × (g.I.Input.failures l.input ≡ g.I.Input.failures l.fn.input);
   most : l.lines.most ≡ QUERY_LIMIT + 2;
   taken : CountsTaken (g.I.Input.remaining l.fn.input) (prepend_known l.lines.buffer (g.I.Input.remaining l.input)) 0
       l.lines.taken;

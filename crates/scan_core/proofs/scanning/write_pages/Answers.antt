@@ -1,7 +1,6 @@
-use Rattle.query_core.proofs.Words.{[], ◌∙◌, ◌∷◌, ◌≡◌, ◌≤◌, AllZip, Err, IsAnswerFaultOf, IsIndex, Known}
-use Rattle.query_core.proofs.Words.{LINE_LIMIT, List, Member, Ok, Option, Some, ap, arith, collection, get_or, length}
-use Rattle.query_core.proofs.Words.{length-map, map, nat_tests, refl, same_part, selected, suc, true, wrote_nothing}
-use Rattle.query_core.proofs.Words.{ℕ}
+use Rattle.query_core.proofs.Words.{[], ◌∙◌, ◌∷◌, ◌≡◌, ◌≤◌, AllZip, Err, IsAnswerFaultOf, IsIndex, Known, LINE_LIMIT}
+use Rattle.query_core.proofs.Words.{List, Member, Ok, Option, Some, ap, arith, collection, get_or, length, length-map}
+use Rattle.query_core.proofs.Words.{map, nat_tests, refl, same_part, selected, suc, true, wrote_nothing, ℕ}
 use Rattle.std.proofs.Common.{Result, IfErr}
 use Rattle.devices.specs.Device.{next_count}
 use Rattle.merge_core.specs.Failures.{RaisedAt}
@@ -18,13 +17,9 @@ use Rattle.query_core.proofs.PagesLemmas.{all_positive}
 use Rattle.scan_core.proofs.scanning.write_pages.Goals as goal
 
 -- sources in memory tell their bytes
-known_texts : {S : Type 0} (text : S → List ℕ) (sources : List S) (texts : List (List ℕ)) → map text sources ≡ texts
-    → Known (map (λ s. Some (text s)) sources) texts
-known_texts text sources texts e = rw (← e) (known_own sources)
-  where
-    known_own : (ss : List _) → Known (map (λ s. Some (text s)) ss) (map text ss)
-    known_own [] = tt
-    known_own (s ∷ ss) = (refl, known_own ss)
+known_texts : {S : Type 0} (text : S → List ℕ) (sources : List S) → Known (map (λ s. Some (text s)) sources) (map text sources)
+known_texts text [] = tt
+known_texts text (s ∷ ss) = (refl, known_texts text ss)
 
 abbrev zeros : {S : Type 0} → List S → List ℕ
 zeros ss = map (λ s. 0) ss
@@ -62,7 +57,7 @@ pub returns-clause-pages : goal.returns-clause-pages
 returns-clause-pages g c = λ members are.
     let ok = c.pages.ensures in
     let texts = ap (map slice_text) c.deref_mut.ensures.value ∙ c.in_ok-sources.ensures in
-    let known = known_texts _ _ _ texts in
+    let known = rw texts at (known_texts slice_text c.deref_mut.result.now) in
     let same = simp length-map at (ap length texts) in
     let number : length c.deref_mut.result.now ≤ SOURCES_LIMIT = omega arith in
     record {

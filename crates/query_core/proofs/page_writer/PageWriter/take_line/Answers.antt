@@ -1,10 +1,7 @@
-use Rattle.query_core.proofs.Words.{[], ◌∙◌, ◌∷◌, ◌≡◌, FitsWord, arith, err_from_is_err_and, false, grows_by}
-use Rattle.query_core.proofs.Words.{grows_on, grows_part, is_full, rules, sym, true≢false}
-use Rattle.query_core.proofs.page_writer.PageWriter.take_line.Given.{Over}
-use Rattle.query_core.proofs.page_writer.PageWriter.take_line.Goals.{After-make_room}
-use Rattle.query_core.proofs.PagesLemmas.{more_lines, stands_over, wrote_holds, took_next, stands_followed}
-use Rattle.query_core.proofs.PagesLemmas.{broke_more, wrote_front, row_stands, row_front, room_front, ended_is}
-use Rattle.query_core.proofs.PagesLemmas.{goes_on}
+use Rattle.query_core.proofs.Words.{[], ◌∙◌, ◌∷◌, ◌≡◌, arith, err_from_is_err_and, false, grows_by}
+use Rattle.query_core.proofs.Words.{grows_on, grows_part, rules, sym, true≢false}
+use Rattle.query_core.proofs.PagesLemmas.{more_lines, stands_over, wrote_holds, took_next, stands_followed, broke_more}
+use Rattle.query_core.proofs.PagesLemmas.{wrote_front, row_stands, row_front, room_front, ended_is, goes_on}
 use Rattle.std.proofs.lemmas.List.{nil_from_length}
 use Rattle.query_core.specs.WriterView.{pages_so_far}
 use Rattle.query_core.proofs.page_writer.PageWriter.take_line.Goals as goal
@@ -25,12 +22,7 @@ returns-then-self-clause-wrote g c = λ first taken start s.
 pub returns-then-not-branch-clause-wrote : goal.returns-then-not-branch-clause-wrote
 returns-then-not-branch-clause-wrote g c = λ first taken start s.
     let took = c.in_ok-takes.ensures.took taken (s.selects c.if-self.false) in
-    let same = c.takes.ensures.same in
-    record {
-      same = (same.0 ∙ s.same.0, same.1 ∙ s.same.1);
-      selects = λ e. took.selects;
-      stands = λ sized. rw (took_next s took, c.if-not-branch.true) (s.stands sized);
-    }
+    let next = took_next s took in grind arith
 
 -- ---- a capture follows the page, which is the only one
 
@@ -50,24 +42,18 @@ returns-then-is_full-clause-wrote g c = λ first taken start s.
 
 -- ---- a capture is written
 
--- a page that is the only one has room
-no_end : (g : Over) (c : After-make_room g) → c.args.self.now.sizes.now ≡ []
-    → (is_full c.args.self.now.limit c.args.self.now.given ≡ false) × FitsWord c.args.self.now.limit
-no_end g c none = grind arith
-
 pub returns-clause-wrote : goal.returns-clause-wrote
 returns-clause-wrote g c = λ first taken start s.
     let took = c.in_ok-takes.ensures.took taken (s.selects c.if-self.false) in
     let same = c.takes.ensures.same in
     let put = c.in_ok-put_capture.ensures in
-    let here = (goal.at.returns-clause-wrote g c).After-make_room in
     let selection : c.put_capture.new.self.selection ≡ c.takes.new.self =
     put.same.lines.selection ∙ c.make_room.ensures.lines.selection in
     record {
       same = rw selection (same.0 ∙ s.same.0, same.1 ∙ s.same.1);
       selects = λ e. rw selection took.selects;
       stands = λ sized.
-          let goes = goes_on s sized (no_end g here) in
+          let goes = goes_on s sized (λ none. grind arith) in
           let holds = wrote_holds s sized in
           let room = c.in_ok-make_room.ensures.pages first.selection.query.now _ start
           (record { query = grind arith; stands = s.stands sized; holds = holds; goes = goes }) in
@@ -88,10 +74,9 @@ returns-in_err-takes-clause-wrote g c = λ first taken start s.
 pub returns-in_err-make_room-clause-wrote : goal.returns-in_err-make_room-clause-wrote
 returns-in_err-make_room-clause-wrote g c = λ first taken start s.
     let took = c.in_ok-takes.ensures.took taken (s.selects c.if-self.false) in
-    let here = (goal.at.returns-in_err-make_room-clause-wrote g c).After-make_room in
     rw (err_from_is_err_and c.from_residual-in_err-make_room.result c.from_residual-in_err-make_room.ensures.1).1
     (λ sized.
-    let goes = goes_on s sized (no_end g here) in
+    let goes = goes_on s sized (λ none. grind arith) in
     let broke = c.in_err-make_room.ensures.pages first.selection.query.now _ start
     (record { query = grind arith; stands = s.stands sized; holds = wrote_holds s sized; goes = goes }) in
     rw (took_next s took, c.if-not-branch.false) (room_front first.selection.query.now (pages_so_far first taken) goes
@@ -100,11 +85,10 @@ returns-in_err-make_room-clause-wrote g c = λ first taken start s.
 pub returns-in_err-put_capture-clause-wrote : goal.returns-in_err-put_capture-clause-wrote
 returns-in_err-put_capture-clause-wrote g c = λ first taken start s.
     let took = c.in_ok-takes.ensures.took taken (s.selects c.if-self.false) in
-    let here = (goal.at.returns-in_err-put_capture-clause-wrote g c).After-make_room in
     let same_query : c.make_room.new.self.selection.query.now ≡ first.selection.query.now = grind arith in
     rw (err_from_is_err_and c.from_residual-in_err-put_capture.result c.from_residual-in_err-put_capture.ensures.1).1
     (λ sized.
-    let goes = goes_on s sized (no_end g here) in
+    let goes = goes_on s sized (λ none. grind arith) in
     let room = c.in_ok-make_room.ensures.pages first.selection.query.now _ start
     (record { query = grind arith; stands = s.stands sized; holds = wrote_holds s sized; goes = goes }) in
     rw (took_next s took, c.if-not-branch.false) (row_front _ _ goes c.args.line.now room _
