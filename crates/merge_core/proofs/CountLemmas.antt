@@ -83,8 +83,7 @@ module _ (past : List ℕ → Bool) {S : Type 0} (device : Ghosts S) (b : Option
   pub are_read_to : (ss : List S) (m : MergeState) → AreInputs past device ss (inputs m)
       → EachDone past device.text (AllByRecursion (λ m. IsUpto b (member_pair m))) ss (inputs m)
       → AreReadTo past device.text b ss m.cursors.items
-  are_read_to ss m input upto =
-      rw (cursors_of 0 m.cursors.items m.queue) at (each_read_to ss (inputs m) input upto)
+  are_read_to ss m input upto = rw (cursors_of 0 m.cursors.items m.queue) at (each_read_to ss (inputs m) input upto)
 
   -- one of them was read on
   pub read_on : (ss : List S) (cs : List CursorState) (i : ℕ) (s : S) (c : CursorState) → AreReadTo past device.text b ss cs
@@ -175,12 +174,10 @@ pub record Passes (past : List ℕ → Bool) (start : Pair) (b : Option Pair) (t
 -- lines were read of sources that are indexes, from where the search for that pair ended
 module _ {past : List ℕ → Bool} {start : Pair} {b : Option Pair} {test : Member → Bool}
     (p : Passes past start b test) where
-  pub each_passes : (ms : List Member)
-      → AllByRecursion (λ m. (past m.values.key ≡ false) × IsUpto b (member_pair m)) ms
+  pub each_passes : (ms : List Member) → AllByRecursion (λ m. (past m.values.key ≡ false) × IsUpto b (member_pair m)) ms
       → AllByRecursion (λ m. is_low start m ≡ false) ms → AllByRecursion (λ m. test m ≡ true) ms
   each_passes [] within not_low = tt
-  each_passes (m ∷ ms) within not_low =
-      (p.passes m within.0.0 not_low.0 within.0.1, each_passes ms within.1 not_low.1)
+  each_passes (m ∷ ms) within not_low = (p.passes m within.0.0 not_low.0 within.0.1, each_passes ms within.1 not_low.1)
 
   source_most : {t : List ℕ} {f : MergeInput} {ms : List Member} → IsInputOf past t f
       → IsIndex LINE_LIMIT t ms → IsCut start t ms f.cursor.start

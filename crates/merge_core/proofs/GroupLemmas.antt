@@ -48,8 +48,7 @@ module _ (P : Member → Type 0) (i : ℕ) where
   pub waits_each : (ws : List WaitingLine) → AllByRecursion P (waits_of i ws)
       → AllByRecursion (λ w. is_of i w ≡ true → P w.member) ws
   waits_each [] h = tt
-  waits_each (w ∷ ws) h =
-      grind (arith, waits_each ws)
+  waits_each (w ∷ ws) h = grind (arith, waits_each ws)
 
 all_same : (us vs : List Member) → length us ≤ 1 → length vs ≡ length us
     → ((m : Member) → us ≡ m ∷ [] → AllByRecursion (λ k. k ≡ m) vs) → vs ≡ us

@@ -93,13 +93,11 @@ module _ (past : List ℕ → Bool) where
     pub count : c.count ≡ old.count + 1
     pub near : (t : List ℕ) → text ≡ Some t → c.at ≤ old.at + first_length (lines (drop old.at t))
     pub next : (t : List ℕ) → text ≡ Some t → IsNextLine t old.at c.at (Some m)
-    pub low : (t : List ℕ) → text ≡ Some t
-        → AllByRecursion (λ k. Upto (member_pair k) (member_pair m)) (given t old)
+    pub low : (t : List ℕ) → text ≡ Some t → AllByRecursion (λ k. Upto (member_pair k) (member_pair m)) (given t old)
 
 pub done_cut : {past : List ℕ → Bool} {t : List ℕ} {f : MergeInput} → IsInputOf past t f
     → Cut f.cursor.count (done past t f) (given t f.cursor)
-done_cut {f = f} told =
-    cut_of f.cursor.count _ told.late _ (grind (arith, length-map)) told.one told.split
+done_cut {f = f} told = cut_of f.cursor.count _ told.late _ (grind (arith, length-map)) told.one told.split
 
 -- a text was read, and where no line of it waits, to the end of the range
 pub record TextRead (past : List ℕ → Bool) (t : List ℕ) (f : MergeInput) : Type 0 where
@@ -120,20 +118,17 @@ module _ {past : List ℕ → Bool} {text : Option (List ℕ)} {extent : ℕ} {o
   as_many t e = let was = (r.was.told t e).as_many in grind (arith, length-map)
 
   front : (t : List ℕ) → text ≡ Some t → take (c.count - 1) (given t c) ≡ given t old
-  front t e =
-      grind (arith, as_many, given_next, take_at)
+  front t e = grind (arith, as_many, given_next, take_at)
 
   whole : (t : List ℕ) → text ≡ Some t → take c.count (given t c) ≡ given t c
-  whole t e =
-      grind (arith, as_many, given_next, length-append, take_all)
+  whole t e = grind (arith, as_many, given_next, length-append, take_all)
 
   -- it waits unless it lies past the range, or it was taken
   abbrev pub Goes : List Member → Type 0
   Goes ws = (ws ≡ filter (stays past) (m ∷ []))
       ⊎ ((ws ≡ []) × ((t : List ℕ) → text ≡ Some t → stays past m ≡ true))
 
-  pub settled_more : (ws : List Member) → ws ≡ filter (stays past) (m ∷ [])
-      → IsSettled past text (input_of c ws)
+  pub settled_more : (ws : List Member) → ws ≡ filter (stays past) (m ∷ []) → IsSettled past text (input_of c ws)
   settled_more ws is t e none = inr (given t old, m, given_next t e, grind arith)
 
   pub done_next : (ws : List Member) → ws ≡ filter (stays past) (m ∷ []) → (t : List ℕ) → text ≡ Some t
@@ -183,8 +178,7 @@ module _ {past : List ℕ → Bool} {text : Option (List ℕ)} {extent : ℕ} {o
 -- a line that has the pair of the last one, which lies within the range, lies within it
 pub same_stays : (past : List ℕ → Bool) (pair : Pair) (m : Member) (ms : List Member) → EndsAt past pair ms
     → Alike (member_pair m) pair → past m.values.key ≡ false
-same_stays past pair m ms end alike =
-    grind (arith, slice_cmp-IsAntisymmetric, nat_cmp-IsAntisymmetric, pair_cmp_total)
+same_stays past pair m ms end alike = grind (arith, slice_cmp-IsAntisymmetric, nat_cmp-IsAntisymmetric, pair_cmp_total)
 
 -- none of lines that never fall is above the last
 pub low_of : (past : List ℕ → Bool) (pair : Pair) (ms : List Member) → NeverFalls member_pair pair_cmp ms

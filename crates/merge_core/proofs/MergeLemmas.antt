@@ -50,8 +50,7 @@ module _ (past : List ℕ → Bool) {S : Type 0} (device : Ghosts S)
         → Gathered pair (all_done past texts (inputs m0)) (all_done past texts (inputs m)) [] group
         × AreBelow pair (flat_map (of past) (drop n (zip texts (inputs m)))))
 
-  pub gathers_start : Aligned past device ss0 m0 → NoneBelow pair m0.queue
-      → Gathers 0 ss0 m0 []
+  pub gathers_start : Aligned past device ss0 m0 → NoneBelow pair m0.queue → Gathers 0 ss0 m0 []
   gathers_start aligned least = grind (arith, moved_still, each_weaker, is_lt, filter_all, filter_none, below_upto)
 
 module _ {n : ℕ} {past : List ℕ → Bool} {S : Type 0} {device : Ghosts S}
@@ -191,8 +190,7 @@ module _ {S : Type 0} {device : Ghosts S} {past : List ℕ → Bool}
   gathered_now texts known = grouped.gathered texts (rw (← was.kept.0) at known)
       (below_next b pair (grouped.above b was.above) _ (was.handed.told texts known).1)
 
-  pub reached_next : Ready past device ss m → AllMoved device ss0 m0 ss m
-      → AllByRecursion HasEntry group
+  pub reached_next : Ready past device ss m → AllMoved device ss0 m0 ss m → AllByRecursion HasEntry group
       → Reached past device old begun ss m (Some pair) (taken ++ rising member_place place_cmp group)
   reached_next ready moved entries =
       let long : length ss ≡ length ss0 = grind (arith, AllZip-long, length_zip) in

@@ -51,8 +51,7 @@ module _ {S : Type 0} (device : Ghosts S) (start : Pair) where
 pub added_by : {past : List ℕ → Bool} {S : Type 0} {device : Ghosts S} {s : S} {m m' : MergeState}
     {A B : CursorState → Type 0} → (added : AddedSource past device s A m m') → B added.cursor
     → AddedSource past device s B m m'
-added_by added is =
-    grind arith
+added_by added is = grind arith
 
 -- ---- the first line of a source
 
@@ -61,8 +60,7 @@ pub input_fresh : (past : List ℕ → Bool) (text : Option (List ℕ)) (extent 
     → Stands text extent c → c.count ≡ 0 → c.at ≡ c.start
     → ((t : List ℕ) → text ≡ Some t → IsLineStart t c.start)
     → IsInput past text extent (input_of c [])
-input_fresh past text extent c stands none at begins =
-    grind arith
+input_fresh past text extent c stands none at begins = grind arith
 
 -- its first line was read, if it has one
 pub record FirstRead (past : List ℕ → Bool) (text : Option (List ℕ)) (extent : ℕ) (f : MergeInput) : Type 0 where

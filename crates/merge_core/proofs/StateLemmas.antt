@@ -55,8 +55,7 @@ inputs_set : (n i m : ℕ) (cs : List CursorState) (ws ws' : List WaitingLine) (
     → ((j : ℕ) → j ≢ m → waits_of j ws' ≡ waits_of j ws)
     → inputs_from n (set cs i c) ws' ≡ set (inputs_from n cs ws) i (input_of c (waits_of m ws'))
 inputs_set n zero m (x ∷ cs) ws ws' c e same = grind (arith, inputs_same)
-inputs_set n (suc i) m (x ∷ cs) ws ws' c e same =
-    grind (arith, inputs_set (n + 1) i m cs ws ws' c (omega arith) same)
+inputs_set n (suc i) m (x ∷ cs) ws ws' c e same = grind (arith, inputs_set (n + 1) i m cs ws ws' c (omega arith) same)
 inputs_set n i m [] ws ws' c e same = refl
 
 inputs_push : (n : ℕ) (cs : List CursorState) (ws : List WaitingLine) (c : CursorState)

@@ -79,8 +79,7 @@ module _ (past : List ℕ → Bool) (upto : Member → Bool) where
       → NeverFalls member_pair pair_cmp ms
       → ((k : Member) → Upto (member_pair m) (member_pair k) → is_read k ≡ false)
       → AllByRecursion (λ m. is_read m ≡ false) (m ∷ rest)
-  rest_unread before m rest ms e falls f =
-      (f m (upto_itself (member_pair m)), grind (arith, each_weaker, falls_after))
+  rest_unread before m rest ms e falls f = (f m (upto_itself (member_pair m)), grind (arith, each_weaker, falls_after))
 
 module _ {past : List ℕ → Bool} (upward : IsUpward past) (upto : Member → Bool) {t : List ℕ} {f : MergeInput}
     (r : TextRead past t f) (late : AllByRecursion (IsLate upto) f.waits)
@@ -120,8 +119,7 @@ module _ {past : List ℕ → Bool} (upward : IsUpward past) (upto : Member → 
     tail_unread (m ∷ k ∷ ls) one waiting cut = absurd (omega arith)
 
     read_of : filter (is_read past upto) ms ≡ done past t f
-    read_of =
-        grind (arith, append_assoc, done_read, filter-append, filter_all, filter_none, append-nil, tail_unread)
+    read_of = grind (arith, append_assoc, done_read, filter-append, filter_all, filter_none, append-nil, tail_unread)
 
   -- Of the lines from the start on, those that were come to are those that were taken
   pub input_read : (ms : List Member) → IsRun LINE_LIMIT (lines (drop f.cursor.start t)) ms
@@ -292,8 +290,7 @@ module _ {past : List ℕ → Bool} {wanted : Member → Bool} {b : Option Pair}
 
     from_next : (m : Member) → (is_read past (is_low next) m ≡ false) × (wanted m ≡ true) → (wanted m ≡ true)
         × Upto next (member_pair m)
-    from_next m h =
-        (h.1, grind (arith, and_cases, from_not_below (member_pair m) next))
+    from_next m h = (h.1, grind (arith, and_cases, from_not_below (member_pair m) next))
 
     -- then the rest doesn't stand below it either
     pub taken_before : (rest : List Member) × (filter wanted whole ≡ filter wanted taken ++ rest)

@@ -16,8 +16,7 @@ module _ (limit : ℕ) (start : Pair) (text : Option (List ℕ)) (extent : ℕ) 
     (h : Halved limit start text extent s) (some : s.low < s.high) (middle : ℕ)
     (half : middle ≡ s.low + (s.high - s.low) / 2) (probes : ℕ) (next : probes ≡ s.probes + 1) where
   -- the upper half is left out
-  halves : (line : Option ℕ) → IfSome line (λ o. o ≤ extent) → IfNone line (0 < middle)
-      → ((t : List ℕ) → text ≡ Some t
+  halves : (line : Option ℕ) → IfSome line (λ o. o ≤ extent) → IfNone line (0 < middle) → ((t : List ℕ) → text ≡ Some t
       → HalvedIn limit start extent t (record { low = s.low; high = middle; line = line; probes = probes }))
       → Halved limit start text extent (record { low = s.low; high = middle; line = line; probes = probes })
   halves line there hidden told =

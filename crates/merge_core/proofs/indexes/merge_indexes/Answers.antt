@@ -87,8 +87,7 @@ returns-in_err-merge-clause-lines g c =
     grind (arith, err_from_is_err_and, lines, broke)
 
 kept : (g : Over) (c : After-merge g) → KeepsSources g.S.Source c.args.sources.now c.merge.new.sources
-kept g c =
-    grind (arith, all_kept)
+kept g c = grind (arith, all_kept)
 
 -- each byte of each source was given at most once
 once : (g : Over) (c : After-merge g) → AllGaveOnce g.S.Source c.args.sources.now

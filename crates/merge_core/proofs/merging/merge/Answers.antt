@@ -19,8 +19,7 @@ grouped : (g : Over) (c : After-pass_group g) → Grouped (g.R.Range.past c.args
     c.loop-rest.merge c.gather.new.sources c.gather.new.self (member_pair c.in-Some.first.value) (group g c)
 grouped g c = grind arith
 
-reached : (g : Over) (c : After-pass_group g)
-    → Reached (g.R.Range.past c.args.range.now) g.S.Source
+reached : (g : Over) (c : After-pass_group g) → Reached (g.R.Range.past c.args.range.now) g.S.Source
     c.args.sources.now c.args.merge.now c.gather.new.sources c.gather.new.self (Some (member_pair c.in-Some.first.value)) (taken g c)
 reached g c =
     let ok = c.in_ok-first.ensures in

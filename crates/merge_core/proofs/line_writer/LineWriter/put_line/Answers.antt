@@ -9,5 +9,4 @@ pub returns-in_err-write-clause-grows : goal.returns-in_err-write-clause-grows
 returns-in_err-write-clause-grows g c = grind (arith, grows_by)
 
 pub returns-clause-grows : goal.returns-clause-grows
-returns-clause-grows g c =
-    grows_on _ (g.O.Output.written c.put.new.out) _ (grind arith) (grind arith)
+returns-clause-grows g c = grows_on _ (g.O.Output.written c.put.new.out) _ (grind arith) (grind arith)

@@ -12,8 +12,7 @@ fresh g c = input_fresh (g.R.Range.past c.args.range.now) _ _ c.args.cursor c.re
     c.requires.fresh.there c.requires.begins
 
 pub returns-in_err-next-clause-source : goal.returns-in_err-next-clause-source
-returns-in_err-next-clause-source g c =
-    grind (arith, bad_named, fresh)
+returns-in_err-next-clause-source g c = grind (arith, bad_named, fresh)
 
 pub returns-clause-added : goal.returns-clause-added
 returns-clause-added g c =

@@ -12,8 +12,7 @@ use Rattle.merge_core.proofs.StateLemmas.{long_of}
 use Rattle.merge_core.proofs.state.MergeState.gather.Goals as goal
 
 -- what a source's further lines make of the group
-drained : (g : Over) (c : In_ok-read_on g)
-    → Gathers (g.R.Range.past c.args.range.now) g.S.Source
+drained : (g : Over) (c : In_ok-read_on g) → Gathers (g.R.Range.past c.args.range.now) g.S.Source
     c.args.sources.now c.args.self.now (member_pair c.with_start-keyed.result) (c.sources.i + 1)
     c.read_on.new.sources c.read_on.new.self (c.with_start-keyed.result ∷ boxed_lines c.read_on.new.rest.items)
 drained g c =
@@ -62,8 +61,7 @@ sources-init g c =
     grind arith
 
 pub pop_at-requires : goal.pop_at-requires
-pop_at-requires g c =
-    grind (arith, drained, each_weaker)
+pop_at-requires g c = grind (arith, drained, each_weaker)
 
 pub sources-smaller : goal.sources-smaller
 sources-smaller g c =
@@ -92,8 +90,7 @@ read_to g c texts known low =
     (h.gathered texts known low).0.upto)
 
 pub returns-in_default-pop_at : goal.returns-in_default-pop_at
-returns-in_default-pop_at g c =
-    grind (arith, drained)
+returns-in_default-pop_at g c = grind (arith, drained)
 
 -- the lines of the pair were being taken
 halted : (g : Over) (c : After-read_on g) (m : MergeState) → m.cursors.items ≡ c.read_on.new.self.cursors.items

@@ -9,8 +9,7 @@ use Rattle.merge_core.proofs.OpenLemmas.{added_inputs, ready_added, zip_none, zi
 use Rattle.merge_core.proofs.state.MergeState.open_at.Goals as goal
 
 pub loop-i-init : goal.loop-i-init
-loop-i-init g c =
-    grind (arith, once_none, two_same, zip_none)
+loop-i-init g c = grind (arith, once_none, two_same, zip_none)
 
 pub loop-i-preserved : goal.loop-i-preserved
 loop-i-preserved g c =
@@ -48,8 +47,7 @@ loop-i-preserved g c =
     }
 
 pub returns-in-Err-clause-sources : goal.returns-in-Err-clause-sources
-returns-in-Err-clause-sources g c =
-    grind (arith, common_steps, map_set_same, length-map, map-set, get_or-map)
+returns-in-Err-clause-sources g c = grind (arith, common_steps, map_set_same, length-map, map-set, get_or-map)
 
 pub returns-in-Err-clause-spent : goal.returns-in-Err-clause-spent
 returns-in-Err-clause-spent g c =
