@@ -133,9 +133,8 @@ few_of zero (w ∷ ws) placed few = grind arith
 -- ---- the lines of a group
 
 -- what was taken of an index is among its lines
-pub done_fewer : {past : List ℕ → Bool} {t : List ℕ} {f : MergeInput} {ms : List Member}
-    (test : Member → Bool) → IsInputOf past t f → IsIndex LINE_LIMIT t ms
-    → length (filter test (done past t f)) ≤ length (filter test ms)
+pub done_fewer : {past : List ℕ → Bool} {t : List ℕ} {f : MergeInput} {ms : List Member} (test : Member → Bool)
+    → IsInputOf past t f → IsIndex LINE_LIMIT t ms → length (filter test (done past t f)) ≤ length (filter test ms)
 done_fewer {past = past} {t = t} {f = f} {ms = ms} test told index =
     let cut = done_cut told in
     let whole = map-append member_of told.begins.0 (lines (drop f.cursor.start t)) in
@@ -179,9 +178,8 @@ module _ {past : List ℕ → Bool} {start : Pair} {b : Option Pair} {test : Mem
   each_passes [] within not_low = tt
   each_passes (m ∷ ms) within not_low = (p.passes m within.0.0 not_low.0 within.0.1, each_passes ms within.1 not_low.1)
 
-  source_most : {t : List ℕ} {f : MergeInput} {ms : List Member} → IsInputOf past t f
-      → IsIndex LINE_LIMIT t ms → IsCut start t ms f.cursor.start
-      → AllByRecursion (λ m. IsUpto b (member_pair m)) (done past t f)
+  source_most : {t : List ℕ} {f : MergeInput} {ms : List Member} → IsInputOf past t f → IsIndex LINE_LIMIT t ms
+      → IsCut start t ms f.cursor.start → AllByRecursion (λ m. IsUpto b (member_pair m)) (done past t f)
       → f.cursor.count ≤ length (filter test ms) + 1
   source_most {t = t} {f = f} {ms = ms} told index cut upto =
       let run = run_after start t ms f.cursor.start index cut in

@@ -86,9 +86,7 @@ below_unless p q h e = grind (arith, pair_cmp_total)
 
 -- where the first in turn doesn't have the pair, all are above it
 pub all_later_unless : (p : Pair) (w : WaitingLine) (ws : List WaitingLine) → w ≡ get_or ws 0 w
-    → is_eq (pair_cmp (waiting_pair w) p) ≡ false
-    → NoneBelow p ws → NoneBefore w ws
-    → AllBeyond p ws
+    → is_eq (pair_cmp (waiting_pair w) p) ≡ false → NoneBelow p ws → NoneBefore w ws → AllBeyond p ws
 all_later_unless p w [] e n u h = tt
 all_later_unless p w (v ∷ ws) e n u h =
     let above = below_unless p (waiting_pair w) (grind arith) n in
@@ -168,8 +166,7 @@ module _ (pair : Pair) where
 
 -- none of the others has the pair, save those of later sources
 pub from_popped : (pair : Pair) (w : WaitingLine) (ws : List WaitingLine) → Alike (waiting_pair w) pair
-    → NoneBefore w ws → waits_of w.source ws ≡ []
-    → AllByRecursion (IsFrom pair (w.source + 1)) ws
+    → NoneBefore w ws → waits_of w.source ws ≡ [] → AllByRecursion (IsFrom pair (w.source + 1)) ws
 from_popped pair w ws e first none =
     each_weaker (λ (v : WaitingLine) (h : (is_lt (turn_cmp v w) ≡ false) × (v.source ≢ w.source)). (
       upto_upto pair (waiting_pair w) (waiting_pair v) (same_from (waiting_pair w) pair e) (not_before v w h.0),

@@ -62,9 +62,8 @@ module _ {n : ℕ} {past : List ℕ → Bool} {S : Type 0} {device : Ghosts S}
   -- more lines of a source are taken: of the group, all but those that lead are lines that the source is asked for
   pub gathers_on : {i : ℕ} {ss' : List S} {m' : MergeState} (lead : List Member) {lines lines' : List Member}
       → group ≡ lead ++ lines → TookOf past device.text pair i ss ss' (inputs m) (inputs m') lines lines' → n ≤ i + 1
-      → i < length ss → Aligned past device ss' m'
-      → AllMoved device ss m ss' m' → AllByRecursion (IsFrom pair (i + 1)) m'.queue
-      → Gathers past device ss0 m0 pair (i + 1) ss' m' (lead ++ lines')
+      → i < length ss → Aligned past device ss' m' → AllMoved device ss m ss' m'
+      → AllByRecursion (IsFrom pair (i + 1)) m'.queue → Gathers past device ss0 m0 pair (i + 1) ss' m' (lead ++ lines')
   gathers_on {i = i} {ss' = ss'} {m' = m'} lead {lines = lines} {lines' = lines'} is d turn inside aligned moved from = record {
     aligned = aligned;
     kept = rw d.source_is (map_set_same device.text ss i d.source d.source inside (d.text_is d.source) ∙ h.kept);

@@ -56,9 +56,8 @@ added_by added is = grind arith
 -- ---- the first line of a source
 
 -- what is known of a source of which no line was read yet
-pub input_fresh : (past : List ℕ → Bool) (text : Option (List ℕ)) (extent : ℕ) (c : CursorState)
-    → Stands text extent c → c.count ≡ 0 → c.at ≡ c.start
-    → ((t : List ℕ) → text ≡ Some t → IsLineStart t c.start)
+pub input_fresh : (past : List ℕ → Bool) (text : Option (List ℕ)) (extent : ℕ) (c : CursorState) → Stands text extent c
+    → c.count ≡ 0 → c.at ≡ c.start → ((t : List ℕ) → text ≡ Some t → IsLineStart t c.start)
     → IsInput past text extent (input_of c [])
 input_fresh past text extent c stands none at begins = grind arith
 

@@ -169,8 +169,7 @@ done_lines {t = t} {f = f} told =
     (grind (arith, in_later, in_take))))
 
 all_lines_of : (past : List ℕ → Bool) (sources : List (Option (List ℕ))) (texts : List (List ℕ)) (fs : List MergeInput)
-    → Known sources texts → AllZip (TextRead past) texts fs
-    → AllByRecursion (IsLineOf sources) (all_done past texts fs)
+    → Known sources texts → AllZip (TextRead past) texts fs → AllByRecursion (IsLineOf sources) (all_done past texts fs)
 all_lines_of past (o ∷ os) (t ∷ texts) (f ∷ fs) known read =
     let others = all_lines_of past os texts fs known.1 read.1 in
     let here = done_lines read.0.told in

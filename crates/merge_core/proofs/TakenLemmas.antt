@@ -35,8 +35,7 @@ IsUpward past = (key later : List ℕ) → past key ≡ true → is_gt (slice_cm
 -- ---- filters of what rises
 
 pub wanted_parts : (wanted low : Member → Bool) → IsLower member_place place_cmp low → (xs : List Member)
-    → filter wanted (rising member_place place_cmp xs)
-    ≡ filter wanted (rising member_place place_cmp (filter low xs))
+    → filter wanted (rising member_place place_cmp xs) ≡ filter wanted (rising member_place place_cmp (filter low xs))
     ++ filter wanted (rising member_place place_cmp (filter (λ m. not (low m)) xs))
 wanted_parts wanted low lower xs = ap (filter wanted) (rising_split member_place place_cmp place_cmp_total low lower xs)
     ∙ filter-append wanted _ _
@@ -76,8 +75,7 @@ module _ (past : List ℕ → Bool) (upto : Member → Bool) where
 
   -- the first line of the rest isn't read, and so none
   rest_unread : (before : List Member) (m : Member) (rest ms : List Member) → ms ≡ before ++ m ∷ rest
-      → NeverFalls member_pair pair_cmp ms
-      → ((k : Member) → Upto (member_pair m) (member_pair k) → is_read k ≡ false)
+      → NeverFalls member_pair pair_cmp ms → ((k : Member) → Upto (member_pair m) (member_pair k) → is_read k ≡ false)
       → AllByRecursion (λ m. is_read m ≡ false) (m ∷ rest)
   rest_unread before m rest ms e falls f = (f m (upto_itself (member_pair m)), grind (arith, each_weaker, falls_after))
 

@@ -63,9 +63,8 @@ module _ (limit : ℕ) (start : Pair) where
 
   -- the front has a pair, so it isn't empty
   pub decided_at : (t : List ℕ) (offset : ℕ) (front held : List ℕ) (ends below : Bool) → held ≡ front
-      → ReadsOn t offset front ends → length front ≤ limit
-      → Some below ≡ option_map (is_below start) (pair_of held) → not below
-      ≡ stops_lines (line_below limit start) (lines (drop offset t))
+      → ReadsOn t offset front ends → length front ≤ limit → Some below ≡ option_map (is_below start) (pair_of held)
+      → not below ≡ stops_lines (line_below limit start) (lines (drop offset t))
   decided_at t offset [] held ends below same r short h = grind arith
   decided_at t offset (x ∷ u) held ends below same r short h =
       decided_by t offset (x ∷ u) ends below _ r (omega arith) short refl (grind arith)
@@ -75,8 +74,7 @@ module _ (limit : ℕ) (start : Pair) where
 
   -- the whole line, or as much as is looked at, has none
   pub none_whole : (t : List ℕ) (offset : ℕ) (front : List ℕ) → ReadsOn t offset front true → length front ≤ limit
-      → pair_of front ≡ None
-      → true ≡ stops_lines (line_below limit start) (lines (drop offset t))
+      → pair_of front ≡ None → true ≡ stops_lines (line_below limit start) (lines (drop offset t))
   unfolding line_below
   none_whole t offset front r short e = grind (arith, take_all)
 

@@ -113,9 +113,8 @@ module _ (limit : ℕ) (start : Pair) where
   parts before rest ms e = absurd (cc)
 
   pub cut_there : (t : List ℕ) (ms : List Member) (r offset : ℕ) → IsIndex limit t ms → offset ≤ length t
-      → drop offset t ≡ from_line r t
-      → stops (line_below limit start) r t ≡ true → ((k : ℕ) → r ≡ k + 1 → stops (line_below limit start) k t ≡ false)
-      → IsCut start t ms offset
+      → drop offset t ≡ from_line r t → stops (line_below limit start) r t ≡ true
+      → ((k : ℕ) → r ≡ k + 1 → stops (line_below limit start) k t ≡ false) → IsCut start t ms offset
   cut_there t ms r offset index inside from here before =
       let s = sought (line_below limit start) t r (below_first (lines t) ms index.entries index.ordered) here before in
       let halves = parts s.before (lines (from_line r t)) ms (rw s.cut at index.entries) in

@@ -52,8 +52,7 @@ nothing_read t offset = grind arith
 
 -- it goes on with a part of what is held
 pub held_reads : (text : Option (List ℕ)) (extent offset n : ℕ) (front held new t : List ℕ) (ends : Bool)
-    → AreBytesAt text extent (offset + length front) held → text ≡ Some t
-    → n ≤ length held → new ≡ front ++ take n held → PartOf held n ends → BeginsWith t offset front
-    → ReadsOn t offset new ends
+    → AreBytesAt text extent (offset + length front) held → text ≡ Some t → n ≤ length held → new ≡ front ++ take n held
+    → PartOf held n ends → BeginsWith t offset front → ReadsOn t offset new ends
 held_reads text extent offset n front held new t ends s e inside grown part begins =
     grind (arith, common_steps, length-append, length-take, reads_on, take-take)

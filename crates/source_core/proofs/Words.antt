@@ -19,7 +19,7 @@ pub use Rattle.source_core.specs.Windows.{AreBytesAt, HeldBytes, Holds, held_fro
 pub use Rattle.std.proofs.Common.{Bool, IfNone, IfSome, List, None, Option, Some, [], ap, append-nil, append_assoc, ap₂}
 pub use Rattle.std.proofs.Common.{arith, cond, drop, drop-drop, eq-eqb, eqb, eqb-true, false, flat_map, get_or}
 pub use Rattle.std.proofs.Common.{get_or-take, inl, inr, is_gt, length, length-append, length-drop, length-take, map}
-pub use Rattle.std.proofs.Common.{min, not, option_map, refl, rules, suc, sym, take, take-append-drop, true, zero, ℕ}
+pub use Rattle.std.proofs.Common.{min, not, option_map, refl, rules, subst, suc, sym, take, take-append-drop, true, zero, ℕ}
 pub use Rattle.std.proofs.Common.{◌*◌, ◌++◌, ◌+◌, ◌-◌, ◌/◌, ◌<◌, ◌^◌, ◌∙◌, ◌∷◌, ◌≡◌, ◌≤◌, ◌⊎◌}
 pub use Rattle.std.proofs.lemmas.Bool.{and_parts, cases_lt, cond-false, cond_both, le-ltb, ltb-false}
 pub use Rattle.std.proofs.lemmas.Bool.{not-false}

@@ -90,8 +90,7 @@ kept : (g : Over) (c : After-merge g) → KeepsSources g.S.Source c.args.sources
 kept g c = grind (arith, all_kept)
 
 -- each byte of each source was given at most once
-once : (g : Over) (c : After-merge g) → AllGaveOnce g.S.Source c.args.sources.now
-    c.merge.new.sources
+once : (g : Over) (c : After-merge g) → AllGaveOnce g.S.Source c.args.sources.now c.merge.new.sources
 once g c = grind (arith, gave_once)
 
 pub returns-in_err-merge-clause-bytes : goal.returns-in_err-merge-clause-bytes

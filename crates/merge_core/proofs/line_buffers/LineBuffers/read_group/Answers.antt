@@ -38,8 +38,7 @@ was_read g c not_less =
 
 -- before the call, all lines that were read had been taken
 taken_before : (g : Over) (c : After-next_line g) (t : List ℕ) → g.S.Source.text c.args.source.now ≡ Some t
-    → done (g.R.Range.past c.args.range.now) t (input_of c.args.cursor.now [])
-    ≡ given t c.args.cursor.now
+    → done (g.R.Range.past c.args.range.now) t (input_of c.args.cursor.now []) ≡ given t c.args.cursor.now
 taken_before g c t e = all_taken (c.requires.input.told t e) (c.requires.due.last t e)
 
 pub returns-in-Greater-clause-read : goal.returns-in-Greater-clause-read

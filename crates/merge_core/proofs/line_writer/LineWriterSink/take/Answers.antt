@@ -23,8 +23,7 @@ module _ {B : Type 0} (seen : B → Member) (lines : List B) (k : ℕ) (line : B
 
   -- where it couldn't be written, a front of all stands there
   broke_at : (start mid new : Option (List ℕ)) → Appends start mid (lines_text (upto k))
-      → AppendsPrefix mid new (line_row (seen line))
-      → AppendsPrefix start new (lines_text (taken ++ map seen lines))
+      → AppendsPrefix mid new (line_row (seen line)) → AppendsPrefix start new (lines_text (taken ++ map seen lines))
   broke_at start mid new was part =
       let whole = rw take-append-drop at (text_joined (take (k + 1) lines) (drop (k + 1) lines)) in
       rw whole (rw text_more (prefix_longer start new _ _ (prefix_after start mid new _ _ was part)))

@@ -12,8 +12,7 @@ invariant-sources g l = record {
   inside : l.i < length l.sources;
   due : IsDueAt (g.R.Range.past l.range) g.S.Source.text (member_pair l.keyed) l.i l.sources l.self;
   settled : (s : g.row.S.Denot) → (f : MergeInput) → IsSettled (g.R.Range.past l.range) (g.S.Source.text s) f
-      → AreSettled (g.R.Range.past l.range) g.S.Source (set l.sources l.i s)
-      (set (inputs l.self) l.i f);
+      → AreSettled (g.R.Range.past l.range) g.S.Source (set l.sources l.i s) (set (inputs l.self) l.i f);
   failures : map g.S.Source.failures l.sources ≡ map g.S.Source.failures l.fn.sources;
   above : (b : Option Pair) → AllByRecursion (λ w. IsAbove b (waiting_pair w)) l.fn.self.queue
       → IsAbove b (member_pair l.keyed);
