@@ -111,8 +111,6 @@ pub left_after : {X : Type 0} (old xs : List X) (i : ℕ) (y : X) → drop i xs 
     ≡ drop (i + 1) old
 left_after old xs i y e = grind (arith, drop-set-lt, drop_more_same)
 
--- ---- how many lines were read of indexes, and are held at once
-
 -- ---- the lines that wait: one of each source at most
 
 others_before : (n : ℕ) (ws : List WaitingLine) → AllByRecursion (λ (w : WaitingLine). w.source < suc n) ws

@@ -14,30 +14,21 @@ use Rattle.merge_core.proofs.PairOrder.{from_not_below, below_then, below_upto, 
 use Rattle.merge_core.proofs.PairOrder.{not_below_itself}
 use Rattle.merge_core.proofs.Many.{each_both}
 
--- ---- which lines of each source wait, as lines come and go
-
 pub each_permuted : {X : Type 0} (P : X → Type 0) (xs ys : List X) → IsPermutation xs ys → AllByRecursion P xs
     → AllByRecursion P ys
 each_permuted P xs ys p h = recursion_from_All P ys (All-permutation P xs ys p (All-from_recursion P xs h))
 
 -- ---- one line at most of each source
 
-pub waits_here : (i : ℕ) (w : WaitingLine) (ws : List WaitingLine) → w.source ≡ i → waits_of i (w ∷ ws)
-    ≡ w.member ∷ waits_of i ws
-waits_here i w ws e = grind arith
-
-pub waits_other : (i : ℕ) (w : WaitingLine) (ws : List WaitingLine) → w.source ≢ i → waits_of i (w ∷ ws) ≡ waits_of i ws
-waits_other i w ws n = grind arith
-
 pub waits_queued : (i : ℕ) (ms : List Member) (ws : List WaitingLine) → waits_of i (queued i ms ++ ws)
     ≡ ms ++ waits_of i ws
 waits_queued i [] ws = refl
-waits_queued i (m ∷ ms) ws = grind (arith, waits_here, waits_queued i ms ws)
+waits_queued i (m ∷ ms) ws = grind (arith, waits_queued i ms ws)
 
 pub waits_beside : (i j : ℕ) (ms : List Member) (ws : List WaitingLine) → j ≢ i
     → waits_of j (queued i ms ++ ws) ≡ waits_of j ws
 waits_beside i j [] ws n = refl
-waits_beside i j (m ∷ ms) ws n = grind (arith, waits_other, waits_beside i j ms ws n)
+waits_beside i j (m ∷ ms) ws n = grind (arith, waits_beside i j ms ws n)
 
 module _ (P : Member → Type 0) (i : ℕ) where
   pub each_waits : (ws : List WaitingLine) → AllByRecursion (λ w. is_of i w ≡ true → P w.member) ws
@@ -92,13 +83,6 @@ all_later_unless p w (v ∷ ws) e n u h =
     let above = below_unless p (waiting_pair w) (grind arith) n in
     each_weaker (λ (v : WaitingLine) (q : is_lt (turn_cmp v w) ≡ false). below_then p (waiting_pair w) (waiting_pair v)
     above (not_before v w q)) (v ∷ ws) h
-
--- the line that is taken out has the pair that the first in turn has
-pub popped_alike : (p : Pair) (old new : List WaitingLine) (r : Option WaitingLine)
-    → MatchOption r ((old ≡ []) × (new ≡ [])) (λ w. IsPermutation old (w ∷ new)) → IfSome r (λ w. w ≡ get_or old 0 w)
-    → ((d : WaitingLine) → 0 < length old → Alike (waiting_pair (get_or old 0 d)) p)
-    → IfSome r (λ w. Alike (waiting_pair w) p)
-popped_alike p old new r out top h = grind (arith, length_permutation)
 
 -- ---- the lines of one pair, taken of one source after another
 

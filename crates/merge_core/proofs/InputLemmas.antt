@@ -7,8 +7,7 @@ use Rattle.merge_core.proofs.Words.{false, input_of, filter, filter-append, firs
 use Rattle.merge_core.proofs.Words.{inr, length, length-append, length-map, length-take, line_entry, lines, map}
 use Rattle.merge_core.proofs.Words.{map-append, member_pair, not-true, pair_cmp, pair_cmp_total, read_lines, refl}
 use Rattle.merge_core.proofs.Words.{stays, suc, sym, take, take-append-drop, true, nil_from_length, take_at, EndsPast}
-use Rattle.merge_core.proofs.Words.{IsInputOf}
-use Rattle.std.proofs.Common.{take_all}
+use Rattle.merge_core.proofs.Words.{IsInputOf, take_all}
 use Rattle.std.specs.FinMap.{nat_cmp-IsAntisymmetric, slice_cmp-IsAntisymmetric}
 use Rattle.cdxj_core.specs.Lines.{body_of}
 use Rattle.cdxj_core.proofs.MemberLemmas.{entry_is_short, long_line_none}

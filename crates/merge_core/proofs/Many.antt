@@ -13,12 +13,6 @@ pub each_filter : {X : Type 0} (A : X → Type 0) (f : X → Bool) (xs : List X)
 each_filter A f [] h = tt
 each_filter A f (x ∷ xs) h = grind (arith, each_filter A f xs h.1)
 
--- what a filter leaves out
-pub filter_out : {X : Type 0} (f : X → Bool) (xs : List X)
-    → AllByRecursion (λ x. f x ≡ false) (filter (λ x. not (f x)) xs)
-filter_out f [] = tt
-filter_out f (x ∷ xs) = grind (arith, filter_out f xs)
-
 pub filter_fewer : {X : Type 0} (f g : X → Bool) (xs : List X) → length (filter g (filter f xs)) ≤ length (filter g xs)
 filter_fewer f g [] = omega arith
 filter_fewer f g (x ∷ xs) = grind (arith, filter_fewer f g xs)

@@ -21,8 +21,6 @@ use Rattle.merge_core.specs.declared.sink.Sink.{Ghosts as SinkGhosts}
 use Rattle.merge_core.proofs.PairOrder.{from_not_below, below_then, then_below, below_upto, same_upto, same_from}
 use Rattle.merge_core.proofs.OpenLemmas.{none_done}
 
--- ---- which device failed
-
 -- ---- the steps of a group's gathering
 
 -- what was taken of a text

@@ -24,10 +24,6 @@ same_from p q h = ap is_gt (tied_back pair_cmp_total p q h)
 pub upto_itself : (p : Pair) → Upto p p
 upto_itself p = ap is_gt (tied_itself pair_cmp_total p)
 
--- not above: below, or the same
-pub not_above : (p q : Pair) → Upto p q → (pair_cmp p q ≡ Less) ⊎ (pair_cmp p q ≡ Equal)
-not_above p q h = grind arith
-
 pub from_not_below : (p q : Pair) → is_lt (pair_cmp p q) ≡ false → Upto q p
 from_not_below p q h = grind (arith, same_from, pair_cmp_total)
 
@@ -38,10 +34,10 @@ pub below_then : (p q r : Pair) → Below p q → Upto q r → Below p r
 below_then p q r h k = grind (arith, pair_cmp_total)
 
 pub then_below : (p q r : Pair) → Upto p q → Below q r → Below p r
-then_below p q r h k = grind (arith, not_above, pair_cmp_total)
+then_below p q r h k = grind (arith, pair_cmp_total)
 
 pub upto_upto : (p q r : Pair) → Upto p q → Upto q r → Upto p r
-upto_upto p q r h k = grind (arith, not_above, below_upto, below_then, pair_cmp_total)
+upto_upto p q r h k = grind (arith, below_upto, below_then, pair_cmp_total)
 
 pub not_below_itself : (p q : Pair) → Below p q → Upto q p → ⊥
 not_below_itself p q h k = grind (arith, pair_cmp_total, tied_back)

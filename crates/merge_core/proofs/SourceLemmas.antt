@@ -21,7 +21,7 @@ after_front : {X : Type 0} (us vs xs ys : List X) → length us ≡ length xs �
 after_front us vs xs ys n e =
     rw (drop_at us vs (length us) refl, n, drop_at xs ys (length xs) refl) at (ap (drop (length us)) e)
 
-falls_back : (us vs : List Member) → NeverFalls member_pair pair_cmp (us ++ vs) → NeverFalls member_pair pair_cmp vs
+pub falls_back : (us vs : List Member) → NeverFalls member_pair pair_cmp (us ++ vs) → NeverFalls member_pair pair_cmp vs
 falls_back [] vs h = h
 falls_back (u ∷ us) vs h = falls_back us vs h.1
 

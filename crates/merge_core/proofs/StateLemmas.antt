@@ -6,10 +6,9 @@ use Rattle.merge_core.proofs.Words.{ap, append-nil, arith, done, each_join, each
 use Rattle.merge_core.proofs.Words.{inputs_from, filter-append, get_or, get_or_default, given, inl, inr, length}
 use Rattle.merge_core.proofs.Words.{length-append, length-map, length-set, length_permutation, map, nil_from_length}
 use Rattle.merge_core.proofs.Words.{not-true, queued, refl, set, set-get_or, stays, suc, sym, true, waiting_pair}
-use Rattle.merge_core.proofs.Words.{waits_of, zero, cases_lt}
-use Rattle.std.proofs.Common.{take_all}
+use Rattle.merge_core.proofs.Words.{waits_of, zero, cases_lt, take_all}
 use Rattle.merge_core.proofs.InputLemmas.{filter_passes}
-use Rattle.merge_core.proofs.GroupLemmas.{filter_all, each_permuted, waits_beside, waits_here, waits_other}
+use Rattle.merge_core.proofs.GroupLemmas.{filter_all, each_permuted, waits_beside}
 use Rattle.merge_core.proofs.GroupLemmas.{waits_permuted, waits_queued}
 
 pub any_of : {X : Type 0} (xs : List X) (i : ℕ) → i < length xs → X
@@ -67,7 +66,7 @@ inputs_push n (x ∷ cs) ws c = grind (arith, inputs_push (n + 1) cs ws c)
 waits_none : (n : ℕ) (ws : List WaitingLine) → AllByRecursion (λ (w : WaitingLine). w.source < n) ws → waits_of n ws
     ≡ []
 waits_none n [] h = refl
-waits_none n (w ∷ ws) h = grind (arith, waits_other, waits_none n ws h.1)
+waits_none n (w ∷ ws) h = grind (arith, waits_none n ws h.1)
 
 pub placed_queued : (n i : ℕ) (ws ws' : List WaitingLine) (new : List Member) → i < n
     → AllByRecursion (λ (w : WaitingLine). w.source < n) ws → IsPermutation (queued i new ++ ws) ws'
@@ -187,7 +186,7 @@ module _ {past : List ℕ → Bool} {S : Type 0} {device : Ghosts S} {ss : List 
   still j = waits_permuted j m.queue (w ∷ m'.queue) p (few_wait was j)
 
   waits_now : waits_of w.source m.queue ≡ w.member ∷ waits_of w.source m'.queue
-  waits_now = sym (still w.source) ∙ waits_here w.source w m'.queue refl
+  waits_now = rw (← still w.source) (grind arith)
 
   pub none_left : waits_of w.source m'.queue ≡ []
   none_left =
@@ -202,7 +201,7 @@ module _ {past : List ℕ → Bool} {S : Type 0} {device : Ghosts S} {ss : List 
       let cs = m.cursors.items in
       let c = any_of cs i placed.0 in
       let now = inputs_set 0 i i cs m.queue m'.queue (get_or cs i c) (omega arith)
-      (λ j q. sym (waits_other j w m'.queue (λ e. absurd (omega arith))) ∙ still j) in
+      (λ j q. rw (← still j) (grind arith)) in
       grind (arith, inputs_at, set-get_or, none_left)
 
   pub popped_aligned : Aligned past device ss m'

@@ -11,20 +11,13 @@ use Rattle.merge_core.proofs.Words.{nat_cmp, slice_cmp, nat_list_cmp_total, and_
 use Rattle.merge_core.proofs.Words.{Ghosts, IsCutAt, IsIndex, MergeState, Reached, all_done, all_lines, collection}
 use Rattle.merge_core.proofs.Words.{inputs, inputs_from, zip, length-map, nil_from_length, read_lines, sum}
 use Rattle.merge_core.proofs.Words.{sum_by-cons, OverIndexes, OverTexts}
-use Rattle.merge_core.proofs.Many.{each_both, filter_out, each_filter}
+use Rattle.merge_core.proofs.Many.{each_both, each_filter}
 use Rattle.merge_core.proofs.InputLemmas.{filter_passes, TextRead}
 use Rattle.merge_core.proofs.PairOrder.{upto_itself, below_then, then_below, from_not_below, upto_upto}
 use Rattle.merge_core.proofs.GroupLemmas.{filter_all, filter_none, each_cut, each_waits}
 use Rattle.merge_core.proofs.MergeLemmas.{place_below, below_next, is_less, lower_by_pair}
 use Rattle.merge_core.specs.Runs.{IsPart}
-use Rattle.merge_core.proofs.SourceLemmas.{parts, run_after, IsSought, reached_read, reached_sought}
-
--- ---- lists
-
-pub falls_after : (us : List Member) (y : Member) (vs : List Member) → NeverFalls member_pair pair_cmp (us ++ y ∷ vs)
-    → AllByRecursion (λ k. Upto (member_pair y) (member_pair k)) vs
-falls_after [] y vs h = h.0
-falls_after (u ∷ us) y vs h = falls_after us y vs h.1
+use Rattle.merge_core.proofs.SourceLemmas.{parts, falls_back, run_after, IsSought, reached_read, reached_sought}
 
 -- ---- keys
 
@@ -77,7 +70,8 @@ module _ (past : List ℕ → Bool) (upto : Member → Bool) where
   rest_unread : (before : List Member) (m : Member) (rest ms : List Member) → ms ≡ before ++ m ∷ rest
       → NeverFalls member_pair pair_cmp ms → ((k : Member) → Upto (member_pair m) (member_pair k) → is_read k ≡ false)
       → AllByRecursion (λ m. is_read m ≡ false) (m ∷ rest)
-  rest_unread before m rest ms e falls f = (f m (upto_itself (member_pair m)), grind (arith, each_weaker, falls_after))
+  rest_unread before m rest ms e falls f =
+      (f m (upto_itself (member_pair m)), each_weaker f rest (falls_back before (m ∷ rest) (rw e at falls)).0)
 
 module _ {past : List ℕ → Bool} (upward : IsUpward past) (upto : Member → Bool) {t : List ℕ} {f : MergeInput}
     (r : TextRead past t f) (late : AllByRecursion (IsLate upto) f.waits)
@@ -258,7 +252,7 @@ module _ {past : List ℕ → Bool} {wanted : Member → Bool} {b : Option Pair}
         r.wanted_of ∙ wanted_parts wanted low is_lower r.all
             ∙ ap (λ l. l ++ filter wanted others) (grind arith),
         each_filter (λ m. low m ≡ false) wanted others
-            (each_rising member_place place_cmp place_cmp_total (λ m. low m ≡ false) _ (filter_out low r.all)),
+            (each_rising member_place place_cmp place_cmp_total (λ m. low m ≡ false) _ (each_weaker (λ m h. not-true (low m) h) _ (filter_passes (λ m. not (low m)) r.all))),
       )
 
   -- it is a front of what is wanted, and the rest stands above the bound

@@ -30,7 +30,6 @@ impl MergeState {
     ghost use Rattle.merge_core.specs.Openings.{AddedSource, Begun, OpenedAt};
 
     /// Adds a source, and reads the first line after the cursor.
-    #[tactic(auto, using(source_core::proofs::LongestLines::first_within))]
     fn add<S: Source, R: Range>(
         &mut self,
         source: &mut S,

@@ -86,18 +86,11 @@ returns-in_err-merge-clause-lines g c =
     let b = c.in_err-merge.ensures.ended.0 in
     grind (arith, err_from_is_err_and, lines, broke)
 
-kept : (g : Over) (c : After-merge g) → KeepsSources g.S.Source c.args.sources.now c.merge.new.sources
-kept g c = grind (arith, all_kept)
-
--- each byte of each source was given at most once
-once : (g : Over) (c : After-merge g) → AllGaveOnce g.S.Source c.args.sources.now c.merge.new.sources
-once g c = grind (arith, gave_once)
-
 pub returns-in_err-merge-clause-bytes : goal.returns-in_err-merge-clause-bytes
-returns-in_err-merge-clause-bytes g c = once g (goal.at.returns-in_err-merge-clause-bytes g c).After-merge
+returns-in_err-merge-clause-bytes g c = grind (arith, gave_once)
 
 pub returns-in_err-merge-clause-kept : goal.returns-in_err-merge-clause-kept
-returns-in_err-merge-clause-kept g c = kept g (goal.at.returns-in_err-merge-clause-kept g c).After-merge
+returns-in_err-merge-clause-kept g c = grind (arith, all_kept)
 
 pub returns : goal.returns
 returns g c =
@@ -109,7 +102,7 @@ returns g c =
     let taken = passed.so_far.taken in
     let reached = passed.so_far.reached in
     let wrote = wrote g at.In_ok-merge in
-    let kept = kept g at.After-merge in
+    let kept : KeepsSources device c.args.sources.now sources = grind (arith, all_kept) in
     record {
       kept = kept;
       fault = grind arith;
@@ -129,7 +122,7 @@ returns g c =
             text = rw (← all) wrote.0;
             count = rw (← all) wrote.1;
           };
-      bytes = once g at.After-merge;
+      bytes = grind (arith, gave_once);
       part = front g at.After-merge reached _ _ (rw append-nil at (prefix_whole _ _ _ [] wrote.0));
       lines = (taken, grind (arith, lines), wrote);
       most_lines = λ texts indexes known are most share.

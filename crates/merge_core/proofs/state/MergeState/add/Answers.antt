@@ -1,4 +1,5 @@
 use Rattle.merge_core.proofs.Words.{[], IsInput, arith, boxed_line, input_of}
+use Rattle.source_core.proofs.LongestLines.{first_within}
 use Rattle.merge_core.proofs.InputLemmas.{bad_named}
 use Rattle.merge_core.proofs.OpenLemmas.{input_fresh, first_read}
 use Rattle.merge_core.proofs.state.MergeState.add.Given.{Over}
@@ -13,6 +14,18 @@ fresh g c = input_fresh (g.R.Range.past c.args.range.now) _ _ c.args.cursor c.re
 
 pub returns-in_err-next-clause-source : goal.returns-in_err-next-clause-source
 returns-in_err-next-clause-source g c = grind (arith, bad_named, fresh)
+
+pub returns-in_err-next-clause-spent : goal.returns-in_err-next-clause-spent
+returns-in_err-next-clause-spent g c = grind (arith, first_within)
+
+pub returns-in_err-push-clause-spent : goal.returns-in_err-push-clause-spent
+returns-in_err-push-clause-spent g c = grind (arith, first_within)
+
+pub returns-in_err-enqueue-clause-spent : goal.returns-in_err-enqueue-clause-spent
+returns-in_err-enqueue-clause-spent g c = grind (arith, first_within)
+
+pub returns-clause-spent : goal.returns-clause-spent
+returns-clause-spent g c = grind (arith, first_within)
 
 pub returns-clause-added : goal.returns-clause-added
 returns-clause-added g c =
