@@ -252,7 +252,8 @@ module _ {past : List ℕ → Bool} {wanted : Member → Bool} {b : Option Pair}
         r.wanted_of ∙ wanted_parts wanted low is_lower r.all
             ∙ ap (λ l. l ++ filter wanted others) (grind arith),
         each_filter (λ m. low m ≡ false) wanted others
-            (each_rising member_place place_cmp place_cmp_total (λ m. low m ≡ false) _ (each_weaker (λ m h. not-true (low m) h) _ (filter_passes (λ m. not (low m)) r.all))),
+            (each_rising member_place place_cmp place_cmp_total (λ m. low m ≡ false) _
+            (each_weaker (λ m. not-true (low m)) _ (filter_passes (λ m. not (low m)) r.all))),
       )
 
   -- it is a front of what is wanted, and the rest stands above the bound

@@ -19,7 +19,7 @@ use source_core::{Cursor, Found, Source, search};
 use std::alloc::Global;
 
 /// The merge of sources that were opened by a search.
-#[derive(Debug, Drop)]
+#[derive(Drop)]
 pub struct OpenedMerge {
     pub merge: MergeState,
     /// The number of steps of the searches. It saturates at 2^64 - 1.

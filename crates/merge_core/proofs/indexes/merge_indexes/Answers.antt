@@ -11,9 +11,8 @@ use Rattle.merge_core.proofs.SourceLemmas.{gave_once, none_below_empty, taken_li
 use Rattle.merge_core.proofs.SourceLemmas.{indexes_read, reached_read, cut_at_start, parts}
 use Rattle.merge_core.proofs.OpenLemmas.{begun_of}
 use Rattle.merge_core.proofs.StateLemmas.{cursors_of}
-use Rattle.merge_core.proofs.indexes.merge_indexes.Given.{Over}
-use Rattle.merge_core.proofs.indexes.merge_indexes.Goals.{After-merge, In_err-merge, In_ok-merge}
 use Rattle.merge_core.proofs.Many.{each_second}
+use Rattle.merge_core.proofs.indexes.merge_indexes.Goals.{After-merge, In_err-merge, In_ok-merge}
 use Rattle.merge_core.proofs.indexes.merge_indexes.Goals as goal
 
 abbrev never : List ℕ → Bool
@@ -27,11 +26,11 @@ filter_every [] = refl
 filter_every (x ∷ xs) = ap (λ l. x ∷ l) (filter_every xs)
 
 -- each source is read from its start on
-begun : (g : Over) (c : After-merge g) → AllByRecursion (λ x. x.1.start ≡ 0)
+begun : (g : _) (c : After-merge g) → AllByRecursion (λ x. x.1.start ≡ 0)
     (zip c.open_at.new.sources c.in_ok-opened.opened.merge.cursors.items)
 begun g c = begun_of g.S.Source _ refl _ _ c.in_ok-opened.ensures.begun.opened
 
-module _ (g : Over) (c : After-merge g) {ss : List g.row.S.Denot} {m : MergeState} {b : Option Pair}
+module _ (g : _) (c : After-merge g) {ss : List g.row.S.Denot} {m : MergeState} {b : Option Pair}
     {taken : List Member} (reached : Reached never g.S.Source
     c.open_at.new.sources c.in_ok-opened.opened.merge ss m b taken) where
   -- of sources that are indexes, what was taken is a front of their collection
@@ -52,7 +51,7 @@ module _ (g : Over) (c : After-merge g) {ss : List g.row.S.Denot} {m : MergeStat
   lines = rw (← c.in_ok-opened.ensures.sources.0.0) (grind (arith, taken_lines))
 
 -- all lines that were taken were written and counted
-wrote : (g : Over) (c : In_ok-merge g)
+wrote : (g : _) (c : In_ok-merge g)
     → Appends (g.O.Output.written c.args.out.now) (g.O.Output.written c.merge.new.out)
     (lines_text c.in_ok-merge.ensures.ended.so_far.taken)
     × (c.merge.new.sink.count ≡ min (length c.in_ok-merge.ensures.ended.so_far.taken) (2 ^ 64 - 1))
@@ -61,7 +60,7 @@ wrote g c =
     c.in_ok-merge.ensures.ended.so_far.came c.new-writer.result out (Appends-none out, c.new-writer.ensures)
 
 -- or a prefix of them
-broke : (g : Over) (c : In_err-merge g) → AppendsPrefix (g.O.Output.written c.args.out.now)
+broke : (g : _) (c : In_err-merge g) → AppendsPrefix (g.O.Output.written c.args.out.now)
     (g.O.Output.written c.merge.new.out) (lines_text c.in_err-merge.ensures.ended.0.taken)
 broke g c =
     let out = g.O.Output.written c.args.out.now in

@@ -5,16 +5,15 @@ use Rattle.merge_core.proofs.Words.{member_pair, pair_cmp_total, refl, stays, tr
 use Rattle.merge_core.proofs.InputLemmas.{LineRead, all_inside, all_taken, all_upto, bad_named, done_next, input_end}
 use Rattle.merge_core.proofs.InputLemmas.{input_more, given_next, order_named, same_stays, settled_more}
 use Rattle.merge_core.proofs.PairOrder.{from_not_below, upto_upto}
-use Rattle.merge_core.proofs.line_buffers.LineBuffers.read_group.Given.{Over}
-use Rattle.merge_core.proofs.line_buffers.LineBuffers.read_group.Goals.{After-compare_pair, After-next_line}
 use Rattle.merge_core.proofs.CountLemmas.{group_most}
+use Rattle.merge_core.proofs.line_buffers.LineBuffers.read_group.Goals.{After-compare_pair, After-next_line}
 use Rattle.merge_core.proofs.line_buffers.LineBuffers.read_group.Goals as goal
 
 length_waits : (past : List ℕ → Bool) (m : Member) → length (filter (stays past) (m ∷ [])) ≤ 1
 length_waits past m = grind arith
 
 -- a line was read that isn't below the first one
-was_read : (g : Over) (c : After-compare_pair g) → is_lt c.compare_pair.result ≡ false
+was_read : (g : _) (c : After-compare_pair g) → is_lt c.compare_pair.result ≡ false
     → LineRead (g.R.Range.past c.args.range.now) (g.S.Source.text c.next_line.new.source)
     (g.S.Source.extent c.next_line.new.source) c.loop-line.cursor c.next_line.new.cursor c.in-Some.line.value
 was_read g c not_less =
@@ -37,7 +36,7 @@ was_read g c not_less =
     grind arith
 
 -- before the call, all lines that were read had been taken
-taken_before : (g : Over) (c : After-next_line g) (t : List ℕ) → g.S.Source.text c.args.source.now ≡ Some t
+taken_before : (g : _) (c : After-next_line g) (t : List ℕ) → g.S.Source.text c.args.source.now ≡ Some t
     → done (g.R.Range.past c.args.range.now) t (input_of c.args.cursor.now []) ≡ given t c.args.cursor.now
 taken_before g c t e = all_taken (c.requires.input.told t e) (c.requires.due.last t e)
 

@@ -2,12 +2,11 @@ use Rattle.merge_core.proofs.Words.{[], IsInput, arith, boxed_line, input_of}
 use Rattle.source_core.proofs.LongestLines.{first_within}
 use Rattle.merge_core.proofs.InputLemmas.{bad_named}
 use Rattle.merge_core.proofs.OpenLemmas.{input_fresh, first_read}
-use Rattle.merge_core.proofs.state.MergeState.add.Given.{Over}
 use Rattle.merge_core.proofs.state.MergeState.add.Goals.{After-next_line}
 use Rattle.merge_core.proofs.state.MergeState.add.Goals as goal
 
 -- before the first line is read
-fresh : (g : Over) (c : After-next_line g) → IsInput (g.R.Range.past c.args.range.now)
+fresh : (g : _) (c : After-next_line g) → IsInput (g.R.Range.past c.args.range.now)
     (g.S.Source.text c.args.source.now) (g.S.Source.extent c.args.source.now) (input_of c.args.cursor [])
 fresh g c = input_fresh (g.R.Range.past c.args.range.now) _ _ c.args.cursor c.requires.stands c.requires.fresh.none
     c.requires.fresh.there c.requires.begins

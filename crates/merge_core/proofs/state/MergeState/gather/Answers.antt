@@ -5,14 +5,13 @@ use Rattle.merge_core.proofs.Words.{OverTexts, map, HaltedGroup, ◌≡◌, IsAb
 use Rattle.merge_core.proofs.PairOrder.{upto_itself}
 use Rattle.merge_core.proofs.MergeLemmas.{on_fault, Gathers, TakenNext, gathers_start, taken_next, gathers_on}
 use Rattle.merge_core.proofs.GroupLemmas.{AreBelow, from_waited, each_permuted, not_before}
-use Rattle.merge_core.proofs.state.MergeState.gather.Given.{Over}
-use Rattle.merge_core.proofs.state.MergeState.gather.Goals.{After-read_on, After-push, In_ok-read_on}
 use Rattle.merge_core.proofs.SourceLemmas.{each_done}
 use Rattle.merge_core.proofs.StateLemmas.{long_of}
+use Rattle.merge_core.proofs.state.MergeState.gather.Goals.{After-read_on, After-push, In_ok-read_on}
 use Rattle.merge_core.proofs.state.MergeState.gather.Goals as goal
 
 -- what a source's further lines make of the group
-drained : (g : Over) (c : In_ok-read_on g) → Gathers (g.R.Range.past c.args.range.now) g.S.Source
+drained : (g : _) (c : In_ok-read_on g) → Gathers (g.R.Range.past c.args.range.now) g.S.Source
     c.args.sources.now c.args.self.now (member_pair c.with_start-keyed.result) (c.sources.i + 1)
     c.read_on.new.sources c.read_on.new.self (c.with_start-keyed.result ∷ boxed_lines c.read_on.new.rest.items)
 drained g c =
@@ -24,14 +23,14 @@ drained g c =
     (from_waited pair (c.sources.i + 1) c.sources.i read.took.input.waits _ _ read.later read.queue_is inv.gathers.from)
 
 -- the line that is taken next
-abbrev taken_line : (g : Over) → After-push g → WaitingLine
+abbrev taken_line : (g : _) → After-push g → WaitingLine
 taken_line g c = record { member = c.next-in-sources.inside.line.value; source = c.next-in-sources.inside.source }
 
-abbrev popped_merge : (g : Over) → After-push g → MergeState
+abbrev popped_merge : (g : _) → After-push g → MergeState
 popped_merge g c = record c.read_on.new.self { queue = c.pop_at.new.self }
 
 -- what it makes of the group
-taken : (g : Over) (c : After-push g)
+taken : (g : _) (c : After-push g)
     (h : Gathers (g.R.Range.past c.args.range.now) g.S.Source
     c.args.sources.now c.args.self.now (member_pair c.with_start-keyed.result) (c.sources.i + 1)
     c.read_on.new.sources c.read_on.new.self (c.with_start-keyed.result ∷ boxed_lines c.read_on.new.rest.items))
@@ -77,7 +76,7 @@ sources-preserved g c =
     grind (arith, map-append)
 
 -- the sources were read up to the pair
-read_to : (g : Over) (c : After-read_on g) → OverTexts (map g.S.Source.text c.args.sources.now) (λ texts.
+read_to : (g : _) (c : After-read_on g) → OverTexts (map g.S.Source.text c.args.sources.now) (λ texts.
     AreBelow (member_pair c.with_start-keyed.result) (all_done (g.R.Range.past c.args.range.now) texts
     (inputs c.args.self.now))
     → AreReadTo (g.R.Range.past c.args.range.now) g.S.Source.text (Some (member_pair c.with_start-keyed.result))
@@ -93,7 +92,7 @@ pub returns-in_default-pop_at : goal.returns-in_default-pop_at
 returns-in_default-pop_at g c = grind (arith, drained)
 
 -- the lines of the pair were being taken
-halted : (g : Over) (c : After-read_on g) (m : MergeState) → m.cursors.items ≡ c.read_on.new.self.cursors.items
+halted : (g : _) (c : After-read_on g) (m : MergeState) → m.cursors.items ≡ c.read_on.new.self.cursors.items
     → HaltedGroup (g.R.Range.past c.args.range.now) g.S.Source.text c.args.sources.now c.args.self.now
     c.read_on.new.sources m
 halted g c m same = record {

@@ -5,7 +5,6 @@ use Rattle.merge_core.proofs.Words.{refl, set, common_steps, EachDone}
 use Rattle.merge_core.proofs.CountLemmas.{are_read_to, read_on}
 use Rattle.merge_core.proofs.Many.{Move, moved_set, map_set_same, unread_set}
 use Rattle.merge_core.proofs.StateLemmas.{input_at, long_of, idle_here, waited_aligned, waited_inputs, waited_length}
-use Rattle.merge_core.proofs.state.MergeState.read_on.Given.{Over}
 use Rattle.merge_core.proofs.state.MergeState.read_on.Goals.{After-read_group}
 use Rattle.merge_core.proofs.state.MergeState.read_on.Goals as goal
 
@@ -18,7 +17,7 @@ read_group-requires g c =
     grind (arith, here, input_at)
 
 -- the source was read on
-module _ (g : Over) (c : After-read_group g) where
+module _ (g : _) (c : After-read_group g) where
   abbrev was : MergeInput
   was = input_of c.index_mut.result.now []
 

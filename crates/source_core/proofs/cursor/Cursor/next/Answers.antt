@@ -3,25 +3,24 @@ use Rattle.source_core.proofs.Words.{length-append, length-take, length-drop, Ar
 use Rattle.source_core.proofs.Parts.{cut_short, given_more, given_out}
 use Rattle.source_core.proofs.LongestLines.{front_least, reads_least}
 use Rattle.source_core.proofs.WindowLemmas.{held_behind, held_reads}
-use Rattle.source_core.proofs.cursor.Cursor.next.Given.{Over}
 use Rattle.source_core.proofs.cursor.Cursor.next.Goals.{After-line_part-length, In_ok-extend_from_slice}
 use Rattle.source_core.proofs.cursor.Cursor.next.Goals as goal
 
 -- what is held where the line goes on
-abbrev held : (g : Over) → After-line_part-length g → List ℕ
+abbrev held : (g : _) → After-line_part-length g → List ℕ
 held g c = held_from c.hold.new.self c.loop-self.self-inside.at
 
 -- these are the source's bytes
-stands : (g : Over) (c : After-line_part-length g) → AreBytesAt (g.S.Source.text c.hold.new.source)
+stands : (g : _) (c : After-line_part-length g) → AreBytesAt (g.S.Source.text c.hold.new.source)
     (g.S.Source.extent c.hold.new.source) c.loop-self.self-inside.at (held g c)
 stands g c = grind arith
 
 -- the part that was found is one of them
-inside : (g : Over) (c : After-line_part-length g) → c.line_part-length.result.0 ≤ length (held g c)
+inside : (g : _) (c : After-line_part-length g) → c.line_part-length.result.0 ≤ length (held g c)
 inside g c = grind arith
 
 -- the line goes on with it
-reads : (g : Over) (c : After-line_part-length g) (t : List ℕ) → g.S.Source.text c.args.source.now ≡ Some t
+reads : (g : _) (c : After-line_part-length g) (t : List ℕ) → g.S.Source.text c.args.source.now ≡ Some t
     → ReadsOn t c.args.self.now.at (c.loop-self.line.items ++ take c.line_part-length.result.0 (held g c))
     c.line_part-length.result.1
 reads g c t e =
@@ -32,25 +31,34 @@ reads g c t e =
     (c.in_ok-hold.ensures.source.0.0 ∙ inv.text ∙ e) (inside g c) refl
     (rw c.from-held.ensures at c.line_part-length.ensures.part) (inv.told t e).1
 
-grown : (g : Over) (c : In_ok-extend_from_slice g) → c.extend_from_slice.new.self.items ≡ c.loop-self.line.items
+grown : (g : _) (c : In_ok-extend_from_slice g) → c.extend_from_slice.new.self.items ≡ c.loop-self.line.items
     ++ take c.line_part-length.result.0 (held_from c.hold.new.self c.loop-self.self-inside.at)
 grown g c = search rules
 
-longer : (g : Over) (c : In_ok-extend_from_slice g) → length c.extend_from_slice.new.self.items
+longer : (g : _) (c : In_ok-extend_from_slice g) → length c.extend_from_slice.new.self.items
     ≡ length c.loop-self.line.items + c.line_part-length.result.0
 longer g c = grind (arith, length-take)
 
 -- and the source stands behind it
-behind : (g : Over) (c : After-line_part-length g) → AreBytesAt (g.S.Source.text c.hold.new.source)
+behind : (g : _) (c : After-line_part-length g) → AreBytesAt (g.S.Source.text c.hold.new.source)
     (g.S.Source.extent c.hold.new.source) (c.loop-self.self-inside.at + c.line_part-length.result.0)
     (held_from c.hold.new.self (c.loop-self.self-inside.at + c.line_part-length.result.0))
 behind g c = rw (held_behind c.hold.new.self c.loop-self.self-inside.at c.line_part-length.result.0 (inside g c))
     (given_out _ _ _ _ _ (stands g c) (inside g c))
 
-left : (g : Over) (c : After-line_part-length g)
+left : (g : _) (c : After-line_part-length g)
     → length (held_from c.hold.new.self (c.loop-self.self-inside.at + c.line_part-length.result.0))
     ≡ length (held g c) - c.line_part-length.result.0
 left g c = grind (arith, length-drop)
+
+pub returns-in_err-hold : goal.returns-in_err-hold
+returns-in_err-hold g c = grind arith
+
+pub returns-in_err-extend_from_slice : goal.returns-in_err-extend_from_slice
+returns-in_err-extend_from_slice g c = grind arith
+
+pub returns-then-is_empty : goal.returns-then-is_empty
+returns-then-is_empty g c = grind (arith, common_steps)
 
 pub returns-then-length-len-clause-long : goal.returns-then-length-len-clause-long
 returns-then-length-len-clause-long g c = λ t e _.
