@@ -1,23 +1,21 @@
 -- How far sources were read: in lines and in bytes.
-use Rattle.merge_core.proofs.Words.{[], ℕ, ◌++◌, ◌+◌, ◌∙◌, ◌∷◌, ◌≡◌, ◌≤◌, AllByRecursion, AreInputs, AreReadTo, Bool}
-use Rattle.merge_core.proofs.Words.{CursorState, EndsAt, MergeInput, Ghosts, IsUpto, LINE_LIMIT, List, Option, Pair}
-use Rattle.merge_core.proofs.Words.{ReadTo, Some, all_done, ap, append-nil, append_assoc, arith, bytes_of, done, drop}
-use Rattle.merge_core.proofs.Words.{drop-set-lt, input_of, first_length, flat_map-append, get_or, given, length}
-use Rattle.merge_core.proofs.Words.{length-append, length-drop, line_entry, lines, longest, member_pair, read_lines}
-use Rattle.merge_core.proofs.Words.{refl, set, suc, sym, take, take-append-drop, take-map, ◌<◌, AllZip, Grouped}
-use Rattle.merge_core.proofs.Words.{IsCut, IsIndex, Known, Member, MergeState, Reached, WaitingLine, all_lines}
-use Rattle.merge_core.proofs.Words.{each_weaker, false, inputs, filter, filter-append, is_low, is_of, length-map}
-use Rattle.merge_core.proofs.Words.{length-take, map, map-append, member_of, nil_from_length, not, sum, sum_by-cons}
-use Rattle.merge_core.proofs.Words.{true, waits_of, zero, zip, lines_text, drop_more_same, get_or-drop, AllGaveWithin}
-use Rattle.merge_core.proofs.Words.{take-take, is_at, OverTexts, EachDone, IsInputOf, OverShares, AreOpened, IsInput}
+use Rattle.merge_core.proofs.Words.{ℕ, IsUpto, Option, ReadTo, get_or, length, AllZip, Member, Reached, inputs, IsInput}
+use Rattle.merge_core.proofs.Words.{◌++◌, Bool, List, given, lines, IsCut, Known, false, filter, is_low, is_of, is_at}
+use Rattle.merge_core.proofs.Words.{◌+◌, ◌∙◌, ◌∷◌, ◌≡◌, ◌≤◌, Pair, Some, done, drop, refl, set, suc, take, true, zero}
+use Rattle.merge_core.proofs.Words.{AllByRecursion, flat_map-append, take-append-drop, nil_from_length, drop_more_same}
+use Rattle.merge_core.proofs.Words.{AreInputs, read_lines, MergeState, length-map, map-append, lines_text, OverShares}
+use Rattle.merge_core.proofs.Words.{AreReadTo, EndsAt, all_lines, member_of, take-take, OverTexts, IsInputOf, AreOpened}
+use Rattle.merge_core.proofs.Words.{[], ap, sym, ◌<◌, map, not, sum, zip}
+use Rattle.merge_core.proofs.Words.{CursorState, arith, drop-set-lt, length-drop, member_pair, WaitingLine, each_weaker}
+use Rattle.merge_core.proofs.Words.{MergeInput, append_assoc, first_length, length-append, filter-append, AllGaveWithin}
+use Rattle.merge_core.proofs.Words.{Ghosts, bytes_of, input_of, longest, take-map, Grouped, IsIndex, waits_of, EachDone}
+use Rattle.merge_core.proofs.Words.{LINE_LIMIT, all_done, append-nil, line_entry, length-take, sum_by-cons, get_or-drop}
 use Rattle.source_core.proofs.LongestLines.{first_most, longest_drop}
 use Rattle.merge_core.proofs.InputLemmas.{all_taken, all_upto, done_cut, done_within, TextRead}
-use Rattle.merge_core.proofs.Many.{each_both, filter_fewer, filter_weaker, filter_front, each_take, zip_set}
-use Rattle.merge_core.proofs.Many.{each_replaced, Move}
+use Rattle.merge_core.proofs.Many.{each_both, filter_fewer, filter_weaker, filter_front, each_take, each_replaced, Move}
+use Rattle.merge_core.proofs.{MergeLemmas.gathered_now, Many.zip_set, TakenLemmas.members_are}
 use Rattle.merge_core.proofs.GroupLemmas.{each_cut, filter_all}
 use Rattle.merge_core.proofs.StateLemmas.{cursors_of, few_wait, long_of}
-use Rattle.merge_core.proofs.MergeLemmas.{gathered_now}
-use Rattle.merge_core.proofs.TakenLemmas.{members_are}
 use Rattle.merge_core.proofs.SourceLemmas.{reached_long, run_after, IsSought, each_done, reached_read}
 use Rattle.std.proofs.lemmas.List.Filters.{length-filter_both}
 

@@ -1,18 +1,15 @@
 -- The lines that wait: whose turn comes first, and the lines of one pair, taken of one source after another.
-use Rattle.merge_core.proofs.Words.{nil_from_length, [], ℕ, ◌++◌, ◌<◌, ◌∙◌, ◌∷◌, ◌≡◌, ◌≢◌, ◌≤◌, AllByRecursion}
-use Rattle.merge_core.proofs.Words.{IsPermutation, List, Member, WaitingLine, arith, cond-false, cond-true}
-use Rattle.merge_core.proofs.Words.{each_weaker, false, filter, get_or, is_of, length, queued, refl, subst, sym, true}
-use Rattle.merge_core.proofs.Words.{waits_of, Alike, AllBeyond, Below, Equal, MatchOption, NoneBefore, NoneBelow}
-use Rattle.merge_core.proofs.Words.{Option, Pair, Upto, is_eq, is_lt, length_permutation, pair_cmp, pair_cmp_total}
-use Rattle.merge_core.proofs.Words.{turn_cmp, waiting_pair, ◌+◌, ◌-◌, Bool, Gathered, IsFrom, ap, append-nil}
-use Rattle.merge_core.proofs.Words.{append_assoc, drop, drop-set-lt, each_join, filter-append, flat_map}
-use Rattle.merge_core.proofs.Words.{flat_map-append, member_pair, set, take, take-append-drop, take_more}
-use Rattle.merge_core.proofs.Words.{take_more_set, tied_back, common_steps, cond, IfSome, drop-drop, All-permutation}
-use Rattle.merge_core.proofs.Words.{sum_by-IsPermutation, All-from_recursion, recursion_from_All, length-map}
-use Rattle.merge_core.proofs.Words.{length-filter}
-use Rattle.merge_core.proofs.PairOrder.{from_not_below, below_then, below_upto, same_upto, same_from, upto_upto}
-use Rattle.merge_core.proofs.PairOrder.{not_below_itself}
-use Rattle.merge_core.proofs.Many.{each_both}
+use Rattle.merge_core.proofs.Words.{nil_from_length, AllByRecursion, pair_cmp_total, flat_map-append, All-permutation}
+use Rattle.merge_core.proofs.Words.{[], cond-false, AllBeyond, NoneBefore, NoneBelow, append-nil, each_join, length-map}
+use Rattle.merge_core.proofs.Words.{ℕ, ◌++◌, List, refl, true, Below, Equal, Pair, Upto, is_eq, is_lt, Bool, drop, take}
+use Rattle.merge_core.proofs.Words.{◌<◌, take-append-drop, sum_by-IsPermutation, All-from_recursion, recursion_from_All}
+use Rattle.merge_core.proofs.Words.{◌∙◌, WaitingLine, each_weaker, append_assoc, drop-set-lt, member_pair, common_steps}
+use Rattle.merge_core.proofs.Words.{◌∷◌, ◌≡◌, ◌≢◌, ◌≤◌, sym, ◌+◌, ◌-◌, ap, set, cond}
+use Rattle.merge_core.proofs.Words.{IsPermutation, cond-true, waiting_pair, filter-append, take_more_set, length-filter}
+use Rattle.merge_core.proofs.Words.{Member, arith, false, filter, get_or, is_of, length, queued, subst, Alike, IsFrom}
+use Rattle.merge_core.proofs.Words.{waits_of, pair_cmp, turn_cmp, Gathered, flat_map, take_more, tied_back, drop-drop}
+use Rattle.merge_core.proofs.PairOrder.{from_not_below, below_then, below_upto, same_upto, same_from, not_below_itself}
+use Rattle.merge_core.proofs.{PairOrder.upto_upto, Many.each_both}
 
 pub each_permuted : {X : Type 0} (P : X → Type 0) (xs ys : List X) → IsPermutation xs ys → AllByRecursion P xs
     → AllByRecursion P ys

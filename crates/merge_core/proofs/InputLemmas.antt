@@ -1,13 +1,12 @@
 -- What one line more makes of an input.
-use Rattle.merge_core.proofs.Words.{[], ℕ, ◌++◌, ◌+◌, ◌-◌, ◌<◌, ◌∙◌, ◌∷◌, ◌≡◌, ◌≤◌, ◌⊎◌, Alike, AllByRecursion, Below}
-use Rattle.merge_core.proofs.Words.{Bool, CursorState, EndsAt, IsInput, MergeInput, FeedFault, IsNextLine, IsSettled}
-use Rattle.merge_core.proofs.Words.{LINE_LIMIT, List, Member, NeverFalls, None, Option, Pair, Some, Stands, Upto, ap}
-use Rattle.merge_core.proofs.Words.{append-nil, append_assoc, arith, done, drop, drop_all, each_join, each_weaker}
-use Rattle.merge_core.proofs.Words.{false, input_of, filter, filter-append, first_length, flat_map-append, given, inl}
-use Rattle.merge_core.proofs.Words.{inr, length, length-append, length-map, length-take, line_entry, lines, map}
-use Rattle.merge_core.proofs.Words.{map-append, member_pair, not-true, pair_cmp, pair_cmp_total, read_lines, refl}
-use Rattle.merge_core.proofs.Words.{stays, suc, sym, take, take-append-drop, true, nil_from_length, take_at, EndsPast}
-use Rattle.merge_core.proofs.Words.{IsInputOf, take_all}
+use Rattle.merge_core.proofs.Words.{[], ◌++◌, Bool, List, None, Pair, Some, Upto, done, drop, given, lines, refl, stays}
+use Rattle.merge_core.proofs.Words.{ℕ, IsSettled, append-nil, each_join, length-map, line_entry, map-append, read_lines}
+use Rattle.merge_core.proofs.Words.{◌+◌, IsInput, drop_all, input_of, not-true, pair_cmp, EndsPast, IsInputOf, take_all}
+use Rattle.merge_core.proofs.Words.{Alike, Below, EndsAt, Member, Option, Stands, arith, false, filter, length, take_at}
+use Rattle.merge_core.proofs.Words.{AllByRecursion, flat_map-append, pair_cmp_total, take-append-drop, nil_from_length}
+use Rattle.merge_core.proofs.Words.{◌-◌, ◌<◌, ◌∙◌, ◌∷◌, ◌≡◌, ◌≤◌, ◌⊎◌, ap, inl, inr, map, suc, sym, take, true}
+use Rattle.merge_core.proofs.Words.{CursorState, append_assoc, each_weaker, filter-append, first_length, length-append}
+use Rattle.merge_core.proofs.Words.{MergeInput, FeedFault, IsNextLine, LINE_LIMIT, NeverFalls, length-take, member_pair}
 use Rattle.std.specs.FinMap.{nat_cmp-IsAntisymmetric, slice_cmp-IsAntisymmetric}
 use Rattle.cdxj_core.specs.Lines.{body_of}
 use Rattle.cdxj_core.proofs.MemberLemmas.{entry_is_short, long_line_none}

@@ -1,9 +1,8 @@
 -- Lists, and lists of sources and inputs, seen as one list of pairs.
-use Rattle.merge_core.proofs.Words.{[], ℕ, ◌∷◌, ◌≡◌, ◌≤◌, AllByRecursion, Bool, List, arith, cond-true, false, filter}
-use Rattle.merge_core.proofs.Words.{filter-append, length, length-append, not, suc, take, take-append-drop, true, ◌+◌}
-use Rattle.merge_core.proofs.Words.{◌-◌, ◌<◌, AllZip, CursorState, Ghosts, ap, get_or, get_or-map, map, map-set, set}
-use Rattle.merge_core.proofs.Words.{set-get_or, sum-map, unread, zip, sum_by-set, get_or-zip, length-zip, Moved}
-use Rattle.merge_core.proofs.Words.{nil_from_length}
+use Rattle.merge_core.proofs.Words.{[], AllByRecursion, filter-append, length-append, take-append-drop, nil_from_length}
+use Rattle.merge_core.proofs.Words.{◌∷◌, arith, filter, length, AllZip, Ghosts, get_or, map-set, sum-map, unread, Moved}
+use Rattle.merge_core.proofs.Words.{cond-true, CursorState, get_or-map, set-get_or, sum_by-set, get_or-zip, length-zip}
+use Rattle.merge_core.proofs.Words.{ℕ, ◌≡◌, ◌≤◌, Bool, List, suc, take, true, ◌+◌, ◌-◌, ◌<◌, ap, map, set, zip}
 
 -- ---- lists that are filtered, and what holds of each of a list
 

@@ -1,25 +1,22 @@
 -- The steps of a merge: how a group is gathered, and what one group more makes of it.
-use Rattle.merge_core.proofs.GroupLemmas.{filter_none, filter_all, each_permuted, from_popped, AreAt, AreBelow}
-use Rattle.merge_core.proofs.GroupLemmas.{source_more}
-use Rattle.merge_core.proofs.Words.{ℕ, ◌<◌, ◌≡◌, IsErrAnd, List, Result, arith, get_or, length, set, [], ◌++◌, ◌+◌}
-use Rattle.merge_core.proofs.Words.{◌∷◌, ◌≤◌, Aligned, Alike, AllByRecursion, AreSettled, Bool, MergeInput, Gathered}
-use Rattle.merge_core.proofs.Words.{Ghosts, IsDueAt, IsFrom, IsPermutation, IsSettled, Member, MergeState, NoneBefore}
-use Rattle.merge_core.proofs.Words.{NoneBelow, Option, Pair, TookOf, WaitingLine, all_done, append-nil, append_assoc}
-use Rattle.merge_core.proofs.Words.{done, drop, each_join, each_weaker, inputs, flat_map, length_permutation}
-use Rattle.merge_core.proofs.Words.{member_pair, sym, to_come, true, waiting_pair, zip, AllMoved, Below, Grouped}
-use Rattle.merge_core.proofs.Words.{Grows, HasEntry, IsAbove, IsLower, IsUpto, Less, None, Ordering, Reached, Ready}
-use Rattle.merge_core.proofs.Words.{SoFar, Some, each_rising, is_gt, is_low, is_lt, member_place, place_cmp}
-use Rattle.merge_core.proofs.Words.{place_cmp_total, rising, rising_split, MatchResult, set-set, get_or-set_same}
-use Rattle.merge_core.proofs.Words.{Rises, rises_rising, MergePoint, StillWants, BrokenMerge, HaltedGroup}
-use Rattle.merge_core.proofs.Words.{HaltedMerge, Known, OverTexts, map, ◌∙◌, get_or-map, length-map, set-get_or}
-use Rattle.merge_core.proofs.Words.{AllZip-long, lines, EachDone}
+use Rattle.merge_core.proofs.GroupLemmas.{filter_none, filter_all, each_permuted, from_popped, AreBelow, source_more}
+use Rattle.merge_core.proofs.{SourceLemmas.all_kept, GroupLemmas.AreAt, OpenLemmas.none_done}
+use Rattle.merge_core.proofs.Words.{ℕ, Result, get_or, length, Ghosts, IsFrom, Member, Option, TookOf, Reached, set-set}
+use Rattle.merge_core.proofs.Words.{IsErrAnd, Gathered, all_done, each_join, flat_map, AllMoved, place_cmp, OverTexts}
+use Rattle.merge_core.proofs.Words.{List, ◌++◌, Bool, Pair, done, drop, true, Less, None, Some, Rises, Known, lines}
+use Rattle.merge_core.proofs.Words.{arith, each_weaker, member_pair, each_rising, MatchResult, BrokenMerge, HaltedGroup}
+use Rattle.merge_core.proofs.Words.{[], Alike, inputs, Below, Grows, IsUpto, Ready, SoFar, is_gt, is_low, is_lt, rising}
+use Rattle.merge_core.proofs.Words.{◌<◌, ◌≡◌, set, ◌+◌, ◌∷◌, ◌≤◌, sym, zip, map, ◌∙◌}
+use Rattle.merge_core.proofs.Words.{Aligned, IsDueAt, to_come, Grouped, HasEntry, IsAbove, IsLower, Ordering, EachDone}
+use Rattle.merge_core.proofs.Words.{AllByRecursion, IsPermutation, length_permutation, place_cmp_total, get_or-set_same}
+use Rattle.merge_core.proofs.Words.{AreSettled, MergeInput, IsSettled, MergeState, NoneBefore, HaltedMerge, AllZip-long}
+use Rattle.merge_core.proofs.Words.{NoneBelow, append-nil, MergePoint, StillWants, get_or-map, length-map, set-get_or}
+use Rattle.merge_core.proofs.Words.{WaitingLine, append_assoc, waiting_pair, member_place, rising_split, rises_rising}
 use Rattle.merge_core.proofs.Many.{map_set_same, zip_set, zip_at, length_zip, moved_trans, moved_still}
-use Rattle.merge_core.proofs.StateLemmas.{any_of, idle, long_of, inside_sources, none_left, popped_aligned}
-use Rattle.merge_core.proofs.StateLemmas.{popped_inputs, popped, popped_due, zip_put, zip_get}
-use Rattle.merge_core.proofs.SourceLemmas.{all_kept}
+use Rattle.merge_core.proofs.StateLemmas.{long_of, inside_sources, none_left, popped_aligned, popped_inputs, popped_due}
+use Rattle.merge_core.proofs.StateLemmas.{any_of, idle, popped, zip_put, zip_get}
 use Rattle.merge_core.specs.declared.sink.Sink.{Ghosts as SinkGhosts}
 use Rattle.merge_core.proofs.PairOrder.{from_not_below, below_then, then_below, below_upto, same_upto, same_from}
-use Rattle.merge_core.proofs.OpenLemmas.{none_done}
 
 -- ---- the steps of a group's gathering
 

@@ -1,15 +1,12 @@
 -- The opening of sources, one after another.
-use Rattle.merge_core.proofs.Words.{[], ℕ, ◌++◌, ◌+◌, ◌<◌, ◌∙◌, ◌∷◌, ◌≡◌, ◌≤◌, AllByRecursion, Bool, CursorState}
-use Rattle.merge_core.proofs.Words.{IsInput, MergeInput, Ghosts, IsCutAt, IsLeast, IsNextLine, IsSettled, List}
-use Rattle.merge_core.proofs.Words.{MatchOption, Member, MergeState, None, Option, Pair, Ready, Some, Stands, arith}
-use Rattle.merge_core.proofs.Words.{done, drop, each_weaker, input_of, inputs, filter, first_length, given, inl}
-use Rattle.merge_core.proofs.Words.{length, length-append, lines, option_list, refl, set, stays, suc, zip}
-use Rattle.merge_core.proofs.Words.{all_zipped_more, AddedSource, AreOpened, OpenedAt, IsLineStart, Known, EachDone}
-use Rattle.merge_core.proofs.Words.{all_done, map}
-use Rattle.merge_core.proofs.Many.{each_by}
+use Rattle.merge_core.proofs.Words.{ℕ, ◌++◌, Bool, List, None, Pair, Some, done, drop, given, lines, refl, stays, Known}
+use Rattle.merge_core.proofs.Words.{◌+◌, IsCutAt, IsLeast, Member, Option, Ready, Stands, arith, inputs, filter, length}
+use Rattle.merge_core.proofs.Words.{AllByRecursion, CursorState, input_of, first_length, length-append, all_zipped_more}
+use Rattle.merge_core.proofs.Words.{[], ◌<◌, ◌∙◌, ◌∷◌, ◌≡◌, ◌≤◌, inl, set, suc, zip, map}
+use Rattle.merge_core.proofs.Words.{IsInput, IsNextLine, IsSettled, MergeState, AreOpened, OpenedAt, EachDone, all_done}
+use Rattle.merge_core.proofs.Words.{MergeInput, Ghosts, MatchOption, each_weaker, option_list, AddedSource, IsLineStart}
+use Rattle.merge_core.proofs.{StateLemmas.inputs_added, StateLemmas.placed_queued, Many.each_by, PairOrder.begins}
 use Rattle.merge_core.proofs.InputLemmas.{LineRead, done_next, input_end, input_more, settled_more}
-use Rattle.merge_core.proofs.StateLemmas.{inputs_added, placed_queued}
-use Rattle.merge_core.proofs.PairOrder.{begins}
 
 -- a source was added to those that are read
 module _ {past : List ℕ → Bool} {S : Type 0} {device : Ghosts S} {ss : List S}

@@ -1,12 +1,11 @@
 -- The order of pairs is total, and the starts of pairs decide as the pairs do.
-use Rattle.merge_core.proofs.Words.{◌≡◌, ◌⊎◌, Below, Equal, Less, Pair, Upto, ap, arith, false, is_gt, is_lt}
-use Rattle.merge_core.proofs.Words.{pair_cmp, pair_cmp_total, tied_back, tied_itself, [], ℕ, ◌++◌, ◌+◌, ◌∷◌, AreBytes}
-use Rattle.merge_core.proofs.Words.{LINE_LIMIT, List, Member, Ordering, Some, append_assoc, get_or, length}
-use Rattle.merge_core.proofs.Words.{length-append, line_entry, member_pair, ordering_then, suc, take, true, ◌≤◌, Fits}
-use Rattle.merge_core.proofs.Words.{nat_lt, w8, and_parts, slice_cmp, list_all, nat_cmp, IsStart, pair_text}
+use Rattle.merge_core.proofs.Words.{◌≡◌, AreBytes, Member, Ordering, get_or, length, nat_lt, list_all, nat_cmp, IsStart}
+use Rattle.merge_core.proofs.Words.{Below, Equal, Upto, arith, false, is_gt, is_lt, ◌++◌, List, Some, take, true, Fits}
+use Rattle.merge_core.proofs.Words.{Pair, pair_cmp, tied_back, line_entry, member_pair, and_parts, slice_cmp, pair_text}
+use Rattle.merge_core.proofs.Words.{ap, [], ℕ, ◌+◌, ◌∷◌, suc, ◌≤◌, w8}
+use Rattle.merge_core.proofs.Words.{pair_cmp_total, tied_itself, LINE_LIMIT, append_assoc, length-append, ordering_then}
 use Rattle.std.proofs.Math.Seq.{take-append_seam}
-use Rattle.cdxj_places.specs.Abbreviated.{padded, words_cmp}
-use Rattle.cdxj_places.specs.Pair.{is_key, is_key_byte}
+use Rattle.cdxj_places.specs.{Abbreviated.padded, Abbreviated.words_cmp, Pair.is_key, Pair.is_key_byte}
 use Rattle.cdxj_places.proofs.Abbreviations.{start_words_decide, then_associates}
 use Rattle.cdxj_core.proofs.MemberLemmas.{entry_valued}
 

@@ -1,15 +1,13 @@
 -- Sources and the inputs of a merge, while lines wait.
-use Rattle.merge_core.proofs.Words.{filter, [], ℕ, ◌++◌, ◌+◌, ◌<◌, ◌∙◌, ◌∷◌, ◌≡◌, ◌≢◌, ◌≤◌, Aligned, Alike}
-use Rattle.merge_core.proofs.Words.{AllByRecursion, AllZip, Bool, CursorState, IsInput, MergeInput, Ghosts, IsDue}
-use Rattle.merge_core.proofs.Words.{IsPermutation, List, Member, MergeState, Option, Pair, Some, TookOf, WaitingLine}
-use Rattle.merge_core.proofs.Words.{ap, append-nil, arith, done, each_join, each_weaker, input_of, inputs}
-use Rattle.merge_core.proofs.Words.{inputs_from, filter-append, get_or, get_or_default, given, inl, inr, length}
-use Rattle.merge_core.proofs.Words.{length-append, length-map, length-set, length_permutation, map, nil_from_length}
-use Rattle.merge_core.proofs.Words.{not-true, queued, refl, set, set-get_or, stays, suc, sym, true, waiting_pair}
-use Rattle.merge_core.proofs.Words.{waits_of, zero, cases_lt, take_all}
+use Rattle.merge_core.proofs.Words.{filter, ◌+◌, AllZip, Ghosts, Member, Option, TookOf, inputs, get_or, length, queued}
+use Rattle.merge_core.proofs.Words.{◌++◌, Aligned, IsInput, each_join, input_of, not-true, waits_of, cases_lt, take_all}
+use Rattle.merge_core.proofs.Words.{Alike, Bool, IsDue, List, Pair, Some, arith, done, given, refl, stays, true, zero}
+use Rattle.merge_core.proofs.Words.{[], ℕ, ◌<◌, ◌∙◌, ◌∷◌, ◌≡◌, ◌≢◌, ◌≤◌, ap, inl, inr, map, set, suc, sym}
+use Rattle.merge_core.proofs.Words.{AllByRecursion, IsPermutation, get_or_default, length_permutation, nil_from_length}
+use Rattle.merge_core.proofs.Words.{CursorState, WaitingLine, each_weaker, filter-append, length-append, waiting_pair}
+use Rattle.merge_core.proofs.Words.{MergeInput, MergeState, append-nil, inputs_from, length-map, length-set, set-get_or}
 use Rattle.merge_core.proofs.InputLemmas.{filter_passes}
-use Rattle.merge_core.proofs.GroupLemmas.{filter_all, each_permuted, waits_beside}
-use Rattle.merge_core.proofs.GroupLemmas.{waits_permuted, waits_queued}
+use Rattle.merge_core.proofs.GroupLemmas.{filter_all, each_permuted, waits_beside, waits_permuted, waits_queued}
 
 pub any_of : {X : Type 0} (xs : List X) (i : ℕ) → i < length xs → X
 any_of [] i l = absurd (omega arith)

@@ -1,18 +1,16 @@
 -- What was taken of lines, beside all that is wanted of them: of one source, of all, and where a merge came to.
-use Rattle.merge_core.proofs.Words.{done, ◌≤◌, length, [], ℕ, ◌++◌, ◌∙◌, ◌∷◌, ◌≡◌, AllByRecursion, Bool, MergeInput}
-use Rattle.merge_core.proofs.Words.{IsLower, IsRun, LINE_LIMIT, List, Member, NeverFalls, Some, Upto, ap, append-nil}
-use Rattle.merge_core.proofs.Words.{append_assoc, arith, drop, each_rising, each_weaker, false, filter, filter-append}
-use Rattle.merge_core.proofs.Words.{given, inl, inr, is_gt, line_entry, lines, map, member_of, member_pair}
-use Rattle.merge_core.proofs.Words.{member_place, not, not-false, pair_cmp, place_cmp, place_cmp_total, refl, rising}
-use Rattle.merge_core.proofs.Words.{rising_split, stays, sym, take, take-append-drop, take-map, true, Below, IsAbove}
-use Rattle.merge_core.proofs.Words.{IsUpto, None, NoneBelow, Option, Pair, WaitingLine, is_low, is_lt, not-true}
-use Rattle.merge_core.proofs.Words.{ordering_reverse, pair_cmp_total, true≢false, waiting_pair, ◌&&◌, drop-map}
-use Rattle.merge_core.proofs.Words.{nat_cmp, slice_cmp, nat_list_cmp_total, and_cases, ◌+◌, AllZip, CursorState}
-use Rattle.merge_core.proofs.Words.{Ghosts, IsCutAt, IsIndex, MergeState, Reached, all_done, all_lines, collection}
-use Rattle.merge_core.proofs.Words.{inputs, inputs_from, zip, length-map, nil_from_length, read_lines, sum}
-use Rattle.merge_core.proofs.Words.{sum_by-cons, OverIndexes, OverTexts}
-use Rattle.merge_core.proofs.Many.{each_both, each_filter}
-use Rattle.merge_core.proofs.InputLemmas.{filter_passes, TextRead}
+use Rattle.merge_core.proofs.Words.{done, ◌≤◌, ◌++◌, Bool, List, Some, Upto, drop, refl, take, true, None, Pair, ◌&&◌}
+use Rattle.merge_core.proofs.Words.{length, LINE_LIMIT, WaitingLine, CursorState, inputs_from, sum_by-cons, OverIndexes}
+use Rattle.merge_core.proofs.Words.{[], each_rising, each_weaker, member_pair, member_place, rising_split, waiting_pair}
+use Rattle.merge_core.proofs.Words.{ℕ, false, given, is_gt, lines, stays, Below, is_low, is_lt, AllZip, Ghosts, inputs}
+use Rattle.merge_core.proofs.Words.{AllByRecursion, IsRun, append_assoc, filter-append, pair_cmp_total, nil_from_length}
+use Rattle.merge_core.proofs.Words.{MergeInput, place_cmp_total, take-append-drop, ordering_reverse, nat_list_cmp_total}
+use Rattle.merge_core.proofs.Words.{◌∙◌, ◌∷◌, ◌≡◌, inl, inr, map, not, sym, ◌+◌, zip, sum}
+use Rattle.merge_core.proofs.Words.{IsLower, ap, pair_cmp, take-map, not-true, drop-map, all_done, all_lines, OverTexts}
+use Rattle.merge_core.proofs.Words.{Member, filter, rising, IsAbove, IsUpto, Option, nat_cmp, IsCutAt, IsIndex, Reached}
+use Rattle.merge_core.proofs.Words.{NeverFalls, append-nil, line_entry, true≢false, MergeState, collection, length-map}
+use Rattle.merge_core.proofs.Words.{arith, member_of, not-false, place_cmp, NoneBelow, slice_cmp, and_cases, read_lines}
+use Rattle.merge_core.proofs.{Many.each_both, Many.each_filter, InputLemmas.filter_passes, InputLemmas.TextRead}
 use Rattle.merge_core.proofs.PairOrder.{upto_itself, below_then, then_below, from_not_below, upto_upto}
 use Rattle.merge_core.proofs.GroupLemmas.{filter_all, filter_none, each_cut, each_waits}
 use Rattle.merge_core.proofs.MergeLemmas.{place_below, below_next, is_less, lower_by_pair}

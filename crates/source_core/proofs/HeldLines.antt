@@ -1,10 +1,9 @@
 -- Lines that were read ahead.
-use Rattle.source_core.proofs.Words.{◌≡◌, ℕ, ◌+◌, ◌<◌, true, List, [], ◌∷◌, ◌++◌, length, take, drop, get_or, Option}
-use Rattle.source_core.proofs.Words.{Some, refl, ap, arith, list_all, prefix_len, take_more, body_of, lines}
-use Rattle.source_core.proofs.Words.{CursorState, IsHeldLine, Stands, NoFeed}
-use Rattle.cdxj_core.proofs.EntryRead.{body_of-feed}
+use Rattle.source_core.proofs.Words.{true, List, [], ◌++◌, take, drop, Option, Some, refl, arith, lines, Stands, NoFeed}
+use Rattle.source_core.proofs.Words.{length, get_or, list_all, prefix_len, take_more, body_of, CursorState, IsHeldLine}
+use Rattle.source_core.proofs.Words.{◌≡◌, ℕ, ◌+◌, ◌<◌, ◌∷◌, ap}
+use Rattle.cdxj_core.proofs.{EntryRead.body_of-feed, UnescapedAscii.unescaped_front}
 use Rattle.cdxj_core.specs.Plain.{is_unescaped_ascii}
-use Rattle.cdxj_core.proofs.UnescapedAscii.{unescaped_front}
 use Rattle.source_core.proofs.Parts.{ended, given_more, given_out}
 
 no_feed : (xs : List ℕ) → list_all is_unescaped_ascii xs ≡ true → NoFeed xs

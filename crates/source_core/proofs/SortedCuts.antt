@@ -1,16 +1,15 @@
 -- Indexes, cut at a pair.
-use Rattle.source_core.proofs.Words.{◌≡◌, ℕ, zero, suc, ◌+◌, ◌-◌, ◌*◌, ◌^◌, ◌<◌, ◌≤◌, List, [], ◌∷◌, ◌++◌, Bool, true}
-use Rattle.source_core.proofs.Words.{false, None, not, cond, length, take, drop, flat_map, map, Some, refl, sym, ap}
-use Rattle.source_core.proofs.Words.{◌∙◌, arith, length-append, length-drop, length-take, is_gt, AllByRecursion}
-use Rattle.source_core.proofs.Words.{flat_map-append, and_parts, take_all, Member, member_pair, line_entry, IsIndex}
-use Rattle.source_core.proofs.Words.{begins_with_pair, is_key, key_part, pair_of, stamp_part, IsLeast, Pair, pair_cmp}
-use Rattle.source_core.proofs.Words.{lines, from_line, longest, BeginsAfter, is_below, is_some_below, line_below}
-use Rattle.source_core.proofs.Words.{IsCut, stops, stops_lines, digits}
+use Rattle.source_core.proofs.Words.{◌≡◌, suc, ◌+◌, ◌-◌, ◌*◌, ◌^◌, ◌<◌, ◌≤◌, ◌∷◌, not, drop, map, Some, refl, sym, Pair}
+use Rattle.source_core.proofs.Words.{ℕ, length-append, AllByRecursion, flat_map-append, begins_with_pair, is_some_below}
+use Rattle.source_core.proofs.Words.{zero, List, ◌++◌, Bool, true, None, cond, take, arith, is_gt, lines, IsCut, stops}
+use Rattle.source_core.proofs.Words.{[], Member, IsIndex, is_key, pair_of, IsLeast, pair_cmp, longest, is_below, digits}
+use Rattle.source_core.proofs.Words.{false, length-drop, length-take, member_pair, line_entry, BeginsAfter, stops_lines}
+use Rattle.source_core.proofs.Words.{length, flat_map, and_parts, take_all, key_part, stamp_part, from_line, line_below}
+use Rattle.source_core.proofs.{Words.ap, Words.◌∙◌, Halves.digits_below}
 use Rattle.std.proofs.Math.Pow.{pow_mono}
 use Rattle.cdxj_core.proofs.MemberLemmas.{entry_pair_is, entry_is_short}
 use Rattle.cdxj_places.specs.Rising.{NeverFalls}
 use Rattle.cdxj_places.proofs.PairLemmas.{pair_cmp_total}
-use Rattle.source_core.proofs.Halves.{digits_below}
 use Rattle.source_core.proofs.Seeks.{from_line_rest, sought, BelowFirst}
 
 -- ---- where lines begin

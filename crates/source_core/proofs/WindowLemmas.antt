@@ -1,12 +1,11 @@
 -- Bytes that a window holds.
-use Rattle.source_core.proofs.Words.{common_steps, ◌≡◌, ℕ, ◌+◌, ◌-◌, ◌≤◌, Bool, List, [], ◌++◌, length, take, drop, min}
-use Rattle.source_core.proofs.Words.{Option, Some, inl, inr, arith, drop-drop, length-take, length-append, cases_lt}
-use Rattle.source_core.proofs.Words.{cond-false, cond_both, le-ltb, ltb-false, drop-take, drop_all, take-take}
-use Rattle.source_core.proofs.Words.{AreBytesAt, HeldBytes, Holds, held_from, BeginsWith, PartOf, ReadsOn}
+use Rattle.source_core.proofs.Words.{common_steps, Bool, length-take, length-append, cond-false, AreBytesAt, BeginsWith}
+use Rattle.source_core.proofs.Words.{List, [], ◌++◌, length, Option, cases_lt, le-ltb, drop_all, Holds, PartOf, ReadsOn}
+use Rattle.source_core.proofs.Words.{◌≡◌, ℕ, ◌+◌, ◌-◌, ◌≤◌, take, drop, min, Some, inl, inr}
+use Rattle.source_core.proofs.Words.{arith, drop-drop, cond_both, ltb-false, drop-take, take-take, HeldBytes, held_from}
 use Rattle.std.specs.Prelude.{ltb}
 use Rattle.source_core.specs.declared.source.Source.{Ghosts}
-use Rattle.source_core.proofs.FrontLemmas.{reads_on}
-use Rattle.source_core.proofs.Parts.{given_out}
+use Rattle.source_core.proofs.{FrontLemmas.reads_on, Parts.given_out}
 
 -- a source was read and did not fail, and the window holds bytes of it
 pub record HasRead {S : Type 0} (device : Ghosts S) (old new : S) (window : HeldBytes) : Type 0 where

@@ -1,17 +1,13 @@
-use Rattle.merge_core.proofs.Words.{[], ℕ, ◌++◌, ◌-◌, ◌^◌, ◌∷◌, ◌≡◌, AllByRecursion, AllGaveOnce, Appends}
-use Rattle.merge_core.proofs.Words.{AppendsPrefix, AreLinesOf, Bool, MergeInput, KeepsSources, List, Member}
-use Rattle.merge_core.proofs.Words.{MergeState, Option, OverIndexes, Pair, Reached, ap, append-nil, arith, collection}
-use Rattle.merge_core.proofs.Words.{err_from_is_err_and, false, inputs, filter, flat_map-append, inl, inr, length}
-use Rattle.merge_core.proofs.Words.{length-map, lines_text, map, member_pair, min, prefix_longer, refl, sym, true}
-use Rattle.merge_core.proofs.Words.{true≢false, cases_Bool, Appends-none, prefix_whole, wrote_nothing, zip}
-use Rattle.merge_core.proofs.Words.{CursorState, each_weaker}
-use Rattle.merge_core.proofs.TakenLemmas.{took_of_indexes, none_wait, taken_first, IsUpward, taken_whole}
-use Rattle.merge_core.proofs.TakenLemmas.{took_of_parts}
-use Rattle.merge_core.proofs.SourceLemmas.{gave_once, none_below_empty, taken_lines, all_kept, starts_kept}
-use Rattle.merge_core.proofs.SourceLemmas.{indexes_read, reached_read, cut_at_start, parts}
-use Rattle.merge_core.proofs.OpenLemmas.{begun_of}
-use Rattle.merge_core.proofs.StateLemmas.{cursors_of}
-use Rattle.merge_core.proofs.Many.{each_second}
+use Rattle.merge_core.proofs.Words.{◌++◌, ◌-◌, ◌^◌, Bool, List, Pair, arith, false, inputs, filter, length, refl, true}
+use Rattle.merge_core.proofs.Words.{AllByRecursion, AppendsPrefix, err_from_is_err_and, flat_map-append, prefix_longer}
+use Rattle.merge_core.proofs.Words.{Appends, AreLinesOf, MergeInput, MergeState, append-nil, CursorState, each_weaker}
+use Rattle.merge_core.proofs.Words.{[], ℕ, ◌∷◌, ◌≡◌, ap, inl, inr, map, min, sym, zip}
+use Rattle.merge_core.proofs.Words.{KeepsSources, OverIndexes, member_pair, Appends-none, prefix_whole, wrote_nothing}
+use Rattle.merge_core.proofs.Words.{Member, Option, Reached, collection, length-map, lines_text, true≢false, cases_Bool}
+use Rattle.merge_core.proofs.TakenLemmas.{took_of_indexes, none_wait, taken_first, IsUpward, taken_whole, took_of_parts}
+use Rattle.merge_core.proofs.SourceLemmas.{none_below_empty, taken_lines, indexes_read, reached_read, cut_at_start}
+use Rattle.merge_core.proofs.SourceLemmas.{gave_once, all_kept, starts_kept, parts}
+use Rattle.merge_core.proofs.{StateLemmas.cursors_of, OpenLemmas.begun_of, Many.each_second}
 use Rattle.merge_core.proofs.indexes.merge_indexes.Goals.{After-merge, In_err-merge, In_ok-merge}
 use Rattle.merge_core.proofs.indexes.merge_indexes.Goals as goal
 

@@ -1,7 +1,6 @@
 use Rattle.source_core.proofs.Words.{common_steps, ◌≡◌, ◌+◌, ◌≤◌, ℕ, Some, List, arith, AreBytesAt, lines, longest}
 use Rattle.source_core.proofs.Pieces.{IsPiece, nowhere_in, found_in, begins_in}
-use Rattle.source_core.proofs.LongestLines.{gap_most}
-use Rattle.source_core.proofs.WindowLemmas.{held_stands}
+use Rattle.source_core.proofs.{LongestLines.gap_most, WindowLemmas.held_stands}
 use Rattle.source_core.proofs.line_start.next_line_start.Goals.{After-min-count, After-min-most}
 use Rattle.source_core.proofs.line_start.next_line_start.Goals as goal
 

@@ -1,9 +1,8 @@
-use Rattle.merge_core.proofs.Words.{sum_by_push, sum-map, get_or-map, map-set, length-map, ◌<◌, ◌≡◌, ap, arith}
-use Rattle.merge_core.proofs.Words.{digits, input_of, inputs, get_or, length, length-append, map, sum, take}
-use Rattle.merge_core.proofs.Words.{take_more, take_more_set, zip, common_steps, all_zipped_more, take_all}
+use Rattle.merge_core.proofs.Words.{sum_by_push, length-append, take_more, take_more_set, common_steps, all_zipped_more}
+use Rattle.merge_core.proofs.Words.{sum-map, get_or-map, map-set, length-map, arith, digits, input_of, inputs, take_all}
+use Rattle.merge_core.proofs.Words.{◌<◌, ◌≡◌, ap, get_or, length, map, sum, take, zip}
 use Rattle.merge_core.proofs.Many.{two_same, map_set_same, two_put}
-use Rattle.merge_core.proofs.SourceLemmas.{once_none}
-use Rattle.merge_core.proofs.CountLemmas.{left_here, left_after}
+use Rattle.merge_core.proofs.{SourceLemmas.once_none, CountLemmas.left_here, CountLemmas.left_after}
 use Rattle.std.proofs.lemmas.Simd.{map-map}
 use Rattle.merge_core.proofs.OpenLemmas.{added_inputs, ready_added, zip_none, zip_push}
 use Rattle.merge_core.proofs.state.MergeState.open_at.Goals as goal

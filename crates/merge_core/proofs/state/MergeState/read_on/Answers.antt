@@ -1,8 +1,7 @@
-use Rattle.merge_core.proofs.Words.{get_or-map, map-set, length-map, [], ◌≡◌, AllByRecursion, AllZip, ap, AreReadTo}
-use Rattle.merge_core.proofs.Words.{CursorState, MergeInput, List, Member, zip, MergeState, Some, Upto, arith}
-use Rattle.merge_core.proofs.Words.{boxed_line, input_of, inputs, get_or, get_or_default, member_pair, option_list}
-use Rattle.merge_core.proofs.Words.{refl, set, common_steps, EachDone}
-use Rattle.merge_core.proofs.CountLemmas.{are_read_to, read_on}
+use Rattle.merge_core.proofs.Words.{get_or-map, length-map, [], AreReadTo, MergeInput, MergeState, boxed_line, input_of}
+use Rattle.merge_core.proofs.Words.{map-set, AllZip, List, Member, Some, Upto, arith, inputs, get_or, refl, EachDone}
+use Rattle.merge_core.proofs.Words.{AllByRecursion, CursorState, get_or_default, member_pair, option_list, common_steps}
+use Rattle.merge_core.proofs.{Words.◌≡◌, Words.ap, Words.zip, Words.set, CountLemmas.are_read_to, CountLemmas.read_on}
 use Rattle.merge_core.proofs.Many.{Move, moved_set, map_set_same, unread_set}
 use Rattle.merge_core.proofs.StateLemmas.{input_at, long_of, idle_here, waited_aligned, waited_inputs, waited_length}
 use Rattle.merge_core.proofs.state.MergeState.read_on.Goals.{After-read_group}
