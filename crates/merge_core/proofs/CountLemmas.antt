@@ -235,8 +235,7 @@ module _ {past : List ℕ → Bool} {start : Pair} {b : Option Pair} {test : Mem
         → AllByRecursion (λ x. (t : List ℕ) → device.text x.0 ≡ Some t → ReadTo past b t x.1) xs
         → AllGaveWithin device test texts indexes ss0 (map (λ x. x.0) xs)
     gave_most (s ∷ ss) (y ∷ ys) (x ∷ xs) (t ∷ ts) (i ∷ is) known are opened moved reads =
-        let m = moved.0 in
-        let o = opened.0 in
+        let m = moved.0 in let o = opened.0 in
         let r = reads.0 t (m.text_kept ∙ o.kept.0 ∙ known.0) in
         let came = o.came t known.0 in
         let here = source_bytes t i x.1 are.0 (rw m.start_kept (o.cut t i known.0 are.0)) r in

@@ -64,12 +64,7 @@ none_waits i (w ∷ ws) e = grind (arith, none_waits i ws)
 pub not_before : (v w : WaitingLine) → is_lt (turn_cmp v w) ≡ false → Upto (waiting_pair w) (waiting_pair v)
 not_before v w h = from_not_below (waiting_pair v) (waiting_pair w) (grind arith)
 
-pub source_after : (v w : WaitingLine) → is_lt (turn_cmp v w) ≡ false → pair_cmp (waiting_pair v) (waiting_pair w)
-    ≡ Equal → w.source ≤ v.source
-source_after v w h e = grind arith
-
--- what isn't above and doesn't have the pair is below
-pub below_unless : (p q : Pair) → Upto p q → is_eq (pair_cmp q p) ≡ false → Below p q
+below_unless : (p q : Pair) → Upto p q → is_eq (pair_cmp q p) ≡ false → Below p q
 below_unless p q h e = grind (arith, pair_cmp_total)
 
 -- where the first in turn doesn't have the pair, all are above it
@@ -153,7 +148,7 @@ from_popped pair w ws e first none =
       upto_upto pair (waiting_pair w) (waiting_pair v) (same_from (waiting_pair w) pair e) (not_before v w h.0),
       λ a. (let at = pair_cmp_total.congr (waiting_pair v) pair (waiting_pair w) a
           ∙ tied_back pair_cmp_total (waiting_pair w) pair e in
-          let later = source_after v w h.0 at in let other = h.1 in omega arith),
+          let later : w.source ≤ v.source = grind arith in let other = h.1 in omega arith),
     )) ws (each_both _ _ ws first (none_waits w.source ws none))
 
 pub from_waited : (pair : Pair) (n i : ℕ) (waits : List Member) (old new : List WaitingLine)

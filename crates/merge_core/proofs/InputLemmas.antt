@@ -79,8 +79,7 @@ module _ (past : List ℕ → Bool) where
   pub done_all : (t : List ℕ) (c : CursorState) → length (read_lines t c) ≡ c.count
       → AllByRecursion (λ m. stays past m ≡ true) (given t c) → done past t (input_of c []) ≡ given t c
   done_all t c long each =
-      let whole = take_all c.count (given t c) (grind (arith, length-map)) in
-      grind (arith, filter_all)
+      let whole = take_all c.count (given t c) (grind (arith, length-map)) in grind (arith, filter_all)
 
   -- the next line of a source was read, which is this one
   pub record LineRead (text : Option (List ℕ)) (extent : ℕ) (old c : CursorState) (m : Member) : Type 0 where
@@ -131,9 +130,7 @@ module _ {past : List ℕ → Bool} {text : Option (List ℕ)} {extent : ℕ} {o
 
   pub done_next : (ws : List Member) → ws ≡ filter (stays past) (m ∷ []) → (t : List ℕ) → text ≡ Some t
       → done past t (input_of c ws) ≡ given t old
-  done_next ws is t e =
-      let whole = whole t e in
-      grind (arith, filter_all, filter-append, append-nil, given_next, front)
+  done_next ws is t e = let whole = whole t e in grind (arith, filter_all, filter-append, append-nil, given_next, front)
 
   pub input_more : (ws : List Member) → Goes ws → IsInput past text extent (input_of c ws)
   input_more ws cases = record {
@@ -201,8 +198,7 @@ module _ {past : List ℕ → Bool} {t : List ℕ} {c : CursorState} {pair : Pai
           → given t c ≡ done past t (input_of c []) ++ late → done past t (input_of c []) ≡ given t c
       none_late [] one waiting split = sym (split ∙ append-nil _)
       none_late (m ∷ ms) one waiting split =
-          let none : ms ≡ [] = grind (arith, nil_from_length) in
-          absurd (grind (arith, last_same))
+          let none : ms ≡ [] = grind (arith, nil_from_length) in absurd (grind (arith, last_same))
 
   pub all_inside : AllByRecursion (λ m. stays past m ≡ true) (given t c)
   all_inside = rw (← all_taken) (filter_passes (stays past) _)

@@ -127,8 +127,7 @@ pub reached_none : {S : Type 0} {device : Ghosts S} {past : List ℕ → Bool} {
     → Ready past device ss m → EachDone past device.text (λ ms. ms ≡ []) ss (inputs m)
     → Reached past device ss m ss m None []
 reached_none {device = device} {past = past} {ss = ss} {m = m} ready fresh =
-    let none = none_done past device.text ss (inputs m) in
-    grind (arith, moved_still, above_none)
+    let none = none_done past device.text ss (inputs m) in grind (arith, moved_still, above_none)
 
 -- where nothing was read, and where more was
 pub ruleset step_rules = (reached_none, moved_still, moved_trans, all_kept)
@@ -208,9 +207,7 @@ pub reached_same : {S : Type 0} {device : Ghosts S} {past : List ℕ → Bool}
     → m' ≡ record m { buffers = m'.buffers; most_lines = m'.most_lines }
     → Reached past device old begun ss m b taken
     → Reached past device old begun ss m' b taken
-reached_same m' is was =
-    let aligned = was.ready.aligned in
-    rw is (grind arith)
+reached_same m' is was = let aligned = was.ready.aligned in rw is (grind arith)
 
 -- these lines were passed on, when a fault came
 module _ {K S : Type 0} {consumer : SinkGhosts K} {past : List ℕ → Bool} {device : Ghosts S}

@@ -45,11 +45,6 @@ module _ {S : Type 0} (device : Ghosts S) (start : Pair) where
       → AllByRecursion (λ y. y.1.start ≡ 0) ys
   begun_of least = each_by (λ x y. OpenedAt device start x y.0 y.1) _ (λ x y h. h.first least)
 
-pub added_by : {past : List ℕ → Bool} {S : Type 0} {device : Ghosts S} {s : S} {m m' : MergeState}
-    {A B : CursorState → Type 0} → (added : AddedSource past device s A m m') → B added.cursor
-    → AddedSource past device s B m m'
-added_by added is = grind arith
-
 -- ---- the first line of a source
 
 -- what is known of a source of which no line was read yet

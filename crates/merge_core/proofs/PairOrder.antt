@@ -55,8 +55,7 @@ key_bytes k h = (and_parts (nat_lt 0 (length k)) _ h).1
 pub starts_decide : (p q : Pair) (s t : ℕ × ℕ) → IsStart s p → IsStart t q
     → ordering_then (words_cmp s t) (pair_cmp p q) ≡ pair_cmp p q
 starts_decide p q s t g h =
-    let decide = start_words_decide 16 (pair_text p) (pair_text q) g.1 h.1 in
-    grind (arith, key_bytes, texts_order)
+    let decide = start_words_decide 16 (pair_text p) (pair_text q) g.1 h.1 in grind (arith, key_bytes, texts_order)
 
 -- a list that is long enough needs no zeros
 pub padded_long : (n : ℕ) (xs : List ℕ) → n ≤ length xs → take n xs ≡ padded n xs

@@ -151,8 +151,7 @@ module _ {past : List ℕ → Bool} {S : Type 0} {device : Ghosts S} {ss : List 
         grind (arith, waits_permuted)
 
     queued_beside : (j : ℕ) → j ≢ i → waits_of j queue ≡ waits_of j m.queue
-    queued_beside j other =
-        let is = waits_beside i j new m.queue other in grind (arith, few_wait, waits_permuted)
+    queued_beside j other = let is = waits_beside i j new m.queue other in grind (arith, few_wait, waits_permuted)
 
   -- a source is added behind the others, and these lines of it wait
   pub inputs_added : (c : CursorState) (new : List Member) (queue : List WaitingLine) → length new ≤ 1
@@ -187,16 +186,14 @@ module _ {past : List ℕ → Bool} {S : Type 0} {device : Ghosts S} {ss : List 
   waits_now = rw (← still w.source) (grind arith)
 
   pub none_left : waits_of w.source m'.queue ≡ []
-  none_left =
-      let few = few_wait was w.source in grind (arith, nil_from_length, waits_now)
+  none_left = let few = few_wait was w.source in grind (arith, nil_from_length, waits_now)
 
   its_one : (b : MergeInput) → (get_or (inputs m) w.source b).waits ≡ w.member ∷ []
   its_one b = waits_at was w.source b inside_sources ∙ waits_now ∙ ap (λ l. w.member ∷ l) none_left
 
   pub popped_inputs : (b : MergeInput) → inputs m' ≡ set (inputs m) w.source (idle (get_or (inputs m) w.source b))
   popped_inputs b =
-      let i = w.source in
-      let cs = m.cursors.items in
+      let i = w.source in let cs = m.cursors.items in
       let c = any_of cs i placed.0 in
       let now = inputs_set 0 i i cs m.queue m'.queue (get_or cs i c) (omega arith)
       (λ j q. rw (← still j) (grind arith)) in

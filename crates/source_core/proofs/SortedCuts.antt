@@ -5,7 +5,7 @@ use Rattle.source_core.proofs.Words.{zero, List, ◌++◌, Bool, true, None, con
 use Rattle.source_core.proofs.Words.{[], Member, IsIndex, is_key, pair_of, IsLeast, pair_cmp, longest, is_below, digits}
 use Rattle.source_core.proofs.Words.{false, length-drop, length-take, member_pair, line_entry, BeginsAfter, stops_lines}
 use Rattle.source_core.proofs.Words.{length, flat_map, and_parts, take_all, key_part, stamp_part, from_line, line_below}
-use Rattle.source_core.proofs.{Words.ap, Words.◌∙◌, Halves.digits_below}
+use Rattle.source_core.proofs.{Words.ap, Words.◌∙◌, Seeks.digits_below}
 use Rattle.std.proofs.Math.Pow.{pow_mono}
 use Rattle.cdxj_core.proofs.MemberLemmas.{entry_pair_is, entry_is_short}
 use Rattle.cdxj_places.specs.Rising.{NeverFalls}
@@ -21,14 +21,11 @@ lines_length (b ∷ bs) = grind (arith, lines_length bs)
 pub begins_at : (t : List ℕ) (offset : ℕ) (before : List (List ℕ)) → lines t ≡ before ++ lines (drop offset t)
     → offset ≤ length t → offset ≡ length (flat_map (λ l. l) before)
 begins_at t offset before e inside =
-    let whole = lines_length t in
-    grind (arith, lines_length, flat_map-append, length-append, length-drop)
+    let whole = lines_length t in grind (arith, lines_length, flat_map-append, length-append, length-drop)
 
 pub begins_there : (t : List ℕ) (offset m : ℕ) → drop offset t ≡ from_line m t → offset ≤ length t
     → (before : List (List ℕ)) × BeginsAfter t offset before
-begins_there t offset m e inside =
-    let front = from_line_rest m t in
-    grind (arith, begins_at)
+begins_there t offset m e inside = let front = from_line_rest m t in grind (arith, begins_at)
 
 -- ---- the order of pairs
 

@@ -78,8 +78,7 @@ returns-in_err-merge-clause-part g c =
 
 pub returns-in_err-merge-clause-lines : goal.returns-in_err-merge-clause-lines
 returns-in_err-merge-clause-lines g c =
-    let b = c.in_err-merge.ensures.ended.0 in
-    grind (arith, err_from_is_err_and, lines, broke)
+    let b = c.in_err-merge.ensures.ended.0 in grind (arith, err_from_is_err_and, lines, broke)
 
 pub returns-in_err-merge-clause-bytes : goal.returns-in_err-merge-clause-bytes
 returns-in_err-merge-clause-bytes g c = grind (arith, gave_once)
@@ -90,12 +89,9 @@ returns-in_err-merge-clause-kept g c = grind (arith, all_kept)
 pub returns : goal.returns
 returns g c =
     let at = goal.at.returns g c in
-    let device = g.S.Source in
-    let sources = c.merge.new.sources in let m = c.merge.new.merge in
-    let opened = c.in_ok-opened.ensures in
-    let passed = c.in_ok-merge.ensures.ended in
-    let taken = passed.so_far.taken in
-    let reached = passed.so_far.reached in
+    let device = g.S.Source in let sources = c.merge.new.sources in let m = c.merge.new.merge in
+    let opened = c.in_ok-opened.ensures in let passed = c.in_ok-merge.ensures.ended in
+    let taken = passed.so_far.taken in let reached = passed.so_far.reached in
     let wrote = wrote g at.In_ok-merge in
     let kept : KeepsSources device c.args.sources.now sources = grind (arith, all_kept) in
     record {

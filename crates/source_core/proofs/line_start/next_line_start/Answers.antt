@@ -22,8 +22,7 @@ stands g c = rw c.from-held.ensures (held_stands _ _ c.hold.new.self c.loop-at.a
 -- and they are its text
 piece : (g : _) (c : After-min-count g) (t : List ℕ) → g.S.Source.text c.args.source.now ≡ Some t
     → IsPiece t c.from-held.result.now (g.S.Source.extent c.args.source.now) c.loop-at.at c.min-count.result c.args.from
-piece g c t e =
-    let held = stands g c in grind (arith, common_steps)
+piece g c t e = let held = stands g c in grind (arith, common_steps)
 
 pub returns-in_err-hold-clause-gave : goal.returns-in_err-hold-clause-gave
 returns-in_err-hold-clause-gave g c = grind (arith, gap)

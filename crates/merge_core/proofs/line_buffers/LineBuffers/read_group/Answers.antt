@@ -98,8 +98,7 @@ returns-clause-most g c = grind (arith, group_most {pair = member_pair c.args.fi
 
 pub loop-line-preserved : goal.loop-line-preserved
 loop-line-preserved g c =
-    let ok = c.in_ok-line.ensures in
-    let inv = c.loop-line.invariant in
+    let ok = c.in_ok-line.ensures in let inv = c.loop-line.invariant in
     let past = g.R.Range.past c.args.range.now in
     let first = member_pair c.args.first.now in
     let m = c.in-Some.line.value in

@@ -13,8 +13,7 @@ drained : (g : _) (c : In_ok-read_on g) → Gathers (g.R.Range.past c.args.range
     c.args.sources.now c.args.self.now (member_pair c.with_start-keyed.result) (c.sources.i + 1)
     c.read_on.new.sources c.read_on.new.self (c.with_start-keyed.result ∷ boxed_lines c.read_on.new.rest.items)
 drained g c =
-    let inv = c.sources.invariant in
-    let read = c.in_ok-read_on.ensures.read in
+    let inv = c.sources.invariant in let read = c.in_ok-read_on.ensures.read in
     let pair = member_pair c.with_start-keyed.result in
     gathers_on inv.gathers {m' = c.read_on.new.self} (c.with_start-keyed.result ∷ []) refl read.took (omega arith) inv.inside
     read.aligned c.read_on.ensures.moved
@@ -73,19 +72,6 @@ sources-preserved g c =
     let t = taken g here.After-push (drained g here.In_ok-read_on) in
     grind (arith, map-append)
 
--- the sources were read up to the pair
-read_to : (g : _) (c : After-read_on g) → OverTexts (map g.S.Source.text c.args.sources.now) (λ texts.
-    AreBelow (member_pair c.with_start-keyed.result) (all_done (g.R.Range.past c.args.range.now) texts
-    (inputs c.args.self.now))
-    → AreReadTo (g.R.Range.past c.args.range.now) g.S.Source.text (Some (member_pair c.with_start-keyed.result))
-    c.read_on.new.sources c.read_on.new.self.cursors.items)
-read_to g c texts known low =
-    let h = c.sources.invariant.gathers in
-    c.read_on.ensures.most (each_done _ g.S.Source.text (λ m. Upto (member_pair m)
-    (member_pair c.with_start-keyed.result))
-    c.sources.sources (inputs c.sources.self) texts (long_of h.aligned) (rw h.kept known)
-    (h.gathered texts known low).0.upto)
-
 pub returns-in_default-pop_at : goal.returns-in_default-pop_at
 returns-in_default-pop_at g c = grind (arith, drained)
 
@@ -97,7 +83,11 @@ halted g c m same = record {
   pair = member_pair c.with_start-keyed.result;
   above = c.sources.invariant.above;
   least = c.sources.invariant.least;
-  read = rw same (read_to g c);
+  read = λ texts known low.
+      let h = c.sources.invariant.gathers in
+      rw same (c.read_on.ensures.most (each_done _ g.S.Source.text (λ m. Upto (member_pair m)
+      (member_pair c.with_start-keyed.result)) c.sources.sources (inputs c.sources.self) texts (long_of h.aligned)
+      (rw h.kept known) (h.gathered texts known low).0.upto));
 }
 
 pub returns-in_err-read_on-clause-gathered : goal.returns-in_err-read_on-clause-gathered

@@ -12,9 +12,7 @@ loop-i-init g c = grind (arith, once_none, two_same, zip_none)
 
 pub loop-i-preserved : goal.loop-i-preserved
 loop-i-preserved g c =
-    let inv = c.loop-i.invariant in
-    let ok = c.in-Ok.ensures in
-    let added = ok.added in
+    let inv = c.loop-i.invariant in let ok = c.in-Ok.ensures in let added = ok.added in
     let olds = c.args.sources.now in let ss = c.loop-i.sources in let m = c.loop-i.merge in
     let fs = inputs m in
     let i = c.loop-i.i in let a = c.index-sources-i.result in let s = c.add_from.new.source in

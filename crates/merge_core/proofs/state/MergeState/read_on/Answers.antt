@@ -70,9 +70,7 @@ returns-in_err-enqueue-clause-most g c =
 pub returns : goal.returns
 returns g c =
     let at = (goal.at.returns g c).After-read_group in
-    let old = c.args.self.now in
-    let i = c.args.i in
-    let now = c.read_group.new.cursor in
+    let old = c.args.self.now in let i = c.args.i in let now = c.read_group.new.cursor in
     let read = c.in-Ok.ensures.read in
     let waits : List Member = option_list (boxed_line c.in-Ok.next) in
     let f = input_of now waits in

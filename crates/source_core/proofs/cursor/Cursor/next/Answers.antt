@@ -24,8 +24,7 @@ reads : (g : _) (c : After-line_part-length g) (t : List ℕ) → g.S.Source.tex
     → ReadsOn t c.args.self.now.at (c.loop-self.line.items ++ take c.line_part-length.result.0 (held g c))
     c.line_part-length.result.1
 reads g c t e =
-    let inv = c.loop-self.invariant in
-    let source = c.hold.new.source in
+    let inv = c.loop-self.invariant in let source = c.hold.new.source in
     held_reads _ _ c.args.self.now.at _ c.loop-self.line.items (held g c) _ t _
     (subst (λ at. AreBytesAt (g.S.Source.text source) (g.S.Source.extent source) at (held g c)) inv.at (stands g c))
     (c.in_ok-hold.ensures.source.0.0 ∙ inv.text ∙ e) (inside g c) refl
@@ -96,9 +95,11 @@ loop-self-preserved g c =
     let stands = behind g here.After-line_part-length in
     let within = inside g here.After-line_part-length in
     let told : (t : List ℕ) → g.S.Source.text c.args.source.now ≡ Some t → (length t ≡ c.size-size.result)
-    × BeginsWith t c.args.self.now.at c.extend_from_slice.new.self.items = λ t e.
-    ((c.loop-self.invariant.told t e).0, rw (grown g here.In_ok-extend_from_slice) (rw c.if-ends.false at
-    (reads g here.After-line_part-length t e))) in
+    × BeginsWith t c.args.self.now.at c.extend_from_slice.new.self.items = λ t e. (
+      (c.loop-self.invariant.told t e).0,
+      rw (grown g here.In_ok-extend_from_slice) (rw c.if-ends.false at
+          (reads g here.After-line_part-length t e)),
+    ) in
     grind (arith, front_least)
 
 pub returns-clause-given : goal.returns-clause-given
