@@ -1,7 +1,7 @@
 -- The lines that wait: whose turn comes first, and the lines of one pair, taken of one source after another.
 use Rattle.merge_core.proofs.Words.{nil_from_length, AllByRecursion, pair_cmp_total, flat_map-append, All-permutation}
 use Rattle.merge_core.proofs.Words.{[], cond-false, AllBeyond, NoneBefore, NoneBelow, append-nil, each_join, length-map}
-use Rattle.merge_core.proofs.Words.{ℕ, ◌++◌, List, refl, true, Below, Equal, Pair, Upto, is_eq, is_lt, Bool, drop, take}
+use Rattle.merge_core.proofs.Words.{ℕ, ◌++◌, List, refl, true, Below, Pair, Upto, is_eq, is_lt, Bool, drop, take}
 use Rattle.merge_core.proofs.Words.{◌<◌, take-append-drop, sum_by-IsPermutation, All-from_recursion, recursion_from_All}
 use Rattle.merge_core.proofs.Words.{◌∙◌, WaitingLine, each_weaker, append_assoc, drop-set-lt, member_pair, common_steps}
 use Rattle.merge_core.proofs.Words.{◌∷◌, ◌≡◌, ◌≢◌, ◌≤◌, sym, ◌+◌, ◌-◌, ap, set, cond}

@@ -1,10 +1,10 @@
-use Rattle.merge_core.proofs.Words.{[], AreReadTo, Some, Upto, all_done, inputs, map-append, OverTexts, IsAbove, Option}
+use Rattle.merge_core.proofs.Words.{[], Upto, inputs, map-append, IsAbove, Option}
 use Rattle.merge_core.proofs.Words.{Member, MergeState, boxed_lines, each_weaker, member_pair, tied_itself, HaltedGroup}
 use Rattle.merge_core.proofs.Words.{WaitingLine, arith, pair_cmp_total, waiting_pair, IsPermutation-sym, AllByRecursion}
-use Rattle.merge_core.proofs.Words.{◌+◌, ◌∙◌, ◌∷◌, ap, refl, sym, map, ◌≡◌, Pair}
+use Rattle.merge_core.proofs.Words.{◌+◌, ◌∙◌, ◌∷◌, ap, refl, sym, ◌≡◌, Pair}
 use Rattle.merge_core.proofs.{SourceLemmas.each_done, PairOrder.upto_itself, StateLemmas.long_of}
 use Rattle.merge_core.proofs.MergeLemmas.{on_fault, Gathers, TakenNext, gathers_start, taken_next, gathers_on}
-use Rattle.merge_core.proofs.GroupLemmas.{AreBelow, from_waited, each_permuted, not_before}
+use Rattle.merge_core.proofs.GroupLemmas.{from_waited, each_permuted, not_before}
 use Rattle.merge_core.proofs.state.MergeState.gather.Goals.{After-read_on, After-push, In_ok-read_on}
 use Rattle.merge_core.proofs.state.MergeState.gather.Goals as goal
 
