@@ -40,13 +40,10 @@ pub read_to : {past : List ℕ → Bool} {t : List ℕ} {f : MergeInput} → IsI
     → new.start ≡ f.cursor.start → new.at ≤ f.cursor.at + first_length (lines (drop f.cursor.at t))
     → length new.ahead ≤ 8192 → ReadTo past b t new
 read_to {past = past} {t = t} {f = f} told b new upto start near ahead =
-    let from = lines (drop f.cursor.start t) in
-    let all = read_lines t f.cursor in
-    let cut = done_cut told in
-    let k = cut.0 in
+    let from = lines (drop f.cursor.start t) in let all = read_lines t f.cursor in
+    let cut = done_cut told in let k = cut.0 in
     let last = one_line (drop k all) (grind (arith, length-drop)) in
-    let whole = ap bytes_of (take-append-drop k all) in
-    let within = done_within past t f in
+    let whole = ap bytes_of (take-append-drop k all) in let within = done_within past t f in
     record {
       read = take k all;
       rest = drop k all ++ drop f.cursor.count from;
@@ -180,12 +177,10 @@ module _ {past : List ℕ → Bool} {start : Pair} {b : Option Pair} {test : Mem
   source_most {t = t} {f = f} {ms = ms} told index cut upto =
       let run = run_after start t ms f.cursor.start index cut in
       let high : map member_of (lines (drop f.cursor.start t)) ≡ cut.high = members_are _ cut.high run.0.entries in
-      let done_of = done_cut told in
-      let k = done_of.0 in
+      let done_of = done_cut told in let k = done_of.0 in
       let front : done past t f ≡ take k cut.high = grind (arith, take-map, take-take) in
       let not_low = rw (← front) at (each_take (λ m. is_low start m ≡ false) k cut.high cut.none_below) in
-      let fewer = done_fewer test told index in
-      let within = done_within past t f in
+      let fewer = done_fewer test told index in let within = done_within past t f in
       grind (arith, length-map, each_both, each_passes, filter_all, length-take)
 
   -- No more lines were read than those that pass, and one of each source

@@ -131,8 +131,7 @@ module _ (pair : Pair) where
         → Gathered pair old (flat_map d (set xs j y)) [] (group ++ us)
         × AreBelow pair (flat_map d (drop (j + 1) (set xs j y)))
     source_more n j x y old group us l inside e at h low =
-        let now = flat_map d (take (j + 1) xs) in
-        let later = flat_map d (drop (j + 1) xs) in
+        let now = flat_map d (take (j + 1) xs) in let later = flat_map d (drop (j + 1) xs) in
         let k : n + (j + 1 - n) ≡ j + 1 = omega arith in
         let below : AreBelow pair later = rw k at (below_after n (j + 1 - n) low) in
         rw (cut (j + 1) (set xs j y), more j x y us inside e, drop-set-lt (j + 1) xs j y (omega arith))

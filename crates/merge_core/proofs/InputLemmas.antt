@@ -56,8 +56,7 @@ Cut n before all = (k : ℕ) × (k ≤ n) × (n ≤ k + 1) × (before ≡ take k
 cut_of : (n : ℕ) (before late all : List Member) → length all ≡ n → length late ≤ 1 → all ≡ before ++ late
     → Cut n before all
 cut_of n before late all long few is =
-    let sum = length-append before late in
-    let same = ap length is in
+    let sum = length-append before late in let same = ap length is in
     (length before, omega arith, omega arith, rw is (sym (take_at before late (length before) refl)))
 
 last_same : (us vs : List Member) (x y : Member) → us ++ x ∷ [] ≡ vs ++ y ∷ [] → x ≡ y
@@ -138,8 +137,7 @@ module _ {past : List ℕ → Bool} {text : Option (List ℕ)} {extent : ℕ} {o
     few = grind arith;
     counted = grind arith;
     told = λ t e.
-        let was = r.was.told t e in
-        let more = read_more t e in
+        let was = r.was.told t e in let more = read_more t e in
         let next = given_next t e in
         record {
           begins = rw r.start was.begins;
@@ -161,10 +159,8 @@ module _ {past : List ℕ → Bool} {text : Option (List ℕ)} {extent : ℕ} {o
       goes t e = elim cases [
         | inl is ↦ (m ∷ [], rw (done_next ws is t e) (given_next t e), omega arith, is)
         | inr k ↦
-            let long = (r.was.told t e).as_many in
-            let more = read_more t e in
-            let next = given_next t e in
-            let inside = r.inside t e in
+            let long = (r.was.told t e).as_many in let more = read_more t e in
+            let next = given_next t e in let inside = r.inside t e in
             let stays_here = k.1 t e in
             let all = done_all past t c (grind (arith, length-append, r.count)) (grind (arith, each_join)) in
             ([], rw k.0 (rw all (sym (append-nil _))), omega arith, k.0)
@@ -179,8 +175,7 @@ same_stays past pair m ms end alike = grind (arith, slice_cmp-IsAntisymmetric, n
 pub low_of : (past : List ℕ → Bool) (pair : Pair) (ms : List Member) → NeverFalls member_pair pair_cmp ms
     → EndsAt past pair ms → AllByRecursion (λ k. Upto (member_pair k) pair) ms
 low_of past pair ms falls end =
-    let last = end.1 in
-    let up = same_upto (member_pair last) pair end.3 in
+    let last = end.1 in let up = same_upto (member_pair last) pair end.3 in
     rw end.2 (each_join (λ k. Upto (member_pair k) pair) end.0 (last ∷ [])
     (each_weaker (λ (k : Member) (h : Upto (member_pair k) (member_pair last)). upto_upto (member_pair k) (member_pair last)
     pair h up) end.0 (falls_last end.0 last (rw end.2 at falls))) (up, tt))

@@ -66,8 +66,7 @@ module _ {n : ℕ} {past : List ℕ → Bool} {S : Type 0} {device : Ghosts S}
     each = grind (arith, append_assoc, each_join);
     from = from;
     gathered = λ texts known low.
-        let f = d.input in
-        let was = h.gathered texts known low in
+        let f = d.input in let was = h.gathered texts known low in
         let t = get_or texts i [] in
         let known_now : Known (map device.text ss) texts = rw h.kept known in
         let many : length texts ≡ length ss = grind (arith, AllZip-long, length-map) in
@@ -94,12 +93,10 @@ module _ {n : ℕ} {past : List ℕ → Bool} {S : Type 0} {device : Ghosts S}
     pub taken_next : (m' : MergeState) → m'.cursors.items ≡ m.cursors.items → IsPermutation m.queue (w ∷ m'.queue)
         → NoneBefore w m'.queue → Alike (waiting_pair w) pair → TakenNext m'
     taken_next m' cursors p first at =
-        let i = w.source in
-        let fs = inputs m in
+        let i = w.source in let fs = inputs m in
         let inside = inside_sources m' h.aligned cursors p in
         let b : MergeInput = any_of fs i (let l = long in omega arith) in
-        let f = idle (get_or fs i b) in
-        let now = popped_inputs m' h.aligned cursors p b in
+        let f = idle (get_or fs i b) in let now = popped_inputs m' h.aligned cursors p b in
         let many = length_permutation m.queue (w ∷ m'.queue) p in
         let from = from_popped pair w m'.queue at first (none_left m' h.aligned cursors p) in
         let turn = (each_permuted (IsFrom pair n) m.queue (w ∷ m'.queue) p h.from).0.1 at in

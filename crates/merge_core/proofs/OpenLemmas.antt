@@ -21,8 +21,7 @@ module _ {past : List ℕ → Bool} {S : Type 0} {device : Ghosts S} {ss : List 
 
   pub ready_added : Ready past device (ss ++ s ∷ []) m'
   ready_added =
-      let same = was.aligned.same in
-      let n = length m.cursors.items in
+      let same = was.aligned.same in let n = length m.cursors.items in
       let long : length m'.cursors.items ≡ n + 1 = rw added.cursors_are (length-append m.cursors.items (added.cursor ∷ [])) in
       record {
         aligned = record {

@@ -89,8 +89,7 @@ module _ (past : List ℕ → Bool) (never : (key : List ℕ) → past key ≡ f
   index_read : {t : List ℕ} {f : MergeInput} → f.cursor.start ≡ 0 → f.waits ≡ [] → TextRead past t f
       → IsIndex LINE_LIMIT t (given t f.cursor)
   index_read {t = t} {f = f} zero_start none read =
-      let end = ended read none in
-      let left = length-drop f.cursor.count (lines t) in
+      let end = ended read none in let left = length-drop f.cursor.count (lines t) in
       let whole : read_lines t f.cursor ≡ lines t = grind (arith, take_all, nil_from_length) in
       subst (λ ls. IsRun LINE_LIMIT ls (given t f.cursor)) whole read.told.run
 

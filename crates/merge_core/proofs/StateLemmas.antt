@@ -158,8 +158,7 @@ module _ {past : List ℕ → Bool} {S : Type 0} {device : Ghosts S} {ss : List 
       → IsPermutation (queued (length m.cursors.items) new ++ m.queue) queue
       → inputs_from 0 (m.cursors.items ++ c ∷ []) queue ≡ inputs m ++ input_of c new ∷ []
   inputs_added c new queue most p =
-      let i = length m.cursors.items in
-      let none = waits_none i m.queue was.placed in
+      let i = length m.cursors.items in let none = waits_none i m.queue was.placed in
       grind (arith, queued_here, inputs_push, inputs_same, queued_beside)
 
   pub aligned_set : (i : ℕ) (s : S) (f : MergeInput) (m' : MergeState) → inputs m' ≡ set (inputs m) i f

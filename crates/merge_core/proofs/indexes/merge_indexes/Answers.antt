@@ -59,8 +59,7 @@ wrote g c =
 broke : (g : _) (c : In_err-merge g) → AppendsPrefix (g.O.Output.written c.args.out.now)
     (g.O.Output.written c.merge.new.out) (lines_text c.in_err-merge.ensures.ended.0.taken)
 broke g c =
-    let out = g.O.Output.written c.args.out.now in
-    let broke = c.in_err-merge.ensures.ended.0 in
+    let out = g.O.Output.written c.args.out.now in let broke = c.in_err-merge.ensures.ended.0 in
     elim (broke.wrote c.new-writer.result out (Appends-none out, c.new-writer.ensures)) [
       | inl k ↦ grind (arith, append-nil, prefix_whole)
       | inr p ↦ p
@@ -98,8 +97,7 @@ returns g c =
       kept = kept;
       fault = grind arith;
       merged = λ texts known.
-          let lines = parts texts (inputs m) in
-          let there = rw (← opened.sources.0.0) at known in
+          let lines = parts texts (inputs m) in let there = rw (← opened.sources.0.0) at known in
           let empty : m.queue ≡ [] = grind (arith, cases_Bool) in
           let starts = each_second (λ (c : CursorState). c.start ≡ 0) sources m.cursors.items reached.ready.aligned.same
           (starts_kept device _ _ c.merge.ensures.moved (begun g at.After-merge)) in

@@ -14,7 +14,8 @@ abbrev taken : (g : _) → After-pass_group g → List Member
 taken g c = c.loop-rest.invariant.came.taken ++ rising member_place place_cmp (group g c)
 
 grouped : (g : _) (c : After-pass_group g) → Grouped (g.R.Range.past c.args.range.now) g.S.Source
-    c.loop-rest.sources c.loop-rest.merge c.gather.new.sources c.gather.new.self (member_pair c.in-Some.first.value) (group g c)
+    c.loop-rest.sources c.loop-rest.merge c.gather.new.sources c.gather.new.self (member_pair c.in-Some.first.value)
+    (group g c)
 grouped g c = grind arith
 
 reached : (g : _) (c : After-pass_group g) → Reached (g.R.Range.past c.args.range.now) g.S.Source
@@ -75,8 +76,7 @@ returns-in_err-more-clause-most_lines g c = rw c.gather.ensures.most_lines c.loo
 pub returns-in_err-more-clause-ended : goal.returns-in_err-more-clause-ended
 returns-in_err-more-clause-ended g c =
     let here = (goal.at.returns-in_err-more-clause-ended g c).After-pass_group in
-    let came = c.loop-rest.invariant.came in
-    let gathered = grouped g here in
+    let came = c.loop-rest.invariant.came in let gathered = grouped g here in
     on_fault _ _ _ _ c.from_residual-in_err-more.ensures.1 (
       elim c.in_err-more.ensures.passed [
         | inl k ↦ broken_there came _ (grind arith)
@@ -105,8 +105,7 @@ returns-then-not-more-clause-most_lines g c =
 pub returns-then-not-more-clause-ended : goal.returns-then-not-more-clause-ended
 returns-then-not-more-clause-ended g c =
     let here = (goal.at.returns-then-not-more-clause-ended g c).After-pass_group in
-    let came = c.loop-rest.invariant.came in
-    let gathered = grouped g here in
+    let came = c.loop-rest.invariant.came in let gathered = grouped g here in
     let now = reached_same c.recycle.new.self c.recycle.ensures.kept (reached g here) in
     let above = gathered.above came.bound came.reached.above in
     record {

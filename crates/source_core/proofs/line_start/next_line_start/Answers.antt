@@ -8,8 +8,7 @@ use Rattle.source_core.proofs.line_start.next_line_start.Goals as goal
 gap : (g : _) (c : After-min-most g) (t : List ℕ) → g.S.Source.text c.args.source.now ≡ Some t
     → c.loop-at.at + 1 ≤ c.args.from + longest (lines t)
 gap g c t e =
-    let inv = c.loop-at.invariant in
-    let told = inv.told t e in
+    let inv = c.loop-at.invariant in let told = inv.told t e in
     gap_most t c.args.from c.loop-at.at (omega arith) (omega (arith, told.0, inv.within)) inv.low told.1
 
 -- the window holds bytes of the source from here on

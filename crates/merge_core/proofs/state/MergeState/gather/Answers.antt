@@ -33,8 +33,7 @@ taken : (g : _) (c : After-push g)
     c.read_on.new.sources c.read_on.new.self (c.with_start-keyed.result ∷ boxed_lines c.read_on.new.rest.items))
     → TakenNext h (taken_line g c) (popped_merge g c)
 taken g c h =
-    let took = c.in-Some-pop_at.ensures in
-    let is = sym c.next-in-sources.view_is in
+    let took = c.in-Some-pop_at.ensures in let is = sym c.next-in-sources.view_is in
     taken_next h (taken_line g c) (popped_merge g c) refl (rw is at took.out) (rw is at took.first) (grind arith)
 
 pub sources-init : goal.sources-init
@@ -45,8 +44,7 @@ sources-init g c =
     let from : Member → WaitingLine = λ m. record { member = m; source = c.next.inside.source } in
     let w = from c.with_start-keyed.result in
     let is = sym c.next.view_is ∙ ap from (sym (c.with_start-keyed.ensures ∙ c.deref.ensures)) in
-    let pair = waiting_pair w in
-    let out = rw is at c.in-Some.ensures.out in
+    let pair = waiting_pair w in let out = rw is at c.in-Some.ensures.out in
     let later = rw is at c.in-Some.ensures.first in
     let least = each_permuted (λ (v : WaitingLine). Upto pair (waiting_pair v)) (w ∷ left) old.queue
     (IsPermutation-sym old.queue (w ∷ left) out) (upto_itself pair, each_weaker (λ v. not_before v w) left later) in

@@ -18,8 +18,7 @@ loop-i-preserved g c =
     let i = c.loop-i.i in let a = c.index-sources-i.result in let s = c.add_from.new.source in
     let f = input_of added.cursor added.first in
     let inside : i < length ss = omega arith in
-    let now = added_inputs inv.ready added in
-    let ready = ready_added inv.ready added in
+    let now = added_inputs inv.ready added in let ready = ready_added inv.ready added in
     let front = take_more_set ss i s inside in
     let same_here : get_or ss i a ≡ get_or olds i a = left_here olds ss i a inv.left in
     record {
@@ -48,18 +47,14 @@ returns-in-Err-clause-sources g c = grind (arith, common_steps, map_set_same, le
 
 pub returns-in-Err-clause-spent : goal.returns-in-Err-clause-spent
 returns-in-Err-clause-spent g c =
-    let here = left_here c.args.sources.now c.loop-i.sources c.loop-i.i c.index-sources-i.result
-    c.loop-i.invariant.left in
+    let h = left_here c.args.sources.now c.loop-i.sources c.loop-i.i c.index-sources-i.result c.loop-i.invariant.left in
     grind (arith, two_put)
 
 pub returns-in-Err-clause-once : goal.returns-in-Err-clause-once
 returns-in-Err-clause-once g c = λ k.
-    let here = left_here c.args.sources.now c.loop-i.sources c.loop-i.i c.index-sources-i.result
-    c.loop-i.invariant.left in
+    let h = left_here c.args.sources.now c.loop-i.sources c.loop-i.i c.index-sources-i.result c.loop-i.invariant.left in
     grind (arith, two_put)
 
 pub returns : goal.returns
 returns g c =
-    let inv = c.loop-i.invariant in
-    let same = ap sum (simp map-map at (ap (map digits) inv.extent)) in
-    grind (arith, take_all)
+    let same = ap sum (simp map-map at (ap (map digits) c.loop-i.invariant.extent)) in grind (arith, take_all)

@@ -73,8 +73,7 @@ returns g c =
     let old = c.args.self.now in let i = c.args.i in let now = c.read_group.new.cursor in
     let read = c.in-Ok.ensures.read in
     let waits : List Member = option_list (boxed_line c.in-Ok.next) in
-    let f = input_of now waits in
-    let is = here g at in
+    let f = input_of now waits in let is = here g at in
     let cursors = (ap (λ (m : MergeState). m.cursors.items) c.enqueue.ensures.kept) in
     let queue = c.in_ok-enqueue.ensures.queue in
     let inputs_now = waited_inputs c.requires.aligned c.requires.inside (was g at) (none g at) c.enqueue.new.self now

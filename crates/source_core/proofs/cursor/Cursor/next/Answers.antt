@@ -1,8 +1,8 @@
-use Rattle.source_core.proofs.Words.{common_steps, rules, arith, refl, subst, ◌∙◌, ◌≡◌, ◌+◌, ◌-◌, ◌≤◌, ◌++◌, List, ℕ, Some, length, take}
-use Rattle.source_core.proofs.Words.{length-append, length-take, length-drop, AreBytesAt, BeginsWith, ReadsOn, held_from}
+use Rattle.source_core.proofs.Words.{common_steps, rules, arith, refl, subst, ◌∙◌, ◌≡◌, ◌+◌, ◌-◌, ◌≤◌, ◌++◌, List, ℕ}
+use Rattle.source_core.proofs.Words.{Some, length, take, length-append, length-take, length-drop, AreBytesAt}
+use Rattle.source_core.proofs.Words.{BeginsWith, ReadsOn, held_from}
 use Rattle.source_core.proofs.Parts.{cut_short, given_more, given_out}
-use Rattle.source_core.proofs.LongestLines.{front_least, reads_least}
-use Rattle.source_core.proofs.WindowLemmas.{held_behind, held_reads}
+use Rattle.source_core.proofs.{LongestLines.front_least, WindowLemmas.held_behind, WindowLemmas.held_reads}
 use Rattle.source_core.proofs.cursor.Cursor.next.Goals.{After-line_part-length, In_ok-extend_from_slice}
 use Rattle.source_core.proofs.cursor.Cursor.next.Goals as goal
 
@@ -62,7 +62,7 @@ returns-then-is_empty g c = grind (arith, common_steps)
 pub returns-then-length-len-clause-long : goal.returns-then-length-len-clause-long
 returns-then-length-len-clause-long g c = λ t e _.
     let reads = reads g (goal.at.returns-then-length-len-clause-long g c).After-line_part-length t e in
-    grind (arith, reads_least, length-append, length-take)
+    grind (arith, front_least, length-append, length-take)
 
 pub returns-then-ends-clause-given : goal.returns-then-ends-clause-given
 returns-then-ends-clause-given g c = λ t e.
@@ -90,10 +90,8 @@ returns-then-ends-clause-gave g c =
 
 pub loop-self-preserved : goal.loop-self-preserved
 loop-self-preserved g c =
-    let here = goal.at.loop-self-preserved g c in
-    let long = longer g here.In_ok-extend_from_slice in
-    let stands = behind g here.After-line_part-length in
-    let within = inside g here.After-line_part-length in
+    let here = goal.at.loop-self-preserved g c in let long = longer g here.In_ok-extend_from_slice in
+    let stands = behind g here.After-line_part-length in let within = inside g here.After-line_part-length in
     let told : (t : List ℕ) → g.S.Source.text c.args.source.now ≡ Some t → (length t ≡ c.size-size.result)
     × BeginsWith t c.args.self.now.at c.extend_from_slice.new.self.items = λ t e. (
       (c.loop-self.invariant.told t e).0,
