@@ -23,8 +23,8 @@ piece : (g : _) (c : After-min-count g) (t : List ℕ) → g.S.Source.text c.arg
     → IsPiece t c.from-held.result.now (g.S.Source.extent c.args.source.now) c.loop-at.at c.min-count.result c.args.from
 piece g c t e = let held = stands g c in grind (arith, common_steps)
 
-pub returns-in_err-hold-clause-gave : goal.returns-in_err-hold-clause-gave
-returns-in_err-hold-clause-gave g c = grind (arith, gap)
+pub returns-in_err-hold : goal.returns-in_err-hold
+returns-in_err-hold g c = grind (arith, gap)
 
 pub returns-in-Some-clause-gave : goal.returns-in-Some-clause-gave
 returns-in-Some-clause-gave g c = grind (arith, gap)

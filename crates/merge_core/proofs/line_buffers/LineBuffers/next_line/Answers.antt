@@ -19,5 +19,5 @@ returns-in-Err-line_of-clause-fault g c = λ t e.
     grind arith in
     grind arith
 
-pub returns-in-Err-Long-clause-fault : goal.returns-in-Err-Long-clause-fault
-returns-in-Err-Long-clause-fault g c = grind (arith, first_long)
+pub returns-in-Err-Long : goal.returns-in-Err-Long
+returns-in-Err-Long g c = grind (arith, first_long)

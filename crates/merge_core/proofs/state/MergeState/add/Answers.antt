@@ -10,17 +10,14 @@ fresh : (g : _) (c : After-next_line g) → IsInput (g.R.Range.past c.args.range
 fresh g c = input_fresh (g.R.Range.past c.args.range.now) _ _ c.args.cursor c.requires.stands c.requires.fresh.none
     c.requires.fresh.there c.requires.begins
 
-pub returns-in_err-next-clause-source : goal.returns-in_err-next-clause-source
-returns-in_err-next-clause-source g c = grind (arith, bad_named, fresh)
+pub returns-in_err-next : goal.returns-in_err-next
+returns-in_err-next g c = grind (arith, bad_named, fresh, first_within)
 
-pub returns-in_err-next-clause-spent : goal.returns-in_err-next-clause-spent
-returns-in_err-next-clause-spent g c = grind (arith, first_within)
+pub returns-in_err-push : goal.returns-in_err-push
+returns-in_err-push g c = grind (arith, first_within)
 
-pub returns-in_err-push-clause-spent : goal.returns-in_err-push-clause-spent
-returns-in_err-push-clause-spent g c = grind (arith, first_within)
-
-pub returns-in_err-enqueue-clause-spent : goal.returns-in_err-enqueue-clause-spent
-returns-in_err-enqueue-clause-spent g c = grind (arith, first_within)
+pub returns-in_err-enqueue : goal.returns-in_err-enqueue
+returns-in_err-enqueue g c = grind (arith, first_within)
 
 pub returns-clause-spent : goal.returns-clause-spent
 returns-clause-spent g c = grind (arith, first_within)

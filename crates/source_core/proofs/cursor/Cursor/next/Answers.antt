@@ -100,8 +100,5 @@ loop-self-preserved g c =
     ) in
     grind (arith, front_least)
 
-pub returns-clause-given : goal.returns-clause-given
-returns-clause-given g c = grind (arith, cut_short)
-
-pub returns-clause-stands : goal.returns-clause-stands
-returns-clause-stands g c = grind (arith, given_more, returns-clause-given)
+pub returns : goal.returns
+returns g c = grind (arith, cut_short, given_more)
