@@ -6,6 +6,9 @@ use Rattle.source_core.proofs.seeking.halve.Goals as goal
 pub overflow_add-probes : goal.overflow_add-probes
 overflow_add-probes g c = grind (arith, digits_below (g.S.Source.extent c.args.source.now))
 
+pub returns-in_err-found : goal.returns-in_err-found
+returns-in_err-found g c = grind arith
+
 pub returns-in-Some-clause-halved : goal.returns-in-Some-clause-halved
 returns-in-Some-clause-halved g c =
     let ok = c.in_ok-found.ensures in let is = c.in-Some.is in

@@ -59,9 +59,9 @@ returns-in_err-extend_from_slice g c = grind arith
 pub returns-then-is_empty : goal.returns-then-is_empty
 returns-then-is_empty g c = grind (arith, common_steps)
 
-pub returns-then-length-len-clause-long : goal.returns-then-length-len-clause-long
-returns-then-length-len-clause-long g c = λ t e _.
-    let reads = reads g (goal.at.returns-then-length-len-clause-long g c).After-line_part-length t e in
+pub returns-then-length-len : goal.returns-then-length-len
+returns-then-length-len g c =
+    let reads = reads g (goal.at.returns-then-length-len g c).After-line_part-length in
     grind (arith, front_least, length-append, length-take)
 
 pub returns-then-ends-clause-given : goal.returns-then-ends-clause-given
