@@ -1,23 +1,21 @@
 -- How far sources were read: in lines and in bytes.
-use Rattle.merge_core.proofs.Words.{[], ℕ, ◌++◌, ◌+◌, ◌∙◌, ◌∷◌, ◌≡◌, ◌≤◌, AllByRecursion, AreInputs, AreReadTo, Bool}
-use Rattle.merge_core.proofs.Words.{CursorState, EndsAt, MergeInput, Ghosts, IsUpto, LINE_LIMIT, List, Option, Pair}
-use Rattle.merge_core.proofs.Words.{ReadTo, Some, all_done, ap, append-nil, append_assoc, arith, bytes_of, done, drop}
-use Rattle.merge_core.proofs.Words.{drop-set-lt, input_of, first_length, flat_map-append, get_or, given, length}
-use Rattle.merge_core.proofs.Words.{length-append, length-drop, line_entry, lines, longest, member_pair, read_lines}
-use Rattle.merge_core.proofs.Words.{refl, set, suc, sym, take, take-append-drop, take-map, ◌<◌, AllZip, Grouped}
-use Rattle.merge_core.proofs.Words.{IsCut, IsIndex, Known, Member, MergeState, Reached, WaitingLine, all_lines}
-use Rattle.merge_core.proofs.Words.{each_weaker, false, inputs, filter, filter-append, is_low, is_of, length-map}
-use Rattle.merge_core.proofs.Words.{length-take, map, map-append, member_of, nil_from_length, not, sum, sum_by-cons}
-use Rattle.merge_core.proofs.Words.{true, waits_of, zero, zip, lines_text, drop_more_same, get_or-drop, AllGaveWithin}
-use Rattle.merge_core.proofs.Words.{take-take, is_at, OverTexts, EachDone, IsInputOf, OverShares, AreOpened, IsInput}
+use Rattle.merge_core.proofs.Words.{ℕ, IsUpto, Option, ReadTo, get_or, length, AllZip, Member, Reached, inputs, IsInput}
+use Rattle.merge_core.proofs.Words.{◌++◌, Bool, List, given, lines, IsCut, Known, false, filter, is_low, is_of, is_at}
+use Rattle.merge_core.proofs.Words.{◌+◌, ◌∙◌, ◌∷◌, ◌≡◌, ◌≤◌, Pair, Some, done, drop, refl, set, suc, take, true, zero}
+use Rattle.merge_core.proofs.Words.{AllByRecursion, flat_map-append, take-append-drop, nil_from_length, drop_more_same}
+use Rattle.merge_core.proofs.Words.{AreInputs, read_lines, MergeState, length-map, map-append, lines_text, OverShares}
+use Rattle.merge_core.proofs.Words.{AreReadTo, EndsAt, all_lines, member_of, take-take, OverTexts, IsInputOf, AreOpened}
+use Rattle.merge_core.proofs.Words.{[], ap, sym, ◌<◌, map, not, sum, zip}
+use Rattle.merge_core.proofs.Words.{CursorState, arith, drop-set-lt, length-drop, member_pair, WaitingLine, each_weaker}
+use Rattle.merge_core.proofs.Words.{MergeInput, append_assoc, first_length, length-append, filter-append, AllGaveWithin}
+use Rattle.merge_core.proofs.Words.{Ghosts, bytes_of, input_of, longest, take-map, Grouped, IsIndex, waits_of, EachDone}
+use Rattle.merge_core.proofs.Words.{LINE_LIMIT, all_done, append-nil, line_entry, length-take, sum_by-cons, get_or-drop}
 use Rattle.source_core.proofs.LongestLines.{first_most, longest_drop}
 use Rattle.merge_core.proofs.InputLemmas.{all_taken, all_upto, done_cut, done_within, TextRead}
-use Rattle.merge_core.proofs.Many.{each_both, filter_fewer, filter_weaker, filter_front, each_take, zip_set}
-use Rattle.merge_core.proofs.Many.{each_replaced, Move}
+use Rattle.merge_core.proofs.Many.{each_both, filter_fewer, filter_weaker, filter_front, each_take, each_replaced, Move}
+use Rattle.merge_core.proofs.{MergeLemmas.gathered_now, Many.zip_set, TakenLemmas.members_are}
 use Rattle.merge_core.proofs.GroupLemmas.{each_cut, filter_all}
 use Rattle.merge_core.proofs.StateLemmas.{cursors_of, few_wait, long_of}
-use Rattle.merge_core.proofs.MergeLemmas.{gathered_now}
-use Rattle.merge_core.proofs.TakenLemmas.{members_are}
 use Rattle.merge_core.proofs.SourceLemmas.{reached_long, run_after, IsSought, each_done, reached_read}
 use Rattle.std.proofs.lemmas.List.Filters.{length-filter_both}
 
@@ -42,13 +40,10 @@ pub read_to : {past : List ℕ → Bool} {t : List ℕ} {f : MergeInput} → IsI
     → new.start ≡ f.cursor.start → new.at ≤ f.cursor.at + first_length (lines (drop f.cursor.at t))
     → length new.ahead ≤ 8192 → ReadTo past b t new
 read_to {past = past} {t = t} {f = f} told b new upto start near ahead =
-    let from = lines (drop f.cursor.start t) in
-    let all = read_lines t f.cursor in
-    let cut = done_cut told in
-    let k = cut.0 in
+    let from = lines (drop f.cursor.start t) in let all = read_lines t f.cursor in
+    let cut = done_cut told in let k = cut.0 in
     let last = one_line (drop k all) (grind (arith, length-drop)) in
-    let whole = ap bytes_of (take-append-drop k all) in
-    let within = done_within past t f in
+    let whole = ap bytes_of (take-append-drop k all) in let within = done_within past t f in
     record {
       read = take k all;
       rest = drop k all ++ drop f.cursor.count from;
@@ -83,8 +78,7 @@ module _ (past : List ℕ → Bool) {S : Type 0} (device : Ghosts S) (b : Option
   pub are_read_to : (ss : List S) (m : MergeState) → AreInputs past device ss (inputs m)
       → EachDone past device.text (AllByRecursion (λ m. IsUpto b (member_pair m))) ss (inputs m)
       → AreReadTo past device.text b ss m.cursors.items
-  are_read_to ss m input upto =
-      rw (cursors_of 0 m.cursors.items m.queue) at (each_read_to ss (inputs m) input upto)
+  are_read_to ss m input upto = rw (cursors_of 0 m.cursors.items m.queue) at (each_read_to ss (inputs m) input upto)
 
   -- one of them was read on
   pub read_on : (ss : List S) (cs : List CursorState) (i : ℕ) (s : S) (c : CursorState) → AreReadTo past device.text b ss cs
@@ -112,8 +106,6 @@ pub left_after : {X : Type 0} (old xs : List X) (i : ℕ) (y : X) → drop i xs 
     ≡ drop (i + 1) old
 left_after old xs i y e = grind (arith, drop-set-lt, drop_more_same)
 
--- ---- how many lines were read of indexes, and are held at once
-
 -- ---- the lines that wait: one of each source at most
 
 others_before : (n : ℕ) (ws : List WaitingLine) → AllByRecursion (λ (w : WaitingLine). w.source < suc n) ws
@@ -134,9 +126,8 @@ few_of zero (w ∷ ws) placed few = grind arith
 -- ---- the lines of a group
 
 -- what was taken of an index is among its lines
-pub done_fewer : {past : List ℕ → Bool} {t : List ℕ} {f : MergeInput} {ms : List Member}
-    (test : Member → Bool) → IsInputOf past t f → IsIndex LINE_LIMIT t ms
-    → length (filter test (done past t f)) ≤ length (filter test ms)
+pub done_fewer : {past : List ℕ → Bool} {t : List ℕ} {f : MergeInput} {ms : List Member} (test : Member → Bool)
+    → IsInputOf past t f → IsIndex LINE_LIMIT t ms → length (filter test (done past t f)) ≤ length (filter test ms)
 done_fewer {past = past} {t = t} {f = f} {ms = ms} test told index =
     let cut = done_cut told in
     let whole = map-append member_of told.begins.0 (lines (drop f.cursor.start t)) in
@@ -175,26 +166,21 @@ pub record Passes (past : List ℕ → Bool) (start : Pair) (b : Option Pair) (t
 -- lines were read of sources that are indexes, from where the search for that pair ended
 module _ {past : List ℕ → Bool} {start : Pair} {b : Option Pair} {test : Member → Bool}
     (p : Passes past start b test) where
-  pub each_passes : (ms : List Member)
-      → AllByRecursion (λ m. (past m.values.key ≡ false) × IsUpto b (member_pair m)) ms
+  pub each_passes : (ms : List Member) → AllByRecursion (λ m. (past m.values.key ≡ false) × IsUpto b (member_pair m)) ms
       → AllByRecursion (λ m. is_low start m ≡ false) ms → AllByRecursion (λ m. test m ≡ true) ms
   each_passes [] within not_low = tt
-  each_passes (m ∷ ms) within not_low =
-      (p.passes m within.0.0 not_low.0 within.0.1, each_passes ms within.1 not_low.1)
+  each_passes (m ∷ ms) within not_low = (p.passes m within.0.0 not_low.0 within.0.1, each_passes ms within.1 not_low.1)
 
-  source_most : {t : List ℕ} {f : MergeInput} {ms : List Member} → IsInputOf past t f
-      → IsIndex LINE_LIMIT t ms → IsCut start t ms f.cursor.start
-      → AllByRecursion (λ m. IsUpto b (member_pair m)) (done past t f)
+  source_most : {t : List ℕ} {f : MergeInput} {ms : List Member} → IsInputOf past t f → IsIndex LINE_LIMIT t ms
+      → IsCut start t ms f.cursor.start → AllByRecursion (λ m. IsUpto b (member_pair m)) (done past t f)
       → f.cursor.count ≤ length (filter test ms) + 1
   source_most {t = t} {f = f} {ms = ms} told index cut upto =
       let run = run_after start t ms f.cursor.start index cut in
       let high : map member_of (lines (drop f.cursor.start t)) ≡ cut.high = members_are _ cut.high run.0.entries in
-      let done_of = done_cut told in
-      let k = done_of.0 in
+      let done_of = done_cut told in let k = done_of.0 in
       let front : done past t f ≡ take k cut.high = grind (arith, take-map, take-take) in
       let not_low = rw (← front) at (each_take (λ m. is_low start m ≡ false) k cut.high cut.none_below) in
-      let fewer = done_fewer test told index in
-      let within = done_within past t f in
+      let fewer = done_fewer test told index in let within = done_within past t f in
       grind (arith, length-map, each_both, each_passes, filter_all, length-take)
 
   -- No more lines were read than those that pass, and one of each source
@@ -244,8 +230,7 @@ module _ {past : List ℕ → Bool} {start : Pair} {b : Option Pair} {test : Mem
         → AllByRecursion (λ x. (t : List ℕ) → device.text x.0 ≡ Some t → ReadTo past b t x.1) xs
         → AllGaveWithin device test texts indexes ss0 (map (λ x. x.0) xs)
     gave_most (s ∷ ss) (y ∷ ys) (x ∷ xs) (t ∷ ts) (i ∷ is) known are opened moved reads =
-        let m = moved.0 in
-        let o = opened.0 in
+        let m = moved.0 in let o = opened.0 in
         let r = reads.0 t (m.text_kept ∙ o.kept.0 ∙ known.0) in
         let came = o.came t known.0 in
         let here = source_bytes t i x.1 are.0 (rw m.start_kept (o.cut t i known.0 are.0)) r in

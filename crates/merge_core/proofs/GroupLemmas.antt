@@ -1,20 +1,15 @@
 -- The lines that wait: whose turn comes first, and the lines of one pair, taken of one source after another.
-use Rattle.merge_core.proofs.Words.{nil_from_length, [], ℕ, ◌++◌, ◌<◌, ◌∙◌, ◌∷◌, ◌≡◌, ◌≢◌, ◌≤◌, AllByRecursion}
-use Rattle.merge_core.proofs.Words.{IsPermutation, List, Member, WaitingLine, arith, cond-false, cond-true}
-use Rattle.merge_core.proofs.Words.{each_weaker, false, filter, get_or, is_of, length, queued, refl, subst, sym, true}
-use Rattle.merge_core.proofs.Words.{waits_of, Alike, AllBeyond, Below, Equal, MatchOption, NoneBefore, NoneBelow}
-use Rattle.merge_core.proofs.Words.{Option, Pair, Upto, is_eq, is_lt, length_permutation, pair_cmp, pair_cmp_total}
-use Rattle.merge_core.proofs.Words.{turn_cmp, waiting_pair, ◌+◌, ◌-◌, Bool, Gathered, IsFrom, ap, append-nil}
-use Rattle.merge_core.proofs.Words.{append_assoc, drop, drop-set-lt, each_join, filter-append, flat_map}
-use Rattle.merge_core.proofs.Words.{flat_map-append, member_pair, set, take, take-append-drop, take_more}
-use Rattle.merge_core.proofs.Words.{take_more_set, tied_back, common_steps, cond, IfSome, drop-drop, All-permutation}
-use Rattle.merge_core.proofs.Words.{sum_by-IsPermutation, All-from_recursion, recursion_from_All, length-map}
-use Rattle.merge_core.proofs.Words.{length-filter}
-use Rattle.merge_core.proofs.PairOrder.{from_not_below, below_then, below_upto, same_upto, same_from, upto_upto}
-use Rattle.merge_core.proofs.PairOrder.{not_below_itself}
-use Rattle.merge_core.proofs.Many.{each_both}
-
--- ---- which lines of each source wait, as lines come and go
+use Rattle.merge_core.proofs.Words.{nil_from_length, AllByRecursion, pair_cmp_total, flat_map-append, All-permutation}
+use Rattle.merge_core.proofs.Words.{[], cond-false, AllBeyond, NoneBefore, NoneBelow, append-nil, each_join, length-map}
+use Rattle.merge_core.proofs.Words.{ℕ, ◌++◌, List, refl, true, Below, Pair, Upto, is_eq, is_lt, Bool, drop, take}
+use Rattle.merge_core.proofs.Words.{◌<◌, take-append-drop, sum_by-IsPermutation, All-from_recursion, recursion_from_All}
+use Rattle.merge_core.proofs.Words.{◌∙◌, WaitingLine, each_weaker, append_assoc, drop-set-lt, member_pair, common_steps}
+use Rattle.merge_core.proofs.Words.{◌∷◌, ◌≡◌, ◌≢◌, ◌≤◌, sym, ◌+◌, ◌-◌, ap, set, cond}
+use Rattle.merge_core.proofs.Words.{IsPermutation, cond-true, waiting_pair, filter-append, take_more_set, length-filter}
+use Rattle.merge_core.proofs.Words.{Member, arith, false, filter, get_or, is_of, length, queued, subst, Alike, IsFrom}
+use Rattle.merge_core.proofs.Words.{waits_of, pair_cmp, turn_cmp, Gathered, flat_map, take_more, tied_back, drop-drop}
+use Rattle.merge_core.proofs.PairOrder.{from_not_below, below_then, below_upto, same_upto, same_from, not_below_itself}
+use Rattle.merge_core.proofs.{PairOrder.upto_upto, Many.each_both}
 
 pub each_permuted : {X : Type 0} (P : X → Type 0) (xs ys : List X) → IsPermutation xs ys → AllByRecursion P xs
     → AllByRecursion P ys
@@ -22,22 +17,15 @@ each_permuted P xs ys p h = recursion_from_All P ys (All-permutation P xs ys p (
 
 -- ---- one line at most of each source
 
-pub waits_here : (i : ℕ) (w : WaitingLine) (ws : List WaitingLine) → w.source ≡ i → waits_of i (w ∷ ws)
-    ≡ w.member ∷ waits_of i ws
-waits_here i w ws e = grind arith
-
-pub waits_other : (i : ℕ) (w : WaitingLine) (ws : List WaitingLine) → w.source ≢ i → waits_of i (w ∷ ws) ≡ waits_of i ws
-waits_other i w ws n = grind arith
-
 pub waits_queued : (i : ℕ) (ms : List Member) (ws : List WaitingLine) → waits_of i (queued i ms ++ ws)
     ≡ ms ++ waits_of i ws
 waits_queued i [] ws = refl
-waits_queued i (m ∷ ms) ws = grind (arith, waits_here, waits_queued i ms ws)
+waits_queued i (m ∷ ms) ws = grind (arith, waits_queued i ms ws)
 
 pub waits_beside : (i j : ℕ) (ms : List Member) (ws : List WaitingLine) → j ≢ i
     → waits_of j (queued i ms ++ ws) ≡ waits_of j ws
 waits_beside i j [] ws n = refl
-waits_beside i j (m ∷ ms) ws n = grind (arith, waits_other, waits_beside i j ms ws n)
+waits_beside i j (m ∷ ms) ws n = grind (arith, waits_beside i j ms ws n)
 
 module _ (P : Member → Type 0) (i : ℕ) where
   pub each_waits : (ws : List WaitingLine) → AllByRecursion (λ w. is_of i w ≡ true → P w.member) ws
@@ -48,8 +36,7 @@ module _ (P : Member → Type 0) (i : ℕ) where
   pub waits_each : (ws : List WaitingLine) → AllByRecursion P (waits_of i ws)
       → AllByRecursion (λ w. is_of i w ≡ true → P w.member) ws
   waits_each [] h = tt
-  waits_each (w ∷ ws) h =
-      grind (arith, waits_each ws)
+  waits_each (w ∷ ws) h = grind (arith, waits_each ws)
 
 all_same : (us vs : List Member) → length us ≤ 1 → length vs ≡ length us
     → ((m : Member) → us ≡ m ∷ [] → AllByRecursion (λ k. k ≡ m) vs) → vs ≡ us
@@ -77,31 +64,17 @@ none_waits i (w ∷ ws) e = grind (arith, none_waits i ws)
 pub not_before : (v w : WaitingLine) → is_lt (turn_cmp v w) ≡ false → Upto (waiting_pair w) (waiting_pair v)
 not_before v w h = from_not_below (waiting_pair v) (waiting_pair w) (grind arith)
 
-pub source_after : (v w : WaitingLine) → is_lt (turn_cmp v w) ≡ false → pair_cmp (waiting_pair v) (waiting_pair w)
-    ≡ Equal → w.source ≤ v.source
-source_after v w h e = grind arith
-
--- what isn't above and doesn't have the pair is below
-pub below_unless : (p q : Pair) → Upto p q → is_eq (pair_cmp q p) ≡ false → Below p q
+below_unless : (p q : Pair) → Upto p q → is_eq (pair_cmp q p) ≡ false → Below p q
 below_unless p q h e = grind (arith, pair_cmp_total)
 
 -- where the first in turn doesn't have the pair, all are above it
 pub all_later_unless : (p : Pair) (w : WaitingLine) (ws : List WaitingLine) → w ≡ get_or ws 0 w
-    → is_eq (pair_cmp (waiting_pair w) p) ≡ false
-    → NoneBelow p ws → NoneBefore w ws
-    → AllBeyond p ws
+    → is_eq (pair_cmp (waiting_pair w) p) ≡ false → NoneBelow p ws → NoneBefore w ws → AllBeyond p ws
 all_later_unless p w [] e n u h = tt
 all_later_unless p w (v ∷ ws) e n u h =
     let above = below_unless p (waiting_pair w) (grind arith) n in
     each_weaker (λ (v : WaitingLine) (q : is_lt (turn_cmp v w) ≡ false). below_then p (waiting_pair w) (waiting_pair v)
     above (not_before v w q)) (v ∷ ws) h
-
--- the line that is taken out has the pair that the first in turn has
-pub popped_alike : (p : Pair) (old new : List WaitingLine) (r : Option WaitingLine)
-    → MatchOption r ((old ≡ []) × (new ≡ [])) (λ w. IsPermutation old (w ∷ new)) → IfSome r (λ w. w ≡ get_or old 0 w)
-    → ((d : WaitingLine) → 0 < length old → Alike (waiting_pair (get_or old 0 d)) p)
-    → IfSome r (λ w. Alike (waiting_pair w) p)
-popped_alike p old new r out top h = grind (arith, length_permutation)
 
 -- ---- the lines of one pair, taken of one source after another
 
@@ -158,8 +131,7 @@ module _ (pair : Pair) where
         → Gathered pair old (flat_map d (set xs j y)) [] (group ++ us)
         × AreBelow pair (flat_map d (drop (j + 1) (set xs j y)))
     source_more n j x y old group us l inside e at h low =
-        let now = flat_map d (take (j + 1) xs) in
-        let later = flat_map d (drop (j + 1) xs) in
+        let now = flat_map d (take (j + 1) xs) in let later = flat_map d (drop (j + 1) xs) in
         let k : n + (j + 1 - n) ≡ j + 1 = omega arith in
         let below : AreBelow pair later = rw k at (below_after n (j + 1 - n) low) in
         rw (cut (j + 1) (set xs j y), more j x y us inside e, drop-set-lt (j + 1) xs j y (omega arith))
@@ -169,14 +141,13 @@ module _ (pair : Pair) where
 
 -- none of the others has the pair, save those of later sources
 pub from_popped : (pair : Pair) (w : WaitingLine) (ws : List WaitingLine) → Alike (waiting_pair w) pair
-    → NoneBefore w ws → waits_of w.source ws ≡ []
-    → AllByRecursion (IsFrom pair (w.source + 1)) ws
+    → NoneBefore w ws → waits_of w.source ws ≡ [] → AllByRecursion (IsFrom pair (w.source + 1)) ws
 from_popped pair w ws e first none =
     each_weaker (λ (v : WaitingLine) (h : (is_lt (turn_cmp v w) ≡ false) × (v.source ≢ w.source)). (
       upto_upto pair (waiting_pair w) (waiting_pair v) (same_from (waiting_pair w) pair e) (not_before v w h.0),
       λ a. (let at = pair_cmp_total.congr (waiting_pair v) pair (waiting_pair w) a
           ∙ tied_back pair_cmp_total (waiting_pair w) pair e in
-          let later = source_after v w h.0 at in let other = h.1 in omega arith),
+          let later : w.source ≤ v.source = grind arith in let other = h.1 in omega arith),
     )) ws (each_both _ _ ws first (none_waits w.source ws none))
 
 pub from_waited : (pair : Pair) (n i : ℕ) (waits : List Member) (old new : List WaitingLine)

@@ -1,14 +1,12 @@
 -- What one line more makes of an input.
-use Rattle.merge_core.proofs.Words.{[], ℕ, ◌++◌, ◌+◌, ◌-◌, ◌<◌, ◌∙◌, ◌∷◌, ◌≡◌, ◌≤◌, ◌⊎◌, Alike, AllByRecursion, Below}
-use Rattle.merge_core.proofs.Words.{Bool, CursorState, EndsAt, IsInput, MergeInput, FeedFault, IsNextLine, IsSettled}
-use Rattle.merge_core.proofs.Words.{LINE_LIMIT, List, Member, NeverFalls, None, Option, Pair, Some, Stands, Upto, ap}
-use Rattle.merge_core.proofs.Words.{append-nil, append_assoc, arith, done, drop, drop_all, each_join, each_weaker}
-use Rattle.merge_core.proofs.Words.{false, input_of, filter, filter-append, first_length, flat_map-append, given, inl}
-use Rattle.merge_core.proofs.Words.{inr, length, length-append, length-map, length-take, line_entry, lines, map}
-use Rattle.merge_core.proofs.Words.{map-append, member_pair, not-true, pair_cmp, pair_cmp_total, read_lines, refl}
-use Rattle.merge_core.proofs.Words.{stays, suc, sym, take, take-append-drop, true, nil_from_length, take_at, EndsPast}
-use Rattle.merge_core.proofs.Words.{IsInputOf}
-use Rattle.std.proofs.Common.{take_all}
+use Rattle.merge_core.proofs.Words.{[], ◌++◌, Bool, List, None, Pair, Some, Upto, done, drop, given, lines, refl, stays}
+use Rattle.merge_core.proofs.Words.{ℕ, IsSettled, append-nil, each_join, length-map, line_entry, map-append, read_lines}
+use Rattle.merge_core.proofs.Words.{◌+◌, IsInput, drop_all, input_of, not-true, pair_cmp, EndsPast, IsInputOf, take_all}
+use Rattle.merge_core.proofs.Words.{Alike, Below, EndsAt, Member, Option, Stands, arith, false, filter, length, take_at}
+use Rattle.merge_core.proofs.Words.{AllByRecursion, flat_map-append, pair_cmp_total, take-append-drop, nil_from_length}
+use Rattle.merge_core.proofs.Words.{◌-◌, ◌<◌, ◌∙◌, ◌∷◌, ◌≡◌, ◌≤◌, ◌⊎◌, ap, inl, inr, map, suc, sym, take, true}
+use Rattle.merge_core.proofs.Words.{CursorState, append_assoc, each_weaker, filter-append, first_length, length-append}
+use Rattle.merge_core.proofs.Words.{MergeInput, FeedFault, IsNextLine, LINE_LIMIT, NeverFalls, length-take, member_pair}
 use Rattle.std.specs.FinMap.{nat_cmp-IsAntisymmetric, slice_cmp-IsAntisymmetric}
 use Rattle.cdxj_core.specs.Lines.{body_of}
 use Rattle.cdxj_core.proofs.MemberLemmas.{entry_is_short, long_line_none}
@@ -58,8 +56,7 @@ Cut n before all = (k : ℕ) × (k ≤ n) × (n ≤ k + 1) × (before ≡ take k
 cut_of : (n : ℕ) (before late all : List Member) → length all ≡ n → length late ≤ 1 → all ≡ before ++ late
     → Cut n before all
 cut_of n before late all long few is =
-    let sum = length-append before late in
-    let same = ap length is in
+    let sum = length-append before late in let same = ap length is in
     (length before, omega arith, omega arith, rw is (sym (take_at before late (length before) refl)))
 
 last_same : (us vs : List Member) (x y : Member) → us ++ x ∷ [] ≡ vs ++ y ∷ [] → x ≡ y
@@ -81,8 +78,7 @@ module _ (past : List ℕ → Bool) where
   pub done_all : (t : List ℕ) (c : CursorState) → length (read_lines t c) ≡ c.count
       → AllByRecursion (λ m. stays past m ≡ true) (given t c) → done past t (input_of c []) ≡ given t c
   done_all t c long each =
-      let whole = take_all c.count (given t c) (grind (arith, length-map)) in
-      grind (arith, filter_all)
+      let whole = take_all c.count (given t c) (grind (arith, length-map)) in grind (arith, filter_all)
 
   -- the next line of a source was read, which is this one
   pub record LineRead (text : Option (List ℕ)) (extent : ℕ) (old c : CursorState) (m : Member) : Type 0 where
@@ -93,13 +89,11 @@ module _ (past : List ℕ → Bool) where
     pub count : c.count ≡ old.count + 1
     pub near : (t : List ℕ) → text ≡ Some t → c.at ≤ old.at + first_length (lines (drop old.at t))
     pub next : (t : List ℕ) → text ≡ Some t → IsNextLine t old.at c.at (Some m)
-    pub low : (t : List ℕ) → text ≡ Some t
-        → AllByRecursion (λ k. Upto (member_pair k) (member_pair m)) (given t old)
+    pub low : (t : List ℕ) → text ≡ Some t → AllByRecursion (λ k. Upto (member_pair k) (member_pair m)) (given t old)
 
 pub done_cut : {past : List ℕ → Bool} {t : List ℕ} {f : MergeInput} → IsInputOf past t f
     → Cut f.cursor.count (done past t f) (given t f.cursor)
-done_cut {f = f} told =
-    cut_of f.cursor.count _ told.late _ (grind (arith, length-map)) told.one told.split
+done_cut {f = f} told = cut_of f.cursor.count _ told.late _ (grind (arith, length-map)) told.one told.split
 
 -- a text was read, and where no line of it waits, to the end of the range
 pub record TextRead (past : List ℕ → Bool) (t : List ℕ) (f : MergeInput) : Type 0 where
@@ -120,27 +114,22 @@ module _ {past : List ℕ → Bool} {text : Option (List ℕ)} {extent : ℕ} {o
   as_many t e = let was = (r.was.told t e).as_many in grind (arith, length-map)
 
   front : (t : List ℕ) → text ≡ Some t → take (c.count - 1) (given t c) ≡ given t old
-  front t e =
-      grind (arith, as_many, given_next, take_at)
+  front t e = grind (arith, as_many, given_next, take_at)
 
   whole : (t : List ℕ) → text ≡ Some t → take c.count (given t c) ≡ given t c
-  whole t e =
-      grind (arith, as_many, given_next, length-append, take_all)
+  whole t e = grind (arith, as_many, given_next, length-append, take_all)
 
   -- it waits unless it lies past the range, or it was taken
   abbrev pub Goes : List Member → Type 0
   Goes ws = (ws ≡ filter (stays past) (m ∷ []))
       ⊎ ((ws ≡ []) × ((t : List ℕ) → text ≡ Some t → stays past m ≡ true))
 
-  pub settled_more : (ws : List Member) → ws ≡ filter (stays past) (m ∷ [])
-      → IsSettled past text (input_of c ws)
+  pub settled_more : (ws : List Member) → ws ≡ filter (stays past) (m ∷ []) → IsSettled past text (input_of c ws)
   settled_more ws is t e none = inr (given t old, m, given_next t e, grind arith)
 
   pub done_next : (ws : List Member) → ws ≡ filter (stays past) (m ∷ []) → (t : List ℕ) → text ≡ Some t
       → done past t (input_of c ws) ≡ given t old
-  done_next ws is t e =
-      let whole = whole t e in
-      grind (arith, filter_all, filter-append, append-nil, given_next, front)
+  done_next ws is t e = let whole = whole t e in grind (arith, filter_all, filter-append, append-nil, given_next, front)
 
   pub input_more : (ws : List Member) → Goes ws → IsInput past text extent (input_of c ws)
   input_more ws cases = record {
@@ -148,8 +137,7 @@ module _ {past : List ℕ → Bool} {text : Option (List ℕ)} {extent : ℕ} {o
     few = grind arith;
     counted = grind arith;
     told = λ t e.
-        let was = r.was.told t e in
-        let more = read_more t e in
+        let was = r.was.told t e in let more = read_more t e in
         let next = given_next t e in
         record {
           begins = rw r.start was.begins;
@@ -171,10 +159,8 @@ module _ {past : List ℕ → Bool} {text : Option (List ℕ)} {extent : ℕ} {o
       goes t e = elim cases [
         | inl is ↦ (m ∷ [], rw (done_next ws is t e) (given_next t e), omega arith, is)
         | inr k ↦
-            let long = (r.was.told t e).as_many in
-            let more = read_more t e in
-            let next = given_next t e in
-            let inside = r.inside t e in
+            let long = (r.was.told t e).as_many in let more = read_more t e in
+            let next = given_next t e in let inside = r.inside t e in
             let stays_here = k.1 t e in
             let all = done_all past t c (grind (arith, length-append, r.count)) (grind (arith, each_join)) in
             ([], rw k.0 (rw all (sym (append-nil _))), omega arith, k.0)
@@ -183,15 +169,13 @@ module _ {past : List ℕ → Bool} {text : Option (List ℕ)} {extent : ℕ} {o
 -- a line that has the pair of the last one, which lies within the range, lies within it
 pub same_stays : (past : List ℕ → Bool) (pair : Pair) (m : Member) (ms : List Member) → EndsAt past pair ms
     → Alike (member_pair m) pair → past m.values.key ≡ false
-same_stays past pair m ms end alike =
-    grind (arith, slice_cmp-IsAntisymmetric, nat_cmp-IsAntisymmetric, pair_cmp_total)
+same_stays past pair m ms end alike = grind (arith, slice_cmp-IsAntisymmetric, nat_cmp-IsAntisymmetric, pair_cmp_total)
 
 -- none of lines that never fall is above the last
 pub low_of : (past : List ℕ → Bool) (pair : Pair) (ms : List Member) → NeverFalls member_pair pair_cmp ms
     → EndsAt past pair ms → AllByRecursion (λ k. Upto (member_pair k) pair) ms
 low_of past pair ms falls end =
-    let last = end.1 in
-    let up = same_upto (member_pair last) pair end.3 in
+    let last = end.1 in let up = same_upto (member_pair last) pair end.3 in
     rw end.2 (each_join (λ k. Upto (member_pair k) pair) end.0 (last ∷ [])
     (each_weaker (λ (k : Member) (h : Upto (member_pair k) (member_pair last)). upto_upto (member_pair k) (member_pair last)
     pair h up) end.0 (falls_last end.0 last (rw end.2 at falls))) (up, tt))
@@ -209,8 +193,7 @@ module _ {past : List ℕ → Bool} {t : List ℕ} {c : CursorState} {pair : Pai
           → given t c ≡ done past t (input_of c []) ++ late → done past t (input_of c []) ≡ given t c
       none_late [] one waiting split = sym (split ∙ append-nil _)
       none_late (m ∷ ms) one waiting split =
-          let none : ms ≡ [] = grind (arith, nil_from_length) in
-          absurd (grind (arith, last_same))
+          let none : ms ≡ [] = grind (arith, nil_from_length) in absurd (grind (arith, last_same))
 
   pub all_inside : AllByRecursion (λ m. stays past m ≡ true) (given t c)
   all_inside = rw (← all_taken) (filter_passes (stays past) _)

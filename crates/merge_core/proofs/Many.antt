@@ -1,9 +1,8 @@
 -- Lists, and lists of sources and inputs, seen as one list of pairs.
-use Rattle.merge_core.proofs.Words.{[], ℕ, ◌∷◌, ◌≡◌, ◌≤◌, AllByRecursion, Bool, List, arith, cond-true, false, filter}
-use Rattle.merge_core.proofs.Words.{filter-append, length, length-append, not, suc, take, take-append-drop, true, ◌+◌}
-use Rattle.merge_core.proofs.Words.{◌-◌, ◌<◌, AllZip, CursorState, Ghosts, ap, get_or, get_or-map, map, map-set, set}
-use Rattle.merge_core.proofs.Words.{set-get_or, sum-map, unread, zip, sum_by-set, get_or-zip, length-zip, Moved}
-use Rattle.merge_core.proofs.Words.{nil_from_length}
+use Rattle.merge_core.proofs.Words.{[], AllByRecursion, filter-append, length-append, take-append-drop, nil_from_length}
+use Rattle.merge_core.proofs.Words.{◌∷◌, arith, filter, length, AllZip, Ghosts, get_or, map-set, sum-map, unread, Moved}
+use Rattle.merge_core.proofs.Words.{cond-true, CursorState, get_or-map, set-get_or, sum_by-set, get_or-zip, length-zip}
+use Rattle.merge_core.proofs.Words.{ℕ, ◌≡◌, ◌≤◌, Bool, List, suc, take, true, ◌+◌, ◌-◌, ◌<◌, ap, map, set, zip}
 
 -- ---- lists that are filtered, and what holds of each of a list
 
@@ -12,12 +11,6 @@ pub each_filter : {X : Type 0} (A : X → Type 0) (f : X → Bool) (xs : List X)
     → AllByRecursion (λ x. A x × (f x ≡ true)) (filter f xs)
 each_filter A f [] h = tt
 each_filter A f (x ∷ xs) h = grind (arith, each_filter A f xs h.1)
-
--- what a filter leaves out
-pub filter_out : {X : Type 0} (f : X → Bool) (xs : List X)
-    → AllByRecursion (λ x. f x ≡ false) (filter (λ x. not (f x)) xs)
-filter_out f [] = tt
-filter_out f (x ∷ xs) = grind (arith, filter_out f xs)
 
 pub filter_fewer : {X : Type 0} (f g : X → Bool) (xs : List X) → length (filter g (filter f xs)) ≤ length (filter g xs)
 filter_fewer f g [] = omega arith

@@ -1,27 +1,22 @@
 -- The steps of a merge: how a group is gathered, and what one group more makes of it.
-use Rattle.merge_core.proofs.GroupLemmas.{filter_none, filter_all, each_permuted, from_popped, AreAt, AreBelow}
-use Rattle.merge_core.proofs.GroupLemmas.{source_more}
-use Rattle.merge_core.proofs.Words.{ℕ, ◌<◌, ◌≡◌, IsErrAnd, List, Result, arith, get_or, length, set, [], ◌++◌, ◌+◌}
-use Rattle.merge_core.proofs.Words.{◌∷◌, ◌≤◌, Aligned, Alike, AllByRecursion, AreSettled, Bool, MergeInput, Gathered}
-use Rattle.merge_core.proofs.Words.{Ghosts, IsDueAt, IsFrom, IsPermutation, IsSettled, Member, MergeState, NoneBefore}
-use Rattle.merge_core.proofs.Words.{NoneBelow, Option, Pair, TookOf, WaitingLine, all_done, append-nil, append_assoc}
-use Rattle.merge_core.proofs.Words.{done, drop, each_join, each_weaker, inputs, flat_map, length_permutation}
-use Rattle.merge_core.proofs.Words.{member_pair, sym, to_come, true, waiting_pair, zip, AllMoved, Below, Grouped}
-use Rattle.merge_core.proofs.Words.{Grows, HasEntry, IsAbove, IsLower, IsUpto, Less, None, Ordering, Reached, Ready}
-use Rattle.merge_core.proofs.Words.{SoFar, Some, each_rising, is_gt, is_low, is_lt, member_place, place_cmp}
-use Rattle.merge_core.proofs.Words.{place_cmp_total, rising, rising_split, MatchResult, set-set, get_or-set_same}
-use Rattle.merge_core.proofs.Words.{Rises, rises_rising, MergePoint, StillWants, BrokenMerge, HaltedGroup}
-use Rattle.merge_core.proofs.Words.{HaltedMerge, Known, OverTexts, map, ◌∙◌, get_or-map, length-map, set-get_or}
-use Rattle.merge_core.proofs.Words.{AllZip-long, lines, EachDone}
+use Rattle.merge_core.proofs.GroupLemmas.{filter_none, filter_all, each_permuted, from_popped, AreBelow, source_more}
+use Rattle.merge_core.proofs.{SourceLemmas.all_kept, GroupLemmas.AreAt, OpenLemmas.none_done}
+use Rattle.merge_core.proofs.Words.{ℕ, Result, get_or, length, Ghosts, IsFrom, Member, Option, TookOf, Reached, set-set}
+use Rattle.merge_core.proofs.Words.{IsErrAnd, Gathered, all_done, each_join, flat_map, AllMoved, place_cmp, OverTexts}
+use Rattle.merge_core.proofs.Words.{List, ◌++◌, Bool, Pair, done, drop, true, Less, None, Some, Rises, Known, lines}
+use Rattle.merge_core.proofs.Words.{arith, each_weaker, member_pair, each_rising, MatchResult, BrokenMerge, HaltedGroup}
+use Rattle.merge_core.proofs.Words.{[], Alike, inputs, Below, Grows, IsUpto, Ready, SoFar, is_gt, is_low, is_lt, rising}
+use Rattle.merge_core.proofs.Words.{◌<◌, ◌≡◌, set, ◌+◌, ◌∷◌, ◌≤◌, sym, zip, map, ◌∙◌}
+use Rattle.merge_core.proofs.Words.{Aligned, IsDueAt, to_come, Grouped, HasEntry, IsAbove, IsLower, Ordering, EachDone}
+use Rattle.merge_core.proofs.Words.{AllByRecursion, IsPermutation, length_permutation, place_cmp_total, get_or-set_same}
+use Rattle.merge_core.proofs.Words.{AreSettled, MergeInput, IsSettled, MergeState, NoneBefore, HaltedMerge, AllZip-long}
+use Rattle.merge_core.proofs.Words.{NoneBelow, append-nil, MergePoint, StillWants, get_or-map, length-map, set-get_or}
+use Rattle.merge_core.proofs.Words.{WaitingLine, append_assoc, waiting_pair, member_place, rising_split, rises_rising}
 use Rattle.merge_core.proofs.Many.{map_set_same, zip_set, zip_at, length_zip, moved_trans, moved_still}
-use Rattle.merge_core.proofs.StateLemmas.{any_of, idle, long_of, inside_sources, none_left, popped_aligned}
-use Rattle.merge_core.proofs.StateLemmas.{popped_inputs, popped, popped_due, zip_put, zip_get}
-use Rattle.merge_core.proofs.SourceLemmas.{all_kept}
+use Rattle.merge_core.proofs.StateLemmas.{long_of, inside_sources, none_left, popped_aligned, popped_inputs, popped_due}
+use Rattle.merge_core.proofs.StateLemmas.{any_of, idle, popped, zip_put, zip_get}
 use Rattle.merge_core.specs.declared.sink.Sink.{Ghosts as SinkGhosts}
 use Rattle.merge_core.proofs.PairOrder.{from_not_below, below_then, then_below, below_upto, same_upto, same_from}
-use Rattle.merge_core.proofs.OpenLemmas.{none_done}
-
--- ---- which device failed
 
 -- ---- the steps of a group's gathering
 
@@ -50,8 +45,7 @@ module _ (past : List ℕ → Bool) {S : Type 0} (device : Ghosts S)
         → Gathered pair (all_done past texts (inputs m0)) (all_done past texts (inputs m)) [] group
         × AreBelow pair (flat_map (of past) (drop n (zip texts (inputs m)))))
 
-  pub gathers_start : Aligned past device ss0 m0 → NoneBelow pair m0.queue
-      → Gathers 0 ss0 m0 []
+  pub gathers_start : Aligned past device ss0 m0 → NoneBelow pair m0.queue → Gathers 0 ss0 m0 []
   gathers_start aligned least = grind (arith, moved_still, each_weaker, is_lt, filter_all, filter_none, below_upto)
 
 module _ {n : ℕ} {past : List ℕ → Bool} {S : Type 0} {device : Ghosts S}
@@ -63,9 +57,8 @@ module _ {n : ℕ} {past : List ℕ → Bool} {S : Type 0} {device : Ghosts S}
   -- more lines of a source are taken: of the group, all but those that lead are lines that the source is asked for
   pub gathers_on : {i : ℕ} {ss' : List S} {m' : MergeState} (lead : List Member) {lines lines' : List Member}
       → group ≡ lead ++ lines → TookOf past device.text pair i ss ss' (inputs m) (inputs m') lines lines' → n ≤ i + 1
-      → i < length ss → Aligned past device ss' m'
-      → AllMoved device ss m ss' m' → AllByRecursion (IsFrom pair (i + 1)) m'.queue
-      → Gathers past device ss0 m0 pair (i + 1) ss' m' (lead ++ lines')
+      → i < length ss → Aligned past device ss' m' → AllMoved device ss m ss' m'
+      → AllByRecursion (IsFrom pair (i + 1)) m'.queue → Gathers past device ss0 m0 pair (i + 1) ss' m' (lead ++ lines')
   gathers_on {i = i} {ss' = ss'} {m' = m'} lead {lines = lines} {lines' = lines'} is d turn inside aligned moved from = record {
     aligned = aligned;
     kept = rw d.source_is (map_set_same device.text ss i d.source d.source inside (d.text_is d.source) ∙ h.kept);
@@ -73,8 +66,7 @@ module _ {n : ℕ} {past : List ℕ → Bool} {S : Type 0} {device : Ghosts S}
     each = grind (arith, append_assoc, each_join);
     from = from;
     gathered = λ texts known low.
-        let f = d.input in
-        let was = h.gathered texts known low in
+        let f = d.input in let was = h.gathered texts known low in
         let t = get_or texts i [] in
         let known_now : Known (map device.text ss) texts = rw h.kept known in
         let many : length texts ≡ length ss = grind (arith, AllZip-long, length-map) in
@@ -101,12 +93,10 @@ module _ {n : ℕ} {past : List ℕ → Bool} {S : Type 0} {device : Ghosts S}
     pub taken_next : (m' : MergeState) → m'.cursors.items ≡ m.cursors.items → IsPermutation m.queue (w ∷ m'.queue)
         → NoneBefore w m'.queue → Alike (waiting_pair w) pair → TakenNext m'
     taken_next m' cursors p first at =
-        let i = w.source in
-        let fs = inputs m in
+        let i = w.source in let fs = inputs m in
         let inside = inside_sources m' h.aligned cursors p in
         let b : MergeInput = any_of fs i (let l = long in omega arith) in
-        let f = idle (get_or fs i b) in
-        let now = popped_inputs m' h.aligned cursors p b in
+        let f = idle (get_or fs i b) in let now = popped_inputs m' h.aligned cursors p b in
         let many = length_permutation m.queue (w ∷ m'.queue) p in
         let from = from_popped pair w m'.queue at first (none_left m' h.aligned cursors p) in
         let turn = (each_permuted (IsFrom pair n) m.queue (w ∷ m'.queue) p h.from).0.1 at in
@@ -134,8 +124,7 @@ pub reached_none : {S : Type 0} {device : Ghosts S} {past : List ℕ → Bool} {
     → Ready past device ss m → EachDone past device.text (λ ms. ms ≡ []) ss (inputs m)
     → Reached past device ss m ss m None []
 reached_none {device = device} {past = past} {ss = ss} {m = m} ready fresh =
-    let none = none_done past device.text ss (inputs m) in
-    grind (arith, moved_still, above_none)
+    let none = none_done past device.text ss (inputs m) in grind (arith, moved_still, above_none)
 
 -- where nothing was read, and where more was
 pub ruleset step_rules = (reached_none, moved_still, moved_trans, all_kept)
@@ -191,8 +180,7 @@ module _ {S : Type 0} {device : Ghosts S} {past : List ℕ → Bool}
   gathered_now texts known = grouped.gathered texts (rw (← was.kept.0) at known)
       (below_next b pair (grouped.above b was.above) _ (was.handed.told texts known).1)
 
-  pub reached_next : Ready past device ss m → AllMoved device ss0 m0 ss m
-      → AllByRecursion HasEntry group
+  pub reached_next : Ready past device ss m → AllMoved device ss0 m0 ss m → AllByRecursion HasEntry group
       → Reached past device old begun ss m (Some pair) (taken ++ rising member_place place_cmp group)
   reached_next ready moved entries =
       let long : length ss ≡ length ss0 = grind (arith, AllZip-long, length_zip) in
@@ -216,9 +204,7 @@ pub reached_same : {S : Type 0} {device : Ghosts S} {past : List ℕ → Bool}
     → m' ≡ record m { buffers = m'.buffers; most_lines = m'.most_lines }
     → Reached past device old begun ss m b taken
     → Reached past device old begun ss m' b taken
-reached_same m' is was =
-    let aligned = was.ready.aligned in
-    rw is (grind arith)
+reached_same m' is was = let aligned = was.ready.aligned in rw is (grind arith)
 
 -- these lines were passed on, when a fault came
 module _ {K S : Type 0} {consumer : SinkGhosts K} {past : List ℕ → Bool} {device : Ghosts S}

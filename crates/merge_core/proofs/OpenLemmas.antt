@@ -1,15 +1,12 @@
 -- The opening of sources, one after another.
-use Rattle.merge_core.proofs.Words.{[], ℕ, ◌++◌, ◌+◌, ◌<◌, ◌∙◌, ◌∷◌, ◌≡◌, ◌≤◌, AllByRecursion, Bool, CursorState}
-use Rattle.merge_core.proofs.Words.{IsInput, MergeInput, Ghosts, IsCutAt, IsLeast, IsNextLine, IsSettled, List}
-use Rattle.merge_core.proofs.Words.{MatchOption, Member, MergeState, None, Option, Pair, Ready, Some, Stands, arith}
-use Rattle.merge_core.proofs.Words.{done, drop, each_weaker, input_of, inputs, filter, first_length, given, inl}
-use Rattle.merge_core.proofs.Words.{length, length-append, lines, option_list, refl, set, stays, suc, zip}
-use Rattle.merge_core.proofs.Words.{all_zipped_more, AddedSource, AreOpened, OpenedAt, IsLineStart, Known, EachDone}
-use Rattle.merge_core.proofs.Words.{all_done, map}
-use Rattle.merge_core.proofs.Many.{each_by}
+use Rattle.merge_core.proofs.Words.{ℕ, ◌++◌, Bool, List, None, Pair, Some, done, drop, given, lines, refl, stays, Known}
+use Rattle.merge_core.proofs.Words.{◌+◌, IsCutAt, IsLeast, Member, Option, Ready, Stands, arith, inputs, filter, length}
+use Rattle.merge_core.proofs.Words.{AllByRecursion, CursorState, input_of, first_length, length-append, all_zipped_more}
+use Rattle.merge_core.proofs.Words.{[], ◌<◌, ◌∙◌, ◌∷◌, ◌≡◌, ◌≤◌, inl, set, suc, zip, map}
+use Rattle.merge_core.proofs.Words.{IsInput, IsNextLine, IsSettled, MergeState, AreOpened, OpenedAt, EachDone, all_done}
+use Rattle.merge_core.proofs.Words.{MergeInput, Ghosts, MatchOption, each_weaker, option_list, AddedSource, IsLineStart}
+use Rattle.merge_core.proofs.{StateLemmas.inputs_added, StateLemmas.placed_queued, Many.each_by, PairOrder.begins}
 use Rattle.merge_core.proofs.InputLemmas.{LineRead, done_next, input_end, input_more, settled_more}
-use Rattle.merge_core.proofs.StateLemmas.{inputs_added, placed_queued}
-use Rattle.merge_core.proofs.PairOrder.{begins}
 
 -- a source was added to those that are read
 module _ {past : List ℕ → Bool} {S : Type 0} {device : Ghosts S} {ss : List S}
@@ -24,8 +21,7 @@ module _ {past : List ℕ → Bool} {S : Type 0} {device : Ghosts S} {ss : List 
 
   pub ready_added : Ready past device (ss ++ s ∷ []) m'
   ready_added =
-      let same = was.aligned.same in
-      let n = length m.cursors.items in
+      let same = was.aligned.same in let n = length m.cursors.items in
       let long : length m'.cursors.items ≡ n + 1 = rw added.cursors_are (length-append m.cursors.items (added.cursor ∷ [])) in
       record {
         aligned = record {
@@ -48,21 +44,13 @@ module _ {S : Type 0} (device : Ghosts S) (start : Pair) where
       → AllByRecursion (λ y. y.1.start ≡ 0) ys
   begun_of least = each_by (λ x y. OpenedAt device start x y.0 y.1) _ (λ x y h. h.first least)
 
-pub added_by : {past : List ℕ → Bool} {S : Type 0} {device : Ghosts S} {s : S} {m m' : MergeState}
-    {A B : CursorState → Type 0} → (added : AddedSource past device s A m m') → B added.cursor
-    → AddedSource past device s B m m'
-added_by added is =
-    grind arith
-
 -- ---- the first line of a source
 
 -- what is known of a source of which no line was read yet
-pub input_fresh : (past : List ℕ → Bool) (text : Option (List ℕ)) (extent : ℕ) (c : CursorState)
-    → Stands text extent c → c.count ≡ 0 → c.at ≡ c.start
-    → ((t : List ℕ) → text ≡ Some t → IsLineStart t c.start)
+pub input_fresh : (past : List ℕ → Bool) (text : Option (List ℕ)) (extent : ℕ) (c : CursorState) → Stands text extent c
+    → c.count ≡ 0 → c.at ≡ c.start → ((t : List ℕ) → text ≡ Some t → IsLineStart t c.start)
     → IsInput past text extent (input_of c [])
-input_fresh past text extent c stands none at begins =
-    grind arith
+input_fresh past text extent c stands none at begins = grind arith
 
 -- its first line was read, if it has one
 pub record FirstRead (past : List ℕ → Bool) (text : Option (List ℕ)) (extent : ℕ) (f : MergeInput) : Type 0 where

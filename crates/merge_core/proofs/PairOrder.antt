@@ -1,12 +1,11 @@
 -- The order of pairs is total, and the starts of pairs decide as the pairs do.
-use Rattle.merge_core.proofs.Words.{◌≡◌, ◌⊎◌, Below, Equal, Less, Pair, Upto, ap, arith, false, is_gt, is_lt}
-use Rattle.merge_core.proofs.Words.{pair_cmp, pair_cmp_total, tied_back, tied_itself, [], ℕ, ◌++◌, ◌+◌, ◌∷◌, AreBytes}
-use Rattle.merge_core.proofs.Words.{LINE_LIMIT, List, Member, Ordering, Some, append_assoc, get_or, length}
-use Rattle.merge_core.proofs.Words.{length-append, line_entry, member_pair, ordering_then, suc, take, true, ◌≤◌, Fits}
-use Rattle.merge_core.proofs.Words.{nat_lt, w8, and_parts, slice_cmp, list_all, nat_cmp, IsStart, pair_text}
+use Rattle.merge_core.proofs.Words.{◌≡◌, AreBytes, Member, Ordering, get_or, length, nat_lt, list_all, nat_cmp, IsStart}
+use Rattle.merge_core.proofs.Words.{Below, Equal, Upto, arith, false, is_gt, is_lt, ◌++◌, List, Some, take, true, Fits}
+use Rattle.merge_core.proofs.Words.{Pair, pair_cmp, tied_back, line_entry, member_pair, and_parts, slice_cmp, pair_text}
+use Rattle.merge_core.proofs.Words.{ap, [], ℕ, ◌+◌, ◌∷◌, suc, ◌≤◌, w8}
+use Rattle.merge_core.proofs.Words.{pair_cmp_total, tied_itself, LINE_LIMIT, append_assoc, length-append, ordering_then}
 use Rattle.std.proofs.Math.Seq.{take-append_seam}
-use Rattle.cdxj_places.specs.Abbreviated.{padded, words_cmp}
-use Rattle.cdxj_places.specs.Pair.{is_key, is_key_byte}
+use Rattle.cdxj_places.specs.{Abbreviated.padded, Abbreviated.words_cmp, Pair.is_key, Pair.is_key_byte}
 use Rattle.cdxj_places.proofs.Abbreviations.{start_words_decide, then_associates}
 use Rattle.cdxj_core.proofs.MemberLemmas.{entry_valued}
 
@@ -24,10 +23,6 @@ same_from p q h = ap is_gt (tied_back pair_cmp_total p q h)
 pub upto_itself : (p : Pair) → Upto p p
 upto_itself p = ap is_gt (tied_itself pair_cmp_total p)
 
--- not above: below, or the same
-pub not_above : (p q : Pair) → Upto p q → (pair_cmp p q ≡ Less) ⊎ (pair_cmp p q ≡ Equal)
-not_above p q h = grind arith
-
 pub from_not_below : (p q : Pair) → is_lt (pair_cmp p q) ≡ false → Upto q p
 from_not_below p q h = grind (arith, same_from, pair_cmp_total)
 
@@ -38,10 +33,10 @@ pub below_then : (p q r : Pair) → Below p q → Upto q r → Below p r
 below_then p q r h k = grind (arith, pair_cmp_total)
 
 pub then_below : (p q r : Pair) → Upto p q → Below q r → Below p r
-then_below p q r h k = grind (arith, not_above, pair_cmp_total)
+then_below p q r h k = grind (arith, pair_cmp_total)
 
 pub upto_upto : (p q r : Pair) → Upto p q → Upto q r → Upto p r
-upto_upto p q r h k = grind (arith, not_above, below_upto, below_then, pair_cmp_total)
+upto_upto p q r h k = grind (arith, below_upto, below_then, pair_cmp_total)
 
 pub not_below_itself : (p q : Pair) → Below p q → Upto q p → ⊥
 not_below_itself p q h k = grind (arith, pair_cmp_total, tied_back)
@@ -60,8 +55,7 @@ key_bytes k h = (and_parts (nat_lt 0 (length k)) _ h).1
 pub starts_decide : (p q : Pair) (s t : ℕ × ℕ) → IsStart s p → IsStart t q
     → ordering_then (words_cmp s t) (pair_cmp p q) ≡ pair_cmp p q
 starts_decide p q s t g h =
-    let decide = start_words_decide 16 (pair_text p) (pair_text q) g.1 h.1 in
-    grind (arith, key_bytes, texts_order)
+    let decide = start_words_decide 16 (pair_text p) (pair_text q) g.1 h.1 in grind (arith, key_bytes, texts_order)
 
 -- a list that is long enough needs no zeros
 pub padded_long : (n : ℕ) (xs : List ℕ) → n ≤ length xs → take n xs ≡ padded n xs

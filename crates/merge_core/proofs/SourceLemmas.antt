@@ -1,17 +1,15 @@
 -- What was read of sources: from where they are read on, to their ends, and each byte once.
-use Rattle.merge_core.proofs.Words.{[], ℕ, ◌++◌, ◌∷◌, ◌≡◌, AllByRecursion, AllZip, MergeInput, Ghosts, IsCut, IsCutAt}
-use Rattle.merge_core.proofs.Words.{IsIndex, IsRun, Known, LINE_LIMIT, List, Member, NeverFalls, Pair, Some, ap}
-use Rattle.merge_core.proofs.Words.{arith, drop, each_weaker, false, filter, filter-append, is_low, length}
-use Rattle.merge_core.proofs.Words.{length-map, lines, map, map-append, member_pair, not, pair_cmp, refl, sym, zip}
-use Rattle.merge_core.proofs.Words.{AreInputs, AreSettled, Bool, KeepsSources, MergeState, Option, all_done, done}
-use Rattle.merge_core.proofs.Words.{inputs, given, inl, inr, length-drop, nil_from_length, true≢false, ◌⊎◌}
-use Rattle.merge_core.proofs.Words.{AreLinesOf, HasEntry, Reached, each_join, each_rising, line_entry, member_place}
-use Rattle.merge_core.proofs.Words.{place_cmp, place_cmp_total, read_lines, suc, take, AllGaveOnce, CursorState}
-use Rattle.merge_core.proofs.Words.{IsLeast, AreOpened, drop_at, is_below, IsIn, IsLineIn, IsLineOf, take_all}
-use Rattle.merge_core.proofs.Words.{OverIndexes, OverTexts, EachDone, IsInputOf, None, subst}
+use Rattle.merge_core.proofs.Words.{[], Ghosts, IsCut, Member, filter, is_low, length, Option, inputs, IsLeast, drop_at}
+use Rattle.merge_core.proofs.Words.{◌++◌, AllByRecursion, filter-append, KeepsSources, nil_from_length, place_cmp_total}
+use Rattle.merge_core.proofs.Words.{AllZip, IsCutAt, IsIndex, Reached, is_below, IsLineIn, IsLineOf, take_all, EachDone}
+use Rattle.merge_core.proofs.Words.{MergeInput, LINE_LIMIT, NeverFalls, length-map, AreInputs, CursorState, OverIndexes}
+use Rattle.merge_core.proofs.Words.{ℕ, ◌∷◌, ◌≡◌, ap, map, not, sym, zip, inl, inr, ◌⊎◌, suc, take, IsIn, None}
+use Rattle.merge_core.proofs.Words.{IsRun, Known, Pair, Some, arith, drop, false, lines, refl, Bool, done, given, subst}
+use Rattle.merge_core.proofs.Words.{List, each_weaker, member_pair, length-drop, each_rising, member_place, AllGaveOnce}
+use Rattle.merge_core.proofs.Words.{map-append, AreSettled, MergeState, true≢false, AreLinesOf, line_entry, read_lines}
+use Rattle.merge_core.proofs.Words.{pair_cmp, all_done, HasEntry, each_join, place_cmp, AreOpened, OverTexts, IsInputOf}
 use Rattle.merge_core.proofs.GroupLemmas.{filter_none, filter_all, each_cut}
-use Rattle.merge_core.proofs.Many.{Move, each_beside, each_take}
-use Rattle.merge_core.proofs.InputLemmas.{done_cut, TextRead}
+use Rattle.merge_core.proofs.{Many.Move, Many.each_beside, Many.each_take, InputLemmas.done_cut, InputLemmas.TextRead}
 use Rattle.merge_core.proofs.StateLemmas.{inputs_long, cursors_of}
 
 -- ---- the lines that the sources have from where they are read on
@@ -21,7 +19,7 @@ after_front : {X : Type 0} (us vs xs ys : List X) → length us ≡ length xs �
 after_front us vs xs ys n e =
     rw (drop_at us vs (length us) refl, n, drop_at xs ys (length xs) refl) at (ap (drop (length us)) e)
 
-falls_back : (us vs : List Member) → NeverFalls member_pair pair_cmp (us ++ vs) → NeverFalls member_pair pair_cmp vs
+pub falls_back : (us vs : List Member) → NeverFalls member_pair pair_cmp (us ++ vs) → NeverFalls member_pair pair_cmp vs
 falls_back [] vs h = h
 falls_back (u ∷ us) vs h = falls_back us vs h.1
 
@@ -91,8 +89,7 @@ module _ (past : List ℕ → Bool) (never : (key : List ℕ) → past key ≡ f
   index_read : {t : List ℕ} {f : MergeInput} → f.cursor.start ≡ 0 → f.waits ≡ [] → TextRead past t f
       → IsIndex LINE_LIMIT t (given t f.cursor)
   index_read {t = t} {f = f} zero_start none read =
-      let end = ended read none in
-      let left = length-drop f.cursor.count (lines t) in
+      let end = ended read none in let left = length-drop f.cursor.count (lines t) in
       let whole : read_lines t f.cursor ≡ lines t = grind (arith, take_all, nil_from_length) in
       subst (λ ls. IsRun LINE_LIMIT ls (given t f.cursor)) whole read.told.run
 
@@ -169,8 +166,7 @@ done_lines {t = t} {f = f} told =
     (grind (arith, in_later, in_take))))
 
 all_lines_of : (past : List ℕ → Bool) (sources : List (Option (List ℕ))) (texts : List (List ℕ)) (fs : List MergeInput)
-    → Known sources texts → AllZip (TextRead past) texts fs
-    → AllByRecursion (IsLineOf sources) (all_done past texts fs)
+    → Known sources texts → AllZip (TextRead past) texts fs → AllByRecursion (IsLineOf sources) (all_done past texts fs)
 all_lines_of past (o ∷ os) (t ∷ texts) (f ∷ fs) known read =
     let others = all_lines_of past os texts fs known.1 read.1 in
     let here = done_lines read.0.told in

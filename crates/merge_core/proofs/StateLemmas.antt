@@ -1,16 +1,13 @@
 -- Sources and the inputs of a merge, while lines wait.
-use Rattle.merge_core.proofs.Words.{filter, [], ℕ, ◌++◌, ◌+◌, ◌<◌, ◌∙◌, ◌∷◌, ◌≡◌, ◌≢◌, ◌≤◌, Aligned, Alike}
-use Rattle.merge_core.proofs.Words.{AllByRecursion, AllZip, Bool, CursorState, IsInput, MergeInput, Ghosts, IsDue}
-use Rattle.merge_core.proofs.Words.{IsPermutation, List, Member, MergeState, Option, Pair, Some, TookOf, WaitingLine}
-use Rattle.merge_core.proofs.Words.{ap, append-nil, arith, done, each_join, each_weaker, input_of, inputs}
-use Rattle.merge_core.proofs.Words.{inputs_from, filter-append, get_or, get_or_default, given, inl, inr, length}
-use Rattle.merge_core.proofs.Words.{length-append, length-map, length-set, length_permutation, map, nil_from_length}
-use Rattle.merge_core.proofs.Words.{not-true, queued, refl, set, set-get_or, stays, suc, sym, true, waiting_pair}
-use Rattle.merge_core.proofs.Words.{waits_of, zero, cases_lt}
-use Rattle.std.proofs.Common.{take_all}
+use Rattle.merge_core.proofs.Words.{filter, ◌+◌, AllZip, Ghosts, Member, Option, TookOf, inputs, get_or, length, queued}
+use Rattle.merge_core.proofs.Words.{◌++◌, Aligned, IsInput, each_join, input_of, not-true, waits_of, cases_lt, take_all}
+use Rattle.merge_core.proofs.Words.{Alike, Bool, IsDue, List, Pair, Some, arith, done, given, refl, stays, true, zero}
+use Rattle.merge_core.proofs.Words.{[], ℕ, ◌<◌, ◌∙◌, ◌∷◌, ◌≡◌, ◌≢◌, ◌≤◌, ap, inl, inr, map, set, suc, sym}
+use Rattle.merge_core.proofs.Words.{AllByRecursion, IsPermutation, get_or_default, length_permutation, nil_from_length}
+use Rattle.merge_core.proofs.Words.{CursorState, WaitingLine, each_weaker, filter-append, length-append, waiting_pair}
+use Rattle.merge_core.proofs.Words.{MergeInput, MergeState, append-nil, inputs_from, length-map, length-set, set-get_or}
 use Rattle.merge_core.proofs.InputLemmas.{filter_passes}
-use Rattle.merge_core.proofs.GroupLemmas.{filter_all, each_permuted, waits_beside, waits_here, waits_other}
-use Rattle.merge_core.proofs.GroupLemmas.{waits_permuted, waits_queued}
+use Rattle.merge_core.proofs.GroupLemmas.{filter_all, each_permuted, waits_beside, waits_permuted, waits_queued}
 
 pub any_of : {X : Type 0} (xs : List X) (i : ℕ) → i < length xs → X
 any_of [] i l = absurd (omega arith)
@@ -55,8 +52,7 @@ inputs_set : (n i m : ℕ) (cs : List CursorState) (ws ws' : List WaitingLine) (
     → ((j : ℕ) → j ≢ m → waits_of j ws' ≡ waits_of j ws)
     → inputs_from n (set cs i c) ws' ≡ set (inputs_from n cs ws) i (input_of c (waits_of m ws'))
 inputs_set n zero m (x ∷ cs) ws ws' c e same = grind (arith, inputs_same)
-inputs_set n (suc i) m (x ∷ cs) ws ws' c e same =
-    grind (arith, inputs_set (n + 1) i m cs ws ws' c (omega arith) same)
+inputs_set n (suc i) m (x ∷ cs) ws ws' c e same = grind (arith, inputs_set (n + 1) i m cs ws ws' c (omega arith) same)
 inputs_set n i m [] ws ws' c e same = refl
 
 inputs_push : (n : ℕ) (cs : List CursorState) (ws : List WaitingLine) (c : CursorState)
@@ -68,7 +64,7 @@ inputs_push n (x ∷ cs) ws c = grind (arith, inputs_push (n + 1) cs ws c)
 waits_none : (n : ℕ) (ws : List WaitingLine) → AllByRecursion (λ (w : WaitingLine). w.source < n) ws → waits_of n ws
     ≡ []
 waits_none n [] h = refl
-waits_none n (w ∷ ws) h = grind (arith, waits_other, waits_none n ws h.1)
+waits_none n (w ∷ ws) h = grind (arith, waits_none n ws h.1)
 
 pub placed_queued : (n i : ℕ) (ws ws' : List WaitingLine) (new : List Member) → i < n
     → AllByRecursion (λ (w : WaitingLine). w.source < n) ws → IsPermutation (queued i new ++ ws) ws'
@@ -155,16 +151,14 @@ module _ {past : List ℕ → Bool} {S : Type 0} {device : Ghosts S} {ss : List 
         grind (arith, waits_permuted)
 
     queued_beside : (j : ℕ) → j ≢ i → waits_of j queue ≡ waits_of j m.queue
-    queued_beside j other =
-        let is = waits_beside i j new m.queue other in grind (arith, few_wait, waits_permuted)
+    queued_beside j other = let is = waits_beside i j new m.queue other in grind (arith, few_wait, waits_permuted)
 
   -- a source is added behind the others, and these lines of it wait
   pub inputs_added : (c : CursorState) (new : List Member) (queue : List WaitingLine) → length new ≤ 1
       → IsPermutation (queued (length m.cursors.items) new ++ m.queue) queue
       → inputs_from 0 (m.cursors.items ++ c ∷ []) queue ≡ inputs m ++ input_of c new ∷ []
   inputs_added c new queue most p =
-      let i = length m.cursors.items in
-      let none = waits_none i m.queue was.placed in
+      let i = length m.cursors.items in let none = waits_none i m.queue was.placed in
       grind (arith, queued_here, inputs_push, inputs_same, queued_beside)
 
   pub aligned_set : (i : ℕ) (s : S) (f : MergeInput) (m' : MergeState) → inputs m' ≡ set (inputs m) i f
@@ -188,22 +182,20 @@ module _ {past : List ℕ → Bool} {S : Type 0} {device : Ghosts S} {ss : List 
   still j = waits_permuted j m.queue (w ∷ m'.queue) p (few_wait was j)
 
   waits_now : waits_of w.source m.queue ≡ w.member ∷ waits_of w.source m'.queue
-  waits_now = sym (still w.source) ∙ waits_here w.source w m'.queue refl
+  waits_now = rw (← still w.source) (grind arith)
 
   pub none_left : waits_of w.source m'.queue ≡ []
-  none_left =
-      let few = few_wait was w.source in grind (arith, nil_from_length, waits_now)
+  none_left = let few = few_wait was w.source in grind (arith, nil_from_length, waits_now)
 
   its_one : (b : MergeInput) → (get_or (inputs m) w.source b).waits ≡ w.member ∷ []
   its_one b = waits_at was w.source b inside_sources ∙ waits_now ∙ ap (λ l. w.member ∷ l) none_left
 
   pub popped_inputs : (b : MergeInput) → inputs m' ≡ set (inputs m) w.source (idle (get_or (inputs m) w.source b))
   popped_inputs b =
-      let i = w.source in
-      let cs = m.cursors.items in
+      let i = w.source in let cs = m.cursors.items in
       let c = any_of cs i placed.0 in
       let now = inputs_set 0 i i cs m.queue m'.queue (get_or cs i c) (omega arith)
-      (λ j q. sym (waits_other j w m'.queue (λ e. absurd (omega arith))) ∙ still j) in
+      (λ j q. rw (← still j) (grind arith)) in
       grind (arith, inputs_at, set-get_or, none_left)
 
   pub popped_aligned : Aligned past device ss m'

@@ -1,30 +1,21 @@
 -- What was taken of lines, beside all that is wanted of them: of one source, of all, and where a merge came to.
-use Rattle.merge_core.proofs.Words.{done, ◌≤◌, length, [], ℕ, ◌++◌, ◌∙◌, ◌∷◌, ◌≡◌, AllByRecursion, Bool, MergeInput}
-use Rattle.merge_core.proofs.Words.{IsLower, IsRun, LINE_LIMIT, List, Member, NeverFalls, Some, Upto, ap, append-nil}
-use Rattle.merge_core.proofs.Words.{append_assoc, arith, drop, each_rising, each_weaker, false, filter, filter-append}
-use Rattle.merge_core.proofs.Words.{given, inl, inr, is_gt, line_entry, lines, map, member_of, member_pair}
-use Rattle.merge_core.proofs.Words.{member_place, not, not-false, pair_cmp, place_cmp, place_cmp_total, refl, rising}
-use Rattle.merge_core.proofs.Words.{rising_split, stays, sym, take, take-append-drop, take-map, true, Below, IsAbove}
-use Rattle.merge_core.proofs.Words.{IsUpto, None, NoneBelow, Option, Pair, WaitingLine, is_low, is_lt, not-true}
-use Rattle.merge_core.proofs.Words.{ordering_reverse, pair_cmp_total, true≢false, waiting_pair, ◌&&◌, drop-map}
-use Rattle.merge_core.proofs.Words.{nat_cmp, slice_cmp, nat_list_cmp_total, and_cases, ◌+◌, AllZip, CursorState}
-use Rattle.merge_core.proofs.Words.{Ghosts, IsCutAt, IsIndex, MergeState, Reached, all_done, all_lines, collection}
-use Rattle.merge_core.proofs.Words.{inputs, inputs_from, zip, length-map, nil_from_length, read_lines, sum}
-use Rattle.merge_core.proofs.Words.{sum_by-cons, OverIndexes, OverTexts}
-use Rattle.merge_core.proofs.Many.{each_both, filter_out, each_filter}
-use Rattle.merge_core.proofs.InputLemmas.{filter_passes, TextRead}
+use Rattle.merge_core.proofs.Words.{done, ◌≤◌, ◌++◌, Bool, List, Some, Upto, drop, refl, take, true, None, Pair, ◌&&◌}
+use Rattle.merge_core.proofs.Words.{length, LINE_LIMIT, WaitingLine, CursorState, inputs_from, sum_by-cons, OverIndexes}
+use Rattle.merge_core.proofs.Words.{[], each_rising, each_weaker, member_pair, member_place, rising_split, waiting_pair}
+use Rattle.merge_core.proofs.Words.{ℕ, false, given, is_gt, lines, stays, Below, is_low, is_lt, AllZip, Ghosts, inputs}
+use Rattle.merge_core.proofs.Words.{AllByRecursion, IsRun, append_assoc, filter-append, pair_cmp_total, nil_from_length}
+use Rattle.merge_core.proofs.Words.{MergeInput, place_cmp_total, take-append-drop, ordering_reverse, nat_list_cmp_total}
+use Rattle.merge_core.proofs.Words.{◌∙◌, ◌∷◌, ◌≡◌, inl, inr, map, not, sym, ◌+◌, zip, sum}
+use Rattle.merge_core.proofs.Words.{IsLower, ap, pair_cmp, take-map, not-true, drop-map, all_done, all_lines, OverTexts}
+use Rattle.merge_core.proofs.Words.{Member, filter, rising, IsAbove, IsUpto, Option, nat_cmp, IsCutAt, IsIndex, Reached}
+use Rattle.merge_core.proofs.Words.{NeverFalls, append-nil, line_entry, true≢false, MergeState, collection, length-map}
+use Rattle.merge_core.proofs.Words.{arith, member_of, not-false, place_cmp, NoneBelow, slice_cmp, and_cases, read_lines}
+use Rattle.merge_core.proofs.{Many.each_both, Many.each_filter, InputLemmas.filter_passes, InputLemmas.TextRead}
 use Rattle.merge_core.proofs.PairOrder.{upto_itself, below_then, then_below, from_not_below, upto_upto}
 use Rattle.merge_core.proofs.GroupLemmas.{filter_all, filter_none, each_cut, each_waits}
 use Rattle.merge_core.proofs.MergeLemmas.{place_below, below_next, is_less, lower_by_pair}
 use Rattle.merge_core.specs.Runs.{IsPart}
-use Rattle.merge_core.proofs.SourceLemmas.{parts, run_after, IsSought, reached_read, reached_sought}
-
--- ---- lists
-
-pub falls_after : (us : List Member) (y : Member) (vs : List Member) → NeverFalls member_pair pair_cmp (us ++ y ∷ vs)
-    → AllByRecursion (λ k. Upto (member_pair y) (member_pair k)) vs
-falls_after [] y vs h = h.0
-falls_after (u ∷ us) y vs h = falls_after us y vs h.1
+use Rattle.merge_core.proofs.SourceLemmas.{parts, falls_back, run_after, IsSought, reached_read, reached_sought}
 
 -- ---- keys
 
@@ -35,8 +26,7 @@ IsUpward past = (key later : List ℕ) → past key ≡ true → is_gt (slice_cm
 -- ---- filters of what rises
 
 pub wanted_parts : (wanted low : Member → Bool) → IsLower member_place place_cmp low → (xs : List Member)
-    → filter wanted (rising member_place place_cmp xs)
-    ≡ filter wanted (rising member_place place_cmp (filter low xs))
+    → filter wanted (rising member_place place_cmp xs) ≡ filter wanted (rising member_place place_cmp (filter low xs))
     ++ filter wanted (rising member_place place_cmp (filter (λ m. not (low m)) xs))
 wanted_parts wanted low lower xs = ap (filter wanted) (rising_split member_place place_cmp place_cmp_total low lower xs)
     ∙ filter-append wanted _ _
@@ -76,11 +66,10 @@ module _ (past : List ℕ → Bool) (upto : Member → Bool) where
 
   -- the first line of the rest isn't read, and so none
   rest_unread : (before : List Member) (m : Member) (rest ms : List Member) → ms ≡ before ++ m ∷ rest
-      → NeverFalls member_pair pair_cmp ms
-      → ((k : Member) → Upto (member_pair m) (member_pair k) → is_read k ≡ false)
+      → NeverFalls member_pair pair_cmp ms → ((k : Member) → Upto (member_pair m) (member_pair k) → is_read k ≡ false)
       → AllByRecursion (λ m. is_read m ≡ false) (m ∷ rest)
   rest_unread before m rest ms e falls f =
-      (f m (upto_itself (member_pair m)), grind (arith, each_weaker, falls_after))
+      (f m (upto_itself (member_pair m)), each_weaker f rest (falls_back before (m ∷ rest) (rw e at falls)).0)
 
 module _ {past : List ℕ → Bool} (upward : IsUpward past) (upto : Member → Bool) {t : List ℕ} {f : MergeInput}
     (r : TextRead past t f) (late : AllByRecursion (IsLate upto) f.waits)
@@ -120,8 +109,7 @@ module _ {past : List ℕ → Bool} (upward : IsUpward past) (upto : Member → 
     tail_unread (m ∷ k ∷ ls) one waiting cut = absurd (omega arith)
 
     read_of : filter (is_read past upto) ms ≡ done past t f
-    read_of =
-        grind (arith, append_assoc, done_read, filter-append, filter_all, filter_none, append-nil, tail_unread)
+    read_of = grind (arith, append_assoc, done_read, filter-append, filter_all, filter_none, append-nil, tail_unread)
 
   -- Of the lines from the start on, those that were come to are those that were taken
   pub input_read : (ms : List Member) → IsRun LINE_LIMIT (lines (drop f.cursor.start t)) ms
@@ -262,7 +250,8 @@ module _ {past : List ℕ → Bool} {wanted : Member → Bool} {b : Option Pair}
         r.wanted_of ∙ wanted_parts wanted low is_lower r.all
             ∙ ap (λ l. l ++ filter wanted others) (grind arith),
         each_filter (λ m. low m ≡ false) wanted others
-            (each_rising member_place place_cmp place_cmp_total (λ m. low m ≡ false) _ (filter_out low r.all)),
+            (each_rising member_place place_cmp place_cmp_total (λ m. low m ≡ false) _
+            (each_weaker (λ m. not-true (low m)) _ (filter_passes (λ m. not (low m)) r.all))),
       )
 
   -- it is a front of what is wanted, and the rest stands above the bound
@@ -292,8 +281,7 @@ module _ {past : List ℕ → Bool} {wanted : Member → Bool} {b : Option Pair}
 
     from_next : (m : Member) → (is_read past (is_low next) m ≡ false) × (wanted m ≡ true) → (wanted m ≡ true)
         × Upto next (member_pair m)
-    from_next m h =
-        (h.1, grind (arith, and_cases, from_not_below (member_pair m) next))
+    from_next m h = (h.1, grind (arith, and_cases, from_not_below (member_pair m) next))
 
     -- then the rest doesn't stand below it either
     pub taken_before : (rest : List Member) × (filter wanted whole ≡ filter wanted taken ++ rest)

@@ -20,7 +20,7 @@ use source_core::Source;
 use std::alloc::Global;
 
 /// What a merge did.
-#[derive(Debug, Drop)]
+#[derive(Drop)]
 pub struct MergedLines {
     /// The number of lines written. It saturates at 2^64 - 1.
     pub count: u64,

@@ -10,7 +10,7 @@ use std::cmp::Ordering;
 use std::marker::Model;
 
 /// A line with the start of its pair, which decides most comparisons without access to the line.
-#[derive(Debug, Drop)]
+#[derive(Drop)]
 pub struct KeyedLine<'a> {
     pub(crate) pair_start: PairStart,
     pub(crate) line: &'a Line,

@@ -66,7 +66,7 @@ fn fault_at(begin: u64, fault: LineFault) -> FeedFault
 }
 
 /// Buffers of lines that aren't needed any more, into which further lines are read.
-#[derive(Debug, Drop)]
+#[derive(Drop)]
 pub struct LineBuffers {
     alloc: Global,
     bytes: Vec<u8>,

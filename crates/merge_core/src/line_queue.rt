@@ -14,7 +14,7 @@ use std::collections::BinaryHeap;
 use std::marker::Model;
 
 /// A priority queue of the lines that wait, from which the first is removed.
-#[derive(Debug, Drop)]
+#[derive(Drop)]
 pub struct LineQueue {
     heap: BinaryHeap<QueuedLine>,
 }

@@ -11,7 +11,7 @@ use devices::{Output, WriteFault, put};
 use std::alloc::Global;
 
 /// Writes each line that it takes as it stands in its index.
-#[derive(Debug, Drop)]
+#[derive(Drop)]
 pub struct LineWriter {
     /// The number of lines written. It saturates at 2^64 - 1.
     pub count: u64,

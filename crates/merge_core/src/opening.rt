@@ -19,7 +19,7 @@ use source_core::{Cursor, Found, Source, search};
 use std::alloc::Global;
 
 /// The merge of sources that were opened by a search.
-#[derive(Debug, Drop)]
+#[derive(Drop)]
 pub struct OpenedMerge {
     pub merge: MergeState,
     /// The number of steps of the searches. It saturates at 2^64 - 1.
@@ -30,7 +30,6 @@ impl MergeState {
     ghost use Rattle.merge_core.specs.Openings.{AddedSource, Begun, OpenedAt};
 
     /// Adds a source, and reads the first line after the cursor.
-    #[tactic(auto, using(source_core::proofs::LongestLines::first_within))]
     fn add<S: Source, R: Range>(
         &mut self,
         source: &mut S,

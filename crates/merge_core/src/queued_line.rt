@@ -15,7 +15,7 @@ use std::marker::Model;
 
 /// The next line of a source. The greatest is merged first: the one with the least pair, and of
 /// equal pairs the one whose source has the least number.
-#[derive(Debug, Drop)]
+#[derive(Drop)]
 pub struct QueuedLine {
     /// Decides most comparisons without access to the line.
     pub pair_start: PairStart,

@@ -18,7 +18,7 @@ use source_core::{Cursor, Source};
 use std::alloc::AllocError;
 
 /// Sources that are read side by side.
-#[derive(Debug, Drop)]
+#[derive(Drop)]
 pub struct MergeState {
     /// A cursor for each source, in their order.
     pub cursors: Vec<Cursor>,

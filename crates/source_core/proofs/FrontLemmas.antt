@@ -1,12 +1,11 @@
 -- What the first bytes of a line say of its pair.
-use Rattle.source_core.proofs.Words.{◌≡◌, ℕ, ◌+◌, ◌-◌, ◌<◌, ◌≤◌, Bool, true, not, List, [], ◌∷◌, ◌++◌, length, take}
-use Rattle.source_core.proofs.Words.{drop, Option, Some, None, option_map, refl, arith, append-nil, take_at, take-take}
-use Rattle.source_core.proofs.Words.{take_all, drop_all, pair_of, lines, Pair, is_below, line_below, stops_lines}
-use Rattle.source_core.proofs.Words.{NoFeed, PartOf, BeginsWith, ReadsOn, after_line}
+use Rattle.source_core.proofs.Words.{ℕ, length, Option, take_at, take_all, drop_all, pair_of, is_below, NoFeed, ReadsOn}
+use Rattle.source_core.proofs.Words.{Bool, true, List, ◌++◌, take, drop, Some, None, refl, arith, lines, Pair, PartOf}
+use Rattle.source_core.proofs.Words.{◌≡◌, ◌+◌, ◌-◌, ◌<◌, ◌≤◌, not, [], ◌∷◌}
+use Rattle.source_core.proofs.Words.{option_map, append-nil, take-take, line_below, stops_lines, BeginsWith, after_line}
 use Rattle.std.proofs.Math.Seq.{take-append-add}
 use Rattle.cdxj_places.proofs.PairLemmas.{pair_longer}
-use Rattle.source_core.proofs.Parts.{ended, goes_on, lines_last}
-use Rattle.source_core.proofs.Seeks.{head_line, lines_first}
+use Rattle.source_core.proofs.{Parts.ended, Parts.goes_on, Parts.lines_last, Seeks.head_line, Seeks.lines_first}
 
 -- ---- reading on
 
@@ -63,9 +62,8 @@ module _ (limit : ℕ) (start : Pair) where
 
   -- the front has a pair, so it isn't empty
   pub decided_at : (t : List ℕ) (offset : ℕ) (front held : List ℕ) (ends below : Bool) → held ≡ front
-      → ReadsOn t offset front ends → length front ≤ limit
-      → Some below ≡ option_map (is_below start) (pair_of held) → not below
-      ≡ stops_lines (line_below limit start) (lines (drop offset t))
+      → ReadsOn t offset front ends → length front ≤ limit → Some below ≡ option_map (is_below start) (pair_of held)
+      → not below ≡ stops_lines (line_below limit start) (lines (drop offset t))
   decided_at t offset [] held ends below same r short h = grind arith
   decided_at t offset (x ∷ u) held ends below same r short h =
       decided_by t offset (x ∷ u) ends below _ r (omega arith) short refl (grind arith)
@@ -75,8 +73,7 @@ module _ (limit : ℕ) (start : Pair) where
 
   -- the whole line, or as much as is looked at, has none
   pub none_whole : (t : List ℕ) (offset : ℕ) (front : List ℕ) → ReadsOn t offset front true → length front ≤ limit
-      → pair_of front ≡ None
-      → true ≡ stops_lines (line_below limit start) (lines (drop offset t))
+      → pair_of front ≡ None → true ≡ stops_lines (line_below limit start) (lines (drop offset t))
   unfolding line_below
   none_whole t offset front r short e = grind (arith, take_all)
 

@@ -4,7 +4,7 @@ use Rattle.source_core.proofs.Words.{None, IfSome, IfNone, inr, arith, drop_all,
 use Rattle.source_core.proofs.Words.{from_line, BeginsAfter, Halved, HalvedIn, digits, stops, line_below, IsCut, IsStop}
 use Rattle.source_core.specs.declared.seeking.Span.{Span}
 use Rattle.source_core.proofs.LongestLines.{far_first, far_here, far_longest}
-use Rattle.source_core.proofs.Halves.{digits_below, from_line_end, half_step}
+use Rattle.source_core.proofs.Seeks.{digits_below, from_line_end, half_step}
 use Rattle.source_core.proofs.SortedCuts.{begins_there, cut_there, lines_are_short}
 
 -- while offsets are left, so are steps
@@ -16,13 +16,10 @@ module _ (limit : ℕ) (start : Pair) (text : Option (List ℕ)) (extent : ℕ) 
     (h : Halved limit start text extent s) (some : s.low < s.high) (middle : ℕ)
     (half : middle ≡ s.low + (s.high - s.low) / 2) (probes : ℕ) (next : probes ≡ s.probes + 1) where
   -- the upper half is left out
-  halves : (line : Option ℕ) → IfSome line (λ o. o ≤ extent) → IfNone line (0 < middle)
-      → ((t : List ℕ) → text ≡ Some t
+  halves : (line : Option ℕ) → IfSome line (λ o. o ≤ extent) → IfNone line (0 < middle) → ((t : List ℕ) → text ≡ Some t
       → HalvedIn limit start extent t (record { low = s.low; high = middle; line = line; probes = probes }))
       → Halved limit start text extent (record { low = s.low; high = middle; line = line; probes = probes })
-  halves line there hidden told =
-      let w = half_step (s.high - s.low) h.left.0 h.left.2 (omega arith) in
-      grind arith
+  halves line there hidden told = let w = half_step (s.high - s.low) h.left.0 h.left.2 (omega arith) in grind arith
 
   -- the line that begins there isn't below the pair
   pub halves_down : (offset : ℕ) → offset ≤ extent
@@ -36,9 +33,7 @@ module _ (limit : ℕ) (start : Pair) (text : Option (List ℕ)) (extent : ℕ) 
       → ((t : List ℕ) → text ≡ Some t → (drop offset t ≡ from_line middle t) × (drop offset t ≡ from_line offset t)
       × (stops (line_below limit start) middle t ≡ false))
       → Halved limit start text extent (record { low = offset + 1; high = s.high; line = s.line; probes = probes })
-  halves_up offset after within told =
-      let w = half_step (s.high - s.low) h.left.0 h.left.2 (omega arith) in
-      grind arith
+  halves_up offset after within told = let w = half_step (s.high - s.low) h.left.0 h.left.2 (omega arith) in grind arith
 
   -- no line begins there within the limit of a line
   pub halves_hidden : (until : ℕ) → 0 < middle → until ≡ middle + limit → until ≤ s.high

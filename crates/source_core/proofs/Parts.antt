@@ -23,9 +23,7 @@ module _ (t held : List ℕ) (m at n : ℕ) (bytes : held ≡ take m (drop at t)
   here = sym (take-append-drop n (drop at t)) ∙ ap₂ (λ u v. u ++ v) (grind (arith, take-take)) (drop-drop n at t)
 
   pub left : drop n held ≡ take (m - n) (drop (at + n) t)
-  left =
-      let e : n + (m - n) ≡ m = omega arith in
-      grind (arith, drop-take, drop-drop)
+  left = let e : n + (m - n) ≡ m = omega arith in grind (arith, drop-take, drop-drop)
 
   -- the line that ends here
   pub ended : (at0 : ℕ) (line : List ℕ) → drop at0 t ≡ line ++ drop at t → NoFeed line → PartOf held n true

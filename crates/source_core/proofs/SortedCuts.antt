@@ -1,16 +1,15 @@
 -- Indexes, cut at a pair.
-use Rattle.source_core.proofs.Words.{◌≡◌, ℕ, zero, suc, ◌+◌, ◌-◌, ◌*◌, ◌^◌, ◌<◌, ◌≤◌, List, [], ◌∷◌, ◌++◌, Bool, true}
-use Rattle.source_core.proofs.Words.{false, None, not, cond, length, take, drop, flat_map, map, Some, refl, sym, ap}
-use Rattle.source_core.proofs.Words.{◌∙◌, arith, length-append, length-drop, length-take, is_gt, AllByRecursion}
-use Rattle.source_core.proofs.Words.{flat_map-append, and_parts, take_all, Member, member_pair, line_entry, IsIndex}
-use Rattle.source_core.proofs.Words.{begins_with_pair, is_key, key_part, pair_of, stamp_part, IsLeast, Pair, pair_cmp}
-use Rattle.source_core.proofs.Words.{lines, from_line, longest, BeginsAfter, is_below, is_some_below, line_below}
-use Rattle.source_core.proofs.Words.{IsCut, stops, stops_lines, digits}
+use Rattle.source_core.proofs.Words.{◌≡◌, suc, ◌+◌, ◌-◌, ◌*◌, ◌^◌, ◌<◌, ◌≤◌, ◌∷◌, not, drop, map, Some, refl, sym, Pair}
+use Rattle.source_core.proofs.Words.{ℕ, length-append, AllByRecursion, flat_map-append, begins_with_pair, is_some_below}
+use Rattle.source_core.proofs.Words.{zero, List, ◌++◌, Bool, true, None, cond, take, arith, is_gt, lines, IsCut, stops}
+use Rattle.source_core.proofs.Words.{[], Member, IsIndex, is_key, pair_of, IsLeast, pair_cmp, longest, is_below, digits}
+use Rattle.source_core.proofs.Words.{false, length-drop, length-take, member_pair, line_entry, BeginsAfter, stops_lines}
+use Rattle.source_core.proofs.Words.{length, flat_map, and_parts, take_all, key_part, stamp_part, from_line, line_below}
+use Rattle.source_core.proofs.{Words.ap, Words.◌∙◌, Seeks.digits_below}
 use Rattle.std.proofs.Math.Pow.{pow_mono}
 use Rattle.cdxj_core.proofs.MemberLemmas.{entry_pair_is, entry_is_short}
 use Rattle.cdxj_places.specs.Rising.{NeverFalls}
 use Rattle.cdxj_places.proofs.PairLemmas.{pair_cmp_total}
-use Rattle.source_core.proofs.Halves.{digits_below}
 use Rattle.source_core.proofs.Seeks.{from_line_rest, sought, BelowFirst}
 
 -- ---- where lines begin
@@ -22,14 +21,11 @@ lines_length (b ∷ bs) = grind (arith, lines_length bs)
 pub begins_at : (t : List ℕ) (offset : ℕ) (before : List (List ℕ)) → lines t ≡ before ++ lines (drop offset t)
     → offset ≤ length t → offset ≡ length (flat_map (λ l. l) before)
 begins_at t offset before e inside =
-    let whole = lines_length t in
-    grind (arith, lines_length, flat_map-append, length-append, length-drop)
+    let whole = lines_length t in grind (arith, lines_length, flat_map-append, length-append, length-drop)
 
 pub begins_there : (t : List ℕ) (offset m : ℕ) → drop offset t ≡ from_line m t → offset ≤ length t
     → (before : List (List ℕ)) × BeginsAfter t offset before
-begins_there t offset m e inside =
-    let front = from_line_rest m t in
-    grind (arith, begins_at)
+begins_there t offset m e inside = let front = from_line_rest m t in grind (arith, begins_at)
 
 -- ---- the order of pairs
 
@@ -113,9 +109,8 @@ module _ (limit : ℕ) (start : Pair) where
   parts before rest ms e = absurd (cc)
 
   pub cut_there : (t : List ℕ) (ms : List Member) (r offset : ℕ) → IsIndex limit t ms → offset ≤ length t
-      → drop offset t ≡ from_line r t
-      → stops (line_below limit start) r t ≡ true → ((k : ℕ) → r ≡ k + 1 → stops (line_below limit start) k t ≡ false)
-      → IsCut start t ms offset
+      → drop offset t ≡ from_line r t → stops (line_below limit start) r t ≡ true
+      → ((k : ℕ) → r ≡ k + 1 → stops (line_below limit start) k t ≡ false) → IsCut start t ms offset
   cut_there t ms r offset index inside from here before =
       let s = sought (line_below limit start) t r (below_first (lines t) ms index.entries index.ordered) here before in
       let halves = parts s.before (lines (from_line r t)) ms (rw s.cut at index.entries) in

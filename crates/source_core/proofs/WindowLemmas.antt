@@ -1,12 +1,15 @@
 -- Bytes that a window holds.
-use Rattle.source_core.proofs.Words.{common_steps, ◌≡◌, ℕ, ◌+◌, ◌-◌, ◌≤◌, Bool, List, [], ◌++◌, length, take, drop, min}
-use Rattle.source_core.proofs.Words.{Option, Some, inl, inr, arith, drop-drop, length-take, length-append, cases_lt}
-use Rattle.source_core.proofs.Words.{cond-false, cond_both, le-ltb, ltb-false, drop-take, drop_all, take-take}
-use Rattle.source_core.proofs.Words.{AreBytesAt, HeldBytes, Holds, held_from, BeginsWith, PartOf, ReadsOn}
+use Rattle.source_core.proofs.Words.{common_steps, length-take, length-append, cond-false, AreBytesAt, ◌≡◌, CursorState}
+use Rattle.source_core.proofs.Words.{Bool, List, ◌++◌, ◌-◌, ◌≤◌, take, drop, min, Some, inl, inr, true, refl, lines, ap}
+use Rattle.source_core.proofs.Words.{BeginsWith, [], drop-drop, cond_both, ltb-false, drop-take, prefix_len, IsHeldLine}
+use Rattle.source_core.proofs.Words.{length, Option, le-ltb, Holds, PartOf, ◌+◌, arith, Stands, NoFeed, get_or, body_of}
+use Rattle.source_core.proofs.Words.{cases_lt, drop_all, ReadsOn, take-take, HeldBytes, held_from, list_all, take_more}
 use Rattle.std.specs.Prelude.{ltb}
 use Rattle.source_core.specs.declared.source.Source.{Ghosts}
-use Rattle.source_core.proofs.FrontLemmas.{reads_on}
-use Rattle.source_core.proofs.Parts.{given_out}
+use Rattle.source_core.proofs.{Words.ℕ, Words.◌<◌, Words.◌∷◌, FrontLemmas.reads_on, Parts.given_out}
+use Rattle.cdxj_core.proofs.{EntryRead.body_of-feed, UnescapedAscii.unescaped_front}
+use Rattle.cdxj_core.specs.Plain.{is_unescaped_ascii}
+use Rattle.source_core.proofs.Parts.{ended, given_more, given_out}
 
 -- a source was read and did not fail, and the window holds bytes of it
 pub record HasRead {S : Type 0} (device : Ghosts S) (old new : S) (window : HeldBytes) : Type 0 where
@@ -52,8 +55,35 @@ nothing_read t offset = grind arith
 
 -- it goes on with a part of what is held
 pub held_reads : (text : Option (List ℕ)) (extent offset n : ℕ) (front held new t : List ℕ) (ends : Bool)
-    → AreBytesAt text extent (offset + length front) held → text ≡ Some t
-    → n ≤ length held → new ≡ front ++ take n held → PartOf held n ends → BeginsWith t offset front
-    → ReadsOn t offset new ends
+    → AreBytesAt text extent (offset + length front) held → text ≡ Some t → n ≤ length held → new ≡ front ++ take n held
+    → PartOf held n ends → BeginsWith t offset front → ReadsOn t offset new ends
 held_reads text extent offset n front held new t ends s e inside grown part begins =
     grind (arith, common_steps, length-append, length-take, reads_on, take-take)
+
+-- ---- lines that were read ahead
+
+no_feed : (xs : List ℕ) → list_all is_unescaped_ascii xs ≡ true → NoFeed xs
+no_feed [] h = tt
+no_feed (x ∷ xs) h = grind (arith, no_feed xs)
+
+-- a line feed ends the bytes of ASCII that are no control and no backslash
+pub unescaped_line : (held : List ℕ) (body : ℕ) → body ≡ prefix_len is_unescaped_ascii held → body < length held
+    → get_or held body 0 ≡ 10
+    → IsHeldLine held (body + 1) × (list_all is_unescaped_ascii (body_of (take (body + 1) held)) ≡ true)
+unescaped_line held body run inside feed =
+    let all : list_all is_unescaped_ascii (take body held) ≡ true = grind (arith, unescaped_front) in
+    let whole : take (body + 1) held ≡ take body held ++ 10 ∷ [] = grind (arith, take_more held body 0 inside) in
+    grind (arith, ap, body_of-feed, no_feed)
+
+module _ (text : Option (List ℕ)) (extent : ℕ) (c : CursorState) (size : ℕ) (h : Stands text extent c)
+    (line : IsHeldLine c.ahead size) where
+  -- it is the line that begins where the cursor stands
+  pub passed_line : (t : List ℕ) → text ≡ Some t → lines (drop c.at t)
+      ≡ take size c.ahead ∷ lines (drop (c.at + size) t)
+  passed_line t e = ended t c.ahead (length c.ahead) c.at size (h.filled.bytes t e) line.inside c.at [] refl tt
+      line.part
+
+  -- and the cursor stands behind it
+  pub passed : Stands text extent
+      (record { ahead = drop size c.ahead; at = c.at + size; start = c.start; count = c.count + 1 })
+  passed = grind (arith, given_out text extent c.at size c.ahead h.filled line.inside, given_more, passed_line)

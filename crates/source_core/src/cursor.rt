@@ -15,7 +15,7 @@ use std::alloc::{AllocError, Global};
 use std::marker::Model;
 
 /// Which bytes a line that was read ahead may have.
-#[derive(Clone, Copy, Debug, Drop)]
+#[derive(Clone, Copy, Drop)]
 pub enum LineBytes {
     /// Any bytes.
     Any,
@@ -26,7 +26,7 @@ pub enum LineBytes {
 /// Reads the lines of a source from an offset on. It does not hold the source; each call takes it.
 ///
 /// It reads pieces of at most [`PIECE`] bytes and holds one of them.
-#[derive(Debug, Drop)]
+#[derive(Drop)]
 pub struct Cursor {
     window: Window,
     at: u64,

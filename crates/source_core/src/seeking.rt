@@ -31,7 +31,7 @@ use std::alloc::{AllocError, Global};
 const FEW: u64 = 7680;
 
 /// The result of a search.
-#[derive(Debug, Drop)]
+#[derive(Drop)]
 pub struct Found {
     /// Stands at the line found, or at the source's end if there is none. It holds what the search
     /// has read there.

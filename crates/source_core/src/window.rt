@@ -34,7 +34,7 @@ fn read_part<S: Source>(
 
 /// Bytes of a source from an offset on, at most [`PIECE`] of them, which stay held until others are
 /// read.
-#[derive(Debug, Drop)]
+#[derive(Drop)]
 pub(crate) struct Window {
     buffer: Vec<u8>,
     at: u64,

@@ -1,19 +1,14 @@
-use Rattle.merge_core.proofs.Words.{[], ℕ, ◌++◌, ◌-◌, ◌^◌, ◌∷◌, ◌≡◌, AllByRecursion, AllGaveOnce, Appends}
-use Rattle.merge_core.proofs.Words.{AppendsPrefix, AreLinesOf, Bool, MergeInput, KeepsSources, List, Member}
-use Rattle.merge_core.proofs.Words.{MergeState, Option, OverIndexes, Pair, Reached, ap, append-nil, arith, collection}
-use Rattle.merge_core.proofs.Words.{err_from_is_err_and, false, inputs, filter, flat_map-append, inl, inr, length}
-use Rattle.merge_core.proofs.Words.{length-map, lines_text, map, member_pair, min, prefix_longer, refl, sym, true}
-use Rattle.merge_core.proofs.Words.{true≢false, cases_Bool, Appends-none, prefix_whole, wrote_nothing, zip}
-use Rattle.merge_core.proofs.Words.{CursorState, each_weaker}
-use Rattle.merge_core.proofs.TakenLemmas.{took_of_indexes, none_wait, taken_first, IsUpward, taken_whole}
-use Rattle.merge_core.proofs.TakenLemmas.{took_of_parts}
-use Rattle.merge_core.proofs.SourceLemmas.{gave_once, none_below_empty, taken_lines, all_kept, starts_kept}
-use Rattle.merge_core.proofs.SourceLemmas.{indexes_read, reached_read, cut_at_start, parts}
-use Rattle.merge_core.proofs.OpenLemmas.{begun_of}
-use Rattle.merge_core.proofs.StateLemmas.{cursors_of}
-use Rattle.merge_core.proofs.indexes.merge_indexes.Given.{Over}
+use Rattle.merge_core.proofs.Words.{◌++◌, ◌-◌, ◌^◌, Bool, List, Pair, arith, false, inputs, filter, length, refl, true}
+use Rattle.merge_core.proofs.Words.{AllByRecursion, AppendsPrefix, err_from_is_err_and, flat_map-append, prefix_longer}
+use Rattle.merge_core.proofs.Words.{Appends, AreLinesOf, MergeInput, MergeState, append-nil, CursorState, each_weaker}
+use Rattle.merge_core.proofs.Words.{[], ℕ, ◌∷◌, ◌≡◌, ap, inl, inr, map, min, sym, zip}
+use Rattle.merge_core.proofs.Words.{KeepsSources, OverIndexes, member_pair, Appends-none, prefix_whole, wrote_nothing}
+use Rattle.merge_core.proofs.Words.{Member, Option, Reached, collection, length-map, lines_text, true≢false, cases_Bool}
+use Rattle.merge_core.proofs.TakenLemmas.{took_of_indexes, none_wait, taken_first, IsUpward, taken_whole, took_of_parts}
+use Rattle.merge_core.proofs.SourceLemmas.{none_below_empty, taken_lines, indexes_read, reached_read, cut_at_start}
+use Rattle.merge_core.proofs.SourceLemmas.{gave_once, all_kept, starts_kept, parts}
+use Rattle.merge_core.proofs.{StateLemmas.cursors_of, OpenLemmas.begun_of, Many.each_second}
 use Rattle.merge_core.proofs.indexes.merge_indexes.Goals.{After-merge, In_err-merge, In_ok-merge}
-use Rattle.merge_core.proofs.Many.{each_second}
 use Rattle.merge_core.proofs.indexes.merge_indexes.Goals as goal
 
 abbrev never : List ℕ → Bool
@@ -27,11 +22,11 @@ filter_every [] = refl
 filter_every (x ∷ xs) = ap (λ l. x ∷ l) (filter_every xs)
 
 -- each source is read from its start on
-begun : (g : Over) (c : After-merge g) → AllByRecursion (λ x. x.1.start ≡ 0)
+begun : (g : _) (c : After-merge g) → AllByRecursion (λ x. x.1.start ≡ 0)
     (zip c.open_at.new.sources c.in_ok-opened.opened.merge.cursors.items)
 begun g c = begun_of g.S.Source _ refl _ _ c.in_ok-opened.ensures.begun.opened
 
-module _ (g : Over) (c : After-merge g) {ss : List g.row.S.Denot} {m : MergeState} {b : Option Pair}
+module _ (g : _) (c : After-merge g) {ss : List g.row.S.Denot} {m : MergeState} {b : Option Pair}
     {taken : List Member} (reached : Reached never g.S.Source
     c.open_at.new.sources c.in_ok-opened.opened.merge ss m b taken) where
   -- of sources that are indexes, what was taken is a front of their collection
@@ -52,7 +47,7 @@ module _ (g : Over) (c : After-merge g) {ss : List g.row.S.Denot} {m : MergeStat
   lines = rw (← c.in_ok-opened.ensures.sources.0.0) (grind (arith, taken_lines))
 
 -- all lines that were taken were written and counted
-wrote : (g : Over) (c : In_ok-merge g)
+wrote : (g : _) (c : In_ok-merge g)
     → Appends (g.O.Output.written c.args.out.now) (g.O.Output.written c.merge.new.out)
     (lines_text c.in_ok-merge.ensures.ended.so_far.taken)
     × (c.merge.new.sink.count ≡ min (length c.in_ok-merge.ensures.ended.so_far.taken) (2 ^ 64 - 1))
@@ -61,11 +56,10 @@ wrote g c =
     c.in_ok-merge.ensures.ended.so_far.came c.new-writer.result out (Appends-none out, c.new-writer.ensures)
 
 -- or a prefix of them
-broke : (g : Over) (c : In_err-merge g) → AppendsPrefix (g.O.Output.written c.args.out.now)
+broke : (g : _) (c : In_err-merge g) → AppendsPrefix (g.O.Output.written c.args.out.now)
     (g.O.Output.written c.merge.new.out) (lines_text c.in_err-merge.ensures.ended.0.taken)
 broke g c =
-    let out = g.O.Output.written c.args.out.now in
-    let broke = c.in_err-merge.ensures.ended.0 in
+    let out = g.O.Output.written c.args.out.now in let broke = c.in_err-merge.ensures.ended.0 in
     elim (broke.wrote c.new-writer.result out (Appends-none out, c.new-writer.ensures)) [
       | inl k ↦ grind (arith, append-nil, prefix_whole)
       | inr p ↦ p
@@ -83,41 +77,27 @@ returns-in_err-merge-clause-part g c =
 
 pub returns-in_err-merge-clause-lines : goal.returns-in_err-merge-clause-lines
 returns-in_err-merge-clause-lines g c =
-    let b = c.in_err-merge.ensures.ended.0 in
-    grind (arith, err_from_is_err_and, lines, broke)
-
-kept : (g : Over) (c : After-merge g) → KeepsSources g.S.Source c.args.sources.now c.merge.new.sources
-kept g c =
-    grind (arith, all_kept)
-
--- each byte of each source was given at most once
-once : (g : Over) (c : After-merge g) → AllGaveOnce g.S.Source c.args.sources.now
-    c.merge.new.sources
-once g c = grind (arith, gave_once)
+    let b = c.in_err-merge.ensures.ended.0 in grind (arith, err_from_is_err_and, lines, broke)
 
 pub returns-in_err-merge-clause-bytes : goal.returns-in_err-merge-clause-bytes
-returns-in_err-merge-clause-bytes g c = once g (goal.at.returns-in_err-merge-clause-bytes g c).After-merge
+returns-in_err-merge-clause-bytes g c = grind (arith, gave_once)
 
 pub returns-in_err-merge-clause-kept : goal.returns-in_err-merge-clause-kept
-returns-in_err-merge-clause-kept g c = kept g (goal.at.returns-in_err-merge-clause-kept g c).After-merge
+returns-in_err-merge-clause-kept g c = grind (arith, all_kept)
 
 pub returns : goal.returns
 returns g c =
     let at = goal.at.returns g c in
-    let device = g.S.Source in
-    let sources = c.merge.new.sources in let m = c.merge.new.merge in
-    let opened = c.in_ok-opened.ensures in
-    let passed = c.in_ok-merge.ensures.ended in
-    let taken = passed.so_far.taken in
-    let reached = passed.so_far.reached in
+    let device = g.S.Source in let sources = c.merge.new.sources in let m = c.merge.new.merge in
+    let opened = c.in_ok-opened.ensures in let passed = c.in_ok-merge.ensures.ended in
+    let taken = passed.so_far.taken in let reached = passed.so_far.reached in
     let wrote = wrote g at.In_ok-merge in
-    let kept = kept g at.After-merge in
+    let kept : KeepsSources device c.args.sources.now sources = grind (arith, all_kept) in
     record {
       kept = kept;
       fault = grind arith;
       merged = λ texts known.
-          let lines = parts texts (inputs m) in
-          let there = rw (← opened.sources.0.0) at known in
+          let lines = parts texts (inputs m) in let there = rw (← opened.sources.0.0) at known in
           let empty : m.queue ≡ [] = grind (arith, cases_Bool) in
           let starts = each_second (λ (c : CursorState). c.start ≡ 0) sources m.cursors.items reached.ready.aligned.same
           (starts_kept device _ _ c.merge.ensures.moved (begun g at.After-merge)) in
@@ -131,7 +111,7 @@ returns g c =
             text = rw (← all) wrote.0;
             count = rw (← all) wrote.1;
           };
-      bytes = once g at.After-merge;
+      bytes = grind (arith, gave_once);
       part = front g at.After-merge reached _ _ (rw append-nil at (prefix_whole _ _ _ [] wrote.0));
       lines = (taken, grind (arith, lines), wrote);
       most_lines = λ texts indexes known are most share.

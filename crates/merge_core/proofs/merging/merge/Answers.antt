@@ -1,26 +1,24 @@
-use Rattle.merge_core.proofs.Words.{ℕ, ◌++◌, ◌+◌, ◌-◌, ◌^◌, ◌∷◌, ◌≡◌, Grouped, List, Member, Reached, Some, arith}
-use Rattle.merge_core.proofs.Words.{boxed_lines, each_rising, inl, inr, length, length-map, member_pair, member_place}
-use Rattle.merge_core.proofs.Words.{min, place_cmp, place_cmp_total, refl, rising, max, grows_not, HoldsFew}
-use Rattle.merge_core.proofs.CountLemmas.{held_most, reached_read_to}
-use Rattle.merge_core.proofs.MergeLemmas.{below_next, broken_there, halted_there, reached_next, reached_same}
-use Rattle.merge_core.proofs.MergeLemmas.{on_fault}
-use Rattle.merge_core.proofs.merging.merge.Given.{Over}
+use Rattle.merge_core.proofs.Words.{ℕ, boxed_lines, each_rising, length-map, member_pair, member_place, place_cmp_total}
+use Rattle.merge_core.proofs.Words.{Grouped, Member, Reached, arith, length, place_cmp, rising, grows_not, HoldsFew}
+use Rattle.merge_core.proofs.Words.{◌++◌, ◌+◌, ◌-◌, ◌^◌, ◌∷◌, ◌≡◌, List, Some, inl, inr, min, refl, max}
+use Rattle.merge_core.proofs.{CountLemmas.held_most, CountLemmas.reached_read_to, Many.moved_trans}
+use Rattle.merge_core.proofs.MergeLemmas.{below_next, broken_there, halted_there, reached_next, reached_same, on_fault}
 use Rattle.merge_core.proofs.merging.merge.Goals.{After-pass_group}
 use Rattle.merge_core.proofs.merging.merge.Goals as goal
 
-abbrev group : (g : Over) → After-pass_group g → List Member
+abbrev group : (g : _) → After-pass_group g → List Member
 group g c = c.in-Some.first.value ∷ boxed_lines c.gather.new.rest.items
 
 -- the lines before this group, and those with it
-abbrev taken : (g : Over) → After-pass_group g → List Member
+abbrev taken : (g : _) → After-pass_group g → List Member
 taken g c = c.loop-rest.invariant.came.taken ++ rising member_place place_cmp (group g c)
 
-grouped : (g : Over) (c : After-pass_group g) → Grouped (g.R.Range.past c.args.range.now) g.S.Source c.loop-rest.sources
-    c.loop-rest.merge c.gather.new.sources c.gather.new.self (member_pair c.in-Some.first.value) (group g c)
+grouped : (g : _) (c : After-pass_group g) → Grouped (g.R.Range.past c.args.range.now) g.S.Source
+    c.loop-rest.sources c.loop-rest.merge c.gather.new.sources c.gather.new.self (member_pair c.in-Some.first.value)
+    (group g c)
 grouped g c = grind arith
 
-reached : (g : Over) (c : After-pass_group g)
-    → Reached (g.R.Range.past c.args.range.now) g.S.Source
+reached : (g : _) (c : After-pass_group g) → Reached (g.R.Range.past c.args.range.now) g.S.Source
     c.args.sources.now c.args.merge.now c.gather.new.sources c.gather.new.self (Some (member_pair c.in-Some.first.value)) (taken g c)
 reached g c =
     let ok = c.in_ok-first.ensures in
@@ -28,7 +26,7 @@ reached g c =
     (grind arith)
 
 -- the waiting lines and the group are one line of each source, and as many as share a pair
-most_lines : (g : Over) (c : After-pass_group g) (now : ℕ)
+most_lines : (g : _) (c : After-pass_group g) (now : ℕ)
     → now ≡ max c.gather.new.self.most_lines (min (length c.gather.new.self.queue + 1 + length c.gather.new.rest.items)
     (2 ^ 64 - 1))
     → HoldsFew g.S.Source c.args.sources.now c.args.merge.now.most_lines now
@@ -38,10 +36,19 @@ most_lines g c now is texts indexes known are most share h =
     share in
     grind (arith, length-map)
 
-order : (g : Over) (c : After-pass_group g)
+order : (g : _) (c : After-pass_group g)
     → rising member_place place_cmp (c.deref.result.now ∷ boxed_lines c.deref-in-Some.result.now)
     ≡ rising member_place place_cmp (group g c)
 order g c = cc
+
+pub returns-in_err-first-clause-moved : goal.returns-in_err-first-clause-moved
+returns-in_err-first-clause-moved g c = grind (arith, moved_trans)
+
+pub returns-in_err-more-clause-moved : goal.returns-in_err-more-clause-moved
+returns-in_err-more-clause-moved g c = grind (arith, moved_trans)
+
+pub returns-then-not-more-clause-moved : goal.returns-then-not-more-clause-moved
+returns-then-not-more-clause-moved g c = grind (arith, moved_trans)
 
 pub loop-rest-preserved : goal.loop-rest-preserved
 loop-rest-preserved g c =
@@ -69,8 +76,7 @@ returns-in_err-more-clause-most_lines g c = rw c.gather.ensures.most_lines c.loo
 pub returns-in_err-more-clause-ended : goal.returns-in_err-more-clause-ended
 returns-in_err-more-clause-ended g c =
     let here = (goal.at.returns-in_err-more-clause-ended g c).After-pass_group in
-    let came = c.loop-rest.invariant.came in
-    let gathered = grouped g here in
+    let came = c.loop-rest.invariant.came in let gathered = grouped g here in
     on_fault _ _ _ _ c.from_residual-in_err-more.ensures.1 (
       elim c.in_err-more.ensures.passed [
         | inl k ↦ broken_there came _ (grind arith)
@@ -99,8 +105,7 @@ returns-then-not-more-clause-most_lines g c =
 pub returns-then-not-more-clause-ended : goal.returns-then-not-more-clause-ended
 returns-then-not-more-clause-ended g c =
     let here = (goal.at.returns-then-not-more-clause-ended g c).After-pass_group in
-    let came = c.loop-rest.invariant.came in
-    let gathered = grouped g here in
+    let came = c.loop-rest.invariant.came in let gathered = grouped g here in
     let now = reached_same c.recycle.new.self c.recycle.ensures.kept (reached g here) in
     let above = gathered.above came.bound came.reached.above in
     record {

@@ -1,12 +1,8 @@
-use Rattle.merge_core.proofs.Words.{arith}
-use Rattle.merge_core.proofs.PairOrder.{begins}
+use Rattle.merge_core.proofs.{Words.arith, PairOrder.begins}
 use Rattle.merge_core.proofs.pair_start.pair_bytes.Goals as goal
 
 pub slice_bounds-result-end : goal.slice_bounds-result-end
-slice_bounds-result-end c =
-    let b = begins c.line.result.now c.args.line.now c.line.ensures.entry in
-    grind arith
+slice_bounds-result-end c = grind (arith, begins c.line.result.now c.args.line.now c.line.ensures.entry)
 
 pub returns : goal.returns
-returns c =
-    let b = begins c.line.result.now c.args.line.now c.line.ensures.entry in grind arith
+returns c = grind (arith, begins c.line.result.now c.args.line.now c.line.ensures.entry)

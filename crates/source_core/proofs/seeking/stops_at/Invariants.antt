@@ -1,6 +1,5 @@
-use Rattle.source_core.proofs.Words.{◌≡◌, ◌+◌, ◌-◌, ◌≤◌, ℕ, List, length, false, Some, LINE_LIMIT, lines, longest}
-use Rattle.source_core.proofs.Words.{ReadsOn}
-use Rattle.source_core.proofs.WindowLemmas.{HasRead}
+use Rattle.source_core.proofs.Words.{◌≡◌, ◌+◌, ◌-◌, ◌≤◌, List, length, false, Some, LINE_LIMIT, lines, longest, ReadsOn}
+use Rattle.source_core.proofs.{Words.ℕ, WindowLemmas.HasRead}
 use Rattle.source_core.proofs.seeking.stops_at.Given as goal
 
 abbrev pub invariant-fronts : goal.invariant-fronts

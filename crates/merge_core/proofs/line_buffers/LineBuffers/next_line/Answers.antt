@@ -1,6 +1,20 @@
-use Rattle.merge_core.proofs.Words.{◌∷◌, ◌≡◌, arith, drop, lines}
-use Rattle.merge_core.proofs.InputLemmas.{first_long}
+use Rattle.merge_core.proofs.{Words.◌∷◌, Words.◌≡◌, Words.arith, Words.drop, Words.lines, InputLemmas.first_long}
 use Rattle.merge_core.proofs.line_buffers.LineBuffers.next_line.Goals as goal
+
+pub returns-in-Ok : goal.returns-in-Ok
+returns-in-Ok g c = grind arith
+
+pub returns-in-Ok-line_of : goal.returns-in-Ok-line_of
+returns-in-Ok-line_of g c = grind arith
+
+pub returns-in-Ok-false : goal.returns-in-Ok-false
+returns-in-Ok-false g c = grind arith
+
+pub returns-in-Err-Memory : goal.returns-in-Err-Memory
+returns-in-Err-Memory g c = grind arith
+
+pub returns-in-Err-Read : goal.returns-in-Err-Read
+returns-in-Err-Read g c = grind arith
 
 pub returns-in-Err-clause-fault : goal.returns-in-Err-clause-fault
 returns-in-Err-clause-fault g c = λ t e.
@@ -14,5 +28,5 @@ returns-in-Err-line_of-clause-fault g c = λ t e.
     grind arith in
     grind arith
 
-pub returns-in-Err-Long-clause-fault : goal.returns-in-Err-Long-clause-fault
-returns-in-Err-Long-clause-fault g c = grind (arith, first_long)
+pub returns-in-Err-Long : goal.returns-in-Err-Long
+returns-in-Err-Long g c = grind (arith, first_long)

@@ -1,27 +1,23 @@
-use Rattle.merge_core.proofs.Words.{[], ℕ, ◌++◌, ◌∙◌, ◌∷◌, ◌≡◌, ◌≤◌, Alike, AllByRecursion, Bool, EndsAt, IsInput}
-use Rattle.merge_core.proofs.Words.{List, Member, Some, Upto, append_assoc, arith, boxed_lines, done, each_join}
-use Rattle.merge_core.proofs.Words.{each_weaker, false, input_of, filter, given, inl, inr, is_lt, length, map-append}
-use Rattle.merge_core.proofs.Words.{member_pair, pair_cmp_total, refl, stays, true}
-use Rattle.merge_core.proofs.InputLemmas.{LineRead, all_inside, all_taken, all_upto, bad_named, done_next, input_end}
-use Rattle.merge_core.proofs.InputLemmas.{input_more, given_next, order_named, same_stays, settled_more}
-use Rattle.merge_core.proofs.PairOrder.{from_not_below, upto_upto}
-use Rattle.merge_core.proofs.line_buffers.LineBuffers.read_group.Given.{Over}
+use Rattle.merge_core.proofs.Words.{[], Alike, EndsAt, IsInput, Member, each_join, input_of, filter, length, map-append}
+use Rattle.merge_core.proofs.Words.{◌++◌, Bool, List, Some, Upto, arith, done, false, given, is_lt, refl, stays, true}
+use Rattle.merge_core.proofs.Words.{AllByRecursion, append_assoc, boxed_lines, each_weaker, member_pair, pair_cmp_total}
+use Rattle.merge_core.proofs.Words.{ℕ, ◌∙◌, ◌∷◌, ◌≡◌, ◌≤◌, inl, inr, ReadTo}
+use Rattle.merge_core.proofs.InputLemmas.{all_inside, input_more, given_next, order_named, same_stays, settled_more}
+use Rattle.merge_core.proofs.InputLemmas.{LineRead, all_taken, all_upto, bad_named, done_next, input_end}
+use Rattle.merge_core.proofs.{PairOrder.from_not_below, PairOrder.upto_upto, CountLemmas.group_most}
 use Rattle.merge_core.proofs.line_buffers.LineBuffers.read_group.Goals.{After-compare_pair, After-next_line}
-use Rattle.merge_core.proofs.CountLemmas.{group_most}
 use Rattle.merge_core.proofs.line_buffers.LineBuffers.read_group.Goals as goal
 
 length_waits : (past : List ℕ → Bool) (m : Member) → length (filter (stays past) (m ∷ [])) ≤ 1
 length_waits past m = grind arith
 
 -- a line was read that isn't below the first one
-was_read : (g : Over) (c : After-compare_pair g) → is_lt c.compare_pair.result ≡ false
+was_read : (g : _) (c : After-compare_pair g) → is_lt c.compare_pair.result ≡ false
     → LineRead (g.R.Range.past c.args.range.now) (g.S.Source.text c.next_line.new.source)
     (g.S.Source.extent c.next_line.new.source) c.loop-line.cursor c.next_line.new.cursor c.in-Some.line.value
 was_read g c not_less =
-    let inv = c.loop-line.invariant in
-    let past = g.R.Range.past c.args.range.now in
-    let first = member_pair c.args.first.now in
-    let next = member_pair c.in-Some.line.value in
+    let inv = c.loop-line.invariant in let past = g.R.Range.past c.args.range.now in
+    let first = member_pair c.args.first.now in let next = member_pair c.in-Some.line.value in
     let up = from_not_below next first (grind arith) in
     let was : IsInput past (g.S.Source.text c.next_line.new.source) (g.S.Source.extent c.next_line.new.source)
     (input_of c.loop-line.cursor []) = grind arith in
@@ -37,9 +33,8 @@ was_read g c not_less =
     grind arith
 
 -- before the call, all lines that were read had been taken
-taken_before : (g : Over) (c : After-next_line g) (t : List ℕ) → g.S.Source.text c.args.source.now ≡ Some t
-    → done (g.R.Range.past c.args.range.now) t (input_of c.args.cursor.now [])
-    ≡ given t c.args.cursor.now
+taken_before : (g : _) (c : After-next_line g) (t : List ℕ) → g.S.Source.text c.args.source.now ≡ Some t
+    → done (g.R.Range.past c.args.range.now) t (input_of c.args.cursor.now []) ≡ given t c.args.cursor.now
 taken_before g c t e = all_taken (c.requires.input.told t e) (c.requires.due.last t e)
 
 pub returns-in-Greater-clause-read : goal.returns-in-Greater-clause-read
@@ -58,15 +53,13 @@ returns-in-Greater-clause-read g c =
       rest_is = inv.taken.1;
       alike = inv.taken.2;
       done_is = λ t e.
-          let now = done_next read _ is t e in
-          let more = inv.taken.3 t (cc) in
+          let now = done_next read _ is t e in let more = inv.taken.3 t (cc) in
           grind (arith, taken_before);
     }
 
 pub returns-clause-read : goal.returns-clause-read
 returns-clause-read g c =
-    let inv = c.loop-line.invariant in
-    let past = g.R.Range.past c.args.range.now in
+    let inv = c.loop-line.invariant in let past = g.R.Range.past c.args.range.now in
     let here = goal.at.returns-clause-read g c in
     let was : IsInput past (g.S.Source.text c.next_line.new.source) (g.S.Source.extent c.next_line.new.source)
     (input_of c.loop-line.cursor []) = grind arith in
@@ -84,27 +77,32 @@ returns-clause-read g c =
           grind (arith, taken_before);
     }
 
+-- no line beyond the next one was read
+most : (g : _) (c : After-next_line g) (t : List ℕ) → g.S.Source.text c.args.source.now ≡ Some t
+    → ReadTo (g.R.Range.past c.args.range.now) (Some (member_pair c.args.first.now)) t c.next_line.new.cursor
+most g c t e =
+    let inv = c.loop-line.invariant in let is = inv.moved.text_kept ∙ e in let read = c.next_line.ensures in
+    group_most inv.input t is (inv.last t e) _ read.moved.start_kept (read.most t is) read.ahead
+
 pub returns-in_err-line-clause-most : goal.returns-in_err-line-clause-most
-returns-in_err-line-clause-most g c = grind (arith, group_most {pair = member_pair c.args.first.now} c.loop-line.invariant.input)
+returns-in_err-line-clause-most g c = most g (goal.at.returns-in_err-line-clause-most g c).After-next_line
 
 pub returns-in-Less-clause-most : goal.returns-in-Less-clause-most
-returns-in-Less-clause-most g c = grind (arith, group_most {pair = member_pair c.args.first.now} c.loop-line.invariant.input)
+returns-in-Less-clause-most g c = most g (goal.at.returns-in-Less-clause-most g c).After-next_line
 
 pub returns-in-Greater-clause-most : goal.returns-in-Greater-clause-most
-returns-in-Greater-clause-most g c = grind (arith, group_most {pair = member_pair c.args.first.now} c.loop-line.invariant.input)
+returns-in-Greater-clause-most g c = most g (goal.at.returns-in-Greater-clause-most g c).After-next_line
 
 pub returns-in_err-push-in-Equal-clause-most : goal.returns-in_err-push-in-Equal-clause-most
-returns-in_err-push-in-Equal-clause-most g c = grind (arith, group_most {pair = member_pair c.args.first.now} c.loop-line.invariant.input)
+returns-in_err-push-in-Equal-clause-most g c = most g (goal.at.returns-in_err-push-in-Equal-clause-most g c).After-next_line
 
 pub returns-clause-most : goal.returns-clause-most
-returns-clause-most g c = grind (arith, group_most {pair = member_pair c.args.first.now} c.loop-line.invariant.input)
+returns-clause-most g c = most g (goal.at.returns-clause-most g c).After-next_line
 
 pub loop-line-preserved : goal.loop-line-preserved
 loop-line-preserved g c =
-    let ok = c.in_ok-line.ensures in
-    let inv = c.loop-line.invariant in
-    let past = g.R.Range.past c.args.range.now in
-    let first = member_pair c.args.first.now in
+    let ok = c.in_ok-line.ensures in let inv = c.loop-line.invariant in
+    let past = g.R.Range.past c.args.range.now in let first = member_pair c.args.first.now in
     let m = c.in-Some.line.value in
     let alike : Alike (member_pair m) first = grind arith in
     let pushed : boxed_lines c.push.new.self.items ≡ boxed_lines c.loop-line.rest.items ++ m ∷ [] =

@@ -14,8 +14,7 @@ invariant-loop-line g l = record {
       → EndsAt (g.R.Range.past l.range) (member_pair l.first) (given t l.cursor);
   taken : (taken : List Member) × (boxed_lines l.rest.items ≡ boxed_lines l.fn.rest.items ++ taken)
       × AllByRecursion (λ m. Alike (member_pair m) (member_pair l.first)) taken
-      × ((t : List ℕ) → g.S.Source.text l.fn.source ≡ Some t
-      → given t l.cursor ≡ given t l.fn.cursor ++ taken);
+      × ((t : List ℕ) → g.S.Source.text l.fn.source ≡ Some t → given t l.cursor ≡ given t l.fn.cursor ++ taken);
 }
 
 abbrev pub decreases-loop-line : goal.decreases-loop-line

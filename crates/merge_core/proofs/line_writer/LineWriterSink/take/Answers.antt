@@ -1,8 +1,7 @@
-use Rattle.merge_core.proofs.Words.{[], ℕ, ◌++◌, ◌+◌, ◌<◌, ◌∷◌, ◌≡◌, Appends, AppendsPrefix, Bor, Line, List, Member}
-use Rattle.merge_core.proofs.Words.{Option, append-nil, append_assoc, arith, drop, err_from_is_err_and}
-use Rattle.merge_core.proofs.Words.{flat_map-append, get_or, grows_on, length, length-append, line_row, lines_text}
-use Rattle.merge_core.proofs.Words.{map, map-append, prefix_after, prefix_longer, take, take-append-drop, map_more}
-use Rattle.merge_core.proofs.Words.{Appends-join}
+use Rattle.merge_core.proofs.Words.{ℕ, append-nil, length-append, lines_text, prefix_after, prefix_longer, Appends-join}
+use Rattle.merge_core.proofs.Words.{Appends, Member, Option, get_or, grows_on, length, line_row, map-append, map_more}
+use Rattle.merge_core.proofs.Words.{AppendsPrefix, append_assoc, err_from_is_err_and, flat_map-append, take-append-drop}
+use Rattle.merge_core.proofs.Words.{[], ◌++◌, ◌+◌, ◌<◌, ◌∷◌, ◌≡◌, Bor, Line, List, arith, drop, map, take}
 use Rattle.merge_core.proofs.line_writer.LineWriterSink.take.Goals as goal
 
 -- lines, up to one of them
@@ -23,8 +22,7 @@ module _ {B : Type 0} (seen : B → Member) (lines : List B) (k : ℕ) (line : B
 
   -- where it couldn't be written, a front of all stands there
   broke_at : (start mid new : Option (List ℕ)) → Appends start mid (lines_text (upto k))
-      → AppendsPrefix mid new (line_row (seen line))
-      → AppendsPrefix start new (lines_text (taken ++ map seen lines))
+      → AppendsPrefix mid new (line_row (seen line)) → AppendsPrefix start new (lines_text (taken ++ map seen lines))
   broke_at start mid new was part =
       let whole = rw take-append-drop at (text_joined (take (k + 1) lines) (drop (k + 1) lines)) in
       rw whole (rw text_more (prefix_longer start new _ _ (prefix_after start mid new _ _ was part)))

@@ -1,19 +1,26 @@
 use Rattle.merge_core.proofs.Words.{[], IsInput, arith, boxed_line, input_of}
-use Rattle.merge_core.proofs.InputLemmas.{bad_named}
-use Rattle.merge_core.proofs.OpenLemmas.{input_fresh, first_read}
-use Rattle.merge_core.proofs.state.MergeState.add.Given.{Over}
+use Rattle.source_core.proofs.LongestLines.{first_within}
+use Rattle.merge_core.proofs.{InputLemmas.bad_named, OpenLemmas.input_fresh, OpenLemmas.first_read}
 use Rattle.merge_core.proofs.state.MergeState.add.Goals.{After-next_line}
 use Rattle.merge_core.proofs.state.MergeState.add.Goals as goal
 
 -- before the first line is read
-fresh : (g : Over) (c : After-next_line g) → IsInput (g.R.Range.past c.args.range.now)
+fresh : (g : _) (c : After-next_line g) → IsInput (g.R.Range.past c.args.range.now)
     (g.S.Source.text c.args.source.now) (g.S.Source.extent c.args.source.now) (input_of c.args.cursor [])
 fresh g c = input_fresh (g.R.Range.past c.args.range.now) _ _ c.args.cursor c.requires.stands c.requires.fresh.none
     c.requires.fresh.there c.requires.begins
 
-pub returns-in_err-next-clause-source : goal.returns-in_err-next-clause-source
-returns-in_err-next-clause-source g c =
-    grind (arith, bad_named, fresh)
+pub returns-in_err-next : goal.returns-in_err-next
+returns-in_err-next g c = grind (arith, bad_named, fresh, first_within)
+
+pub returns-in_err-push : goal.returns-in_err-push
+returns-in_err-push g c = grind (arith, first_within)
+
+pub returns-in_err-enqueue : goal.returns-in_err-enqueue
+returns-in_err-enqueue g c = grind (arith, first_within)
+
+pub returns-clause-spent : goal.returns-clause-spent
+returns-clause-spent g c = grind (arith, first_within)
 
 pub returns-clause-added : goal.returns-clause-added
 returns-clause-added g c =

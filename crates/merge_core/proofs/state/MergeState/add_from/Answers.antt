@@ -1,6 +1,5 @@
 use Rattle.merge_core.proofs.Words.{arith}
-use Rattle.merge_core.proofs.OpenLemmas.{added_by}
 use Rattle.merge_core.proofs.state.MergeState.add_from.Goals as goal
 
 pub returns-clause-added : goal.returns-clause-added
-returns-clause-added g c = added_by c.in_ok-add.ensures.added (grind arith)
+returns-clause-added g c = grind arith

@@ -1,7 +1,6 @@
-use Rattle.merge_core.proofs.Words.{◌+◌, ◌<◌, ◌∷◌, ◌≡◌, AllByRecursion, AreSettled, MergeInput, IsAbove, IsDueAt}
-use Rattle.merge_core.proofs.Words.{IsSettled, NoneBelow, Option, Pair, boxed_lines, inputs, length, map, member_pair}
-use Rattle.merge_core.proofs.Words.{set, to_come, waiting_pair}
-use Rattle.merge_core.proofs.MergeLemmas.{Gathers}
+use Rattle.merge_core.proofs.Words.{◌+◌, AllByRecursion, AreSettled, MergeInput, boxed_lines, member_pair, waiting_pair}
+use Rattle.merge_core.proofs.Words.{◌<◌, IsAbove, IsDueAt, IsSettled, NoneBelow, Option, Pair, inputs, length, to_come}
+use Rattle.merge_core.proofs.{Words.◌∷◌, Words.◌≡◌, Words.map, Words.set, MergeLemmas.Gathers}
 use Rattle.merge_core.proofs.state.MergeState.gather.Given as goal
 
 abbrev pub invariant-sources : goal.invariant-sources
@@ -12,8 +11,7 @@ invariant-sources g l = record {
   inside : l.i < length l.sources;
   due : IsDueAt (g.R.Range.past l.range) g.S.Source.text (member_pair l.keyed) l.i l.sources l.self;
   settled : (s : g.row.S.Denot) → (f : MergeInput) → IsSettled (g.R.Range.past l.range) (g.S.Source.text s) f
-      → AreSettled (g.R.Range.past l.range) g.S.Source (set l.sources l.i s)
-      (set (inputs l.self) l.i f);
+      → AreSettled (g.R.Range.past l.range) g.S.Source (set l.sources l.i s) (set (inputs l.self) l.i f);
   failures : map g.S.Source.failures l.sources ≡ map g.S.Source.failures l.fn.sources;
   above : (b : Option Pair) → AllByRecursion (λ w. IsAbove b (waiting_pair w)) l.fn.self.queue
       → IsAbove b (member_pair l.keyed);

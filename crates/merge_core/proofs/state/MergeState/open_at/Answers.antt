@@ -1,29 +1,24 @@
-use Rattle.merge_core.proofs.Words.{sum_by_push, sum-map, get_or-map, map-set, length-map, ◌<◌, ◌≡◌, ap, arith}
-use Rattle.merge_core.proofs.Words.{digits, input_of, inputs, get_or, length, length-append, map, sum, take}
-use Rattle.merge_core.proofs.Words.{take_more, take_more_set, zip, common_steps, all_zipped_more, take_all}
+use Rattle.merge_core.proofs.Words.{sum_by_push, length-append, take_more, take_more_set, common_steps, all_zipped_more}
+use Rattle.merge_core.proofs.Words.{sum-map, get_or-map, map-set, length-map, arith, digits, input_of, inputs, take_all}
+use Rattle.merge_core.proofs.Words.{◌<◌, ◌≡◌, ap, get_or, length, map, sum, take, zip}
 use Rattle.merge_core.proofs.Many.{two_same, map_set_same, two_put}
-use Rattle.merge_core.proofs.SourceLemmas.{once_none}
-use Rattle.merge_core.proofs.CountLemmas.{left_here, left_after}
+use Rattle.merge_core.proofs.{SourceLemmas.once_none, CountLemmas.left_here, CountLemmas.left_after}
 use Rattle.std.proofs.lemmas.Simd.{map-map}
 use Rattle.merge_core.proofs.OpenLemmas.{added_inputs, ready_added, zip_none, zip_push}
 use Rattle.merge_core.proofs.state.MergeState.open_at.Goals as goal
 
 pub loop-i-init : goal.loop-i-init
-loop-i-init g c =
-    grind (arith, once_none, two_same, zip_none)
+loop-i-init g c = grind (arith, once_none, two_same, zip_none)
 
 pub loop-i-preserved : goal.loop-i-preserved
 loop-i-preserved g c =
-    let inv = c.loop-i.invariant in
-    let ok = c.in-Ok.ensures in
-    let added = ok.added in
+    let inv = c.loop-i.invariant in let ok = c.in-Ok.ensures in let added = ok.added in
     let olds = c.args.sources.now in let ss = c.loop-i.sources in let m = c.loop-i.merge in
     let fs = inputs m in
     let i = c.loop-i.i in let a = c.index-sources-i.result in let s = c.add_from.new.source in
     let f = input_of added.cursor added.first in
     let inside : i < length ss = omega arith in
-    let now = added_inputs inv.ready added in
-    let ready = ready_added inv.ready added in
+    let now = added_inputs inv.ready added in let ready = ready_added inv.ready added in
     let front = take_more_set ss i s inside in
     let same_here : get_or ss i a ≡ get_or olds i a = left_here olds ss i a inv.left in
     record {
@@ -48,23 +43,18 @@ loop-i-preserved g c =
     }
 
 pub returns-in-Err-clause-sources : goal.returns-in-Err-clause-sources
-returns-in-Err-clause-sources g c =
-    grind (arith, common_steps, map_set_same, length-map, map-set, get_or-map)
+returns-in-Err-clause-sources g c = grind (arith, common_steps, map_set_same, length-map, map-set, get_or-map)
 
 pub returns-in-Err-clause-spent : goal.returns-in-Err-clause-spent
 returns-in-Err-clause-spent g c =
-    let here = left_here c.args.sources.now c.loop-i.sources c.loop-i.i c.index-sources-i.result
-    c.loop-i.invariant.left in
+    let h = left_here c.args.sources.now c.loop-i.sources c.loop-i.i c.index-sources-i.result c.loop-i.invariant.left in
     grind (arith, two_put)
 
 pub returns-in-Err-clause-once : goal.returns-in-Err-clause-once
 returns-in-Err-clause-once g c = λ k.
-    let here = left_here c.args.sources.now c.loop-i.sources c.loop-i.i c.index-sources-i.result
-    c.loop-i.invariant.left in
+    let h = left_here c.args.sources.now c.loop-i.sources c.loop-i.i c.index-sources-i.result c.loop-i.invariant.left in
     grind (arith, two_put)
 
 pub returns : goal.returns
 returns g c =
-    let inv = c.loop-i.invariant in
-    let same = ap sum (simp map-map at (ap (map digits) inv.extent)) in
-    grind (arith, take_all)
+    let same = ap sum (simp map-map at (ap (map digits) c.loop-i.invariant.extent)) in grind (arith, take_all)

@@ -15,7 +15,6 @@ invariant-loop-i g l = record {
   probes : l.probes ≤ search_steps g.S.Source (take l.i l.sources);
   left : drop l.i l.sources ≡ drop l.i l.fn.sources;
   spent : AllOpenedWithin g.S.Source l.fn.sources l.sources;
-  opened : AreOpened g.S.Source (pair_view l.start)
-      (take l.i l.fn.sources) (zip l.sources l.merge.cursors.items);
+  opened : AreOpened g.S.Source (pair_view l.start) (take l.i l.fn.sources) (zip l.sources l.merge.cursors.items);
   once : IsLeast (pair_view l.start) → AllGaveOnce g.S.Source l.fn.sources l.sources;
 }

@@ -1,11 +1,9 @@
-use Rattle.merge_core.proofs.Words.{get_or-map, map-set, length-map, [], ◌≡◌, AllByRecursion, AllZip, ap, AreReadTo}
-use Rattle.merge_core.proofs.Words.{CursorState, MergeInput, List, Member, zip, MergeState, Some, Upto, arith}
-use Rattle.merge_core.proofs.Words.{boxed_line, input_of, inputs, get_or, get_or_default, member_pair, option_list}
-use Rattle.merge_core.proofs.Words.{refl, set, common_steps, EachDone}
-use Rattle.merge_core.proofs.CountLemmas.{are_read_to, read_on}
+use Rattle.merge_core.proofs.Words.{get_or-map, length-map, [], AreReadTo, MergeInput, MergeState, boxed_line, input_of}
+use Rattle.merge_core.proofs.Words.{map-set, AllZip, List, Member, Some, Upto, arith, inputs, get_or, refl, EachDone}
+use Rattle.merge_core.proofs.Words.{AllByRecursion, CursorState, get_or_default, member_pair, option_list, common_steps}
+use Rattle.merge_core.proofs.{Words.◌≡◌, Words.ap, Words.zip, Words.set, CountLemmas.are_read_to, CountLemmas.read_on}
 use Rattle.merge_core.proofs.Many.{Move, moved_set, map_set_same, unread_set}
 use Rattle.merge_core.proofs.StateLemmas.{input_at, long_of, idle_here, waited_aligned, waited_inputs, waited_length}
-use Rattle.merge_core.proofs.state.MergeState.read_on.Given.{Over}
 use Rattle.merge_core.proofs.state.MergeState.read_on.Goals.{After-read_group}
 use Rattle.merge_core.proofs.state.MergeState.read_on.Goals as goal
 
@@ -18,7 +16,7 @@ read_group-requires g c =
     grind (arith, here, input_at)
 
 -- the source was read on
-module _ (g : Over) (c : After-read_group g) where
+module _ (g : _) (c : After-read_group g) where
   abbrev was : MergeInput
   was = input_of c.index_mut.result.now []
 
@@ -72,13 +70,10 @@ returns-in_err-enqueue-clause-most g c =
 pub returns : goal.returns
 returns g c =
     let at = (goal.at.returns g c).After-read_group in
-    let old = c.args.self.now in
-    let i = c.args.i in
-    let now = c.read_group.new.cursor in
+    let old = c.args.self.now in let i = c.args.i in let now = c.read_group.new.cursor in
     let read = c.in-Ok.ensures.read in
     let waits : List Member = option_list (boxed_line c.in-Ok.next) in
-    let f = input_of now waits in
-    let is = here g at in
+    let f = input_of now waits in let is = here g at in
     let cursors = (ap (λ (m : MergeState). m.cursors.items) c.enqueue.ensures.kept) in
     let queue = c.in_ok-enqueue.ensures.queue in
     let inputs_now = waited_inputs c.requires.aligned c.requires.inside (was g at) (none g at) c.enqueue.new.self now

@@ -1,11 +1,10 @@
 use Rattle.source_core.proofs.Words.{◌≡◌, ◌+◌, length, take, length-take, arith}
-use Rattle.source_core.proofs.HeldLines.{unescaped_line}
+use Rattle.source_core.proofs.WindowLemmas.{unescaped_line}
 use Rattle.source_core.proofs.cursor.Cursor.held_line.Goals as goal
 
 pub returns-then-held-body-eq10-clause-line : goal.returns-then-held-body-eq10-clause-line
 returns-then-held-body-eq10-clause-line c =
-    let held = c.from-held.result.now in
-    let body = c.unescaped_length-body.result in
+    let held = c.from-held.result.now in let body = c.unescaped_length-body.result in
     let line = unescaped_line held body c.unescaped_length-body.ensures c.if-body-held.true c.if-held-body-eq10.true in
     let size : length (take (body + 1) held) ≡ body + 1 = grind (arith, length-take) in
     let there : c.args.self.now.ahead ≡ held = grind arith in

@@ -1,65 +1,76 @@
-use Rattle.source_core.proofs.Words.{common_steps, rules, arith, ◌≡◌, ◌+◌, ◌-◌, ◌≤◌, ◌++◌, List, ℕ, Some, length, take}
-use Rattle.source_core.proofs.Words.{drop, length-append, length-take, length-drop, PartOf, NoFeed, AreBytesAt}
-use Rattle.source_core.proofs.Words.{held_from}
-use Rattle.source_core.proofs.Parts.{ended, goes_on, cut_short, given_more, given_out}
-use Rattle.source_core.proofs.LongestLines.{first_at_least, no_feed_first}
-use Rattle.source_core.proofs.WindowLemmas.{held_behind}
-use Rattle.source_core.proofs.cursor.Cursor.next.Given.{Over}
+use Rattle.source_core.proofs.Words.{common_steps, rules, arith, refl, subst, ◌∙◌, ◌≡◌, ◌+◌, ◌-◌, ◌≤◌, ◌++◌, List, ℕ}
+use Rattle.source_core.proofs.Words.{Some, length, take, length-append, length-take, length-drop, AreBytesAt}
+use Rattle.source_core.proofs.Words.{BeginsWith, ReadsOn, held_from}
+use Rattle.source_core.proofs.Parts.{cut_short, given_more, given_out}
+use Rattle.source_core.proofs.{LongestLines.front_least, WindowLemmas.held_behind, WindowLemmas.held_reads}
 use Rattle.source_core.proofs.cursor.Cursor.next.Goals.{After-line_part-length, In_ok-extend_from_slice}
 use Rattle.source_core.proofs.cursor.Cursor.next.Goals as goal
 
 -- what is held where the line goes on
-abbrev held : (g : Over) → After-line_part-length g → List ℕ
+abbrev held : (g : _) → After-line_part-length g → List ℕ
 held g c = held_from c.hold.new.self c.loop-self.self-inside.at
 
 -- these are the source's bytes
-stands : (g : Over) (c : After-line_part-length g) → AreBytesAt (g.S.Source.text c.hold.new.source)
+stands : (g : _) (c : After-line_part-length g) → AreBytesAt (g.S.Source.text c.hold.new.source)
     (g.S.Source.extent c.hold.new.source) c.loop-self.self-inside.at (held g c)
 stands g c = grind arith
 
-bytes : (g : Over) (c : After-line_part-length g) (t : List ℕ) → g.S.Source.text c.args.source.now ≡ Some t
-    → held g c ≡ take (length (held g c)) (drop c.loop-self.self-inside.at t)
-bytes g c t e = grind arith
-
 -- the part that was found is one of them
-inside : (g : Over) (c : After-line_part-length g) → c.line_part-length.result.0 ≤ length (held g c)
+inside : (g : _) (c : After-line_part-length g) → c.line_part-length.result.0 ≤ length (held g c)
 inside g c = grind arith
 
-part : (g : Over) (c : After-line_part-length g)
-    → PartOf (held g c) c.line_part-length.result.0 c.line_part-length.result.1
-part g c = grind arith
+-- the line goes on with it
+reads : (g : _) (c : After-line_part-length g) (t : List ℕ) → g.S.Source.text c.args.source.now ≡ Some t
+    → ReadsOn t c.args.self.now.at (c.loop-self.line.items ++ take c.line_part-length.result.0 (held g c))
+    c.line_part-length.result.1
+reads g c t e =
+    let inv = c.loop-self.invariant in let source = c.hold.new.source in
+    held_reads _ _ c.args.self.now.at _ c.loop-self.line.items (held g c) _ t _
+    (subst (λ at. AreBytesAt (g.S.Source.text source) (g.S.Source.extent source) at (held g c)) inv.at (stands g c))
+    (c.in_ok-hold.ensures.source.0.0 ∙ inv.text ∙ e) (inside g c) refl
+    (rw c.from-held.ensures at c.line_part-length.ensures.part) (inv.told t e).1
 
--- the line has grown by it
-grown : (g : Over) (c : In_ok-extend_from_slice g) → c.extend_from_slice.new.self.items ≡ c.loop-self.line.items
+grown : (g : _) (c : In_ok-extend_from_slice g) → c.extend_from_slice.new.self.items ≡ c.loop-self.line.items
     ++ take c.line_part-length.result.0 (held_from c.hold.new.self c.loop-self.self-inside.at)
 grown g c = search rules
 
-longer : (g : Over) (c : In_ok-extend_from_slice g) → length c.extend_from_slice.new.self.items
+longer : (g : _) (c : In_ok-extend_from_slice g) → length c.extend_from_slice.new.self.items
     ≡ length c.loop-self.line.items + c.line_part-length.result.0
 longer g c = grind (arith, length-take)
 
 -- and the source stands behind it
-behind : (g : Over) (c : After-line_part-length g) → AreBytesAt (g.S.Source.text c.hold.new.source)
+behind : (g : _) (c : After-line_part-length g) → AreBytesAt (g.S.Source.text c.hold.new.source)
     (g.S.Source.extent c.hold.new.source) (c.loop-self.self-inside.at + c.line_part-length.result.0)
     (held_from c.hold.new.self (c.loop-self.self-inside.at + c.line_part-length.result.0))
 behind g c = rw (held_behind c.hold.new.self c.loop-self.self-inside.at c.line_part-length.result.0 (inside g c))
     (given_out _ _ _ _ _ (stands g c) (inside g c))
 
-left : (g : Over) (c : After-line_part-length g)
+left : (g : _) (c : After-line_part-length g)
     → length (held_from c.hold.new.self (c.loop-self.self-inside.at + c.line_part-length.result.0))
     ≡ length (held g c) - c.line_part-length.result.0
 left g c = grind (arith, length-drop)
 
-pub returns-then-length-len-clause-long : goal.returns-then-length-len-clause-long
-returns-then-length-len-clause-long g c = λ t e _.
-    let here = (goal.at.returns-then-length-len-clause-long g c).After-line_part-length in
-    let told = c.loop-self.invariant.told t e in
-    let first = first_at_least t (held g here) _ _ _ _ _ (bytes g here t e) (inside g here) told.1 told.2 _
-    (part g here) in
-    grind (arith, length-append, length-take)
+pub returns-in_err-hold : goal.returns-in_err-hold
+returns-in_err-hold g c = grind arith
+
+pub returns-in_err-extend_from_slice : goal.returns-in_err-extend_from_slice
+returns-in_err-extend_from_slice g c = grind arith
+
+pub returns-then-is_empty : goal.returns-then-is_empty
+returns-then-is_empty g c = grind (arith, common_steps)
+
+pub returns-then-length-len : goal.returns-then-length-len
+returns-then-length-len g c =
+    let reads = reads g (goal.at.returns-then-length-len g c).After-line_part-length in
+    grind (arith, front_least, length-append, length-take)
 
 pub returns-then-ends-clause-given : goal.returns-then-ends-clause-given
-returns-then-ends-clause-given g c = grind (arith, ended, inside, part, grown)
+returns-then-ends-clause-given g c = λ t e.
+    let here = goal.at.returns-then-ends-clause-given g c in
+    let long = longer g here.In_ok-extend_from_slice in
+    let reads = rw (← grown g here.In_ok-extend_from_slice, c.if-ends.true) at
+    (reads g here.After-line_part-length t e) in
+    grind arith
 
 pub returns-then-ends-clause-filled : goal.returns-then-ends-clause-filled
 returns-then-ends-clause-filled g c = behind g (goal.at.returns-then-ends-clause-filled g c).After-line_part-length
@@ -79,23 +90,15 @@ returns-then-ends-clause-gave g c =
 
 pub loop-self-preserved : goal.loop-self-preserved
 loop-self-preserved g c =
-    let inv = c.loop-self.invariant in
-    let here = (goal.at.loop-self-preserved g c).After-line_part-length in
-    let then = (goal.at.loop-self-preserved g c).In_ok-extend_from_slice in
-    let long = longer g then in
-    let within = inside g here in
-    let stands = behind g here in
+    let here = goal.at.loop-self-preserved g c in let long = longer g here.In_ok-extend_from_slice in
+    let stands = behind g here.After-line_part-length in let within = inside g here.After-line_part-length in
     let told : (t : List ℕ) → g.S.Source.text c.args.source.now ≡ Some t → (length t ≡ c.size-size.result)
-    × (drop c.args.self.now.at t ≡ c.extend_from_slice.new.self.items ++ drop
-    (c.loop-self.self-inside.at + c.line_part-length.result.0) t) × NoFeed c.extend_from_slice.new.self.items = λ t e.
-    let was = inv.told t e in
-    let r = goes_on t (held g here) _ _ _ (bytes g here t e) within _ _ was.1 was.2
-    (rw c.if-ends.false at (part g here))
-    in (was.0, rw (grown g then) r.0, rw (grown g then) r.1) in
-    grind (arith, no_feed_first)
+    × BeginsWith t c.args.self.now.at c.extend_from_slice.new.self.items = λ t e. (
+      (c.loop-self.invariant.told t e).0,
+      rw (grown g here.In_ok-extend_from_slice) (rw c.if-ends.false at
+          (reads g here.After-line_part-length t e)),
+    ) in
+    grind (arith, front_least)
 
-pub returns-clause-given : goal.returns-clause-given
-returns-clause-given g c = grind (arith, cut_short)
-
-pub returns-clause-stands : goal.returns-clause-stands
-returns-clause-stands g c = grind (arith, given_more, returns-clause-given)
+pub returns : goal.returns
+returns g c = grind (arith, cut_short, given_more)

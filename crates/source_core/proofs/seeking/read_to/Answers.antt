@@ -1,0 +1,8 @@
+use Rattle.source_core.proofs.{Words.arith, LongestLines.front_most}
+use Rattle.source_core.proofs.seeking.read_to.Goals as goal
+
+pub returns-in_err-ends : goal.returns-in_err-ends
+returns-in_err-ends g c = grind (arith, front_most)
+
+pub returns-then-ends : goal.returns-then-ends
+returns-then-ends g c = grind (arith, front_most)
