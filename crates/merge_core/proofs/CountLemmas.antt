@@ -1,22 +1,23 @@
 -- How far sources were read: in lines and in bytes.
-use Rattle.merge_core.proofs.Words.{ℕ, IsUpto, Option, ReadTo, get_or, length, AllZip, Member, Reached, inputs, IsInput}
-use Rattle.merge_core.proofs.Words.{◌++◌, Bool, List, given, lines, IsCut, Known, false, filter, is_low, is_of, is_at}
-use Rattle.merge_core.proofs.Words.{◌+◌, ◌∙◌, ◌∷◌, ◌≡◌, ◌≤◌, Pair, Some, done, drop, refl, set, suc, take, true, zero}
-use Rattle.merge_core.proofs.Words.{AllByRecursion, flat_map-append, take-append-drop, nil_from_length, drop_more_same}
-use Rattle.merge_core.proofs.Words.{AreInputs, read_lines, MergeState, length-map, map-append, lines_text, OverShares}
-use Rattle.merge_core.proofs.Words.{AreReadTo, EndsAt, all_lines, member_of, take-take, OverTexts, IsInputOf, AreOpened}
-use Rattle.merge_core.proofs.Words.{[], ap, sym, ◌<◌, map, not, sum, zip}
-use Rattle.merge_core.proofs.Words.{CursorState, arith, drop-set-lt, length-drop, member_pair, WaitingLine, each_weaker}
-use Rattle.merge_core.proofs.Words.{MergeInput, append_assoc, first_length, length-append, filter-append, AllGaveWithin}
-use Rattle.merge_core.proofs.Words.{Ghosts, bytes_of, input_of, longest, take-map, Grouped, IsIndex, waits_of, EachDone}
-use Rattle.merge_core.proofs.Words.{LINE_LIMIT, all_done, append-nil, line_entry, length-take, sum_by-cons, get_or-drop}
+use Rattle.merge_core.proofs.Words.{[], ℕ, ◌++◌, ◌+◌, ◌<◌, ◌∙◌, ◌∷◌, ◌≡◌, ◌≤◌, AllByRecursion, AllGaveWithin, AllZip}
+use Rattle.merge_core.proofs.Words.{AreInputs, AreOpened, AreReadTo, Bool, CursorState, EachDone, EndsAt, Ghosts}
+use Rattle.merge_core.proofs.Words.{Grouped, IsCut, IsIndex, IsInput, IsInputOf, IsUpto, Known, LINE_LIMIT, List}
+use Rattle.merge_core.proofs.Words.{Member, MergeInput, MergeState, Option, OverShares, OverTexts, Pair, Reached}
+use Rattle.merge_core.proofs.Words.{ReadTo, Some, WaitingLine, all_done, all_lines, ap, append-nil, append_assoc, arith}
+use Rattle.merge_core.proofs.Words.{bytes_of, done, drop, drop-set-lt, drop_more_same, each_weaker, false, filter}
+use Rattle.merge_core.proofs.Words.{filter-append, first_length, flat_map-append, get_or, get_or-drop, given, input_of}
+use Rattle.merge_core.proofs.Words.{inputs, is_at, is_low, is_of, length, length-append, length-drop, length-map}
+use Rattle.merge_core.proofs.Words.{length-take, line_entry, lines, lines_text, longest, map, map-append, member_of}
+use Rattle.merge_core.proofs.Words.{member_pair, nil_from_length, not, read_lines, refl, set, suc, sum, sum_by-cons}
+use Rattle.merge_core.proofs.Words.{sym, take, take-append-drop, take-map, take-take, true, waits_of, zero, zip}
 use Rattle.source_core.proofs.LongestLines.{first_most, longest_drop}
-use Rattle.merge_core.proofs.InputLemmas.{all_taken, all_upto, done_cut, done_within, TextRead}
-use Rattle.merge_core.proofs.Many.{each_both, filter_fewer, filter_weaker, filter_front, each_take, each_replaced, Move}
-use Rattle.merge_core.proofs.{MergeLemmas.gathered_now, Many.zip_set, TakenLemmas.members_are}
+use Rattle.merge_core.proofs.InputLemmas.{TextRead, all_taken, all_upto, done_cut, done_within}
+use Rattle.merge_core.proofs.Many.{Move, each_both, each_replaced, each_take, filter_fewer, filter_front, filter_weaker}
+use Rattle.merge_core.proofs.Many.{zip_set}
+use Rattle.merge_core.proofs.{MergeLemmas.gathered_now, TakenLemmas.members_are}
 use Rattle.merge_core.proofs.GroupLemmas.{each_cut, filter_all}
 use Rattle.merge_core.proofs.StateLemmas.{cursors_of, few_wait, long_of}
-use Rattle.merge_core.proofs.SourceLemmas.{reached_long, run_after, IsSought, each_done, reached_read}
+use Rattle.merge_core.proofs.SourceLemmas.{IsSought, each_done, reached_long, reached_read, run_after}
 use Rattle.std.proofs.lemmas.List.Filters.{length-filter_both}
 
 -- ---- how far sources were read

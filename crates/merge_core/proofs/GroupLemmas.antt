@@ -1,15 +1,17 @@
 -- The lines that wait: whose turn comes first, and the lines of one pair, taken of one source after another.
-use Rattle.merge_core.proofs.Words.{nil_from_length, AllByRecursion, pair_cmp_total, flat_map-append, All-permutation}
-use Rattle.merge_core.proofs.Words.{[], cond-false, AllBeyond, NoneBefore, NoneBelow, append-nil, each_join, length-map}
-use Rattle.merge_core.proofs.Words.{ℕ, ◌++◌, List, refl, true, Below, Pair, Upto, is_eq, is_lt, Bool, drop, take}
-use Rattle.merge_core.proofs.Words.{◌<◌, take-append-drop, sum_by-IsPermutation, All-from_recursion, recursion_from_All}
-use Rattle.merge_core.proofs.Words.{◌∙◌, WaitingLine, each_weaker, append_assoc, drop-set-lt, member_pair, common_steps}
-use Rattle.merge_core.proofs.Words.{◌∷◌, ◌≡◌, ◌≢◌, ◌≤◌, sym, ◌+◌, ◌-◌, ap, set, cond}
-use Rattle.merge_core.proofs.Words.{IsPermutation, cond-true, waiting_pair, filter-append, take_more_set, length-filter}
-use Rattle.merge_core.proofs.Words.{Member, arith, false, filter, get_or, is_of, length, queued, subst, Alike, IsFrom}
-use Rattle.merge_core.proofs.Words.{waits_of, pair_cmp, turn_cmp, Gathered, flat_map, take_more, tied_back, drop-drop}
-use Rattle.merge_core.proofs.PairOrder.{from_not_below, below_then, below_upto, same_upto, same_from, not_below_itself}
-use Rattle.merge_core.proofs.{PairOrder.upto_upto, Many.each_both}
+use Rattle.merge_core.proofs.Words.{[], ℕ, ◌++◌, ◌+◌, ◌-◌, ◌<◌, ◌∙◌, ◌∷◌, ◌≡◌, ◌≢◌, ◌≤◌, Alike, All-from_recursion}
+use Rattle.merge_core.proofs.Words.{All-permutation, AllBeyond, AllByRecursion, Below, Bool, Gathered, IsFrom}
+use Rattle.merge_core.proofs.Words.{IsPermutation, List, Member, NoneBefore, NoneBelow, Pair, Upto, WaitingLine, ap}
+use Rattle.merge_core.proofs.Words.{append-nil, append_assoc, arith, common_steps, cond, cond-false, cond-true, drop}
+use Rattle.merge_core.proofs.Words.{drop-drop, drop-set-lt, each_join, each_weaker, false, filter, filter-append}
+use Rattle.merge_core.proofs.Words.{flat_map, flat_map-append, get_or, is_eq, is_lt, is_of, length, length-filter}
+use Rattle.merge_core.proofs.Words.{length-map, member_pair, nil_from_length, pair_cmp, pair_cmp_total, queued}
+use Rattle.merge_core.proofs.Words.{recursion_from_All, refl, set, subst, sum_by-IsPermutation, sym, take}
+use Rattle.merge_core.proofs.Words.{take-append-drop, take_more, take_more_set, tied_back, true, turn_cmp, waiting_pair}
+use Rattle.merge_core.proofs.Words.{waits_of}
+use Rattle.merge_core.proofs.PairOrder.{below_then, below_upto, from_not_below, not_below_itself, same_from, same_upto}
+use Rattle.merge_core.proofs.PairOrder.{upto_upto}
+use Rattle.merge_core.proofs.Many.{each_both}
 
 pub each_permuted : {X : Type 0} (P : X → Type 0) (xs ys : List X) → IsPermutation xs ys → AllByRecursion P xs
     → AllByRecursion P ys

@@ -1,16 +1,17 @@
 -- What one line more makes of an input.
-use Rattle.merge_core.proofs.Words.{[], ◌++◌, Bool, List, None, Pair, Some, Upto, done, drop, given, lines, refl, stays}
-use Rattle.merge_core.proofs.Words.{ℕ, IsSettled, append-nil, each_join, length-map, line_entry, map-append, read_lines}
-use Rattle.merge_core.proofs.Words.{◌+◌, IsInput, drop_all, input_of, not-true, pair_cmp, EndsPast, IsInputOf, take_all}
-use Rattle.merge_core.proofs.Words.{Alike, Below, EndsAt, Member, Option, Stands, arith, false, filter, length, take_at}
-use Rattle.merge_core.proofs.Words.{AllByRecursion, flat_map-append, pair_cmp_total, take-append-drop, nil_from_length}
-use Rattle.merge_core.proofs.Words.{◌-◌, ◌<◌, ◌∙◌, ◌∷◌, ◌≡◌, ◌≤◌, ◌⊎◌, ap, inl, inr, map, suc, sym, take, true}
-use Rattle.merge_core.proofs.Words.{CursorState, append_assoc, each_weaker, filter-append, first_length, length-append}
-use Rattle.merge_core.proofs.Words.{MergeInput, FeedFault, IsNextLine, LINE_LIMIT, NeverFalls, length-take, member_pair}
+use Rattle.merge_core.proofs.Words.{[], ℕ, ◌++◌, ◌+◌, ◌-◌, ◌<◌, ◌∙◌, ◌∷◌, ◌≡◌, ◌≤◌, ◌⊎◌, Alike, AllByRecursion, Below}
+use Rattle.merge_core.proofs.Words.{Bool, CursorState, EndsAt, EndsPast, FeedFault, IsInput, IsInputOf, IsNextLine}
+use Rattle.merge_core.proofs.Words.{IsSettled, LINE_LIMIT, List, Member, MergeInput, NeverFalls, None, Option, Pair}
+use Rattle.merge_core.proofs.Words.{Some, Stands, Upto, ap, append-nil, append_assoc, arith, done, drop, drop_all}
+use Rattle.merge_core.proofs.Words.{each_join, each_weaker, false, filter, filter-append, first_length, flat_map-append}
+use Rattle.merge_core.proofs.Words.{given, inl, input_of, inr, length, length-append, length-map, length-take}
+use Rattle.merge_core.proofs.Words.{line_entry, lines, map, map-append, member_pair, nil_from_length, not-true}
+use Rattle.merge_core.proofs.Words.{pair_cmp, pair_cmp_total, read_lines, refl, stays, suc, sym, take, take-append-drop}
+use Rattle.merge_core.proofs.Words.{take_all, take_at, true}
 use Rattle.std.specs.FinMap.{nat_cmp-IsAntisymmetric, slice_cmp-IsAntisymmetric}
 use Rattle.cdxj_core.specs.Lines.{body_of}
 use Rattle.cdxj_core.proofs.MemberLemmas.{entry_is_short, long_line_none}
-use Rattle.merge_core.proofs.PairOrder.{below_then, same_upto, same_from, upto_upto}
+use Rattle.merge_core.proofs.PairOrder.{below_then, same_from, same_upto, upto_upto}
 use Rattle.source_core.specs.LinesAtFault.{IsOutOfOrder, LineBeginsAt}
 use Rattle.source_core.proofs.SortedCuts.{begins_at}
 use Rattle.merge_core.proofs.GroupLemmas.{filter_all}

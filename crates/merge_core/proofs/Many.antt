@@ -1,8 +1,9 @@
 -- Lists, and lists of sources and inputs, seen as one list of pairs.
-use Rattle.merge_core.proofs.Words.{[], AllByRecursion, filter-append, length-append, take-append-drop, nil_from_length}
-use Rattle.merge_core.proofs.Words.{◌∷◌, arith, filter, length, AllZip, Ghosts, get_or, map-set, sum-map, unread, Moved}
-use Rattle.merge_core.proofs.Words.{cond-true, CursorState, get_or-map, set-get_or, sum_by-set, get_or-zip, length-zip}
-use Rattle.merge_core.proofs.Words.{ℕ, ◌≡◌, ◌≤◌, Bool, List, suc, take, true, ◌+◌, ◌-◌, ◌<◌, ap, map, set, zip}
+use Rattle.merge_core.proofs.Words.{[], ℕ, ◌+◌, ◌-◌, ◌<◌, ◌∷◌, ◌≡◌, ◌≤◌, AllByRecursion, AllZip, Bool, CursorState}
+use Rattle.merge_core.proofs.Words.{Ghosts, List, Moved, ap, arith, cond-true, filter, filter-append, get_or}
+use Rattle.merge_core.proofs.Words.{get_or-map, get_or-zip, length, length-append, length-zip, map, map-set}
+use Rattle.merge_core.proofs.Words.{nil_from_length, set, set-get_or, suc, sum-map, sum_by-set, take, take-append-drop}
+use Rattle.merge_core.proofs.Words.{true, unread, zip}
 
 -- ---- lists that are filtered, and what holds of each of a list
 

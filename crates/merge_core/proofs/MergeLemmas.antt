@@ -1,22 +1,23 @@
 -- The steps of a merge: how a group is gathered, and what one group more makes of it.
-use Rattle.merge_core.proofs.GroupLemmas.{filter_none, filter_all, each_permuted, from_popped, AreBelow, source_more}
-use Rattle.merge_core.proofs.{SourceLemmas.all_kept, GroupLemmas.AreAt, OpenLemmas.none_done}
-use Rattle.merge_core.proofs.Words.{ℕ, Result, get_or, length, Ghosts, IsFrom, Member, Option, TookOf, Reached, set-set}
-use Rattle.merge_core.proofs.Words.{IsErrAnd, Gathered, all_done, each_join, flat_map, AllMoved, place_cmp, OverTexts}
-use Rattle.merge_core.proofs.Words.{List, ◌++◌, Bool, Pair, done, drop, true, Less, None, Some, Rises, Known, lines}
-use Rattle.merge_core.proofs.Words.{arith, each_weaker, member_pair, each_rising, MatchResult, BrokenMerge, HaltedGroup}
-use Rattle.merge_core.proofs.Words.{[], Alike, inputs, Below, Grows, IsUpto, Ready, SoFar, is_gt, is_low, is_lt, rising}
-use Rattle.merge_core.proofs.Words.{◌<◌, ◌≡◌, set, ◌+◌, ◌∷◌, ◌≤◌, sym, zip, map, ◌∙◌}
-use Rattle.merge_core.proofs.Words.{Aligned, IsDueAt, to_come, Grouped, HasEntry, IsAbove, IsLower, Ordering, EachDone}
-use Rattle.merge_core.proofs.Words.{AllByRecursion, IsPermutation, length_permutation, place_cmp_total, get_or-set_same}
-use Rattle.merge_core.proofs.Words.{AreSettled, MergeInput, IsSettled, MergeState, NoneBefore, HaltedMerge, AllZip-long}
-use Rattle.merge_core.proofs.Words.{NoneBelow, append-nil, MergePoint, StillWants, get_or-map, length-map, set-get_or}
-use Rattle.merge_core.proofs.Words.{WaitingLine, append_assoc, waiting_pair, member_place, rising_split, rises_rising}
-use Rattle.merge_core.proofs.Many.{map_set_same, zip_set, zip_at, length_zip, moved_trans, moved_still}
-use Rattle.merge_core.proofs.StateLemmas.{long_of, inside_sources, none_left, popped_aligned, popped_inputs, popped_due}
-use Rattle.merge_core.proofs.StateLemmas.{any_of, idle, popped, zip_put, zip_get}
+use Rattle.merge_core.proofs.GroupLemmas.{AreAt, AreBelow, each_permuted, filter_all, filter_none, from_popped}
+use Rattle.merge_core.proofs.GroupLemmas.{source_more}
+use Rattle.merge_core.proofs.{OpenLemmas.none_done, SourceLemmas.all_kept}
+use Rattle.merge_core.proofs.Words.{[], ℕ, ◌++◌, ◌+◌, ◌<◌, ◌∙◌, ◌∷◌, ◌≡◌, ◌≤◌, Aligned, Alike, AllByRecursion, AllMoved}
+use Rattle.merge_core.proofs.Words.{AllZip-long, AreSettled, Below, Bool, BrokenMerge, EachDone, Gathered, Ghosts}
+use Rattle.merge_core.proofs.Words.{Grouped, Grows, HaltedGroup, HaltedMerge, HasEntry, IsAbove, IsDueAt, IsErrAnd}
+use Rattle.merge_core.proofs.Words.{IsFrom, IsLower, IsPermutation, IsSettled, IsUpto, Known, Less, List, MatchResult}
+use Rattle.merge_core.proofs.Words.{Member, MergeInput, MergePoint, MergeState, None, NoneBefore, NoneBelow, Option}
+use Rattle.merge_core.proofs.Words.{Ordering, OverTexts, Pair, Reached, Ready, Result, Rises, SoFar, Some, StillWants}
+use Rattle.merge_core.proofs.Words.{TookOf, WaitingLine, all_done, append-nil, append_assoc, arith, done, drop}
+use Rattle.merge_core.proofs.Words.{each_join, each_rising, each_weaker, flat_map, get_or, get_or-map, get_or-set_same}
+use Rattle.merge_core.proofs.Words.{inputs, is_gt, is_low, is_lt, length, length-map, length_permutation, lines, map}
+use Rattle.merge_core.proofs.Words.{member_pair, member_place, place_cmp, place_cmp_total, rises_rising, rising}
+use Rattle.merge_core.proofs.Words.{rising_split, set, set-get_or, set-set, sym, to_come, true, waiting_pair, zip}
+use Rattle.merge_core.proofs.Many.{length_zip, map_set_same, moved_still, moved_trans, zip_at, zip_set}
+use Rattle.merge_core.proofs.StateLemmas.{any_of, idle, inside_sources, long_of, none_left, popped, popped_aligned}
+use Rattle.merge_core.proofs.StateLemmas.{popped_due, popped_inputs, zip_get, zip_put}
 use Rattle.merge_core.specs.declared.sink.Sink.{Ghosts as SinkGhosts}
-use Rattle.merge_core.proofs.PairOrder.{from_not_below, below_then, then_below, below_upto, same_upto, same_from}
+use Rattle.merge_core.proofs.PairOrder.{below_then, below_upto, from_not_below, same_from, same_upto, then_below}
 
 -- ---- the steps of a group's gathering
 

@@ -1,11 +1,12 @@
 -- The opening of sources, one after another.
-use Rattle.merge_core.proofs.Words.{ℕ, ◌++◌, Bool, List, None, Pair, Some, done, drop, given, lines, refl, stays, Known}
-use Rattle.merge_core.proofs.Words.{◌+◌, IsCutAt, IsLeast, Member, Option, Ready, Stands, arith, inputs, filter, length}
-use Rattle.merge_core.proofs.Words.{AllByRecursion, CursorState, input_of, first_length, length-append, all_zipped_more}
-use Rattle.merge_core.proofs.Words.{[], ◌<◌, ◌∙◌, ◌∷◌, ◌≡◌, ◌≤◌, inl, set, suc, zip, map}
-use Rattle.merge_core.proofs.Words.{IsInput, IsNextLine, IsSettled, MergeState, AreOpened, OpenedAt, EachDone, all_done}
-use Rattle.merge_core.proofs.Words.{MergeInput, Ghosts, MatchOption, each_weaker, option_list, AddedSource, IsLineStart}
-use Rattle.merge_core.proofs.{StateLemmas.inputs_added, StateLemmas.placed_queued, Many.each_by, PairOrder.begins}
+use Rattle.merge_core.proofs.Words.{[], ℕ, ◌++◌, ◌+◌, ◌<◌, ◌∙◌, ◌∷◌, ◌≡◌, ◌≤◌, AddedSource, AllByRecursion, AreOpened}
+use Rattle.merge_core.proofs.Words.{Bool, CursorState, EachDone, Ghosts, IsCutAt, IsInput, IsLeast, IsLineStart}
+use Rattle.merge_core.proofs.Words.{IsNextLine, IsSettled, Known, List, MatchOption, Member, MergeInput, MergeState}
+use Rattle.merge_core.proofs.Words.{None, OpenedAt, Option, Pair, Ready, Some, Stands, all_done, all_zipped_more, arith}
+use Rattle.merge_core.proofs.Words.{done, drop, each_weaker, filter, first_length, given, inl, input_of, inputs, length}
+use Rattle.merge_core.proofs.Words.{length-append, lines, map, option_list, refl, set, stays, suc, zip}
+use Rattle.merge_core.proofs.StateLemmas.{inputs_added, placed_queued}
+use Rattle.merge_core.proofs.{Many.each_by, PairOrder.begins}
 use Rattle.merge_core.proofs.InputLemmas.{LineRead, done_next, input_end, input_more, settled_more}
 
 -- a source was added to those that are read

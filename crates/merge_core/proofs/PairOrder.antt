@@ -1,11 +1,12 @@
 -- The order of pairs is total, and the starts of pairs decide as the pairs do.
-use Rattle.merge_core.proofs.Words.{◌≡◌, AreBytes, Member, Ordering, get_or, length, nat_lt, list_all, nat_cmp, IsStart}
-use Rattle.merge_core.proofs.Words.{Below, Equal, Upto, arith, false, is_gt, is_lt, ◌++◌, List, Some, take, true, Fits}
-use Rattle.merge_core.proofs.Words.{Pair, pair_cmp, tied_back, line_entry, member_pair, and_parts, slice_cmp, pair_text}
-use Rattle.merge_core.proofs.Words.{ap, [], ℕ, ◌+◌, ◌∷◌, suc, ◌≤◌, w8}
-use Rattle.merge_core.proofs.Words.{pair_cmp_total, tied_itself, LINE_LIMIT, append_assoc, length-append, ordering_then}
+use Rattle.merge_core.proofs.Words.{[], ℕ, ◌++◌, ◌+◌, ◌∷◌, ◌≡◌, ◌≤◌, AreBytes, Below, Equal, Fits, IsStart, LINE_LIMIT}
+use Rattle.merge_core.proofs.Words.{List, Member, Ordering, Pair, Some, Upto, and_parts, ap, append_assoc, arith, false}
+use Rattle.merge_core.proofs.Words.{get_or, is_gt, is_lt, length, length-append, line_entry, list_all, member_pair}
+use Rattle.merge_core.proofs.Words.{nat_cmp, nat_lt, ordering_then, pair_cmp, pair_cmp_total, pair_text, slice_cmp, suc}
+use Rattle.merge_core.proofs.Words.{take, tied_back, tied_itself, true, w8}
 use Rattle.std.proofs.Math.Seq.{take-append_seam}
-use Rattle.cdxj_places.specs.{Abbreviated.padded, Abbreviated.words_cmp, Pair.is_key, Pair.is_key_byte}
+use Rattle.cdxj_places.specs.Abbreviated.{padded, words_cmp}
+use Rattle.cdxj_places.specs.Pair.{is_key, is_key_byte}
 use Rattle.cdxj_places.proofs.Abbreviations.{start_words_decide, then_associates}
 use Rattle.cdxj_core.proofs.MemberLemmas.{entry_valued}
 

@@ -1,16 +1,18 @@
 -- What was read of sources: from where they are read on, to their ends, and each byte once.
-use Rattle.merge_core.proofs.Words.{[], Ghosts, IsCut, Member, filter, is_low, length, Option, inputs, IsLeast, drop_at}
-use Rattle.merge_core.proofs.Words.{◌++◌, AllByRecursion, filter-append, KeepsSources, nil_from_length, place_cmp_total}
-use Rattle.merge_core.proofs.Words.{AllZip, IsCutAt, IsIndex, Reached, is_below, IsLineIn, IsLineOf, take_all, EachDone}
-use Rattle.merge_core.proofs.Words.{MergeInput, LINE_LIMIT, NeverFalls, length-map, AreInputs, CursorState, OverIndexes}
-use Rattle.merge_core.proofs.Words.{ℕ, ◌∷◌, ◌≡◌, ap, map, not, sym, zip, inl, inr, ◌⊎◌, suc, take, IsIn, None}
-use Rattle.merge_core.proofs.Words.{IsRun, Known, Pair, Some, arith, drop, false, lines, refl, Bool, done, given, subst}
-use Rattle.merge_core.proofs.Words.{List, each_weaker, member_pair, length-drop, each_rising, member_place, AllGaveOnce}
-use Rattle.merge_core.proofs.Words.{map-append, AreSettled, MergeState, true≢false, AreLinesOf, line_entry, read_lines}
-use Rattle.merge_core.proofs.Words.{pair_cmp, all_done, HasEntry, each_join, place_cmp, AreOpened, OverTexts, IsInputOf}
-use Rattle.merge_core.proofs.GroupLemmas.{filter_none, filter_all, each_cut}
-use Rattle.merge_core.proofs.{Many.Move, Many.each_beside, Many.each_take, InputLemmas.done_cut, InputLemmas.TextRead}
-use Rattle.merge_core.proofs.StateLemmas.{inputs_long, cursors_of}
+use Rattle.merge_core.proofs.Words.{[], ℕ, ◌++◌, ◌∷◌, ◌≡◌, ◌⊎◌, AllByRecursion, AllGaveOnce, AllZip, AreInputs}
+use Rattle.merge_core.proofs.Words.{AreLinesOf, AreOpened, AreSettled, Bool, CursorState, EachDone, Ghosts, HasEntry}
+use Rattle.merge_core.proofs.Words.{IsCut, IsCutAt, IsIn, IsIndex, IsInputOf, IsLeast, IsLineIn, IsLineOf, IsRun}
+use Rattle.merge_core.proofs.Words.{KeepsSources, Known, LINE_LIMIT, List, Member, MergeInput, MergeState, NeverFalls}
+use Rattle.merge_core.proofs.Words.{None, Option, OverIndexes, OverTexts, Pair, Reached, Some, all_done, ap, arith}
+use Rattle.merge_core.proofs.Words.{done, drop, drop_at, each_join, each_rising, each_weaker, false, filter}
+use Rattle.merge_core.proofs.Words.{filter-append, given, inl, inputs, inr, is_below, is_low, length, length-drop}
+use Rattle.merge_core.proofs.Words.{length-map, line_entry, lines, map, map-append, member_pair, member_place}
+use Rattle.merge_core.proofs.Words.{nil_from_length, not, pair_cmp, place_cmp, place_cmp_total, read_lines, refl, subst}
+use Rattle.merge_core.proofs.Words.{suc, sym, take, take_all, true≢false, zip}
+use Rattle.merge_core.proofs.GroupLemmas.{each_cut, filter_all, filter_none}
+use Rattle.merge_core.proofs.Many.{Move, each_beside, each_take}
+use Rattle.merge_core.proofs.InputLemmas.{TextRead, done_cut}
+use Rattle.merge_core.proofs.StateLemmas.{cursors_of, inputs_long}
 
 -- ---- the lines that the sources have from where they are read on
 

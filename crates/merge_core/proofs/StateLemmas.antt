@@ -1,13 +1,14 @@
 -- Sources and the inputs of a merge, while lines wait.
-use Rattle.merge_core.proofs.Words.{filter, ◌+◌, AllZip, Ghosts, Member, Option, TookOf, inputs, get_or, length, queued}
-use Rattle.merge_core.proofs.Words.{◌++◌, Aligned, IsInput, each_join, input_of, not-true, waits_of, cases_lt, take_all}
-use Rattle.merge_core.proofs.Words.{Alike, Bool, IsDue, List, Pair, Some, arith, done, given, refl, stays, true, zero}
-use Rattle.merge_core.proofs.Words.{[], ℕ, ◌<◌, ◌∙◌, ◌∷◌, ◌≡◌, ◌≢◌, ◌≤◌, ap, inl, inr, map, set, suc, sym}
-use Rattle.merge_core.proofs.Words.{AllByRecursion, IsPermutation, get_or_default, length_permutation, nil_from_length}
-use Rattle.merge_core.proofs.Words.{CursorState, WaitingLine, each_weaker, filter-append, length-append, waiting_pair}
-use Rattle.merge_core.proofs.Words.{MergeInput, MergeState, append-nil, inputs_from, length-map, length-set, set-get_or}
+use Rattle.merge_core.proofs.Words.{[], ℕ, ◌++◌, ◌+◌, ◌<◌, ◌∙◌, ◌∷◌, ◌≡◌, ◌≢◌, ◌≤◌, Aligned, Alike, AllByRecursion}
+use Rattle.merge_core.proofs.Words.{AllZip, Bool, CursorState, Ghosts, IsDue, IsInput, IsPermutation, List, Member}
+use Rattle.merge_core.proofs.Words.{MergeInput, MergeState, Option, Pair, Some, TookOf, WaitingLine, ap, append-nil}
+use Rattle.merge_core.proofs.Words.{arith, cases_lt, done, each_join, each_weaker, filter, filter-append, get_or}
+use Rattle.merge_core.proofs.Words.{get_or_default, given, inl, input_of, inputs, inputs_from, inr, length}
+use Rattle.merge_core.proofs.Words.{length-append, length-map, length-set, length_permutation, map, nil_from_length}
+use Rattle.merge_core.proofs.Words.{not-true, queued, refl, set, set-get_or, stays, suc, sym, take_all, true}
+use Rattle.merge_core.proofs.Words.{waiting_pair, waits_of, zero}
 use Rattle.merge_core.proofs.InputLemmas.{filter_passes}
-use Rattle.merge_core.proofs.GroupLemmas.{filter_all, each_permuted, waits_beside, waits_permuted, waits_queued}
+use Rattle.merge_core.proofs.GroupLemmas.{each_permuted, filter_all, waits_beside, waits_permuted, waits_queued}
 
 pub any_of : {X : Type 0} (xs : List X) (i : ℕ) → i < length xs → X
 any_of [] i l = absurd (omega arith)

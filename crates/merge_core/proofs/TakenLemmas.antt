@@ -1,21 +1,23 @@
 -- What was taken of lines, beside all that is wanted of them: of one source, of all, and where a merge came to.
-use Rattle.merge_core.proofs.Words.{done, ◌≤◌, ◌++◌, Bool, List, Some, Upto, drop, refl, take, true, None, Pair, ◌&&◌}
-use Rattle.merge_core.proofs.Words.{length, LINE_LIMIT, WaitingLine, CursorState, inputs_from, sum_by-cons, OverIndexes}
-use Rattle.merge_core.proofs.Words.{[], each_rising, each_weaker, member_pair, member_place, rising_split, waiting_pair}
-use Rattle.merge_core.proofs.Words.{ℕ, false, given, is_gt, lines, stays, Below, is_low, is_lt, AllZip, Ghosts, inputs}
-use Rattle.merge_core.proofs.Words.{AllByRecursion, IsRun, append_assoc, filter-append, pair_cmp_total, nil_from_length}
-use Rattle.merge_core.proofs.Words.{MergeInput, place_cmp_total, take-append-drop, ordering_reverse, nat_list_cmp_total}
-use Rattle.merge_core.proofs.Words.{◌∙◌, ◌∷◌, ◌≡◌, inl, inr, map, not, sym, ◌+◌, zip, sum}
-use Rattle.merge_core.proofs.Words.{IsLower, ap, pair_cmp, take-map, not-true, drop-map, all_done, all_lines, OverTexts}
-use Rattle.merge_core.proofs.Words.{Member, filter, rising, IsAbove, IsUpto, Option, nat_cmp, IsCutAt, IsIndex, Reached}
-use Rattle.merge_core.proofs.Words.{NeverFalls, append-nil, line_entry, true≢false, MergeState, collection, length-map}
-use Rattle.merge_core.proofs.Words.{arith, member_of, not-false, place_cmp, NoneBelow, slice_cmp, and_cases, read_lines}
-use Rattle.merge_core.proofs.{Many.each_both, Many.each_filter, InputLemmas.filter_passes, InputLemmas.TextRead}
-use Rattle.merge_core.proofs.PairOrder.{upto_itself, below_then, then_below, from_not_below, upto_upto}
-use Rattle.merge_core.proofs.GroupLemmas.{filter_all, filter_none, each_cut, each_waits}
-use Rattle.merge_core.proofs.MergeLemmas.{place_below, below_next, is_less, lower_by_pair}
+use Rattle.merge_core.proofs.Words.{[], ℕ, ◌&&◌, ◌++◌, ◌+◌, ◌∙◌, ◌∷◌, ◌≡◌, ◌≤◌, AllByRecursion, AllZip, Below, Bool}
+use Rattle.merge_core.proofs.Words.{CursorState, Ghosts, IsAbove, IsCutAt, IsIndex, IsLower, IsRun, IsUpto, LINE_LIMIT}
+use Rattle.merge_core.proofs.Words.{List, Member, MergeInput, MergeState, NeverFalls, None, NoneBelow, Option}
+use Rattle.merge_core.proofs.Words.{OverIndexes, OverTexts, Pair, Reached, Some, Upto, WaitingLine, all_done, all_lines}
+use Rattle.merge_core.proofs.Words.{and_cases, ap, append-nil, append_assoc, arith, collection, done, drop, drop-map}
+use Rattle.merge_core.proofs.Words.{each_rising, each_weaker, false, filter, filter-append, given, inl, inputs}
+use Rattle.merge_core.proofs.Words.{inputs_from, inr, is_gt, is_low, is_lt, length, length-map, line_entry, lines, map}
+use Rattle.merge_core.proofs.Words.{member_of, member_pair, member_place, nat_cmp, nat_list_cmp_total, nil_from_length}
+use Rattle.merge_core.proofs.Words.{not, not-false, not-true, ordering_reverse, pair_cmp, pair_cmp_total, place_cmp}
+use Rattle.merge_core.proofs.Words.{place_cmp_total, read_lines, refl, rising, rising_split, slice_cmp, stays, sum}
+use Rattle.merge_core.proofs.Words.{sum_by-cons, sym, take, take-append-drop, take-map, true, true≢false, waiting_pair}
+use Rattle.merge_core.proofs.Words.{zip}
+use Rattle.merge_core.proofs.Many.{each_both, each_filter}
+use Rattle.merge_core.proofs.InputLemmas.{TextRead, filter_passes}
+use Rattle.merge_core.proofs.PairOrder.{below_then, from_not_below, then_below, upto_itself, upto_upto}
+use Rattle.merge_core.proofs.GroupLemmas.{each_cut, each_waits, filter_all, filter_none}
+use Rattle.merge_core.proofs.MergeLemmas.{below_next, is_less, lower_by_pair, place_below}
 use Rattle.merge_core.specs.Runs.{IsPart}
-use Rattle.merge_core.proofs.SourceLemmas.{parts, falls_back, run_after, IsSought, reached_read, reached_sought}
+use Rattle.merge_core.proofs.SourceLemmas.{IsSought, falls_back, parts, reached_read, reached_sought, run_after}
 
 -- ---- keys
 

@@ -1,20 +1,18 @@
 -- How far a check has come.
-use Rattle.query_core.proofs.Words.{[], ◌++◌, ◌+◌, ◌∙◌, ◌∷◌, ◌≡◌, ◌≤◌, AllByRecursion, Err, IsIndex, LINE_LIMIT, List}
-use Rattle.query_core.proofs.Words.{Member, NeverFalls, None, Option, Some, Upto, ℕ, ap, arith, drop, each_join}
+use Rattle.query_core.proofs.Words.{[], ℕ, ◌++◌, ◌+◌, ◌∙◌, ◌∷◌, ◌≡◌, ◌≤◌, AllByRecursion, Err, IsIndex, LINE_LIMIT}
+use Rattle.query_core.proofs.Words.{List, Member, NeverFalls, None, Option, Some, Upto, ap, arith, drop, each_join}
 use Rattle.query_core.proofs.Words.{each_weaker, length, length-append, length-drop, line_entry, map-append}
 use Rattle.query_core.proofs.Words.{member_pair, pair_cmp, refl, sym, take, take-append-drop, take_all, upto_upto}
 use Rattle.std.specs.Prelude.{MatchOption}
 use Rattle.std.proofs.lemmas.List.{drop-drop}
 use Rattle.cdxj_core.specs.Indexes.{IsRun}
-use Rattle.source_core.specs.IndexLines.{lines}
-use Rattle.source_core.specs.LinesAtFault.{LineBeginsAt}
+use Rattle.source_core.specs.{IndexLines.lines, LinesAtFault.LineBeginsAt}
 use Rattle.source_core.proofs.SortedCuts.{begins_at}
-use Rattle.merge_core.specs.NextLine.{IsNextLine}
-use Rattle.merge_core.specs.LineFaults.{IsFeedFaultAt}
+use Rattle.merge_core.specs.{LineFaults.IsFeedFaultAt, NextLine.IsNextLine}
 use Rattle.merge_core.specs.declared.fault.FeedFault.{FeedFault}
 use Rattle.query_core.specs.Conversions.{fault_of_index}
-use Rattle.query_core.specs.Checking.{IsLastOf, FallsAfter, EndsOutOfOrder, IsChecked}
-use Rattle.merge_core.proofs.InputLemmas.{falls_push, take_next, falls_last}
+use Rattle.query_core.specs.Checking.{EndsOutOfOrder, FallsAfter, IsChecked, IsLastOf}
+use Rattle.merge_core.proofs.InputLemmas.{falls_last, falls_push, take_next}
 
 all_upto : (members : List Member) (previous : Option Member) (m : Member) → IsLastOf members previous
     → (FallsAfter previous m → ⊥) → NeverFalls member_pair pair_cmp members

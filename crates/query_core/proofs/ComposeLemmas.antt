@@ -1,10 +1,9 @@
 -- Merges of merges, and of indexes in another order.
 use Rattle.query_core.proofs.Words.{[], ◌++◌, ◌↔◌, ◌∷◌, ◌≡◌, ◌⊎◌, AllByRecursion, IsFirst, IsIn, List, Member, Ordering}
 use Rattle.query_core.proofs.Words.{QueryValue, Rises, all_lines, ap, append_assoc, arith, collection, each_at}
-use Rattle.query_core.proofs.Words.{each_rising, flat_map, inl, inr, member_place, place_cmp, place_cmp_total, put, refl}
-use Rattle.query_core.proofs.Words.{rises_rising, rising, rising_members, rising_same, selected}
-use Rattle.query_core.specs.MergeLaws.{HaveOneLine}
-use Rattle.query_core.specs.QueryLaws.{SelectedAreFirst}
+use Rattle.query_core.proofs.Words.{each_rising, flat_map, inl, inr, member_place, place_cmp, place_cmp_total, put}
+use Rattle.query_core.proofs.Words.{refl, rises_rising, rising, rising_members, rising_same, selected}
+use Rattle.query_core.specs.{MergeLaws.HaveOneLine, QueryLaws.SelectedAreFirst}
 use Rattle.std.proofs.Common.{Equal}
 use Rattle.std.specs.Cmp.{IsTotalOrder}
 use Rattle.std.proofs.lemmas.Cmp.{tied_back}

@@ -1,7 +1,7 @@
 -- The query that selects nothing, and is refused as another.
-use Rattle.query_core.proofs.Words.{[], ◌++◌, ◌<◌, ◌∷◌, ◌≡◌, ◌≤◌, Err, List, Member, Ok, QUERY_LIMIT, QueryValue}
-use Rattle.query_core.proofs.Words.{TargetValue, ℕ, ap, arith, codes, le-ltb, length, length-append, list_all-append}
-use Rattle.query_core.proofs.Words.{refl, selected, true}
+use Rattle.query_core.proofs.Words.{[], ℕ, ◌++◌, ◌<◌, ◌∷◌, ◌≡◌, ◌≤◌, Err, List, Member, Ok, QUERY_LIMIT, QueryValue}
+use Rattle.query_core.proofs.Words.{TargetValue, ap, arith, codes, le-ltb, length, length-append, list_all-append, refl}
+use Rattle.query_core.proofs.Words.{selected, true}
 use Rattle.std.proofs.Common.{◌==◌}
 use Rattle.std.specs.Prelude.{MatchResult}
 use Rattle.std.specs.List.{onto_first, slice_split}

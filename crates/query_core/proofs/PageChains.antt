@@ -1,18 +1,18 @@
 -- The pages of a query, by how its captures are cut.
-use Rattle.query_core.proofs.Words.{[], ◌++◌, ◌-◌, ◌^◌, ◌∙◌, ◌∷◌, ◌≡◌, AllByRecursion, AllPositive, AllZip, Appends}
-use Rattle.query_core.proofs.Words.{AppendsPrefix, AreCut, Bool, HasReadKey, IsChain, IsIndex, LINE_LIMIT, List}
-use Rattle.query_core.proofs.Words.{Member, None, Option, Page, PagesSoFar, PlaceValue, QueryValue, Rises, Some}
-use Rattle.query_core.proofs.Words.{WrotePages, WrotePagesInPart, ap, append-nil, append_assoc, arith, captures_over}
-use Rattle.query_core.proofs.Words.{chain_law, collapsed, collection, drop, each_join, each_kept, first_positive}
-use Rattle.query_core.proofs.Words.{first_size, flat_map-append, form_of, is_wanted, later_positive, later_sizes}
-use Rattle.query_core.proofs.Words.{length, length-take, member_place, min, next_after, page_end, pages_text}
-use Rattle.query_core.proofs.Words.{place_cmp, place_cmp_total, prefix_longer, rises_collapsed, rises_filter}
-use Rattle.query_core.proofs.Words.{same_part, selected, subst, sym, take, take_all, text_so_far, true, ℕ}
-use Rattle.page_core.proofs.PageLaws.{split_there, collapse_resumes, chain_one}
+use Rattle.query_core.proofs.Words.{[], ℕ, ◌++◌, ◌-◌, ◌^◌, ◌∙◌, ◌∷◌, ◌≡◌, AllByRecursion, AllPositive, AllZip, Appends}
+use Rattle.query_core.proofs.Words.{AppendsPrefix, AreCut, Bool, HasReadKey, IsChain, IsIndex, LINE_LIMIT, List, Member}
+use Rattle.query_core.proofs.Words.{None, Option, Page, PagesSoFar, PlaceValue, QueryValue, Rises, Some, WrotePages}
+use Rattle.query_core.proofs.Words.{WrotePagesInPart, ap, append-nil, append_assoc, arith, captures_over, chain_law}
+use Rattle.query_core.proofs.Words.{collapsed, collection, drop, each_join, each_kept, first_positive, first_size}
+use Rattle.query_core.proofs.Words.{flat_map-append, form_of, is_wanted, later_positive, later_sizes, length}
+use Rattle.query_core.proofs.Words.{length-take, member_place, min, next_after, page_end, pages_text, place_cmp}
+use Rattle.query_core.proofs.Words.{place_cmp_total, prefix_longer, rises_collapsed, rises_filter, same_part, selected}
+use Rattle.query_core.proofs.Words.{subst, sym, take, take_all, text_so_far, true}
+use Rattle.page_core.proofs.PageLaws.{chain_one, collapse_resumes, split_there}
 use Rattle.merge_core.proofs.InputLemmas.{filter_passes}
 use Rattle.query_core.specs.QueryPages.{IsQueryChain}
-use Rattle.query_core.proofs.WriterLemmas.{captures_are, captures}
-use Rattle.query_core.proofs.PagesLemmas.{next_place, next_short, Pages, pages_by, all_pages, last_page, all_cut, ends}
+use Rattle.query_core.proofs.WriterLemmas.{captures, captures_are}
+use Rattle.query_core.proofs.PagesLemmas.{Pages, all_cut, all_pages, ends, last_page, next_place, next_short, pages_by}
 use Rattle.query_core.specs.WrittenPages.{KeysButLast, empty_page}
 use Rattle.cdxj_core.proofs.IndexLemmas.{one_index}
 use Rattle.query_core.specs.OneText.{AnswerIsOne, MergeIsOne, PagesAreOne}

@@ -1,22 +1,20 @@
 -- A page in cdxj is an index.
-use Rattle.query_core.proofs.Words.{[], ◌++◌, ◌<◌, ◌∙◌, ◌∷◌, ◌≡◌, AllByRecursion, AllZip, IsAnswerFaultOf, IsIndex}
+use Rattle.query_core.proofs.Words.{[], ℕ, ◌++◌, ◌<◌, ◌∙◌, ◌∷◌, ◌≡◌, AllByRecursion, AllZip, IsAnswerFaultOf, IsIndex}
 use Rattle.query_core.proofs.Words.{Known, LINE_LIMIT, List, Member, NeverFalls, None, Option, Ordering, QueryValue}
 use Rattle.query_core.proofs.Words.{Rises, Some, all_lines, answer_text, append-nil, append_assoc, arith, at_most}
 use Rattle.query_core.proofs.Words.{collection, each_filter, each_join, each_kept, each_rising, each_weaker}
-use Rattle.query_core.proofs.Words.{err_from_is_err_and, false, get_or, has_no_feed, is_gt, is_utf8-from_IsUtf8}
-use Rattle.query_core.proofs.Words.{length, line_entry, line_row, lines, lines_front, lines_text, map, member_pair}
+use Rattle.query_core.proofs.Words.{err_from_is_err_and, false, get_or, has_no_feed, is_gt, is_utf8-from_IsUtf8, length}
+use Rattle.query_core.proofs.Words.{line_entry, line_row, lines, lines_front, lines_text, map, member_pair}
 use Rattle.query_core.proofs.Words.{member_place, pair_cmp, place_cmp, place_cmp_total, query_page, refl}
 use Rattle.query_core.proofs.Words.{rises_collapsed, rises_filter, rises_rising, same_part, selected, shown_key, suc}
-use Rattle.query_core.proofs.Words.{take, true, wrote_nothing, ℕ}
+use Rattle.query_core.proofs.Words.{take, true, wrote_nothing}
 use Rattle.query_text.specs.declared.output.OutputFormat.TheVariants.{Cdxj}
 use Rattle.merge_core.proofs.Many.{each_take}
 use Rattle.cdxj_core.specs.Lines.{line_in}
-use Rattle.cdxj_core.proofs.EntryRead.{body_of-feed}
-use Rattle.cdxj_core.proofs.MemberLemmas.{entered}
-use Rattle.query_core.specs.QueryLaws.{NoLineIsAtFault}
+use Rattle.cdxj_core.proofs.{EntryRead.body_of-feed, MemberLemmas.entered}
+use Rattle.query_core.specs.{Conversions.fault_of_merge, QueryLaws.NoLineIsAtFault}
 use Rattle.merge_core.specs.declared.fault.MergeFault.{MergeFault}
-use Rattle.query_core.specs.Conversions.{fault_of_merge}
-use Rattle.merge_core.proofs.SourceLemmas.{once_none, all_kept}
+use Rattle.merge_core.proofs.SourceLemmas.{all_kept, once_none}
 use Rattle.query_core.specs.declared.fault.AnswerFault.TheVariants as fault
 use Rattle.merge_core.specs.declared.fault.FeedFault.TheVariants as feed
 use Rattle.merge_core.specs.declared.fault.MergeFault.TheVariants as merge

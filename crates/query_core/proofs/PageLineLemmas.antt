@@ -1,26 +1,24 @@
 -- Which lines a page has, beside those of a reply that isn't a page.
-use Rattle.query_core.proofs.Words.{[], ⊤, ◌&&◌, ◌++◌, ◌+◌, ◌<◌, ◌∙◌, ◌∷◌, ◌≡◌, ◌≤◌, ◌⊎◌, AllByRecursion}
+use Rattle.query_core.proofs.Words.{[], ℕ, ⊤, ◌&&◌, ◌++◌, ◌+◌, ◌<◌, ◌∙◌, ◌∷◌, ◌≡◌, ◌≤◌, ◌⊎◌, AllByRecursion}
 use Rattle.query_core.proofs.Words.{BeginsWithBracket, Bool, Field, HasEntry, HaveEntries, IsIn, LINE_LIMIT, List}
 use Rattle.query_core.proofs.Words.{Member, None, Option, PlaceValue, QueryValue, Some, and_parts, ap, append-nil}
 use Rattle.query_core.proofs.Words.{append_assoc, arith, begins_with_pair, cases_lt, codes, cond, drop, each_at}
 use Rattle.query_core.proofs.Words.{each_filter, each_kept, each_weaker, entry_pair_is, false, flat_map, inl, inr}
 use Rattle.query_core.proofs.Words.{is_key, is_stamp, key_part, length, length-append, length-drop, line_row, lines}
 use Rattle.query_core.proofs.Words.{map, member_pair, nat_tests, page_text, place_cmp_total, query_page, refl}
-use Rattle.query_core.proofs.Words.{row_value, shown_key, stamp_part, suc, sym, text_row, true, true≢false, ℕ}
+use Rattle.query_core.proofs.Words.{row_value, shown_key, stamp_part, suc, sym, text_row, true, true≢false}
 use Rattle.std.specs.List.{after_first, position_or_len}
 use Rattle.cdxj_places.specs.Pair.{begins_with_space, is_space, tail_part}
 use Rattle.query_text.specs.declared.output.OutputFormat.{OutputFormat}
 use Rattle.page_core.specs.PageText.{key_lines}
-use Rattle.query_core.specs.QueryPages.{output_form}
+use Rattle.query_core.specs.{QueryPages.output_form, Replies.refusal_text}
 use Rattle.query_core.specs.PageLines.{EmptyLineIsBeforeKey, JsonLinesBeginWithBrackets, NoPageHasFaults}
 use Rattle.query_core.specs.PageLines.{OneFieldHasMarks, OneFieldHasNoSpace, TwoFieldsBeginAsRefusals, fault_row}
 use Rattle.query_core.specs.PageLines.{has_no_space}
-use Rattle.query_core.specs.Replies.{refusal_text}
 use Rattle.std.proofs.lemmas.List.{append_cancel_right}
-use Rattle.query_core.proofs.PageIndexes.{is_row, each_at_most}
-use Rattle.query_core.proofs.PageRows.{AllAbove, IsLine, above_spaces, key_above, key_long, lines_joined, spaces}
-use Rattle.query_core.proofs.PageRows.{escaped_some, above_line, json_lines, spaces_join, text_line, text_spaces}
-use Rattle.query_core.proofs.PageRows.{value_some}
+use Rattle.query_core.proofs.PageIndexes.{each_at_most, is_row}
+use Rattle.query_core.proofs.PageRows.{AllAbove, IsLine, above_line, above_spaces, escaped_some, json_lines, key_above}
+use Rattle.query_core.proofs.PageRows.{key_long, lines_joined, spaces, spaces_join, text_line, text_spaces, value_some}
 use Rattle.query_text.specs.declared.output.OutputFormat.TheVariants as output
 
 -- ---- the rows of a key

@@ -1,13 +1,13 @@
 -- The lines of a page, in each output.
-use Rattle.query_core.proofs.Words.{[], ◌++◌, ◌+◌, ◌-◌, ◌<◌, ◌∷◌, ◌≡◌, AllByRecursion, each_weaker}
-use Rattle.query_core.proofs.Words.{BeginsWithBracket, Bool, Field, HasEntry, LINE_LIMIT, LineValue, List, Member}
-use Rattle.query_core.proofs.Words.{Option, PlaceValue, Some, ℕ, append_assoc, arith, codes, cond, each_join, eqb-true}
-use Rattle.query_core.proofs.Words.{escaped, false, flat_map, has_no_feed, is_key, is_stamp, length, length-append}
-use Rattle.query_core.proofs.Words.{lines, lines_front, list_all-append, map, nat_tests, option_map, refl, resume_text}
-use Rattle.query_core.proofs.Words.{row_value, suc, text_row, true, zero}
+use Rattle.query_core.proofs.Words.{[], ℕ, ◌++◌, ◌+◌, ◌-◌, ◌<◌, ◌∷◌, ◌≡◌, AllByRecursion, BeginsWithBracket, Bool}
+use Rattle.query_core.proofs.Words.{Field, HasEntry, LINE_LIMIT, LineValue, List, Member, Option, PlaceValue, Some}
+use Rattle.query_core.proofs.Words.{append_assoc, arith, codes, cond, each_join, each_weaker, eqb-true, escaped, false}
+use Rattle.query_core.proofs.Words.{flat_map, has_no_feed, is_key, is_stamp, length, length-append, lines, lines_front}
+use Rattle.query_core.proofs.Words.{list_all-append, map, nat_tests, option_map, refl, resume_text, row_value, suc}
+use Rattle.query_core.proofs.Words.{text_row, true, zero}
 use Rattle.std.proofs.lemmas.List.Elements.{recursion_from_All}
 use Rattle.std.specs.Prelude.{◌==◌, option_and_then}
-use Rattle.form_urlencoded.proofs.FormLemmas.{IsSerializedByte, All-byte_serialize, byte_serialize-append}
+use Rattle.form_urlencoded.proofs.FormLemmas.{All-byte_serialize, IsSerializedByte, byte_serialize-append}
 use Rattle.form_urlencoded.proofs.FormLemmas.{byte_serialize-cons}
 use Rattle.cdxj_places.specs.Places.{place_text}
 use Rattle.page_core.specs.Rows.{escaped_byte, json_row}
@@ -16,8 +16,7 @@ use Rattle.page_core.specs.PageText.{json_page, key_rows, later_row}
 use Rattle.cdxj_core.specs.Fields.{field_name}
 use Rattle.std.proofs.Common.{decimal}
 use Rattle.std.specs.Fmt.{digits, digits_onto}
-use Rattle.serde_json.specs.Data.{Data}
-use Rattle.serde_json.specs.Read.{read}
+use Rattle.serde_json.specs.{Data.Data, Read.read}
 use Rattle.cdxj_objects.specs.MemberValues.{value_text}
 use Rattle.cdxj_core.specs.Lines.{field_value, line_from, object_values}
 use Rattle.cdxj_core.proofs.MemberLemmas.{entry_valued}

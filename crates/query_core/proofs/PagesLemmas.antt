@@ -1,5 +1,5 @@
 -- Pages of captures, as they come, and what a writer has written of them.
-use Rattle.query_core.proofs.Words.{[], ◌++◌, ◌+◌, ◌-◌, ◌<◌, ◌^◌, ◌∙◌, ◌∷◌, ◌≡◌, ◌≤◌, ◌⊎◌, AllPositive, Appends}
+use Rattle.query_core.proofs.Words.{[], ℕ, ◌++◌, ◌+◌, ◌-◌, ◌<◌, ◌^◌, ◌∙◌, ◌∷◌, ◌≡◌, ◌≤◌, ◌⊎◌, AllPositive, Appends}
 use Rattle.query_core.proofs.Words.{Appends-join, AppendsPrefix, AreAtMost, AreCut, Bool, Broke, FitsWord, IsSized}
 use Rattle.query_core.proofs.Words.{List, Member, None, Option, Page, PageWriter, PagesSoFar, PlaceValue, QueryValue}
 use Rattle.query_core.proofs.Words.{Some, Wrote, and_parts, ap, append-nil, append_assoc, arith, at_most, captures_over}
@@ -8,17 +8,17 @@ use Rattle.query_core.proofs.Words.{flat_map-append, form_of, from_view, grows_b
 use Rattle.query_core.proofs.Words.{is_some, is_wanted, last_of, later_positive, later_sizes, length, length-append}
 use Rattle.query_core.proofs.Words.{list_all, member_place, min, more_after, nat_lt, next_after, next_of, no_pages}
 use Rattle.query_core.proofs.Words.{page_end, page_start, place_before, prefix_after, prefix_longer, refl, row_text}
-use Rattle.query_core.proofs.Words.{shown_key, suc, sym, take, take-append_seam, take_all, text_so_far, true, ℕ}
+use Rattle.query_core.proofs.Words.{shown_key, suc, sym, take, take-append_seam, take_all, text_so_far, true}
 use Rattle.std.proofs.Common.{IfSome}
-use Rattle.std.proofs.lemmas.List.{take_at, drop_at}
-use Rattle.page_core.proofs.PageLemmas.{page_in_pieces, begun-more}
+use Rattle.std.proofs.lemmas.List.{drop_at, take_at}
+use Rattle.page_core.proofs.PageLemmas.{begun-more, page_in_pieces}
 use Rattle.query_core.specs.WrittenPages.{IsReadBack, are_sizes}
 use Rattle.query_core.proofs.WriterLemmas.{captures, captures_append, end_last, kept_after}
 use Rattle.std.proofs.lemmas.Bool.{ltb-true}
-use Rattle.query_core.specs.PagesWriting.{HoldsRows, with_row, with_room, with_capture, turned, pages_after, has_all}
-use Rattle.query_core.specs.PagesWriting.{is_ended, are_none, full_page}
-use Rattle.query_core.specs.WriterView.{Stands, TakesMore, HasRoom, PageState, state_of, pages_so_far, captures_of}
-use Rattle.query_core.specs.WriterView.{TookNext, SamePage, GaveOne}
+use Rattle.query_core.specs.PagesWriting.{HoldsRows, are_none, full_page, has_all, is_ended, pages_after, turned}
+use Rattle.query_core.specs.PagesWriting.{with_capture, with_room, with_row}
+use Rattle.query_core.specs.WriterView.{GaveOne, HasRoom, PageState, SamePage, Stands, TakesMore, TookNext, captures_of}
+use Rattle.query_core.specs.WriterView.{pages_so_far, state_of}
 use Rattle.query_core.specs.declared.selection.Selection.{Selection}
 use Rattle.std.specs.Prelude.{if◌then◌else◌}
 

@@ -1,24 +1,24 @@
 -- One page of a query, by what was taken of its sources, and by what a writer has written.
-use Rattle.query_core.proofs.Words.{[], ◌++◌, ◌+◌, ◌-◌, ◌<◌, ◌^◌, ◌∷◌, ◌≡◌, ◌≤◌, ◌⊎◌, AllPositive, AllZip, Appends}
+use Rattle.query_core.proofs.Words.{[], ℕ, ◌++◌, ◌+◌, ◌-◌, ◌<◌, ◌^◌, ◌∷◌, ◌≡◌, ◌≤◌, ◌⊎◌, AllPositive, AllZip, Appends}
 use Rattle.query_core.proofs.Words.{Appends-join, Appends-none, AppendsPrefix, AreAtMost, AreFirst, Bool, Broke}
 use Rattle.query_core.proofs.Words.{GaveFor, GaveInPages, GaveInReach, Ghosts, Grows, IsIndex, IsSized, IsWriterOf}
 use Rattle.query_core.proofs.Words.{Known, LINE_LIMIT, List, Member, None, Option, OverIndexes, Page, PageWriter}
 use Rattle.query_core.proofs.Words.{PlaceValue, QueryValue, Rises, Some, Wrote, WroteFirst, WroteInPages, WrotePages}
-use Rattle.query_core.proofs.Words.{WrotePagesInPart, answer_text, append-nil, arith, begun, captures_text}
-use Rattle.query_core.proofs.Words.{collection, err_from_is_err_and, false, false_from_ne_true, first_size, form_of}
-use Rattle.query_core.proofs.Words.{grows_by, grows_not, grows_on, grows_part, inl, inr, is_some, kept, length}
-use Rattle.query_core.proofs.Words.{length-append, length-take, map, member_place, min, next_of, no_pages, not}
-use Rattle.query_core.proofs.Words.{page_end, pages_text, place_cmp, place_cmp_total, prefix_after, prefix_longer}
-use Rattle.query_core.proofs.Words.{put, query_page, refl, rises_rising, rising, shown_key, sum, sym}
-use Rattle.query_core.proofs.Words.{take-append_seam, text_so_far, true, two_same, wrote_nothing, ℕ}
-use Rattle.query_core.specs.Answering.{HoldsOfLines, Answered}
+use Rattle.query_core.proofs.Words.{WrotePagesInPart, answer_text, append-nil, arith, begun, captures_text, collection}
+use Rattle.query_core.proofs.Words.{err_from_is_err_and, false, false_from_ne_true, first_size, form_of, grows_by}
+use Rattle.query_core.proofs.Words.{grows_not, grows_on, grows_part, inl, inr, is_some, kept, length, length-append}
+use Rattle.query_core.proofs.Words.{length-take, map, member_place, min, next_of, no_pages, not, page_end, pages_text}
+use Rattle.query_core.proofs.Words.{place_cmp, place_cmp_total, prefix_after, prefix_longer, put, query_page, refl}
+use Rattle.query_core.proofs.Words.{rises_rising, rising, shown_key, sum, sym, take-append_seam, text_so_far, true}
+use Rattle.query_core.proofs.Words.{two_same, wrote_nothing}
+use Rattle.query_core.specs.Answering.{Answered, HoldsOfLines}
 use Rattle.query_core.specs.Passes.{Took}
 use Rattle.query_core.specs.declared.page_writer.PageEnd.{PageEnd}
 use Rattle.query_core.specs.WriterView.{IsEndOf, Stands, state_of}
-use Rattle.query_core.proofs.PagesLemmas.{decided, page_front, page_is, among_rows, few_rows, wrote_front, all_cut}
-use Rattle.query_core.proofs.PagesLemmas.{pages_by, pages_join, front_more, one_page, page_members, IsOnePage}
-use Rattle.query_core.proofs.PagesLemmas.{is_sized, none_follow, has_next, page}
-use Rattle.query_core.proofs.WriterLemmas.{filter_and, captures_are, captures}
+use Rattle.query_core.proofs.PagesLemmas.{IsOnePage, all_cut, among_rows, decided, few_rows, front_more, has_next}
+use Rattle.query_core.proofs.PagesLemmas.{is_sized, none_follow, one_page, page, page_front, page_is, page_members}
+use Rattle.query_core.proofs.PagesLemmas.{pages_by, pages_join, wrote_front}
+use Rattle.query_core.proofs.WriterLemmas.{captures, captures_are, filter_and}
 use Rattle.query_core.specs.declared.report.Report.{Report}
 use Rattle.query_core.proofs.ReachLemmas.{within_opening}
 use Rattle.query_core.proofs.PageChains.{wrote_most, wrote_whole}

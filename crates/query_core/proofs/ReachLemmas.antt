@@ -1,5 +1,5 @@
 -- What was taken of indexes, beside all that is wanted of their collection.
-use Rattle.query_core.proofs.Words.{[], ◌&&◌, ◌++◌, ◌-◌, ◌^◌, ◌∷◌, ◌≡◌, ◌≤◌, All, All-head, All-tail, AllByRecursion}
+use Rattle.query_core.proofs.Words.{[], ℕ, ◌&&◌, ◌++◌, ◌-◌, ◌^◌, ◌∷◌, ◌≡◌, ◌≤◌, All, All-head, All-tail, AllByRecursion}
 use Rattle.query_core.proofs.Words.{AllGaveWithin, AllZip, AreAtMost, AreLinesOf, Bool, GaveFor, Ghosts, IsAbove}
 use Rattle.query_core.proofs.Words.{IsIndex, Known, LINE_LIMIT, List, Member, NoneBelow, Option, Ordering, OverIndexes}
 use Rattle.query_core.proofs.Words.{Pair, PlaceValue, QueryValue, ReadFor, Some, TargetValue, Upto, and_parts, ap}
@@ -8,35 +8,29 @@ use Rattle.query_core.proofs.Words.{each_weaker, eqb-true, false, false_from_ne_
 use Rattle.query_core.proofs.Words.{is_above, is_gt, is_low, is_past, is_stamp, is_wanted, length, line_row, lines, map}
 use Rattle.query_core.proofs.Words.{member_pair, member_place, min, nat_cmp, nat_tests, not, pair_cmp, pair_cmp_total}
 use Rattle.query_core.proofs.Words.{place_before, place_cmp, place_cmp_total, refl, same_part, slice_cmp, suc, sum}
-use Rattle.query_core.proofs.Words.{true, upto_upto, zero, zip, ℕ}
-use Rattle.query_core.proofs.WriterLemmas.{captures, kept_after, captures_split, captures_append}
-use Rattle.std.proofs.Common.{replicate, is_lt}
+use Rattle.query_core.proofs.Words.{true, upto_upto, zero, zip}
+use Rattle.query_core.proofs.WriterLemmas.{captures, captures_append, captures_split, kept_after}
+use Rattle.std.proofs.Common.{is_lt, replicate}
 use Rattle.query_text.proofs.RangeLaw.{match_not_below, past_upward}
 use Rattle.merge_core.specs.declared.state.MergeState.{MergeState}
-use Rattle.merge_core.specs.Openings.{AreOpened}
-use Rattle.merge_core.proofs.OpenLemmas.{cuts_of}
-use Rattle.merge_core.specs.Reached.{Reached}
+use Rattle.merge_core.specs.{Collections.OverTexts, Openings.AreOpened, Reached.Reached}
+use Rattle.merge_core.proofs.{MergeLemmas.is_less, OpenLemmas.cuts_of, StateLemmas.cursors_of}
 use Rattle.merge_core.proofs.TakenLemmas.{Took, none_wait, parts_are, parts_count, taken_before, taken_first}
 use Rattle.merge_core.proofs.TakenLemmas.{taken_whole, took_of_indexes, took_of_parts}
 use Rattle.merge_core.specs.Spending.{AreReadTo, OpenedWithin}
 use Rattle.merge_core.proofs.SourceLemmas.{parts, reached_long, reached_read, reached_sought, taken_lines}
 use Rattle.query_core.specs.Starts.{first_stamp, later_pair, start_pair}
 use Rattle.cdxj_core.proofs.MemberLemmas.{entry_valued}
-use Rattle.std.specs.Char.{is_ascii_digit}
-use Rattle.std.specs.Ordering.{ordering_then}
-use Rattle.std.specs.FinMap.{slice_cmp-IsAntisymmetric}
+use Rattle.std.specs.{Char.is_ascii_digit, FinMap.slice_cmp-IsAntisymmetric, Ordering.ordering_then}
 use Rattle.std.proofs.lemmas.Slice.Zip.{AllZip-long}
 use Rattle.cdxj_places.proofs.PlaceLaw.{both}
 use Rattle.query_text.specs.Matching.{begins, covers}
 use Rattle.source_core.specs.Cursors.{CursorState}
-use Rattle.merge_core.proofs.StateLemmas.{cursors_of}
-use Rattle.merge_core.proofs.MergeLemmas.{is_less}
 use Rattle.merge_core.specs.PairOrders.{Alike, IsUpto}
-use Rattle.merge_core.specs.Collections.{OverTexts}
-use Rattle.merge_core.proofs.CountLemmas.{Passes, lines_most, gave_most, reached_read_to}
-use Rattle.merge_core.proofs.Many.{each_filter, Move, length_zip}
+use Rattle.merge_core.proofs.CountLemmas.{Passes, gave_most, lines_most, reached_read_to}
+use Rattle.merge_core.proofs.Many.{Move, each_filter, length_zip}
 use Rattle.merge_core.proofs.PairOrder.{below_below, below_upto, from_not_below, not_below_itself, same_from}
-use Rattle.query_core.specs.Reach.{pair_after, is_within}
+use Rattle.query_core.specs.Reach.{is_within, pair_after}
 use Rattle.query_core.specs.Passes.{IsOfParts, Took as LinesTaken}
 use Rattle.query_core.proofs.PageIndexes.{collection_rows}
 

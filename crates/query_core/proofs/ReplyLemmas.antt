@@ -1,30 +1,27 @@
 -- The replies to the lines of an input, so far and at its end.
-use Rattle.query_core.proofs.Words.{[], ⊤, ◌++◌, ◌+◌, ◌-◌, ◌<◌, ◌^◌, ◌∙◌, ◌∷◌, ◌≡◌, ◌≤◌, ◌⊎◌, AllGaveWithin, AllZip}
+use Rattle.query_core.proofs.Words.{[], ℕ, ⊤, ◌++◌, ◌+◌, ◌-◌, ◌<◌, ◌^◌, ◌∙◌, ◌∷◌, ◌≡◌, ◌≤◌, ◌⊎◌, AllGaveWithin, AllZip}
 use Rattle.query_core.proofs.Words.{AnswerFault, Appends, Appends-join, Appends-none, AppendsPrefix, AreLinesOf, Bool}
-use Rattle.query_core.proofs.Words.{CountsTaken, Err, Ghosts, IsAnswerFaultOf, IsIndex, Known, LINE_LIMIT, List}
-use Rattle.query_core.proofs.Words.{Member, None, Ok, Option, QueryFault, QueryValue, Some, TakesLine, answer_text}
-use Rattle.query_core.proofs.Words.{ap, append-nil, append_assoc, arith, cases_lt, codes, collection, cut_lines}
+use Rattle.query_core.proofs.Words.{CountsTaken, Err, Ghosts, IsAnswerFaultOf, IsIndex, Known, LINE_LIMIT, List, Member}
+use Rattle.query_core.proofs.Words.{None, Ok, Option, QueryFault, QueryValue, Some, TakesLine, answer_text, ap}
+use Rattle.query_core.proofs.Words.{append-nil, append_assoc, arith, cases_lt, codes, collection, cut_lines}
 use Rattle.query_core.proofs.Words.{err_from_is_err_and, false, false_from_ne_true, flat_map, flat_map-append}
-use Rattle.query_core.proofs.Words.{grows_not, grows_part, in_reach, inl, is_utf8, is_utf8-from_IsUtf8, le-ltb}
-use Rattle.query_core.proofs.Words.{length, length-append, length-take, lt-ltb, map, map-append, nat_lt, prefix_after}
-use Rattle.query_core.proofs.Words.{prefix_longer, prepend_known, query_of, query_page, refl, reply_of, subst, sum}
-use Rattle.query_core.proofs.Words.{sym, take, take_all, true, without_carriage_return, wrote_nothing, ℕ}
+use Rattle.query_core.proofs.Words.{grows_not, grows_part, in_reach, inl, is_utf8, is_utf8-from_IsUtf8, le-ltb, length}
+use Rattle.query_core.proofs.Words.{length-append, length-take, lt-ltb, map, map-append, nat_lt, prefix_after}
+use Rattle.query_core.proofs.Words.{prefix_longer, prepend_known, query_of, query_page, refl, reply_of, subst, sum, sym}
+use Rattle.query_core.proofs.Words.{take, take_all, true, without_carriage_return, wrote_nothing}
 use Rattle.std.specs.Prelude.{IsErrAnd, Result}
-use Rattle.std.proofs.lemmas.List.Elements.{AllZip-push}
+use Rattle.std.proofs.lemmas.List.{Elements.AllZip-push, Sums.sum_by_push}
 use Rattle.devices.specs.LineReading.{IsInputLineFault, IsTooLong, StopsInLine}
 use Rattle.devices.specs.declared.input_lines.InputLineFault.{InputLineFault}
-use Rattle.query_core.specs.Conversions.{fault_of_line}
-use Rattle.query_core.specs.Replies.{marked_reply}
-use Rattle.query_core.specs.ReplyReach.{AreFirstLines, AllGaveAtMost, Amount, GaveForLines, lines_most, query_most}
-use Rattle.query_core.specs.ReplyReach.{asked_most, line_most}
-use Rattle.query_core.specs.Conversations.{AreLeft, Replied, RepliedInPart, RepliedToAll, RepliedToFirst}
-use Rattle.query_core.specs.Conversations.{RepliedToTaken, HoldsOfReplies, IsLineReply, WritesSome, IsMarkedReply}
-use Rattle.query_core.specs.Conversations.{IsOneReply}
+use Rattle.query_core.specs.{Conversions.fault_of_line, Replies.marked_reply}
+use Rattle.query_core.specs.ReplyReach.{AllGaveAtMost, Amount, AreFirstLines, GaveForLines, asked_most, line_most}
+use Rattle.query_core.specs.ReplyReach.{lines_most, query_most}
+use Rattle.query_core.specs.Conversations.{AreLeft, HoldsOfReplies, IsLineReply, IsMarkedReply, IsOneReply, Replied}
+use Rattle.query_core.specs.Conversations.{RepliedInPart, RepliedToAll, RepliedToFirst, RepliedToTaken, WritesSome}
 use Rattle.query_core.proofs.PagesLemmas.{whole_prefix}
 use Rattle.std.proofs.lemmas.Str.{IsUtf8-from_is_utf8}
 use Rattle.devices.specs.Writing.{WritesText}
 use Rattle.query_core.specs.AnyReplies.{IsPageReply, IsQueryReply, fault_text}
-use Rattle.std.proofs.lemmas.List.Sums.{sum_by_push}
 use Rattle.devices.specs.declared.input_lines.InputLineFault.TheVariants as input
 use Rattle.query_core.specs.declared.fault.AnswerFault.TheVariants as fault
 

@@ -1,16 +1,15 @@
 -- The captures of lines that are taken one after another.
-use Rattle.query_core.proofs.Words.{[], ◌&&◌, ◌++◌, ◌+◌, ◌<◌, ◌∷◌, ◌≡◌, Bool, List, Member, Option, PlaceValue}
-use Rattle.query_core.proofs.Words.{QueryValue, Some, append-nil, append_assoc, arith, bytes_eq-Decides}
-use Rattle.query_core.proofs.Words.{captures_over, drop, end_place, false, filter, get_or, is_wanted, kept, length}
-use Rattle.query_core.proofs.Words.{map, map-append, member_place, place_before, place_cmp_total, query_captures}
-use Rattle.query_core.proofs.Words.{refl, same_part, suc, take, take-append-drop, true, true≢false, ℕ}
-use Rattle.std.proofs.lemmas.List.{map_more}
+use Rattle.query_core.proofs.Words.{[], ℕ, ◌&&◌, ◌++◌, ◌+◌, ◌<◌, ◌∷◌, ◌≡◌, Bool, List, Member, Option, PlaceValue}
+use Rattle.query_core.proofs.Words.{QueryValue, Some, append-nil, append_assoc, arith, bytes_eq-Decides, captures_over}
+use Rattle.query_core.proofs.Words.{drop, end_place, false, filter, get_or, is_wanted, kept, length, map, map-append}
+use Rattle.query_core.proofs.Words.{member_place, place_before, place_cmp_total, query_captures, refl, same_part, suc}
+use Rattle.query_core.proofs.Words.{take, take-append-drop, true, true≢false}
+use Rattle.std.proofs.lemmas.{Bool.cond-true, List.map_more}
 use Rattle.std.proofs.Common.{drop-cons}
-use Rattle.std.proofs.lemmas.Bool.{cond-true}
 use Rattle.std.proofs.lemmas.List.Elements.{filter-append}
 use Rattle.page_core.specs.Pages.{repeats}
 use Rattle.page_core.proofs.PageLaws.{kept_append}
-use Rattle.query_core.specs.Collapsings.{CollapsingValue, collapsing_at, collapsing_after, repeats_part}
+use Rattle.query_core.specs.Collapsings.{CollapsingValue, collapsing_after, collapsing_at, repeats_part}
 
 -- ---- two tests
 

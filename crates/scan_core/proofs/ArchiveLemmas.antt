@@ -1,23 +1,21 @@
 -- Archives that are indexed one after another.
-use Rattle.query_core.proofs.Words.{[], ◌++◌, ◌+◌, ◌<◌, ◌∙◌, ◌∷◌, ◌≡◌, AllZip, Bool, Err, IsIndex, LINE_LIMIT, List}
-use Rattle.query_core.proofs.Words.{None, Option, ap, append-nil, append_assoc, arith, drop, each_join, get_or}
-use Rattle.query_core.proofs.Words.{length, length-append, length-map, map, take, ℕ}
+use Rattle.query_core.proofs.Words.{[], ℕ, ◌++◌, ◌+◌, ◌<◌, ◌∙◌, ◌∷◌, ◌≡◌, AllZip, Bool, Err, IsIndex, LINE_LIMIT, List}
+use Rattle.query_core.proofs.Words.{None, Option, ap, append-nil, append_assoc, arith, drop, each_join, get_or, length}
+use Rattle.query_core.proofs.Words.{length-append, length-map, map, take}
 use Rattle.std.proofs.Common.{set}
-use Rattle.std.proofs.lemmas.List.{take_more, get_or-map, map-set, set-get_or}
+use Rattle.std.proofs.lemmas.List.{get_or-map, map-set, set-get_or, take_more}
 use Rattle.warc_core.specs.Kind.{Kind}
 use Rattle.cdxj_core.specs.Entries.{EntryValue}
 use Rattle.index_core.specs.declared.fault.IndexFault.{IndexFault}
-use Rattle.index_core.specs.Counting.{CountsIndex}
-use Rattle.index_core.specs.Indexing.{Held}
+use Rattle.index_core.specs.{Counting.CountsIndex, Indexing.Held}
 use Rattle.capture_core.specs.declared.types.Types.{Types}
 use Rattle.capture_core.specs.Types.{includes}
 use Rattle.merge_core.proofs.Many.{map_set_same}
-use Rattle.merge_core.proofs.CountLemmas.{left_here, left_after}
+use Rattle.merge_core.proofs.CountLemmas.{left_after, left_here}
 use Rattle.scan_core.specs.declared.fault.ScanFault.TheVariants.{Archive}
-use Rattle.scan_core.specs.Archives.{IsNewName, AreNewNames, AreCapturesOf, AreCapturesOfEach, HaveLines, AreIndexed}
-use Rattle.scan_core.specs.Archives.{HasIndex, HaveIndexes, IsFaultOfArchive, IsFirstFault, IsNameFault, index_members}
-use Rattle.scan_core.specs.Failures.{CountsAt}
-use Rattle.scan_core.specs.Scanning.{LeavesUnread}
+use Rattle.scan_core.specs.Archives.{AreCapturesOf, AreCapturesOfEach, AreIndexed, AreNewNames, HasIndex, HaveIndexes}
+use Rattle.scan_core.specs.Archives.{HaveLines, IsFaultOfArchive, IsFirstFault, IsNameFault, IsNewName, index_members}
+use Rattle.scan_core.specs.{Failures.CountsAt, Scanning.LeavesUnread}
 
 names_push : (earlier names : List (List ℕ)) (name : List ℕ) → AreNewNames earlier names
     → IsNewName (earlier ++ names) name → AreNewNames earlier (names ++ name ∷ [])

@@ -1,23 +1,21 @@
 -- The captures of archives, and the pages that a scan writes of them.
-use Rattle.query_core.proofs.Words.{[], ◌++◌, ◌∷◌, ◌≡◌, AllByRecursion, AllZip, Bool, Err, IsIndex}
-use Rattle.query_core.proofs.Words.{Known, LINE_LIMIT, List, Member, Ok, Option, QueryValue, append-nil, arith}
-use Rattle.query_core.proofs.Words.{collection, each_join, each_weaker, false, flat_map, length, lines_text, map}
-use Rattle.query_core.proofs.Words.{map-append, member_place, place_cmp, place_cmp_total, refl, ℕ}
+use Rattle.query_core.proofs.Words.{[], ℕ, ◌++◌, ◌∷◌, ◌≡◌, AllByRecursion, AllZip, Bool, Err, IsIndex, Known}
+use Rattle.query_core.proofs.Words.{LINE_LIMIT, List, Member, Ok, Option, QueryValue, append-nil, arith, collection}
+use Rattle.query_core.proofs.Words.{each_join, each_weaker, false, flat_map, length, lines_text, map, map-append}
+use Rattle.query_core.proofs.Words.{member_place, place_cmp, place_cmp_total, refl}
 use Rattle.std.proofs.Common.{Equal}
-use Rattle.cdxj_places.proofs.PlaceOrder.{same_place}
-use Rattle.cdxj_places.proofs.RisingAlike.{rising_referred}
+use Rattle.cdxj_places.proofs.{PlaceOrder.same_place, RisingAlike.rising_referred}
 use Rattle.cdxj_core.specs.Entries.{EntryValue, entry_place}
 use Rattle.cdxj_core.specs.Members.{entry_member}
-use Rattle.index_core.specs.Indexing.{entries_text, in_places, index_text, AreNamed, HaveOwnPlaces, is_among}
-use Rattle.query_core.proofs.ComposeLemmas.{rising_parts}
-use Rattle.scan_core.specs.Archives.{index_members, AreNewNames, AreCapturesOfEach, HaveLines, HaveIndexes}
+use Rattle.index_core.specs.Indexing.{AreNamed, HaveOwnPlaces, entries_text, in_places, index_text, is_among}
+use Rattle.query_core.proofs.{ComposeLemmas.rising_parts, PageChains.wrote_one}
+use Rattle.scan_core.specs.Archives.{AreCapturesOfEach, AreNewNames, HaveIndexes, HaveLines, index_members}
 use Rattle.scan_core.specs.Captures.{all_captures, captured_lines}
 use Rattle.warc_core.specs.Kind.{Kind}
-use Rattle.index_core.proofs.SoundLemmas.{among_more, among_last}
+use Rattle.index_core.proofs.SoundLemmas.{among_last, among_more}
 use Rattle.scan_core.specs.Scanning.{IsAsked, Scanned, ScannedInPart, WritesKnownPages}
 use Rattle.index_core.specs.Laws.{OneIndexed}
 use Rattle.query_core.specs.declared.fault.AnswerFault.{AnswerFault}
-use Rattle.query_core.proofs.PageChains.{wrote_one}
 use Rattle.scan_core.specs.Laws.{ScanIsOne}
 
 -- ---- the collection of several indexes is that of all captures

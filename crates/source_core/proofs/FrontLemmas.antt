@@ -1,11 +1,12 @@
 -- What the first bytes of a line say of its pair.
-use Rattle.source_core.proofs.Words.{ℕ, length, Option, take_at, take_all, drop_all, pair_of, is_below, NoFeed, ReadsOn}
-use Rattle.source_core.proofs.Words.{Bool, true, List, ◌++◌, take, drop, Some, None, refl, arith, lines, Pair, PartOf}
-use Rattle.source_core.proofs.Words.{◌≡◌, ◌+◌, ◌-◌, ◌<◌, ◌≤◌, not, [], ◌∷◌}
-use Rattle.source_core.proofs.Words.{option_map, append-nil, take-take, line_below, stops_lines, BeginsWith, after_line}
+use Rattle.source_core.proofs.Words.{[], ℕ, ◌++◌, ◌+◌, ◌-◌, ◌<◌, ◌∷◌, ◌≡◌, ◌≤◌, BeginsWith, Bool, List, NoFeed, None}
+use Rattle.source_core.proofs.Words.{Option, Pair, PartOf, ReadsOn, Some, after_line, append-nil, arith, drop, drop_all}
+use Rattle.source_core.proofs.Words.{is_below, length, line_below, lines, not, option_map, pair_of, refl, stops_lines}
+use Rattle.source_core.proofs.Words.{take, take-take, take_all, take_at, true}
 use Rattle.std.proofs.Math.Seq.{take-append-add}
 use Rattle.cdxj_places.proofs.PairLemmas.{pair_longer}
-use Rattle.source_core.proofs.{Parts.ended, Parts.goes_on, Parts.lines_last, Seeks.head_line, Seeks.lines_first}
+use Rattle.source_core.proofs.Parts.{ended, goes_on, lines_last}
+use Rattle.source_core.proofs.Seeks.{head_line, lines_first}
 
 -- ---- reading on
 

@@ -1,7 +1,7 @@
 -- The steps of a search.
-use Rattle.source_core.proofs.Words.{◌≡◌, ℕ, ◌+◌, ◌-◌, ◌/◌, ◌<◌, ◌≤◌, List, length, drop, true, false, Option, Some}
-use Rattle.source_core.proofs.Words.{None, IfSome, IfNone, inr, arith, drop_all, IsIndex, Member, Pair, lines}
-use Rattle.source_core.proofs.Words.{from_line, BeginsAfter, Halved, HalvedIn, digits, stops, line_below, IsCut, IsStop}
+use Rattle.source_core.proofs.Words.{ℕ, ◌+◌, ◌-◌, ◌/◌, ◌<◌, ◌≡◌, ◌≤◌, BeginsAfter, Halved, HalvedIn, IfNone, IfSome}
+use Rattle.source_core.proofs.Words.{IsCut, IsIndex, IsStop, List, Member, None, Option, Pair, Some, arith, digits}
+use Rattle.source_core.proofs.Words.{drop, drop_all, false, from_line, inr, length, line_below, lines, stops, true}
 use Rattle.source_core.specs.declared.seeking.Span.{Span}
 use Rattle.source_core.proofs.LongestLines.{far_first, far_here, far_longest}
 use Rattle.source_core.proofs.Seeks.{digits_below, from_line_end, half_step}

@@ -1,7 +1,7 @@
-use Rattle.source_core.proofs.Words.{◌≡◌, ℕ, ◌+◌, ◌-◌, ◌<◌, ◌≤◌, List, [], ◌∷◌, ◌++◌, length, take, drop, refl, sym}
-use Rattle.source_core.proofs.Words.{ap₂, ◌∙◌, arith, true, false, Option, append_assoc, append-nil, drop-drop}
-use Rattle.source_core.proofs.Words.{take-append-drop, length-drop, drop-take, take-take, take_all, drop_all, lines}
-use Rattle.source_core.proofs.Words.{NoFeed, PartOf, AreBytesAt}
+use Rattle.source_core.proofs.Words.{[], ℕ, ◌++◌, ◌+◌, ◌-◌, ◌<◌, ◌∙◌, ◌∷◌, ◌≡◌, ◌≤◌, AreBytesAt, List, NoFeed, Option}
+use Rattle.source_core.proofs.Words.{PartOf, append-nil, append_assoc, ap₂, arith, drop, drop-drop, drop-take, drop_all}
+use Rattle.source_core.proofs.Words.{false, length, length-drop, lines, refl, sym, take, take-append-drop, take-take}
+use Rattle.source_core.proofs.Words.{take_all, true}
 
 -- a line that ends with its LF
 pub lines_front : (u v : List ℕ) → NoFeed u → lines (u ++ 10 ∷ v) ≡ (u ++ 10 ∷ []) ∷ lines v

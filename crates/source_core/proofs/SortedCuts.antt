@@ -1,16 +1,16 @@
 -- Indexes, cut at a pair.
-use Rattle.source_core.proofs.Words.{◌≡◌, suc, ◌+◌, ◌-◌, ◌*◌, ◌^◌, ◌<◌, ◌≤◌, ◌∷◌, not, drop, map, Some, refl, sym, Pair}
-use Rattle.source_core.proofs.Words.{ℕ, length-append, AllByRecursion, flat_map-append, begins_with_pair, is_some_below}
-use Rattle.source_core.proofs.Words.{zero, List, ◌++◌, Bool, true, None, cond, take, arith, is_gt, lines, IsCut, stops}
-use Rattle.source_core.proofs.Words.{[], Member, IsIndex, is_key, pair_of, IsLeast, pair_cmp, longest, is_below, digits}
-use Rattle.source_core.proofs.Words.{false, length-drop, length-take, member_pair, line_entry, BeginsAfter, stops_lines}
-use Rattle.source_core.proofs.Words.{length, flat_map, and_parts, take_all, key_part, stamp_part, from_line, line_below}
-use Rattle.source_core.proofs.{Words.ap, Words.◌∙◌, Seeks.digits_below}
+use Rattle.source_core.proofs.Words.{[], ℕ, ◌*◌, ◌++◌, ◌+◌, ◌-◌, ◌<◌, ◌^◌, ◌∙◌, ◌∷◌, ◌≡◌, ◌≤◌, AllByRecursion}
+use Rattle.source_core.proofs.Words.{BeginsAfter, Bool, IsCut, IsIndex, IsLeast, List, Member, None, Pair, Some}
+use Rattle.source_core.proofs.Words.{and_parts, ap, arith, begins_with_pair, cond, digits, drop, false, flat_map}
+use Rattle.source_core.proofs.Words.{flat_map-append, from_line, is_below, is_gt, is_key, is_some_below, key_part}
+use Rattle.source_core.proofs.Words.{length, length-append, length-drop, length-take, line_below, line_entry, lines}
+use Rattle.source_core.proofs.Words.{longest, map, member_pair, not, pair_cmp, pair_of, refl, stamp_part, stops}
+use Rattle.source_core.proofs.Words.{stops_lines, suc, sym, take, take_all, true, zero}
+use Rattle.source_core.proofs.Seeks.{BelowFirst, digits_below, from_line_rest, sought}
 use Rattle.std.proofs.Math.Pow.{pow_mono}
-use Rattle.cdxj_core.proofs.MemberLemmas.{entry_pair_is, entry_is_short}
+use Rattle.cdxj_core.proofs.MemberLemmas.{entry_is_short, entry_pair_is}
 use Rattle.cdxj_places.specs.Rising.{NeverFalls}
 use Rattle.cdxj_places.proofs.PairLemmas.{pair_cmp_total}
-use Rattle.source_core.proofs.Seeks.{from_line_rest, sought, BelowFirst}
 
 -- ---- where lines begin
 

@@ -1,15 +1,16 @@
 -- Bytes that a window holds.
-use Rattle.source_core.proofs.Words.{common_steps, length-take, length-append, cond-false, AreBytesAt, ◌≡◌, CursorState}
-use Rattle.source_core.proofs.Words.{Bool, List, ◌++◌, ◌-◌, ◌≤◌, take, drop, min, Some, inl, inr, true, refl, lines, ap}
-use Rattle.source_core.proofs.Words.{BeginsWith, [], drop-drop, cond_both, ltb-false, drop-take, prefix_len, IsHeldLine}
-use Rattle.source_core.proofs.Words.{length, Option, le-ltb, Holds, PartOf, ◌+◌, arith, Stands, NoFeed, get_or, body_of}
-use Rattle.source_core.proofs.Words.{cases_lt, drop_all, ReadsOn, take-take, HeldBytes, held_from, list_all, take_more}
+use Rattle.source_core.proofs.Words.{[], ℕ, ◌++◌, ◌+◌, ◌-◌, ◌<◌, ◌∷◌, ◌≡◌, ◌≤◌, AreBytesAt, BeginsWith, Bool}
+use Rattle.source_core.proofs.Words.{CursorState, HeldBytes, Holds, IsHeldLine, List, NoFeed, Option, PartOf, ReadsOn}
+use Rattle.source_core.proofs.Words.{Some, Stands, ap, arith, body_of, cases_lt, common_steps, cond-false, cond_both}
+use Rattle.source_core.proofs.Words.{drop, drop-drop, drop-take, drop_all, get_or, held_from, inl, inr, le-ltb, length}
+use Rattle.source_core.proofs.Words.{length-append, length-take, lines, list_all, ltb-false, min, prefix_len, refl}
+use Rattle.source_core.proofs.Words.{take, take-take, take_more, true}
 use Rattle.std.specs.Prelude.{ltb}
 use Rattle.source_core.specs.declared.source.Source.{Ghosts}
-use Rattle.source_core.proofs.{Words.ℕ, Words.◌<◌, Words.◌∷◌, FrontLemmas.reads_on, Parts.given_out}
+use Rattle.source_core.proofs.FrontLemmas.{reads_on}
+use Rattle.source_core.proofs.Parts.{ended, given_more, given_out}
 use Rattle.cdxj_core.proofs.{EntryRead.body_of-feed, UnescapedAscii.unescaped_front}
 use Rattle.cdxj_core.specs.Plain.{is_unescaped_ascii}
-use Rattle.source_core.proofs.Parts.{ended, given_more, given_out}
 
 -- a source was read and did not fail, and the window holds bytes of it
 pub record HasRead {S : Type 0} (device : Ghosts S) (old new : S) (window : HeldBytes) : Type 0 where

@@ -1,13 +1,13 @@
-use Rattle.merge_core.proofs.Words.{◌++◌, ◌-◌, ◌^◌, Bool, List, Pair, arith, false, inputs, filter, length, refl, true}
-use Rattle.merge_core.proofs.Words.{AllByRecursion, AppendsPrefix, err_from_is_err_and, flat_map-append, prefix_longer}
-use Rattle.merge_core.proofs.Words.{Appends, AreLinesOf, MergeInput, MergeState, append-nil, CursorState, each_weaker}
-use Rattle.merge_core.proofs.Words.{[], ℕ, ◌∷◌, ◌≡◌, ap, inl, inr, map, min, sym, zip}
-use Rattle.merge_core.proofs.Words.{KeepsSources, OverIndexes, member_pair, Appends-none, prefix_whole, wrote_nothing}
-use Rattle.merge_core.proofs.Words.{Member, Option, Reached, collection, length-map, lines_text, true≢false, cases_Bool}
-use Rattle.merge_core.proofs.TakenLemmas.{took_of_indexes, none_wait, taken_first, IsUpward, taken_whole, took_of_parts}
-use Rattle.merge_core.proofs.SourceLemmas.{none_below_empty, taken_lines, indexes_read, reached_read, cut_at_start}
-use Rattle.merge_core.proofs.SourceLemmas.{gave_once, all_kept, starts_kept, parts}
-use Rattle.merge_core.proofs.{StateLemmas.cursors_of, OpenLemmas.begun_of, Many.each_second}
+use Rattle.merge_core.proofs.Words.{[], ℕ, ◌++◌, ◌-◌, ◌^◌, ◌∷◌, ◌≡◌, AllByRecursion, Appends, Appends-none}
+use Rattle.merge_core.proofs.Words.{AppendsPrefix, AreLinesOf, Bool, CursorState, KeepsSources, List, Member}
+use Rattle.merge_core.proofs.Words.{MergeInput, MergeState, Option, OverIndexes, Pair, Reached, ap, append-nil, arith}
+use Rattle.merge_core.proofs.Words.{cases_Bool, collection, each_weaker, err_from_is_err_and, false, filter}
+use Rattle.merge_core.proofs.Words.{flat_map-append, inl, inputs, inr, length, length-map, lines_text, map, member_pair}
+use Rattle.merge_core.proofs.Words.{min, prefix_longer, prefix_whole, refl, sym, true, true≢false, wrote_nothing, zip}
+use Rattle.merge_core.proofs.TakenLemmas.{IsUpward, none_wait, taken_first, taken_whole, took_of_indexes, took_of_parts}
+use Rattle.merge_core.proofs.SourceLemmas.{all_kept, cut_at_start, gave_once, indexes_read, none_below_empty, parts}
+use Rattle.merge_core.proofs.SourceLemmas.{reached_read, starts_kept, taken_lines}
+use Rattle.merge_core.proofs.{Many.each_second, OpenLemmas.begun_of, StateLemmas.cursors_of}
 use Rattle.merge_core.proofs.indexes.merge_indexes.Goals.{After-merge, In_err-merge, In_ok-merge}
 use Rattle.merge_core.proofs.indexes.merge_indexes.Goals as goal
 

@@ -1,8 +1,9 @@
-use Rattle.merge_core.proofs.Words.{ℕ, boxed_lines, each_rising, length-map, member_pair, member_place, place_cmp_total}
-use Rattle.merge_core.proofs.Words.{Grouped, Member, Reached, arith, length, place_cmp, rising, grows_not, HoldsFew}
-use Rattle.merge_core.proofs.Words.{◌++◌, ◌+◌, ◌-◌, ◌^◌, ◌∷◌, ◌≡◌, List, Some, inl, inr, min, refl, max}
-use Rattle.merge_core.proofs.{CountLemmas.held_most, CountLemmas.reached_read_to, Many.moved_trans}
-use Rattle.merge_core.proofs.MergeLemmas.{below_next, broken_there, halted_there, reached_next, reached_same, on_fault}
+use Rattle.merge_core.proofs.Words.{ℕ, ◌++◌, ◌+◌, ◌-◌, ◌^◌, ◌∷◌, ◌≡◌, Grouped, HoldsFew, List, Member, Reached, Some}
+use Rattle.merge_core.proofs.Words.{arith, boxed_lines, each_rising, grows_not, inl, inr, length, length-map, max}
+use Rattle.merge_core.proofs.Words.{member_pair, member_place, min, place_cmp, place_cmp_total, refl, rising}
+use Rattle.merge_core.proofs.CountLemmas.{held_most, reached_read_to}
+use Rattle.merge_core.proofs.Many.{moved_trans}
+use Rattle.merge_core.proofs.MergeLemmas.{below_next, broken_there, halted_there, on_fault, reached_next, reached_same}
 use Rattle.merge_core.proofs.merging.merge.Goals.{After-pass_group}
 use Rattle.merge_core.proofs.merging.merge.Goals as goal
 

@@ -1,4 +1,4 @@
-use Rattle.merge_core.proofs.Words.{[], ◌≡◌, SoFar, map, to_come, HoldsFew}
+use Rattle.merge_core.proofs.Words.{[], ◌≡◌, HoldsFew, SoFar, map, to_come}
 use Rattle.merge_core.proofs.merging.merge.Given as goal
 
 abbrev pub invariant-loop-rest : goal.invariant-loop-rest

@@ -1,4 +1,4 @@
-use Rattle.merge_core.proofs.{Words.arith, PairOrder.begins}
+use Rattle.merge_core.proofs.{PairOrder.begins, Words.arith}
 use Rattle.merge_core.proofs.pair_start.pair_bytes.Goals as goal
 
 pub slice_bounds-result-end : goal.slice_bounds-result-end

@@ -1,4 +1,5 @@
-use Rattle.merge_core.proofs.{Words.ap, Words.◌∙◌, PairOrder.are_bytes, PairOrder.padded_long}
+use Rattle.merge_core.proofs.Words.{◌∙◌, ap}
+use Rattle.merge_core.proofs.PairOrder.{are_bytes, padded_long}
 use Rattle.cdxj_places.specs.Abbreviated.{words}
 use Rattle.merge_core.proofs.pair_start.start_of.Goals as goal
 

@@ -1,13 +1,12 @@
-use Rattle.query_core.proofs.Words.{[], ◌++◌, ◌∙◌, ◌≡◌, AreAtMost, GaveInReach, Grows, List, Member, Option}
+use Rattle.query_core.proofs.Words.{[], ℕ, ◌++◌, ◌∙◌, ◌≡◌, AreAtMost, GaveInReach, Grows, List, Member, Option}
 use Rattle.query_core.proofs.Words.{OverIndexes, ap, append-nil, arith, err_from_is_err_and, grows_by, grows_part}
-use Rattle.query_core.proofs.Words.{is_some, length-map, map, query_page, refl, sym, true, wrote_nothing, ℕ}
-use Rattle.query_core.proofs.PagesReach.{no_more, Writing, end_front, of_none, of_taken, page_ended, passed}
-use Rattle.query_core.proofs.PagesReach.{page_fewer, page_reached, answer_front, answer_rules, broke_front, within}
+use Rattle.query_core.proofs.Words.{is_some, length-map, map, query_page, refl, sym, true, wrote_nothing}
+use Rattle.query_core.proofs.PagesReach.{Writing, answer_front, answer_rules, broke_front, end_front, no_more, of_none}
+use Rattle.query_core.proofs.PagesReach.{of_taken, page_ended, page_fewer, page_reached, passed, within}
 use Rattle.page_core.proofs.PageLemmas.{front-start}
 use Rattle.query_core.proofs.answering.answer.Given.{Over}
-use Rattle.query_core.proofs.answering.answer.Goals.{In_ok-writer, In_ok-pass}
-use Rattle.query_core.proofs.PagesLemmas.{page}
-use Rattle.query_core.proofs.WriterLemmas.{captures}
+use Rattle.query_core.proofs.answering.answer.Goals.{In_ok-pass, In_ok-writer}
+use Rattle.query_core.proofs.{PagesLemmas.page, WriterLemmas.captures}
 use Rattle.query_core.proofs.answering.answer.Goals as goal
 
 -- ---- the writer

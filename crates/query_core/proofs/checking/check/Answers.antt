@@ -1,5 +1,5 @@
 use Rattle.query_core.proofs.Words.{◌∙◌, arith, sym, true≢false}
-use Rattle.query_core.proofs.CheckLemmas.{checked_more, checked_whole, checked_falls, checked_fault}
+use Rattle.query_core.proofs.CheckLemmas.{checked_falls, checked_fault, checked_more, checked_whole}
 use Rattle.query_core.proofs.checking.check.Goals as goal
 
 pub returns-in-Err-clause-checked : goal.returns-in-Err-clause-checked

@@ -1,4 +1,4 @@
-use Rattle.query_core.proofs.Words.{◌+◌, ◌-◌, ◌≡◌, ◌≤◌, List, Some, ℕ, length, option_map}
+use Rattle.query_core.proofs.Words.{ℕ, ◌+◌, ◌-◌, ◌≡◌, ◌≤◌, List, Some, length, option_map}
 use Rattle.source_core.specs.Cursors.{Stands, reach}
 use Rattle.query_core.proofs.CheckLemmas.{CheckedTo}
 use Rattle.query_core.proofs.checking.check.Given as goal

@@ -1,7 +1,6 @@
 use Rattle.query_core.proofs.Words.{chain_law, matches, member_place, place_cmp, place_cmp_total, rises_collapsed}
 use Rattle.query_core.proofs.Words.{rises_filter, same_part, selected}
-use Rattle.query_core.proofs.PageChains.{captures_wanted}
-use Rattle.query_core.proofs.WriterLemmas.{captures_are}
+use Rattle.query_core.proofs.{PageChains.captures_wanted, WriterLemmas.captures_are}
 use Rattle.query_core.proofs.laws.pages_rise.Goals as goal
 
 pub returns : goal.returns

@@ -1,15 +1,14 @@
-use Rattle.query_core.proofs.Words.{[], ◌∙◌, ◌≡◌, AllPositive, GaveInPages, Grows, List, Member, Option, OverIndexes}
+use Rattle.query_core.proofs.Words.{[], ℕ, ◌∙◌, ◌≡◌, AllPositive, GaveInPages, Grows, List, Member, Option, OverIndexes}
 use Rattle.query_core.proofs.Words.{Rises, Some, WrotePages, append-nil, arith, err_from_is_err_and, first_size}
 use Rattle.query_core.proofs.Words.{grows_by, grows_part, map, member_place, no_pages, place_cmp, rules, sym, true}
-use Rattle.query_core.proofs.Words.{true≢false, wrote_nothing, ℕ}
+use Rattle.query_core.proofs.Words.{true≢false, wrote_nothing}
 use Rattle.std.proofs.lemmas.Bool.{true_from_ne_false}
-use Rattle.query_core.proofs.PagesReach.{Writing, collection_rises, of_none, of_taken, passed, all_ended, at_end}
-use Rattle.query_core.proofs.PagesReach.{stood_pages, pages_reached, broke_front, never_enough}
+use Rattle.query_core.proofs.PagesReach.{Writing, all_ended, at_end, broke_front, collection_rises, never_enough}
+use Rattle.query_core.proofs.PagesReach.{of_none, of_taken, pages_reached, passed, stood_pages}
 use Rattle.query_core.proofs.PagesLemmas.{all_positive, front_more, is_sized}
 use Rattle.query_core.proofs.paging.pages.Given.{Over}
 use Rattle.query_core.proofs.paging.pages.Goals.{In_ok-end, In_ok-read_lines, In_ok-writer}
-use Rattle.query_core.proofs.PageChains.{wrote_part}
-use Rattle.query_core.proofs.WriterLemmas.{captures}
+use Rattle.query_core.proofs.{PageChains.wrote_part, WriterLemmas.captures}
 use Rattle.query_core.proofs.paging.pages.Goals as goal
 
 abbrev begin : (g : Over) (c : In_ok-writer g) → Writing c.args.query.now (Some (first_size c.args.sizes.now))

@@ -1,8 +1,8 @@
 use Rattle.query_core.proofs.Words.{[], ◌++◌, ◌∙◌, ◌≡◌, Bool, List, Member, ReadFor, Some, ap, append-nil, arith}
 use Rattle.query_core.proofs.Words.{err_from_is_err_and, false, grows_not, inl, length-map, map, refl, sym, true}
 use Rattle.query_core.proofs.WriterLemmas.{captures, captures_append}
-use Rattle.query_core.proofs.ReachLemmas.{Opened, reading, known_opened, cut_all, cut_before, cut_last, gave_upto}
-use Rattle.query_core.proofs.ReachLemmas.{gave_within, lines_within, of_parts, took, within_opening}
+use Rattle.query_core.proofs.ReachLemmas.{Opened, cut_all, cut_before, cut_last, gave_upto, gave_within, known_opened}
+use Rattle.query_core.proofs.ReachLemmas.{lines_within, of_parts, reading, took, within_opening}
 use Rattle.query_core.specs.Passes.{WantedMore}
 use Rattle.query_core.proofs.pass.read_lines.Given.{Over}
 use Rattle.query_core.proofs.pass.read_lines.Goals.{In_ok-opened}

@@ -1,8 +1,8 @@
 use Rattle.query_core.proofs.Words.{arith, err_from_is_err_and, refl, true}
 use Rattle.devices.proofs.Takings.{taken-join}
-use Rattle.query_core.proofs.ReplyLemmas.{spent_none, spent_more, spent_within, input_stops, line_more, line_none}
-use Rattle.query_core.proofs.ReplyLemmas.{line_within, one_reply, one_reply_part, replied_front, replied_none}
-use Rattle.query_core.proofs.ReplyLemmas.{replied_taken, serve_rules}
+use Rattle.query_core.proofs.ReplyLemmas.{input_stops, line_more, line_none, line_within, one_reply, one_reply_part}
+use Rattle.query_core.proofs.ReplyLemmas.{replied_front, replied_none, replied_taken, serve_rules, spent_more}
+use Rattle.query_core.proofs.ReplyLemmas.{spent_none, spent_within}
 use Rattle.query_core.proofs.serving.serve.Goals as goal
 
 -- ---- a line isn't read

@@ -1,6 +1,6 @@
 use Rattle.query_core.proofs.Words.{◌+◌, ◌-◌, ◌<◌, ◌^◌, ◌≡◌, ◌≤◌, CountsTaken, IsTextReply, KeepsSources, OverIndexes}
 use Rattle.query_core.proofs.Words.{QUERY_LIMIT, map, prepend_known}
-use Rattle.query_core.proofs.ReplyLemmas.{Spent, RepliedSoFar}
+use Rattle.query_core.proofs.ReplyLemmas.{RepliedSoFar, Spent}
 use Rattle.query_core.proofs.serving.serve.Given as goal
 
 abbrev pub invariant-loop-lines : goal.invariant-loop-lines

@@ -1,4 +1,4 @@
-use Rattle.query_core.proofs.Words.{◌↔◌, ◌≡◌, Err, List, Ok, arith, cases_lt, err_from_is_err_and, length, true, ℕ}
+use Rattle.query_core.proofs.Words.{ℕ, ◌↔◌, ◌≡◌, Err, List, Ok, arith, cases_lt, err_from_is_err_and, length, true}
 use Rattle.std.proofs.Common.{Result}
 use Rattle.index_core.specs.declared.fault.IndexFault.{IndexFault}
 use Rattle.index_core.specs.declared.fault.IndexFault.TheVariants.{BadName, DuplicateName}

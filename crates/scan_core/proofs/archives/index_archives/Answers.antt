@@ -1,8 +1,8 @@
-use Rattle.std.proofs.Common.{[], length, refl, ap, arith, string_bytes}
+use Rattle.std.proofs.Common.{[], ap, arith, length, refl, string_bytes}
 use Rattle.std.proofs.lemmas.List.{length-map, take_all}
 use Rattle.index_core.specs.declared.fault.IndexFault.TheVariants.{Memory}
 use Rattle.merge_core.proofs.Many.{map_set_same}
-use Rattle.scan_core.proofs.ArchiveLemmas.{first_fault, counts_at, unread_at, one_more}
+use Rattle.scan_core.proofs.ArchiveLemmas.{counts_at, first_fault, one_more, unread_at}
 use Rattle.scan_core.proofs.archives.index_archives.Goals as goal
 
 pub loop-i-init : goal.loop-i-init

@@ -1,5 +1,5 @@
 use Rattle.query_core.proofs.Words.{arith, err_from_is_err_and, length-map}
-use Rattle.scan_core.proofs.ScanLemmas.{scanned_whole, scanned_part}
+use Rattle.scan_core.proofs.ScanLemmas.{scanned_part, scanned_whole}
 use Rattle.scan_core.proofs.scanning.scan.Goals as goal
 
 pub returns-clause-scanned : goal.returns-clause-scanned

@@ -1,14 +1,12 @@
-use Rattle.query_core.proofs.Words.{[], ◌∙◌, ◌∷◌, ◌≡◌, ◌≤◌, AllZip, Err, IsAnswerFaultOf, IsIndex, Known, LINE_LIMIT}
+use Rattle.query_core.proofs.Words.{[], ℕ, ◌∙◌, ◌∷◌, ◌≡◌, ◌≤◌, AllZip, Err, IsAnswerFaultOf, IsIndex, Known, LINE_LIMIT}
 use Rattle.query_core.proofs.Words.{List, Member, Ok, Option, Some, ap, arith, collection, get_or, length, length-map}
-use Rattle.query_core.proofs.Words.{map, nat_tests, refl, same_part, selected, suc, true, wrote_nothing, ℕ}
-use Rattle.std.proofs.Common.{Result, IfErr}
+use Rattle.query_core.proofs.Words.{map, nat_tests, refl, same_part, selected, suc, true, wrote_nothing}
+use Rattle.std.proofs.Common.{IfErr, Result}
 use Rattle.devices.specs.Device.{next_count}
 use Rattle.merge_core.specs.Failures.{RaisedAt}
-use Rattle.query_core.specs.AnswerCounts.{CountsAnswer}
+use Rattle.query_core.specs.{AnswerCounts.CountsAnswer, Paging.are_sizes, QueryLaws.NoLineIsAtFault}
 use Rattle.query_core.specs.declared.fault.AnswerFault.{AnswerFault}
 use Rattle.query_core.specs.declared.merging.TheConstants.{SOURCES_LIMIT}
-use Rattle.query_core.specs.Paging.{are_sizes}
-use Rattle.query_core.specs.QueryLaws.{NoLineIsAtFault}
 use Rattle.query_core.specs.Refusals.{Refuses, bad_sizes_or_too_many}
 use Rattle.std.proofs.lemmas.List.{get_or-set_same}
 use Rattle.scan_core.specs.Scanning.{IsPagesFault}

@@ -1,5 +1,5 @@
-use Rattle.source_core.proofs.Words.{common_steps, ◌≡◌, ◌+◌, ◌≤◌, ℕ, Some, List, arith, AreBytesAt, lines, longest}
-use Rattle.source_core.proofs.Pieces.{IsPiece, nowhere_in, found_in, begins_in}
+use Rattle.source_core.proofs.Words.{ℕ, ◌+◌, ◌≡◌, ◌≤◌, AreBytesAt, List, Some, arith, common_steps, lines, longest}
+use Rattle.source_core.proofs.Pieces.{IsPiece, begins_in, found_in, nowhere_in}
 use Rattle.source_core.proofs.{LongestLines.gap_most, WindowLemmas.held_stands}
 use Rattle.source_core.proofs.line_start.next_line_start.Goals.{After-min-count, After-min-most}
 use Rattle.source_core.proofs.line_start.next_line_start.Goals as goal

@@ -1,6 +1,6 @@
-use Rattle.source_core.proofs.Words.{◌≡◌, ◌+◌, ◌-◌, ◌/◌, refl, arith, sym, ◌∙◌}
+use Rattle.source_core.proofs.Words.{◌+◌, ◌-◌, ◌/◌, ◌∙◌, ◌≡◌, arith, refl, sym}
 use Rattle.source_core.proofs.Seeks.{digits_below}
-use Rattle.source_core.proofs.HalvingSteps.{halves_down, halves_up, halves_hidden, halves_none}
+use Rattle.source_core.proofs.HalvingSteps.{halves_down, halves_hidden, halves_none, halves_up}
 use Rattle.source_core.proofs.seeking.halve.Goals as goal
 
 pub overflow_add-probes : goal.overflow_add-probes

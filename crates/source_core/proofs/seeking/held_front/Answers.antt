@@ -1,4 +1,4 @@
-use Rattle.source_core.proofs.Words.{rules, ◌≡◌, ◌+◌, [], arith, length-take, AreBytesAt}
+use Rattle.source_core.proofs.Words.{[], ◌+◌, ◌≡◌, AreBytesAt, arith, length-take, rules}
 use Rattle.source_core.proofs.WindowLemmas.{held_reads, held_stands, nothing_read}
 use Rattle.source_core.proofs.seeking.held_front.Goals as goal
 

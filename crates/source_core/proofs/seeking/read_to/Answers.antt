@@ -1,4 +1,4 @@
-use Rattle.source_core.proofs.{Words.arith, LongestLines.front_most}
+use Rattle.source_core.proofs.{LongestLines.front_most, Words.arith}
 use Rattle.source_core.proofs.seeking.read_to.Goals as goal
 
 pub returns-in_err-ends : goal.returns-in_err-ends

@@ -1,4 +1,4 @@
-use Rattle.source_core.proofs.Words.{◌≡◌, ◌+◌, ◌-◌, ◌≤◌, ℕ, List, length, Some, BeginsWith}
+use Rattle.source_core.proofs.Words.{ℕ, ◌+◌, ◌-◌, ◌≡◌, ◌≤◌, BeginsWith, List, Some, length}
 use Rattle.source_core.proofs.WindowLemmas.{HasRead}
 use Rattle.source_core.proofs.seeking.read_to.Given as goal
 

@@ -1,5 +1,6 @@
-use Rattle.source_core.proofs.Words.{◌≡◌, ◌+◌, ◌-◌, ◌≤◌, List, length, false, Some, LINE_LIMIT, lines, longest, ReadsOn}
-use Rattle.source_core.proofs.{Words.ℕ, WindowLemmas.HasRead}
+use Rattle.source_core.proofs.Words.{ℕ, ◌+◌, ◌-◌, ◌≡◌, ◌≤◌, LINE_LIMIT, List, ReadsOn, Some, false, length, lines}
+use Rattle.source_core.proofs.Words.{longest}
+use Rattle.source_core.proofs.WindowLemmas.{HasRead}
 use Rattle.source_core.proofs.seeking.stops_at.Given as goal
 
 abbrev pub invariant-fronts : goal.invariant-fronts

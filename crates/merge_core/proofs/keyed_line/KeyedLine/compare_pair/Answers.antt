@@ -1,5 +1,5 @@
-use Rattle.merge_core.proofs.Words.{◌≡◌, member_pair, ordering_then, pair_cmp, subst, sym, IsStart}
-use Rattle.merge_core.proofs.PairOrder.{starts_decide, decided}
+use Rattle.merge_core.proofs.Words.{◌≡◌, IsStart, member_pair, ordering_then, pair_cmp, subst, sym}
+use Rattle.merge_core.proofs.PairOrder.{decided, starts_decide}
 use Rattle.merge_core.proofs.keyed_line.KeyedLine.compare_pair.Goals as goal
 
 pub returns-in_default : goal.returns-in_default

@@ -1,4 +1,5 @@
-use Rattle.merge_core.proofs.{Words.◌∷◌, Words.◌≡◌, Words.arith, Words.drop, Words.lines, InputLemmas.first_long}
+use Rattle.merge_core.proofs.Words.{◌∷◌, ◌≡◌, arith, drop, lines}
+use Rattle.merge_core.proofs.InputLemmas.{first_long}
 use Rattle.merge_core.proofs.line_buffers.LineBuffers.next_line.Goals as goal
 
 pub returns-in-Ok : goal.returns-in-Ok

@@ -1,10 +1,11 @@
-use Rattle.merge_core.proofs.Words.{[], Alike, EndsAt, IsInput, Member, each_join, input_of, filter, length, map-append}
-use Rattle.merge_core.proofs.Words.{◌++◌, Bool, List, Some, Upto, arith, done, false, given, is_lt, refl, stays, true}
-use Rattle.merge_core.proofs.Words.{AllByRecursion, append_assoc, boxed_lines, each_weaker, member_pair, pair_cmp_total}
-use Rattle.merge_core.proofs.Words.{ℕ, ◌∙◌, ◌∷◌, ◌≡◌, ◌≤◌, inl, inr, ReadTo}
-use Rattle.merge_core.proofs.InputLemmas.{all_inside, input_more, given_next, order_named, same_stays, settled_more}
-use Rattle.merge_core.proofs.InputLemmas.{LineRead, all_taken, all_upto, bad_named, done_next, input_end}
-use Rattle.merge_core.proofs.{PairOrder.from_not_below, PairOrder.upto_upto, CountLemmas.group_most}
+use Rattle.merge_core.proofs.Words.{[], ℕ, ◌++◌, ◌∙◌, ◌∷◌, ◌≡◌, ◌≤◌, Alike, AllByRecursion, Bool, EndsAt, IsInput, List}
+use Rattle.merge_core.proofs.Words.{Member, ReadTo, Some, Upto, append_assoc, arith, boxed_lines, done, each_join}
+use Rattle.merge_core.proofs.Words.{each_weaker, false, filter, given, inl, input_of, inr, is_lt, length, map-append}
+use Rattle.merge_core.proofs.Words.{member_pair, pair_cmp_total, refl, stays, true}
+use Rattle.merge_core.proofs.InputLemmas.{LineRead, all_inside, all_taken, all_upto, bad_named, done_next, given_next}
+use Rattle.merge_core.proofs.InputLemmas.{input_end, input_more, order_named, same_stays, settled_more}
+use Rattle.merge_core.proofs.PairOrder.{from_not_below, upto_upto}
+use Rattle.merge_core.proofs.CountLemmas.{group_most}
 use Rattle.merge_core.proofs.line_buffers.LineBuffers.read_group.Goals.{After-compare_pair, After-next_line}
 use Rattle.merge_core.proofs.line_buffers.LineBuffers.read_group.Goals as goal
 

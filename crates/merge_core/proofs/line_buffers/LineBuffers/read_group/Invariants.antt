@@ -1,5 +1,5 @@
 use Rattle.merge_core.proofs.Words.{[], ℕ, ◌++◌, ◌-◌, ◌≡◌, ◌≤◌, Alike, AllByRecursion, EndsAt, IsInput, List, Member}
-use Rattle.merge_core.proofs.Words.{Some, boxed_lines, input_of, given, member_pair, Moved}
+use Rattle.merge_core.proofs.Words.{Moved, Some, boxed_lines, given, input_of, member_pair}
 use Rattle.merge_core.proofs.line_buffers.LineBuffers.read_group.Given as goal
 
 abbrev pub invariant-loop-line : goal.invariant-loop-line

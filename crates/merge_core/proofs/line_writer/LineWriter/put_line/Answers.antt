@@ -1,4 +1,5 @@
-use Rattle.merge_core.proofs.{Words.arith, Words.grows_on, Words.prefix_longer, Words.grows_by, MergeLemmas.on_fault}
+use Rattle.merge_core.proofs.Words.{arith, grows_by, grows_on, prefix_longer}
+use Rattle.merge_core.proofs.MergeLemmas.{on_fault}
 use Rattle.merge_core.proofs.line_writer.LineWriter.put_line.Goals as goal
 
 pub returns-in_err-put-clause-text : goal.returns-in_err-put-clause-text

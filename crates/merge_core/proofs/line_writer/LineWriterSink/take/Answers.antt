@@ -1,7 +1,7 @@
-use Rattle.merge_core.proofs.Words.{ℕ, append-nil, length-append, lines_text, prefix_after, prefix_longer, Appends-join}
-use Rattle.merge_core.proofs.Words.{Appends, Member, Option, get_or, grows_on, length, line_row, map-append, map_more}
-use Rattle.merge_core.proofs.Words.{AppendsPrefix, append_assoc, err_from_is_err_and, flat_map-append, take-append-drop}
-use Rattle.merge_core.proofs.Words.{[], ◌++◌, ◌+◌, ◌<◌, ◌∷◌, ◌≡◌, Bor, Line, List, arith, drop, map, take}
+use Rattle.merge_core.proofs.Words.{[], ℕ, ◌++◌, ◌+◌, ◌<◌, ◌∷◌, ◌≡◌, Appends, Appends-join, AppendsPrefix, Bor, Line}
+use Rattle.merge_core.proofs.Words.{List, Member, Option, append-nil, append_assoc, arith, drop, err_from_is_err_and}
+use Rattle.merge_core.proofs.Words.{flat_map-append, get_or, grows_on, length, length-append, line_row, lines_text, map}
+use Rattle.merge_core.proofs.Words.{map-append, map_more, prefix_after, prefix_longer, take, take-append-drop}
 use Rattle.merge_core.proofs.line_writer.LineWriterSink.take.Goals as goal
 
 -- lines, up to one of them

@@ -1,11 +1,11 @@
-use Rattle.merge_core.proofs.Words.{[], Upto, inputs, map-append, IsAbove, Option}
-use Rattle.merge_core.proofs.Words.{Member, MergeState, boxed_lines, each_weaker, member_pair, tied_itself, HaltedGroup}
-use Rattle.merge_core.proofs.Words.{WaitingLine, arith, pair_cmp_total, waiting_pair, IsPermutation-sym, AllByRecursion}
-use Rattle.merge_core.proofs.Words.{◌+◌, ◌∙◌, ◌∷◌, ap, refl, sym, ◌≡◌, Pair}
-use Rattle.merge_core.proofs.{SourceLemmas.each_done, PairOrder.upto_itself, StateLemmas.long_of}
-use Rattle.merge_core.proofs.MergeLemmas.{on_fault, Gathers, TakenNext, gathers_start, taken_next, gathers_on}
-use Rattle.merge_core.proofs.GroupLemmas.{from_waited, each_permuted, not_before}
-use Rattle.merge_core.proofs.state.MergeState.gather.Goals.{After-read_on, After-push, In_ok-read_on}
+use Rattle.merge_core.proofs.Words.{[], ◌+◌, ◌∙◌, ◌∷◌, ◌≡◌, AllByRecursion, HaltedGroup, IsAbove, IsPermutation-sym}
+use Rattle.merge_core.proofs.Words.{Member, MergeState, Option, Pair, Upto, WaitingLine, ap, arith, boxed_lines}
+use Rattle.merge_core.proofs.Words.{each_weaker, inputs, map-append, member_pair, pair_cmp_total, refl, sym}
+use Rattle.merge_core.proofs.Words.{tied_itself, waiting_pair}
+use Rattle.merge_core.proofs.{PairOrder.upto_itself, SourceLemmas.each_done, StateLemmas.long_of}
+use Rattle.merge_core.proofs.MergeLemmas.{Gathers, TakenNext, gathers_on, gathers_start, on_fault, taken_next}
+use Rattle.merge_core.proofs.GroupLemmas.{each_permuted, from_waited, not_before}
+use Rattle.merge_core.proofs.state.MergeState.gather.Goals.{After-push, After-read_on, In_ok-read_on}
 use Rattle.merge_core.proofs.state.MergeState.gather.Goals as goal
 
 -- what a source's further lines make of the group

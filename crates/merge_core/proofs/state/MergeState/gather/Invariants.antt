@@ -1,6 +1,7 @@
-use Rattle.merge_core.proofs.Words.{◌+◌, AllByRecursion, AreSettled, MergeInput, boxed_lines, member_pair, waiting_pair}
-use Rattle.merge_core.proofs.Words.{◌<◌, IsAbove, IsDueAt, IsSettled, NoneBelow, Option, Pair, inputs, length, to_come}
-use Rattle.merge_core.proofs.{Words.◌∷◌, Words.◌≡◌, Words.map, Words.set, MergeLemmas.Gathers}
+use Rattle.merge_core.proofs.Words.{◌+◌, ◌<◌, ◌∷◌, ◌≡◌, AllByRecursion, AreSettled, IsAbove, IsDueAt, IsSettled}
+use Rattle.merge_core.proofs.Words.{MergeInput, NoneBelow, Option, Pair, boxed_lines, inputs, length, map, member_pair}
+use Rattle.merge_core.proofs.Words.{set, to_come, waiting_pair}
+use Rattle.merge_core.proofs.MergeLemmas.{Gathers}
 use Rattle.merge_core.proofs.state.MergeState.gather.Given as goal
 
 abbrev pub invariant-sources : goal.invariant-sources

@@ -1,8 +1,9 @@
-use Rattle.merge_core.proofs.Words.{sum_by_push, length-append, take_more, take_more_set, common_steps, all_zipped_more}
-use Rattle.merge_core.proofs.Words.{sum-map, get_or-map, map-set, length-map, arith, digits, input_of, inputs, take_all}
-use Rattle.merge_core.proofs.Words.{◌<◌, ◌≡◌, ap, get_or, length, map, sum, take, zip}
-use Rattle.merge_core.proofs.Many.{two_same, map_set_same, two_put}
-use Rattle.merge_core.proofs.{SourceLemmas.once_none, CountLemmas.left_here, CountLemmas.left_after}
+use Rattle.merge_core.proofs.Words.{◌<◌, ◌≡◌, all_zipped_more, ap, arith, common_steps, digits, get_or, get_or-map}
+use Rattle.merge_core.proofs.Words.{input_of, inputs, length, length-append, length-map, map, map-set, sum, sum-map}
+use Rattle.merge_core.proofs.Words.{sum_by_push, take, take_all, take_more, take_more_set, zip}
+use Rattle.merge_core.proofs.Many.{map_set_same, two_put, two_same}
+use Rattle.merge_core.proofs.SourceLemmas.{once_none}
+use Rattle.merge_core.proofs.CountLemmas.{left_after, left_here}
 use Rattle.std.proofs.lemmas.Simd.{map-map}
 use Rattle.merge_core.proofs.OpenLemmas.{added_inputs, ready_added, zip_none, zip_push}
 use Rattle.merge_core.proofs.state.MergeState.open_at.Goals as goal

@@ -1,5 +1,5 @@
-use Rattle.merge_core.proofs.Words.{[], ◌≡◌, ◌≤◌, AllGaveOnce, IsLeast, Ready, drop, inputs, length, map, take, zip}
-use Rattle.merge_core.proofs.Words.{AreOpened, AllOpenedWithin, search_steps, EachDone}
+use Rattle.merge_core.proofs.Words.{[], ◌≡◌, ◌≤◌, AllGaveOnce, AllOpenedWithin, AreOpened, EachDone, IsLeast, Ready}
+use Rattle.merge_core.proofs.Words.{drop, inputs, length, map, search_steps, take, zip}
 use Rattle.cdxj_places.specs.PairViews.{pair_view}
 use Rattle.merge_core.proofs.state.MergeState.open_at.Given as goal
 

@@ -1,9 +1,10 @@
-use Rattle.merge_core.proofs.Words.{get_or-map, length-map, [], AreReadTo, MergeInput, MergeState, boxed_line, input_of}
-use Rattle.merge_core.proofs.Words.{map-set, AllZip, List, Member, Some, Upto, arith, inputs, get_or, refl, EachDone}
-use Rattle.merge_core.proofs.Words.{AllByRecursion, CursorState, get_or_default, member_pair, option_list, common_steps}
-use Rattle.merge_core.proofs.{Words.◌≡◌, Words.ap, Words.zip, Words.set, CountLemmas.are_read_to, CountLemmas.read_on}
-use Rattle.merge_core.proofs.Many.{Move, moved_set, map_set_same, unread_set}
-use Rattle.merge_core.proofs.StateLemmas.{input_at, long_of, idle_here, waited_aligned, waited_inputs, waited_length}
+use Rattle.merge_core.proofs.Words.{[], ◌≡◌, AllByRecursion, AllZip, AreReadTo, CursorState, EachDone, List, Member}
+use Rattle.merge_core.proofs.Words.{MergeInput, MergeState, Some, Upto, ap, arith, boxed_line, common_steps, get_or}
+use Rattle.merge_core.proofs.Words.{get_or-map, get_or_default, input_of, inputs, length-map, map-set, member_pair}
+use Rattle.merge_core.proofs.Words.{option_list, refl, set, zip}
+use Rattle.merge_core.proofs.CountLemmas.{are_read_to, read_on}
+use Rattle.merge_core.proofs.Many.{Move, map_set_same, moved_set, unread_set}
+use Rattle.merge_core.proofs.StateLemmas.{idle_here, input_at, long_of, waited_aligned, waited_inputs, waited_length}
 use Rattle.merge_core.proofs.state.MergeState.read_on.Goals.{After-read_group}
 use Rattle.merge_core.proofs.state.MergeState.read_on.Goals as goal
 

@@ -1,6 +1,6 @@
 use Rattle.query_core.proofs.Words.{Appends-join, arith, err_from_is_err_and, form_of, grows_by, grows_on, grows_part}
 use Rattle.query_core.proofs.Words.{page_end, page_start, prefix_after, prefix_longer, refl, rules, shown_key, true}
-use Rattle.query_core.proofs.PagesLemmas.{turning_front, stands_turned, full_is}
+use Rattle.query_core.proofs.PagesLemmas.{full_is, stands_turned, turning_front}
 use Rattle.query_core.proofs.page_writer.PageWriter.make_room.Goals as goal
 
 -- ---- the page is full

@@ -1,7 +1,7 @@
-use Rattle.query_core.proofs.Words.{[], ◌∙◌, ◌∷◌, ◌≡◌, arith, err_from_is_err_and, false, grows_by}
-use Rattle.query_core.proofs.Words.{grows_on, grows_part, rules, sym, true≢false}
-use Rattle.query_core.proofs.PagesLemmas.{more_lines, stands_over, wrote_holds, took_next, stands_followed, broke_more}
-use Rattle.query_core.proofs.PagesLemmas.{wrote_front, row_stands, row_front, room_front, ended_is, goes_on}
+use Rattle.query_core.proofs.Words.{[], ◌∙◌, ◌∷◌, ◌≡◌, arith, err_from_is_err_and, false, grows_by, grows_on}
+use Rattle.query_core.proofs.Words.{grows_part, rules, sym, true≢false}
+use Rattle.query_core.proofs.PagesLemmas.{broke_more, ended_is, goes_on, more_lines, room_front, row_front, row_stands}
+use Rattle.query_core.proofs.PagesLemmas.{stands_followed, stands_over, took_next, wrote_front, wrote_holds}
 use Rattle.std.proofs.lemmas.List.{nil_from_length}
 use Rattle.query_core.specs.WriterView.{pages_so_far}
 use Rattle.query_core.proofs.page_writer.PageWriter.take_line.Goals as goal

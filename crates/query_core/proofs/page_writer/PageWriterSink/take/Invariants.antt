@@ -1,4 +1,4 @@
-use Rattle.query_core.proofs.Words.{◌++◌, ◌≡◌, Grows, List, Member, Option, PageWriter, Wrote, ℕ, map, take}
+use Rattle.query_core.proofs.Words.{ℕ, ◌++◌, ◌≡◌, Grows, List, Member, Option, PageWriter, Wrote, map, take}
 use Rattle.query_core.proofs.page_writer.PageWriterSink.take.Given as goal
 
 abbrev pub invariant-loop-line : goal.invariant-loop-line

@@ -1,4 +1,4 @@
-use Rattle.source_core.proofs.Words.{◌≡◌, ◌+◌, length, take, length-take, arith}
+use Rattle.source_core.proofs.Words.{◌+◌, ◌≡◌, arith, length, length-take, take}
 use Rattle.source_core.proofs.WindowLemmas.{unescaped_line}
 use Rattle.source_core.proofs.cursor.Cursor.held_line.Goals as goal
 

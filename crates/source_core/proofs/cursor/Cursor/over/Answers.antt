@@ -1,4 +1,5 @@
-use Rattle.source_core.proofs.{Words.arith, Words.refl, WindowLemmas.held_stands}
+use Rattle.source_core.proofs.Words.{arith, refl}
+use Rattle.source_core.proofs.WindowLemmas.{held_stands}
 use Rattle.source_core.proofs.cursor.Cursor.over.Goals as goal
 
 pub returns-clause-stands : goal.returns-clause-stands

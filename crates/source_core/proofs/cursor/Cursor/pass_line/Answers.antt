@@ -1,5 +1,5 @@
-use Rattle.source_core.proofs.{Words.ap, Words.CursorState, WindowLemmas.held_behind}
-use Rattle.source_core.proofs.WindowLemmas.{passed, passed_line}
+use Rattle.source_core.proofs.Words.{CursorState, ap}
+use Rattle.source_core.proofs.WindowLemmas.{held_behind, passed, passed_line}
 use Rattle.source_core.proofs.cursor.Cursor.pass_line.Goals as goal
 
 pub returns-clause-stands : goal.returns-clause-stands
