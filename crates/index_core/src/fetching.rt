@@ -78,7 +78,7 @@ pub fn get_at<I: Input, O: Output>(
 }
 
 /// Writes the next record if it has this length in bytes, and returns the length.
-#[tactic(auto, using(crate::proofs::FetchAtLemmas::next_of_rules))]
+#[tactic(auto, using(crate::proofs::FetchLemmas::next_rules))]
 fn copy_next_of<I: Input, O: Output>(
     reader: &mut Reader,
     input: &mut I,

@@ -37,7 +37,6 @@ pub fn next_record<I: Input>(reader: &mut Reader, input: &mut I) -> Result<Optio
 
 /// Reads the next whole record to its end, and returns its head and the verdict on its block. The
 /// errors are the archive's faults.
-#[tactic(auto, using(crate::proofs::VerdictLemmas::verdict_rules))]
 pub fn next_verdict<I: Input>(
     reader: &mut Reader,
     input: &mut I,
