@@ -35,4 +35,3 @@ module _ (limit : ℕ) where
   next_copied_of o h len (Err faults.Write) before mid after w u n e c =
       next_copied limit o h (Err faults.Write) before mid after w u n e c.1
   next_copied_of o h len r before mid after w u n e c = grind arith
-

@@ -93,4 +93,3 @@ module _ (limit : ℕ) where
 pub ruleset next_rules = (err_from_is_err_and, next_none, next_stopped)
 
 pub ruleset fetch_rules = (err_from_is_err_and, wrote_nothing)
-

@@ -64,4 +64,3 @@ pub one_judged : (judged : List Judged) (j : Judged) (n d : ℕ)
     → ◌≡◌ {A = Verified} (record { records = n; differing = d }) (verified_of judged)
     → ◌≡◌ {A = Verified} (record { records = n + 1; differing = d + differing_by j.1 }) (verified_of (judged ++ j ∷ []))
 one_judged judged j n d k = grind (arith, judged, length-append, sum_by-append)
-
