@@ -1,7 +1,7 @@
 -- The copying of a record, piece by piece.
-use Rattle.index_core.proofs.Words.{◌≡◌, ◌∙◌, ℕ, ◌+◌, ◌-◌, ◌<◌, ◌≤◌, List, []}
+use Rattle.index_core.proofs.Words.{◌≡◌, ◌∙◌, ℕ, ◌+◌, ◌-◌, ◌≤◌, List, []}
 use Rattle.index_core.proofs.Words.{◌++◌, Option, Result, Ok, Err, IfSome, length, take, sym}
-use Rattle.index_core.proofs.Words.{append_assoc, append-nil, length-append, arith, Appends}
+use Rattle.index_core.proofs.Words.{append_assoc, length-append, arith, Appends}
 use Rattle.index_core.proofs.Words.{prepend_known, Cause, Fault, AppendsPrefix, HeadView}
 use Rattle.index_core.proofs.Words.{record_length, Reads, after_record, Appends-none, Appends-join}
 use Rattle.index_core.proofs.Words.{Archive, IndexFault}
