@@ -1,4 +1,5 @@
-use Rattle.index_core.proofs.Words.{arith, HEAD_LIMIT, err_from_is_err_and, record-stopped, record-unclosed, record-whole}
+use Rattle.index_core.proofs.Words.{arith, HEAD_LIMIT, err_from_is_err_and, record-stopped}
+use Rattle.index_core.proofs.Words.{record-unclosed, record-whole}
 use Rattle.warc_core.proofs.WalkLemmas.{record-end}
 use Rattle.index_core.proofs.VerdictLemmas.{judged_verdict, judged_met, judged_record}
 use Rattle.index_core.proofs.walk.next_verdict.Goals as goal
