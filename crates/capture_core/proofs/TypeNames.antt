@@ -21,21 +21,19 @@ only_name types names e = grind (arith, slice_split_none, fails_before_first, la
 -- ---- a set that is read has a type
 
 plus-has : (types : Types) (kind : Kind) (more : Types) → plus_kind types kind ≡ Some more → HasType more
-plus-has types kinds.Response more e = let same : record types { response = true }
-    ≡ more = cc in (kinds.Response, sym (ap (λ t. t.response) same))
-plus-has types kinds.Resource more e = let same : record types { resource = true }
-    ≡ more = cc in (kinds.Resource, sym (ap (λ t. t.resource) same))
-plus-has types kinds.Revisit more e = let same : record types { revisit = true }
-    ≡ more = cc in (kinds.Revisit, sym (ap (λ t. t.revisit) same))
-plus-has types kinds.Conversion more e = let same : record types { conversion = true }
-    ≡ more = cc in (kinds.Conversion, sym (ap (λ t. t.conversion) same))
-plus-has types kinds.Metadata more e = let same : record types { metadata = true }
-    ≡ more = cc in (kinds.Metadata, sym (ap (λ t. t.metadata) same))
+plus-has types kinds.Response more e = (kinds.Response, grind arith)
+plus-has types kinds.Resource more e = (kinds.Resource, grind arith)
+plus-has types kinds.Revisit more e = (kinds.Revisit, grind arith)
+plus-has types kinds.Conversion more e = (kinds.Conversion, grind arith)
+plus-has types kinds.Metadata more e = (kinds.Metadata, grind arith)
 plus-has types kind more e = absurd (cc)
 
-named-has : (kind : Option Kind) (types more : Types) → option_and_then (with_kind types) kind ≡ Some more
-    → HasType more
-named-has kind types more e = grind (arith, plus-has)
+found-has : (kind : Option Kind) (types more : Types) → option_and_then (with_kind types) kind ≡ Some more → HasType more
+found-has kind types more e = grind (arith, plus-has)
+
+named-has : (types : Types) (name : List ℕ) (more : Types) → with_name types name ≡ Some more → HasType more
+unfolding with_name
+named-has types name more e = found-has _ types more e
 
 -- the types of some names, where the first gives a set that has a type, or ends the reading
 then-has : (first : Option Types) (names : List (List ℕ)) (types : Types)
@@ -47,14 +45,14 @@ then-has first names types f g e = grind arith
 still-has : (names : List (List ℕ)) (more types : Types) → HasType more → with_names more names ≡ Some types
     → HasType types
 still-has [] more types h e = grind arith
-still-has (name ∷ names) more types h e = then-has (with_name more name) names types (λ next f. named-has _ more next f)
+still-has (name ∷ names) more types h e = then-has (with_name more name) names types (named-has more name)
     (λ next. still-has names next types) e
 
 pub names-have : (names : List (List ℕ)) (types : Types) → 0 < length names → with_names no_types names ≡ Some types
     → HasType types
 names-have [] types some e = absurd (omega arith)
 names-have (name ∷ names) types some e = then-has (with_name no_types name) names types
-    (λ next f. named-has _ no_types next f) (λ next. still-has names next types) e
+    (named-has no_types name) (λ next. still-has names next types) e
 
 pub ruleset read_rules = (names-have, length-slice_split)
 

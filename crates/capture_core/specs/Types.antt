@@ -44,7 +44,7 @@ abbrev pub indexable : List Kind
 indexable = kinds.Response ∷ kinds.Resource ∷ kinds.Revisit ∷ kinds.Conversion ∷ kinds.Metadata ∷ []
 
 -- the set with the type of this name
-abbrev pub with_name : Types → List ℕ → Option Types
+unfoldable pub with_name : Types → List ℕ → Option Types
 with_name types name = option_and_then (with_kind types) (find (λ kind. bytes_eq (kind_name kind) name) indexable)
 
 -- the set with the types of these names, one after another

@@ -78,6 +78,7 @@ impl Types {
     }
 
     /// Returns the set with the type of this name added.
+    #[tactic(auto, unfolding(crate::specs::Types::with_name))]
     fn with_name(self, name: &str) -> Option<Types>
         ensures { result ≡ with_name self name.now }
     {

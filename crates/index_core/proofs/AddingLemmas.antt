@@ -1,4 +1,5 @@
 -- The captures that are added, one record further, at the end, and at a fault.
+use Rattle.index_core.proofs.Words.{err_from_is_err_and}
 use Rattle.index_core.proofs.Words.{arith, ◌≡◌, ◌∙◌, ℕ, ◌+◌, Bool, List, [], ◌∷◌, ◌++◌, Option}
 use Rattle.index_core.proofs.Words.{None, Some, Ok, Err, IfSome, option_to_list, length, drop, ap}
 use Rattle.index_core.proofs.Words.{append_assoc, drop-append_seam, Kind, HeadView, record_length}
@@ -13,7 +14,8 @@ use Rattle.capture_core.specs.CaptureAnswer.{Captures}
 use Rattle.capture_core.specs.RecordReading.{reading_of}
 use Rattle.index_core.specs.Accepted.{IsCaptured, MayBeRefused}
 use Rattle.index_core.specs.Captures.{TakesRecord}
-use Rattle.index_core.proofs.ArchiveWalks.{from_start, record_rules}
+use Rattle.warc_core.proofs.WalkLemmas.{record-end}
+use Rattle.index_core.proofs.ArchiveWalks.{from_start}
 
 -- what stands behind a head
 pub behind_head : (limit start : ℕ) (h : HeadView) (z y : List ℕ) → next_at limit start z ≡ Ok (Some h, y)
@@ -69,4 +71,11 @@ module _ (types : Kind → Bool) (limits : Limits) (limit : ℕ) (name : List �
       → IfSome left (λ archive. IsAcceptedTo types limits limit name fault archive gained)
   AddedSoFar-refused left now o gained fault s r = grind arith
 
-pub ruleset capture_rules = (record_rules, capture_there, refused_there)
+pub ruleset capture_rules = (
+  err_from_is_err_and,
+  record-end,
+  record-unclosed,
+  record-whole,
+  capture_there,
+  refused_there,
+)

@@ -1,11 +1,9 @@
 -- Walks over the records of an archive.
-use Rattle.index_core.proofs.Words.{err_from_is_err_and, ◌≡◌, ◌∙◌, ℕ, List, [], ◌∷◌, Some, Ok}
+use Rattle.index_core.proofs.Words.{◌≡◌, ◌∙◌, ℕ, List, [], ◌∷◌, Some, Ok}
 use Rattle.index_core.proofs.Words.{length, drop, ap, refl, append-nil, arith, drop-append_seam}
-use Rattle.index_core.proofs.Words.{HeadView, Walks, read-spelled, two-walks, record-stopped}
-use Rattle.index_core.proofs.Words.{record-unclosed, record-whole}
+use Rattle.index_core.proofs.Words.{HeadView, Walks, read-spelled, two-walks}
 use Rattle.warc_core.specs.Walk.{record_at}
 use Rattle.warc_core.proofs.ArchiveLemmas.{walk-front}
-use Rattle.warc_core.proofs.WalkLemmas.{record-end}
 
 -- a walk that ends where it began is over no records
 pub walk_nowhere : (limit o : ℕ) (more : List HeadView) (r t : List ℕ) → Walks limit o r more o t → more ≡ []
@@ -30,6 +28,3 @@ module _ (limit : ℕ) (archive : List ℕ) (heads : List HeadView) (o : ℕ) (r
   pub from_start : (h : HeadView) (later : List ℕ) → record_at limit o rest ≡ Ok (Some h, later)
       → drop h.start archive ≡ rest
   from_start h later r = grind (arith, from_offset, read-spelled)
-
--- how the reading of a record ended
-pub ruleset record_rules = (err_from_is_err_and, record-stopped, record-end, record-unclosed, record-whole)

@@ -1,7 +1,7 @@
 -- The copying of a record, piece by piece.
-use Rattle.index_core.proofs.Words.{err_from_is_err_and, ◌≡◌, ◌∙◌, ℕ, ◌+◌, ◌-◌, ◌<◌, ◌≤◌, List, []}
+use Rattle.index_core.proofs.Words.{◌≡◌, ◌∙◌, ℕ, ◌+◌, ◌-◌, ◌≤◌, List, []}
 use Rattle.index_core.proofs.Words.{◌++◌, Option, Result, Ok, Err, IfSome, length, take, sym}
-use Rattle.index_core.proofs.Words.{append_assoc, append-nil, length-append, arith, Appends}
+use Rattle.index_core.proofs.Words.{append_assoc, length-append, arith, Appends}
 use Rattle.index_core.proofs.Words.{prepend_known, Cause, Fault, AppendsPrefix, HeadView}
 use Rattle.index_core.proofs.Words.{record_length, Reads, after_record, Appends-none, Appends-join}
 use Rattle.index_core.proofs.Words.{Archive, IndexFault}
@@ -75,12 +75,6 @@ module _ (h : HeadView) (before : Option (List ℕ)) where
           stands = grind arith;
           grown = rw (← append_assoc) (Appends-join w v u (h.raw ++ d.front) (take n piece) d.grown a);
         }
-
-    -- the whole block was copied
-    pub copied_all : (piece : List ℕ) (next : ReaderState) → 0 < length piece
-        → IfOpen now.reader.phase (λ left len. GivesBlock left len now next (Ok 0) piece)
-        → CopiedBut 0 h before next w v
-    copied_all piece next some gave = let g = rw d.stands.phase_is at gave in grind (arith, Appends-none)
 
     -- the output failed in what comes next
     copied_cut : (fault : IndexFault) (piece : List ℕ) (later after u : Option (List ℕ)) → fault ≡ faults.Write
@@ -156,13 +150,3 @@ module _ (h : HeadView) (before : Option (List ℕ)) (now : ReaderState) (w v : 
         };
         ends = (s.state.0 ∙ sym size, s.state.0, behind_head h before 0 now w v d (Ok tt) _ s.bytes);
       }
-
-pub ruleset copy_head_and_block_rules = (
-  err_from_is_err_and,
-  head_cut,
-  Consumes-none,
-  append-nil,
-  length-take-le,
-  copied_more,
-  copied_all,
-)

@@ -7,7 +7,7 @@ use Rattle.std.proofs.Common.{◌≢◌}
 use Rattle.warc_core.specs.Next.{next_at}
 use Rattle.index_core.specs.Copying.{WroteFront}
 use Rattle.index_core.specs.FetchingAt.{CopiesRecordOf, PassesRecord}
-use Rattle.index_core.proofs.FetchLemmas.{next_copied, next_rules, record_head}
+use Rattle.index_core.proofs.FetchLemmas.{next_copied, record_head}
 
 in_front : (known : Option (List ℕ)) → IfSome known (λ bytes. (more : List ℕ) × (bytes ≡ [] ++ more))
 in_front None = tt
@@ -35,5 +35,3 @@ module _ (limit : ℕ) where
   next_copied_of o h len (Err faults.Write) before mid after w u n e c =
       next_copied limit o h (Err faults.Write) before mid after w u n e c.1
   next_copied_of o h len r before mid after w u n e c = grind arith
-
-pub ruleset next_of_rules = (next_rules, next_copied_of)

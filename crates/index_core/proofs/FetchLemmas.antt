@@ -92,6 +92,4 @@ module _ (limit : ℕ) where
 
 pub ruleset next_rules = (err_from_is_err_and, next_none, next_stopped)
 
-pub ruleset fetch_rules = (err_from_is_err_and, fetched, wrote_nothing)
-
-pub ruleset walk_rules = (WalkedTo-more, ends_before)
+pub ruleset fetch_rules = (err_from_is_err_and, wrote_nothing)

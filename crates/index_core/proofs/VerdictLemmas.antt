@@ -10,7 +10,7 @@ use Rattle.capture_core.specs.BlockDigest.{judge_record}
 use Rattle.index_core.specs.Verifying.{verdict_on, verdict_in, verdict_line, verification_line}
 use Rattle.index_core.specs.Verifying.{differing_by, Judged, judged_line, verified_in, verified_of}
 use Rattle.index_core.specs.declared.verified.Verified.{Verified}
-use Rattle.index_core.proofs.ArchiveWalks.{from_offset, record_rules}
+use Rattle.index_core.proofs.ArchiveWalks.{from_offset}
 use Rattle.index_core.proofs.ReportLemmas.{Form, IsLine, CountsOn, Reporting}
 
 pub judged_record : (judge : List ℕ → Verdict) (n : ℕ) (z w : List ℕ) (v : Verdict) → judge_record judge n z ≡ Ok (v, w)
@@ -64,5 +64,3 @@ pub one_judged : (judged : List Judged) (j : Judged) (n d : ℕ)
     → ◌≡◌ {A = Verified} (record { records = n; differing = d }) (verified_of judged)
     → ◌≡◌ {A = Verified} (record { records = n + 1; differing = d + differing_by j.1 }) (verified_of (judged ++ j ∷ []))
 one_judged judged j n d k = grind (arith, judged, length-append, sum_by-append)
-
-pub ruleset verdict_rules = (record_rules, judged_record, judged_met)

@@ -9,7 +9,6 @@ use crate::writing::put_bytes;
 use warc_core::{Head, Input, Output, Reader};
 
 /// Writes the head and the block of a record. Its head has been read, and none of its block.
-#[tactic(auto, using(crate::proofs::CopyLemmas::copy_head_and_block_rules))]
 fn copy_head_and_block<I: Input, O: Output>(
     reader: &mut Reader,
     input: &mut I,

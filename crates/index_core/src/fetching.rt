@@ -78,7 +78,7 @@ pub fn get_at<I: Input, O: Output>(
 }
 
 /// Writes the next record if it has this length in bytes, and returns the length.
-#[tactic(auto, using(crate::proofs::FetchAtLemmas::next_of_rules))]
+#[tactic(auto, using(crate::proofs::FetchLemmas::next_rules))]
 fn copy_next_of<I: Input, O: Output>(
     reader: &mut Reader,
     input: &mut I,
@@ -140,7 +140,6 @@ fn pass_record<I: Input>(reader: &mut Reader, input: &mut I) -> Result<u64, Inde
 }
 
 /// Returns a reader that has reached the offset, if whole records fill the archive up to it.
-#[tactic(auto, using(crate::proofs::FetchLemmas::walk_rules))]
 fn reader_at<I: Input>(alloc: Global, input: &mut I, offset: u64) -> Result<Option<Reader>, Fault>
     ensures reaches { Reaches HEAD_LIMIT offset result (I.remaining input.old)
         (I.remaining input.new) }

@@ -15,7 +15,6 @@ use warc_core::{Fault, HEAD_LIMIT, Head, Input, Phase, Reader};
 
 /// Reads the next whole record to its end, and returns its head. The errors are the archive's
 /// faults.
-#[tactic(auto, using(crate::proofs::ArchiveWalks::record_rules))]
 pub fn next_record<I: Input>(reader: &mut Reader, input: &mut I) -> Result<Option<Head>, Fault>
     requires { reader.old.phase ≡ Phase.Between }
     ensures bytes { Reads (record_at HEAD_LIMIT reader.old.offset) (causes_of result)
@@ -37,7 +36,6 @@ pub fn next_record<I: Input>(reader: &mut Reader, input: &mut I) -> Result<Optio
 
 /// Reads the next whole record to its end, and returns its head and the verdict on its block. The
 /// errors are the archive's faults.
-#[tactic(auto, using(crate::proofs::VerdictLemmas::verdict_rules))]
 pub fn next_verdict<I: Input>(
     reader: &mut Reader,
     input: &mut I,

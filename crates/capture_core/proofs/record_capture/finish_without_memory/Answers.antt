@@ -3,8 +3,4 @@ use Rattle.capture_core.proofs.CaptureLemmas.{rest-whole, some-always}
 use Rattle.capture_core.proofs.record_capture.finish_without_memory.Goals as goal
 
 pub returns : goal.returns
-returns g c = λ first ready. rw c.memory.ensures (record {
-  reads = grind (arith, rest-whole);
-  capture = some-always _ _ (λ bytes. tt);
-  entry = tt;
-})
+returns g c = λ first ready. grind (arith, rest-whole, some-always)

@@ -11,6 +11,9 @@ use Rattle.index_core.proofs.captures.add_captures.Goals as goal
 pub returns-in-Ok-None-clause-gains : goal.returns-in-Ok-None-clause-gains
 returns-in-Ok-None-clause-gains g c = grind (arith, length-append, none_at_end)
 
+pub overflow_sub-result : goal.overflow_sub-result
+overflow_sub-result g c = grind (arith, length-append)
+
 pub returns-in_err-reader-clause-gains : goal.returns-in_err-reader-clause-gains
 returns-in_err-reader-clause-gains g c = ([], grind (arith, append-nil), grind arith)
 

@@ -1,4 +1,4 @@
-use Rattle.index_core.proofs.Words.{◌∙◌, [], ◌∷◌, length-append, arith, refl, err_from_is_err_and}
+use Rattle.index_core.proofs.Words.{[], ◌∷◌, length-append, arith, refl, err_from_is_err_and}
 use Rattle.index_core.proofs.Words.{HEAD_LIMIT}
 use Rattle.index_core.proofs.ListingLemmas.{listing, one_record}
 use Rattle.index_core.proofs.ReportLemmas.{reporting_none, reporting_more, reporting_end}
@@ -35,14 +35,7 @@ loop-reader-preserved g c =
     let line = rw c.record_line.ensures at c.in_ok-put_line-in-Ok-Some.ensures.line in
     let more = reporting_more i.reporting h e.bytes e.begins (λ archive k. refl) (one_record _ h c.loop-reader.count)
     (λ read k. omega (arith, k, length-append read (h ∷ []))) line in
-    rw c.recycle.ensures (record {
-      phase = e.state.phase_is;
-      within = rw e.state.offset_is e.begins.fits;
-      fewer = rw e.state.offset_is (omega arith);
-      reporting = rw e.state.offset_is more;
-      reads = e.failures ∙ i.reads;
-      writes = c.in_ok-put_line-in-Ok-Some.ensures.failures ∙ i.writes;
-    })
+    grind arith
 
 pub returns-in-Err-next_record-clause-lists : goal.returns-in-Err-next_record-clause-lists
 returns-in-Err-next_record-clause-lists g c =
