@@ -71,18 +71,13 @@ first_read {past = past} {text = text} {extent = extent} {old = old} input fresh
     let zero_count : c.count ≡ 0 = count ∙ fresh in
     rw is (record {
       input = input_end input c stands start count near next;
-      settled = λ t e none.
-          inl (grind arith);
+      settled = λ t e none. inl (grind arith);
       fresh = λ t e. rw zero_count refl;
     })
 first_read {past = past} {text = text} {extent = extent} {old = old} input fresh c (Some m) ws stands start count near next is =
     let none : (t : List ℕ) → given t old ≡ [] = λ t. rw fresh refl in
     let read : LineRead past text extent old c m = grind arith in
-    record {
-      input = input_more read ws (inl is);
-      settled = settled_more read ws is;
-      fresh = grind (arith, done_next);
-    }
+    grind (arith, input_more read ws (inl is), settled_more read ws is, done_next)
 
 pub zip_none : {A B : Type 0} (xs : List A) (ys : List B) → ys ≡ [] → zip xs ys ≡ []
 zip_none [] ys e = refl

@@ -119,14 +119,8 @@ module _ {S : Type 0} (device : Ghosts S) where
   texts_read : (past : List ℕ → Bool) (ss : List S) (fs : List MergeInput) (texts : List (List ℕ))
       → Known (map device.text ss) texts → AreInputs past device ss fs → AreSettled past device ss fs
       → AllZip (TextRead past) texts fs
-  texts_read past (s ∷ ss) (f ∷ fs) (t ∷ texts) known input settled = (
-    record {
-      told = input.0.told t known.0;
-      rest = input.0.stands.rest t known.0;
-      settled = settled.0 t known.0;
-    },
-    texts_read past ss fs texts known.1 input.1 settled.1,
-  )
+  texts_read past (s ∷ ss) (f ∷ fs) (t ∷ texts) known input settled =
+      (grind arith, texts_read past ss fs texts known.1 input.1 settled.1)
   texts_read past ss fs texts known input settled = grind arith
 
 -- what holds of all lines that were taken holds of those of each source

@@ -53,9 +53,8 @@ module _ (t : List ℕ) where
         }
 
     pub checked_whole : (to number : ℕ) (found : Option Member) → IsNextLine t at to found
-        → MatchOption found (number ≡ count) (λ _. number ≡ count + 1)
-        → ((m : Member) → found ≡ Some m → ⊥) → (members : List Member) × IsIndex LINE_LIMIT t members
-        × (number ≡ length members)
+        → MatchOption found (number ≡ count) (λ _. number ≡ count + 1) → ((m : Member) → found ≡ Some m → ⊥)
+        → (members : List Member) × IsIndex LINE_LIMIT t members × (number ≡ length members)
     checked_whole to number None none counted end =
         let e = sym checked.rest ∙ none in
         let whole = take_all count (lines t) (omega (arith, ap length e, length-drop count (lines t))) in

@@ -39,8 +39,7 @@ rows_of limit [] (m ∷ ms) e = cc
 
 all_rows : (limit : ℕ) (texts : List (List ℕ)) (indexes : List (List Member)) → AllZip (IsIndex limit) texts indexes
     → AllByRecursion (IsRow limit) (all_lines indexes)
-all_rows limit (t ∷ texts) (i ∷ indexes) h =
-    grind (arith, each_join, rows_of, all_rows limit texts indexes h.1)
+all_rows limit (t ∷ texts) (i ∷ indexes) h = grind (arith, each_join, rows_of, all_rows limit texts indexes h.1)
 all_rows limit texts indexes h = grind arith
 
 lines_rows : (limit : ℕ) (ms : List Member) → AllByRecursion (IsRow limit) ms → lines (lines_text ms) ≡ map line_row ms

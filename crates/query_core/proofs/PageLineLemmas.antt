@@ -63,8 +63,7 @@ refusal_spaces name h = omega (arith, spaces_join name (10 ∷ []), no_spaces na
 
 -- the key ends the page
 abbrev EndsInKey : Option (List ℕ) → List (List ℕ) → Type 0
-EndsInKey key after =
-    (k : List ℕ) × (key ≡ Some k) × (has_no_space k ≡ true) × (after ≡ (k ++ 10 ∷ []) ∷ [])
+EndsInKey key after = (k : List ℕ) × (key ≡ Some k) × (has_no_space k ≡ true) × (after ≡ (k ++ 10 ∷ []) ∷ [])
 
 -- it is no line of a fault
 key_no_fault : (key : Option (List ℕ)) (name : List ℕ) (index offset : ℕ) (after : List (List ℕ))
@@ -85,8 +84,7 @@ text_refused : (fields : List Field) (m : Member) (name : List ℕ) → has_no_s
     → text_row fields m ≡ refusal_text name → length fields ≡ 2
 text_refused fields m name none e = omega (arith, text_spaces fields m, ap spaces e, refusal_spaces name none)
 
-text_some : (fields : List Field) → (fields ≡ [] → ⊥) → (m : Member) → HasEntry m
-    → text_row fields m ≡ 10 ∷ [] → ⊥
+text_some : (fields : List Field) → (fields ≡ [] → ⊥) → (m : Member) → HasEntry m → text_row fields m ≡ 10 ∷ [] → ⊥
 text_some [] some m h e = some refl
 text_some (f ∷ fields) some m h e =
     omega (arith, ap length e, length-append {A = ℕ}, escaped_some (row_value m f) (value_some m h f))
@@ -118,8 +116,7 @@ no_space_later (suc n) (b ∷ name) h = no_space_later n name (grind arith)
 no_space_later n name h = grind arith
 
 -- the name of a refusal holds no stamp
-cdxj_refused : (m : Member) (name : List ℕ) → HasEntry m → has_no_space name ≡ true
-    → line_row m ≡ refusal_text name → ⊥
+cdxj_refused : (m : Member) (name : List ℕ) → HasEntry m → has_no_space name ≡ true → line_row m ≡ refusal_text name → ⊥
 cdxj_refused m name h none e =
     let line = append_cancel_right m.line (codes "refused " ++ name) (10 ∷ []) e in
     true≢false (sym (rw line at (spaced_tail m h)) ∙ no_space_later 14 name none)
@@ -214,8 +211,7 @@ module _ (fields : List Field) (ms : List Member) (key : Option (List ℕ)) (ent
   -- ---- an empty line, and what follows it
 
   pub empty_of : (o : OutputFormat) → (o ≡ output.Json → ⊥) → (o ≡ output.Text → fields ≡ [] → ⊥)
-      → (before after : List (List ℕ))
-      → shown o ≡ before ++ (10 ∷ []) ∷ after → EndsInKey key after
+      → (before after : List (List ℕ)) → shown o ≡ before ++ (10 ∷ []) ∷ after → EndsInKey key after
   empty_of output.Text other some before after e =
       empty_is_key (text_row fields) key above ms before after entries (text_some fields (some refl))
       (rw text_lines at e)

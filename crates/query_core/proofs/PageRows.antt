@@ -39,8 +39,7 @@ text_some : (value : Option Data) → 0 < length (value_text value)
 text_some value = grind (arith, decimal_some)
 
 made : (filename : Option (List ℕ)) (offset : Option ℕ) (make : List ℕ → ℕ → LineValue) (v : LineValue)
-    → option_and_then (λ f. option_map (make f) offset) filename ≡ Some v
-    → (f : List ℕ) × (o : ℕ) × (v ≡ make f o)
+    → option_and_then (λ f. option_map (make f) offset) filename ≡ Some v → (f : List ℕ) × (o : ℕ) × (v ≡ make f o)
 made filename offset make v e = grind arith
 
 object_some : (read_as : Option Data) (key stamp : List ℕ) (v : LineValue)

@@ -165,8 +165,7 @@ one_after {c = c} {s} o (m ∷ ms) =
     rw (← append_assoc c (m ∷ []) ms) (one_after {c = c ++ m ∷ []} {s = with_capture s m} (one_more_is o m) ms)
 
 pub one_page : (limit : Option ℕ) (c : List Member) → IsOnePage limit c (pages_after (no_pages limit []) c)
-one_page limit c =
-    let o : IsOnePage limit [] (no_pages limit []) = grind (arith, none_holds) in one_after o c
+one_page limit c = let o : IsOnePage limit [] (no_pages limit []) = grind (arith, none_holds) in one_after o c
 
 page_at : {limit : Option ℕ} {c : List Member} {s : PagesSoFar} → IsOnePage limit c s → (last : Option PlaceValue)
     → (s.limit ≡ Some (length s.rows) → last ≡ last_of s.rows)
@@ -213,8 +212,7 @@ module _ (sizes : List ℕ) (positive : AllPositive sizes) (c : List Member) whe
   begun_holds = none_holds (Some (first_size sizes)) sizes (is_sized sizes positive)
 
   pub all_cut : AreCut sizes (all_pages so_far) c
-  all_cut =
-      let r = cut_from (no_pages (Some (first_size sizes)) sizes) begun_holds (grind arith) c in grind arith
+  all_cut = let r = cut_from (no_pages (Some (first_size sizes)) sizes) begun_holds (grind arith) c in grind arith
 
   -- no page is the only one
   pub none_follow : so_far.rest ≡ []
@@ -292,8 +290,7 @@ module _ {q : QueryValue} {s : PagesSoFar} {w : PageWriter} {start now : Option 
   pub turning_front : (new : Option (List ℕ)) → has_all s ≡ true
       → AppendsPrefix now new (page_end (form_of q) (shown_key true w.last) ++ page_start (form_of q))
       → AppendsPrefix start new (text_so_far q (with_room s))
-  turning_front new full p =
-      let text = prefix_after _ _ _ _ _ t.stands.text p in grind (arith, at_limit, text_turned)
+  turning_front new full p = let text = prefix_after _ _ _ _ _ t.stands.text p in grind (arith, at_limit, text_turned)
 
 -- a capture more
 module _ (q : QueryValue) (s : PagesSoFar) {start : Option (List ℕ)} (goes : is_ended s ≡ false) (m : Member) where
@@ -314,8 +311,7 @@ module _ (q : QueryValue) (s : PagesSoFar) {start : Option (List ℕ)} (goes : i
     -- a front of its row was written
     pub row_front : (new : Option (List ℕ)) → AppendsPrefix mid new (row_text (form_of q) m)
         → AppendsPrefix start new (text_so_far q (with_capture s m))
-    row_front new p =
-        rw (goes, text_row q (with_room s) m) (prefix_after _ _ _ _ _ r.stands.text p)
+    row_front new p = rw (goes, text_row q (with_room s) m) (prefix_after _ _ _ _ _ r.stands.text p)
 
 -- ---- what it wrote of lines
 
@@ -353,8 +349,7 @@ module _ {first w : PageWriter} {taken : List Member} {start now : Option (List 
     pub goes_on : IsSized first.limit first.sizes.now
         → (w.sizes.now ≡ [] → (is_full w.limit w.given ≡ false) × FitsWord w.limit)
         → is_ended (pages_so_far first taken) ≡ false
-    goes_on sized goes =
-        let stands = s.stands sized in let full = full_is stands (wrote_holds sized) in grind arith
+    goes_on sized goes = let stands = s.stands sized in let full = full_is stands (wrote_holds sized) in grind arith
 
 -- an output that grows with a line
 pub ruleset growing = (grows_not, grows_by, grows_part)

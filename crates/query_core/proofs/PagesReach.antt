@@ -96,8 +96,7 @@ answer_text_is : (q : QueryValue) (lines : List Member) → answer_text q (query
     ≡ text_so_far q (pages_by q q.limit [] lines) ++ page_end (form_of q)
     (shown_key q.show_resume_key (query_page q lines).next)
 answer_text_is q lines =
-    let one = one_page q.limit (captures q lines) in
-    grind (arith, asked_is, page_members, page_in_pieces)
+    let one = one_page q.limit (captures q lines) in grind (arith, asked_is, page_members, page_in_pieces)
 
 pub answer_front : (q : QueryValue) (lines : List Member) (start now : Option (List ℕ))
     → AppendsPrefix start now (text_so_far q (pages_by q q.limit [] lines))

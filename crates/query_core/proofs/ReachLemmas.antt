@@ -233,8 +233,7 @@ module _ {S : Type 0} {device : Ghosts S} {q : QueryValue} {olds opened sources 
       }
 
   -- before a pair whose lines couldn't be had or handed on
-  pub cut_before : (next : Pair) → IsAbove bound next → NoneBelow next merge.queue
-      → Cuts (Some next) taken
+  pub cut_before : (next : Pair) → IsAbove bound next → NoneBelow next merge.queue → Cuts (Some next) taken
   cut_before next above least = λ texts indexes known are.
       let sought = took_sought r texts known indexes are in
       let before = wanted_rest r texts known indexes are _ (taken_before sought next above least) in
@@ -307,5 +306,4 @@ pub within_opening : {S : Type 0} (device : Ghosts S) (test : Member → Bool)
     → AllZip (OpenedWithin device) olds news
     → AllGaveWithin device test texts indexes olds news
 within_opening device test [] indexes xs ys known are opened = grind arith
-within_opening device test (t ∷ ts) indexes xs ys known are opened =
-    grind (arith, within_opening device test ts)
+within_opening device test (t ∷ ts) indexes xs ys known are opened = grind (arith, within_opening device test ts)

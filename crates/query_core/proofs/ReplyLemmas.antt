@@ -50,8 +50,7 @@ pub fault_reply : {A E : Type 0} (told : List (Option (List ℕ))) (q : QueryVal
     → AppendsPrefix old mid (answer_text q (query_page q lines)) → IsAnswerFaultOf told fault
     → fault_text fault ≡ Some line → WritesText r mid new line → WritesSome r old new (IsPageReply told q)
 fault_reply told q lines r old mid new fault line are (rest, wrote) named is w =
-    let m = marked r old mid new wrote.front line wrote.grown w in
-    grind arith
+    let m = marked r old mid new wrote.front line wrote.grown w in grind arith
 
 -- there is one
 pub some_reply : (told : List (Option (List ℕ))) (r : Result QueryValue QueryFault) → (reply : List ℕ)
@@ -225,8 +224,7 @@ module _ (limit : ℕ) (reply : List ℕ → List ℕ) where
 pub gave_none : {S : Type 0} (device : Ghosts S) (most : Amount) (texts : List (List ℕ))
     (indexes : List (List Member)) (sources : List S) → Known (map device.text sources) texts
     → AllZip (IsIndex LINE_LIMIT) texts indexes → AllGaveAtMost device most texts indexes sources sources
-gave_none device most (t ∷ ts) (i ∷ is) (s ∷ ss) known are =
-    (omega arith, gave_none device most ts is ss known.1 are.1)
+gave_none device most (t ∷ ts) (i ∷ is) (s ∷ ss) known are = (omega arith, gave_none device most ts is ss known.1 are.1)
 gave_none device most texts indexes sources known are = grind arith
 
 pub gave_page : {S : Type 0} (device : Ghosts S) (q : QueryValue) (all : List Member) (texts : List (List ℕ))
@@ -289,8 +287,7 @@ pub spent_none : {S : Type 0} (device : Ghosts S) (limit : ℕ) (texts : List (L
     (indexes : List (List Member)) (input : Option (List ℕ)) (buffer : List ℕ) (old : Option (List ℕ))
     (sources : List S) → Known (map device.text sources) texts → AllZip (IsIndex LINE_LIMIT) texts indexes → buffer ≡ []
     → Spent device limit input (prepend_known buffer input) 0 texts indexes old old sources sources
-spent_none device limit texts indexes input buffer old sources known are e =
-    grind (arith, replied_none, gave_none)
+spent_none device limit texts indexes input buffer old sources known are e = grind (arith, replied_none, gave_none)
 
 module _ {S : Type 0} {device : Ghosts S} {limit : ℕ} {input now : Option (List ℕ)} {count : ℕ}
     {texts : List (List ℕ)} {indexes : List (List Member)} {old new : Option (List ℕ)} {olds mids : List S}
@@ -318,8 +315,7 @@ module _ {S : Type 0} {device : Ghosts S} {limit : ℕ} {input now : Option (Lis
           × AreAlike limit (without_carriage_return line) shown
       more = next s.so_far after last line takes
 
-      more_within : AllGaveAtMost device (lines_most limit all (s.so_far.done ++ more.0 ∷ [])) texts indexes olds
-          news
+      more_within : AllGaveAtMost device (lines_most limit all (s.so_far.done ++ more.0 ∷ [])) texts indexes olds news
       more_within = gave_join device (lines_most limit all s.so_far.done)
           (line_most limit all (without_carriage_return line)) (lines_most limit all (s.so_far.done ++ more.0 ∷ []))
           (λ e t i. more_sum (λ l. line_most limit all l e t i) s.so_far.done (without_carriage_return line) more.0
@@ -352,5 +348,4 @@ pub ruleset query_rules = (fault_reply, gave_page)
 
 pub ruleset line_rules = (line_tests, writes_some, gave_line, gave_none, wrote_nothing)
 
-pub ruleset serve_rules =
-    (one_reply_part, nothing_replied, spent_part, spent_stop, nothing_spent, err_from_is_err_and)
+pub ruleset serve_rules = (one_reply_part, nothing_replied, spent_part, spent_stop, nothing_spent, err_from_is_err_and)

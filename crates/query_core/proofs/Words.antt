@@ -10,7 +10,7 @@ pub use Rattle.devices.proofs.DeviceLemmas.{grows_part}
 pub use Rattle.devices.specs.LineCuts.{cut_lines, without_carriage_return}
 pub use Rattle.devices.specs.LineReading.{CountsTaken, TakesLine}
 pub use Rattle.merge_core.proofs.{Many.two_same, PairOrder.upto_upto}
-pub use Rattle.merge_core.proofs.Words.{[], ℕ, ◌&&◌, ◌++◌, ◌+◌, ◌-◌, ◌<◌, ◌^◌, ◌∙◌, ◌∷◌, ◌≡◌, ◌≤◌, ◌⊎◌, All}
+pub use Rattle.merge_core.proofs.Words.{[], ℕ, ◌&&◌, ◌++◌, ◌+◌, ◌-◌, ◌<◌, ◌^◌, ◌∙◌, ◌∷◌, ◌≡◌, ◌≤◌, ◌⊎◌}
 pub use Rattle.merge_core.proofs.Words.{AllByRecursion, AllGaveWithin, AllZip, Appends, Appends-join, Appends-none}
 pub use Rattle.merge_core.proofs.Words.{AppendsPrefix, AreLinesOf, Bool, Ghosts, Grows, HasEntry, IsAbove, IsIn}
 pub use Rattle.merge_core.proofs.Words.{IsIndex, KeepsSources, Known, LINE_LIMIT, List, Member, NeverFalls, None}
@@ -48,7 +48,7 @@ pub use Rattle.query_text.specs.Matching.{is_past, matches}
 pub use Rattle.query_text.specs.Queries.{QueryValue, query_of}
 pub use Rattle.query_text.specs.declared.fault.QueryFault.{QueryFault}
 pub use Rattle.query_text.specs.declared.query.TheConstants.{QUERY_LIMIT}
-pub use Rattle.std.proofs.Common.{◌↔◌, Err, Ok, eqb-true, le-ltb, lt-ltb, option_map, rules}
+pub use Rattle.std.proofs.Common.{◌↔◌, All, Err, Ok, eqb-true, le-ltb, lt-ltb, option_map, rules}
 pub use Rattle.std.proofs.Math.Seq.{take-append_seam}
 pub use Rattle.std.proofs.lemmas.Bool.{eqb-false, false_from_ne_true}
 pub use Rattle.std.proofs.lemmas.Bool.Decides.{nat_tests}

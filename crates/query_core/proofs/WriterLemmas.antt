@@ -58,8 +58,7 @@ module _ (q : QueryValue) (from : Option PlaceValue) where
     pub captures_joined : is_wanted q from m ≡ true
         → repeats member_place (same_part q.collapse) (place_before q from taken) m ≡ false
         → captures_over q from (taken ++ m ∷ []) ≡ captures_over q from taken ++ m ∷ []
-    captures_joined h r =
-        let split = captures_split (taken ++ m ∷ []) taken (m ∷ []) (joined h) in grind arith
+    captures_joined h r = let split = captures_split (taken ++ m ∷ []) taken (m ∷ []) (joined h) in grind arith
 
 -- ---- what a selection takes
 

@@ -20,8 +20,7 @@ use Rattle.scan_core.specs.{Failures.CountsAt, Scanning.LeavesUnread}
 names_push : (earlier names : List (List ℕ)) (name : List ℕ) → AreNewNames earlier names
     → IsNewName (earlier ++ names) name → AreNewNames earlier (names ++ name ∷ [])
 names_push earlier [] name h k = grind (arith, append-nil)
-names_push earlier (n ∷ names) name h k =
-    grind (arith, append_assoc, names_push (earlier ++ n ∷ []) names name h.1)
+names_push earlier (n ∷ names) name h k = grind (arith, append_assoc, names_push (earlier ++ n ∷ []) names name h.1)
 
 accepted_push : (types : Kind → Bool) (names : List (List ℕ)) (inputs : List (Option (List ℕ)))
     (archives : List (List EntryValue)) (name : List ℕ) (input : Option (List ℕ)) (captures : List EntryValue)

@@ -54,10 +54,9 @@ apart earlier name e named (o ∷ others) h = (
   apart earlier name e named others h.1,
 )
 
-own_join : (earlier : List (List ℕ)) (name : List ℕ) (captures others : List EntryValue)
-    → AreNamed name captures → HaveOwnPlaces captures
-    → AllByRecursion (λ o. is_among (earlier ++ name ∷ []) o.filename ≡ false) others → HaveOwnPlaces others
-    → HaveOwnPlaces (captures ++ others)
+own_join : (earlier : List (List ℕ)) (name : List ℕ) (captures others : List EntryValue) → AreNamed name captures
+    → HaveOwnPlaces captures → AllByRecursion (λ o. is_among (earlier ++ name ∷ []) o.filename ≡ false) others
+    → HaveOwnPlaces others → HaveOwnPlaces (captures ++ others)
 own_join earlier name [] others named own new h = h
 own_join earlier name (e ∷ captures) others named own new h =
     grind (arith, each_join, apart, own_join earlier name captures others named.1 own.1 new h)

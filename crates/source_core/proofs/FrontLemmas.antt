@@ -39,9 +39,6 @@ reads_first : (t : List ℕ) (offset : ℕ) (front : List ℕ) (ends : Bool) →
     → FirstIs (drop offset t) front
 reads_first t offset front ends r h = grind (arith, append-nil front, goes_first)
 
-take-append : (n : ℕ) (x y : List ℕ) → length x ≤ n → take n (x ++ y) ≡ x ++ take (n - length x) y
-take-append n x y h = grind (arith, take-append-add x y (n - length x))
-
 -- ---- the answers of a test
 
 module _ (limit : ℕ) (start : Pair) where
@@ -53,13 +50,10 @@ module _ (limit : ℕ) (start : Pair) where
   decided_by t offset front ends below None r some short e h = absurd (cc)
   decided_by t offset front ends below (Some p) r some short e h =
       let first = reads_first t offset front ends r some in
+      let taken : take limit (front ++ first.0) ≡ front ++ take (limit - length front) first.0 =
+      grind (arith, take-append-add front first.0 (limit - length front)) in
       let same : below ≡ is_below start p = cc in
-      rw (
-        first.2,
-        take-append limit front first.0 short,
-        pair_longer front (take (limit - length front) first.0) p e,
-        same,
-      )
+      rw (first.2, taken, pair_longer front (take (limit - length front) first.0) p e, same)
 
   -- the front has a pair, so it isn't empty
   pub decided_at : (t : List ℕ) (offset : ℕ) (front held : List ℕ) (ends below : Bool) → held ≡ front

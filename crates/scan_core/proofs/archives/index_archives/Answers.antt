@@ -30,8 +30,7 @@ returns-in-Err-clause-refused g c =
     first_fault c.loop-i.invariant (omega arith) _ c.in-Err.fault c.in-Err.ensures.refused
 
 pub returns-in-Err-clause-unread : goal.returns-in-Err-clause-unread
-returns-in-Err-clause-unread g c =
-    unread_at c.loop-i.invariant (omega arith) _ _ c.in-Err.fault c.in-Err.ensures.unread
+returns-in-Err-clause-unread g c = unread_at c.loop-i.invariant (omega arith) _ _ c.in-Err.fault c.in-Err.ensures.unread
 
 pub returns-in-Err-clause-failures : goal.returns-in-Err-clause-failures
 returns-in-Err-clause-failures g c =
@@ -52,8 +51,7 @@ returns-in-Err-push-clause-unread g c =
     (λ n. absurd n)
 
 pub returns-in-Err-push-clause-failures : goal.returns-in-Err-push-clause-failures
-returns-in-Err-push-clause-failures g c =
-    counts_at c.loop-i.invariant (omega arith) _ _ Memory c.in-Ok.ensures.failures
+returns-in-Err-push-clause-failures g c = counts_at c.loop-i.invariant (omega arith) _ _ Memory c.in-Ok.ensures.failures
 
 -- ---- all are indexed
 
