@@ -4,14 +4,17 @@ use std::alloc::AllocError;
 use thiserror::Error;
 
 /// Why a line couldn't be read.
-#[derive(Clone, Copy, Drop)]
+#[derive(Clone, Copy, Debug, Drop, PartialEq, Eq, Error)]
 pub enum LineReadFault {
     /// Memory could not be allocated.
+    #[error("out of memory")]
     Memory,
     /// The source failed.
+    #[error("the source can't be read")]
     Read,
     /// The line is longer than [`LINE_LIMIT`](cdxj_core::LINE_LIMIT) bytes, including its line
     /// feed, if it has one.
+    #[error("the line is too long")]
     Long,
 }
 
