@@ -107,20 +107,29 @@ end_of form choice words = after form (choice_rows form choice ++ operand_rows f
 operands_in : (form : Form) (choice : Option Text) (words : List Text) → MayChoose form choice → fits form words ≡ true
     → AllPlain words → fold (walked (rules_of form) []) (start form choice) words ≡ end_of form choice words
 unfolding walked
-operands_in (OfNames make) None (a ∷ more) m f p =
-    let rest = walk_on (OfNames make) [] (a ∷ []) more refl p.1 in grind arith
-operands_in (OfQuery make) None (a ∷ b ∷ more) m f p =
-    let rest = walk_on (OfQuery make) (query_row a) (b ∷ []) more refl p.1.1 in grind arith
-operands_in (OfSizes make) None (a ∷ b ∷ c ∷ more) m f p =
-    let rest = walk_on (OfSizes make) (sizes_rows a b) (c ∷ []) more refl p.1.1.1 in grind arith
-operands_in (OfOffset make) choice (a ∷ b ∷ []) m f p = grind arith
-operands_in (OfTyped make) choice (a ∷ more) m f p =
-    let rest = walk_on (OfTyped make) (choice_rows (OfTyped make) choice) (a ∷ []) more refl p.1 in grind arith
-operands_in (OfTypedSizes make) None (a ∷ b ∷ c ∷ more) m f p =
-    let rest = walk_on (OfTypedSizes make) (sizes_rows a b) (c ∷ []) more refl p.1.1.1 in grind arith
-operands_in (OfTypedSizes make) (Some text) (a ∷ b ∷ c ∷ more) m f p =
-    let rest = walk_on (OfTypedSizes make) (choice_rows (OfTypedSizes make) (Some text) ++ sizes_rows a b) (c ∷ []) more refl p.1.1.1 in
-    grind arith
+operands_in (OfNames make) None (a ∷ more) m f (p, e) =
+    rw (p.dashes, p.long, p.short) (walk_on (OfNames make) [] (a ∷ []) more refl e)
+operands_in (OfQuery make) None (a ∷ b ∷ more) m f (p, (q, e)) =
+    rw (p.dashes, p.long, p.short, q.dashes, q.long, q.short)
+    (walk_on (OfQuery make) (query_row a) (b ∷ []) more refl e)
+operands_in (OfSizes make) None (a ∷ b ∷ c ∷ more) m f (p, (q, (r, e))) =
+    rw (p.dashes, p.long, p.short, q.dashes, q.long, q.short, r.dashes, r.long, r.short)
+    (walk_on (OfSizes make) (sizes_rows a b) (c ∷ []) more refl e)
+operands_in (OfOffset make) None (a ∷ b ∷ []) m f (p, (q, e)) =
+    rw (p.dashes, p.long, p.short, q.dashes, q.long, q.short) refl
+operands_in (OfOffset make) (Some text) (a ∷ b ∷ []) m f (p, (q, e)) =
+    rw (p.dashes, p.long, p.short, q.dashes, q.long, q.short) refl
+operands_in (OfTyped make) None (a ∷ more) m f (p, e) =
+    rw (p.dashes, p.long, p.short) (walk_on (OfTyped make) [] (a ∷ []) more refl e)
+operands_in (OfTyped make) (Some text) (a ∷ more) m f (p, e) =
+    rw (p.dashes, p.long, p.short)
+    (walk_on (OfTyped make) (choice_rows (OfTyped make) (Some text)) (a ∷ []) more refl e)
+operands_in (OfTypedSizes make) None (a ∷ b ∷ c ∷ more) m f (p, (q, (r, e))) =
+    rw (p.dashes, p.long, p.short, q.dashes, q.long, q.short, r.dashes, r.long, r.short)
+    (walk_on (OfTypedSizes make) (sizes_rows a b) (c ∷ []) more refl e)
+operands_in (OfTypedSizes make) (Some text) (a ∷ b ∷ c ∷ more) m f (p, (q, (r, e))) =
+    rw (p.dashes, p.long, p.short, q.dashes, q.long, q.short, r.dashes, r.long, r.short)
+    (walk_on (OfTypedSizes make) (choice_rows (OfTypedSizes make) (Some text) ++ sizes_rows a b) (c ∷ []) more refl e)
 operands_in _ _ _ m f p = cc
 
 ends : (form : Form) (choice : Option Text) (words : List Text) → MayChoose form choice → fits form words ≡ true
@@ -130,21 +139,30 @@ ends form choice words m f p = grind (arith, begun, operands_in)
 operands_clear : (name : Text) (form : Form) (choice : Option Text) (words : List Text) → MayChoose form choice
     → fits form words ≡ true → AllPlain words → walk_fault (shaped (name, form)) [] (start form choice) words ≡ []
 unfolding walk_fault walked
-operands_clear name (OfNames make) None (a ∷ more) m f p =
-    let rest = walk_clear name (OfNames make) [] (a ∷ []) more refl p.1 in grind arith
-operands_clear name (OfQuery make) None (a ∷ b ∷ more) m f p =
-    let rest = walk_clear name (OfQuery make) (query_row a) (b ∷ []) more refl p.1.1 in grind arith
-operands_clear name (OfSizes make) None (a ∷ b ∷ c ∷ more) m f p =
-    let rest = walk_clear name (OfSizes make) (sizes_rows a b) (c ∷ []) more refl p.1.1.1 in grind arith
-operands_clear name (OfOffset make) choice (a ∷ b ∷ []) m f p = grind arith
-operands_clear name (OfTyped make) choice (a ∷ more) m f p =
-    let rest = walk_clear name (OfTyped make) (choice_rows (OfTyped make) choice) (a ∷ []) more refl p.1 in grind arith
-operands_clear name (OfTypedSizes make) None (a ∷ b ∷ c ∷ more) m f p =
-    let rest = walk_clear name (OfTypedSizes make) (sizes_rows a b) (c ∷ []) more refl p.1.1.1 in grind arith
-operands_clear name (OfTypedSizes make) (Some text) (a ∷ b ∷ c ∷ more) m f p =
-    let rest = walk_clear name (OfTypedSizes make) (choice_rows (OfTypedSizes make) (Some text) ++ sizes_rows a b) (c ∷ []) more refl
-    p.1.1.1 in
-    grind arith
+operands_clear name (OfNames make) None (a ∷ more) m f (p, e) =
+    rw (p.dashes, p.long, p.short) (walk_clear name (OfNames make) [] (a ∷ []) more refl e)
+operands_clear name (OfQuery make) None (a ∷ b ∷ more) m f (p, (q, e)) =
+    rw (p.dashes, p.long, p.short, q.dashes, q.long, q.short)
+    (walk_clear name (OfQuery make) (query_row a) (b ∷ []) more refl e)
+operands_clear name (OfSizes make) None (a ∷ b ∷ c ∷ more) m f (p, (q, (r, e))) =
+    rw (p.dashes, p.long, p.short, q.dashes, q.long, q.short, r.dashes, r.long, r.short)
+    (walk_clear name (OfSizes make) (sizes_rows a b) (c ∷ []) more refl e)
+operands_clear name (OfOffset make) None (a ∷ b ∷ []) m f (p, (q, e)) =
+    rw (p.dashes, p.long, p.short, q.dashes, q.long, q.short) refl
+operands_clear name (OfOffset make) (Some text) (a ∷ b ∷ []) m f (p, (q, e)) =
+    rw (p.dashes, p.long, p.short, q.dashes, q.long, q.short) refl
+operands_clear name (OfTyped make) None (a ∷ more) m f (p, e) =
+    rw (p.dashes, p.long, p.short) (walk_clear name (OfTyped make) [] (a ∷ []) more refl e)
+operands_clear name (OfTyped make) (Some text) (a ∷ more) m f (p, e) =
+    rw (p.dashes, p.long, p.short)
+    (walk_clear name (OfTyped make) (choice_rows (OfTyped make) (Some text)) (a ∷ []) more refl e)
+operands_clear name (OfTypedSizes make) None (a ∷ b ∷ c ∷ more) m f (p, (q, (r, e))) =
+    rw (p.dashes, p.long, p.short, q.dashes, q.long, q.short, r.dashes, r.long, r.short)
+    (walk_clear name (OfTypedSizes make) (sizes_rows a b) (c ∷ []) more refl e)
+operands_clear name (OfTypedSizes make) (Some text) (a ∷ b ∷ c ∷ more) m f (p, (q, (r, e))) =
+    rw (p.dashes, p.long, p.short, q.dashes, q.long, q.short, r.dashes, r.long, r.short)
+    (walk_clear name (OfTypedSizes make) (choice_rows (OfTypedSizes make) (Some text) ++ sizes_rows a b) (c ∷ []) more
+    refl e)
 operands_clear _ _ _ _ m f p = cc
 
 clear : (name : Text) (form : Form) (choice : Option Text) (words : List Text) → MayChoose form choice
@@ -165,17 +183,23 @@ pub level_unfit : (name : Text) (form : Form) (choice : Option Text) (words : Li
     → are_usage (level_fault (shaped (name, form)) [] nothing_held (choice_words form choice ++ words) false []) ≡ true
 unfolding walk_fault walked defaults_fault
 level_unfit name (OfNames make) None [] m f p = refl
-level_unfit name (OfQuery make) None words m f p = grind arith
+level_unfit name (OfQuery make) None [] m f p = refl
+level_unfit name (OfQuery make) None (a ∷ []) m f (p, e) = rw (p.dashes, p.long, p.short) refl
 level_unfit name (OfSizes make) None [] m f p = refl
 level_unfit name (OfSizes make) None (a ∷ []) m f (p, e) = rw (p.dashes, p.long, p.short) refl
-level_unfit name (OfSizes make) None (a ∷ b ∷ []) m f (p, (q, e)) = grind arith
+level_unfit name (OfSizes make) None (a ∷ b ∷ []) m f (p, (q, e)) =
+    rw (p.dashes, p.long, p.short, q.dashes, q.long, q.short) refl
 level_unfit name (OfOffset make) None [] m f p = refl
 level_unfit name (OfOffset make) None (a ∷ []) m f (p, e) = rw (p.dashes, p.long, p.short) refl
-level_unfit name (OfOffset make) None (a ∷ b ∷ c ∷ more) m f (p, (q, (r, e))) = grind arith
+level_unfit name (OfOffset make) None (a ∷ b ∷ c ∷ more) m f (p, (q, (r, e))) =
+    rw (p.dashes, p.long, p.short, q.dashes, q.long, q.short, r.dashes, r.long, r.short) refl
 level_unfit name (OfOffset make) (Some text) [] (t, c) f p = rw (c.dashes, c.long, c.short) refl
-level_unfit name (OfOffset make) (Some text) (a ∷ []) (t, c) f (p, e) = grind arith
-level_unfit name (OfOffset make) (Some text) (a ∷ b ∷ x ∷ more) (t, c) f (p, (q, (r, e))) = grind arith
-level_unfit name (OfTyped make) choice [] m f p = grind arith
+level_unfit name (OfOffset make) (Some text) (a ∷ []) (t, c) f (p, e) =
+    rw (c.dashes, c.long, c.short, p.dashes, p.long, p.short) refl
+level_unfit name (OfOffset make) (Some text) (a ∷ b ∷ x ∷ more) (t, c) f (p, (q, (r, e))) =
+    rw (c.dashes, c.long, c.short, p.dashes, p.long, p.short, q.dashes, q.long, q.short, r.dashes, r.long, r.short) refl
+level_unfit name (OfTyped make) None [] m f p = refl
+level_unfit name (OfTyped make) (Some text) [] (t, c) f p = rw (c.dashes, c.long, c.short) refl
 level_unfit name (OfTypedSizes make) None [] m f p = refl
 level_unfit name (OfTypedSizes make) None (a ∷ []) m f (p, e) = rw (p.dashes, p.long, p.short) refl
 level_unfit name (OfTypedSizes make) None (a ∷ b ∷ []) m f (p, (q, e)) =

@@ -1,10 +1,20 @@
--- What clap knows of an argument of a command.
-use Rattle.clap.specs.Words.{Rule}
+-- What clap knows of the arguments of a command, and of the commands of the program.
+use Rattle.std.specs.Prelude.{List, [], true, fold, map}
+use Rattle.clap.specs.Words.{App, Rule, with_subcommand}
 use Rattle.command_line.specs.declared.command.Argument.{Argument}
 use Rattle.command_line.specs.declared.command.Argument.TheVariants as argument
-use Rattle.command_line.specs.Clap.{names_rule, option_rule, word_rule}
+use Rattle.command_line.specs.Words.{Text}
+use Rattle.command_line.specs.Commands.{Form}
+use Rattle.command_line.specs.Clap.{command_for, names_rule, option_rule, program, word_rule}
 
 abbrev pub rule_for : Argument → Rule
 rule_for (argument.Option id operand) = option_rule id.now
 rule_for (argument.Word id operand) = word_rule id.now
 rule_for (argument.Names operand) = names_rule
+
+abbrev pub without_commands : App
+without_commands = record { top = record program { is_leaf = true }; subs = [] }
+
+-- these commands after those that are there
+abbrev pub with_commands : App → List (Text × Form) → App
+with_commands app more = fold with_subcommand app (map command_for more)

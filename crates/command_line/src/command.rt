@@ -1,7 +1,8 @@
 //! The command line as a clap command.
-ghost use Rattle.std.specs.Prelude.{◌≡◌, IfOk, false, map};
+ghost use Rattle.std.specs.Prelude.{◌≡◌, IfOk, drop, false, map, take};
 ghost use Rattle.clap.specs.Words.{app_of, rule_of, with_subcommand};
-ghost use Rattle.command_line.specs.Arguments.{rule_for};
+ghost use Rattle.command_line.specs.Arguments.{rule_for, with_commands, without_commands};
+ghost use Rattle.command_line.specs.Commands.{commands};
 ghost use Rattle.command_line.specs.Clap.{word_rule, names_rule, option_rule, command_with, warcdx};
 
 use crate::help::archives::{GET, INDEX, LIST, SCAN, VERIFY};
@@ -27,33 +28,70 @@ enum Argument<'a> {
 pub fn command_line<'a>(alloc: Global) -> Result<Command<'a>, AllocError>
     ensures { IfOk result (λ command. app_of command ≡ warcdx) }
 {
-    let program = Command::new(alloc, "warcdx")
+    let program = with_archive_commands(program(alloc)?, alloc)?;
+    let program = with_index_commands(program, alloc)?;
+    with_record_commands(program, alloc)
+}
+
+/// Returns the clap command of the program without subcommands.
+fn program<'a>(alloc: Global) -> Result<Command<'a>, AllocError>
+    ensures { IfOk result (λ command. app_of command ≡ without_commands) }
+{
+    Ok(Command::new(alloc, "warcdx")
         .bin_name("warcdx")?
         .about(PROGRAM.about)
         .after_help(PROGRAM.details)
         .no_binary_name(true)
-        .disable_help_subcommand(true);
+        .disable_help_subcommand(true))
+}
+
+/// Adds the subcommands that list, verify and index archives.
+fn with_archive_commands<'a>(
+    program: Command<'a>,
+    alloc: Global,
+) -> Result<Command<'a>, AllocError>
+    ensures { IfOk result (λ more. app_of more
+        ≡ with_commands (app_of program.entry) (take 3 commands)) }
+{
+    let types = Argument::Option("types", TYPES);
+    let name = Argument::Option("name", NAME);
+    let archives = Argument::Names(ARCHIVE);
+    let list = with_command(program, alloc, "list", LIST, &[archives])?;
+    let verify = with_command(list, alloc, "verify", VERIFY, &[archives])?;
+    with_command(verify, alloc, "index", INDEX, &[types, name, archives])
+}
+
+/// Adds the subcommands over indexes.
+fn with_index_commands<'a>(program: Command<'a>, alloc: Global) -> Result<Command<'a>, AllocError>
+    ensures { IfOk result (λ more. app_of more
+        ≡ with_commands (app_of program.entry) (take 5 (drop 3 commands))) }
+{
+    let text = Argument::Word("query", QUERY_TEXT);
+    let sizes = Argument::Word("sizes", SIZES);
+    let indexes = Argument::Names(CDXJ);
+    let merge = with_command(program, alloc, "merge", MERGE, &[indexes])?;
+    let check = with_command(merge, alloc, "check", CHECK, &[indexes])?;
+    let query = with_command(check, alloc, "query", QUERY, &[text, indexes])?;
+    let pages = with_command(query, alloc, "pages", PAGES, &[sizes, text, indexes])?;
+    with_command(pages, alloc, "serve", SERVE, &[indexes])
+}
+
+/// Adds the subcommands that write one record of an archive, and answer a query over archives.
+fn with_record_commands<'a>(program: Command<'a>, alloc: Global) -> Result<Command<'a>, AllocError>
+    ensures { IfOk result (λ more. app_of more
+        ≡ with_commands (app_of program.entry) (drop 8 commands)) }
+{
     let types = Argument::Option("types", TYPES);
     let name = Argument::Option("name", NAME);
     let text = Argument::Word("query", QUERY_TEXT);
     let sizes = Argument::Word("sizes", SIZES);
-    let indexes = Argument::Names(CDXJ);
     let archives = Argument::Names(ARCHIVE);
     let length = Argument::Option("length", LENGTH);
     let offset = Argument::Word("offset", OFFSET);
     let archive = Argument::Word("name", ARCHIVE);
-    let list = with_command(program, alloc, "list", LIST, &[archives])?;
-    let verify = with_command(list, alloc, "verify", VERIFY, &[archives])?;
-    let index = with_command(verify, alloc, "index", INDEX, &[types, name, archives])?;
-    let merge = with_command(index, alloc, "merge", MERGE, &[indexes])?;
-    let check = with_command(merge, alloc, "check", CHECK, &[indexes])?;
-    let query = with_command(check, alloc, "query", QUERY, &[text, indexes])?;
-    let pages = with_command(query, alloc, "pages", PAGES, &[sizes, text, indexes])?;
-    let serve = with_command(pages, alloc, "serve", SERVE, &[indexes])?;
-    let get = with_command(serve, alloc, "get", GET, &[length, offset, archive])?;
+    let get = with_command(program, alloc, "get", GET, &[length, offset, archive])?;
     let all = &[types, name, sizes, text, archives];
-    let scan = with_command(get, alloc, "scan", SCAN, all)?;
-    Ok(scan)
+    with_command(get, alloc, "scan", SCAN, all)
 }
 
 /// Adds a subcommand that takes these arguments, in this order.

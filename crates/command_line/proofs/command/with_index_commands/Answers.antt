@@ -1,0 +1,14 @@
+use Rattle.std.proofs.Common.{◌≡◌, refl}
+use Rattle.std.proofs.lemmas.Result.{IfOk-weaker}
+use Rattle.clap.specs.Words.{app_of}
+use Rattle.command_line.proofs.CommandArguments.{more}
+use Rattle.command_line.proofs.command.with_index_commands.Goals as goal
+
+pub returns : goal.returns
+returns c =
+    let start : app_of c.args.program ≡ app_of c.args.program = refl in
+    IfOk-weaker c.with_command-5.result _ _
+    (λ command added. more _ added
+    (more _ c.in_ok-pages.ensures
+    (more _ c.in_ok-query.ensures (more _ c.in_ok-check.ensures (more _ c.in_ok-merge.ensures start)))))
+    c.with_command-5.ensures
