@@ -62,6 +62,7 @@ module _ {U V : Type 0} (less : U → V) where
 
   pub performs_less : (files : Openings) (before after : Option (List ℕ)) (outcome : Outcome) (task : Meaning)
       → Performs files before after U outcome task → Performs files before after V outcome task
+  unfolding Performs
   performs_less files before after outcome (ToList names) h = h
   performs_less files before after outcome (ToVerify names) h = h
   performs_less files before after outcome (ToIndex types input names) h =

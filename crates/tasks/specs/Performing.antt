@@ -30,7 +30,7 @@ module _ (files : Openings) (before after : Option (List ℕ)) (unchanged : Type
   abbrev pub OverIndexFiles : List (List ℕ) → Type 0 → Type 0
   OverIndexFiles names done = OpensFirst (AreUnopenedIndexes files.IndexFailed names outcome) unchanged done
 
-  abbrev pub Performs : Meaning → Type 0
+  unfoldable pub Performs : Meaning → Type 0
   Performs (ToList names) = ReportsOn files.archive_of files.ArchiveFailed reports.Listing names before after outcome
   Performs (ToVerify names) =
       ReportsOn files.archive_of files.ArchiveFailed reports.Verdicts names before after outcome

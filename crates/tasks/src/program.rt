@@ -181,6 +181,7 @@ fn perform_on_system<R: Runtime + AllocGlobal, O: Output>(
 }
 
 /// Performs the task with this output.
+#[tactic(auto, unfolding(crate::specs::Performing::Performs))]
 pub fn perform<R: Runtime + AllocGlobal, F: Opener, O: Output>(
     rt: &R,
     files: &F,

@@ -3,12 +3,14 @@ use Rattle.capture_core.specs.Types.{includes}
 use Rattle.command_line.specs.Words.{texts}
 use Rattle.tasks.specs.Indexing.{bytes_of_name}
 use Rattle.tasks.specs.Opening.{AreUnopenedIndexes, OpensFirst}
+use Rattle.tasks.specs.Performing.{Performs}
 use Rattle.tasks.specs.Queries.{AnswersLines}
 use Rattle.tasks.specs.Scanning.{ScansNamed}
 use Rattle.tasks.proofs.UntoldLines.{served_told}
 use Rattle.tasks.proofs.program.perform.Goals as goal
 
 pub returns-in-Scan-clause-performs : goal.returns-in-Scan-clause-performs
+unfolding Performs
 returns-in-Scan-clause-performs g c =
     let task = c.in-Scan in
     let old = c.args.out.now in
@@ -27,6 +29,7 @@ returns-in-Scan-clause-performs g c =
     c.scan_all.ensures.scans))))
 
 pub returns-in-Serve-clause-performs : goal.returns-in-Serve-clause-performs
+unfolding Performs
 returns-in-Serve-clause-performs g c =
     let opener = g.F.Opener in
     let files = c.args.files.now in
