@@ -148,6 +148,7 @@ module _ (before after : List ℕ) where
 module _ (before after : List ℕ) (unchanged : Type 0) where
   pub checks : HasOneList → Performs shelf (Some before) (Some after) unchanged outcomes.Done (ToCheck (index_name ∷ []))
       → after ≡ before ++ codes "a.cdxj 1\n"
+  unfolding Performs
   checks one (ended, next, step, rest) =
       let d = one_done ended next (Some after) rest in
       checked_one before after one (subst (λ s. ChecksOne shelf.index_of shelf.IndexFailed (Some before) index_name
@@ -157,11 +158,13 @@ module _ (before after : List ℕ) (unchanged : Type 0) where
   pub merges : MergeIsOne
       → Performs shelf (Some before) (Some after) unchanged outcomes.Done (ToMerge (index_name ∷ index_name ∷ []))
       → after ≡ before ++ a_line
+  unfolding Performs
   merges one (inl m) = merged before after one m.answer m.outcome_is (m.merged (a_line ∷ a_line ∷ []) (refl, (refl, tt)))
   merges one (inr unopened) = grind arith
 
   pub queries : Performs shelf (Some before) (Some after) unchanged outcomes.Done (ToQuery orgs_text (index_name ∷ []))
       → after ≡ before ++ codes "org,a)/ 0\n"
+  unfolding Performs
   queries (inl (q, meaning, inl a)) =
       let b = subst (λ x. AnswersQuery x (Some a_line ∷ []) (Some before) (Some after) unchanged outcomes.Done)
       (orgs_is q meaning) a in
@@ -172,6 +175,7 @@ module _ (before after : List ℕ) (unchanged : Type 0) where
   pub paginates : PagesAreOne
       → Performs shelf (Some before) (Some after) unchanged outcomes.Done (ToPages (1 ∷ []) orgs_text (index_name ∷ []))
       → after ≡ before ++ codes "org,a)/ 0\n"
+  unfolding Performs
   paginates one (inl (q, meaning, inl a)) =
       let b = subst (λ x. AnswersPages x (1 ∷ []) (Some a_line ∷ []) (Some before) (Some after) unchanged outcomes.Done)
       (orgs_is q meaning) a in
@@ -181,12 +185,14 @@ module _ (before after : List ℕ) (unchanged : Type 0) where
 
   pub serves : Performs shelf (Some before) (Some after) unchanged outcomes.Done (ToServe (index_name ∷ []))
       → after ≡ before ++ codes "org,a)/\n.\n"
+  unfolding Performs
   serves (inl a) = replied before after a.answer a.outcome_is
       (a.replies (a_line ∷ []) members (refl, tt) (line_is_index.read, tt))
   serves (inr unopened) = grind arith
 
   pub scans : ScanIsOne → Performs shelf (Some before) (Some after) unchanged outcomes.Done
       (ToScan usual_types None (1 ∷ []) orgs_text (archive_name ∷ [])) → after ≡ before ++ codes "org,a)/ 0\n"
+  unfolding Performs
   scans one (inl (q, meaning, inl s)) = scanned before after one s.answer s.outcome_is s.scanned
   scans one (inl (q, meaning, inr unopened)) = grind arith
   scans one (inr refused) = grind arith

@@ -105,15 +105,18 @@ module _ (before after : List ℕ) (unchanged : Type 0) where
   pub lists : HasOneReading
       → Performs shelf (Some before) (Some after) unchanged outcomes.Done (ToList (archive_name ∷ []))
       → after ≡ before ++ codes "0 201 resource\n"
+  unfolding Performs
   lists one p = reported reports.Listing _ before after (λ start. listed one start after) p
 
   pub verifies : HasOneReading
       → Performs shelf (Some before) (Some after) unchanged outcomes.Done (ToVerify (archive_name ∷ []))
       → after ≡ before ++ codes "0 absent\n"
+  unfolding Performs
   verifies one p = reported reports.Verdicts _ before after (λ start. verified one start after) p
 
   pub gets : OneStands → Performs shelf (Some before) (Some after) unchanged outcomes.Done (ToGet None 0 archive_name)
       → after ≡ before ++ a_archive
+  unfolding Performs
   gets one (inl w) = fetched one before after w.answer w.outcome_is w.fetches
   gets one (inr unopened) = grind arith
 
@@ -140,6 +143,7 @@ indexed before after held outcome are (Err f, is, fault, text) = grind arith
 pub indexes : OneIndexed → (before after : List ℕ) (unchanged : Type 0)
     → Performs shelf (Some before) (Some after) unchanged outcomes.Done (ToIndex usual_types None (archive_name ∷ []))
     → after ≡ before ++ a_line
+unfolding Performs
 indexes one before after unchanged (held, reached, (ended, next, step, rest), write) =
     let w = added_done reached unchanged held (Some before) (Some after) write in
     let d = one_done ended next held (subst (λ r. MatchBool (ends_command ended) ((r ≡ ended) × (held ≡ next))

@@ -1,10 +1,12 @@
 use Rattle.std.specs.Prelude.{⊤}
+use Rattle.tasks.specs.Performing.{Performs}
 use Rattle.door_examples.proofs.ShelfFiles.{on_shelf}
 use Rattle.door_examples.proofs.ShelfQueries.{checks, merges, queries, paginates, serves, scans}
 use Rattle.door_examples.proofs.ShelfReports.{lists, verifies, gets, indexes}
 use Rattle.door_examples.proofs.shelf.perform_on_shelf.Goals as goal
 
 pub returns : goal.returns
+unfolding Performs
 returns g c archive index input is = record {
   list = λ same. lists _ _ ⊤ c.one_reading.ensures (on_shelf _ _ _ _ _ _ _ _ _ archive index input is same c.perform.ensures.performs);
   verify = λ same. verifies _ _ ⊤ c.one_reading.ensures (on_shelf _ _ _ _ _ _ _ _ _ archive index input is same c.perform.ensures.performs);
