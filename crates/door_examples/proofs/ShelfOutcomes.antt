@@ -5,10 +5,11 @@ use Rattle.tasks.specs.declared.outcome.Outcome.{Outcome}
 use Rattle.tasks.specs.declared.outcome.Outcome.TheVariants as outcomes
 use Rattle.index_core.specs.Indexing.{Held}
 use Rattle.tasks.specs.Indexing.{WritesIndex}
-use Rattle.tasks.specs.Outcome.{ends_command, worse_of}
+use Rattle.tasks.specs.Outcome.{ends_command, exit_status_of, worse_of}
 
 -- an outcome that is no worse than done, is done
 worse_is_done : (ended : Outcome) → outcomes.Done ≡ worse_of outcomes.Done ended → ended ≡ outcomes.Done
+unfolding exit_status_of
 worse_is_done outcomes.Done e = refl
 worse_is_done ended e = grind arith
 
@@ -29,6 +30,7 @@ pub added_done : (reached : Outcome) (unchanged : Type 0) (held : Held) (before 
     → MatchBool (ends_command reached) ((outcomes.Done ≡ reached) × unchanged)
     (WritesIndex held reached before after outcomes.Done)
     → (reached ≡ outcomes.Done) × WritesIndex held reached before after outcomes.Done
+unfolding ends_command
 added_done outcomes.Done unchanged held before after w = (refl, w)
 added_done reached unchanged held before after w = go (ends_command reached) refl w
   where

@@ -3,9 +3,10 @@ use native.Mathlib.Omega.{arith}
 use Rattle.std.proofs.Common.{◌≡◌, Bool, true, false, refl}
 use Rattle.tasks.specs.declared.outcome.Outcome.TheVariants as outcomes
 use Rattle.tasks.specs.declared.outcome.Outcome.{Outcome}
-use Rattle.tasks.specs.Outcome.{ZeroIsDone, flushed_outcome}
+use Rattle.tasks.specs.Outcome.{ZeroIsDone, exit_status_of, flushed_outcome}
 
 pub zero_is_done : ZeroIsDone
+unfolding exit_status_of
 zero_is_done outcomes.Done true e = (refl, refl)
 zero_is_done outcome flushed e = grind arith
 

@@ -49,7 +49,7 @@ answer_status answers.TooManySources = 1
 answer_status answers.BadSizes = 2
 answer_status answers.Input = 3
 
-abbrev pub exit_status_of : Outcome → ℕ
+unfoldable pub exit_status_of : Outcome → ℕ
 exit_status_of outcomes.Done = 0
 exit_status_of outcomes.Differs = 1
 exit_status_of outcomes.Usage = 2
@@ -68,7 +68,7 @@ abbrev pub capture_ends : CaptureFault → Bool
 capture_ends (captures.Archive f) = is_memory f.cause
 capture_ends f = false
 
-abbrev pub ends_command : Outcome → Bool
+unfoldable pub ends_command : Outcome → Bool
 ends_command (outcomes.Index faults.Memory) = true
 ends_command (outcomes.Index faults.Write) = true
 ends_command (outcomes.Index (faults.Capture f)) = capture_ends f

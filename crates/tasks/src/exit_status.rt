@@ -11,6 +11,7 @@ use warc_core::Cause;
 /// Returns the exit status: 0 if everything was done; 1 for a fault in an archive or an index, a refused query or name,
 /// too many indexes or archives, a digest that differs, or an offset where no record begins; 2 for a usage error; 3 if
 /// memory, a device or a file failed.
+#[tactic(auto, unfolding(crate::specs::Outcome::exit_status_of))]
 pub fn status(outcome: &Outcome) -> u8
     ensures { result ≡ exit_status_of outcome.now }
 {
@@ -99,6 +100,7 @@ pub fn worse(first: Outcome, second: Outcome) -> Outcome
 
 /// Returns `true` if a command ends at once with this outcome, and doesn't go on to its next file. That is so if memory
 /// or the output failed.
+#[tactic(auto, unfolding(crate::specs::Outcome::ends_command))]
 pub fn ends_command(outcome: &Outcome) -> bool
     ensures { result ≡ ends_command outcome.now }
 {

@@ -74,6 +74,7 @@ fn add_opened<R: Runtime, I: Input + Drop>(
 }
 
 /// Writes the index, unless the command has ended.
+#[tactic(auto, unfolding(crate::specs::Outcome::ends_command))]
 fn write_index<O: Output>(indexer: &Indexer, added: Outcome, out: &mut O) -> Outcome
     ensures ended { ends_command added ≡ true → (result ≡ added) × (out.new ≡ out.old) }
     ensures written { ends_command added ≡ false →

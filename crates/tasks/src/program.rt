@@ -40,6 +40,7 @@ const ARGUMENT_ROOM: usize = 4_096;
 
 /// Runs the program, and returns its exit status. It is 0 only if the task of the arguments ended as done, or if they
 /// asked for help.
+#[tactic(auto, unfolding(crate::specs::Outcome::exit_status_of))]
 pub fn run<R: Runtime + AllocGlobal>(rt: &R, input: StandardInput) -> u8
     ensures { result ≡ 0 → EndsAsDone }
 {

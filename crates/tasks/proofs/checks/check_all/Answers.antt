@@ -1,5 +1,6 @@
 use Rattle.std.proofs.Common.{refl, rules}
 use Rattle.tasks.specs.Checks.{ChecksOne}
+use Rattle.tasks.specs.Outcome.{ends_command}
 use Rattle.tasks.specs.Writes.{CountsWrites}
 use Rattle.tasks.proofs.EachLemmas.{goes_over-calls}
 use Rattle.tasks.proofs.WriteCounts.{counts_over}
@@ -12,6 +13,7 @@ returns-clause-checks g c =
     (λ out name ended left met. search rules) _ _ _ _ _ c.with_each.ensures
 
 pub returns-clause-writes : goal.returns-clause-writes
+unfolding ends_command
 returns-clause-writes g c =
     counts_over _ _ _ _ _ refl
     (goes_over-calls _ _ (λ old name ended new. CountsWrites ended old new) g.O.Output.failures

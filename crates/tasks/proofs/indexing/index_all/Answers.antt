@@ -20,6 +20,7 @@ returns-clause-indexes g c =
     )
 
 pub returns-clause-writes : goal.returns-clause-writes
+unfolding ends_command
 returns-clause-writes g c =
     let added : CountsWrites c.with_each-added.result 0 0 = counts_over _ _ _ _ _ refl
     (goes_over-calls _ _ (λ old name ended new. CountsWrites ended old new) (λ held. 0)

@@ -4,6 +4,7 @@ use Rattle.command_line.specs.Words.{texts}
 use Rattle.tasks.specs.declared.outcome.Outcome.TheVariants.{Done}
 use Rattle.tasks.specs.Each.{GoesOver}
 use Rattle.tasks.specs.Reports.{ReportsOnOne}
+use Rattle.tasks.specs.Outcome.{ends_command}
 use Rattle.tasks.specs.Writes.{CountsWrites}
 use Rattle.tasks.proofs.EachLemmas.{goes_over-calls}
 use Rattle.tasks.proofs.WriteCounts.{counts_over}
@@ -23,6 +24,7 @@ returns-clause-report g c =
     (sym (length-map given string_bytes)) over
 
 pub returns-clause-writes : goal.returns-clause-writes
+unfolding ends_command
 returns-clause-writes g c =
     counts_over _ _ _ _ _ refl
     (goes_over-calls _ _ (λ old name ended new. CountsWrites ended old new) g.O.Output.failures
