@@ -11,6 +11,4 @@ pub mod queries;
 pub mod records;
 pub mod scans;
 pub mod shelf;
-#[cfg(test)]
-mod tests;
 pub mod witnesses;

@@ -1,14 +1,14 @@
-//! What the callers return, with values worked out by hand.
-use crate::captures::first_capture;
-use crate::indexes::write_index;
-use crate::lines::{key, line, resume_key};
-use crate::queries::{PageFault, page, page_of_two};
-use crate::records::{count_records, first_head};
-use crate::scans::{in_memory, write_pages};
-use crate::shelf::{Shelf, perform_on_shelf};
+//! What the callers of `door_examples` return, with values worked out by hand.
 use capture_core::{CaptureFault, Entry};
 use cdxj_core::{KeyFault, PlaceFault};
 use command_line::Task;
+use door_examples::captures::first_capture;
+use door_examples::indexes::write_index;
+use door_examples::lines::{key, line, resume_key};
+use door_examples::queries::{PageFault, page, page_of_two};
+use door_examples::records::{count_records, first_head};
+use door_examples::scans::{in_memory, write_pages};
+use door_examples::shelf::{Shelf, perform_on_shelf};
 use fixtures::{LETTERS, OFFSET_5, OFFSET_10, RESPONSE, RESPONSE_LINE};
 use index_core::IndexFault;
 use query_core::{Query, Report, SliceSource};
