@@ -48,7 +48,8 @@ zeros_fit = refl
 abbrev pub IsWhole : List ℕ → ℕ → Type 0
 IsWhole t n = (n ≤ 19) × (n ≤ length t) × (fits to_the_second (full_date t n) ≡ true)
 
-filled : (g t : List ℕ) (n : ℕ) → n ≤ 19 → n ≤ length g → take n g ≡ take n to_the_second → fits g t ≡ true → IsWhole t n
+filled : (g t : List ℕ) (n : ℕ) → n ≤ 19 → n ≤ length g → take n g ≡ take n to_the_second → fits g t ≡ true
+    → IsWhole t n
 filled g t n s l e h = (
   s,
   omega (arith, l, fits_long g t h),

@@ -21,7 +21,8 @@ visible-plain b t u h = grind arith
 pub names-plain : (name : List ℕ) → list_all is_name_byte name ≡ true → list_all is_content name ≡ true
 names-plain (b ∷ bs) h =
     let p = and_both (is_name_byte b) (list_all is_name_byte bs) h in
-    both (is_content b) (list_all is_content bs) (visible-plain b (nat_le b 126) (not (is_separator b)) p.0) (names-plain bs p.1)
+    let first = visible-plain b (nat_le b 126) (not (is_separator b)) p.0 in
+    both (is_content b) (list_all is_content bs) first (names-plain bs p.1)
 names-plain [] h = refl
 
 pub colon_after : (name rest : List ℕ) → list_all is_name_byte name ≡ true → at_colon (name ++ (58 ∷ rest))
