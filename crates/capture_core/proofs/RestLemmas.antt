@@ -43,8 +43,8 @@ pub given-failed : (indexed : IndexedRecord) (old new : ReaderState) (f : Fault)
     → CapturesRest indexed [] old new (Err (Archive f))
 given-failed indexed old new f piece ready gives =
     let b = rw ready.stands.phase_is at gives in
-    rest-stopped (Unit {0}) indexed [] old new f (found-of-record f.cause _ _ _ b.bytes) (rw ready.stands.offset_is at b.state)
-    (block-stops f.cause b.cause) b.failures
+    rest-stopped (Unit {0}) indexed [] old new f (found-of-record f.cause _ _ _ b.bytes)
+    (rw ready.stands.offset_is at b.state) (block-stops f.cause b.cause) b.failures
 
 module _ (indexed : IndexedRecord) (first front : List ℕ) (old mid : ReaderState) (ready : HasFront indexed first old.reader)
   where
@@ -52,8 +52,8 @@ module _ (indexed : IndexedRecord) (first front : List ℕ) (old mid : ReaderSta
         → CapturesRest indexed first old mid (Err (Archive f))
     filled-failed f fills =
         let b = rw ready.stands.phase_is at fills.2 in
-        rest-stopped (Unit {0}) indexed first old mid f (found-of-record f.cause _ _ _ b.given) (rw ready.stands.offset_is at b.state)
-        (block-stops f.cause b.cause) b.failures
+        rest-stopped (Unit {0}) indexed first old mid f (found-of-record f.cause _ _ _ b.given)
+        (rw ready.stands.offset_is at b.state) (block-stops f.cause b.cause) b.failures
 
     pub filled-rest : (new : ReaderState) (r : Result (Option EntryValue) CaptureFault)
         → length front ≤ front_length HTTP_HEAD_LIMIT indexed.head.now → FillsBehind first old mid (Ok tt) front
