@@ -4,18 +4,22 @@ use Rattle.std.proofs.Common.{IfSome, length, take, refl, arith}
 use Rattle.std.proofs.lemmas.List.{length-take}
 use Rattle.sha1.specs.Sha1.{sha1}
 use Rattle.warc_core.specs.HeadView.{HeadView, record_length}
+use Rattle.warc_core.specs.Answers.{CountsRead}
+use Rattle.warc_core.specs.Cause.{StopsRecord}
 use Rattle.warc_core.specs.Reading.{Reads}
 use Rattle.warc_core.proofs.ReadingLemmas.{GoesOn}
-use Rattle.warc_core.specs.ReaderView.{ReaderState, ahead}
+use Rattle.warc_core.specs.ReaderView.{FailedBy, ReaderState, ahead}
 use Rattle.warc_core.specs.Calls.{Finishes}
 use Rattle.warc_core.specs.Record.{after_record}
+use Rattle.warc_core.specs.declared.fault.Cause.{Cause}
+use Rattle.warc_core.specs.declared.fault.Fault.{Fault}
 use Rattle.cdxj_core.specs.Entries.{EntryValue}
 use Rattle.capture_core.specs.declared.fault.CaptureFault.{CaptureFault}
 use Rattle.capture_core.specs.declared.fault.CaptureFault.TheVariants.{Archive, LineTooLong, KeyTooLong}
 use Rattle.warc_core.specs.Base32.{base32_of}
 use Rattle.warc_core.specs.RestDigest.{digest_of_rest}
 use Rattle.capture_core.specs.Capture.{ResponseValue, IsCaptureUnder, entry_of, digest_of, known_digest}
-use Rattle.capture_core.specs.RecordReading.{reading_of, IsCaptureFaultAt, ReadsRest}
+use Rattle.capture_core.specs.RecordReading.{reading_after, reading_of, IsCaptureFaultAt, ReadsRest}
 use Rattle.capture_core.specs.CaptureAnswer.{Limits, IsCaptureOf, AnswersEntry, PartsBlock}
 use Rattle.warc_core.proofs.DigestLemmas.{take_past}
 use Rattle.warc_core.proofs.VerdictLemmas.{digest-then}
@@ -27,6 +31,29 @@ pub rest-whole : {A : Type 0} (left n : ℕ) (h : HeadView) (old new : ReaderSta
     → old.reader.offset ≡ h.start → Finishes left (record_length h) old new (Ok n) → reading_of r ≡ Ok tt
     → IfErr r (IsCaptureFaultAt h.start) → ReadsRest left h old new r
 rest-whole left n h old new r o f own at = grind arith
+
+-- a fault that ends the reading of a record is no refused growth
+after-stop : (c : Cause) → StopsRecord c → reading_after c ≡ Err c
+after-stop c s = grind arith
+
+counts-too : (A B : Type 0) (c : Cause) (old new : ℕ) → CountsRead {A = A} (Err c) old new
+    → CountsRead {A = B} (Err c) old new
+counts-too A B c old new k = grind arith
+
+-- a call failed by what it met in the record
+pub stopped : (A B : Type 0) (left : ℕ) (h : HeadView) (old new : ReaderState) (f : Fault)
+    → Reads (after_record left) (Err f.cause) (ahead old) (ahead new) → FailedBy new.reader h.start f
+    → StopsRecord f.cause → CountsRead {A = B} (Err f.cause) old.failures new.failures
+    → ReadsRest {A = A} left h old new (Err (Archive f))
+stopped A B left h old new f b w s k =
+    let e = after-stop f.cause s in
+    record {
+      bytes = rw e b;
+      state = rw e w.stands;
+      fault = w.at;
+      cause = rw e s;
+      failures = rw e (counts-too B (Unit {0}) f.cause old.failures new.failures k);
+    }
 
 -- reading goes on after what was read of the block
 pub rest-behind : {A : Type 0} (left left' : ℕ) (h : HeadView) (old mid new : ReaderState) (r : Result A CaptureFault)

@@ -15,5 +15,3 @@ text_is_filled value h = grind (arith, percent_encode_nonempty)
 pub content_is_filled : (h : HeadView) (response : Option ResponseValue) → 0 < length (content_of h response)
 unfolding content_of
 content_is_filled h response = grind (arith, common_steps)
-
-pub ruleset filled_rules = (text_is_filled, content_is_filled)

@@ -1,8 +1,13 @@
 -- The rest of a capture, from how it goes on.
 use Rattle.std.proofs.Common.{◌≡◌, ℕ, ◌+◌, ◌-◌, ◌≤◌, ◌∙◌, List, [], Option, Result, Ok, Err, length, take}
 use Rattle.std.proofs.Common.{length-append, ap, refl, arith}
+use Rattle.warc_core.specs.declared.fault.Cause.{Cause}
 use Rattle.warc_core.specs.declared.fault.Fault.{Fault}
-use Rattle.warc_core.specs.ReaderView.{ReaderState, IfOpen}
+use Rattle.warc_core.specs.Answers.{CountsRead}
+use Rattle.warc_core.specs.Cause.{StopsBlock, StopsRecord}
+use Rattle.warc_core.specs.Reading.{Reads}
+use Rattle.warc_core.specs.ReaderView.{FailedBy, ReaderState, IfOpen, ahead}
+use Rattle.warc_core.specs.Record.{after_record}
 use Rattle.warc_core.specs.Calls.{GivesBlock}
 use Rattle.std.proofs.lemmas.List.{length-take-le}
 use Rattle.warc_core.proofs.OpenLemmas.{found-of-record}
@@ -13,14 +18,42 @@ use Rattle.capture_core.specs.declared.http_head.TheConstants.{HTTP_HEAD_LIMIT}
 use Rattle.capture_core.specs.declared.indexed.IndexedRecord.{IndexedRecord}
 use Rattle.capture_core.specs.RecordReading.{front_length}
 use Rattle.capture_core.specs.CaptureSteps.{HasFront, FillsBehind, CapturesRest}
-use Rattle.capture_core.proofs.CaptureLemmas.{rest-behind}
+use Rattle.capture_core.proofs.CaptureLemmas.{rest-behind, some-always, stopped}
 use Rattle.capture_core.proofs.Steps.{goes-on-to, capture-behind-first}
+
+-- a call failed by what it met behind the first bytes of the block
+pub rest-stopped : (B : Type 0) (indexed : IndexedRecord) (first : List ℕ) (old new : ReaderState) (f : Fault)
+    → Reads (after_record (indexed.head.now.parts.block_length - length first)) (Err f.cause) (ahead old) (ahead new)
+    → FailedBy new.reader indexed.head.now.start f → StopsRecord f.cause
+    → CountsRead {A = B} (Err f.cause) old.failures new.failures
+    → CapturesRest indexed first old new (Err (Archive f))
+rest-stopped B indexed first old new f b w s k = record {
+  reads = stopped _ B _ indexed.head.now old new f b w s k;
+  capture = some-always (ahead old) _ (λ bytes. tt);
+  entry = tt;
+}
+
+block-stops : (c : Cause) → StopsBlock c → StopsRecord c
+block-stops c s = grind arith
+
+-- the first call failed in the block
+pub given-failed : (indexed : IndexedRecord) (old new : ReaderState) (f : Fault) (piece : List ℕ)
+    → HasFront indexed [] old.reader
+    → IfOpen old.reader.phase (λ left len. GivesBlock left len old new (Err f) piece)
+    → CapturesRest indexed [] old new (Err (Archive f))
+given-failed indexed old new f piece ready gives =
+    let b = rw ready.stands.phase_is at gives in
+    rest-stopped (Unit {0}) indexed [] old new f (found-of-record f.cause _ _ _ b.bytes)
+    (rw ready.stands.offset_is at b.state) (block-stops f.cause b.cause) b.failures
 
 module _ (indexed : IndexedRecord) (first front : List ℕ) (old mid : ReaderState) (ready : HasFront indexed first old.reader)
   where
     pub filled-failed : (f : Fault) → FillsBehind first old mid (Err f) front
         → CapturesRest indexed first old mid (Err (Archive f))
-    filled-failed f fills = grind (arith, found-of-record)
+    filled-failed f fills =
+        let b = rw ready.stands.phase_is at fills.2 in
+        rest-stopped (Unit {0}) indexed first old mid f (found-of-record f.cause _ _ _ b.given)
+        (rw ready.stands.offset_is at b.state) (block-stops f.cause b.cause) b.failures
 
     pub filled-rest : (new : ReaderState) (r : Result (Option EntryValue) CaptureFault)
         → length front ≤ front_length HTTP_HEAD_LIMIT indexed.head.now → FillsBehind first old mid (Ok tt) front

@@ -54,7 +54,6 @@ impl From<KeyFault> for LineRefused {
 
 /// Writes the line of the record with this head, from its URL, its HTTP head, its digest and the
 /// archive's name.
-#[tactic(auto, using(crate::proofs::GoodEntries::filled_rules))]
 pub(crate) fn entry_line(
     alloc: Global,
     indexed: IndexedRecord<'_>,

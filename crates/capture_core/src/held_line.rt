@@ -83,7 +83,6 @@ impl HeldLine {
     }
 
     /// Returns the entry with texts of its own, for a record of this length.
-    #[tactic(auto, using(crate::proofs::SpellingLemmas::entry_read))]
     pub(crate) fn entry(&self, alloc: Global, length: u64) -> Result<Entry, AllocError>
         requires { length ≡ self.now.length }
         ensures { IfOk result (λ entry. entry ≡ self.now) }

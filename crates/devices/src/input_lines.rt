@@ -153,19 +153,13 @@ impl InputLines {
         if piece.is_empty() {
             return Ok(Part::AtEnd);
         }
-        match find_line_feed(piece) {
-            Some(at) => {
-                hold(&mut self.line, self.most, &piece[..at])?;
-                self.pass(at + 1)?;
-                Ok(Part::Ended)
-            }
-            None => {
-                let count = piece.len();
-                hold(&mut self.line, self.most, piece)?;
-                self.pass(count)?;
-                Ok(Part::Within)
-            }
-        }
+        let (before, count, part) = match find_line_feed(piece) {
+            Some(at) => (at, at + 1, Part::Ended),
+            None => (piece.len(), piece.len(), Part::Within),
+        };
+        hold(&mut self.line, self.most, &piece[..before])?;
+        self.pass(count)?;
+        Ok(part)
     }
 
     /// Takes a piece of the input, up to and including the first line feed.

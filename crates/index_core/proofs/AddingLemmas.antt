@@ -1,5 +1,4 @@
 -- The captures that are added, one record further, at the end, and at a fault.
-use Rattle.index_core.proofs.Words.{err_from_is_err_and}
 use Rattle.index_core.proofs.Words.{arith, ◌≡◌, ◌∙◌, ℕ, ◌+◌, Bool, List, [], ◌∷◌, ◌++◌, Option}
 use Rattle.index_core.proofs.Words.{None, Some, Ok, Err, IfSome, option_to_list, length, drop, ap}
 use Rattle.index_core.proofs.Words.{append_assoc, drop-append_seam, Kind, HeadView, record_length}
@@ -7,14 +6,16 @@ use Rattle.index_core.proofs.Words.{Reads, after_record, Walks, next-spelled, Wa
 use Rattle.index_core.proofs.Words.{record-unclosed, record-whole, EntryValue, CaptureFault, Limits}
 use Rattle.index_core.proofs.Words.{IsCaptureAt, AreCaptured, IsAcceptedTo, fault_offset}
 use Rattle.std.specs.Bool.{⊤}
+use Rattle.index_core.proofs.Words.{Cause, none_at_end, record-stopped, subst}
 use Rattle.warc_core.specs.Next.{next_at}
+use Rattle.warc_core.specs.Reading.{IsPossibleCause}
+use Rattle.warc_core.specs.Walk.{record_at}
 use Rattle.warc_core.specs.ReaderView.{ReaderView}
 use Rattle.capture_core.specs.Indexed.{url_of}
 use Rattle.capture_core.specs.CaptureAnswer.{Captures}
 use Rattle.capture_core.specs.RecordReading.{reading_of}
-use Rattle.index_core.specs.Accepted.{IsCaptured, MayBeRefused}
+use Rattle.index_core.specs.Accepted.{IsAccepted, IsCaptured, MayBeRefused}
 use Rattle.index_core.specs.Captures.{TakesRecord}
-use Rattle.warc_core.proofs.WalkLemmas.{record-end}
 use Rattle.index_core.proofs.ArchiveWalks.{from_start}
 
 -- what stands behind a head
@@ -38,6 +39,13 @@ module _ (types : Kind → Bool) (limits : Limits) (limit : ℕ) (name : List �
       → Captures (url_of types h) limits h name mid (Ok captured)
       → IfSome before (λ bytes. IsCaptureAt types limits limit name h bytes captured)
   capture_there start h captured before mid after r s k = grind (arith, behind_head)
+
+  -- why no record was read
+  pub stopped_there : (start : ℕ) (c : Cause) (before after : Option (List ℕ))
+      → Reads (next_at limit start) (Err c) before after
+      → IfSome before (λ bytes. IsPossibleCause c (record_at limit start bytes))
+  stopped_there start c None after r = tt
+  stopped_there start c (Some z) after r = record-stopped limit start (Some z) after after c r
 
   -- why a record that was read has no capture
   pub refused_there : (start : ℕ) (h : HeadView) (fault : CaptureFault) (before mid after : Option (List ℕ))
@@ -71,11 +79,11 @@ module _ (types : Kind → Bool) (limits : Limits) (limit : ℕ) (name : List �
       → IfSome left (λ archive. IsAcceptedTo types limits limit name fault archive gained)
   AddedSoFar-refused left now o gained fault s r = grind arith
 
-pub ruleset capture_rules = (
-  err_from_is_err_and,
-  record-end,
-  record-unclosed,
-  record-whole,
-  capture_there,
-  refused_there,
-)
+  -- nothing comes next
+  pub AddedSoFar-end : (left now after : Option (List ℕ)) (o : ℕ) (gained : List EntryValue)
+      → AddedSoFar left now o gained → Reads (record_at limit o) (Ok None) now after
+      → IfSome left (λ archive. IsAccepted types limits limit name archive gained)
+  AddedSoFar-end (Some archive) (Some z) (Some y) o gained s r =
+      let walks = subst (λ rest. Walks limit 0 archive s.0 o rest) (none_at_end limit o z y r) s.1 in
+      record { heads = s.0; whole = record { end = o; walks = walks }; captured = s.2 }
+  AddedSoFar-end left now after o gained s r = grind arith

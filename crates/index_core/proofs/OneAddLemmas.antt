@@ -109,5 +109,3 @@ writes_one_index captures before n m text other t o = grind (arith, grown)
 
 pub writes_index_front : WritesIndexFront
 writes_index_front captures before n fault text other t o = grind (arith, grown, has_front)
-
-pub ruleset one_addition_rules = (adds_one_list, adds_first, writes_one_index, writes_index_front)

@@ -10,6 +10,8 @@ use Rattle.index_core.specs.OneText.{HasFront, HasCut, HasPart, ListsOneText, Li
 use Rattle.index_core.specs.OneText.{VerifiesOneText, VerifiesPart}
 use Rattle.index_core.specs.Report.{IsNoDamage, RecordLine, IsReport, Reports, report_lines}
 use Rattle.index_core.specs.Report.{fault_line}
+use Rattle.index_core.specs.Listing.{listing_line, record_count}
+use Rattle.index_core.specs.Verifying.{verification_line, verified_in}
 use Rattle.index_core.proofs.ReportLemmas.{report_behind}
 use Rattle.index_core.specs.declared.fault.IndexFault.TheVariants as faults
 
@@ -88,17 +90,17 @@ module _ (A : Type 0) (limit : ℕ) (line : RecordLine) (tally : List ℕ → Li
     reports_part this that text other i j r s = grind arith
 
 pub lists_one_text : ListsOneText
-lists_one_text limit archive before this that text other i j r s = grind (arith, reports_one)
+lists_one_text limit archive before this that text other i j r s =
+    reports_one _ limit listing_line record_count archive before this that text other i j r.report s.report
 
 pub lists_part : ListsPart
-lists_part limit archive before this that text other i j r s = grind (arith, reports_part)
+lists_part limit archive before this that text other i j r s =
+    reports_part _ limit listing_line record_count archive before this that text other i j r.report s.report
 
 pub verifies_one_text : VerifiesOneText
-verifies_one_text limit archive before this that text other i j r s = grind (arith, reports_one)
+verifies_one_text limit archive before this that text other i j r s =
+    reports_one _ limit verification_line verified_in archive before this that text other i j r.report s.report
 
 pub verifies_part : VerifiesPart
-verifies_part limit archive before this that text other i j r s = grind (arith, reports_part)
-
-pub ruleset listing_rules = (lists_one_text, lists_part)
-
-pub ruleset one_report_rules = (verifies_one_text, verifies_part)
+verifies_part limit archive before this that text other i j r s =
+    reports_part _ limit verification_line verified_in archive before this that text other i j r.report s.report

@@ -19,7 +19,6 @@ use warc_core::{Cause, Fault, Head, Input, Reader};
 
 /// Reads the next whole record to its end, and returns its head and its capture under the archive's
 /// name.
-#[tactic(auto, using(crate::proofs::AddingLemmas::capture_rules))]
 fn next_capture<I: Input>(
     alloc: Global,
     front: &mut BlockStart,

@@ -72,7 +72,6 @@ pub fn get_writes_one_text()
 /// The archive decides what `list` returns and writes, unless a device fails or memory can't be
 /// allocated. After such a failure the start of that text was written, and the fault's line. If the
 /// output failed, a prefix of this or of the whole text was written.
-#[tactic(auto, using(crate::proofs::OneTextLemmas::listing_rules))]
 pub fn list_writes_one_text()
     ensures one { ListsOneText }
     ensures part { ListsPart }
@@ -81,7 +80,6 @@ pub fn list_writes_one_text()
 /// The archive decides what `verify` returns and writes, unless a device fails or memory can't be
 /// allocated. After such a failure the start of that text was written, and the fault's line. If the
 /// output failed, a prefix of this or of the whole text was written.
-#[tactic(auto, using(crate::proofs::OneTextLemmas::one_report_rules))]
 pub fn verify_writes_one_text()
     ensures one { VerifiesOneText }
     ensures part { VerifiesPart }
@@ -91,7 +89,6 @@ pub fn verify_writes_one_text()
 /// memory can't be allocated or a key is too long. Then the first of them were added, or none. The
 /// captures that are held decide the index that is written. After an error a prefix of it was
 /// written.
-#[tactic(auto, using(crate::proofs::OneAddLemmas::one_addition_rules))]
 pub fn index_writes_one_text()
     ensures adds { AddsOneList }
     ensures adds_first { AddsFirst }

@@ -4,9 +4,9 @@ use Rattle.warc_core.proofs.Words.{false, refl, length, take, drop, arith, ap, a
 use Rattle.warc_core.proofs.Words.{length-append, prepend_known, take-append-drop, length-take-le}
 use Rattle.warc_core.proofs.Words.{take-take, Reads, has_version, is_closed, IsFoundHead}
 use Rattle.warc_core.proofs.Words.{take-append-add, IsVersionLine}
-use Rattle.warc_core.proofs.HeadLemmas.{going-start, going-end, going-full, going, going-found}
+use Rattle.warc_core.proofs.HeadLemmas.{going, going-found}
 use Rattle.warc_core.proofs.HeadLemmas.{going-wrong, going-gathered, agrees-longer, begins_version}
-use Rattle.warc_core.proofs.ReadingLemmas.{nil_of, GoesOn}
+use Rattle.warc_core.proofs.ReadingLemmas.{GoesOn}
 use Rattle.std.proofs.Common.{◌∙◌}
 use Rattle.std.proofs.lemmas.List.{take-append-le}
 use Rattle.warc_core.specs.HeadText.{head_text, ClosesFirst}
@@ -80,5 +80,3 @@ module _ (limit size : ℕ) (b : List ℕ) (version : IsVersionLine (take 10 b))
           first = λ n l. grind (arith, take-take, long, f.first n);
           small = omega (arith, long, small);
         }
-
-pub ruleset read_head_text_rules = (going-start, going-end, nil_of, head-wrong, head-found, going-full)

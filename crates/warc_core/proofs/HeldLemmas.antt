@@ -3,10 +3,6 @@ use Rattle.warc_core.proofs.Words.{ℕ, ◌≤◌, List, length, take, arith, ta
 use Rattle.warc_core.proofs.Words.{IsVersionLine}
 use Rattle.std.proofs.Common.{length-take}
 use Rattle.warc_head.specs.Lines.{EndsLine}
-use Rattle.std.proofs.lemmas.Result.{err_from_is_err_and}
-use Rattle.warc_core.proofs.NextLemmas.{head-unread, text-unread}
-use Rattle.warc_core.proofs.PartsLemmas.{purely-found, read-ok}
-use Rattle.warc_core.proofs.SpelledLemmas.{taken-head}
 
 version-long : (b : List ℕ) → IsVersionLine (take 10 b) → 10 ≤ length b
 version-long b v = grind (arith, length-take 10 b)
@@ -14,12 +10,3 @@ version-long b v = grind (arith, length-take 10 b)
 -- a text that begins with a version line begins with a line of eight bytes
 pub first-line : (b : List ℕ) → IsVersionLine (take 10 b) → EndsLine b 0 8
 first-line b v = grind (arith, version-long, take-append-drop, take-take)
-
-pub ruleset next_parts_rules = (
-  err_from_is_err_and,
-  head-unread,
-  text-unread,
-  purely-found,
-  read-ok,
-  taken-head,
-)

@@ -52,5 +52,3 @@ module _ (before now after : Option (List ℕ)) (i : ℕ) (within : i < length c
   here = grind arith
 
 pub ruleset give_block_rules = (after_block-short)
-
-pub ruleset expect_closing_rules = (after_text-other, here, after_text-end, after_text-here, after_text-done, closing-held)

@@ -1,6 +1,6 @@
 -- The verdict on a block, from how its record was read.
 use Rattle.warc_core.proofs.Words.{arith, ◌≡◌, ℕ, List, [], ◌++◌, Option, None, Some, Ok}
-use Rattle.warc_core.proofs.Words.{Err, take, Cause, Reads}
+use Rattle.warc_core.proofs.Words.{Err, Result, refl, take, Cause, Reads}
 use Rattle.sha1.specs.Sha1.{sha1}
 use Rattle.warc_core.specs.Reading.{IsPossibleCause}
 use Rattle.warc_core.specs.Record.{after_record}
@@ -9,11 +9,16 @@ use Rattle.warc_core.specs.declared.verdict.Verdict.{Verdict}
 use Rattle.warc_core.specs.RestDigest.{digest_of_rest}
 use Rattle.warc_core.specs.BlockDigest.{judge_record}
 
+-- what a cause is found of may give way to what it ends too
+possible-too : {A B : Type 0} (c : Cause) (x : Result A Cause) (y : Result B Cause) → (x ≡ Err c → y ≡ Err c)
+    → IsPossibleCause c x → IsPossibleCause c y
+possible-too c x y f h = grind arith
+
 -- what is found of the record is found of its block's verdict
 pub judge-found : (judge : List ℕ → Verdict) (c : Cause) (left : ℕ) (z : List ℕ) → IsPossibleCause c (after_record left z)
     → IsPossibleCause c (judge_record judge left z)
 unfolding judge_record
-judge-found judge c left z h = grind arith
+judge-found judge c left z h = possible-too c (after_record left z) _ (λ e. rw e refl) h
 
 pub judge-read : (judge : List ℕ → Verdict) (left : ℕ) (z rest : List ℕ) → after_record left z ≡ Ok (tt, rest)
     → judge_record judge left z ≡ Ok (judge (take left z), rest)
@@ -37,11 +42,11 @@ pub digest-found : (c : Cause) (left : ℕ) (start z : List ℕ) → digest_of_r
 unfolding digest_of_rest after_record
 digest-found c left start z h = grind arith
 
-pub compare-stopped : (judge : List ℕ → Verdict) (c : Cause) (left : ℕ) (before after : Option (List ℕ))
-    → Reads (digest_of_rest left []) (Err c) before after → Reads (judge_record judge left) (Err c) before after
-compare-stopped judge c left None after h = tt
-compare-stopped judge c left (Some z) after h = judge-found judge c left z
-    (grind (arith, digest-found))
+-- a fault of the digest's is one of the record's
+pub digest-stopped : (c : Cause) (left : ℕ) (start : List ℕ) (before after : Option (List ℕ))
+    → Reads (digest_of_rest left start) (Err c) before after → Reads (after_record left) (Err c) before after
+digest-stopped c left start None after h = tt
+digest-stopped c left start (Some z) after h = possible-too c _ (after_record left z) (digest-found c left start z) h
 
 pub compare-unclosed : (judge : List ℕ → Verdict) (c : Cause) (left : ℕ) (digest : List ℕ)
     (before mid after : Option (List ℕ)) → Reads (digest_of_rest left []) (Ok digest) before mid
@@ -49,6 +54,6 @@ pub compare-unclosed : (judge : List ℕ → Verdict) (c : Cause) (left : ℕ) (
 compare-unclosed judge c left digest None mid after h k = tt
 compare-unclosed judge c left digest (Some z) None after h k = absurd h
 compare-unclosed judge c left digest (Some z) (Some w) after h k = judge-found judge c left z
-    (grind (arith, digest-then))
+    (rw (digest-then left [] z w digest h).0 k)
 
-pub ruleset judge_rules = (judge-read, judge-stopped, digest-then, compare-stopped, compare-unclosed)
+pub ruleset judge_rules = (judge-read, judge-stopped)

@@ -54,7 +54,6 @@ fn pass<I: Input>(reader: &mut Reader, input: &mut I, verdict: Verdict) -> Resul
 }
 
 /// Reads the rest of the open record, and compares its block with the text of a digest.
-#[tactic(auto, using(crate::proofs::VerdictLemmas::judge_rules))]
 fn compare<I: Input>(reader: &mut Reader, input: &mut I, text: &[u8]) -> Result<Verdict, Fault>
     requires { HasLeft 0 reader.old.phase }
     ensures { IfOpen reader.old.phase (λ left len.

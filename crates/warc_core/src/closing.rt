@@ -27,7 +27,6 @@ fn next_byte<I: Input>(buffer: &mut Buffer, input: &mut I) -> Result<Option<u8>,
 }
 
 /// Skips the CR LF CR LF that must come next. Most stand whole in the buffer.
-#[tactic(auto, using(crate::proofs::RecordLemmas::expect_closing_rules))]
 fn expect_closing<I: Input>(buffer: &mut Buffer, input: &mut I) -> Result<(), Cause>
     ensures bytes { Reads (after_text closing) result
         (prepend_known buffer.old (I.remaining input.old))

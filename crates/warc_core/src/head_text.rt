@@ -89,7 +89,6 @@ fn closing_end(text: &[u8], before: usize) -> Option<usize>
 
 /// Reads the text of the next head, of at most `limit` bytes, piece by piece. The errors are `Memory`, `Read`, `Version`,
 /// `ShortHead` and `HeadTooLong`.
-#[tactic(auto, using(crate::proofs::GatherLemmas::read_head_text_rules))]
 pub fn read_head_text<I: Input>(
     alloc: Global,
     buffer: &mut Buffer,

@@ -55,7 +55,6 @@ fn held_parts(
 }
 
 /// Reads the next head. The errors are those of the head, `Memory` and `Read`.
-#[tactic(auto, using(crate::proofs::HeldLemmas::next_parts_rules))]
 fn next_parts<I: Input>(
     alloc: Global,
     spare: Option<HeadMemory>,

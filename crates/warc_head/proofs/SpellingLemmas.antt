@@ -4,17 +4,25 @@ use Rattle.warc_head.proofs.Words.{arith, append_assoc, length-append, Some, Non
 use Rattle.warc_head.proofs.Words.{list_all, take-append_seam, line_end, continues, is_content}
 use Rattle.warc_head.proofs.Words.{is_name, is_name_byte, Field, field_lines_in}
 use Rattle.std.proofs.lemmas.List.Folds.{list_all-append}
+use Rattle.std.proofs.Common.{Bool, nat_le, not, ◌&&◌}
+use Rattle.warc_head.specs.Names.{is_separator}
 use Rattle.std.proofs.lemmas.List.{drop_at}
 use Rattle.warc_head.specs.Lines.{lines_of}
 use Rattle.warc_head.specs.Fields.{at_colon, field_in, given_by, fields_of}
 use Rattle.warc_head.specs.Parts.{parts_of}
 use Rattle.warc_head.specs.Spelling.{IsOneLine, field_text, spelled, SpellingReadsBack}
-use Rattle.warc_head.proofs.DateLemmas.{and_both}
+use Rattle.warc_head.proofs.DateLemmas.{and_both, both}
 use Rattle.warc_head.proofs.LineLemmas.{line_first, line_text}
 use Rattle.warc_head.proofs.FieldLemmas.{joined-nil}
 
+visible-plain : (b : ℕ) (t u : Bool) → (nat_le 33 b && t && u) ≡ true → is_content b ≡ true
+visible-plain b t u h = grind arith
+
 pub names-plain : (name : List ℕ) → list_all is_name_byte name ≡ true → list_all is_content name ≡ true
-names-plain (b ∷ bs) h = grind (arith, names-plain bs)
+names-plain (b ∷ bs) h =
+    let p = and_both (is_name_byte b) (list_all is_name_byte bs) h in
+    let first = visible-plain b (nat_le b 126) (not (is_separator b)) p.0 in
+    both (is_content b) (list_all is_content bs) first (names-plain bs p.1)
 names-plain [] h = refl
 
 pub colon_after : (name rest : List ℕ) → list_all is_name_byte name ≡ true → at_colon (name ++ (58 ∷ rest))

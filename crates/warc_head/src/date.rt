@@ -1,6 +1,6 @@
 //! The date of a record, and its stamp.
 ghost use Rattle.std.specs.List.{list_all, zip};
-ghost use Rattle.std.specs.Prelude.{◌≡◌, ⊤, ◌≤◌, ◌<◌, ◌+◌, length, MatchOption, true, IfOk};
+ghost use Rattle.std.specs.Prelude.{◌≡◌, ◌≤◌, ◌<◌, ◌+◌, length, true, IfOk};
 ghost use Rattle.warc_head.specs.Answers.{AgreesWith};
 ghost use Rattle.warc_head.specs.Length.{all_digits};
 ghost use Rattle.warc_head.specs.Date.{fits, fits_byte, is_fraction, has_fraction, date_length, full_date, two, to_the_second, is_moment, digits_of, stamp_of};
@@ -26,10 +26,9 @@ pub fn stamp_of(text: &[u8]) -> Result<[u8; 14], HeadFault>
 }
 
 /// Returns the length of the date and the time in bytes, without the fraction and `Z`.
-#[tactic(auto, using(crate::proofs::DateLemmas::long_rules), unfolding(crate::specs::Date::date_length))]
+#[tactic(auto, unfolding(crate::specs::Date::date_length))]
 fn date_length(text: &[u8]) -> Option<usize>
-    ensures is { result ≡ date_length text.now }
-    ensures within { MatchOption result ⊤ (λ n. (n ≤ 19) × (n ≤ length text.now)) }
+    ensures { result ≡ date_length text.now }
 {
     if fits(b"0000", text) {
         Some(4)
@@ -77,7 +76,6 @@ fn fits_byte(form: u8, byte: u8) -> bool
 }
 
 /// Returns `true` if the text is a date and a time with a fraction of the second before `Z`.
-#[tactic(auto, using(crate::proofs::DateLemmas::short_fraction))]
 fn has_fraction(text: &[u8]) -> bool
     ensures { result ≡ has_fraction text.now }
 {

@@ -78,7 +78,7 @@ pub fn trim(text: &[u8]) -> &[u8]
 }
 
 /// Returns the offsets between which the bytes from one offset to another stand without the white space at both ends.
-#[tactic(auto, using(crate::proofs::TrimLemmas::front_fits, crate::proofs::TrimLemmas::is_trimmed))]
+#[tactic(auto, using(crate::proofs::TrimLemmas::front_fits))]
 pub fn trimmed(text: &[u8], from: usize, to: usize) -> (usize, usize)
     requires order { from ≤ to }
     requires within { to ≤ length text.now }

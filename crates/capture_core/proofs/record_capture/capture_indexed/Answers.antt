@@ -2,17 +2,18 @@ use Rattle.std.proofs.Common.{◌≡◌, ◌∙◌, ◌≤◌, ◌++◌, ℕ, Li
 use Rattle.std.proofs.lemmas.List.{length-take-le, length-take, take-take}
 use Rattle.std.proofs.Math.Seq.{take-append_seam}
 use Rattle.std.proofs.lemmas.Result.{err_from_is_err_and}
-use Rattle.warc_core.proofs.OpenLemmas.{found-of-record}
 use Rattle.capture_core.specs.declared.http_head.TheConstants.{HTTP_HEAD_LIMIT}
 use Rattle.capture_core.specs.RecordReading.{front_length}
-use Rattle.capture_core.proofs.RestLemmas.{filled-failed, filled-rest, filled-ready, given-behind}
+use Rattle.capture_core.proofs.RestLemmas.{filled-failed, filled-rest, filled-ready, given-behind, given-failed}
 use Rattle.capture_core.proofs.record_capture.capture_indexed.Goals as goal
 
 pub returns-in-Err : goal.returns-in-Err
 returns-in-Err g c = c.finish_without_memory.ensures [] c.requires
 
 pub returns-in_err-filled : goal.returns-in_err-filled
-returns-in_err-filled g c = grind (arith, found-of-record)
+returns-in_err-filled g c =
+    let p = err_from_is_err_and c.from_residual.result c.from_residual.ensures.1 in
+    rw (p.1, p.2) (given-failed c.args.indexed _ _ c.in_err-filled.field-0.0 _ c.requires c.in_err-filled.ensures)
 
 -- a buffer whose bytes were all written
 back_is : (n : ℕ) (new old : List ℕ) → length new ≡ length old → n ≡ length old → take n (new ++ drop (length new) old)

@@ -1,10 +1,12 @@
-use Rattle.warc_core.proofs.VerdictLemmas.{digest-found}
-use Rattle.std.proofs.Common.{arith, ◌≡◌, ◌∙◌, ◌-◌, ◌++◌, length, take, option_map}
+use Rattle.std.proofs.lemmas.Result.{err_from_is_err_and}
+use Rattle.std.proofs.Common.{arith, ℕ, List, ◌≡◌, ◌∙◌, ◌-◌, ◌++◌, length, take, option_map}
 use Rattle.sha1.specs.Sha1.{sha1}
 use Rattle.capture_core.specs.ResponseView.{response_view}
 use Rattle.capture_core.specs.CaptureAnswer.{usual_limits}
 use Rattle.capture_core.proofs.CaptureLemmas.{rest-behind, behind-digest, digest-known, digest-settled}
 use Rattle.capture_core.proofs.CaptureLemmas.{digest-made, capture-known, some-always, some-then}
+use Rattle.warc_core.proofs.VerdictLemmas.{digest-stopped}
+use Rattle.capture_core.proofs.RestLemmas.{rest-stopped}
 use Rattle.capture_core.proofs.record_capture.finish_capture.Goals as goal
 
 pub returns-in-Some : goal.returns-in-Some
@@ -24,7 +26,9 @@ returns-in_ok-digest_rest-in-None g c =
     let left = c.args.indexed.head.now.parts.block_length - length c.args.parted.bytes.now in
     let d = rw c.requires.ready.stands.phase_is at c.in_ok-digest_rest-in-None.ensures in
     record {
-      reads = grind (arith, rest-behind, behind-digest);
+      reads = rest-behind left 0 c.args.indexed.head.now _ _ _ _
+          (behind-digest left c.args.parted.payload.now c.in_ok-digest_rest-in-None.field-0 _ _ d.bytes) d.failures
+          (rw d.state.phase_is at c.capture_closed-in-None.ensures.reads);
       capture = some-then _ (λ bytes. c.in_ok-digest_rest-in-None.field-0
           ≡ sha1 (c.args.parted.payload.now ++ take left bytes)) _
           (λ bytes hashed. capture-known usual_limits c.args.indexed.head.now c.args.indexed.name.now
@@ -38,4 +42,10 @@ returns-in_ok-digest_rest-in-None g c =
     }
 
 pub returns-in_err-digest_rest-in-None : goal.returns-in_err-digest_rest-in-None
-returns-in_err-digest_rest-in-None g c = grind (arith, digest-found)
+returns-in_err-digest_rest-in-None g c =
+    let ready = c.requires.ready in
+    let p = err_from_is_err_and c.from_residual.result c.from_residual.ensures.1 in
+    let d = rw ready.stands.phase_is at c.in_err-digest_rest-in-None.ensures in
+    rw (p.1, p.2) (rest-stopped (List ℕ) c.args.indexed _ _ _ c.in_err-digest_rest-in-None.field-0.0
+    (digest-stopped _ _ c.args.parted.payload.now _ _ d.bytes) (rw ready.stands.offset_is at d.state)
+    d.cause d.failures)

@@ -1,15 +1,25 @@
-use Rattle.index_core.proofs.Words.{none_at_end, ◌∙◌, ◌++◌, [], append-nil, length-append}
+use Rattle.index_core.proofs.Words.{◌∙◌, ◌++◌, [], append-nil, length-append}
 use Rattle.index_core.proofs.Words.{option_to_list, append_assoc, arith, HEAD_LIMIT}
 use Rattle.cdxj_places.proofs.RisingLaws.{each_join}
 use Rattle.cdxj_core.specs.declared.limit.TheConstants.{LINE_LIMIT}
 use Rattle.capture_core.specs.Types.{includes}
 use Rattle.capture_core.specs.CaptureAnswer.{usual_limits}
-use Rattle.index_core.proofs.AddingLemmas.{AddedSoFar-more, AddedSoFar-refused}
+use Rattle.index_core.proofs.AddingLemmas.{AddedSoFar-end, AddedSoFar-more, AddedSoFar-refused}
 use Rattle.index_core.proofs.SoundLemmas.{before_step, sound_step}
 use Rattle.index_core.proofs.captures.add_captures.Goals as goal
 
 pub returns-in-Ok-None-clause-gains : goal.returns-in-Ok-None-clause-gains
-returns-in-Ok-None-clause-gains g c = grind (arith, length-append, none_at_end)
+returns-in-Ok-None-clause-gains g c =
+    let i = c.loop-captures.invariant.gains in
+    let r = rw c.in-Ok-None.field-0-is at c.in-Ok-None.ensures in (
+      i.0,
+      i.1,
+      (
+        grind (arith, length-append),
+        i.3,
+        AddedSoFar-end (includes c.args.types) usual_limits HEAD_LIMIT c.args.name.now _ _ _ _ i.0 i.2 r.takes,
+      ),
+    )
 
 pub overflow_sub-result : goal.overflow_sub-result
 overflow_sub-result g c = grind (arith, length-append)
@@ -26,6 +36,19 @@ returns-in-Err-clause-gains g c =
         i.3,
         AddedSoFar-refused (includes c.args.types) usual_limits HEAD_LIMIT c.args.name.now _ _ _ i.0 _ i.2
             c.in-Err.ensures.takes,
+      ),
+    )
+
+pub returns-in-Err-keep-clause-gains : goal.returns-in-Err-keep-clause-gains
+returns-in-Err-keep-clause-gains g c =
+    let e = rw c.in-Ok-Some.field-0-is at c.in-Ok-Some.ensures in
+    let i = c.loop-captures.invariant.gains in (
+      i.0,
+      grind arith,
+      (
+        i.3,
+        AddedSoFar-refused (includes c.args.types) usual_limits HEAD_LIMIT c.args.name.now _ _ _ i.0 _ i.2
+            (c.start.ensures ∙ e.takes.begins.start_is, grind arith),
       ),
     )
 

@@ -2,8 +2,8 @@ use Rattle.index_core.proofs.Words.{arith, err_from_is_err_and}
 use Rattle.index_core.proofs.CopyLemmas.{copied_more, head_cut, piece_cut, piece_stop}
 use Rattle.index_core.proofs.copying.copy_head_and_block.Goals as goal
 
-pub returns-in_err-put_bytes-clause-copies : goal.returns-in_err-put_bytes-clause-copies
-returns-in_err-put_bytes-clause-copies g c = grind (arith, err_from_is_err_and, head_cut)
+pub returns-in_err-put_bytes : goal.returns-in_err-put_bytes
+returns-in_err-put_bytes g c = grind (arith, err_from_is_err_and, head_cut)
 
 pub returns-in_err-put_bytes-2-clause-copies : goal.returns-in_err-put_bytes-2-clause-copies
 returns-in_err-put_bytes-2-clause-copies g c =

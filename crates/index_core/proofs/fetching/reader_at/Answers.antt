@@ -8,5 +8,5 @@ returns-in_err-head-clause-reaches g c = grind (arith, err_from_is_err_and)
 pub loop-end-preserved : goal.loop-end-preserved
 loop-end-preserved g c = grind (arith, WalkedTo-more)
 
-pub returns-in-None-clause-reaches : goal.returns-in-None-clause-reaches
-returns-in-None-clause-reaches g c = grind (arith, ends_before)
+pub returns-in-None : goal.returns-in-None
+returns-in-None g c = grind (arith, ends_before)

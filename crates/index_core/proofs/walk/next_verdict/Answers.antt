@@ -15,8 +15,8 @@ returns-in_ok-verdict-in-Some-clause-verdict g c h v e =
 pub returns-in_err-next-clause-bytes : goal.returns-in_err-next-clause-bytes
 returns-in_err-next-clause-bytes g c = grind (arith, err_from_is_err_and, record-stopped)
 
-pub returns-in_err-verdict-in-Some-clause-bytes : goal.returns-in_err-verdict-in-Some-clause-bytes
-returns-in_err-verdict-in-Some-clause-bytes g c = grind (arith, err_from_is_err_and, record-unclosed, judged_met)
+pub returns-in_err-verdict-in-Some : goal.returns-in_err-verdict-in-Some
+returns-in_err-verdict-in-Some g c = grind (arith, err_from_is_err_and, record-unclosed, judged_met)
 
 pub returns-in-None-clause-bytes : goal.returns-in-None-clause-bytes
 returns-in-None-clause-bytes g c = grind (arith, record-end)

@@ -1,4 +1,4 @@
-use Rattle.warc_core.proofs.Words.{arith, length, HEAD_LIMIT}
+use Rattle.warc_core.proofs.Words.{arith, length, take-append-drop, HEAD_LIMIT}
 use Rattle.warc_core.proofs.GatherLemmas.{usual-found}
 use Rattle.warc_core.proofs.HeldLemmas.{first-line}
 use Rattle.warc_core.proofs.PartsLemmas.{read-ok}
@@ -15,3 +15,6 @@ returns-in-Some-clause-head c =
 
 pub returns-in-Some-clause-says : goal.returns-in-Some-clause-says
 returns-in-Some-clause-says c = grind (arith, read-ok)
+
+pub returns-in-Some-clause-taken : goal.returns-in-Some-clause-taken
+returns-in-Some-clause-taken c = grind (arith, take-append-drop)

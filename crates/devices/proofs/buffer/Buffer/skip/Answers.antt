@@ -1,5 +1,7 @@
 use Rattle.std.proofs.Common.{◌≤◌, length, take, arith}
 use Rattle.std.proofs.lemmas.List.{length-take-le}
+use Rattle.std.proofs.lemmas.Grind.{common_steps}
+use Rattle.std.proofs.lemmas.Result.{err_from_is_err_and}
 use Rattle.devices.proofs.BufferLemmas.{skips-held, skips-read}
 use Rattle.devices.proofs.buffer.Buffer.skip.Goals as goal
 
@@ -23,3 +25,6 @@ returns-in_ok-fill-in-0-clause-bytes g c =
       length-take-le
           n now fits,
     )
+
+pub returns-in_err-fill-in-0-clause-bytes : goal.returns-in_err-fill-in-0-clause-bytes
+returns-in_err-fill-in-0-clause-bytes g c = grind (arith, common_steps, err_from_is_err_and)

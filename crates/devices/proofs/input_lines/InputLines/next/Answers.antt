@@ -6,8 +6,8 @@ use Rattle.devices.proofs.input_lines.InputLines.next.Goals as goal
 pub loop-self-preserved : goal.loop-self-preserved
 loop-self-preserved g c = grind (arith, after_within)
 
-pub returns-in-Ended-clause-line : goal.returns-in-Ended-clause-line
-returns-in-Ended-clause-line g c = grind (arith, after_ended)
+pub returns-in-Ended : goal.returns-in-Ended
+returns-in-Ended g c = grind (arith, after_ended)
 
 pub returns-in-AtEnd-clause-line : goal.returns-in-AtEnd-clause-line
 returns-in-AtEnd-clause-line g c = grind (arith, after_end, vec_len, eqb-false)
