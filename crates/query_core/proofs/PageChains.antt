@@ -15,7 +15,7 @@ use Rattle.query_core.proofs.WriterLemmas.{captures, captures_are}
 use Rattle.query_core.proofs.PagesLemmas.{Pages, all_cut, all_pages, ends, last_page, next_place, next_short, pages_by}
 use Rattle.query_core.specs.WrittenPages.{KeysButLast, empty_page}
 use Rattle.cdxj_core.proofs.IndexLemmas.{one_index}
-use Rattle.query_core.specs.OneText.{AnswerIsOne, MergeIsOne, PagesAreOne}
+use Rattle.query_core.specs.OneText.{PagesAreOne}
 use Rattle.page_core.proofs.PageLemmas.{page_in_pieces}
 
 -- ---- captures that are cut

@@ -5,7 +5,7 @@ use Rattle.query_core.proofs.Words.{IsIndex, Known, LINE_LIMIT, List, Member, No
 use Rattle.query_core.proofs.Words.{Pair, PlaceValue, QueryValue, ReadFor, Some, TargetValue, Upto, and_parts, ap}
 use Rattle.query_core.proofs.Words.{append-nil, append_assoc, arith, bytes_eq-Decides, collection, each_join, each_kept}
 use Rattle.query_core.proofs.Words.{each_weaker, eqb-true, false, false_from_ne_true, filter, in_reach, inputs}
-use Rattle.query_core.proofs.Words.{is_above, is_gt, is_low, is_past, is_stamp, is_wanted, length, line_row, lines, map}
+use Rattle.query_core.proofs.Words.{is_above, is_gt, is_low, is_past, is_stamp, is_wanted, length, line_row, map}
 use Rattle.query_core.proofs.Words.{member_pair, member_place, min, nat_cmp, nat_tests, not, pair_cmp, pair_cmp_total}
 use Rattle.query_core.proofs.Words.{place_before, place_cmp, place_cmp_total, refl, same_part, slice_cmp, suc, sum}
 use Rattle.query_core.proofs.Words.{true, upto_upto, zero, zip}

@@ -5,7 +5,6 @@ ghost use Rattle.query_core.specs.ReplyFaults.{CountsReply};
 
 use crate::fault::AnswerFault;
 use devices::{Output, put};
-use itoa::Buffer;
 use std::alloc::Global;
 
 /// Writes a text to the output.
@@ -30,11 +29,8 @@ pub(crate) fn put_refusal<O: Output>(
         (refusal_text name.now) }
     ensures failures { CountsReply result (O.failures out.old) (O.failures out.new) }
 {
-    let mut text = Vec::new(alloc);
-    text.extend_from_slice(b"refused ")?;
-    text.extend_from_slice(name.as_bytes())?;
-    text.extend_from_slice(b"\n")?;
-    put_text(&text, out)
+    let text = format!(in alloc; "refused {name}\n")?;
+    put_text(text.as_bytes(), out)
 }
 
 /// Writes, after what was written of a page, the name of a fault, the number of the index, and the offset of the line.
@@ -50,13 +46,6 @@ pub(crate) fn put_fault_line<O: Output>(
         (reply_fault_line name.now index offset) }
     ensures failures { CountsReply result (O.failures out.old) (O.failures out.new) }
 {
-    let mut text = Vec::new(alloc);
-    text.extend_from_slice(b"\nfault ")?;
-    text.extend_from_slice(name.as_bytes())?;
-    text.extend_from_slice(b" ")?;
-    text.extend_from_slice(Buffer::new().format(index).as_bytes())?;
-    text.extend_from_slice(b" ")?;
-    text.extend_from_slice(Buffer::new().format(offset).as_bytes())?;
-    text.extend_from_slice(b"\n")?;
-    put_text(&text, out)
+    let text = format!(in alloc; "\nfault {name} {index} {offset}\n")?;
+    put_text(text.as_bytes(), out)
 }

@@ -1,12 +1,12 @@
-use Rattle.query_core.proofs.Words.{[], ℕ, ◌++◌, ◌∙◌, ◌≡◌, AreAtMost, GaveInReach, Grows, List, Member, Option}
+use Rattle.query_core.proofs.Words.{[], ℕ, ◌∙◌, AreAtMost, GaveInReach, Grows, List, Option}
 use Rattle.query_core.proofs.Words.{OverIndexes, ap, append-nil, arith, err_from_is_err_and, grows_by, grows_part}
-use Rattle.query_core.proofs.Words.{is_some, length-map, map, query_page, refl, sym, true, wrote_nothing}
-use Rattle.query_core.proofs.PagesReach.{Writing, answer_front, answer_rules, broke_front, end_front, no_more, of_none}
+use Rattle.query_core.proofs.Words.{is_some, length-map, map, refl, rules, sym, wrote_nothing}
+use Rattle.query_core.proofs.PagesReach.{Writing, answer_front, broke_front, end_front, no_more, of_none}
 use Rattle.query_core.proofs.PagesReach.{of_taken, page_ended, page_fewer, page_reached, passed, within}
 use Rattle.page_core.proofs.PageLemmas.{front-start}
 use Rattle.query_core.proofs.answering.answer.Given.{Over}
 use Rattle.query_core.proofs.answering.answer.Goals.{In_ok-pass, In_ok-writer}
-use Rattle.query_core.proofs.{PagesLemmas.page, WriterLemmas.captures}
+use Rattle.query_core.proofs.{WriterLemmas.captures}
 use Rattle.query_core.proofs.answering.answer.Goals as goal
 
 -- ---- the writer
@@ -25,81 +25,6 @@ writing g c =
     passed (begin g (goal.at.In_ok-pass g c).In_ok-writer) took.lines (g.O.Output.written c.read_lines.new.out)
     c.read_lines.new.sink took.came
 
--- ---- faults
-
-pub returns-in_err-writer-clause-refused : goal.returns-in_err-writer-clause-refused
-returns-in_err-writer-clause-refused g c = grind (arith, answer_rules)
-
-pub returns-in_err-writer-clause-fault : goal.returns-in_err-writer-clause-fault
-returns-in_err-writer-clause-fault g c = grind (arith, answer_rules)
-
-pub returns-in_err-pass-clause-fault : goal.returns-in_err-pass-clause-fault
-returns-in_err-pass-clause-fault g c = grind (arith, answer_rules)
-
-pub returns-in_err-end-clause-refused : goal.returns-in_err-end-clause-refused
-returns-in_err-end-clause-refused g c = grind (arith, answer_rules)
-
-pub returns-in_err-end-clause-fault : goal.returns-in_err-end-clause-fault
-returns-in_err-end-clause-fault g c = grind (arith, answer_rules)
-
--- ---- the page
-
-pub returns-then-sources-gt-SOURCES_LIMIT-clause-page : goal.returns-then-sources-gt-SOURCES_LIMIT-clause-page
-returns-then-sources-gt-SOURCES_LIMIT-clause-page g c = of_none (λ all rise. wrote_nothing _ _)
-
-pub returns-in_err-writer-clause-page : goal.returns-in_err-writer-clause-page
-returns-in_err-writer-clause-page g c = of_none (λ all rise. grind (arith, err_from_is_err_and, front-start))
-
-pub returns-in_err-pass-clause-page : goal.returns-in_err-pass-clause-page
-returns-in_err-pass-clause-page g c =
-    let broke = c.in_err-pass.ensures.ended.0 in
-    let here = begin g (goal.at.returns-in_err-pass-clause-page g c).In_ok-writer in
-    rw (err_from_is_err_and c.from_residual-in_err-pass.result c.from_residual-in_err-pass.ensures.1).1
-    (of_taken broke.took (λ all rest rise first whole.
-    answer_front c.args.query.now all _ _ (broke_front here tt _ _ broke.wrote all rest first)))
-
-pub returns-in_err-end-clause-page : goal.returns-in_err-end-clause-page
-returns-in_err-end-clause-page g c =
-    let here = (goal.at.returns-in_err-end-clause-page g c).In_ok-pass in
-    rw (err_from_is_err_and c.from_residual-in_err-end.result c.from_residual-in_err-end.ensures.1).1
-    (of_taken c.in_ok-pass.ensures.ended.took (λ all rest rise first whole.
-    end_front (writing g here) all _ _ rest first whole c.in_ok-pass.ensures.ended.enough c.in_err-end.ensures.text))
-
-pub returns-clause-page : goal.returns-clause-page
-returns-clause-page g c =
-    let here = (goal.at.returns-clause-page g c).In_ok-pass in
-    let end = c.in_ok-end.ensures in
-    of_taken c.in_ok-pass.ensures.ended.took (λ all rest rise first whole.
-    page_ended (writing g here) all _ _ rest first whole c.in_ok-pass.ensures.ended.enough c.in_ok-end.end _ end.text
-    end.end refl c.is_some.ensures)
-
-pub returns-clause-parts : goal.returns-clause-parts
-returns-clause-parts g c = λ texts known.
-    let end = c.in_ok-end.ensures in
-    let read = c.in_ok-pass.ensures.ended.parts texts known in
-    let here = (goal.at.returns-clause-parts g c).In_ok-pass in
-    let page = page_ended (writing g here) _ _ _ _ read.first.1 read.ended c.in_ok-pass.ensures.ended.enough
-    c.in_ok-end.end _ end.text end.end refl c.is_some.ensures in
-    record {
-      parts = read.parts;
-      each = read.each _ (no_more (writing g here) c.in_ok-pass.pass.all _ c.in_ok-pass.ensures.ended.enough
-          (c.is_some.ensures ∙ ap is_some end.end.next));
-      lines = read.count;
-      answered = page;
-      least = page_fewer c.args.query.now read.parts _ _ page.given read.count;
-    }
-
--- ---- what was read
-
-pub returns-in_err-pass-clause-reads : goal.returns-in_err-pass-clause-reads
-returns-in_err-pass-clause-reads g c =
-    let halted = c.in_err-pass.ensures.ended.1 in
-    let before = halted.before in
-    let here = begin g (goal.at.returns-in_err-pass-clause-reads g c).In_ok-writer in
-    let bytes = page_reached g.S.Source _ _ _ halted.earlier [] (passed here _ _ before.state before.came) halted.grows
-    halted.first (sym (append-nil _)) (within here (grind arith) _ _ before.state before.came before.more) before.within in
-    grind (arith, err_from_is_err_and)
-
 -- the captures of the earlier of the lines that were taken don't pass the page
 few : (g : Over) (c : In_ok-pass g)
     → AreAtMost c.args.query.now.limit (captures c.args.query.now c.in_ok-pass.ensures.ended.earlier)
@@ -116,20 +41,89 @@ reached g c new grows =
     page_reached g.S.Source new c.args.sources.now c.read_lines.new.sources
     took.earlier took.later (writing g c) grows took.took.first took.split (few g c) took.before.within
 
+-- ---- faults
+
+pub returns-then-sources-gt-SOURCES_LIMIT-clause-page : goal.returns-then-sources-gt-SOURCES_LIMIT-clause-page
+returns-then-sources-gt-SOURCES_LIMIT-clause-page g c = of_none (λ all rise. wrote_nothing _ _)
+
+pub returns-in_err-writer-clause-refused : goal.returns-in_err-writer-clause-refused
+returns-in_err-writer-clause-refused g c = grind (arith, err_from_is_err_and)
+
+pub returns-in_err-writer-clause-fault : goal.returns-in_err-writer-clause-fault
+returns-in_err-writer-clause-fault g c = grind (arith, err_from_is_err_and)
+
+pub returns-in_err-writer-clause-page : goal.returns-in_err-writer-clause-page
+returns-in_err-writer-clause-page g c = of_none (λ all rise. grind (arith, err_from_is_err_and, front-start))
+
+pub returns-in_err-pass-clause-fault : goal.returns-in_err-pass-clause-fault
+returns-in_err-pass-clause-fault g c = grind (arith, err_from_is_err_and)
+
+pub returns-in_err-pass-clause-page : goal.returns-in_err-pass-clause-page
+returns-in_err-pass-clause-page g c =
+    let broke = c.in_err-pass.ensures.ended.0 in
+    let here = begin g (goal.at.returns-in_err-pass-clause-page g c).In_ok-writer in
+    rw (err_from_is_err_and c.from_residual-in_err-pass.result c.from_residual-in_err-pass.ensures.1).1
+    (of_taken broke.took (λ all rest rise first whole.
+    answer_front c.args.query.now all _ _ (broke_front here tt _ _ broke.wrote all rest first)))
+
+pub returns-in_err-pass-clause-reads : goal.returns-in_err-pass-clause-reads
+returns-in_err-pass-clause-reads g c =
+    let halted = c.in_err-pass.ensures.ended.1 in
+    let before = halted.before in
+    let here = begin g (goal.at.returns-in_err-pass-clause-reads g c).In_ok-writer in
+    let bytes = page_reached g.S.Source _ _ _ halted.earlier [] (passed here _ _ before.state before.came) halted.grows
+    halted.first (sym (append-nil _)) (within here (grind arith) _ _ before.state before.came before.more) before.within in
+    grind (arith, err_from_is_err_and)
+
+pub returns-in_err-end-clause-refused : goal.returns-in_err-end-clause-refused
+returns-in_err-end-clause-refused g c = grind (arith, err_from_is_err_and)
+
+pub returns-in_err-end-clause-fault : goal.returns-in_err-end-clause-fault
+returns-in_err-end-clause-fault g c = grind (arith, err_from_is_err_and)
+
+pub returns-in_err-end-clause-page : goal.returns-in_err-end-clause-page
+returns-in_err-end-clause-page g c =
+    let here = (goal.at.returns-in_err-end-clause-page g c).In_ok-pass in
+    rw (err_from_is_err_and c.from_residual-in_err-end.result c.from_residual-in_err-end.ensures.1).1
+    (of_taken c.in_ok-pass.ensures.ended.took (λ all rest rise first whole.
+    end_front (writing g here) all _ _ rest first whole c.in_ok-pass.ensures.ended.enough c.in_err-end.ensures.text))
+
 pub returns-in_err-end-clause-reads : goal.returns-in_err-end-clause-reads
 returns-in_err-end-clause-reads g c =
     let here = (goal.at.returns-in_err-end-clause-reads g c).In_ok-pass in
     let bytes = reached g here _ (grows_part _ _ _ c.in_err-end.ensures.text) in grind (arith, err_from_is_err_and)
 
-pub returns-clause-reads : goal.returns-clause-reads
-returns-clause-reads g c =
-    let here = (goal.at.returns-clause-reads g c).In_ok-pass in
+pub returns : goal.returns
+returns g c =
+    let here = (goal.at.returns g c).In_ok-pass in
+    let end = c.in_ok-end.ensures in
     let took = c.in_ok-pass.ensures.ended in
     record {
-      probes = took.probes;
-      lines = λ texts indexes known are.
-          let most = took.few texts indexes known are c.args.query.now.limit (few g here) in
-          omega (arith, most, length-map c.args.sources.now g.S.Source.text);
-      bytes = reached g here _ (grows_by _ _ _ c.in_ok-end.ensures.text);
-      held = took.held;
+      refused = search rules;
+      kept = c.in_ok-pass.ensures.kept;
+      failures = search rules;
+      fault = tt;
+      page = of_taken took.took (λ all rest rise first whole.
+          page_ended (writing g here) all _ _ rest first whole took.enough c.in_ok-end.end _ end.text end.end refl
+          c.is_some.ensures);
+      parts = λ texts known.
+          let read = took.parts texts known in
+          let page = page_ended (writing g here) _ _ _ _ read.first.1 read.ended took.enough c.in_ok-end.end _ end.text
+          end.end refl c.is_some.ensures in
+          record {
+            parts = read.parts;
+            each = read.each _ (no_more (writing g here) c.in_ok-pass.pass.all _ took.enough
+                (c.is_some.ensures ∙ ap is_some end.end.next));
+            lines = read.count;
+            answered = page;
+            least = page_fewer c.args.query.now read.parts _ _ page.given read.count;
+          };
+      reads = record {
+        probes = took.probes;
+        lines = λ texts indexes known are.
+            let most = took.few texts indexes known are c.args.query.now.limit (few g here) in
+            omega (arith, most, length-map c.args.sources.now g.S.Source.text);
+        bytes = reached g here _ (grows_by _ _ _ end.text);
+        held = took.held;
+      };
     }

@@ -1,5 +1,5 @@
 use Rattle.query_core.proofs.Words.{QUERY_LIMIT, arith, collection, map, query_of, reply_of, wrote_nothing}
-use Rattle.query_core.proofs.ReplyLemmas.{line_tests, some_reply}
+use Rattle.query_core.proofs.ReplyLemmas.{line_rules, line_tests, some_reply}
 use Rattle.query_core.proofs.serving.reply_to_line.Goals as goal
 
 pub returns-in-Err-Memory-clause-reply : goal.returns-in-Err-Memory-clause-reply
@@ -10,3 +10,15 @@ returns-in-Err-Memory-clause-reply g c =
       over = λ texts indexes known are.
           (reply_of QUERY_LIMIT (collection indexes) c.args.line.now, grind (arith, line_tests), wrote_nothing _ _);
     }
+
+pub returns-then-line-gt-QUERY_LIMIT : goal.returns-then-line-gt-QUERY_LIMIT
+returns-then-line-gt-QUERY_LIMIT g c = grind (arith, line_rules)
+
+pub returns-in-Err : goal.returns-in-Err
+returns-in-Err g c = grind (arith, line_rules)
+
+pub returns-in-Ok-read : goal.returns-in-Ok-read
+returns-in-Ok-read g c = grind (arith, line_rules)
+
+pub returns-in-Err-read : goal.returns-in-Err-read
+returns-in-Err-read g c = grind (arith, line_rules)

@@ -1,4 +1,4 @@
-use Rattle.query_core.proofs.Words.{arith, err_from_is_err_and, refl, true}
+use Rattle.query_core.proofs.Words.{arith, err_from_is_err_and, refl}
 use Rattle.devices.proofs.Takings.{taken-join}
 use Rattle.query_core.proofs.ReplyLemmas.{input_stops, line_more, line_none, line_within, one_reply, one_reply_part}
 use Rattle.query_core.proofs.ReplyLemmas.{replied_front, replied_none, replied_taken, serve_rules, spent_more}

@@ -14,9 +14,6 @@ returns-in_err-write_pages-clause-part g c =
     rw (p.1, p.2) (λ late. scanned_part {query = c.in_ok-query.query} (grind (arith, length-map))
     (rw (← c.deref.ensures.value) at c.in_ok-indexes.ensures.indexes) _ c.in_err-write_pages.ensures.pages)
 
-pub returns-in_err-indexes-clause-fault : goal.returns-in_err-indexes-clause-fault
-returns-in_err-indexes-clause-fault g c = grind (arith, length-map, err_from_is_err_and)
-
 pub returns-in_err-write_pages-clause-fault : goal.returns-in_err-write_pages-clause-fault
 returns-in_err-write_pages-clause-fault g c = grind arith
 
@@ -25,3 +22,9 @@ returns-in_err-write_pages-clause-unwritten g c = grind arith
 
 pub returns-in_err-write_pages-clause-unread : goal.returns-in_err-write_pages-clause-unread
 returns-in_err-write_pages-clause-unread g c = grind arith
+
+pub returns-in_err-query : goal.returns-in_err-query
+returns-in_err-query g c = grind (arith, err_from_is_err_and)
+
+pub returns-in_err-indexes : goal.returns-in_err-indexes
+returns-in_err-indexes g c = grind (arith, length-map, err_from_is_err_and)

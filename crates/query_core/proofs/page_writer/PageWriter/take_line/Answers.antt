@@ -1,4 +1,4 @@
-use Rattle.query_core.proofs.Words.{[], ◌∙◌, ◌∷◌, ◌≡◌, arith, err_from_is_err_and, false, grows_by, grows_on}
+use Rattle.query_core.proofs.Words.{[], ◌∙◌, ◌∷◌, ◌≡◌, arith, err_from_is_err_and, grows_by, grows_on}
 use Rattle.query_core.proofs.Words.{grows_part, rules, sym, true≢false}
 use Rattle.query_core.proofs.PagesLemmas.{broke_more, ended_is, goes_on, more_lines, room_front, row_front, row_stands}
 use Rattle.query_core.proofs.PagesLemmas.{stands_followed, stands_over, took_next, wrote_front, wrote_holds}
