@@ -16,7 +16,7 @@ use crate::members::{AFTER, BEFORE, FRONTS, Members};
 const TOO_MANY_DIGITS: usize = 16;
 
 /// Where the fronts of a plain object's members stand, and the offset.
-#[derive(Clone, Copy, Debug, Drop)]
+#[derive(Drop)]
 pub struct PlainMembers {
     pub fronts: Members<usize>,
     pub offset: u64,
