@@ -16,7 +16,7 @@ use std::alloc::AllocError;
 const MEMBER_DEPTH: usize = 126;
 
 /// The members that a line takes from its JSON object: the value of each, the last one of its name.
-#[derive(Clone, Copy, Debug)]
+#[derive(Clone, Copy)]
 pub struct FoundMembers<'a> {
     pub(crate) members: Members<Option<MemberValue<'a>>>,
 }

@@ -6,7 +6,7 @@ ghost use Rattle.cdxj_objects.specs.FoundViews.{value_view};
 
 use fast_float::Numeral;
 
-#[derive(Clone, Copy, Debug)]
+#[derive(Clone, Copy)]
 pub(crate) enum MemberValue<'a> {
     Text(&'a str),
     /// An integer from 0 to 2^64 - 1.

@@ -17,7 +17,8 @@ pub struct Members<T> {
     pub filename: T,
 }
 
-/// What stands before the text of each in a plain object, behind the text before it.
+/// What stands before the text of each in a plain object, behind the text before it. A function
+/// copies it once, as each use of the constant is a copy of the whole.
 pub(crate) const BEFORE: Members<&str> = Members {
     url: "{\"url\": \"",
     mime: "\", \"mime\": \"",

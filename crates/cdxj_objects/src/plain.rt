@@ -16,7 +16,7 @@ use crate::members::{AFTER, BEFORE, FRONTS, Members};
 const TOO_MANY_DIGITS: usize = 16;
 
 /// Where the fronts of a plain object's members stand, and the offset.
-#[derive(Clone, Copy, Debug, Drop)]
+#[derive(Drop)]
 pub struct PlainMembers {
     pub fronts: Members<usize>,
     pub offset: u64,
@@ -144,13 +144,14 @@ pub fn texts_at<'a>(text: &'a str, fronts: &Members<usize>) -> Members<&'a str>
     ensures { borrowed_view result ≡ texts_at text.now fronts.now }
 {
     let at = *fronts;
+    let before = BEFORE;
     Members {
-        url: text_behind(text, at.url, BEFORE.url, at.mime),
-        mime: text_behind(text, at.mime, BEFORE.mime, at.status),
-        status: text_behind(text, at.status, BEFORE.status, at.digest),
-        digest: text_behind(text, at.digest, BEFORE.digest, at.length),
-        length: text_behind(text, at.length, BEFORE.length, at.offset),
-        offset: text_behind(text, at.offset, BEFORE.offset, at.filename),
-        filename: text_behind(text, at.filename, BEFORE.filename, text.len() - AFTER.len()),
+        url: text_behind(text, at.url, before.url, at.mime),
+        mime: text_behind(text, at.mime, before.mime, at.status),
+        status: text_behind(text, at.status, before.status, at.digest),
+        digest: text_behind(text, at.digest, before.digest, at.length),
+        length: text_behind(text, at.length, before.length, at.offset),
+        offset: text_behind(text, at.offset, before.offset, at.filename),
+        filename: text_behind(text, at.filename, before.filename, text.len() - AFTER.len()),
     }
 }

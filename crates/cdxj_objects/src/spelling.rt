@@ -72,17 +72,18 @@ pub fn spelled(
     ensures { IfOk result (λ p. IsSpelled line.now (found_view found.entry) number name.now
         (string_bytes p.0) p.1) }
 {
+    let before = BEFORE;
     let members = found.members;
     let mut text = String::with_capacity(alloc, line.len().saturating_mul(2))?;
     text.push_str(line)?;
-    let mime = push_member(&mut text, BEFORE.url, members.url)?;
-    let status = push_member(&mut text, BEFORE.mime, members.mime)?;
-    let digest = push_member(&mut text, BEFORE.status, members.status)?;
-    let length = push_member(&mut text, BEFORE.digest, members.digest)?;
-    let offset = push_member(&mut text, BEFORE.length, members.length)?;
+    let mime = push_member(&mut text, before.url, members.url)?;
+    let status = push_member(&mut text, before.mime, members.mime)?;
+    let digest = push_member(&mut text, before.status, members.status)?;
+    let length = push_member(&mut text, before.digest, members.digest)?;
+    let offset = push_member(&mut text, before.length, members.length)?;
     let mut digits = Buffer::new();
-    let filename = push_value(&mut text, BEFORE.offset, number_text(number, &mut digits))?;
-    push_value(&mut text, BEFORE.filename, name)?;
+    let filename = push_value(&mut text, before.offset, number_text(number, &mut digits))?;
+    push_value(&mut text, before.filename, name)?;
     text.push_str(AFTER)?;
     let fronts = Members {
         url: line.len(),

@@ -63,13 +63,14 @@ pub fn push_object(
     ensures { IfOk result (λ _. line.new.items
         ≡ line.old.items ++ object_text (text_members (borrowed_view texts.entry))) }
 {
-    push_member(line, alloc, BEFORE.url, texts.url)?;
-    push_member(line, alloc, BEFORE.mime, texts.mime)?;
-    push_member(line, alloc, BEFORE.status, texts.status)?;
-    push_member(line, alloc, BEFORE.digest, texts.digest)?;
-    push_member(line, alloc, BEFORE.length, texts.length)?;
-    push_member(line, alloc, BEFORE.offset, texts.offset)?;
-    push_member(line, alloc, BEFORE.filename, texts.filename)?;
+    let before = BEFORE;
+    push_member(line, alloc, before.url, texts.url)?;
+    push_member(line, alloc, before.mime, texts.mime)?;
+    push_member(line, alloc, before.status, texts.status)?;
+    push_member(line, alloc, before.digest, texts.digest)?;
+    push_member(line, alloc, before.length, texts.length)?;
+    push_member(line, alloc, before.offset, texts.offset)?;
+    push_member(line, alloc, before.filename, texts.filename)?;
     line.extend_from_slice(AFTER.as_bytes())?;
     Ok(())
 }
@@ -91,10 +92,11 @@ fn push_first_members(line: &mut Vec<u8>, texts: &Members<&str>) -> Result<(), A
         ++ pieces (drop 4 (plain_pieces (borrowed_view texts.now)))
         ≡ line.old.items ++ plain_text (borrowed_view texts.now)) }
 {
-    push_plain_member(line, BEFORE.url, texts.url)?;
-    push_plain_member(line, BEFORE.mime, texts.mime)?;
-    push_plain_member(line, BEFORE.status, texts.status)?;
-    push_plain_member(line, BEFORE.digest, texts.digest)?;
+    let before = BEFORE;
+    push_plain_member(line, before.url, texts.url)?;
+    push_plain_member(line, before.mime, texts.mime)?;
+    push_plain_member(line, before.status, texts.status)?;
+    push_plain_member(line, before.digest, texts.digest)?;
     Ok(())
 }
 
@@ -104,9 +106,10 @@ fn push_last_members(line: &mut Vec<u8>, texts: &Members<&str>) -> Result<(), Al
     ensures { IfOk result (λ _. line.new.items
         ≡ line.old.items ++ pieces (drop 4 (plain_pieces (borrowed_view texts.now)))) }
 {
-    push_plain_member(line, BEFORE.length, texts.length)?;
-    push_plain_member(line, BEFORE.offset, texts.offset)?;
-    push_plain_member(line, BEFORE.filename, texts.filename)?;
+    let before = BEFORE;
+    push_plain_member(line, before.length, texts.length)?;
+    push_plain_member(line, before.offset, texts.offset)?;
+    push_plain_member(line, before.filename, texts.filename)?;
     line.extend_from_slice(AFTER.as_bytes())?;
     Ok(())
 }

@@ -8,6 +8,17 @@ use fixtures::{
 use query_core::{AnswerFault, SliceSource};
 use std::alloc::Global;
 
+/// Returns `true` if the merge of these sources has this result, and writes this text.
+fn is_merge(
+    alloc: Global,
+    sources: &mut [SliceSource<'_>],
+    wanted: Result<u64, AnswerFault>,
+    text: &[u8],
+) -> Result<bool, Refused> {
+    let (result, out) = merged(alloc, sources)?;
+    Ok(result == wanted && out.bytes() == text)
+}
+
 /// Returns `true` if merging these texts has this result, and writes this text.
 fn is_merged(
     alloc: Global,
@@ -19,8 +30,7 @@ fn is_merged(
     for text in texts {
         sources.push(SliceSource::new(text))?;
     }
-    let (result, out) = merged(alloc, &mut sources)?;
-    Ok(result == wanted && out.bytes() == text)
+    is_merge(alloc, &mut sources, wanted, text)
 }
 
 /// Texts, the result of their merge, and what it writes.
@@ -60,8 +70,10 @@ const COUNTS: &[(usize, Result<u64, AnswerFault>)] = &[
 fn at_most_1024_sources_are_merged(rt: HostRuntime) -> Result<(), Refused> {
     for (count, wanted) in COUNTS {
         let mut sources = empty_sources(rt.alloc(), *count)?;
-        let (result, out) = merged(rt.alloc(), &mut sources)?;
-        assert!(rt; result == *wanted && out.bytes().is_empty(), "{count}");
+        assert!(rt;
+            is_merge(rt.alloc(), &mut sources, *wanted, b"")?,
+            "{count}"
+        );
     }
     Ok(())
 }

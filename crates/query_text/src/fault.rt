@@ -3,63 +3,55 @@ ghost use Rattle.std.specs.Prelude.{◌≡◌};
 
 use cdxj_core::KeyFault;
 use std::alloc::AllocError;
-use thiserror::Error;
+use std::error::Error;
+use std::fmt;
 
 /// Why a query text is rejected.
-#[derive(Clone, Copy, Debug, Drop, Error, PartialEq, Eq)]
+#[derive(Clone, Copy, Debug, Drop, PartialEq, Eq)]
 pub enum QueryFault {
     /// Memory could not be allocated, or the URL parser has no room for the URL.
-    #[error("memory")]
     Memory,
     /// No parameter has this name.
-    #[error("unknown parameter")]
     Unknown,
     /// A parameter that may occur once is given twice.
-    #[error("repeated parameter")]
     RepeatedParameter,
     /// The match type is none of `exact`, `prefix`, `host` and `domain`.
-    #[error("bad match type")]
     BadMatch,
     /// A bound of the stamps is not 1 to 14 digits.
-    #[error("bad stamp")]
     BadStamp,
     /// A filter has no colon, or no field has the name before it.
-    #[error("bad filter")]
     BadFilter,
     /// The text of `filter` contains a sign that patterns use.
-    #[error("filter is a pattern")]
     NotLiteral,
     /// The limit is not a number from 1 to 1,000,000, in at most 7 digits.
-    #[error("bad limit")]
     BadLimit,
     /// The resume key does not name a place.
-    #[error("bad resume key")]
     BadResume,
     /// No field has a name that `fl` lists.
-    #[error("bad field")]
     BadField,
     /// The output is none of `text`, `json` and `cdxj`.
-    #[error("bad output")]
     BadOutput,
     /// A flag is neither `true` nor `false`.
-    #[error("bad flag")]
     BadFlag,
     /// The text has neither `url` nor `key`.
-    #[error("neither url nor key")]
     NoUrl,
     /// The text has both `url` and `key`.
-    #[error("both url and key")]
     UrlAndKey,
     /// The URL Standard has no URL for the target, or the target has no host.
-    #[error("bad URL")]
     BadUrl,
     /// The text has more than `QUERY_LIMIT` bytes.
-    #[error("query too long")]
     QueryTooLong,
     /// The captures can't be collapsed by this value.
-    #[error("bad collapse")]
     BadCollapse,
 }
+
+impl fmt::Display for QueryFault {
+    fn fmt<W: fmt::Write>(&self, f: &mut fmt::Formatter<W>) -> fmt::Result {
+        f.write_str(self.message())
+    }
+}
+
+impl Error for QueryFault {}
 
 impl From<AllocError> for QueryFault {
     ghost use Rattle.query_text.specs.declared.fault.QueryFault.TheVariants.{Memory};
@@ -106,6 +98,28 @@ impl QueryFault {
             QueryFault::BadUrl => "BadUrl",
             QueryFault::QueryTooLong => "QueryTooLong",
             QueryFault::BadCollapse => "BadCollapse",
+        }
+    }
+
+    fn message(self) -> &'static str {
+        match self {
+            QueryFault::Memory => "memory",
+            QueryFault::Unknown => "unknown parameter",
+            QueryFault::RepeatedParameter => "repeated parameter",
+            QueryFault::BadMatch => "bad match type",
+            QueryFault::BadStamp => "bad stamp",
+            QueryFault::BadFilter => "bad filter",
+            QueryFault::NotLiteral => "filter is a pattern",
+            QueryFault::BadLimit => "bad limit",
+            QueryFault::BadResume => "bad resume key",
+            QueryFault::BadField => "bad field",
+            QueryFault::BadOutput => "bad output",
+            QueryFault::BadFlag => "bad flag",
+            QueryFault::NoUrl => "neither url nor key",
+            QueryFault::UrlAndKey => "both url and key",
+            QueryFault::BadUrl => "bad URL",
+            QueryFault::QueryTooLong => "query too long",
+            QueryFault::BadCollapse => "bad collapse",
         }
     }
 }

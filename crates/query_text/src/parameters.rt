@@ -85,31 +85,28 @@ impl Parameters {
         ensures { IsReadingInto self.new
             (with_value parameter (parameter_values self.old) text.now) result }
     {
-        let value = decoded(alloc, text)?;
+        let decoded = decoded(alloc, text)?;
+        let value = decoded.as_str();
         match parameter {
             Parameter::Url => {
-                self.url = Some(value.into_owned(alloc)?);
+                self.url = Some(decoded.into_owned(alloc)?);
                 Ok(())
             }
             Parameter::Key => {
-                self.key = Some(value.into_owned(alloc)?);
+                self.key = Some(decoded.into_owned(alloc)?);
                 Ok(())
             }
-            Parameter::MatchType => store(&mut self.kind, read_kind(value.as_str())),
-            Parameter::From => store(&mut self.from, StampStart::read(value.as_str())),
-            Parameter::To => store(&mut self.to, StampStart::read(value.as_str())),
-            Parameter::Filter => self.add_filter(Filter::read_literal(alloc, value.as_str())?),
-            Parameter::Condition(test) => {
-                self.add_filter(Filter::read(alloc, test, value.as_str())?)
-            }
-            Parameter::Limit => store(&mut self.limit, Limit::read(value.as_str())),
+            Parameter::MatchType => store(&mut self.kind, read_kind(value)),
+            Parameter::From => store(&mut self.from, StampStart::read(value)),
+            Parameter::To => store(&mut self.to, StampStart::read(value)),
+            Parameter::Filter => self.add_filter(Filter::read_literal(alloc, value)?),
+            Parameter::Condition(test) => { self.add_filter(Filter::read(alloc, test, value)?) }
+            Parameter::Limit => store(&mut self.limit, Limit::read(value)),
             Parameter::ResumeKey => store(&mut self.resume, read_resume_key(alloc, text)),
-            Parameter::ShowResumeKey => {
-                store(&mut self.show_resume_key, read_flag(value.as_str()))
-            }
-            Parameter::Fl => store(&mut self.fields, read_fields(alloc, value.as_str())),
-            Parameter::Output => store(&mut self.output, read_output(value.as_str())),
-            Parameter::Collapse => store(&mut self.collapse, read_collapse(value.as_str())),
+            Parameter::ShowResumeKey => { store(&mut self.show_resume_key, read_flag(value)) }
+            Parameter::Fl => store(&mut self.fields, read_fields(alloc, value)),
+            Parameter::Output => store(&mut self.output, read_output(value)),
+            Parameter::Collapse => store(&mut self.collapse, read_collapse(value)),
         }
     }
 

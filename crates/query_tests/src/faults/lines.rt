@@ -1,10 +1,11 @@
 //! Indexes of arbitrary bytes: cut off, too long, out of order, or not text.
 use crate::calls::{answered, checked, merged, served};
+use crate::small_indexes::file_of;
 use devices::Slice;
-use fixtures::{Refused, TORN, cut, falling_lines, padded};
-use query_core::{AnswerFault, FileSource, SliceSource, Source, SystemFile};
+use fixtures::{LETTERS, Refused, TORN, cut, falling_lines, padded};
+use query_core::{AnswerFault, SliceSource, Source};
 use std::alloc::{AllocError, Global};
-use std::fs::{self, File};
+use std::fs;
 use std::test::Fail;
 
 /// A good line of 50 bytes, and a line after it that has no entry because of its bytes, its pair, its object, its file
@@ -296,11 +297,10 @@ fn each_byte_has_its_reply(rt: HostRuntime) -> Result<(), Fail> {
 #[test]
 fn a_file_that_was_cut_cannot_be_read(rt: HostRuntime) -> Result<(), Fail> {
     let read = Err(AnswerFault::Read(0));
-    fs::write(&rt, "cut.cdxj", BAD_LINES[0])?;
-    let to_merge = FileSource::new(SystemFile(File::open(&rt, "cut.cdxj")?))?;
-    let to_ask = FileSource::new(SystemFile(File::open(&rt, "cut.cdxj")?))?;
-    fs::write(&rt, "cut.cdxj", cut(BAD_LINES[0], 60))?;
+    let to_merge = file_of(&rt, "cut.cdxj", LETTERS)?;
+    let to_ask = file_of(&rt, "cut.cdxj", LETTERS)?;
+    fs::write(&rt, "cut.cdxj", cut(LETTERS, 200))?;
     assert!(rt; merged_length(rt.alloc(), &mut [to_merge])? == (read, 0));
     assert!(rt; answers_empty(rt.alloc(), &mut [to_ask], ALL, read)?);
-    Ok(fs::remove_file(&rt, "cut.cdxj")?)
+    Ok(())
 }
