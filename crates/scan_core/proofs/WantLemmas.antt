@@ -12,6 +12,7 @@ use Rattle.scan_core.specs.declared.fault.ScanFault.TheVariants.{Archive}
 use Rattle.scan_core.specs.Archives.{AreNewNames, IsFaultOfArchive, IsNewName}
 use Rattle.scan_core.specs.Failures.{CountsAt}
 use Rattle.scan_core.specs.Laws.{IsWantOfRoom, MayRise, OnlyMemoryIsWanting}
+use Rattle.scan_core.specs.Scanning.{IsScanFault}
 use Rattle.index_core.specs.declared.fault.IndexFault.TheVariants as index
 
 -- ---- what is known of each archive
@@ -61,5 +62,6 @@ module _ (whole_is_not_refused : WholeIsNotRefused) (types : Kind → Bool) (nam
   archive_want fault h k = let fresh = new_at [] names i new inside in grind arith
 
 pub only_memory : WholeIsNotRefused → OnlyMemoryIsWanting
+unfolding IsScanFault
 only_memory law types names archives inputs sizes text fault counts count s known h may k may' k' =
     grind (arith, archive_want)

@@ -46,7 +46,7 @@ module _ (types : Kind → Bool) (names : List (List ℕ)) (inputs : List (Optio
     pub part : WrotePagesInPart query (captured_lines captures) sizes old new
 
   -- Why nothing or no more was written. What comes before the fault in this order isn't at fault.
-  abbrev pub IsScanFault : ScanFault → Type 0
+  unfoldable pub IsScanFault : ScanFault → Type 0
   IsScanFault (Answer answer.BadSizes) = are_sizes sizes ≡ false
   IsScanFault (Query refusal.Memory) = are_sizes sizes ≡ true
   IsScanFault (Query fault) = (are_sizes sizes ≡ true) × (query_of QUERY_LIMIT text ≡ Err fault)

@@ -1,5 +1,6 @@
 use Rattle.query_core.proofs.Words.{arith, err_from_is_err_and, length-map}
 use Rattle.scan_core.proofs.ScanLemmas.{scanned_part, scanned_whole}
+use Rattle.scan_core.specs.Scanning.{IsScanFault}
 use Rattle.scan_core.proofs.scanning.scan.Goals as goal
 
 pub returns-clause-scanned : goal.returns-clause-scanned
@@ -15,6 +16,7 @@ returns-in_err-write_pages-clause-part g c =
     (rw (← c.deref.ensures.value) at c.in_ok-indexes.ensures.indexes) _ c.in_err-write_pages.ensures.pages)
 
 pub returns-in_err-write_pages-clause-fault : goal.returns-in_err-write_pages-clause-fault
+unfolding IsScanFault
 returns-in_err-write_pages-clause-fault g c = grind arith
 
 pub returns-in_err-write_pages-clause-unwritten : goal.returns-in_err-write_pages-clause-unwritten
@@ -24,7 +26,9 @@ pub returns-in_err-write_pages-clause-unread : goal.returns-in_err-write_pages-c
 returns-in_err-write_pages-clause-unread g c = grind arith
 
 pub returns-in_err-query : goal.returns-in_err-query
+unfolding IsScanFault
 returns-in_err-query g c = grind (arith, err_from_is_err_and)
 
 pub returns-in_err-indexes : goal.returns-in_err-indexes
+unfolding IsScanFault
 returns-in_err-indexes g c = grind (arith, length-map, err_from_is_err_and)
