@@ -37,19 +37,18 @@ pub fn command_line<'a>(alloc: Global) -> Result<Command<'a>, AllocError>
 fn program<'a>(alloc: Global) -> Result<Command<'a>, AllocError>
     ensures { IfOk result (λ command. app_of command ≡ without_commands) }
 {
-    Ok(Command::new(alloc, "warcdx")
-        .bin_name("warcdx")?
-        .about(PROGRAM.about)
-        .after_help(PROGRAM.details)
-        .no_binary_name(true)
-        .disable_help_subcommand(true))
+    Ok(
+        Command::new(alloc, "warcdx")
+            .bin_name("warcdx")?
+            .about(PROGRAM.about)
+            .after_help(PROGRAM.details)
+            .no_binary_name(true)
+            .disable_help_subcommand(true),
+    )
 }
 
 /// Adds the subcommands that list, verify and index archives.
-fn with_archive_commands<'a>(
-    program: Command<'a>,
-    alloc: Global,
-) -> Result<Command<'a>, AllocError>
+fn with_archive_commands<'a>(program: Command<'a>, alloc: Global) -> Result<Command<'a>, AllocError>
     ensures { IfOk result (λ more. app_of more
         ≡ with_commands (app_of program.entry) (take 3 commands)) }
 {

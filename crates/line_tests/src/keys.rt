@@ -122,7 +122,9 @@ fn other_key(alloc: Global, table: &'static str) -> Result<Option<&'static str>,
 #[test]
 fn targets_have_keys(rt: HostRuntime) -> Result<(), KeyFault> {
     for table in TARGETS {
-        assert!(rt; other_key(rt.alloc(), table)?.is_none());
+        let other = other_key(rt.alloc(), table)?;
+        let row = other.unwrap_or("");
+        assert!(rt; other.is_none(), "{row}");
     }
     assert!(rt; has_key(rt.alloc(), "a\u{7f}b\n", "a%7fb%0a")?);
     Ok(())

@@ -128,7 +128,9 @@ const INDEXES: &[(Rows, &str)] = &[
 fn lines_are_selected_by_target_stamps_and_filters(rt: HostRuntime) -> Result<(), Fail> {
     for (rows, table) in INDEXES {
         let lines = index_lines(rt.alloc(), rows)?;
-        assert!(rt; other_lines(rt.alloc(), table, &lines)?.is_none());
+        let other = other_lines(rt.alloc(), table, &lines)?;
+        let row = other.unwrap_or("");
+        assert!(rt; other.is_none(), "{row}");
     }
     Ok(())
 }
@@ -141,7 +143,9 @@ url=example.com&filter=statuscode:404";
 #[test]
 fn lines_of_other_tools_are_selected(rt: HostRuntime) -> Result<(), Fail> {
     let lines = [FOREIGN.to_vec(rt.alloc())?];
-    assert!(rt; other_lines(rt.alloc(), IN_FOREIGN, &lines)?.is_none());
+    let other = other_lines(rt.alloc(), IN_FOREIGN, &lines)?;
+    let row = other.unwrap_or("");
+    assert!(rt; other.is_none(), "{row}");
     Ok(())
 }
 

@@ -253,7 +253,9 @@ const REFUSED: &[&str] = &[VALUES, EMPTY_VALUES, TWO_FAULTS, WITHOUT_A_TARGET];
 #[test]
 fn texts_are_refused_for_their_first_fault(rt: HostRuntime) -> Result<(), QueryFault> {
     for table in REFUSED {
-        assert!(rt; other_verdict(rt.alloc(), table)?.is_none());
+        let other = other_verdict(rt.alloc(), table)?;
+        let row = other.unwrap_or("");
+        assert!(rt; other.is_none(), "{row}");
     }
     Ok(())
 }
@@ -263,7 +265,9 @@ const ALIKE: &[&str] = &[UNKNOWN, REPEATED, NO_PLACES, ACCEPTED];
 #[test]
 fn parameters_are_unknown_repeated_no_places_or_good(rt: HostRuntime) -> Result<(), QueryFault> {
     for table in ALIKE {
-        assert!(rt; other_verdict(rt.alloc(), table)?.is_none());
+        let other = other_verdict(rt.alloc(), table)?;
+        let row = other.unwrap_or("");
+        assert!(rt; other.is_none(), "{row}");
     }
     Ok(())
 }

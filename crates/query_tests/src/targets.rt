@@ -108,7 +108,9 @@ fn other_target<'a>(
 #[test]
 fn targets_are_those_of_the_url_or_the_key(rt: HostRuntime) -> Result<(), QueryFault> {
     for (table, kind) in TARGETS {
-        assert!(rt; other_target(rt.alloc(), table, *kind)?.is_none());
+        let other = other_target(rt.alloc(), table, *kind)?;
+        let row = other.unwrap_or("");
+        assert!(rt; other.is_none(), "{row}");
     }
     Ok(())
 }

@@ -49,6 +49,7 @@ module _ (types : Kind → Bool) where
       (sizes query : List ℕ) where
     scan_fault_told : (fault : ScanFault) → IsScanFault types names left sizes query fault
         → IsScanFault types names told sizes query fault
+    unfolding IsScanFault
     scan_fault_told fault is = grind (arith, first_told)
 
     scanned_told : (before after : Option (List ℕ)) (number : ℕ)
