@@ -4,8 +4,9 @@
 usage: check_times.py [--most N] [--since SECONDS] CRATE
 
 A check saves each module in the folder out/incremental of the crate, as soon as it has checked the module. The script takes the seconds from one saved
-file to the next as those of the later module. So the check has to be one of a single job, as `rt check --jobs 1`, and nothing that it checked may have been
-saved before. The first module also has the seconds in which the check began.
+file to the next as those of the later module. So the check has to be one of a single job, as `rt check --jobs 1`. Nothing that it checked may have been
+saved before, here or in another checkout on the machine, because rt begins with what it finds there. The first module also has the seconds in which the
+check began.
 
 With --since the script reads only what was saved since then, in seconds since 1970, as `date +%s` prints them. --most limits each list to N lines; the
 default is 20.
