@@ -37,9 +37,9 @@ pub fn command_line<'a>(alloc: Global) -> Result<Command<'a>, AllocError>
 fn program<'a>(alloc: Global) -> Result<Command<'a>, AllocError>
     ensures { IfOk result (λ command. app_of command ≡ without_commands) }
 {
+    let program = Command::new(alloc, "warcdx").bin_name("warcdx")?;
     Ok(
-        Command::new(alloc, "warcdx")
-            .bin_name("warcdx")?
+        program
             .about(PROGRAM.about)
             .after_help(PROGRAM.details)
             .no_binary_name(true)

@@ -38,14 +38,14 @@ fn command_task(
         ≡ matches_task (Some (command.now, rows_of (found_of values.now)))) }
 {
     match command {
-        "list" => Ok(names_of(alloc, values)?.map(|names| Task::List { names })),
-        "verify" => Ok(names_of(alloc, values)?.map(|names| Task::Verify { names })),
+        "list" => Ok(names_of(alloc, values)?.map(Task::List)),
+        "verify" => Ok(names_of(alloc, values)?.map(Task::Verify)),
         "index" => index_task(alloc, values),
-        "merge" => Ok(names_of(alloc, values)?.map(|names| Task::Merge { names })),
-        "check" => Ok(names_of(alloc, values)?.map(|names| Task::Check { names })),
+        "merge" => Ok(names_of(alloc, values)?.map(Task::Merge)),
+        "check" => Ok(names_of(alloc, values)?.map(Task::Check)),
         "query" => query_task(alloc, values),
         "pages" => pages_task(alloc, values),
-        "serve" => Ok(names_of(alloc, values)?.map(|names| Task::Serve { names })),
+        "serve" => Ok(names_of(alloc, values)?.map(Task::Serve)),
         "get" => get_task(alloc, values),
         "scan" => scan_task(alloc, values),
         _ => Ok(None),
@@ -56,8 +56,7 @@ fn list_input(alloc: Global) -> Result<Task, AllocError>
     ensures { IfOk result (λ task. view task ≡ list_input) }
 {
     let name = String::from_str(alloc, "-")?;
-    let names = vec![in alloc; name]?;
-    Ok(Task::List { names })
+    Ok(Task::List(vec![in alloc; name]?))
 }
 
 fn index_task(alloc: Global, values: &ArgMatches) -> Result<Option<Task>, AllocError>

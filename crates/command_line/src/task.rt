@@ -2,16 +2,12 @@
 use capture_core::Types;
 
 /// What the program is asked to do. Names are the arguments as they were given. The archive `-` is standard input.
-#[derive(Debug, Drop)]
+#[derive(Drop)]
 pub enum Task {
     /// List the records of each archive.
-    List {
-        names: Vec<String>,
-    },
+    List(Vec<String>),
     /// Check the digests of each archive's records.
-    Verify {
-        names: Vec<String>,
-    },
+    Verify(Vec<String>),
     /// Index the captures of the archives: the records of these types. `input` is the name of standard input.
     Index {
         types: Types,
@@ -19,13 +15,9 @@ pub enum Task {
         names: Vec<String>,
     },
     /// Merge the indexes into one.
-    Merge {
-        names: Vec<String>,
-    },
+    Merge(Vec<String>),
     /// Check the lines of each index, and count them.
-    Check {
-        names: Vec<String>,
-    },
+    Check(Vec<String>),
     /// Answer the query over the indexes.
     Query {
         query: String,
@@ -38,9 +30,7 @@ pub enum Task {
         names: Vec<String>,
     },
     /// Answer the queries on standard input over the indexes.
-    Serve {
-        names: Vec<String>,
-    },
+    Serve(Vec<String>),
     /// Write the record that begins at the offset, in bytes from the archive's start. With a length, only a record of
     /// this length in bytes, and without reading what precedes it.
     Get {

@@ -13,6 +13,17 @@ use clap::error::ErrorKind;
 use clap::{ArgMatches, Error};
 use std::alloc::{AllocError, Global};
 
+const SIZES: &str = "<SIZES>";
+
+const SIZES_RULE: &str = "sizes are 1 to 1,000 numbers from 1 to 1,000,000, with ',' between";
+
+const TYPES_RULE: &str = "types are response, resource, revisit, conversion and metadata, each once at most, \
+                          with ',' between";
+
+const LENGTH_RULE: &str = "a length is 1 to 19 digits, below 2^63";
+
+const OFFSET_RULE: &str = "an offset is 1 to 19 digits, below 2^63, and precedes the archive";
+
 /// Returns the fault for clap's error over these arguments, with its text or one that says more.
 pub fn fault_of(alloc: Global, words: &[String], error: &Error) -> WordsFault
     ensures { IfSome (refusal_of result) (λ refusal. refusal_for (kind_of error.now)
@@ -36,11 +47,7 @@ fn no_command(alloc: Global, words: &[String], text: String) -> WordsFault
 {
     let word = first_word(words);
     match command_tip(word) {
-        Some(tip) => usage(format!(in alloc;
-            "error: unrecognized subcommand '{word}'\n\n  \
-             tip: {tip}\n\n\
-             For more information, try '--help'.\n"
-        )),
+        Some(tip) => with_tip(alloc, "unrecognized subcommand", word, tip),
         None => WordsFault::Usage(text),
     }
 }
@@ -70,8 +77,8 @@ fn no_argument(alloc: Global, words: &[String], text: String) -> WordsFault
     ensures { IsUsage result }
 {
     match words {
-        [command, query, ..] if takes_sizes(command) && query.contains('=') => no_sizes(
-            alloc, query,
+        [command, query, ..] if takes_sizes(command) && query.contains('=') => invalid(
+            alloc, query, SIZES, SIZES_RULE,
         ),
         _ => WordsFault::Usage(text),
     }
@@ -85,9 +92,15 @@ fn takes_sizes(command: &str) -> bool {
 pub fn unexpected(alloc: Global, option: &str) -> WordsFault
     ensures { IsUsage result }
 {
-    let tip = tip_for(option);
+    with_tip(alloc, "unexpected option", option, tip_for(option))
+}
+
+/// Returns the usage error for an argument, with what to do.
+fn with_tip(alloc: Global, what: &str, word: &str, tip: &str) -> WordsFault
+    ensures { IsUsage result }
+{
     usage(format!(in alloc;
-        "error: unexpected option '{option}'\n\n  \
+        "error: {what} '{word}'\n\n  \
          tip: {tip}\n\n\
          For more information, try '--help'.\n"
     ))
@@ -132,7 +145,7 @@ pub fn no_task(alloc: Global, matches: &ArgMatches) -> WordsFault
     ensures { IsUsage result }
 {
     match operand_word(matches, "types") {
-        Some(word) if Types::read(word).is_none() => no_types(alloc, word),
+        Some(word) if Types::read(word).is_none() => invalid(alloc, word, "--types <TYPES>", TYPES_RULE),
         _ => no_numbers(alloc, matches),
     }
 }
@@ -141,7 +154,7 @@ fn no_numbers(alloc: Global, matches: &ArgMatches) -> WordsFault
     ensures { IsUsage result }
 {
     match operand_word(matches, "sizes") {
-        Some(word) => no_sizes(alloc, word),
+        Some(word) => invalid(alloc, word, SIZES, SIZES_RULE),
         None => no_place(alloc, matches),
     }
 }
@@ -150,16 +163,20 @@ fn no_place(alloc: Global, matches: &ArgMatches) -> WordsFault
     ensures { IsUsage result }
 {
     match operand_word(matches, "length") {
-        Some(word) if read_offset(word).is_none() => no_length(alloc, word),
-        _ => no_offset(alloc, operand_word(matches, "offset").unwrap_or("")),
+        Some(word) if read_offset(word).is_none() => invalid(alloc, word, "--length <LENGTH>", LENGTH_RULE),
+        _ => {
+            let word = operand_word(matches, "offset").unwrap_or("");
+            invalid(alloc, word, "<OFFSET>", OFFSET_RULE)
+        }
     }
 }
 
-fn no_length(alloc: Global, word: &str) -> WordsFault
+/// Returns the usage error for a value of this operand or option, which isn't as the rule says.
+fn invalid(alloc: Global, value: &str, operand: &str, rule: &str) -> WordsFault
     ensures { IsUsage result }
 {
     usage(format!(in alloc;
-        "error: invalid value '{word}' for '--length <LENGTH>': a length is 1 to 19 digits, below 2^63\n\n\
+        "error: invalid value '{value}' for '{operand}': {rule}\n\n\
          For more information, try '--help'.\n"
     ))
 }
@@ -169,34 +186,6 @@ pub fn no_input(alloc: Global) -> WordsFault
 {
     usage(format!(in alloc;
         "error: '--name <NAME>' names the archive '-', which isn't given\n\n\
-         For more information, try '--help'.\n"
-    ))
-}
-
-fn no_types(alloc: Global, word: &str) -> WordsFault
-    ensures { IsUsage result }
-{
-    usage(format!(in alloc;
-        "error: invalid value '{word}' for '--types <TYPES>': types are response, resource, revisit, conversion and metadata, \
-         each once at most, with ',' between\n\n\
-         For more information, try '--help'.\n"
-    ))
-}
-
-fn no_sizes(alloc: Global, word: &str) -> WordsFault
-    ensures { IsUsage result }
-{
-    usage(format!(in alloc;
-        "error: invalid value '{word}' for '<SIZES>': sizes are 1 to 1,000 numbers from 1 to 1,000,000, with ',' between\n\n\
-         For more information, try '--help'.\n"
-    ))
-}
-
-fn no_offset(alloc: Global, word: &str) -> WordsFault
-    ensures { IsUsage result }
-{
-    usage(format!(in alloc;
-        "error: invalid value '{word}' for '<OFFSET>': an offset is 1 to 19 digits, below 2^63, and precedes the archive\n\n\
          For more information, try '--help'.\n"
     ))
 }

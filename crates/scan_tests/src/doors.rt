@@ -184,12 +184,8 @@ fn writes(rt: &HostRuntime, task: &Task, text: &[u8]) -> bool {
 
 #[test]
 fn tasks_on_archives_write_their_texts(rt: HostRuntime) -> Result<(), Fail> {
-    let list = Task::List {
-        names: one_name(rt.alloc(), "a.warc")?,
-    };
-    let verify = Task::Verify {
-        names: one_name(rt.alloc(), "a.warc")?,
-    };
+    let list = Task::List(one_name(rt.alloc(), "a.warc")?);
+    let verify = Task::Verify(one_name(rt.alloc(), "a.warc")?);
     let get = Task::Get {
         length: None,
         offset: 0,
@@ -203,15 +199,9 @@ fn tasks_on_archives_write_their_texts(rt: HostRuntime) -> Result<(), Fail> {
 
 #[test]
 fn tasks_on_indexes_write_their_texts(rt: HostRuntime) -> Result<(), Fail> {
-    let check = Task::Check {
-        names: one_name(rt.alloc(), "a.cdxj")?,
-    };
-    let merge = Task::Merge {
-        names: one_name(rt.alloc(), "a.cdxj")?,
-    };
-    let serve = Task::Serve {
-        names: one_name(rt.alloc(), "a.cdxj")?,
-    };
+    let check = Task::Check(one_name(rt.alloc(), "a.cdxj")?);
+    let merge = Task::Merge(one_name(rt.alloc(), "a.cdxj")?);
+    let serve = Task::Serve(one_name(rt.alloc(), "a.cdxj")?);
     assert!(rt; writes(&rt, &check, b"a.cdxj 1\n"));
     assert!(rt; writes(&rt, &merge, INDEX));
     assert!(rt; writes(&rt, &serve, b"org,a)/\n.\n"));

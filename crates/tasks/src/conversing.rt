@@ -5,10 +5,10 @@ ghost use Rattle.tasks.specs.Opening.{OpensFirst, AreUnopenedIndexes};
 ghost use Rattle.tasks.specs.Queries.{AnswersLines};
 ghost use Rattle.tasks.specs.Writes.{CountsWrites};
 
-use crate::faults::say_source_fault;
+use crate::faults::answered_outcome;
 use crate::opening::{Opener, open_indexes};
 use crate::outcome::Outcome;
-use query_core::{Source, serve};
+use query_core::serve;
 use std::rt::Runtime;
 use warc_core::{Input, Output};
 
@@ -29,29 +29,7 @@ pub fn serve_all<R: Runtime + AllocGlobal, F: Opener, I: Input, O: Output>(
     ensures writes { CountsWrites result (O.failures out.old) (O.failures out.new) }
 {
     match open_indexes(rt.alloc(), files, names) {
-        Ok(mut indexes) => serve_opened(rt, names, &mut indexes, input, out),
+        Ok(mut indexes) => answered_outcome(rt, names, serve(rt.alloc(), &mut indexes, input, out)),
         Err(outcome) => outcome,
-    }
-}
-
-/// Answers the queries of an input over sources of these names.
-fn serve_opened<R: Runtime + AllocGlobal, S: Source, I: Input, O: Output>(
-    rt: &R,
-    names: &[String],
-    sources: &mut [S],
-    input: &mut I,
-    out: &mut O,
-) -> Outcome
-    ensures answers { AnswersLines (map S.text sources.old) (I.remaining input.old)
-        (O.written out.old)
-        (O.written out.new) (out.new ≡ out.old) result }
-    ensures writes { CountsWrites result (O.failures out.old) (O.failures out.new) }
-{
-    match serve(rt.alloc(), sources, input, out) {
-        Ok(_count) => Outcome::Done,
-        Err(fault) => {
-            say_source_fault(rt, names, fault);
-            Outcome::Answer(fault)
-        }
     }
 }

@@ -1,6 +1,7 @@
 //! The faults of archives and indexes, and how they are reported on standard error.
 ghost use Rattle.std.specs.Prelude.{◌≡◌};
 ghost use Rattle.tasks.specs.Outcome.{outcome_of};
+ghost use Rattle.tasks.specs.Queries.{answered_outcome};
 
 use crate::advice::{
     answer_advice, index_advice, is_address, is_plain, query_advice, unknown_parameter,
@@ -76,8 +77,25 @@ fn say_unknown<R: Runtime>(rt: &R, name: &str, fault: QueryFault) {
     };
 }
 
+/// Returns the outcome of a call on indexes of these names. A fault of an index is reported on standard error.
+pub fn answered_outcome<R: Runtime, T>(
+    rt: &R,
+    names: &[String],
+    answer: Result<T, AnswerFault>,
+) -> Outcome
+    ensures { result ≡ answered_outcome answer }
+{
+    match answer {
+        Ok(_) => Outcome::Done,
+        Err(fault) => {
+            say_source_fault(rt, names, fault);
+            Outcome::Answer(fault)
+        }
+    }
+}
+
 /// Reports a fault of a call on several indexes under the name of the index concerned, if there is one.
-pub fn say_source_fault<R: Runtime>(rt: &R, names: &[String], fault: AnswerFault) {
+fn say_source_fault<R: Runtime>(rt: &R, names: &[String], fault: AnswerFault) {
     let source = match fault {
         AnswerFault::Read(source) => source,
         AnswerFault::BadLine(source, _offset) => source,

@@ -5,10 +5,10 @@ ghost use Rattle.tasks.specs.Merging.{MergesIndexes};
 ghost use Rattle.tasks.specs.Opening.{OpensFirst, AreUnopenedIndexes};
 ghost use Rattle.tasks.specs.Writes.{CountsWrites};
 
-use crate::faults::say_source_fault;
+use crate::faults::answered_outcome;
 use crate::opening::{Opener, open_indexes};
 use crate::outcome::Outcome;
-use query_core::{Source, merge};
+use query_core::merge;
 use std::rt::Runtime;
 use warc_core::Output;
 
@@ -28,27 +28,7 @@ pub fn merge_all<R: Runtime + AllocGlobal, F: Opener, O: Output>(
     ensures writes { CountsWrites result (O.failures out.old) (O.failures out.new) }
 {
     match open_indexes(rt.alloc(), files, names) {
-        Ok(mut indexes) => merge_opened(rt, names, &mut indexes, out),
+        Ok(mut indexes) => answered_outcome(rt, names, merge(rt.alloc(), &mut indexes, out)),
         Err(outcome) => outcome,
-    }
-}
-
-/// Merges sources of these names.
-fn merge_opened<R: Runtime + AllocGlobal, S: Source, O: Output>(
-    rt: &R,
-    names: &[String],
-    sources: &mut [S],
-    out: &mut O,
-) -> Outcome
-    ensures merges { MergesIndexes (map S.text sources.old) (O.written out.old) (O.written out.new)
-        (out.new ≡ out.old) result }
-    ensures writes { CountsWrites result (O.failures out.old) (O.failures out.new) }
-{
-    match merge(rt.alloc(), sources, out) {
-        Ok(_count) => Outcome::Done,
-        Err(fault) => {
-            say_source_fault(rt, names, fault);
-            Outcome::Answer(fault)
-        }
     }
 }

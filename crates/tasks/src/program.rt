@@ -54,7 +54,7 @@ fn run_arguments<R: Runtime + AllocGlobal>(rt: &R, input: StandardInput) -> Outc
     match words(rt) {
         Ok(words) => {
             if words.is_empty() && input == StandardInput::Terminal {
-                say_waiting(rt);
+                let _ = eprintln!(rt; "warcdx: reading a WARC file from the terminal; see 'warcdx --help'");
             }
             run_words(rt, &words)
         }
@@ -64,11 +64,6 @@ fn run_arguments<R: Runtime + AllocGlobal>(rt: &R, input: StandardInput) -> Outc
             Outcome::Usage
         }
     }
-}
-
-/// Says on standard error that the program waits for an archive.
-fn say_waiting<R: Runtime>(rt: &R) {
-    let _ = eprintln!(rt; "warcdx: reading a WARC file from the terminal; see 'warcdx --help'");
 }
 
 /// Reports on standard error that an argument isn't UTF-8.
@@ -147,7 +142,7 @@ fn run_task<R: Runtime + AllocGlobal>(rt: &R, task: &Task) -> Outcome
         return say_outcome(rt, MEMORY);
     };
     let outcome = match task {
-        Task::Serve { .. } => perform_on_system(rt, task, &mut Prompt::new(&mut writer)),
+        Task::Serve(_names) => perform_on_system(rt, task, &mut Prompt::new(&mut writer)),
         _ => perform_on_system(rt, task, &mut FromWrite::new(&mut writer)),
     };
     let flushed = writer.flush();
@@ -200,22 +195,22 @@ pub fn perform<R: Runtime + AllocGlobal, F: Opener, O: Output>(
     ensures writes { CountsWrites result (O.failures out.old) (O.failures out.new) }
 {
     match task {
-        Task::List { names } => report_on(rt, files, names, ArchiveReport::Listing, out),
-        Task::Verify { names } => report_on(rt, files, names, ArchiveReport::Verdicts, out),
+        Task::List(names) => report_on(rt, files, names, ArchiveReport::Listing, out),
+        Task::Verify(names) => report_on(rt, files, names, ArchiveReport::Verdicts, out),
         Task::Index {
             types,
             input,
             names,
         } => index_all(rt, files, *types, input.as_deref(), names, out),
-        Task::Merge { names } => merge_all(rt, files, names, out),
-        Task::Check { names } => check_all(rt, files, names, out),
+        Task::Merge(names) => merge_all(rt, files, names, out),
+        Task::Check(names) => check_all(rt, files, names, out),
         Task::Query { query, names } => answer_query(rt, files, query, names, out),
         Task::Pages {
             sizes,
             query,
             names,
         } => write_pages(rt, files, sizes, query, names, out),
-        Task::Serve { names } => serve_all(rt, files, names, &mut files.input(), out),
+        Task::Serve(names) => serve_all(rt, files, names, &mut files.input(), out),
         Task::Get {
             length,
             offset,

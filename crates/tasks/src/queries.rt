@@ -5,10 +5,10 @@ ghost use Rattle.tasks.specs.Opening.{OpensFirst, AreUnopenedIndexes};
 ghost use Rattle.tasks.specs.Queries.{AnswersPages, AnswersQuery, ReadsFirst, ReadsQuery};
 ghost use Rattle.tasks.specs.Writes.{CountsWrites};
 
-use crate::faults::{say_refusal, say_source_fault};
+use crate::faults::{answered_outcome, say_refusal};
 use crate::opening::{Opener, open_indexes};
 use crate::outcome::Outcome;
-use query_core::{Query, Source, answer, pages};
+use query_core::{Query, answer, pages};
 use std::rt::Runtime;
 use warc_core::Output;
 
@@ -28,28 +28,10 @@ pub fn answer_query<R: Runtime + AllocGlobal, F: Opener, O: Output>(
     ensures writes { CountsWrites result (O.failures out.old) (O.failures out.new) }
 {
     match read_query(rt, query) {
-        Ok(query) => open_and_answer(rt, files, &query, names, out),
-        Err(outcome) => outcome,
-    }
-}
-
-/// Opens the indexes of these names, and writes the page of the query.
-fn open_and_answer<R: Runtime + AllocGlobal, F: Opener, O: Output>(
-    rt: &R,
-    files: &F,
-    query: &Query,
-    names: &[String],
-    out: &mut O,
-) -> Outcome
-    ensures answers { OpensFirst
-        (AreUnopenedIndexes (F.index_failed files.now) (texts names.now) result)
-        (out.new ≡ out.old)
-        (AnswersQuery query.now (map (F.index_bytes files.now) (texts names.now))
-        (O.written out.old) (O.written out.new) (out.new ≡ out.old) result) }
-    ensures writes { CountsWrites result (O.failures out.old) (O.failures out.new) }
-{
-    match open_indexes(rt.alloc(), files, names) {
-        Ok(mut indexes) => answer_opened(rt, query, names, &mut indexes, out),
+        Ok(query) => match open_indexes(rt.alloc(), files, names) {
+            Ok(mut indexes) => answered_outcome(rt, names, answer(rt.alloc(), &mut indexes, &query, out)),
+            Err(outcome) => outcome,
+        },
         Err(outcome) => outcome,
     }
 }
@@ -72,29 +54,10 @@ pub fn write_pages<R: Runtime + AllocGlobal, F: Opener, O: Output>(
     ensures writes { CountsWrites result (O.failures out.old) (O.failures out.new) }
 {
     match read_query(rt, query) {
-        Ok(query) => open_and_write_pages(rt, files, sizes, &query, names, out),
-        Err(outcome) => outcome,
-    }
-}
-
-/// Opens the indexes of these names, and writes the pages of the query.
-fn open_and_write_pages<R: Runtime + AllocGlobal, F: Opener, O: Output>(
-    rt: &R,
-    files: &F,
-    sizes: &[u64],
-    query: &Query,
-    names: &[String],
-    out: &mut O,
-) -> Outcome
-    ensures answers { OpensFirst
-        (AreUnopenedIndexes (F.index_failed files.now) (texts names.now) result)
-        (out.new ≡ out.old)
-        (AnswersPages query.now sizes.now (map (F.index_bytes files.now) (texts names.now))
-        (O.written out.old) (O.written out.new) (out.new ≡ out.old) result) }
-    ensures writes { CountsWrites result (O.failures out.old) (O.failures out.new) }
-{
-    match open_indexes(rt.alloc(), files, names) {
-        Ok(mut indexes) => pages_opened(rt, sizes, query, names, &mut indexes, out),
+        Ok(query) => match open_indexes(rt.alloc(), files, names) {
+            Ok(mut indexes) => answered_outcome(rt, names, pages(rt.alloc(), &mut indexes, &query, sizes, out)),
+            Err(outcome) => outcome,
+        },
         Err(outcome) => outcome,
     }
 }
@@ -108,49 +71,6 @@ pub fn read_query<R: Runtime + AllocGlobal>(rt: &R, text: &str) -> Result<Query,
         Err(fault) => {
             say_refusal(rt, text, fault);
             Err(Outcome::Query(fault))
-        }
-    }
-}
-
-/// Answers a query over sources of these names.
-fn answer_opened<R: Runtime + AllocGlobal, S: Source, O: Output>(
-    rt: &R,
-    query: &Query,
-    names: &[String],
-    sources: &mut [S],
-    out: &mut O,
-) -> Outcome
-    ensures answers { AnswersQuery query.now (map S.text sources.old) (O.written out.old)
-        (O.written out.new) (out.new ≡ out.old) result }
-    ensures writes { CountsWrites result (O.failures out.old) (O.failures out.new) }
-{
-    match answer(rt.alloc(), sources, query, out) {
-        Ok(_report) => Outcome::Done,
-        Err(fault) => {
-            say_source_fault(rt, names, fault);
-            Outcome::Answer(fault)
-        }
-    }
-}
-
-/// Writes the pages of a query over sources of these names.
-fn pages_opened<R: Runtime + AllocGlobal, S: Source, O: Output>(
-    rt: &R,
-    sizes: &[u64],
-    query: &Query,
-    names: &[String],
-    sources: &mut [S],
-    out: &mut O,
-) -> Outcome
-    ensures answers { AnswersPages query.now sizes.now (map S.text sources.old) (O.written out.old)
-        (O.written out.new) (out.new ≡ out.old) result }
-    ensures writes { CountsWrites result (O.failures out.old) (O.failures out.new) }
-{
-    match pages(rt.alloc(), sources, query, sizes, out) {
-        Ok(_count) => Outcome::Done,
-        Err(fault) => {
-            say_source_fault(rt, names, fault);
-            Outcome::Answer(fault)
         }
     }
 }
