@@ -1,6 +1,6 @@
 //! Abbreviated keys, which decide most comparisons without reading the keys.
 ghost use Rattle.std.specs.Prelude.{◌≡◌, ◌+◌, ◌≤◌, length, take, drop, All};
-ghost use Rattle.cdxj_places.specs.Abbreviated.{AreBytes, StartsWith, bytes_value, padded, start_words, words};
+ghost use Rattle.cdxj_places.specs.Abbreviated.{AreBytes, StartsWith, bytes_value, padded, start_words};
 
 use crate::order::HasPlace;
 
@@ -32,18 +32,13 @@ fn word(bytes: &[u8; 16], at: usize) -> u64
     ])
 }
 
-fn words_of(bytes: &[u8; 16]) -> (u64, u64)
-    ensures { result ≡ words 8 bytes.now }
-{
-    (word(bytes, 0), word(bytes, 8))
-}
-
 /// Returns the first sixteen bytes as two numbers, which compare as the bytes do. Fewer bytes are followed by zeros.
 pub(crate) fn start_words(bytes: &[u8]) -> (u64, u64)
     ensures words { result ≡ start_words 8 bytes.now }
     ensures bytes { AreBytes bytes.now }
 {
-    words_of(&abbreviated(bytes))
+    let bytes = abbreviated(bytes);
+    (word(&bytes, 0), word(&bytes, 8))
 }
 
 /// Returns the length in bytes of the longest common prefix of two keys.

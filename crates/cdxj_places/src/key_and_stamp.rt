@@ -2,18 +2,7 @@
 ghost use Rattle.std.specs.Prelude.{◌≡◌};
 ghost use Rattle.std.specs.List.{list_all};
 ghost use Rattle.std.specs.Char.{is_ascii_digit};
-ghost use Rattle.cdxj_places.specs.Pair.{is_key_byte, is_key, is_stamp};
-
-fn has_key_bytes(text: &[u8]) -> bool
-    ensures { result ≡ list_all is_key_byte text.now }
-{
-    // No early exit, so that it compiles to vector tests.
-    let mut good = true;
-    for byte in text {
-        good &= *byte > b' ' && *byte != 0x7f;
-    }
-    good
-}
+ghost use Rattle.cdxj_places.specs.Pair.{is_key, is_stamp};
 
 /// Returns `true` if each byte is an ASCII digit.
 pub fn has_digits(text: &[u8]) -> bool
@@ -26,7 +15,12 @@ pub fn has_digits(text: &[u8]) -> bool
 pub fn is_key(text: &[u8]) -> bool
     ensures { result ≡ is_key text.now }
 {
-    !text.is_empty() && has_key_bytes(text)
+    // No early exit, so that it compiles to vector tests.
+    let mut good = !text.is_empty();
+    for byte in text {
+        good &= *byte > b' ' && *byte != 0x7f;
+    }
+    good
 }
 
 /// Returns `true` if these bytes can be the stamp of a line: 14 ASCII digits.

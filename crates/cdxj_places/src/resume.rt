@@ -1,5 +1,5 @@
 //! Resume keys: a place as one form-encoded value.
-ghost use Rattle.std.specs.Prelude.{◌≡◌, IfOk, MatchResult, string_bytes};
+ghost use Rattle.std.specs.Prelude.{◌≡◌, ◌++◌, ◌∷◌, [], IfOk, MatchResult, string_bytes};
 ghost use Rattle.form_urlencoded.specs.Form.{byte_serialize};
 ghost use Rattle.cdxj_places.specs.Places.{place_text, resume_text};
 ghost use Rattle.cdxj_places.specs.PlaceViews.{place_view};
@@ -9,16 +9,22 @@ use crate::place::Place;
 use form_urlencoded::byte_serialize;
 use std::alloc::{AllocError, Global};
 
+// Appends a part of a place and a space.
+fn push_part(text: &mut Vec<u8>, part: &[u8]) -> Result<(), AllocError>
+    ensures { IfOk result (λ _. text.new.items ≡ text.old.items ++ (part.now ++ 32 ∷ [])) }
+{
+    text.extend_from_slice(part)?;
+    text.push(b' ')?;
+    Ok(())
+}
+
 fn place_text(alloc: Global, place: Place<'_>) -> Result<Vec<u8>, AllocError>
     ensures { IfOk result (λ t. t.items ≡ place_text (place_view place.entry)) }
 {
     let mut text = Vec::new(alloc);
-    text.extend_from_slice(place.key.as_bytes())?;
-    text.push(b' ')?;
-    text.extend_from_slice(&place.stamp)?;
-    text.push(b' ')?;
-    text.extend_from_slice(place.filename.as_bytes())?;
-    text.push(b' ')?;
+    push_part(&mut text, place.key.as_bytes())?;
+    push_part(&mut text, &place.stamp)?;
+    push_part(&mut text, place.filename.as_bytes())?;
     let offset = format!(in alloc; "{}", place.offset)?;
     text.extend_from_slice(offset.as_bytes())?;
     Ok(text)

@@ -1,7 +1,0 @@
-use Rattle.std.proofs.Common.{◌≡◌, take}
-use Rattle.std.specs.List.{list_all}
-use Rattle.cdxj_places.specs.Pair.{is_key_byte}
-use Rattle.cdxj_places.proofs.key_and_stamp.has_key_bytes.Given as goal
-
-abbrev pub invariant-loop-byte : goal.invariant-loop-byte
-invariant-loop-byte l = l.good ≡ list_all is_key_byte (take l.byte-index l.text)
