@@ -18,6 +18,12 @@ abbrev pub found_texts : FoundValue → ℕ → List ℕ → TextsValue
 found_texts f offset filename =
     record (map_members value_text f) { offset = decimal offset; filename = filename }
 
+-- a plain object with these texts was written behind what was there, and its fronts stand there
+pub record IsWritten (old new : List ℕ) (t : TextsValue) (at : Members ℕ) : Type 0 where
+  pub text_is : new ≡ old ++ plain_text t
+  pub object : at.url ≡ length old
+  pub fronts : AreFrontsOf new t at
+
 -- the text is the line and a plain object with these texts, whose fronts stand there
 pub record IsSpelled (line : List ℕ) (f : FoundValue) (offset : ℕ) (filename text : List ℕ)
     (at : Members ℕ) : Type 0 where

@@ -32,10 +32,7 @@ impl<'a> FoundMembers<'a> {
         ensures { IfOk result (λ found. option_map found_view found ≡ members_in text.now) }
     {
         let mut reader = Reader::new(text, scratch)?;
-        match FoundMembers::of_tokens(&mut reader) {
-            Ok(found) => Ok(Some(found)),
-            Err(Invalid) => Ok(None),
-        }
+        Ok(FoundMembers::of_tokens(&mut reader).ok())
     }
 
     /// Returns the file name, if it is a text that isn't empty.

@@ -22,10 +22,7 @@ pub(crate) fn read_value<'a>(
     let token = reader.next().ok_or(Invalid)?;
     match token {
         Token::String(text) => Ok(MemberValue::Text(text)),
-        Token::Number(text) => match number_value(text) {
-            Some(number) => Ok(number),
-            None => Err(Invalid),
-        },
+        Token::Number(text) => number_value(text).ok_or(Invalid),
         Token::Bool(_) => Ok(MemberValue::Other),
         Token::Null => Ok(MemberValue::Other),
         Token::EndObject | Token::EndArray | Token::Key(_) | Token::Bad => Err(Invalid),

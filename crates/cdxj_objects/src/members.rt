@@ -1,12 +1,14 @@
 //! The seven members of a line's object. Here alone the code spells their names.
 ghost use Rattle.std.specs.Prelude.{◌≡◌, length, min, sum_by};
+ghost use Rattle.std.specs.Bool.{⊤};
 ghost use Rattle.cdxj_objects.specs.ObjectMembers.{all_members, each, with_named};
 ghost use Rattle.cdxj_objects.specs.Texts.{borrowed_view};
 
 use crate::lanes::Front;
+use std::alloc::AllocError;
 
 /// What each of the seven members has, in the order of a written line.
-#[derive(Clone, Copy, Debug)]
+#[derive(Debug)]
 pub struct Members<T> {
     pub url: T,
     pub mime: T,
@@ -73,6 +75,18 @@ pub(crate) const FRONTS: Members<Front> = Members {
         length: BEFORE.filename.len(),
     },
 };
+
+impl<T: Copy> Copy for Members<T> {}
+
+impl<T: Copy> Clone for Members<T> {
+    ghost is_clone = { λ members copy. copy ≡ members };
+
+    ghost is_infallible = { λ _. ⊤ };
+
+    fn clone(&self) -> Result<Members<T>, AllocError> {
+        Ok(*self)
+    }
+}
 
 impl<T: Copy> Members<T> {
     /// Returns the members that all have this value.
