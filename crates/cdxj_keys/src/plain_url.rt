@@ -15,16 +15,12 @@ pub(crate) struct PlainUrl<'a> {
     pub tail: &'a str,
 }
 
-fn is_domain_byte(byte: u8) -> bool
-    ensures { result ≡ is_domain_byte byte }
-{
-    byte.is_ascii_lowercase() || byte.is_ascii_digit() || byte == b'-' || byte == b'.'
-}
-
 fn has_domain_bytes(host: &[u8]) -> bool
     ensures { result ≡ list_all is_domain_byte host.now }
 {
-    host.iter().all(|byte| is_domain_byte(*byte))
+    host.iter().all(|byte| {
+        byte.is_ascii_lowercase() || byte.is_ascii_digit() || *byte == b'-' || *byte == b'.'
+    })
 }
 
 /// Returns what follows the last dot, or the whole host if there is none.
@@ -38,19 +34,13 @@ fn last_label(host: &[u8]) -> &[u8]
     }
 }
 
-fn begins_with_letter(label: &[u8]) -> bool
-    ensures { result ≡ is_ascii_lowercase (slice_index label.now 0) }
-{
-    match label {
-        [first, ..] => first.is_ascii_lowercase(),
-        [] => false,
-    }
-}
-
 fn has_plain_label(host: &[u8]) -> bool
     ensures { result ≡ true → is_ascii_lowercase (slice_index (last_label host.now) 0) ≡ true }
 {
-    begins_with_letter(last_label(host))
+    match last_label(host) {
+        [first, ..] => first.is_ascii_lowercase(),
+        [] => false,
+    }
 }
 
 fn is_plain_host(host: &[u8]) -> bool
@@ -63,17 +53,12 @@ fn is_plain_host(host: &[u8]) -> bool
 fn is_plain_byte(byte: u8) -> bool
     ensures { result ≡ is_plain_byte byte }
 {
-    matches!(byte, b'a'..=b'z' | b'-'..=b'9') || is_escaped_by_none(byte)
-}
-
-fn is_escaped_by_none(byte: u8) -> bool
-    ensures { result ≡ is_plain_byte byte }
-{
-    byte.is_ascii_graphic()
-        && !matches!(
-            byte,
-            b'"' | b'#' | b'\'' | b'<' | b'>' | b'\\' | b'^' | b'`' | b'{' | b'}'
-        )
+    matches!(byte, b'a'..=b'z' | b'-'..=b'9')
+        || byte.is_ascii_graphic()
+            && !matches!(
+                byte,
+                b'"' | b'#' | b'\'' | b'<' | b'>' | b'\\' | b'^' | b'`' | b'{' | b'}'
+            )
 }
 
 /// Returns `true` if a query escapes none of these bytes.
@@ -83,31 +68,19 @@ fn has_plain_bytes(bytes: &[u8]) -> bool
     bytes.iter().all(|byte| is_plain_byte(*byte))
 }
 
-fn is_path_byte(byte: u8) -> bool
-    ensures { result ≡ is_path_byte byte }
-{
-    is_plain_byte(byte) && byte != b'?'
-}
-
 /// Returns `true` if a path escapes none of these bytes and ends at none.
 fn has_path_bytes(path: &[u8]) -> bool
     ensures { result ≡ list_all is_path_byte path.now }
 {
-    path.iter().all(|byte| is_path_byte(*byte))
-}
-
-fn begins_plain(before: u8, byte: u8) -> bool
-    ensures { result ≡ begins_plain before byte }
-{
-    !(before == b'/' && (byte == b'.' || byte == b'%'))
+    path.iter()
+        .all(|byte| is_plain_byte(*byte) && *byte != b'?')
 }
 
 fn each_begins_plain(path: &[u8], later: &[u8]) -> bool
     ensures { result ≡ list_all (λ p. begins_plain p.0 p.1) (zip path.now later.now) }
 {
-    path.iter()
-        .zip(later)
-        .all(|(before, byte)| begins_plain(*before, *byte))
+    path.iter().zip(later).all(|(before, byte)| !(*before == b'/'
+        && (*byte == b'.' || *byte == b'%')))
 }
 
 /// Returns `true` if no segment begins with `.` or `%`.
