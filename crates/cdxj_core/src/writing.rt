@@ -21,7 +21,7 @@ fn push_stamp(line: &mut Vec<u8>, stamp: &[u8; 14]) -> Result<(), AllocError>
 }
 
 // The key, with room for the line of these texts, where none needs an escape.
-fn key_with_room(alloc: Global, key: &str, texts: &Members<&str>) -> Result<Vec<u8>, AllocError>
+fn key_with_room(alloc: Global, key: &str, texts: Members<&str>) -> Result<Vec<u8>, AllocError>
     ensures { IfOk result (λ line. line.items ≡ key.now) }
 {
     let length = texts
@@ -40,7 +40,7 @@ fn line_bytes(alloc: Global, key: &str, entry: KeylessEntry<'_>) -> Result<Vec<u
     let mut length = Buffer::new();
     let mut offset = Buffer::new();
     let texts = entry.members(length.format(entry.length), offset.format(entry.offset));
-    let mut line = key_with_room(alloc, key, &texts)?;
+    let mut line = key_with_room(alloc, key, texts)?;
     push_stamp(&mut line, &entry.stamp)?;
     push_object(&mut line, alloc, texts)?;
     line.push(b'\n')?;
