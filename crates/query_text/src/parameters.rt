@@ -1,5 +1,6 @@
 //! The parameters of a query text, read from left to right.
-ghost use Rattle.std.specs.Prelude.{◌≡◌, Ok, Err, Some, MatchResult};
+ghost use Rattle.std.specs.Prelude.{◌≡◌, Ok, Err, Some, MatchResult, string_bytes};
+ghost use Rattle.std.specs.Cow.{cow_str_bytes};
 ghost use Rattle.query_text.specs.Readings.{IsReadingBy};
 ghost use Rattle.query_text.specs.ParameterViews.{IsReadingInto, parameter_values};
 ghost use Rattle.query_text.specs.Parameters.{no_values, is_given, with_filter, with_value, with_piece, with_pieces, pieces_of};
@@ -17,6 +18,7 @@ use crate::stamp::StampStart;
 use crate::target::{MatchKind, read_kind};
 use cdxj_core::{Field, OwnedPlace};
 use std::alloc::Global;
+use std::borrow::CowStr;
 
 /// The values of the parameters that have been read.
 #[derive(Drop)]
@@ -44,6 +46,13 @@ fn store<T: Drop>(slot: &mut Option<T>, read: Result<T, QueryFault>) -> Result<(
     Ok(())
 }
 
+fn owned(alloc: Global, text: CowStr<'_>) -> Result<String, QueryFault>
+    ensures { MatchResult result (λ kept. string_bytes kept ≡ cow_str_bytes text.entry)
+        (λ fault. fault ≡ QueryFault.Memory) }
+{
+    Ok(text.into_owned(alloc)?)
+}
+
 impl Parameters {
     /// Returns `true` if the parameter was given and may not be given again.
     fn is_given(&self, parameter: Parameter) -> bool
@@ -65,11 +74,13 @@ impl Parameters {
         }
     }
 
-    fn add_filter(&mut self, filter: Filter) -> Result<(), QueryFault>
-        ensures { IsReadingInto self.new (Ok (with_filter (parameter_values self.old) filter))
-            result }
+    /// Adds a filter that was read, or returns why it couldn't be read.
+    fn add_filter(&mut self, read: Result<Filter, QueryFault>) -> Result<(), QueryFault>
+        ensures { MatchResult read (λ filter.
+            IsReadingInto self.new (Ok (with_filter (parameter_values self.old) filter)) result)
+            (λ fault. result ≡ Err fault) }
     {
-        match self.filters.push(filter) {
+        match self.filters.push(read?) {
             Ok(()) => Ok(()),
             Err(_) => Err(QueryFault::Memory),
         }
@@ -88,19 +99,13 @@ impl Parameters {
         let decoded = decoded(alloc, text)?;
         let value = decoded.as_str();
         match parameter {
-            Parameter::Url => {
-                self.url = Some(decoded.into_owned(alloc)?);
-                Ok(())
-            }
-            Parameter::Key => {
-                self.key = Some(decoded.into_owned(alloc)?);
-                Ok(())
-            }
+            Parameter::Url => store(&mut self.url, owned(alloc, decoded)),
+            Parameter::Key => store(&mut self.key, owned(alloc, decoded)),
             Parameter::MatchType => store(&mut self.kind, read_kind(value)),
             Parameter::From => store(&mut self.from, StampStart::read(value)),
             Parameter::To => store(&mut self.to, StampStart::read(value)),
-            Parameter::Filter => self.add_filter(Filter::read_literal(alloc, value)?),
-            Parameter::Condition(test) => { self.add_filter(Filter::read(alloc, test, value)?) }
+            Parameter::Filter => self.add_filter(Filter::read_literal(alloc, value)),
+            Parameter::Condition(test) => { self.add_filter(Filter::read(alloc, test, value)) }
             Parameter::Limit => store(&mut self.limit, Limit::read(value)),
             Parameter::ResumeKey => store(&mut self.resume, read_resume_key(alloc, text)),
             Parameter::ShowResumeKey => { store(&mut self.show_resume_key, read_flag(value)) }

@@ -2,10 +2,10 @@
 ghost use Rattle.std.specs.Prelude.{◌≡◌, ◌∷◌, ◌<◌, ◌==◌, IfSome, IfOk, length};
 ghost use Rattle.std.specs.Cow.{cow_str_bytes};
 ghost use Rattle.std.specs.List.{list_all, slice_split, before_first, after_first};
-ghost use Rattle.std.specs.Char.{is_ascii_digit};
 ghost use Rattle.query_text.specs.Parts.{parts_left, is_equals, is_plain, decoded};
 ghost use Rattle.query_text.specs.Values.{is_number};
 
+use cdxj_places::has_digits;
 use form_urlencoded::decode;
 use memchr::memchr2;
 use std::alloc::{AllocError, Global};
@@ -51,15 +51,9 @@ pub(crate) fn decoded(alloc: Global, text: &str) -> Result<CowStr<'_>, AllocErro
     decode(alloc, text.as_bytes())
 }
 
-fn are_digits(bytes: &[u8]) -> bool
-    ensures { result ≡ list_all is_ascii_digit bytes.now }
-{
-    bytes.iter().all(|byte| byte.is_ascii_digit())
-}
-
 /// Returns `true` if the text consists of digits, at least one and at most `most` of them.
 pub(crate) fn is_number(text: &str, most: usize) -> bool
     ensures { result ≡ is_number most text.now }
 {
-    !text.is_empty() && text.len() <= most && are_digits(text.as_bytes())
+    !text.is_empty() && text.len() <= most && has_digits(text.as_bytes())
 }

@@ -184,7 +184,7 @@ impl Query {
     pub fn matches_kept(&self, line: &Line) -> bool
         ensures { result ≡ matches self.now line.now.values }
     {
-        self.matches_pair(line.pair()) && all_hold(self.filters.as_slice(), &line.values())
+        self.matches(&line.values())
     }
 
     /// Returns the maximum number of captures on a page, if there is one.
