@@ -3,7 +3,7 @@ use Rattle.cdxj_objects.specs.declared.members.Members.{Members}
 use Rattle.cdxj_objects.specs.FoundMembers.{raw_text}
 use Rattle.cdxj_objects.specs.FoundViews.{value_view}
 use Rattle.cdxj_objects.specs.ObjectMembers.{map_members}
-use Rattle.cdxj_objects.specs.Plain.{fronts, plain_pieces, plain_text}
+use Rattle.cdxj_objects.specs.Plain.{fronts, plain_pieces}
 use Rattle.cdxj_objects.specs.Spelling.{IsWritten}
 use Rattle.cdxj_objects.specs.Texts.{TextsValue}
 use Rattle.cdxj_objects.proofs.PlainLaw.{pushed}
@@ -37,12 +37,8 @@ is_written t at s0 s1 s2 s3 s4 s5 s6 s7 s8 object url mime status digest size of
 pub returns-clause-written : goal.returns-clause-written
 returns-clause-written c =
     let t = map_members (λ member. raw_text (option_map value_view member)) c.args.members in
-    let url = c.in_ok-mime.ensures in
-    let mime = c.in_ok-status.ensures in
-    let status = c.in_ok-digest.ensures in
-    let digest = c.in_ok-length.ensures in
-    let size = c.in_ok-offset.ensures in
-    let offset = c.in_ok-filename.ensures in
-    is_written t _ _ _ _ _ _ _ _ _ _ (grind arith) (url.bytes, url.end) (mime.bytes, mime.end)
-    (status.bytes, status.end) (digest.bytes, digest.end) (size.bytes, size.end) (offset.bytes, offset.end)
-    c.in_ok-push_member.ensures.bytes c.in_ok-push_str.ensures.bytes
+    is_written t _ _ _ _ _ _ _ _ _ _ (grind arith) (c.in_ok-mime.ensures.bytes, c.in_ok-mime.ensures.end)
+    (c.in_ok-status.ensures.bytes, c.in_ok-status.ensures.end) (c.in_ok-digest.ensures.bytes, c.in_ok-digest.ensures.end)
+    (c.in_ok-length.ensures.bytes, c.in_ok-length.ensures.end) (c.in_ok-offset.ensures.bytes, c.in_ok-offset.ensures.end)
+    (c.in_ok-filename.ensures.bytes, c.in_ok-filename.ensures.end) c.in_ok-push_member.ensures.bytes
+    c.in_ok-push_str.ensures.bytes
