@@ -37,15 +37,6 @@ impl Model for Line {
         (member_in LINE_LIMIT (take l.spans.size (string_bytes l.text))) };
 }
 
-// Room for a text of this length.
-#[inline(always)]
-fn make_room(buffer: &mut String, length: usize) -> Result<(), AllocError>
-    ensures bytes { string_bytes buffer.new ≡ string_bytes buffer.old }
-    ensures room { OnOk result (length ≤ string_capacity buffer.new) }
-{
-    buffer.reserve(length.saturating_sub(buffer.len()))
-}
-
 #[inline(always)]
 fn fill(buffer: &mut String, text: &str)
     requires { length text.now ≤ string_capacity buffer.old }
@@ -192,7 +183,8 @@ impl Line {
         ensures ok { OnOk result (self.new ≡ line.now) }
         ensures err { OnErr result (self.new ≡ self.old) }
     {
-        make_room(&mut self.text, line.text.len())?;
+        self.text
+            .reserve(line.text.len().saturating_sub(self.text.len()))?;
         fill(&mut self.text, line.text);
         self.spans = line.spans;
         Ok(())
