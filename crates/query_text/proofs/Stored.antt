@@ -11,8 +11,7 @@ kept_value : {T : Type 0} (wanted : Read ParameterValues) (of : Text → Read T)
     → wanted ≡ and_then (of text) (λ x. Ok (put (Some x))) → value ≡ kept → kept ≡ text → IsReading (of value) read
     → MatchResult read (λ x. (result ≡ Ok tt) × (slot ≡ Some x)) (λ e. result ≡ Err e)
     → MatchResult result (λ _. wanted ≡ Ok (put slot)) (λ e. e ≢ Memory → wanted ≡ Err e)
-kept_value wanted of put value kept text (Ok x) slot result w v k is done = grind arith
-kept_value wanted of put value kept text (Err e) slot result w v k is done = grind arith
+kept_value wanted of put value kept text read slot result w v k is done = grind arith
 
 pub stored : {T : Type 0} (of : Text → Read T) (put : ParameterValues → Option T → ParameterValues)
     (v : ParameterValues) (text : Text) (p q : Parameter) (value kept shown : Text) (read : Read T) (slot : Option T)

@@ -74,7 +74,6 @@ impl Parameters {
         }
     }
 
-    /// Adds a filter that was read, or returns why it couldn't be read.
     fn add_filter(&mut self, read: Result<Filter, QueryFault>) -> Result<(), QueryFault>
         ensures { MatchResult read (λ filter.
             IsReadingInto self.new (Ok (with_filter (parameter_values self.old) filter)) result)
