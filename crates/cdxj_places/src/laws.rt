@@ -52,10 +52,8 @@ fn see_bytes(bytes: &[u8])
 pub fn place_is_good(place: Place<'_>)
     ensures { IsPlace (place_view place.entry) }
 {
-    let key = place.key.as_bytes();
-    see_bytes(key);
-    let filename = place.filename.as_bytes();
-    see_bytes(filename);
+    see_bytes(place.key.as_bytes());
+    see_bytes(place.filename.as_bytes());
 }
 
 /// The list that rises by place has exactly the first thing at each place, and is the only rising
