@@ -1,8 +1,6 @@
 //! Queries: selections of captures from indexes.
 ghost use Rattle.std.specs.Prelude.{◌≡◌, IfOk, option_map, string_bytes};
-ghost use Rattle.std.specs.List.{list_all};
 ghost use Rattle.query_text.specs.Readings.{IsReading};
-ghost use Rattle.query_text.specs.Filters.{holds};
 ghost use Rattle.query_text.specs.Queries.{usual_fields, target_of};
 
 use crate::collapse::Collapse;
@@ -91,12 +89,6 @@ fn target_of(
     }
 }
 
-fn all_hold(filters: &[Filter], line: &LineRef<'_>) -> bool
-    ensures { result ≡ list_all (holds line.now.values) filters.now }
-{
-    filters.iter().all(|filter| filter.holds(line))
-}
-
 impl Query {
     ghost use Rattle.std.specs.Prelude.{◌≢◌, ◌<◌, ◌≤◌, [], false, length, IfSome, MatchResult, Ok, Err};
     ghost use Rattle.cdxj_core.specs.PlaceViews.{place_view};
@@ -177,7 +169,7 @@ impl Query {
     pub fn matches(&self, line: &LineRef<'_>) -> bool
         ensures { result ≡ matches self.now line.now.values }
     {
-        self.matches_pair(line.pair()) && all_hold(self.filters.as_slice(), line)
+        self.matches_pair(line.pair()) && self.filters.iter().all(|filter| filter.holds(line))
     }
 
     /// Returns `true` if the query matches the line.
