@@ -3,6 +3,5 @@ use Rattle.cdxj_objects.proofs.spelling.spelled.Goals as goal
 
 pub returns : goal.returns
 returns c =
-    let written = c.in_ok-fronts.ensures.written in
-    let values = c.in_ok-fronts.ensures.values in
-    record { text_is = grind arith; object = grind arith; fronts = written.fronts; values = grind arith }
+    let fronts = c.in_ok-fronts.ensures.written.fronts in
+    record { text_is = grind arith; object = grind arith; fronts = fronts; values = grind arith }
