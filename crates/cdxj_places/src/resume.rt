@@ -9,7 +9,6 @@ use crate::place::Place;
 use form_urlencoded::byte_serialize;
 use std::alloc::{AllocError, Global};
 
-// Appends a part of a place and a space.
 fn push_part(text: &mut Vec<u8>, part: &[u8]) -> Result<(), AllocError>
     ensures { IfOk result (λ _. text.new.items ≡ text.old.items ++ (part.now ++ 32 ∷ [])) }
 {
