@@ -1,20 +1,16 @@
 //! Why lines of a source couldn't be read or found.
 use crate::source::SourceFault;
 use std::alloc::AllocError;
-use thiserror::Error;
 
 /// Why a line couldn't be read.
-#[derive(Clone, Copy, Debug, Drop, PartialEq, Eq, Error)]
+#[derive(Drop)]
 pub enum LineReadFault {
     /// Memory could not be allocated.
-    #[error("out of memory")]
     Memory,
     /// The source failed.
-    #[error("the source can't be read")]
     Read,
     /// The line is longer than [`LINE_LIMIT`](cdxj_core::LINE_LIMIT) bytes, including its line
     /// feed, if it has one.
-    #[error("the line is too long")]
     Long,
 }
 
@@ -41,13 +37,11 @@ impl From<SourceFault> for LineReadFault {
 }
 
 /// Why a search couldn't be completed.
-#[derive(Clone, Copy, Debug, Drop, PartialEq, Eq, Error)]
+#[derive(Debug, Drop)]
 pub enum SearchFault {
     /// Memory could not be allocated.
-    #[error("out of memory")]
     Memory,
     /// The source failed.
-    #[error("the source can't be read")]
     Read,
 }
 
