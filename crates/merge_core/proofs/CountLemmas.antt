@@ -13,9 +13,8 @@ use Rattle.merge_core.proofs.Words.{sym, take, take-append-drop, take-map, take-
 use Rattle.source_core.proofs.LongestLines.{first_most, longest_drop}
 use Rattle.merge_core.proofs.InputLemmas.{TextRead, all_taken, all_upto, done_cut, done_within}
 use Rattle.merge_core.proofs.Many.{Move, each_both, each_replaced, each_take, filter_fewer, filter_front, filter_weaker}
-use Rattle.merge_core.proofs.Many.{zip_set}
+use Rattle.merge_core.proofs.{GroupLemmas.each_cut, GroupLemmas.filter_all, Many.zip_set}
 use Rattle.merge_core.proofs.{MergeLemmas.gathered_now, TakenLemmas.members_are}
-use Rattle.merge_core.proofs.GroupLemmas.{each_cut, filter_all}
 use Rattle.merge_core.proofs.StateLemmas.{cursors_of, few_wait, long_of}
 use Rattle.merge_core.proofs.SourceLemmas.{IsSought, each_done, reached_long, reached_read, run_after}
 use Rattle.std.proofs.lemmas.List.Filters.{length-filter_both}

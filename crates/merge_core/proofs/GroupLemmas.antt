@@ -10,8 +10,7 @@ use Rattle.merge_core.proofs.Words.{recursion_from_All, refl, set, subst, sum_by
 use Rattle.merge_core.proofs.Words.{take-append-drop, take_more, take_more_set, tied_back, true, turn_cmp, waiting_pair}
 use Rattle.merge_core.proofs.Words.{waits_of}
 use Rattle.merge_core.proofs.PairOrder.{below_then, below_upto, from_not_below, not_below_itself, same_from, same_upto}
-use Rattle.merge_core.proofs.PairOrder.{upto_upto}
-use Rattle.merge_core.proofs.Many.{each_both}
+use Rattle.merge_core.proofs.{Many.each_both, PairOrder.upto_upto}
 
 pub each_permuted : {X : Type 0} (P : X → Type 0) (xs ys : List X) → IsPermutation xs ys → AllByRecursion P xs
     → AllByRecursion P ys

@@ -1,7 +1,6 @@
 -- The steps of a merge: how a group is gathered, and what one group more makes of it.
 use Rattle.merge_core.proofs.GroupLemmas.{AreAt, AreBelow, each_permuted, filter_all, filter_none, from_popped}
-use Rattle.merge_core.proofs.GroupLemmas.{source_more}
-use Rattle.merge_core.proofs.{OpenLemmas.none_done, SourceLemmas.all_kept}
+use Rattle.merge_core.proofs.{GroupLemmas.source_more, OpenLemmas.none_done, SourceLemmas.all_kept}
 use Rattle.merge_core.proofs.Words.{[], ℕ, ◌++◌, ◌+◌, ◌<◌, ◌∙◌, ◌∷◌, ◌≡◌, ◌≤◌, Aligned, Alike, AllByRecursion, AllMoved}
 use Rattle.merge_core.proofs.Words.{AllZip-long, AreSettled, Below, Bool, BrokenMerge, EachDone, Gathered, Ghosts}
 use Rattle.merge_core.proofs.Words.{Grouped, Grows, HaltedGroup, HaltedMerge, HasEntry, IsAbove, IsDueAt, IsErrAnd}

@@ -5,8 +5,7 @@ use Rattle.merge_core.proofs.Words.{IsNextLine, IsSettled, Known, List, MatchOpt
 use Rattle.merge_core.proofs.Words.{None, OpenedAt, Option, Pair, Ready, Some, Stands, all_done, all_zipped_more, arith}
 use Rattle.merge_core.proofs.Words.{done, drop, each_weaker, filter, first_length, given, inl, input_of, inputs, length}
 use Rattle.merge_core.proofs.Words.{length-append, lines, map, option_list, refl, set, stays, suc, zip}
-use Rattle.merge_core.proofs.StateLemmas.{inputs_added, placed_queued}
-use Rattle.merge_core.proofs.{Many.each_by, PairOrder.begins}
+use Rattle.merge_core.proofs.{Many.each_by, PairOrder.begins, StateLemmas.inputs_added, StateLemmas.placed_queued}
 use Rattle.merge_core.proofs.InputLemmas.{LineRead, done_next, input_end, input_more, settled_more}
 
 -- a source was added to those that are read

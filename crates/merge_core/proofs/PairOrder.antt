@@ -5,8 +5,7 @@ use Rattle.merge_core.proofs.Words.{get_or, is_gt, is_lt, length, length-append,
 use Rattle.merge_core.proofs.Words.{nat_cmp, nat_lt, ordering_then, pair_cmp, pair_cmp_total, pair_text, slice_cmp, suc}
 use Rattle.merge_core.proofs.Words.{take, tied_back, tied_itself, true, w8}
 use Rattle.std.proofs.Math.Seq.{take-append_seam}
-use Rattle.cdxj_places.specs.Abbreviated.{padded, words_cmp}
-use Rattle.cdxj_places.specs.Pair.{is_key, is_key_byte}
+use Rattle.cdxj_places.specs.{Abbreviated.padded, Abbreviated.words_cmp, Pair.is_key, Pair.is_key_byte}
 use Rattle.cdxj_places.proofs.Abbreviations.{start_words_decide, then_associates}
 use Rattle.cdxj_core.proofs.MemberLemmas.{entry_valued}
 

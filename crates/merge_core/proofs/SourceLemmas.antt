@@ -10,8 +10,7 @@ use Rattle.merge_core.proofs.Words.{length-map, line_entry, lines, map, map-appe
 use Rattle.merge_core.proofs.Words.{nil_from_length, not, pair_cmp, place_cmp, place_cmp_total, read_lines, refl, subst}
 use Rattle.merge_core.proofs.Words.{suc, sym, take, take_all, true≢false, zip}
 use Rattle.merge_core.proofs.GroupLemmas.{each_cut, filter_all, filter_none}
-use Rattle.merge_core.proofs.Many.{Move, each_beside, each_take}
-use Rattle.merge_core.proofs.InputLemmas.{TextRead, done_cut}
+use Rattle.merge_core.proofs.{InputLemmas.TextRead, InputLemmas.done_cut, Many.Move, Many.each_beside, Many.each_take}
 use Rattle.merge_core.proofs.StateLemmas.{cursors_of, inputs_long}
 
 -- ---- the lines that the sources have from where they are read on

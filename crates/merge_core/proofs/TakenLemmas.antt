@@ -11,8 +11,7 @@ use Rattle.merge_core.proofs.Words.{not, not-false, not-true, ordering_reverse, 
 use Rattle.merge_core.proofs.Words.{place_cmp_total, read_lines, refl, rising, rising_split, slice_cmp, stays, sum}
 use Rattle.merge_core.proofs.Words.{sum_by-cons, sym, take, take-append-drop, take-map, true, true≢false, waiting_pair}
 use Rattle.merge_core.proofs.Words.{zip}
-use Rattle.merge_core.proofs.Many.{each_both, each_filter}
-use Rattle.merge_core.proofs.InputLemmas.{TextRead, filter_passes}
+use Rattle.merge_core.proofs.{InputLemmas.TextRead, InputLemmas.filter_passes, Many.each_both, Many.each_filter}
 use Rattle.merge_core.proofs.PairOrder.{below_then, from_not_below, then_below, upto_itself, upto_upto}
 use Rattle.merge_core.proofs.GroupLemmas.{each_cut, each_waits, filter_all, filter_none}
 use Rattle.merge_core.proofs.MergeLemmas.{below_next, is_less, lower_by_pair, place_below}

@@ -4,7 +4,7 @@ use source_core::SearchFault;
 use std::alloc::{AllocError, AllocFailed};
 
 /// Why a source's lines couldn't be read.
-#[derive(Clone, Copy, Debug, Drop, PartialEq, Eq)]
+#[derive(Drop)]
 pub enum FeedFault {
     /// Memory could not be allocated.
     Memory,
@@ -17,7 +17,7 @@ pub enum FeedFault {
 }
 
 /// Why sources couldn't be merged.
-#[derive(Clone, Copy, Debug, Drop, PartialEq, Eq)]
+#[derive(Drop)]
 pub enum MergeFault {
     /// Memory could not be allocated.
     Memory,

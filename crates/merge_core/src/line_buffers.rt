@@ -1,6 +1,6 @@
 //! The reading of lines into reused buffers.
 ghost use Rattle.std.specs.Prelude.{◌≡◌, ◌+◌, ◌<◌, ◌≤◌, true, length, drop, Some, None};
-ghost use Rattle.std.specs.Prelude.{MatchResult, IfOk, IfErr, OnOk};
+ghost use Rattle.std.specs.Prelude.{IfOk, IfErr, OnOk};
 ghost use Rattle.source_core.specs.Device.{OverText};
 ghost use Rattle.std.specs.List.{list_all};
 ghost use Rattle.cdxj_core.specs.Plain.{is_unescaped_ascii};
@@ -20,15 +20,6 @@ use crate::range::Range;
 use cdxj_core::{Line, LineFault};
 use source_core::{Cursor, LineBytes, LineReadFault, Source};
 use std::alloc::Global;
-
-fn boxed(alloc: Global, line: Line) -> Result<Box<Line>, LineFault>
-    ensures { MatchResult result (λ b. b.value ≡ line) (λ fault. fault ≡ LineFault.Memory) }
-{
-    match Box::new(alloc, line) {
-        Ok(line) => Ok(line),
-        Err(_) => Err(LineFault::Memory),
-    }
-}
 
 /// Returns the line of these bytes, in the buffer of a line that isn't needed any more if there is
 /// one.
@@ -50,7 +41,10 @@ fn line_of(
             }
             Ok(line)
         }
-        None => boxed(alloc, Line::read(alloc, bytes)?),
+        None => match Box::new(alloc, Line::read(alloc, bytes)?) {
+            Ok(line) => Ok(line),
+            Err(_) => Err(LineFault::Memory),
+        },
     }
 }
 

@@ -1,8 +1,7 @@
 use Rattle.merge_core.proofs.Words.{ℕ, ◌++◌, ◌+◌, ◌-◌, ◌^◌, ◌∷◌, ◌≡◌, Grouped, HoldsFew, List, Member, Reached, Some}
 use Rattle.merge_core.proofs.Words.{arith, boxed_lines, each_rising, grows_not, inl, inr, length, length-map, max}
 use Rattle.merge_core.proofs.Words.{member_pair, member_place, min, place_cmp, place_cmp_total, refl, rising}
-use Rattle.merge_core.proofs.CountLemmas.{held_most, reached_read_to}
-use Rattle.merge_core.proofs.Many.{moved_trans}
+use Rattle.merge_core.proofs.{CountLemmas.held_most, CountLemmas.reached_read_to, Many.moved_trans}
 use Rattle.merge_core.proofs.MergeLemmas.{below_next, broken_there, halted_there, on_fault, reached_next, reached_same}
 use Rattle.merge_core.proofs.merging.merge.Goals.{After-pass_group}
 use Rattle.merge_core.proofs.merging.merge.Goals as goal

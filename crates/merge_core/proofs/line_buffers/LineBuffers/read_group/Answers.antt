@@ -4,8 +4,7 @@ use Rattle.merge_core.proofs.Words.{each_weaker, false, filter, given, inl, inpu
 use Rattle.merge_core.proofs.Words.{member_pair, pair_cmp_total, refl, stays, true}
 use Rattle.merge_core.proofs.InputLemmas.{LineRead, all_inside, all_taken, all_upto, bad_named, done_next, given_next}
 use Rattle.merge_core.proofs.InputLemmas.{input_end, input_more, order_named, same_stays, settled_more}
-use Rattle.merge_core.proofs.PairOrder.{from_not_below, upto_upto}
-use Rattle.merge_core.proofs.CountLemmas.{group_most}
+use Rattle.merge_core.proofs.{CountLemmas.group_most, PairOrder.from_not_below, PairOrder.upto_upto}
 use Rattle.merge_core.proofs.line_buffers.LineBuffers.read_group.Goals.{After-compare_pair, After-next_line}
 use Rattle.merge_core.proofs.line_buffers.LineBuffers.read_group.Goals as goal
 

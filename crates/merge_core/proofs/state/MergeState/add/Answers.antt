@@ -1,7 +1,6 @@
 use Rattle.merge_core.proofs.Words.{[], IsInput, arith, boxed_line, input_of}
 use Rattle.source_core.proofs.LongestLines.{first_within}
-use Rattle.merge_core.proofs.InputLemmas.{bad_named}
-use Rattle.merge_core.proofs.OpenLemmas.{first_read, input_fresh}
+use Rattle.merge_core.proofs.{InputLemmas.bad_named, OpenLemmas.first_read, OpenLemmas.input_fresh}
 use Rattle.merge_core.proofs.state.MergeState.add.Goals.{After-next_line}
 use Rattle.merge_core.proofs.state.MergeState.add.Goals as goal
 

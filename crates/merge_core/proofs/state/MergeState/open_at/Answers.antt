@@ -2,8 +2,7 @@ use Rattle.merge_core.proofs.Words.{◌<◌, ◌≡◌, all_zipped_more, ap, ari
 use Rattle.merge_core.proofs.Words.{input_of, inputs, length, length-append, length-map, map, map-set, sum, sum-map}
 use Rattle.merge_core.proofs.Words.{sum_by_push, take, take_all, take_more, take_more_set, zip}
 use Rattle.merge_core.proofs.Many.{map_set_same, two_put, two_same}
-use Rattle.merge_core.proofs.SourceLemmas.{once_none}
-use Rattle.merge_core.proofs.CountLemmas.{left_after, left_here}
+use Rattle.merge_core.proofs.{CountLemmas.left_after, CountLemmas.left_here, SourceLemmas.once_none}
 use Rattle.std.proofs.lemmas.Simd.{map-map}
 use Rattle.merge_core.proofs.OpenLemmas.{added_inputs, ready_added, zip_none, zip_push}
 use Rattle.merge_core.proofs.state.MergeState.open_at.Goals as goal
