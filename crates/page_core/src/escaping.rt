@@ -1,8 +1,8 @@
 //! The escaping of values in text pages: spaces, control characters and DEL.
 ghost use Rattle.std.specs.Prelude.{◌≡◌, ◌<◌, ◌++◌, IfOk};
-ghost use Rattle.page_core.specs.Rows.{hex_digit, escaped_byte, escaped};
+ghost use Rattle.page_core.specs.Rows.{hex_digit, escaped};
 
-use crate::hidden::is_hidden;
+use crate::hidden::DELETE;
 use std::alloc::AllocError;
 
 fn hex_digit(digit: u8) -> u8
@@ -16,23 +16,17 @@ fn hex_digit(digit: u8) -> u8
     }
 }
 
-fn push_escaped_byte(text: &mut Vec<u8>, byte: u8) -> Result<(), AllocError>
-    ensures { IfOk result (λ _. text.new.items ≡ text.old.items ++ escaped_byte byte) }
-{
-    if is_hidden(byte) {
-        text.extend_from_slice(&[b'%', hex_digit(byte >> 4), hex_digit(byte & 15)])
-    } else {
-        text.extend_from_slice(&[byte])
-    }
-}
-
 /// Appends the value to the text. Each space, control character and DEL is written as `%` and two
 /// hexadecimal digits.
 pub(crate) fn push_escaped(text: &mut Vec<u8>, value: &str) -> Result<(), AllocError>
     ensures { IfOk result (λ _. text.new.items ≡ text.old.items ++ escaped value.now) }
 {
     for byte in value.as_bytes() {
-        push_escaped_byte(text, *byte)?;
+        if *byte <= b' ' || *byte == DELETE {
+            text.extend_from_slice(&[b'%', hex_digit(*byte >> 4), hex_digit(*byte & 15)])?;
+        } else {
+            text.extend_from_slice(&[*byte])?;
+        }
     }
     Ok(())
 }

@@ -3,13 +3,13 @@ ghost use Rattle.std.specs.Prelude.{◌≡◌, ◌++◌, IfOk, option_map};
 ghost use Rattle.page_core.specs.PageText.{page_start, page_end};
 ghost use Rattle.page_core.specs.FormView.{form_view};
 
-use crate::json_rows::{push_json_end, push_json_start};
+use crate::json_rows::{push_json_end, push_names};
 use crate::text_rows::push_key_lines;
 use cdxj_core::Field;
 use std::alloc::{AllocError, Global};
 
 /// The output of a query, with the fields that it prints.
-#[derive(Clone, Copy, Debug)]
+#[derive(Clone, Copy)]
 pub enum PageForm<'f> {
     /// The values of these fields, one line for each capture.
     Text(&'f [Field]),
@@ -27,7 +27,10 @@ impl PageForm<'_> {
     {
         match self {
             PageForm::Text(_) | PageForm::Cdxj => Ok(()),
-            PageForm::Json(fields) => push_json_start(text, alloc, fields),
+            PageForm::Json(fields) => {
+                text.extend_from_slice(b"[")?;
+                push_names(text, alloc, fields)
+            }
         }
     }
 

@@ -11,14 +11,7 @@ const LANES: usize = 16;
 /// Bytes that aren't hidden.
 const FILLER: [u8; LANES] = [b'-'; LANES];
 
-const DELETE: u8 = 0x7f;
-
-#[inline(always)]
-pub(crate) fn is_hidden(byte: u8) -> bool
-    ensures { result ≡ is_hidden byte }
-{
-    byte <= b' ' || byte == DELETE
-}
+pub(crate) const DELETE: u8 = 0x7f;
 
 /// Returns how many of the 16 bytes from `at` on are hidden.
 #[inline(always)]

@@ -18,8 +18,12 @@ fn push_later_quoted(text: &mut Vec<u8>, alloc: Global, value: &str) -> Result<(
     push_quoted(text, alloc, value)
 }
 
-// A row of the names of the fields.
-fn push_names(text: &mut Vec<u8>, alloc: Global, fields: &[Field]) -> Result<(), AllocError>
+/// Appends a row of the names of the fields to the text.
+pub(crate) fn push_names(
+    text: &mut Vec<u8>,
+    alloc: Global,
+    fields: &[Field],
+) -> Result<(), AllocError>
     ensures { IfOk result (λ _. text.new.items
         ≡ text.old.items ++ json_row (map field_name fields.now)) }
 {
@@ -84,41 +88,8 @@ fn push_plain_values(
     Ok(())
 }
 
-// A row of the values of the fields.
-#[tactic(auto, using(crate::proofs::JsonLemmas::values_plain, std::proofs::Common::append_assoc))]
-fn push_values(
-    text: &mut Vec<u8>,
-    alloc: Global,
-    fields: &[Field],
-    line: &LineRef<'_>,
-) -> Result<(), AllocError>
-    ensures { IfOk result (λ _. text.new.items
-        ≡ text.old.items ++ json_row (map (row_value line.now) fields.now)) }
-{
-    text.extend_from_slice(b"[")?;
-    if line.needs_no_escapes() {
-        push_plain_values(text, fields, line)?;
-    } else {
-        push_quoted_values(text, alloc, fields, line)?;
-    }
-    text.extend_from_slice(b"]")?;
-    Ok(())
-}
-
-/// Appends the start of the array to the text, with the row of the names of the fields.
-pub(crate) fn push_json_start(
-    text: &mut Vec<u8>,
-    alloc: Global,
-    fields: &[Field],
-) -> Result<(), AllocError>
-    ensures { IfOk result (λ _. text.new.items
-        ≡ text.old.items ++ (codes "[" ++ json_row (map field_name fields.now))) }
-{
-    text.extend_from_slice(b"[")?;
-    push_names(text, alloc, fields)
-}
-
 /// Appends a further row of the array to the text, with the values of the fields.
+#[tactic(auto, using(crate::proofs::JsonLemmas::values_plain, std::proofs::Common::append_assoc))]
 pub(crate) fn push_json_row(
     text: &mut Vec<u8>,
     alloc: Global,
@@ -128,8 +99,14 @@ pub(crate) fn push_json_row(
     ensures { IfOk result (λ _. text.new.items
         ≡ text.old.items ++ later_row (map (row_value line.now) fields.now)) }
 {
-    text.extend_from_slice(b",\n")?;
-    push_values(text, alloc, fields, line)
+    text.extend_from_slice(b",\n[")?;
+    if line.needs_no_escapes() {
+        push_plain_values(text, fields, line)?;
+    } else {
+        push_quoted_values(text, alloc, fields, line)?;
+    }
+    text.extend_from_slice(b"]")?;
+    Ok(())
 }
 
 /// Appends the rows of the resume key to the text, if there is a key, and the end of the array.

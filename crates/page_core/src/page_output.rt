@@ -27,7 +27,7 @@ fn put_line<O: Output>(line: &Line, out: &mut O) -> Result<(), WriteFault>
 
 /// Writes a page in one form: its start, a row for each capture, and its end. Each piece is built
 /// in one buffer, which is reused, and written whole.
-#[derive(Debug, Drop)]
+#[derive(Drop)]
 pub struct PageOutput<'f> {
     alloc: Global,
     form: PageForm<'f>,

@@ -10,14 +10,6 @@ use cdxj_core::{Field, Line, LineRef};
 use std::alloc::{AllocError, Global};
 use std::mem;
 
-fn push_later_escaped(text: &mut Vec<u8>, value: &str) -> Result<(), AllocError>
-    ensures { IfOk result (λ _. text.new.items
-        ≡ text.old.items ++ (codes " " ++ escaped value.now)) }
-{
-    text.extend_from_slice(b" ")?;
-    push_escaped(text, value)
-}
-
 // The values of the fields, with one space between.
 fn push_text_values(
     text: &mut Vec<u8>,
@@ -30,7 +22,8 @@ fn push_text_values(
     if let Some((first, later)) = fields.split_first() {
         push_escaped(text, line.value(*first))?;
         for field in later {
-            push_later_escaped(text, line.value(*field))?;
+            text.extend_from_slice(b" ")?;
+            push_escaped(text, line.value(*field))?;
         }
     }
     Ok(())
