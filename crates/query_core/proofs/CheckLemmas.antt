@@ -8,8 +8,7 @@ use Rattle.std.proofs.lemmas.List.{drop-drop}
 use Rattle.cdxj_core.specs.Indexes.{IsRun}
 use Rattle.source_core.specs.{IndexLines.lines, LinesAtFault.LineBeginsAt}
 use Rattle.source_core.proofs.SortedCuts.{begins_at}
-use Rattle.merge_core.specs.{LineFaults.IsFeedFaultAt, NextLine.IsNextLine}
-use Rattle.merge_core.specs.declared.fault.FeedFault.{FeedFault}
+use Rattle.merge_core.specs.{LineFaults.IsFeedFaultAt, NextLine.IsNextLine, declared.fault.FeedFault.FeedFault}
 use Rattle.query_core.specs.Conversions.{fault_of_index}
 use Rattle.query_core.specs.Checking.{EndsOutOfOrder, FallsAfter, IsChecked, IsLastOf}
 use Rattle.merge_core.proofs.InputLemmas.{falls_last, falls_push, take_next}

@@ -5,16 +5,12 @@ use Rattle.query_core.proofs.Words.{selected, true}
 use Rattle.std.proofs.Common.{◌==◌}
 use Rattle.std.specs.Prelude.{MatchResult}
 use Rattle.std.specs.List.{onto_first, slice_split}
-use Rattle.std.proofs.lemmas.List.Splits.{length-slice_split}
-use Rattle.std.proofs.lemmas.Str.{IsUtf8-from_ascii}
-use Rattle.cdxj_core.specs.declared.field.Field.TheVariants.{Urlkey}
-use Rattle.cdxj_core.specs.Fields.{field_named}
+use Rattle.std.proofs.{lemmas.List.Splits.length-slice_split, lemmas.Str.IsUtf8-from_ascii}
+use Rattle.cdxj_core.specs.{Fields.field_named, declared.field.Field.TheVariants.Urlkey}
 use Rattle.query_text.specs.declared.filter.Test.TheVariants.{HasNot}
-use Rattle.query_text.specs.Filters.{FilterValue, occurs}
+use Rattle.query_text.specs.{Filters.FilterValue, Filters.occurs, Parts.decoded, Readings.Read, Readings.and_then}
 use Rattle.query_text.specs.Parameters.{ParameterValues, no_values, pieces_of, with_filter, with_piece, with_pieces}
-use Rattle.query_text.specs.Parts.{decoded}
 use Rattle.query_text.specs.Queries.{query_with, target_of, with_target}
-use Rattle.query_text.specs.Readings.{Read, and_then}
 use Rattle.query_text.proofs.PlainTexts.{plain_text_stands}
 use Rattle.query_core.specs.NothingAsked.{AppendedSelectsNothing, nothing}
 

@@ -10,12 +10,11 @@ use Rattle.query_core.proofs.Words.{place_cmp_total, prefix_longer, rises_collap
 use Rattle.query_core.proofs.Words.{subst, sym, take, take_all, text_so_far, true}
 use Rattle.page_core.proofs.PageLaws.{chain_one, collapse_resumes, split_there}
 use Rattle.merge_core.proofs.InputLemmas.{filter_passes}
-use Rattle.query_core.specs.QueryPages.{IsQueryChain}
+use Rattle.query_core.specs.{OneText.PagesAreOne, QueryPages.IsQueryChain}
 use Rattle.query_core.proofs.WriterLemmas.{captures, captures_are}
 use Rattle.query_core.proofs.PagesLemmas.{Pages, all_cut, all_pages, ends, last_page, next_place, next_short, pages_by}
 use Rattle.query_core.specs.WrittenPages.{KeysButLast, empty_page}
 use Rattle.cdxj_core.proofs.IndexLemmas.{one_index}
-use Rattle.query_core.specs.OneText.{PagesAreOne}
 use Rattle.page_core.proofs.PageLemmas.{page_in_pieces}
 
 -- ---- captures that are cut

@@ -9,12 +9,11 @@ use Rattle.query_core.proofs.Words.{member_place, pair_cmp, place_cmp, place_cmp
 use Rattle.query_core.proofs.Words.{rises_collapsed, rises_filter, rises_rising, same_part, selected, shown_key, suc}
 use Rattle.query_core.proofs.Words.{take, true, wrote_nothing}
 use Rattle.query_text.specs.declared.output.OutputFormat.TheVariants.{Cdxj}
-use Rattle.merge_core.proofs.Many.{each_take}
+use Rattle.merge_core.proofs.{Many.each_take, SourceLemmas.all_kept, SourceLemmas.once_none}
 use Rattle.cdxj_core.specs.Lines.{line_in}
 use Rattle.cdxj_core.proofs.{EntryRead.body_of-feed, MemberLemmas.entered}
 use Rattle.query_core.specs.{Conversions.fault_of_merge, QueryLaws.NoLineIsAtFault}
 use Rattle.merge_core.specs.declared.fault.MergeFault.{MergeFault}
-use Rattle.merge_core.proofs.SourceLemmas.{all_kept, once_none}
 use Rattle.query_core.specs.declared.fault.AnswerFault.TheVariants as fault
 use Rattle.merge_core.specs.declared.fault.FeedFault.TheVariants as feed
 use Rattle.merge_core.specs.declared.fault.MergeFault.TheVariants as merge

@@ -12,9 +12,7 @@ use Rattle.cdxj_places.specs.Pair.{begins_with_space, is_space, tail_part}
 use Rattle.query_text.specs.declared.output.OutputFormat.{OutputFormat}
 use Rattle.page_core.specs.PageText.{key_lines}
 use Rattle.query_core.specs.{QueryPages.output_form, Replies.refusal_text}
-use Rattle.query_core.specs.PageLines.{JsonLinesBeginWithBrackets}
-use Rattle.query_core.specs.PageLines.{fault_row}
-use Rattle.query_core.specs.PageLines.{has_no_space}
+use Rattle.query_core.specs.PageLines.{JsonLinesBeginWithBrackets, fault_row, has_no_space}
 use Rattle.std.proofs.lemmas.List.{append_cancel_right}
 use Rattle.query_core.proofs.PageIndexes.{each_at_most, is_row}
 use Rattle.query_core.proofs.PageRows.{AllAbove, IsLine, above_line, above_spaces, escaped_some, json_lines, key_above}

@@ -10,15 +10,13 @@ use Rattle.std.specs.Prelude.{◌==◌, option_and_then}
 use Rattle.form_urlencoded.proofs.FormLemmas.{All-byte_serialize, IsSerializedByte, byte_serialize-append}
 use Rattle.form_urlencoded.proofs.FormLemmas.{byte_serialize-cons}
 use Rattle.cdxj_places.specs.Places.{place_text}
-use Rattle.page_core.specs.Rows.{escaped_byte, json_row}
+use Rattle.page_core.specs.{PageText.json_page, PageText.key_rows, PageText.later_row, Rows.escaped_byte, Rows.json_row}
 use Rattle.json.specs.Print.{escape, escape_byte, quoted}
-use Rattle.page_core.specs.PageText.{json_page, key_rows, later_row}
-use Rattle.cdxj_core.specs.Fields.{field_name}
+use Rattle.cdxj_core.specs.{Fields.field_name, Lines.field_value, Lines.line_from, Lines.object_values}
 use Rattle.std.proofs.Common.{decimal}
 use Rattle.std.specs.Fmt.{digits, digits_onto}
 use Rattle.serde_json.specs.{Data.Data, Read.read}
 use Rattle.cdxj_objects.specs.MemberValues.{value_text}
-use Rattle.cdxj_core.specs.Lines.{field_value, line_from, object_values}
 use Rattle.cdxj_core.proofs.MemberLemmas.{entry_valued}
 
 -- ---- no value of a line that has an entry is empty

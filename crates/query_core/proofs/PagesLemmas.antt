@@ -10,16 +10,14 @@ use Rattle.query_core.proofs.Words.{list_all, member_place, min, more_after, nat
 use Rattle.query_core.proofs.Words.{page_end, page_start, place_before, prefix_after, prefix_longer, refl, row_text}
 use Rattle.query_core.proofs.Words.{shown_key, suc, sym, take, take-append_seam, take_all, text_so_far, true}
 use Rattle.std.proofs.Common.{IfSome}
-use Rattle.std.proofs.lemmas.List.{drop_at, take_at}
+use Rattle.std.proofs.{lemmas.Bool.ltb-true, lemmas.List.drop_at, lemmas.List.take_at}
 use Rattle.page_core.proofs.PageLemmas.{begun-more, page_in_pieces}
 use Rattle.query_core.specs.WrittenPages.{IsReadBack, are_sizes}
 use Rattle.query_core.proofs.WriterLemmas.{captures, captures_append, end_last, kept_after}
-use Rattle.std.proofs.lemmas.Bool.{ltb-true}
 use Rattle.query_core.specs.PagesWriting.{HoldsRows, are_none, full_page, has_all, is_ended, pages_after, turned}
 use Rattle.query_core.specs.PagesWriting.{with_capture, with_room, with_row}
 use Rattle.query_core.specs.WriterView.{GaveOne, HasRoom, PageState, SamePage, Stands, TakesMore, TookNext, captures_of}
-use Rattle.query_core.specs.WriterView.{pages_so_far, state_of}
-use Rattle.query_core.specs.declared.selection.Selection.{Selection}
+use Rattle.query_core.specs.{WriterView.pages_so_far, WriterView.state_of, declared.selection.Selection.Selection}
 use Rattle.std.specs.Prelude.{if◌then◌else◌}
 
 -- ---- the sizes of pages

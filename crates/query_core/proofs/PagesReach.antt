@@ -12,16 +12,13 @@ use Rattle.query_core.proofs.Words.{place_cmp, place_cmp_total, prefix_after, pr
 use Rattle.query_core.proofs.Words.{rises_rising, rising, shown_key, sum, sym, take-append_seam, text_so_far, true}
 use Rattle.query_core.proofs.Words.{two_same, wrote_nothing}
 use Rattle.query_core.specs.Answering.{Answered, HoldsOfLines}
-use Rattle.query_core.specs.Passes.{Took}
-use Rattle.query_core.specs.declared.page_writer.PageEnd.{PageEnd}
+use Rattle.query_core.specs.{Passes.Took, declared.page_writer.PageEnd.PageEnd, declared.report.Report.Report}
 use Rattle.query_core.specs.WriterView.{IsEndOf, Stands, state_of}
 use Rattle.query_core.proofs.PagesLemmas.{IsOnePage, all_cut, among_rows, decided, few_rows, front_more, has_next}
 use Rattle.query_core.proofs.PagesLemmas.{is_sized, none_follow, one_page, page, page_front, page_is, page_members}
 use Rattle.query_core.proofs.PagesLemmas.{pages_by, pages_join, wrote_front}
 use Rattle.query_core.proofs.WriterLemmas.{captures, captures_are, filter_and}
-use Rattle.query_core.specs.declared.report.Report.{Report}
-use Rattle.query_core.proofs.ReachLemmas.{within_opening}
-use Rattle.query_core.proofs.PageChains.{wrote_most, wrote_whole}
+use Rattle.query_core.proofs.{PageChains.wrote_most, PageChains.wrote_whole, ReachLemmas.within_opening}
 use Rattle.std.proofs.lemmas.List.Concat.{length-flat_map}
 use Rattle.std.proofs.lemmas.List.Sums.{count_by-le-length, length-filter, sum-map}
 use Rattle.page_core.proofs.PageLemmas.{page_in_pieces}

@@ -12,7 +12,7 @@ use Rattle.query_core.proofs.Words.{true, upto_upto, zero, zip}
 use Rattle.query_core.proofs.WriterLemmas.{captures, captures_append, captures_split, kept_after}
 use Rattle.std.proofs.Common.{is_lt, replicate}
 use Rattle.query_text.proofs.RangeLaw.{match_not_below, past_upward}
-use Rattle.merge_core.specs.declared.state.MergeState.{MergeState}
+use Rattle.merge_core.specs.{PairOrders.Alike, PairOrders.IsUpto, declared.state.MergeState.MergeState}
 use Rattle.merge_core.specs.{Collections.OverTexts, Openings.AreOpened, Reached.Reached}
 use Rattle.merge_core.proofs.{MergeLemmas.is_less, OpenLemmas.cuts_of, StateLemmas.cursors_of}
 use Rattle.merge_core.proofs.TakenLemmas.{Took, none_wait, parts_are, parts_count, taken_before, taken_first}
@@ -26,12 +26,10 @@ use Rattle.std.proofs.lemmas.Slice.Zip.{AllZip-long}
 use Rattle.cdxj_places.proofs.PlaceLaw.{both}
 use Rattle.query_text.specs.Matching.{begins, covers}
 use Rattle.source_core.specs.Cursors.{CursorState}
-use Rattle.merge_core.specs.PairOrders.{Alike, IsUpto}
 use Rattle.merge_core.proofs.CountLemmas.{Passes, gave_most, lines_most, reached_read_to}
 use Rattle.merge_core.proofs.Many.{Move, each_filter, length_zip}
 use Rattle.merge_core.proofs.PairOrder.{below_below, below_upto, from_not_below, not_below_itself, same_from}
-use Rattle.query_core.specs.Reach.{is_within, pair_after}
-use Rattle.query_core.specs.Passes.{IsOfParts, Took as LinesTaken}
+use Rattle.query_core.specs.{Passes.IsOfParts, Passes.Took as LinesTaken, Reach.is_within, Reach.pair_after}
 use Rattle.query_core.proofs.PageIndexes.{collection_rows}
 
 -- ---- nothing that is wanted stands below the start of a page

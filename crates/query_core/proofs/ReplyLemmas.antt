@@ -10,17 +10,15 @@ use Rattle.query_core.proofs.Words.{length-append, length-take, lt-ltb, map, map
 use Rattle.query_core.proofs.Words.{prefix_longer, prepend_known, query_of, query_page, refl, reply_of, subst, sum, sym}
 use Rattle.query_core.proofs.Words.{take, take_all, true, without_carriage_return, wrote_nothing}
 use Rattle.std.specs.Prelude.{IsErrAnd, Result}
-use Rattle.std.proofs.lemmas.List.{Elements.AllZip-push, Sums.sum_by_push}
+use Rattle.std.proofs.{lemmas.List.Elements.AllZip-push, lemmas.List.Sums.sum_by_push, lemmas.Str.IsUtf8-from_is_utf8}
 use Rattle.devices.specs.LineReading.{IsInputLineFault, IsTooLong, StopsInLine}
-use Rattle.devices.specs.declared.input_lines.InputLineFault.{InputLineFault}
+use Rattle.devices.specs.{Writing.WritesText, declared.input_lines.InputLineFault.InputLineFault}
 use Rattle.query_core.specs.{Conversions.fault_of_line, Replies.marked_reply}
 use Rattle.query_core.specs.ReplyReach.{AllGaveAtMost, Amount, AreFirstLines, GaveForLines, asked_most, line_most}
 use Rattle.query_core.specs.ReplyReach.{lines_most, query_most}
 use Rattle.query_core.specs.Conversations.{AreLeft, HoldsOfReplies, IsLineReply, IsMarkedReply, IsOneReply, Replied}
 use Rattle.query_core.specs.Conversations.{RepliedInPart, RepliedToAll, RepliedToFirst, RepliedToTaken, WritesSome}
 use Rattle.query_core.proofs.PagesLemmas.{whole_prefix}
-use Rattle.std.proofs.lemmas.Str.{IsUtf8-from_is_utf8}
-use Rattle.devices.specs.Writing.{WritesText}
 use Rattle.query_core.specs.AnyReplies.{IsPageReply, IsQueryReply, fault_text}
 use Rattle.devices.specs.declared.input_lines.InputLineFault.TheVariants as input
 use Rattle.query_core.specs.declared.fault.AnswerFault.TheVariants as fault

@@ -4,9 +4,8 @@ use Rattle.query_core.proofs.Words.{QueryValue, Some, append-nil, append_assoc, 
 use Rattle.query_core.proofs.Words.{drop, end_place, false, filter, get_or, is_wanted, kept, length, map, map-append}
 use Rattle.query_core.proofs.Words.{member_place, place_before, place_cmp_total, query_captures, refl, same_part, suc}
 use Rattle.query_core.proofs.Words.{take, take-append-drop, true, true≢false}
-use Rattle.std.proofs.lemmas.{Bool.cond-true, List.map_more}
+use Rattle.std.proofs.{lemmas.Bool.cond-true, lemmas.List.Elements.filter-append, lemmas.List.map_more}
 use Rattle.std.proofs.Common.{drop-cons}
-use Rattle.std.proofs.lemmas.List.Elements.{filter-append}
 use Rattle.page_core.specs.Pages.{repeats}
 use Rattle.page_core.proofs.PageLaws.{kept_append}
 use Rattle.query_core.specs.Collapsings.{CollapsingValue, collapsing_after, collapsing_at, repeats_part}

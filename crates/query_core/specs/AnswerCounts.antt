@@ -1,5 +1,5 @@
 -- Which device failed, by the answer of a call on sources.
-use Rattle.std.specs.Prelude.{◌≡◌, ℕ, List, Result, Err, MatchResult}
+use Rattle.std.specs.Prelude.{◌≡◌, ℕ, List, Result, MatchResult}
 use Rattle.devices.specs.Device.{next_count}
 use Rattle.merge_core.specs.Failures.{RaisedAt}
 use Rattle.query_core.specs.declared.fault.AnswerFault.{AnswerFault}
@@ -19,6 +19,9 @@ CountsAnswer result sources sources' out out' =
     (λ fault. RaisedByAnswer fault sources sources' out out')
 
 -- the same of a call on one source alone
+abbrev pub RaisedBySource : AnswerFault → ℕ → ℕ → Type 0
+RaisedBySource (fault.Read i) old new = new ≡ next_count old
+RaisedBySource other old new = new ≡ old
+
 abbrev pub CountsSource : {A : Type 0} → Result A AnswerFault → ℕ → ℕ → Type 0
-CountsSource (Err (fault.Read i)) old new = new ≡ next_count old
-CountsSource answer old new = new ≡ old
+CountsSource result old new = MatchResult result (λ _. new ≡ old) (λ fault. RaisedBySource fault old new)

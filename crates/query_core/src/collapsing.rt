@@ -10,7 +10,7 @@ use std::alloc::{AllocError, Global};
 use std::marker::Model;
 
 /// What captures are collapsed by, and what is compared of the capture directly before.
-#[derive(Debug, Drop)]
+#[derive(Drop)]
 pub(crate) struct Collapsing {
     by: Collapse,
     /// The key of the capture before, if captures are collapsed by key.

@@ -84,7 +84,7 @@ fn put_end<O: Output>(
 }
 
 /// The result of writing pages.
-#[derive(Debug, Drop)]
+#[derive(Drop)]
 pub(crate) struct PageEnd {
     /// The number of captures of the last page. It saturates at 2^64 - 1.
     pub given: u64,
@@ -96,7 +96,7 @@ pub(crate) struct PageEnd {
 
 /// Writes one page of a query, or all, from the lines that it takes in the order of places. If it writes all, a page
 /// ends where a further capture follows, with which the next page begins.
-#[derive(Debug, Drop)]
+#[derive(Drop)]
 pub(crate) struct PageWriter<'q> {
     selection: Selection<'q>,
     output: PageOutput<'q>,

@@ -16,7 +16,7 @@ use source_core::Source;
 use std::alloc::Global;
 
 /// What a pass over sources read. Each count saturates at 2^64 - 1.
-#[derive(Debug, Drop)]
+#[derive(Drop)]
 pub struct Pass {
     /// Whether all lines of the query's range were read, which only contracts read.
     pub all: bool,

@@ -1,8 +1,6 @@
 //! Which of the lines of a merge are captures of a query.
 ghost use Rattle.std.specs.Prelude.{◌≡◌, [], List, Option, IfOk, OnOk};
-ghost use Rattle.cdxj_places.specs.Places.{place_cmp};
 ghost use Rattle.cdxj_core.specs.Members.{Member, member_place};
-ghost use Rattle.page_core.specs.Pages.{is_above};
 ghost use Rattle.query_core.specs.PageWriting.{is_wanted};
 
 use crate::collapsing::Collapsing;
@@ -11,7 +9,7 @@ use query_text::Query;
 use std::alloc::{AllocError, Global};
 
 /// Selects the captures of a query from lines that rise by place.
-#[derive(Debug, Drop)]
+#[derive(Drop)]
 pub(crate) struct Selection<'q> {
     pub query: &'q Query,
     /// The place after which the captures begin.
@@ -40,19 +38,16 @@ impl<'q> Selection<'q> {
         })
     }
 
-    fn is_above(&self, line: &Line) -> bool
-        ensures { result ≡ is_above member_place place_cmp (from_view self.now.from) line.now }
+    fn wants(&self, line: &Line) -> bool
+        ensures { result ≡ is_wanted self.now.query.now (from_view self.now.from) line.now }
     {
+        if !self.query.matches_kept(line) {
+            return false;
+        }
         match self.from {
             Some(place) => line.place().compare_place(&place).is_gt(),
             None => true,
         }
-    }
-
-    fn wants(&self, line: &Line) -> bool
-        ensures { result ≡ is_wanted self.now.query.now (from_view self.now.from) line.now }
-    {
-        self.query.matches_kept(line) && self.is_above(line)
     }
 
     /// Returns `true` if the line is left out because of the capture before it.

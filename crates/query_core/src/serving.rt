@@ -1,5 +1,5 @@
 //! A conversation: a reply to each line of an input.
-ghost use Rattle.std.specs.Prelude.{◌≡◌, ◌+◌, [], length, map, Err, IfOk};
+ghost use Rattle.std.specs.Prelude.{◌≡◌, length, map, Err, IfOk};
 ghost use Rattle.devices.specs.Writing.{WritesText};
 ghost use Rattle.query_text.specs.declared.query.TheConstants.{QUERY_LIMIT};
 ghost use Rattle.merge_core.specs.Collections.{KeepsSources, OverIndexes, collection};
@@ -20,7 +20,7 @@ use crate::reply_texts::{put_fault_line, put_refusal, put_text};
 use devices::{Input, InputLines, Output};
 use query_text::{QUERY_LIMIT, Query, QueryFault};
 use source_core::Source;
-use std::alloc::{AllocError, Global};
+use std::alloc::Global;
 
 /// The number of bytes of a line that are held. They show that a line exceeds the limit of a query, whether or not it
 /// ends with a carriage return.
@@ -109,14 +109,6 @@ fn reply_and_mark<S: Source, O: Output>(
     put_text(b".\n", out)
 }
 
-/// Creates a reader of lines, which holds of each line only what shows that it is too long.
-fn line_reader(alloc: Global) -> Result<InputLines, AllocError>
-    ensures { IfOk result (λ lines. (lines.buffer ≡ []) × (lines.taken ≡ 0)
-        × (lines.most ≡ QUERY_LIMIT + 2)) }
-{
-    InputLines::new(alloc, LINE_HELD)
-}
-
 /// Answers the queries of an input, one on each line, and returns the number of lines.
 ///
 /// A line ends with a line feed, which the last line may lack. A carriage return before it is dropped. The reply to a
@@ -163,7 +155,7 @@ pub fn serve<S: Source, I: Input, O: Output>(
     if sources.len() > SOURCES_LIMIT {
         return Err(AnswerFault::TooManySources);
     }
-    let mut lines = line_reader(alloc)?;
+    let mut lines = InputLines::new(alloc, LINE_HELD)?;
     let mut count = 0u64;
     while lines.next(input)? {
         reply_and_mark(alloc, sources, lines.line(), out)?;

@@ -72,7 +72,9 @@ const STARTS: &[(&str, &[u8; 14], usize)] = &[
 /// Returns the merge of the text and an empty one from this pair on, and the number of steps of the search for it.
 fn merged_from(alloc: Global, text: &[u8], start: Pair<'_>) -> Result<(Gather, u64), Fail> {
     let mut sources = [SliceSource::new(text), SliceSource::new(b"")];
-    let mut opened = MergeState::open_at(alloc, &mut sources, start, &All)?;
+    let Ok(mut opened) = MergeState::open_at(alloc, &mut sources, start, &All) else {
+        return Err(Fail::from(AllocError));
+    };
     let mut writer = LineWriter::new();
     let mut out = Gather::new(alloc);
     let _all = merge(

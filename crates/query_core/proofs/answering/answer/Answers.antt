@@ -1,12 +1,15 @@
-use Rattle.query_core.proofs.Words.{[], ℕ, ◌∙◌, AreAtMost, GaveInReach, Grows, List, Option}
+use Rattle.query_core.proofs.Words.{[], ℕ, ◌∙◌, ◌≤◌, AnswerFault, AreAtMost, GaveInReach, Grows, List, Option}
 use Rattle.query_core.proofs.Words.{OverIndexes, ap, append-nil, arith, err_from_is_err_and, grows_by, grows_part}
-use Rattle.query_core.proofs.Words.{is_some, length-map, map, refl, rules, sym, wrote_nothing}
+use Rattle.query_core.proofs.Words.{is_some, le-ltb, length-map, map, refl, rules, sym, wrote_nothing}
+use Rattle.std.specs.Prelude.{IfErr, Result}
+use Rattle.query_core.specs.declared.merging.TheConstants.{SOURCES_LIMIT}
+use Rattle.query_core.specs.Refusals.{IsBeforeReading, Refuses, too_many}
 use Rattle.query_core.proofs.PagesReach.{Writing, answer_front, broke_front, end_front, no_more, of_none}
-use Rattle.query_core.proofs.PagesReach.{of_taken, page_ended, page_fewer, page_reached, passed, within}
+use Rattle.query_core.proofs.PagesReach.{of_taken, page_ended, page_fewer, page_not_reached, page_reached, passed}
+use Rattle.query_core.proofs.{PagesReach.within, WriterLemmas.captures}
 use Rattle.page_core.proofs.PageLemmas.{front-start}
 use Rattle.query_core.proofs.answering.answer.Given.{Over}
 use Rattle.query_core.proofs.answering.answer.Goals.{In_ok-pass, In_ok-writer}
-use Rattle.query_core.proofs.{WriterLemmas.captures}
 use Rattle.query_core.proofs.answering.answer.Goals as goal
 
 -- ---- the writer
@@ -46,52 +49,63 @@ reached g c new grows =
 pub returns-then-sources-gt-SOURCES_LIMIT-clause-page : goal.returns-then-sources-gt-SOURCES_LIMIT-clause-page
 returns-then-sources-gt-SOURCES_LIMIT-clause-page g c = of_none (λ all rise. wrote_nothing _ _)
 
-pub returns-in_err-writer-clause-refused : goal.returns-in_err-writer-clause-refused
-returns-in_err-writer-clause-refused g c = grind (arith, err_from_is_err_and)
+-- so many sources aren't refused
+late : {A : Type 0} (count : ℕ) (r : Result A AnswerFault) (X : Type 0) → count ≤ SOURCES_LIMIT
+    → IfErr r (λ e. IsBeforeReading e → ⊥) → Refuses (too_many count) r X
+late count r X few h = rw (le-ltb SOURCES_LIMIT count few) h
 
-pub returns-in_err-writer-clause-fault : goal.returns-in_err-writer-clause-fault
-returns-in_err-writer-clause-fault g c = grind (arith, err_from_is_err_and)
+pub returns-in_err-writer : goal.returns-in_err-writer
+returns-in_err-writer g c =
+    let p = err_from_is_err_and c.from_residual.result c.from_residual.ensures.1 in
+    rw (p.1, p.2) (record {
+      refused = late _ _ _ (omega arith) (grind arith);
+      kept = (refl, refl);
+      failures = grind arith;
+      fault = grind arith;
+      page = of_none (λ all rise. grind (arith, front-start));
+      parts = λ texts known. tt;
+      reads = record {
+        probes = tt;
+        lines = λ texts indexes known are. tt;
+        bytes = λ texts indexes known are. grind (arith, page_not_reached, grows_part);
+        held = λ texts indexes known are most share. tt;
+      };
+    })
 
-pub returns-in_err-writer-clause-page : goal.returns-in_err-writer-clause-page
-returns-in_err-writer-clause-page g c = of_none (λ all rise. grind (arith, err_from_is_err_and, front-start))
-
-pub returns-in_err-pass-clause-fault : goal.returns-in_err-pass-clause-fault
-returns-in_err-pass-clause-fault g c = grind (arith, err_from_is_err_and)
-
-pub returns-in_err-pass-clause-page : goal.returns-in_err-pass-clause-page
-returns-in_err-pass-clause-page g c =
-    let broke = c.in_err-pass.ensures.ended.0 in
-    let here = begin g (goal.at.returns-in_err-pass-clause-page g c).In_ok-writer in
-    rw (err_from_is_err_and c.from_residual-in_err-pass.result c.from_residual-in_err-pass.ensures.1).1
-    (of_taken broke.took (λ all rest rise first whole.
-    answer_front c.args.query.now all _ _ (broke_front here tt _ _ broke.wrote all rest first)))
-
-pub returns-in_err-pass-clause-reads : goal.returns-in_err-pass-clause-reads
-returns-in_err-pass-clause-reads g c =
-    let halted = c.in_err-pass.ensures.ended.1 in
+pub returns-in_err-pass : goal.returns-in_err-pass
+returns-in_err-pass g c =
+    let broke = c.in_err-pass.ensures.ended.0 in let halted = c.in_err-pass.ensures.ended.1 in
     let before = halted.before in
-    let here = begin g (goal.at.returns-in_err-pass-clause-reads g c).In_ok-writer in
+    let here = begin g (goal.at.returns-in_err-pass g c).In_ok-writer in
     let bytes = page_reached g.S.Source _ _ _ halted.earlier [] (passed here _ _ before.state before.came) halted.grows
     halted.first (sym (append-nil _)) (within here (grind arith) _ _ before.state before.came before.more) before.within in
-    grind (arith, err_from_is_err_and)
+    let p = err_from_is_err_and c.from_residual-in_err-pass.result c.from_residual-in_err-pass.ensures.1 in
+    rw (p.1, p.2) (record {
+      refused = late _ _ _ (omega arith) c.in_err-pass.ensures.late;
+      kept = c.read_lines.ensures.kept;
+      failures = rw c.in_ok-writer.ensures.failures at c.in_err-pass.ensures.failures;
+      fault = c.in_err-pass.ensures.fault;
+      page = of_taken broke.took (λ all rest rise first whole.
+          answer_front c.args.query.now all _ _ (broke_front here tt _ _ broke.wrote all rest first));
+      parts = λ texts known. tt;
+      reads = record { probes = tt; lines = λ _ _ _ _. tt; bytes = bytes; held = λ _ _ _ _ _ _. tt };
+    })
 
-pub returns-in_err-end-clause-refused : goal.returns-in_err-end-clause-refused
-returns-in_err-end-clause-refused g c = grind (arith, err_from_is_err_and)
-
-pub returns-in_err-end-clause-fault : goal.returns-in_err-end-clause-fault
-returns-in_err-end-clause-fault g c = grind (arith, err_from_is_err_and)
-
-pub returns-in_err-end-clause-page : goal.returns-in_err-end-clause-page
-returns-in_err-end-clause-page g c =
-    let here = (goal.at.returns-in_err-end-clause-page g c).In_ok-pass in
-    rw (err_from_is_err_and c.from_residual-in_err-end.result c.from_residual-in_err-end.ensures.1).1
-    (of_taken c.in_ok-pass.ensures.ended.took (λ all rest rise first whole.
-    end_front (writing g here) all _ _ rest first whole c.in_ok-pass.ensures.ended.enough c.in_err-end.ensures.text))
-
-pub returns-in_err-end-clause-reads : goal.returns-in_err-end-clause-reads
-returns-in_err-end-clause-reads g c =
-    let here = (goal.at.returns-in_err-end-clause-reads g c).In_ok-pass in
-    let bytes = reached g here _ (grows_part _ _ _ c.in_err-end.ensures.text) in grind (arith, err_from_is_err_and)
+pub returns-in_err-end : goal.returns-in_err-end
+returns-in_err-end g c =
+    let here = (goal.at.returns-in_err-end g c).In_ok-pass in let took = c.in_ok-pass.ensures.ended in
+    let bytes = reached g here _ (grows_part _ _ _ c.in_err-end.ensures.text) in
+    let p = err_from_is_err_and c.from_residual-in_err-end.result c.from_residual-in_err-end.ensures.1 in
+    rw (p.1, p.2) (record {
+      refused = late _ _ _ (omega arith) (grind arith);
+      kept = c.in_ok-pass.ensures.kept;
+      failures = grind arith;
+      fault = grind arith;
+      page = of_taken took.took (λ all rest rise first whole.
+          end_front (writing g here) all _ _ rest first whole took.enough c.in_err-end.ensures.text);
+      parts = λ texts known. tt;
+      reads = record { probes = tt; lines = λ _ _ _ _. tt; bytes = bytes; held = λ _ _ _ _ _ _. tt };
+    })
 
 pub returns : goal.returns
 returns g c =
@@ -99,7 +113,7 @@ returns g c =
     let end = c.in_ok-end.ensures in
     let took = c.in_ok-pass.ensures.ended in
     record {
-      refused = search rules;
+      refused = late _ _ _ (omega arith) tt;
       kept = c.in_ok-pass.ensures.kept;
       failures = search rules;
       fault = tt;

@@ -3,6 +3,8 @@ use Rattle.query_core.proofs.Words.{err_from_is_err_and, false, grows_not, inl, 
 use Rattle.query_core.proofs.WriterLemmas.{captures, captures_append}
 use Rattle.query_core.proofs.ReachLemmas.{Opened, cut_all, cut_before, cut_last, gave_upto, gave_within, known_opened}
 use Rattle.query_core.proofs.ReachLemmas.{lines_within, of_parts, reading, took, within_opening}
+use Rattle.merge_core.proofs.SourceLemmas.{all_kept}
+use Rattle.query_core.proofs.PageIndexes.{merge_line}
 use Rattle.query_core.specs.Passes.{WantedMore}
 use Rattle.query_core.proofs.pass.read_lines.Given.{Over}
 use Rattle.query_core.proofs.pass.read_lines.Goals.{In_ok-opened}
@@ -10,27 +12,35 @@ use Rattle.query_core.proofs.pass.read_lines.Goals as goal
 
 -- ---- sources that couldn't be opened
 
-pub returns-in_err-opened-clause-ended : goal.returns-in_err-opened-clause-ended
-returns-in_err-opened-clause-ended g c =
-    rw (err_from_is_err_and c.from_residual.result c.from_residual.ensures.1).1 (
-      record {
-        lines = [];
-        wrote = λ begin start h. inl (_, h);
-        took = record { lines = grind arith; first = λ texts indexes known are. (_, refl); whole = grind arith };
-      },
-      record {
-        earlier = [];
-        first = λ texts indexes known are. (_, refl);
-        before = record {
-          state = _;
-          middle = _;
-          more = λ f. f;
-          came = λ begin start h. h;
-          within = λ texts indexes known are limit most. grind (arith, within_opening);
-        };
-        grows = grows_not _;
-      },
-    )
+pub returns-in_err-opened : goal.returns-in_err-opened
+returns-in_err-opened g c =
+    let fault = c.in_err-opened.ensures.sources.1 in
+    let p = err_from_is_err_and c.from_residual.result c.from_residual.ensures.1 in
+    rw (p.1, p.2) (record {
+      kept = c.open_at.ensures.sources.0;
+      failures = grind arith;
+      late = grind arith;
+      fault = merge_line _ _ fault.names;
+      ended = (
+        record {
+          lines = [];
+          wrote = λ begin start h. inl (_, h);
+          took = record { lines = grind arith; first = λ texts indexes known are. (_, refl); whole = grind arith };
+        },
+        record {
+          earlier = [];
+          first = λ texts indexes known are. (_, refl);
+          before = record {
+            state = _;
+            middle = _;
+            more = λ f. f;
+            came = λ begin start h. h;
+            within = λ texts indexes known are limit most. grind (arith, within_opening);
+          };
+          grows = grows_not _;
+        },
+      );
+    })
 
 -- ---- a merge that failed
 
@@ -41,33 +51,41 @@ start g c =
     let opened = rw c.start_pair.ensures at c.in_ok-opened.ensures.begun.opened in
     record { kept = c.open_at.ensures.sources.0.0; same = c.in_ok-opened.ensures.begun.ready.aligned.same; found = opened }
 
-pub returns-in_err-all-clause-ended : goal.returns-in_err-all-clause-ended
-returns-in_err-all-clause-ended g c =
+pub returns-in_err-all : goal.returns-in_err-all
+returns-in_err-all g c =
     let broke = c.in_err-all.ensures.ended.0 in
     let h = c.in_err-all.ensures.ended.1 in
-    let opened = start g (goal.at.returns-in_err-all-clause-ended g c).In_ok-opened in
+    let opened = start g (goal.at.returns-in_err-all g c).In_ok-opened in
     let r = reading opened (rw c.target.ensures at h.so_far.reached) in
-    rw (err_from_is_err_and c.from_residual-in_err-all.result c.from_residual-in_err-all.ensures.1).1 (
-      record {
-        lines = broke.taken;
-        wrote = broke.wrote;
-        took = took (reading opened (rw c.target.ensures at broke.reached)) false (grind arith);
-      },
-      record {
-        earlier = h.so_far.taken;
-        first = (took r false (grind arith)).first;
-        before = record {
-          state = h.point.sink;
-          middle = h.point.written;
-          more = h.more;
-          came = h.so_far.came;
-          within = gave_upto r (Some h.next) h.so_far.taken c.merge.new.sources c.merge.new.merge.cursors.items
-              (cut_before r h.next h.above h.least) c.merge.ensures.moved (omega arith)
-              (λ texts known. rw c.target.ensures at (h.read texts (known_opened r texts known)));
-        };
-        grows = h.grows;
-      },
-    )
+    let fault = c.in_err-all.ensures.fault in
+    let p = err_from_is_err_and c.from_residual-in_err-all.result c.from_residual-in_err-all.ensures.1 in
+    rw (p.1, p.2) (record {
+      kept = grind (arith, all_kept);
+      failures = grind arith;
+      late = grind arith;
+      fault = rw c.open_at.ensures.sources.0.0 at (merge_line _ _ fault.names);
+      ended = (
+        record {
+          lines = broke.taken;
+          wrote = broke.wrote;
+          took = took (reading opened (rw c.target.ensures at broke.reached)) false (grind arith);
+        },
+        record {
+          earlier = h.so_far.taken;
+          first = (took r false (grind arith)).first;
+          before = record {
+            state = h.point.sink;
+            middle = h.point.written;
+            more = h.more;
+            came = h.so_far.came;
+            within = gave_upto r (Some h.next) h.so_far.taken c.merge.new.sources c.merge.new.merge.cursors.items
+                (cut_before r h.next h.above h.least) c.merge.ensures.moved (omega arith)
+                (λ texts known. rw c.target.ensures at (h.read texts (known_opened r texts known)));
+          };
+          grows = h.grows;
+        },
+      );
+    })
 
 -- ---- a merge that came to its end, or to enough
 

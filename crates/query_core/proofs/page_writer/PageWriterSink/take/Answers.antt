@@ -1,6 +1,5 @@
 use Rattle.query_core.proofs.Words.{◌≡◌, arith, err_from_is_err_and, grows_on, take, take_all}
-use Rattle.query_core.proofs.WriterLemmas.{one_more, parted}
-use Rattle.query_core.proofs.PagesLemmas.{broke_more}
+use Rattle.query_core.proofs.{PagesLemmas.broke_more, WriterLemmas.one_more, WriterLemmas.parted}
 use Rattle.query_core.proofs.page_writer.PageWriterSink.take.Goals as goal
 
 pub loop-line-preserved : goal.loop-line-preserved
