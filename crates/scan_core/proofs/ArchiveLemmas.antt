@@ -6,16 +6,12 @@ use Rattle.std.proofs.Common.{set}
 use Rattle.std.proofs.lemmas.List.{get_or-map, map-set, set-get_or, take_more}
 use Rattle.warc_core.specs.Kind.{Kind}
 use Rattle.cdxj_core.specs.Entries.{EntryValue}
-use Rattle.index_core.specs.declared.fault.IndexFault.{IndexFault}
-use Rattle.index_core.specs.{Counting.CountsIndex, Indexing.Held}
-use Rattle.capture_core.specs.declared.types.Types.{Types}
-use Rattle.capture_core.specs.Types.{includes}
-use Rattle.merge_core.proofs.Many.{map_set_same}
-use Rattle.merge_core.proofs.CountLemmas.{left_after, left_here}
-use Rattle.scan_core.specs.declared.fault.ScanFault.TheVariants.{Archive}
+use Rattle.index_core.specs.{Counting.CountsIndex, Indexing.Held, declared.fault.IndexFault.IndexFault}
+use Rattle.capture_core.specs.{Types.includes, declared.types.Types.Types}
+use Rattle.merge_core.proofs.{CountLemmas.left_after, CountLemmas.left_here, Many.map_set_same}
+use Rattle.scan_core.specs.{Failures.CountsAt, Scanning.LeavesUnread, declared.fault.ScanFault.TheVariants.Archive}
 use Rattle.scan_core.specs.Archives.{AreCapturesOf, AreCapturesOfEach, AreIndexed, AreNewNames, HasIndex, HaveIndexes}
 use Rattle.scan_core.specs.Archives.{HaveLines, IsFaultOfArchive, IsFirstFault, IsNameFault, IsNewName, index_members}
-use Rattle.scan_core.specs.{Failures.CountsAt, Scanning.LeavesUnread}
 
 names_push : (earlier names : List (List ℕ)) (name : List ℕ) → AreNewNames earlier names
     → IsNewName (earlier ++ names) name → AreNewNames earlier (names ++ name ∷ [])
@@ -89,6 +85,7 @@ module _ {X I : Type 0} {name : X → List ℕ} {input : X → Option (List ℕ)
   -- what its fault leaves unread
   pub unread_at : (y : X) (fault : IndexFault) → (IsNameFault fault → y ≡ get_or xs i d)
       → LeavesUnread old (set xs i y) (Archive i fault)
+  unfolding LeavesUnread
   unread_at y fault same = let after = left_after old xs i y so_far.rest in grind (arith, set-get_or)
 
   -- it is indexed

@@ -5,18 +5,16 @@ use Rattle.query_core.proofs.Words.{each_join, each_weaker, false, flat_map, len
 use Rattle.query_core.proofs.Words.{member_place, place_cmp, place_cmp_total, refl}
 use Rattle.std.proofs.Common.{Equal}
 use Rattle.cdxj_places.proofs.{PlaceOrder.same_place, RisingAlike.rising_referred}
-use Rattle.cdxj_core.specs.Entries.{EntryValue, entry_place}
-use Rattle.cdxj_core.specs.Members.{entry_member}
+use Rattle.cdxj_core.specs.{Entries.EntryValue, Entries.entry_place, Members.entry_member}
 use Rattle.index_core.specs.Indexing.{AreNamed, HaveOwnPlaces, entries_text, in_places, index_text, is_among}
 use Rattle.query_core.proofs.{ComposeLemmas.rising_parts, PageChains.wrote_one}
 use Rattle.scan_core.specs.Archives.{AreCapturesOfEach, AreNewNames, HaveIndexes, HaveLines, index_members}
-use Rattle.scan_core.specs.Captures.{all_captures, captured_lines}
+use Rattle.scan_core.specs.{Captures.all_captures, Captures.captured_lines, Laws.ScanIsOne}
 use Rattle.warc_core.specs.Kind.{Kind}
 use Rattle.index_core.proofs.SoundLemmas.{among_last, among_more}
 use Rattle.scan_core.specs.Scanning.{IsAsked, Scanned, ScannedInPart, WritesKnownPages}
 use Rattle.index_core.specs.Laws.{OneIndexed}
 use Rattle.query_core.specs.declared.fault.AnswerFault.{AnswerFault}
-use Rattle.scan_core.specs.Laws.{ScanIsOne}
 
 -- ---- the collection of several indexes is that of all captures
 

@@ -2,17 +2,13 @@
 use Rattle.query_core.proofs.Words.{[], ℕ, ◌++◌, ◌<◌, ◌∷◌, ◌≡◌, AllByRecursion, AllZip, Bool, Known, List, None, Option}
 use Rattle.query_core.proofs.Words.{Some, append-nil, append_assoc, arith, get_or, length, suc, take, zero}
 use Rattle.std.proofs.Common.{set}
-use Rattle.warc_core.specs.Kind.{Kind}
-use Rattle.warc_core.specs.declared.next.TheConstants.{HEAD_LIMIT}
+use Rattle.warc_core.specs.{Kind.Kind, declared.next.TheConstants.HEAD_LIMIT}
 use Rattle.devices.specs.Device.{next_count}
 use Rattle.capture_core.specs.CaptureAnswer.{usual_limits}
-use Rattle.index_core.specs.declared.fault.IndexFault.{IndexFault}
-use Rattle.index_core.specs.{Accepted.IsAcceptedWhole, Laws.WholeIsNotRefused}
-use Rattle.scan_core.specs.declared.fault.ScanFault.TheVariants.{Archive}
+use Rattle.index_core.specs.{Accepted.IsAcceptedWhole, Laws.WholeIsNotRefused, declared.fault.IndexFault.IndexFault}
+use Rattle.scan_core.specs.{Failures.CountsAt, Scanning.IsScanFault, declared.fault.ScanFault.TheVariants.Archive}
 use Rattle.scan_core.specs.Archives.{AreNewNames, IsFaultOfArchive, IsNewName}
-use Rattle.scan_core.specs.Failures.{CountsAt}
 use Rattle.scan_core.specs.Laws.{IsWantOfRoom, MayRise, OnlyMemoryIsWanting}
-use Rattle.scan_core.specs.Scanning.{IsScanFault}
 use Rattle.index_core.specs.declared.fault.IndexFault.TheVariants as index
 
 -- ---- what is known of each archive

@@ -85,7 +85,7 @@ IsBeforeWriting (Answer answer.TooManySources) = ⊤
 IsBeforeWriting (Answer fault) = ⊥
 
 -- the archives that a fault leaves unread: all, those from the one at fault on, or those after it
-abbrev pub LeavesUnread : {X : Type 0} → List X → List X → ScanFault → Type 0
+unfoldable pub LeavesUnread : {X : Type 0} → List X → List X → ScanFault → Type 0
 LeavesUnread old new (Query fault) = new ≡ old
 LeavesUnread old new (Answer answer.BadSizes) = new ≡ old
 LeavesUnread old new (Answer answer.TooManySources) = new ≡ old

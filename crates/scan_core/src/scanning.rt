@@ -71,7 +71,7 @@ fn write_pages<O: Output>(
 /// `BadName` and `DuplicateName` before the archive is read, then the fault that its captures end with, and `Memory` if
 /// memory could not be allocated. Up to here nothing was written. Then `Answer(Memory)`, and `Answer(Write)` at the
 /// output's first failure: a prefix of the pages was written.
-#[tactic(auto, unfolding(crate::specs::Scanning::IsScanFault))]
+#[tactic(auto, unfolding(crate::specs::Scanning::IsScanFault, crate::specs::Scanning::LeavesUnread))]
 pub fn scan<I: Input, O: Output>(
     alloc: Global,
     inputs: &mut [Named<I>],

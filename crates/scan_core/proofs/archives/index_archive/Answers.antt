@@ -1,8 +1,7 @@
 use Rattle.query_core.proofs.Words.{ℕ, ◌↔◌, ◌≡◌, Err, List, Ok, arith, cases_lt, err_from_is_err_and, length, true}
 use Rattle.std.proofs.Common.{Result}
-use Rattle.index_core.specs.declared.fault.IndexFault.{IndexFault}
+use Rattle.index_core.specs.{Indexing.IsName, Indexing.is_among, declared.fault.IndexFault.IndexFault}
 use Rattle.index_core.specs.declared.fault.IndexFault.TheVariants.{BadName, DuplicateName}
-use Rattle.index_core.specs.Indexing.{IsName, is_among}
 use Rattle.scan_core.specs.Archives.{IsNewName}
 use Rattle.scan_core.proofs.archives.index_archive.Goals as goal
 

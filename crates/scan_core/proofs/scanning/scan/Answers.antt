@@ -1,6 +1,6 @@
 use Rattle.query_core.proofs.Words.{arith, err_from_is_err_and, length-map}
 use Rattle.scan_core.proofs.ScanLemmas.{scanned_part, scanned_whole}
-use Rattle.scan_core.specs.Scanning.{IsScanFault}
+use Rattle.scan_core.specs.Scanning.{IsScanFault, LeavesUnread}
 use Rattle.scan_core.proofs.scanning.scan.Goals as goal
 
 pub returns-clause-scanned : goal.returns-clause-scanned
@@ -23,10 +23,11 @@ pub returns-in_err-write_pages-clause-unwritten : goal.returns-in_err-write_page
 returns-in_err-write_pages-clause-unwritten g c = grind arith
 
 pub returns-in_err-write_pages-clause-unread : goal.returns-in_err-write_pages-clause-unread
+unfolding LeavesUnread
 returns-in_err-write_pages-clause-unread g c = grind arith
 
 pub returns-in_err-query : goal.returns-in_err-query
-unfolding IsScanFault
+unfolding IsScanFault LeavesUnread
 returns-in_err-query g c = grind (arith, err_from_is_err_and)
 
 pub returns-in_err-indexes : goal.returns-in_err-indexes

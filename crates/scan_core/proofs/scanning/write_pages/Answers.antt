@@ -5,8 +5,7 @@ use Rattle.std.proofs.Common.{IfErr, Result}
 use Rattle.devices.specs.Device.{next_count}
 use Rattle.merge_core.specs.Failures.{RaisedAt}
 use Rattle.query_core.specs.{AnswerCounts.CountsAnswer, Paging.are_sizes, QueryLaws.NoLineIsAtFault}
-use Rattle.query_core.specs.declared.fault.AnswerFault.{AnswerFault}
-use Rattle.query_core.specs.declared.merging.TheConstants.{SOURCES_LIMIT}
+use Rattle.query_core.specs.{declared.fault.AnswerFault.AnswerFault, declared.merging.TheConstants.SOURCES_LIMIT}
 use Rattle.query_core.specs.Refusals.{Refuses, bad_sizes_or_too_many}
 use Rattle.std.proofs.lemmas.List.{get_or-set_same}
 use Rattle.scan_core.specs.Scanning.{IsPagesFault}
