@@ -5,8 +5,7 @@ use Rattle.source_core.proofs.Words.{is_below, length, line_below, lines, not, o
 use Rattle.source_core.proofs.Words.{take, take-take, take_all, take_at, true}
 use Rattle.std.proofs.Math.Seq.{take-append-add}
 use Rattle.cdxj_places.proofs.PairLemmas.{pair_longer}
-use Rattle.source_core.proofs.Parts.{ended, goes_on, lines_last}
-use Rattle.source_core.proofs.Seeks.{head_line, lines_first}
+use Rattle.source_core.proofs.{Parts.ended, Parts.goes_on, Parts.lines_last, Seeks.head_line, Seeks.lines_first}
 
 -- ---- reading on
 

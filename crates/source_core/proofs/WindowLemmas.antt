@@ -7,8 +7,7 @@ use Rattle.source_core.proofs.Words.{length-append, length-take, lines, list_all
 use Rattle.source_core.proofs.Words.{take, take-take, take_more, true}
 use Rattle.std.specs.Prelude.{ltb}
 use Rattle.source_core.specs.declared.source.Source.{Ghosts}
-use Rattle.source_core.proofs.FrontLemmas.{reads_on}
-use Rattle.source_core.proofs.Parts.{ended, given_more, given_out}
+use Rattle.source_core.proofs.{FrontLemmas.reads_on, Parts.ended, Parts.given_more, Parts.given_out}
 use Rattle.cdxj_core.proofs.{EntryRead.body_of-feed, UnescapedAscii.unescaped_front}
 use Rattle.cdxj_core.specs.Plain.{is_unescaped_ascii}
 

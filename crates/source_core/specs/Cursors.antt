@@ -1,5 +1,6 @@
 -- Where a cursor stands in a source's text.
-use Rattle.std.specs.Prelude.{◌≡◌, ℕ, ◌+◌, ◌<◌, ◌≤◌, List, length, drop, true, Option, Some, Result, Err}
+use Rattle.std.specs.Prelude.{◌≡◌, ℕ, ◌+◌, ◌<◌, ◌≤◌, List, length, drop, true, Option, Some, Result}
+use Rattle.std.specs.Prelude.{MatchResult}
 use Rattle.devices.specs.Device.{next_count}
 use Rattle.cdxj_places.specs.TextLines.{lines}
 use Rattle.source_core.specs.Windows.{AreBytesAt}
@@ -41,7 +42,11 @@ pub record IsHeldLine (held : List ℕ) (size : ℕ) : Type 0 where
   pub inside : size ≤ length held
   pub part : PartOf held size true
 
--- a source's count of failures, before and after a line was read
+-- a source's count of failures, before and after a fault of the reading of a line
+abbrev pub RaisedByLineRead : LineReadFault → ℕ → ℕ → Type 0
+RaisedByLineRead fault.Read old new = new ≡ next_count old
+RaisedByLineRead other old new = new ≡ old
+
+-- the same of the reading: without a fault the count stays
 abbrev pub CountsLineRead : {A : Type 0} → Result A LineReadFault → ℕ → ℕ → Type 0
-CountsLineRead (Err fault.Read) old new = new ≡ next_count old
-CountsLineRead answer old new = new ≡ old
+CountsLineRead result old new = MatchResult result (λ _. new ≡ old) (λ fault. RaisedByLineRead fault old new)

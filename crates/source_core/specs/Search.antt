@@ -1,6 +1,6 @@
 -- What the search for the first line at or above a pair finds in an index.
 use Rattle.std.specs.Prelude.{◌≡◌, ℕ, ◌<◌, ◌⊎◌, List, ◌++◌, length, take, Bool, true, false, Option, Some, None, Result}
-use Rattle.std.specs.Prelude.{Err}
+use Rattle.std.specs.Prelude.{MatchResult}
 use Rattle.std.specs.List.{AllByRecursion}
 use Rattle.std.specs.Ordering.{is_lt}
 use Rattle.cdxj_core.specs.Members.{Member, member_pair}
@@ -42,10 +42,14 @@ pub record IsCut (start : Pair) (text : List ℕ) (members : List Member) (offse
   pub all_below : AllByRecursion (λ m. is_below start (member_pair m) ≡ true) low
   pub none_below : AllByRecursion (λ m. is_below start (member_pair m) ≡ false) high
 
--- a source's count of failures, before and after a search
+-- a source's count of failures, before and after a fault of a search
+abbrev pub RaisedBySearch : SearchFault → ℕ → ℕ → Type 0
+RaisedBySearch fault.Read old new = new ≡ next_count old
+RaisedBySearch fault.Memory old new = new ≡ old
+
+-- the same of a search: without a fault the count stays
 abbrev pub CountsSearch : {A : Type 0} → Result A SearchFault → ℕ → ℕ → Type 0
-CountsSearch (Err fault.Read) old new = new ≡ next_count old
-CountsSearch answer old new = new ≡ old
+CountsSearch result old new = MatchResult result (λ _. new ≡ old) (λ fault. RaisedBySearch fault old new)
 
 -- a step of a search keeps the source, and counts its failure
 abbrev pub SearchesSource : {S A : Type 0} → Ghosts S → Result A SearchFault → S → S → Type 0

@@ -1,6 +1,6 @@
 -- What a source over a file knows of the file's stream.
-use Rattle.std.specs.Prelude.{◌≡◌, ℕ, List, length, take, Option, None, Some, Result, IfSome, IfOk}
-use Rattle.devices.specs.Positions.{Stream, left_of, moved_to}
+use Rattle.std.specs.Prelude.{ℕ, List, length, Option, None, Some}
+use Rattle.devices.specs.Positions.{Stream, moved_to}
 
 -- the bytes of a stream, where it is known
 abbrev pub text_of : Option Stream → Option (List ℕ)
@@ -16,7 +16,3 @@ known_size (Some text) said = length text
 abbrev pub at_position : Option ℕ → Option Stream → Option Stream
 at_position None stream = stream
 at_position (Some at) stream = moved_to at stream
-
--- Ok(n) read the first n bytes of what was left, where that is known
-abbrev pub ReadsFront : {E : Type 0} → Option Stream → Result ℕ E → List ℕ → Type 0
-ReadsFront stream result piece = IfSome (left_of stream) (λ rest. IfOk result (λ n. take n piece ≡ take n rest))

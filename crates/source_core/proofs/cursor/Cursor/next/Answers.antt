@@ -2,8 +2,7 @@ use Rattle.source_core.proofs.Words.{ℕ, ◌++◌, ◌+◌, ◌-◌, ◌∙◌,
 use Rattle.source_core.proofs.Words.{arith, common_steps, held_from, length, length-append, length-drop, length-take}
 use Rattle.source_core.proofs.Words.{refl, rules, subst, take}
 use Rattle.source_core.proofs.Parts.{cut_short, given_more, given_out}
-use Rattle.source_core.proofs.LongestLines.{front_least}
-use Rattle.source_core.proofs.WindowLemmas.{held_behind, held_reads}
+use Rattle.source_core.proofs.{LongestLines.front_least, WindowLemmas.held_behind, WindowLemmas.held_reads}
 use Rattle.source_core.proofs.cursor.Cursor.next.Goals.{After-line_part-length, In_ok-extend_from_slice}
 use Rattle.source_core.proofs.cursor.Cursor.next.Goals as goal
 
