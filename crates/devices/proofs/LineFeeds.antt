@@ -1,7 +1,7 @@
 -- Where the first line feed of a piece stands.
-use Rattle.std.proofs.Common.{◌≡◌, ℕ, zero, suc, ◌+◌, ◌-◌, ◌<◌, ◌≤◌, List, [], ◌∷◌, ◌++◌, length, take, drop, get_or}
-use Rattle.std.proofs.Common.{ap, subst, arith, eqb, eqb-true, false, Option, Some, None, min}
-use Rattle.std.proofs.lemmas.List.{take_all, take_min}
+use Rattle.std.proofs.Common.{◌≡◌, ℕ, zero, suc, ◌+◌, ◌<◌, ◌≤◌, List, [], ◌∷◌, ◌++◌, length, take, drop, get_or}
+use Rattle.std.proofs.Common.{ap, subst, arith, eqb, eqb-true, false, Option, Some, None}
+use Rattle.std.proofs.lemmas.List.{take_all}
 use Rattle.std.specs.Prelude.{MatchOption}
 use Rattle.memchr.specs.Find.{is_byte, IsFirstByte}
 use Rattle.devices.specs.LineCuts.{HasNoLineFeed}
@@ -24,10 +24,3 @@ pub first_line_feed : (piece : List ℕ) (r : Option ℕ) → IsFirstByte (is_by
 first_line_feed piece None h =
     subst HasNoLineFeed (take_all (length piece) piece (omega arith)) (grind (arith, no_line_feed_at, eqb))
 first_line_feed piece (Some i) (h, e) = grind (arith, no_line_feed_at, eqb, parted_at_line_feed, eqb-true)
-
--- as many bytes as there is room for
-pub held : (line bytes : List ℕ) (most : ℕ) → length line ≤ most → line
-    ++ take (min (most - length line) (length bytes)) bytes ≡ take most (line ++ bytes)
-held [] bytes most fits = grind (arith, take_min)
-held (b ∷ line) bytes zero fits = absurd (omega arith)
-held (b ∷ line) bytes (suc most) fits = grind (arith, held line bytes most (omega arith))

@@ -7,25 +7,21 @@ ghost use Rattle.devices.specs.LineReading.{LineState, StopsInLine, TakesPart, T
 
 use crate::buffer::Buffer;
 use crate::device::{DeviceFault, Input};
-use crate::line_cuts::{find_line_feed, hold, without_carriage_return};
+use crate::line_cuts::{find_line_feed, hold};
 use std::alloc::{AllocError, Global};
 use std::marker::Model;
-use thiserror::Error;
 
 /// An input of this many bytes or more is too long to be read line by line.
 pub const INPUT_LIMIT: u64 = 9_223_372_036_854_775_807;
 
 /// Why a line of an input could not be read.
-#[derive(Clone, Copy, Debug, Drop, PartialEq, Eq, Error)]
+#[derive(Clone, Copy, Debug, Drop)]
 pub enum InputLineFault {
     /// Memory could not be allocated.
-    #[error("out of memory")]
     Memory,
     /// The input failed.
-    #[error("the input can't be read")]
     Read,
     /// The input has [`INPUT_LIMIT`] bytes or more.
-    #[error("the input is too long")]
     TooLong,
 }
 
@@ -52,7 +48,7 @@ impl From<AllocError> for InputLineFault {
 }
 
 /// How a piece of the input relates to the line that is read.
-#[derive(Clone, Copy, Debug, Drop, PartialEq, Eq)]
+#[derive(Drop)]
 enum Part {
     /// The piece ends within the line.
     Within,
@@ -65,7 +61,7 @@ enum Part {
 /// Reads the lines of an input, one after another. It does not hold the input; each call that reads takes it.
 ///
 /// A line ends with a line feed, which the last line may lack. At most the first `most` bytes of a line are held.
-#[derive(Debug, Drop)]
+#[derive(Drop)]
 pub struct InputLines {
     buffer: Buffer,
     line: Vec<u8>,
@@ -112,7 +108,10 @@ impl InputLines {
     pub fn line(&self) -> &[u8]
         ensures { result.now ≡ without_carriage_return self.now.line }
     {
-        without_carriage_return(self.line.as_slice())
+        match self.line.as_slice() {
+            [body @ .., b'\r'] => body,
+            line => line,
+        }
     }
 
     /// Skips `count` buffered bytes of the input.

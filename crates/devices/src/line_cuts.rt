@@ -1,6 +1,6 @@
 //! The ends of the lines of an input.
 ghost use Rattle.std.specs.Prelude.{◌≡◌, ◌++◌, ◌≤◌, ◌<◌, ◌+◌, length, take, drop, IfOk, MatchOption, ◌∷◌};
-ghost use Rattle.devices.specs.LineCuts.{without_carriage_return, HasNoLineFeed};
+ghost use Rattle.devices.specs.LineCuts.{HasNoLineFeed};
 
 use memchr::memchr;
 use std::alloc::AllocError;
@@ -12,16 +12,6 @@ pub(crate) fn find_line_feed(piece: &[u8]) -> Option<usize>
         × (piece.now ≡ take at piece.now ++ 10 ∷ drop (at + 1) piece.now)) }
 {
     memchr(b'\n', piece)
-}
-
-/// Returns the line without one carriage return at its end.
-pub(crate) fn without_carriage_return(line: &[u8]) -> &[u8]
-    ensures { result.now ≡ without_carriage_return line.now }
-{
-    match line {
-        [body @ .., b'\r'] => body,
-        _ => line,
-    }
 }
 
 /// Appends bytes to a line, of which at most the first `most` bytes are held.

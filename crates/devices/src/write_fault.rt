@@ -6,7 +6,7 @@ use crate::device::DeviceFault;
 use std::alloc::{AllocError, AllocFailed};
 
 /// Why a text or a line could not be written.
-#[derive(Clone, Copy, Debug, Drop, PartialEq, Eq)]
+#[derive(Clone, Copy, Drop)]
 pub enum WriteFault {
     /// Memory could not be allocated.
     Memory,
