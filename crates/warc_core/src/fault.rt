@@ -5,6 +5,7 @@ ghost use Rattle.warc_core.specs.Head.{cause_of};
 
 use devices::DeviceFault;
 use std::alloc::{AllocError, AllocFailed};
+use std::{error, fmt};
 use thiserror::Error;
 use warc_head::HeadFault;
 
@@ -12,48 +13,43 @@ use warc_head::HeadFault;
 ///
 /// If several causes from `Version` on apply, the first in this order is returned, except that `TooFar` comes before
 /// `ShortBlock`.
-#[derive(Clone, Copy, Debug, PartialEq, Eq, Error)]
+#[derive(Clone, Copy, Debug, PartialEq, Eq)]
 pub enum Cause {
     /// Memory could not be allocated.
-    #[error("out of memory")]
     Memory,
     /// The input failed.
-    #[error("the input can't be read")]
     Read,
     /// The first bytes aren't those of `WARC/1.1` or `WARC/1.0` and CR LF.
-    #[error("no WARC version line")]
     Version,
     /// The input ends before the head does.
-    #[error("the head is cut off")]
     ShortHead,
     /// The head doesn't end within 1,048,576 bytes.
-    #[error("the head is too long")]
     HeadTooLong,
     /// A line of the head is neither a named field nor the continuation of one.
-    #[error("a line of the head is no field")]
     FieldLine,
     /// One of the four mandatory fields is absent.
-    #[error("a mandatory field is missing")]
     Missing,
     /// One of the four mandatory fields occurs more than once.
-    #[error("a mandatory field is repeated")]
     Repeated,
     /// `Content-Length` isn't a number of 1 to 19 digits below 2^63.
-    #[error("a bad Content-Length")]
     BadLength,
     /// `WARC-Date` isn't a date text, or names a date or a time of day that doesn't exist.
-    #[error("a bad WARC-Date")]
     BadDate,
     /// The input ends before the block does.
-    #[error("the block is cut off")]
     ShortBlock,
     /// The block isn't followed by CR LF CR LF.
-    #[error("the record isn't closed")]
     Closing,
     /// The record would end at 2^63 or above.
-    #[error("the record ends too far")]
     TooFar,
 }
+
+impl fmt::Display for Cause {
+    fn fmt<W: fmt::Write>(&self, f: &mut fmt::Formatter<W>) -> fmt::Result {
+        f.write_str(self.message())
+    }
+}
+
+impl error::Error for Cause {}
 
 impl Cause {
     ghost use Rattle.warc_core.specs.Cause.{cause_name};
@@ -76,6 +72,24 @@ impl Cause {
             Cause::ShortBlock => "ShortBlock",
             Cause::Closing => "Closing",
             Cause::TooFar => "TooFar",
+        }
+    }
+
+    fn message(self) -> &'static str {
+        match self {
+            Cause::Memory => "out of memory",
+            Cause::Read => "the input can't be read",
+            Cause::Version => "no WARC version line",
+            Cause::ShortHead => "the head is cut off",
+            Cause::HeadTooLong => "the head is too long",
+            Cause::FieldLine => "a line of the head is no field",
+            Cause::Missing => "a mandatory field is missing",
+            Cause::Repeated => "a mandatory field is repeated",
+            Cause::BadLength => "a bad Content-Length",
+            Cause::BadDate => "a bad WARC-Date",
+            Cause::ShortBlock => "the block is cut off",
+            Cause::Closing => "the record isn't closed",
+            Cause::TooFar => "the record ends too far",
         }
     }
 }
