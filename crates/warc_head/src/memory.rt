@@ -6,7 +6,7 @@ use crate::spans::FieldSpan;
 use std::alloc::{AllocError, Global};
 
 /// The memory of a head, for the next one.
-#[derive(Debug, Drop)]
+#[derive(Drop)]
 pub struct HeadMemory {
     pub(crate) text: Vec<u8>,
     pub(crate) spans: Vec<FieldSpan>,

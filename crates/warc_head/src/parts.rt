@@ -20,7 +20,7 @@ use std::alloc::{AllocError, Global};
 use std::marker::Model;
 
 /// The text of a record's head, and what it says.
-#[derive(Debug, Drop)]
+#[derive(Drop)]
 pub struct Parts {
     /// The head's text, and behind it the values of the fields that take several lines.
     text: Vec<u8>,
@@ -31,7 +31,7 @@ pub struct Parts {
 }
 
 /// What the mandatory fields of a head say.
-#[derive(Clone, Copy, Debug)]
+#[derive(Clone, Copy)]
 struct Said {
     kind: Kind,
     stamp: [u8; 14],

@@ -6,7 +6,7 @@ ghost use Rattle.warc_head.specs.Spans.{IsWithin, fields_at};
 use crate::names::same_name;
 
 /// Where a field stands in a text, as offsets in bytes from the text's start.
-#[derive(Clone, Copy, Debug)]
+#[derive(Clone, Copy)]
 pub struct FieldSpan {
     /// The start of the name.
     pub name_start: usize,
