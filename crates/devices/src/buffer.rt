@@ -15,7 +15,7 @@ const ROOM: usize = 65_536;
 
 /// Bytes that were read from an input and not yet consumed, at most 65,536 of them. A buffer does not hold the input;
 /// each call that reads takes it.
-#[derive(Debug, Drop)]
+#[derive(Drop)]
 pub struct Buffer {
     bytes: Vec<u8>,
     from: usize,

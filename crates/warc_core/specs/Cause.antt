@@ -1,5 +1,5 @@
 -- The causes of faults: their names, as listings print them, and which calls answer them.
-use Rattle.std.specs.Prelude.{ℕ, ⊤, List, codes}
+use Rattle.std.specs.Prelude.{◌≡◌, ◌≢◌, ◌⊎◌, ℕ, List, codes}
 use Rattle.warc_core.specs.declared.fault.Cause.{Cause}
 use Rattle.warc_core.specs.declared.fault.Cause.TheVariants as causes
 
@@ -20,19 +20,12 @@ cause_name causes.TooFar = codes "TooFar"
 
 -- the reading of a block ends so
 abbrev pub StopsBlock : Cause → Type 0
-StopsBlock causes.Read = ⊤
-StopsBlock causes.ShortBlock = ⊤
-StopsBlock cause = ⊥
+StopsBlock cause = (cause ≡ causes.Read) ⊎ (cause ≡ causes.ShortBlock)
 
 -- the reading of a block and its closing ends so
 abbrev pub StopsRecord : Cause → Type 0
-StopsRecord causes.Read = ⊤
-StopsRecord causes.ShortBlock = ⊤
-StopsRecord causes.Closing = ⊤
-StopsRecord cause = ⊥
+StopsRecord cause = (cause ≡ causes.Read) ⊎ ((cause ≡ causes.ShortBlock) ⊎ (cause ≡ causes.Closing))
 
 -- the reading of a head ends so
 abbrev pub StopsHead : Cause → Type 0
-StopsHead causes.ShortBlock = ⊥
-StopsHead causes.Closing = ⊥
-StopsHead cause = ⊤
+StopsHead cause = (cause ≢ causes.ShortBlock) × (cause ≢ causes.Closing)

@@ -1,14 +1,23 @@
 //! The head of a record.
 ghost use Rattle.std.specs.Prelude.{◌≡◌};
 
+use std::fmt;
 use std::marker::Model;
 use warc_head::{HeadMemory, Kind, Parts};
 
 /// A record's head, with the record's offset in its archive.
-#[derive(Debug, Drop)]
+#[derive(Drop)]
 pub struct Head {
     start: u64,
     parts: Parts,
+}
+
+impl fmt::Debug for Head {
+    fn fmt<W: fmt::Write>(&self, f: &mut fmt::Formatter<W>) -> fmt::Result {
+        f.debug_struct("Head")
+            .field("start", &self.start)
+            .finish_non_exhaustive()
+    }
 }
 
 impl Model for Head {

@@ -17,9 +17,6 @@ use warc_head::{LANES, run_to_closing};
 /// The maximum number of bytes added to a head at once. Most heads are shorter.
 const HEAD_PIECE: usize = 1024;
 
-/// The length of a version line in bytes: `WARC/1.1` or `WARC/1.0`, and CR LF.
-const VERSION_LINE: usize = 10;
-
 /// Returns `true` if the bytes are those of the line, as far as both go.
 fn agrees(head: &[u8], line: &[u8]) -> bool
     ensures { result ≡ agrees head.now line.now }
@@ -37,23 +34,13 @@ fn has_version(head: &[u8]) -> bool
 }
 
 /// Returns `true` if the bytes begin with a whole version line.
-#[tactic(auto, using(crate::proofs::HeadLemmas::begins_version))]
 pub(crate) fn begins_with_version(head: &[u8]) -> bool
     ensures version { result ≡ true → has_version head.now ≡ true }
     ensures line { result ≡ true → IsVersionLine (take 10 head.now) }
 {
-    match head.get(..VERSION_LINE) {
-        Some(line) => is_version_line(line),
+    match head.first_chunk() {
+        Some(line) => line == b"WARC/1.1\r\n" || line == b"WARC/1.0\r\n",
         None => false,
-    }
-}
-
-fn is_version_line(line: &[u8]) -> bool
-    ensures { result ≡ true → IsVersionLine line.now }
-{
-    match <&[u8; VERSION_LINE]>::try_from(line) {
-        Ok(line) => line == b"WARC/1.1\r\n" || line == b"WARC/1.0\r\n",
-        Err(_) => false,
     }
 }
 

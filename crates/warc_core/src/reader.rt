@@ -9,6 +9,7 @@ use crate::next::{HEAD_LIMIT, read_next};
 use crate::phase::Phase;
 use devices::{Buffer, Input};
 use std::alloc::Global;
+use std::fmt;
 use std::marker::Model;
 use warc_head::HeadMemory;
 
@@ -19,7 +20,7 @@ const MOST_KEPT: usize = 8192;
 ///
 /// A record is open from its head until its closing is read. After a call has failed, each further call returns the
 /// same fault and reads nothing.
-#[derive(Debug, Drop)]
+#[derive(Drop)]
 pub struct Reader {
     alloc: Global,
     offset: u64,
@@ -27,6 +28,14 @@ pub struct Reader {
     buffer: Buffer,
     /// The memory of an earlier head, for the next one.
     spare: Option<HeadMemory>,
+}
+
+impl fmt::Debug for Reader {
+    fn fmt<W: fmt::Write>(&self, f: &mut fmt::Formatter<W>) -> fmt::Result {
+        f.debug_struct("Reader")
+            .field("offset", &self.offset)
+            .finish_non_exhaustive()
+    }
 }
 
 impl Model for Reader {
