@@ -1,5 +1,5 @@
 -- What a call answers: which failures of the input it counts, and what it gives that reads no input.
-use Rattle.std.specs.Prelude.{◌≡◌, ℕ, ⊤, Result, Ok, Err}
+use Rattle.std.specs.Prelude.{◌≡◌, ◌≢◌, ◌⊎◌, ℕ, ⊤, Result, Ok, Err, MatchResult}
 use Rattle.devices.specs.Device.{next_count}
 use Rattle.warc_core.specs.declared.fault.Cause.{Cause}
 use Rattle.warc_core.specs.declared.fault.Cause.TheVariants as causes
@@ -7,8 +7,8 @@ use Rattle.warc_core.specs.declared.fault.Fault.{Fault}
 
 -- An answer of Read goes with one more failure of the input, any other with none.
 abbrev pub CountsRead : {A : Type 0} → Result A Cause → ℕ → ℕ → Type 0
-CountsRead (Err causes.Read) old new = new ≡ next_count old
-CountsRead r old new = new ≡ old
+CountsRead r old new = MatchResult r (λ _. new ≡ old)
+    (λ c. ((c ≡ causes.Read) × (new ≡ next_count old)) ⊎ ((c ≢ causes.Read) × (new ≡ old)))
 
 -- an answer, seen by view
 abbrev pub seen_as : {X A : Type 0} → (X → A) → Result X Cause → Result A Cause

@@ -1,5 +1,5 @@
 -- How bytes are read from the front of a text, and what a call that reads owes to the bytes it is given.
-use Rattle.std.specs.Prelude.{◌≡◌, ℕ, ⊤, List, [], ◌∷◌, drop, Option, None, Some, Result, Ok, Err}
+use Rattle.std.specs.Prelude.{◌≡◌, ◌⊎◌, ℕ, ⊤, List, [], ◌∷◌, drop, Option, None, Some, Result, Ok, Err}
 use Rattle.warc_core.specs.declared.fault.Cause.{Cause}
 use Rattle.warc_core.specs.declared.fault.Cause.TheVariants as causes
 
@@ -19,9 +19,7 @@ past n bytes = Ok (tt, drop n bytes)
 
 -- A cause other than Memory and Read is the one that the bytes give.
 abbrev pub IsPossibleCause : {A : Type 0} → Cause → Result A Cause → Type 0
-IsPossibleCause causes.Memory read = ⊤
-IsPossibleCause causes.Read read = ⊤
-IsPossibleCause c read = read ≡ Err c
+IsPossibleCause c read = (c ≡ causes.Memory) ⊎ ((c ≡ causes.Read) ⊎ (read ≡ Err c))
 
 -- What f reads at the front of the known bytes gives this cause, if it is neither Memory nor Read.
 abbrev pub IsPossibleFault : {A : Type 0} → (List ℕ → Result A Cause) → Cause → Option (List ℕ) → Type 0
