@@ -6,7 +6,7 @@ use Rattle.index_core.specs.declared.fault.IndexFault.{IndexFault}
 use Rattle.index_core.specs.Report.{Reports, ReportsRecords}
 
 -- `OFFSET LENGTH KIND`
-abbrev pub record_line : HeadView → List ℕ
+unfoldable pub record_line : HeadView → List ℕ
 record_line h = decimal h.start ++ codes " " ++ decimal (record_length h) ++ codes " " ++ kind_name h.parts.kind
     ++ codes "\n"
 

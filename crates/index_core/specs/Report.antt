@@ -25,7 +25,7 @@ abbrev pub report_lines : RecordLine → List ℕ → List HeadView → List ℕ
 report_lines line archive heads = flat_map (line archive) heads
 
 -- `fault OFFSET CAUSE`
-abbrev pub fault_line : Fault → List ℕ
+unfoldable pub fault_line : Fault → List ℕ
 fault_line f = codes "fault " ++ decimal f.offset ++ codes " " ++ cause_name f.cause ++ codes "\n"
 
 -- the text is the report on the archive: its records, or those before its damage and the damage
@@ -37,9 +37,7 @@ IsReport limit line archive text =
 
 -- the cause isn't the archive's
 abbrev pub IsNoDamage : Cause → Type 0
-IsNoDamage causes.Memory = ⊤
-IsNoDamage causes.Read = ⊤
-IsNoDamage c = ⊥
+IsNoDamage cause = (cause ≡ causes.Memory) ⊎ (cause ≡ causes.Read)
 
 -- the text is the report up to a record that couldn't be read, for want of memory or by the input's failure
 abbrev pub IsCutReport : ℕ → RecordLine → List ℕ → List ℕ → Type 0

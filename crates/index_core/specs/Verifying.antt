@@ -20,7 +20,7 @@ abbrev pub verdict_in : List ℕ → HeadView → Verdict
 verdict_in archive h = verdict_on h (block_at h (drop h.start archive))
 
 -- `OFFSET VERDICT`
-abbrev pub verdict_line : ℕ → Verdict → List ℕ
+unfoldable pub verdict_line : ℕ → Verdict → List ℕ
 verdict_line offset verdict = decimal offset ++ codes " " ++ verdict_name verdict ++ codes "\n"
 
 -- what a verification says of a record

@@ -5,11 +5,12 @@ use crate::index_lines::put_index;
 use crate::names::{Names, is_name};
 use capture_core::{BlockStart, HeldLine, Types};
 use std::alloc::Global;
+use std::fmt;
 use std::marker::Model;
 use warc_core::{Input, Output};
 
 /// Collects the captures of archives, and writes them as an index.
-#[derive(Debug, Drop)]
+#[derive(Drop)]
 pub struct Indexer {
     alloc: Global,
     types: Types,
@@ -17,6 +18,14 @@ pub struct Indexer {
     captures: Vec<HeldLine>,
     /// The buffer for the start of a block, which serves all records.
     front: BlockStart,
+}
+
+impl fmt::Debug for Indexer {
+    fn fmt<W: fmt::Write>(&self, f: &mut fmt::Formatter<W>) -> fmt::Result {
+        f.debug_struct("Indexer")
+            .field("types", &self.types)
+            .finish_non_exhaustive()
+    }
 }
 
 impl Model for Indexer {

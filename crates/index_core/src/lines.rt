@@ -15,6 +15,7 @@ use warc_core::{Fault, Head};
 pub type ReportLine = ArrayString<64>;
 
 /// Returns the line `OFFSET LENGTH KIND`.
+#[tactic(auto, unfolding(crate::specs::Listing::record_line))]
 pub fn record_line(head: &Head) -> ReportLine
     ensures { result.bytes ≡ record_line head.now }
 {
@@ -30,6 +31,7 @@ pub fn record_line(head: &Head) -> ReportLine
 }
 
 /// Returns the line `OFFSET VERDICT`.
+#[tactic(auto, unfolding(crate::specs::Verifying::verdict_line))]
 pub fn verdict_line(offset: u64, verdict: Verdict) -> ReportLine
     ensures { result.bytes ≡ verdict_line offset verdict }
 {
@@ -43,6 +45,7 @@ pub fn verdict_line(offset: u64, verdict: Verdict) -> ReportLine
 }
 
 /// Returns the line `fault OFFSET CAUSE`.
+#[tactic(auto, unfolding(crate::specs::Report::fault_line))]
 pub fn fault_line(fault: Fault) -> ReportLine
     ensures { result.bytes ≡ fault_line fault }
 {

@@ -14,7 +14,7 @@ pub fn is_name(name: &str) -> bool
 }
 
 /// The names of the archives that were added, in the order of adding.
-#[derive(Debug, Drop)]
+#[derive(Drop)]
 pub struct Names {
     set: IndexSet<String>,
 }
