@@ -57,6 +57,7 @@ pub fn read_fields(alloc: Global, text: &mut Vec<u8>) -> Result<Vec<FieldSpan>, 
 }
 
 /// The spans of a head's fields, and the head's length in bytes.
+#[derive(Drop)]
 pub struct UsualFields {
     pub spans: Vec<FieldSpan>,
     pub size: usize,

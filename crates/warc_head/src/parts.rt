@@ -10,7 +10,7 @@ ghost use Rattle.warc_head.specs.Said.{said_of};
 
 use crate::date::stamp_of;
 use crate::fault::HeadFault;
-use crate::field_lines::{UsualFields, read_fields, usual_fields};
+use crate::field_lines::{read_fields, usual_fields};
 use crate::kind::{Kind, kind_of};
 use crate::length::length_of;
 use crate::mandatory::mandatory_values;
@@ -139,15 +139,15 @@ pub fn read_usual_parts(memory: HeadMemory, text: &[u8]) -> Result<Option<Parts>
     ensures head { IfOk result (λ found. IfSome found (IsHeadOf text.now)) }
     ensures bound { IfOk result (λ found. IfSome found (λ p. p.parts.block_length ≤ 2 ^ 63 - 1)) }
 {
-    let Some(UsualFields { spans, size }) = usual_fields(memory.spans, text)? else {
+    let Some(found) = usual_fields(memory.spans, text)? else {
         return Ok(None);
     };
-    let raw = copied(memory.text, &text[..size])?;
-    match said_in(&raw, &spans) {
+    let raw = copied(memory.text, &text[..found.size])?;
+    match said_in(&raw, &found.spans) {
         Ok(said) => Ok(Some(Parts {
             text: raw,
-            size,
-            spans,
+            size: found.size,
+            spans: found.spans,
             said,
         })),
         Err(_) => Ok(None),
