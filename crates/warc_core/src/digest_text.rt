@@ -8,11 +8,14 @@ pub fn base32(digest: &[u8; 20]) -> [u8; 32]
     ensures { result ≡ base32_of digest.now }
 {
     let d = *digest;
+    let parts = [
+        letters(d[0], d[1], d[2], d[3], d[4]),
+        letters(d[5], d[6], d[7], d[8], d[9]),
+        letters(d[10], d[11], d[12], d[13], d[14]),
+        letters(d[15], d[16], d[17], d[18], d[19]),
+    ];
     let mut text = [0; 32];
-    text[..8].copy_from_slice(&letters(d[0], d[1], d[2], d[3], d[4]));
-    text[8..16].copy_from_slice(&letters(d[5], d[6], d[7], d[8], d[9]));
-    text[16..24].copy_from_slice(&letters(d[10], d[11], d[12], d[13], d[14]));
-    text[24..].copy_from_slice(&letters(d[15], d[16], d[17], d[18], d[19]));
+    text.copy_from_slice(parts.as_flattened());
     text
 }
 
