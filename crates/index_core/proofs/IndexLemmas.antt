@@ -57,5 +57,3 @@ all_in_places (e ∷ es) h = grind (arith, one_more, each_rising, place_cmp_tota
 pub index_in_places : (limit : ℕ) (es : List EntryValue) → AllByRecursion (HasLine limit) es
     → IsIndex limit (index_text es) (map entry_member (in_places es))
 index_in_places limit es h = grind (arith, index_written, each_rising, never_falls, rises_rising, place_cmp_total)
-
-pub ruleset index_rules = (index_in_places, all_in_places)

@@ -115,7 +115,6 @@ impl Indexer {
     ///
     /// Errors are `Memory`, and `Write` at the output's first failure. After an error, the first
     /// lines may have been written.
-    #[tactic(auto, using(crate::proofs::IndexLemmas::index_rules))]
     pub fn write<O: Output>(&self, out: &mut O) -> Result<u64, IndexFault>
         ensures lines { WritesText result (O.written out.old) (O.written out.new)
             (index_text self.now.captures) }
