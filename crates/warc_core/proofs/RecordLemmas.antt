@@ -50,5 +50,3 @@ module _ (before now after : Option (List ℕ)) (i : ℕ) (within : i < length c
     (same : GoesOn (after_text closing) (after_text (drop i closing)) before now) where
   pub here : GoesOn (after_text closing) (after_text (get_or closing i 0 ∷ drop (suc i) closing)) before now
   here = grind arith
-
-pub ruleset give_block_rules = (after_block-short)

@@ -1,5 +1,5 @@
 -- What a call answers: which failures of the input it counts, and what it gives that reads no input.
-use Rattle.std.specs.Prelude.{◌≡◌, ◌≢◌, ◌⊎◌, ℕ, ⊤, Result, Ok, Err, MatchResult}
+use Rattle.std.specs.Prelude.{◌≡◌, ◌≢◌, ◌⊎◌, ℕ, Result, Ok, Err, MatchResult}
 use Rattle.devices.specs.Device.{next_count}
 use Rattle.warc_core.specs.declared.fault.Cause.{Cause}
 use Rattle.warc_core.specs.declared.fault.Cause.TheVariants as causes
@@ -27,6 +27,4 @@ cause_only (Err f) = Err f.cause
 
 -- A cause other than Memory is the one that the bytes give, and it isn't Read.
 abbrev pub IsFoundPurely : {A : Type 0} → Cause → Result A Cause → Type 0
-IsFoundPurely causes.Memory read = ⊤
-IsFoundPurely causes.Read read = ⊥
-IsFoundPurely c read = read ≡ Err c
+IsFoundPurely c read = (c ≡ causes.Memory) ⊎ ((c ≢ causes.Read) × (read ≡ Err c))

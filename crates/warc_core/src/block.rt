@@ -29,7 +29,6 @@ fn give<I: Input>(buffer: &mut Buffer, input: &mut I, piece: &mut [u8]) -> Resul
 
 /// Reads the next bytes of a block into `piece`, and returns their number. The block has `left` bytes left. The errors
 /// are `Read` and `ShortBlock`.
-#[tactic(auto, using(crate::proofs::RecordLemmas::give_block_rules))]
 pub fn give_block<I: Input>(
     buffer: &mut Buffer,
     input: &mut I,
