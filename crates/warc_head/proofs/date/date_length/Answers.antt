@@ -1,4 +1,4 @@
-use Rattle.warc_head.proofs.Words.{refl}
+use Rattle.warc_head.proofs.Words.{arith, refl}
 use Rattle.warc_head.specs.Date.{date_length}
 use Rattle.warc_head.proofs.date.date_length.Goals as goal
 
@@ -52,18 +52,4 @@ returns-then-has_fraction c =
 
 pub returns-else-has_fraction : goal.returns-else-has_fraction
 unfolding date_length
-returns-else-has_fraction c =
-    rw (
-      ← c.fits.ensures,
-      c.if-fits.false,
-      ← c.fits-else-fits.ensures,
-      c.if-fits-2.false,
-      ← c.fits-else-fits-2.ensures,
-      c.if-fits-3.false,
-      ← c.fits-else-fits-3.ensures,
-      c.if-fits-4.false,
-      ← c.fits-else-fits-4.ensures,
-      c.if-fits-5.false,
-      ← c.has_fraction.ensures,
-      c.if-has_fraction.false,
-    ) refl
+returns-else-has_fraction c = grind arith
