@@ -78,7 +78,7 @@ fn say_unknown<R: Runtime>(rt: &R, name: &str, fault: QueryFault) {
 }
 
 /// Returns the outcome of a call on indexes of these names. A fault of an index is reported on standard error.
-pub fn answered_outcome<R: Runtime, T>(
+pub fn answered_outcome<R: Runtime, T: Drop>(
     rt: &R,
     names: &[String],
     answer: Result<T, AnswerFault>,

@@ -28,10 +28,28 @@ pub fn answer_query<R: Runtime + AllocGlobal, F: Opener, O: Output>(
     ensures writes { CountsWrites result (O.failures out.old) (O.failures out.new) }
 {
     match read_query(rt, query) {
-        Ok(query) => match open_indexes(rt.alloc(), files, names) {
-            Ok(mut indexes) => answered_outcome(rt, names, answer(rt.alloc(), &mut indexes, &query, out)),
-            Err(outcome) => outcome,
-        },
+        Ok(query) => open_and_answer(rt, files, &query, names, out),
+        Err(outcome) => outcome,
+    }
+}
+
+/// Opens the indexes of these names, and writes the page of the query.
+fn open_and_answer<R: Runtime + AllocGlobal, F: Opener, O: Output>(
+    rt: &R,
+    files: &F,
+    query: &Query,
+    names: &[String],
+    out: &mut O,
+) -> Outcome
+    ensures answers { OpensFirst
+        (AreUnopenedIndexes (F.index_failed files.now) (texts names.now) result)
+        (out.new ≡ out.old)
+        (AnswersQuery query.now (map (F.index_bytes files.now) (texts names.now))
+        (O.written out.old) (O.written out.new) (out.new ≡ out.old) result) }
+    ensures writes { CountsWrites result (O.failures out.old) (O.failures out.new) }
+{
+    match open_indexes(rt.alloc(), files, names) {
+        Ok(mut indexes) => answered_outcome(rt, names, answer(rt.alloc(), &mut indexes, query, out)),
         Err(outcome) => outcome,
     }
 }
@@ -54,10 +72,29 @@ pub fn write_pages<R: Runtime + AllocGlobal, F: Opener, O: Output>(
     ensures writes { CountsWrites result (O.failures out.old) (O.failures out.new) }
 {
     match read_query(rt, query) {
-        Ok(query) => match open_indexes(rt.alloc(), files, names) {
-            Ok(mut indexes) => answered_outcome(rt, names, pages(rt.alloc(), &mut indexes, &query, sizes, out)),
-            Err(outcome) => outcome,
-        },
+        Ok(query) => open_and_write_pages(rt, files, sizes, &query, names, out),
+        Err(outcome) => outcome,
+    }
+}
+
+/// Opens the indexes of these names, and writes the pages of the query.
+fn open_and_write_pages<R: Runtime + AllocGlobal, F: Opener, O: Output>(
+    rt: &R,
+    files: &F,
+    sizes: &[u64],
+    query: &Query,
+    names: &[String],
+    out: &mut O,
+) -> Outcome
+    ensures answers { OpensFirst
+        (AreUnopenedIndexes (F.index_failed files.now) (texts names.now) result)
+        (out.new ≡ out.old)
+        (AnswersPages query.now sizes.now (map (F.index_bytes files.now) (texts names.now))
+        (O.written out.old) (O.written out.new) (out.new ≡ out.old) result) }
+    ensures writes { CountsWrites result (O.failures out.old) (O.failures out.new) }
+{
+    match open_indexes(rt.alloc(), files, names) {
+        Ok(mut indexes) => answered_outcome(rt, names, pages(rt.alloc(), &mut indexes, query, sizes, out)),
         Err(outcome) => outcome,
     }
 }

@@ -5,7 +5,7 @@ ghost use Rattle.devices.specs.Writing.{WritesText};
 ghost use Rattle.index_core.specs.Counting.{CountsInput};
 ghost use Rattle.command_line.specs.Words.{texts};
 ghost use Rattle.tasks.specs.Outcome.{answer_of};
-ghost use Rattle.tasks.specs.Reports.{ReportsOn, ReportsOnOne, WritesReport, WritesBelow, heading_among};
+ghost use Rattle.tasks.specs.Reports.{ReportsOn, ReportsOnOne, WritesReport, WritesBelow, heading, heading_among};
 ghost use Rattle.tasks.specs.Writes.{CountsWrites};
 
 use crate::each::with_each;
@@ -111,9 +111,18 @@ fn put_heading_among<O: Output>(among: usize, name: &str, out: &mut O) -> Result
     ensures failures { CountsFailure result (O.failures out.old) (O.failures out.new) }
 {
     if among > 1 {
-        put(out, name.as_bytes())?;
-        put(out, b":\n")?;
+        put_heading(name, out)?;
     }
+    Ok(())
+}
+
+/// Writes `NAME:` and a line feed.
+fn put_heading<O: Output>(name: &str, out: &mut O) -> Result<(), DeviceFault>
+    ensures heading { WritesText result (O.written out.old) (O.written out.new) (heading name.now) }
+    ensures failures { CountsFailure result (O.failures out.old) (O.failures out.new) }
+{
+    put(out, name.as_bytes())?;
+    put(out, b":\n")?;
     Ok(())
 }
 

@@ -37,10 +37,33 @@ pub fn scan_all<R: Runtime + AllocGlobal, F: Opener, O: Output>(
     ensures writes { CountsWrites result (O.failures out.old) (O.failures out.new) }
 {
     match read_query(rt, query) {
-        Ok(_query) => match open_archives(rt.alloc(), files, input, names) {
-            Ok(mut archives) => scan_opened(rt, types, sizes, query, names, &mut archives, out),
-            Err(outcome) => outcome,
-        },
+        Ok(_query) => open_and_scan(rt, files, types, input, sizes, query, names, out),
+        Err(outcome) => outcome,
+    }
+}
+
+/// Opens the archives of these names, and writes the pages of the query over them.
+fn open_and_scan<R: Runtime + AllocGlobal, F: Opener, O: Output>(
+    rt: &R,
+    files: &F,
+    types: Types,
+    input: Option<&str>,
+    sizes: &[u64],
+    query: &str,
+    names: &[String],
+    out: &mut O,
+) -> Outcome
+    ensures scans { OpensFirst
+        (IsUnopened (Any (F.archive_failed files.now) (texts names.now)) result)
+        (out.new ≡ out.old)
+        (ScansArchives (includes types)
+        (map (archive_name (bytes_of_name input.entry)) (texts names.now))
+        (map (F.archive_bytes files.now) (texts names.now)) sizes.now query.now
+        (O.written out.old) (O.written out.new) result) }
+    ensures writes { CountsWrites result (O.failures out.old) (O.failures out.new) }
+{
+    match open_archives(rt.alloc(), files, input, names) {
+        Ok(mut archives) => scan_opened(rt, types, sizes, query, names, &mut archives, out),
         Err(outcome) => outcome,
     }
 }

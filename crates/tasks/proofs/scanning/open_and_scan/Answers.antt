@@ -1,7 +1,7 @@
 use Rattle.std.proofs.Common.{◌∙◌, ap, inl, map}
 use Rattle.tasks.specs.Scanning.{archive_names}
 use Rattle.tasks.proofs.UntoldScans.{scans_told}
-use Rattle.tasks.proofs.scanning.scan_all.Goals as goal
+use Rattle.tasks.proofs.scanning.open_and_scan.Goals as goal
 
 pub returns-in-Ok-clause-scans : goal.returns-in-Ok-clause-scans
 returns-in-Ok-clause-scans g c =

@@ -1,6 +1,6 @@
 use Rattle.std.proofs.lemmas.Result.{err_from_is_err_and}
 use Rattle.devices.proofs.WritingLemmas.{prefix_longer, prefix_after}
-use Rattle.tasks.proofs.reports.put_heading_among.Goals as goal
+use Rattle.tasks.proofs.reports.put_heading.Goals as goal
 
 pub returns-in_err-put-clause-heading : goal.returns-in_err-put-clause-heading
 returns-in_err-put-clause-heading g c =
