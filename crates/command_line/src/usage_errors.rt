@@ -17,8 +17,8 @@ const SIZES: &str = "<SIZES>";
 
 const SIZES_RULE: &str = "sizes are 1 to 1,000 numbers from 1 to 1,000,000, with ',' between";
 
-const TYPES_RULE: &str = "types are response, resource, revisit, conversion and metadata, each once at most, \
-                          with ',' between";
+const TYPES_RULE: &str =
+    "types are response, resource, revisit, conversion and metadata, each once at most, with ',' between";
 
 const LENGTH_RULE: &str = "a length is 1 to 19 digits, below 2^63";
 
@@ -145,7 +145,12 @@ pub fn no_task(alloc: Global, matches: &ArgMatches) -> WordsFault
     ensures { IsUsage result }
 {
     match operand_word(matches, "types") {
-        Some(word) if Types::read(word).is_none() => invalid(alloc, word, "--types <TYPES>", TYPES_RULE),
+        Some(word) if Types::read(word).is_none() => invalid(
+            alloc,
+            word,
+            "--types <TYPES>",
+            TYPES_RULE,
+        ),
         _ => no_numbers(alloc, matches),
     }
 }
@@ -163,7 +168,12 @@ fn no_place(alloc: Global, matches: &ArgMatches) -> WordsFault
     ensures { IsUsage result }
 {
     match operand_word(matches, "length") {
-        Some(word) if read_offset(word).is_none() => invalid(alloc, word, "--length <LENGTH>", LENGTH_RULE),
+        Some(word) if read_offset(word).is_none() => invalid(
+            alloc,
+            word,
+            "--length <LENGTH>",
+            LENGTH_RULE,
+        ),
         _ => {
             let word = operand_word(matches, "offset").unwrap_or("");
             invalid(alloc, word, "<OFFSET>", OFFSET_RULE)

@@ -54,7 +54,9 @@ fn run_arguments<R: Runtime + AllocGlobal>(rt: &R, input: StandardInput) -> Outc
     match words(rt) {
         Ok(words) => {
             if words.is_empty() && input == StandardInput::Terminal {
-                let _ = eprintln!(rt; "warcdx: reading a WARC file from the terminal; see 'warcdx --help'");
+                let _ = eprintln!(rt;
+                    "warcdx: reading a WARC file from the terminal; see 'warcdx --help'"
+                );
             }
             run_words(rt, &words)
         }

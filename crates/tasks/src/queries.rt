@@ -49,7 +49,11 @@ fn open_and_answer<R: Runtime + AllocGlobal, F: Opener, O: Output>(
     ensures writes { CountsWrites result (O.failures out.old) (O.failures out.new) }
 {
     match open_indexes(rt.alloc(), files, names) {
-        Ok(mut indexes) => answered_outcome(rt, names, answer(rt.alloc(), &mut indexes, query, out)),
+        Ok(mut indexes) => answered_outcome(
+            rt,
+            names,
+            answer(rt.alloc(), &mut indexes, query, out),
+        ),
         Err(outcome) => outcome,
     }
 }
@@ -94,7 +98,11 @@ fn open_and_write_pages<R: Runtime + AllocGlobal, F: Opener, O: Output>(
     ensures writes { CountsWrites result (O.failures out.old) (O.failures out.new) }
 {
     match open_indexes(rt.alloc(), files, names) {
-        Ok(mut indexes) => answered_outcome(rt, names, pages(rt.alloc(), &mut indexes, query, sizes, out)),
+        Ok(mut indexes) => answered_outcome(
+            rt,
+            names,
+            pages(rt.alloc(), &mut indexes, query, sizes, out),
+        ),
         Err(outcome) => outcome,
     }
 }
