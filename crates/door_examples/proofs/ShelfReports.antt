@@ -13,9 +13,9 @@ use Rattle.index_core.specs.Indexing.{Held, index_text}
 use Rattle.index_core.specs.Laws.{OneIndexed, OneStands}
 use Rattle.index_core.specs.Limits.{HEAD_LIMIT}
 use Rattle.index_core.specs.declared.fault.IndexFault.{IndexFault}
-use Rattle.index_core.specs.Listing.{listing_line}
+use Rattle.index_core.specs.Listing.{listing_line, record_line}
 use Rattle.index_core.specs.Report.{report_lines}
-use Rattle.index_core.specs.Verifying.{verification_line}
+use Rattle.index_core.specs.Verifying.{verdict_line, verification_line}
 use Rattle.command_line.specs.Commands.{ToGet, ToIndex, ToList, ToVerify}
 use Rattle.tasks.specs.declared.outcome.Outcome.{Outcome}
 use Rattle.tasks.specs.declared.outcome.Outcome.TheVariants as outcomes
@@ -36,11 +36,11 @@ abbrev pub HasOneReading : Type 0
 HasOneReading = (limit : ℕ) (archive : List ℕ) → OneReading limit archive
 
 list_text : listing_line a_archive a_view ++ [] ≡ codes "0 201 resource\n"
-unfolding digits
+unfolding digits record_line
 list_text = refl
 
 verify_text : verification_line a_archive a_view ++ [] ≡ codes "0 absent\n"
-unfolding digits value_of
+unfolding digits value_of verdict_line
 verify_text = refl
 
 line_text : index_text (a_entry ∷ []) ≡ a_line
