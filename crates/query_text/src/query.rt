@@ -95,7 +95,7 @@ impl Query {
     ghost use Rattle.query_text.specs.declared.query.TheConstants.{QUERY_LIMIT};
     ghost use Rattle.query_text.specs.ParameterViews.{parameter_values};
     ghost use Rattle.query_text.specs.Queries.{query_with, query_of};
-    ghost use Rattle.query_text.specs.Matching.{matches_pair, matches};
+    ghost use Rattle.query_text.specs.Matching.{matches_pair, passes_filters, matches};
 
     fn with_parameters(alloc: Global, parameters: Parameters) -> Result<Query, QueryFault>
         ensures { IsReading (query_with (parameter_values parameters)) result }
@@ -165,18 +165,24 @@ impl Query {
             && not_after(&self.to, &pair.stamp)
     }
 
+    fn passes_filters(&self, line: &LineRef<'_>) -> bool
+        ensures { result ≡ passes_filters self.now line.now.values }
+    {
+        self.filters.iter().all(|filter| filter.holds(line))
+    }
+
     /// Returns `true` if the query matches the line.
     pub fn matches(&self, line: &LineRef<'_>) -> bool
         ensures { result ≡ matches self.now line.now.values }
     {
-        self.matches_pair(line.pair()) && self.filters.iter().all(|filter| filter.holds(line))
+        self.matches_pair(line.pair()) && self.passes_filters(line)
     }
 
     /// Returns `true` if the query matches the line.
     pub fn matches_kept(&self, line: &Line) -> bool
         ensures { result ≡ matches self.now line.now.values }
     {
-        self.matches(&line.values())
+        self.matches_pair(line.pair()) && self.passes_filters(&line.values())
     }
 
     /// Returns the maximum number of captures on a page, if there is one.
