@@ -183,9 +183,9 @@ def free_memory() -> int:
 def build(crates: list[Crate], processors: int) -> None:
     """Proves the crates.
 
-    The build waits for the longest chain. So the crates that begin chains of about that length are urgent. The others take one processor each, and the
-    urgent ones share the processors that are left: a job more reads the crates below once more, so it costs processor time. The program has so few
-    functions that one job ends first.
+    The build waits for the longest chain. So the crates that begin chains of about that length are urgent, and the others yield to them. Each job reads
+    the crates below once more, so it costs processor time. So only a crate that no other can be proved beside has two jobs, and the program has one,
+    because it has few functions.
     """
     lengths = chain_lengths(crates)
     waiting = sorted(crates, key=lambda crate: -lengths[crate.name])
@@ -197,8 +197,6 @@ def build(crates: list[Crate], processors: int) -> None:
             ready = [crate for crate in waiting if crate.below <= proved]
             begun = [*ready, *(crate for crate, _ in running.values())]
             least = NEAR * max(lengths[crate.name] for crate in begun)
-            urgent = sum(lengths[crate.name] >= least for crate in begun)
-            left = processors - (len(begun) - urgent)
             others = sum(not is_urgent for _, is_urgent in running.values())
             for crate in ready:
                 is_urgent = lengths[crate.name] >= least
@@ -207,7 +205,7 @@ def build(crates: list[Crate], processors: int) -> None:
                 others += not is_urgent
                 waiting.remove(crate)
                 say(f"{crate.name} begins; its log is {crate.log.relative_to(ROOT)}")
-                jobs = max(1, left // urgent) if is_urgent and crate.name != PROGRAM else 1
+                jobs = min(2, processors) if len(begun) == 1 and crate.name != PROGRAM else 1
                 running[pool.submit(builder.prove, crate, jobs, is_urgent)] = crate, is_urgent
             for ended in wait(running, return_when=FIRST_COMPLETED).done:
                 crate, _ = running.pop(ended)
