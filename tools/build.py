@@ -184,8 +184,8 @@ def build(crates: list[Crate], processors: int) -> None:
     """Proves the crates.
 
     The build waits for the longest chain. So the crates that begin chains of about that length are urgent, and the others yield to them. Each job reads
-    the crates below once more, so it costs processor time. So only a crate that no other can be proved beside has two jobs, and the program has one,
-    because it has few functions.
+    the crates below once more, which costs processor time. A crate has two jobs only if no other can be proved beside it. The program has one, because
+    it has few functions.
     """
     lengths = chain_lengths(crates)
     waiting = sorted(crates, key=lambda crate: -lengths[crate.name])
