@@ -43,12 +43,12 @@ row id values = record {
 
 -- ---- the walk over plain words
 
-abbrev takes_names : Form → Bool
+abbrev pub takes_names : Form → Bool
 takes_names (OfOffset make) = false
 takes_names _ = true
 
 -- the place of the names, counted from 1
-abbrev names_at : Form → ℕ
+abbrev pub names_at : Form → ℕ
 names_at (OfNames make) = 1
 names_at (OfTyped make) = 1
 names_at (OfQuery make) = 2
