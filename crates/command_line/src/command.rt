@@ -37,14 +37,12 @@ pub fn command_line<'a>(alloc: Global) -> Result<Command<'a>, AllocError>
 fn program<'a>(alloc: Global) -> Result<Command<'a>, AllocError>
     ensures { IfOk result (λ command. app_of command ≡ without_commands) }
 {
-    let program = Command::new(alloc, "warcdx").bin_name("warcdx")?;
-    Ok(
-        program
-            .about(PROGRAM.about)
-            .after_help(PROGRAM.details)
-            .no_binary_name(true)
-            .disable_help_subcommand(true),
-    )
+    Command::new(alloc, "warcdx")
+        .about(PROGRAM.about)
+        .after_help(PROGRAM.details)
+        .no_binary_name(true)
+        .disable_help_subcommand(true)
+        .bin_name("warcdx")
 }
 
 /// Adds the subcommands that list, verify and index archives.
