@@ -3,7 +3,7 @@ use Rattle.std.proofs.Common.{arith, refl, ◌≡◌, ◌<◌, ◌^◌, ◌⊎�
 use Rattle.std.proofs.Common.{false, codes, length, ap, ◌∙◌, inl, inr, find, Err}
 use Rattle.std.specs.List.{list_any, list_all}
 use Rattle.std.specs.Option.{IfSome, ok_or}
-use Rattle.clap.specs.Words.{Row, subcommand_of, fault_of, IsAmong}
+use Rattle.clap.specs.Words.{App, Row, subcommand_of, fault_of, is_simple, is_simple_and_free, IsAmong}
 use Rattle.clap.specs.Kinds.{Kinds}
 use Rattle.clap.specs.Faults.{walk_fault, defaults_fault}
 use Rattle.clap.specs.declared.error.kind.ErrorKind.{ErrorKind}
@@ -13,7 +13,7 @@ use Rattle.command_line.specs.Commands.{Meaning, ToGet, to_index, to_scan, Form,
 use Rattle.command_line.specs.Commands.{Help, Usage, asked_of, help_or_usage, task_of, operands_task, command_of}
 use Rattle.command_line.specs.Commands.{commands, other_words, takes_option}
 use Rattle.command_line.specs.Clap.{warcdx, matches_task, refusal_for}
-use Rattle.command_line.proofs.PlainWords.{IsPlain, AllPlain, plain_word}
+use Rattle.command_line.proofs.PlainWords.{IsPlain, AllPlain, all_plain, plain_word}
 use Rattle.command_line.proofs.OtherWords.{choice, taken}
 use Rattle.command_line.proofs.OperandWalk.{fits, is_usage, are_usage}
 use Rattle.command_line.proofs.Operands.{choice_words, has_option, option_word, MayChoose, rows_of, values, reads, unfit_task, level_fits}
@@ -85,20 +85,25 @@ two_told word option rest p short = elim (choice word option rest) [
   | inr e ↦ let q = rw e at p in first_told word (option ∷ rest) q.0 q.1 short _ refl
 ]
 
-pub tells : (words : List Text) → AllPlain (other_words words) → length words < 2 ^ 64 → Tells words
+tells : (words : List Text) → AllPlain (other_words words) → length words < 2 ^ 64 → Tells words
 tells [] p short = no_words
 tells words p short = grind (arith, first_told, two_told)
 
 -- what is asked is the task of the words
-pub plain_asked : (words : List Text) → list_any is_unknown_option (other_words words) ≡ false
+plain_asked : (words : List Text) → list_any is_unknown_option (other_words words) ≡ false
     → list_any asks_for_help (other_words words) ≡ false
     → asked_of words ≡ ok_or (task_of words) Usage
 plain_asked words u h = grind arith
 
-pub matched : (task : Option Meaning) (kinds : Kinds) (met : Option (Text × List Row)) → Told task kinds met → kinds
+matched : (task : Option Meaning) (kinds : Kinds) (met : Option (Text × List Row)) → Told task kinds met → kinds
     ≡ []
     → ok_or task Usage ≡ ok_or (matches_task met) Usage
 matched task kinds met h e = grind arith
+
+told_by : (words : List Text) (app : App) (met : Option (Text × List Row)) → app ≡ warcdx
+    → list_any is_unknown_option (other_words words) ≡ false → list_any asks_for_help (other_words words) ≡ false
+    → length words < 2 ^ 64 → met ≡ subcommand_of app words → Told (task_of words) (fault_of app words) met
+told_by words app met e u h short m = rw (m, e) (tells words (all_plain (other_words words) u h) short)
 
 -- ---- the kinds of clap's errors
 
@@ -108,10 +113,33 @@ usage_kind : (kinds : Kinds) (k : ErrorKind) → list_all (λ kind. is_usage (re
 usage_kind [] k h m = absurd m
 usage_kind (x ∷ xs) k h m = grind (arith, usage_kind xs k)
 
-pub refused : (task : Option Meaning) (kinds : Kinds) (met : Option (Text × List Row)) (k : ErrorKind)
+refused : (task : Option Meaning) (kinds : Kinds) (met : Option (Text × List Row)) (k : ErrorKind)
     → Told task kinds met
     → (k ≡ kind.OutOfMemory) ⊎ IsAmong k kinds → IfSome (refusal_for k) (λ refusal. ok_or task Usage ≡ Err refusal)
 refused task kinds met k t h = grind (arith, usage_kind)
+
+-- ---- an app that is the program's
+
+pub simple : (app : App) → app ≡ warcdx → is_simple app ≡ true
+simple app e = rw e refl
+
+pub simple_and_free : (app : App) → app ≡ warcdx → is_simple_and_free app ≡ true
+simple_and_free app e = rw e refl
+
+pub meant : (words : List Text) (app : App) (met : Option (Text × List Row)) → app ≡ warcdx
+    → list_any is_unknown_option (other_words words) ≡ false → list_any asks_for_help (other_words words) ≡ false
+    → length words < 2 ^ 64 → met ≡ subcommand_of app words → fault_of app words ≡ []
+    → asked_of words ≡ ok_or (matches_task met) Usage
+meant words app met e u h short m none = plain_asked words u h
+    ∙ matched (task_of words) (fault_of app words) met (told_by words app met e u h short m) none
+
+pub denied : (words : List Text) (app : App) (k : ErrorKind) → app ≡ warcdx
+    → list_any is_unknown_option (other_words words) ≡ false → list_any asks_for_help (other_words words) ≡ false
+    → length words < 2 ^ 64 → (k ≡ kind.OutOfMemory) ⊎ IsAmong k (fault_of app words)
+    → IfSome (refusal_for k) (λ refusal. asked_of words ≡ Err refusal)
+denied words app k e u h short among = rw (plain_asked words u h)
+    (refused (task_of words) (fault_of app words) (subcommand_of app words) k
+    (told_by words app (subcommand_of app words) e u h short refl) among)
 
 -- ---- a first word beside one that asks for help
 
