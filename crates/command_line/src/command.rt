@@ -15,13 +15,19 @@ use std::alloc::{AllocError, Global};
 
 /// An argument of a command.
 #[derive(Clone, Copy)]
-enum Argument<'a> {
-    /// An option that takes a value, under this name of clap's, which is written after `--`.
-    Option(&'a str, Operand<'a>),
-    /// An operand that is given once, under this name of clap's.
-    Word(&'a str, Operand<'a>),
-    /// The last operand, which is given once or more.
-    Names(Operand<'a>),
+enum Argument {
+    Types,
+    Name,
+    Length,
+    Sizes,
+    Query,
+    Offset,
+    /// One archive.
+    Archive,
+    /// The last operand, one archive or more.
+    Archives,
+    /// The last operand, one index or more.
+    Indexes,
 }
 
 /// Returns the clap command of the program. The only error is refused memory.
@@ -50,12 +56,15 @@ fn with_archive_commands<'a>(program: Command<'a>, alloc: Global) -> Result<Comm
     ensures { IfOk result (λ more. app_of more
         ≡ with_commands (app_of program.entry) (take 3 commands)) }
 {
-    let types = Argument::Option("types", TYPES);
-    let name = Argument::Option("name", NAME);
-    let archives = Argument::Names(ARCHIVE);
-    let list = with_command(program, alloc, "list", LIST, &[archives])?;
-    let verify = with_command(list, alloc, "verify", VERIFY, &[archives])?;
-    with_command(verify, alloc, "index", INDEX, &[types, name, archives])
+    let list = with_command(program, alloc, "list", LIST, &[Argument::Archives])?;
+    let verify = with_command(list, alloc, "verify", VERIFY, &[Argument::Archives])?;
+    with_command(
+        verify,
+        alloc,
+        "index",
+        INDEX,
+        &[Argument::Types, Argument::Name, Argument::Archives],
+    )
 }
 
 /// Adds the subcommands over indexes.
@@ -63,14 +72,23 @@ fn with_index_commands<'a>(program: Command<'a>, alloc: Global) -> Result<Comman
     ensures { IfOk result (λ more. app_of more
         ≡ with_commands (app_of program.entry) (take 5 (drop 3 commands))) }
 {
-    let text = Argument::Word("query", QUERY_TEXT);
-    let sizes = Argument::Word("sizes", SIZES);
-    let indexes = Argument::Names(CDXJ);
-    let merge = with_command(program, alloc, "merge", MERGE, &[indexes])?;
-    let check = with_command(merge, alloc, "check", CHECK, &[indexes])?;
-    let query = with_command(check, alloc, "query", QUERY, &[text, indexes])?;
-    let pages = with_command(query, alloc, "pages", PAGES, &[sizes, text, indexes])?;
-    with_command(pages, alloc, "serve", SERVE, &[indexes])
+    let merge = with_command(program, alloc, "merge", MERGE, &[Argument::Indexes])?;
+    let check = with_command(merge, alloc, "check", CHECK, &[Argument::Indexes])?;
+    let query = with_command(
+        check,
+        alloc,
+        "query",
+        QUERY,
+        &[Argument::Query, Argument::Indexes],
+    )?;
+    let pages = with_command(
+        query,
+        alloc,
+        "pages",
+        PAGES,
+        &[Argument::Sizes, Argument::Query, Argument::Indexes],
+    )?;
+    with_command(pages, alloc, "serve", SERVE, &[Argument::Indexes])
 }
 
 /// Adds the subcommands that write one record of an archive, and answer a query over archives.
@@ -78,17 +96,26 @@ fn with_record_commands<'a>(program: Command<'a>, alloc: Global) -> Result<Comma
     ensures { IfOk result (λ more. app_of more
         ≡ with_commands (app_of program.entry) (drop 8 commands)) }
 {
-    let types = Argument::Option("types", TYPES);
-    let name = Argument::Option("name", NAME);
-    let text = Argument::Word("query", QUERY_TEXT);
-    let sizes = Argument::Word("sizes", SIZES);
-    let archives = Argument::Names(ARCHIVE);
-    let length = Argument::Option("length", LENGTH);
-    let offset = Argument::Word("offset", OFFSET);
-    let archive = Argument::Word("name", ARCHIVE);
-    let get = with_command(program, alloc, "get", GET, &[length, offset, archive])?;
-    let all = &[types, name, sizes, text, archives];
-    with_command(get, alloc, "scan", SCAN, all)
+    let get = with_command(
+        program,
+        alloc,
+        "get",
+        GET,
+        &[Argument::Length, Argument::Offset, Argument::Archive],
+    )?;
+    with_command(
+        get,
+        alloc,
+        "scan",
+        SCAN,
+        &[
+            Argument::Types,
+            Argument::Name,
+            Argument::Sizes,
+            Argument::Query,
+            Argument::Archives,
+        ],
+    )
 }
 
 /// Adds a subcommand that takes these arguments, in this order.
@@ -97,7 +124,7 @@ fn with_command<'a>(
     alloc: Global,
     name: &'a str,
     page: Page<'a>,
-    arguments: &[Argument<'a>],
+    arguments: &[Argument],
 ) -> Result<Command<'a>, AllocError>
     ensures { IfOk result (λ more. app_of more ≡ with_subcommand (app_of program.entry)
         (command_with name.entry.now (map rule_for arguments.now))) }
@@ -111,14 +138,20 @@ fn with_command<'a>(
     program.subcommand(command)
 }
 
-fn clap_argument<'a>(alloc: Global, argument: Argument<'a>) -> Arg<'a>
-    ensures rule { rule_of result ≡ rule_for argument.entry }
+fn clap_argument<'a>(alloc: Global, argument: Argument) -> Arg<'a>
+    ensures rule { rule_of result ≡ rule_for argument }
     ensures local { result.global ≡ false }
 {
     match argument {
-        Argument::Option(id, operand) => option(alloc, id, operand),
-        Argument::Word(id, operand) => word(alloc, id, operand),
-        Argument::Names(operand) => names(alloc, operand),
+        Argument::Types => option(alloc, "types", TYPES),
+        Argument::Name => option(alloc, "name", NAME),
+        Argument::Length => option(alloc, "length", LENGTH),
+        Argument::Sizes => word(alloc, "sizes", SIZES),
+        Argument::Query => word(alloc, "query", QUERY_TEXT),
+        Argument::Offset => word(alloc, "offset", OFFSET),
+        Argument::Archive => word(alloc, "name", ARCHIVE),
+        Argument::Archives => names(alloc, ARCHIVE),
+        Argument::Indexes => names(alloc, CDXJ),
     }
 }
 

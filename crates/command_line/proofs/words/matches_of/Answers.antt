@@ -32,6 +32,6 @@ pub returns-clause-refused : goal.returns-clause-refused
 returns-clause-refused c =
     let same : app_of c.in_ok-command_line.field-0 ≡ warcdx = c.in_ok-command_line.ensures in
     let parse = c.try_get_matches_from in
-    error parse.result _ _ _ (λ e h. denied (texts c.args.words.now) (app_of c.in_ok-command_line.field-0) (kind_of e) same
-    c.requires.known c.requires.plain (fewer c.args.words.now (search rules)) h)
+    error parse.result _ _ _ (λ e h. denied (texts c.args.words.now) (app_of c.in_ok-command_line.field-0) (kind_of e)
+    same c.requires.known c.requires.plain (fewer c.args.words.now (search rules)) h)
     (parse.ensures.kinds (simple_and_free _ same))
