@@ -18,7 +18,8 @@ use Rattle.query_core.specs.NothingAsked.{AppendedSelectsNothing, nothing}
 
 onto_more : (b : ℕ) (parts : List (List ℕ)) (tail : List ℕ) → 0 < length parts
     → onto_first b (parts ++ tail ∷ []) ≡ onto_first b parts ++ tail ∷ []
-onto_more b parts tail h = grind arith
+onto_more b [] tail h = absurd (omega arith)
+onto_more b (part ∷ parts) tail h = refl
 
 split_more : (tail : List ℕ) → slice_split (λ b. b == 38) tail ≡ tail ∷ [] → (text : List ℕ)
     → slice_split (λ b. b == 38) (text ++ 38 ∷ tail) ≡ slice_split (λ b. b == 38) text ++ tail ∷ []
@@ -29,12 +30,14 @@ pieces_more : (text : List ℕ) → pieces_of (text ++ nothing) ≡ pieces_of te
 pieces_more text = split_more (codes "hasnot=urlkey:") refl text
 
 then_itself : {T : Type 0} (m : Read T) → and_then m (λ x. Ok x) ≡ m
-then_itself T = grind arith
+then_itself (Ok x) = refl
+then_itself (Err e) = refl
 
 -- a reading and two steps after it
 then_then : {T U : Type 0} (m : Read T) (f g : T → Read U) (h : U → Read U) → ((x : T) → f x ≡ and_then (g x) h)
     → and_then m f ≡ and_then (and_then m g) h
-then_then T f g h same = grind arith
+then_then (Ok x) f g h same = same x
+then_then (Err e) f g h same = refl
 
 with_more : (v : ParameterValues) (pieces : List (List ℕ)) (piece : List ℕ) → with_pieces v (pieces ++ piece ∷ [])
     ≡ and_then (with_pieces v pieces) (λ w. with_piece w piece)
@@ -76,7 +79,9 @@ Follows one other = MatchResult one (λ q. (none : QueryValue) × (other ≡ Ok 
 
 of_target : (w : ParameterValues) (t : Read TargetValue) → Follows (and_then t (λ x. Ok (with_target w x)))
     (and_then t (λ x. Ok (with_target (with_filter w no_key) x)))
-of_target w t = grind (arith, none_selected)
+of_target w (Ok x) =
+    let none = with_target (with_filter w no_key) x in (none, refl, none_selected none w.filters refl)
+of_target w (Err e) = refl
 
 of_values : (m : Read ParameterValues) → Follows (and_then m query_with)
     (and_then (and_then m (λ w. with_piece w (codes "hasnot=urlkey:"))) query_with)
