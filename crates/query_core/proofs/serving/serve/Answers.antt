@@ -1,6 +1,7 @@
 use Rattle.query_core.proofs.Words.{◌∙◌, arith, err_from_is_err_and, refl}
 use Rattle.devices.proofs.Takings.{taken-join}
-use Rattle.query_core.proofs.ReplyLemmas.{input_stops, line_more, line_none, line_within, nothing_replied, nothing_spent, one_reply, one_reply_part}
+use Rattle.query_core.proofs.ReplyLemmas.{input_stops, line_more, line_none, line_within, nothing_replied}
+use Rattle.query_core.proofs.ReplyLemmas.{nothing_spent, one_reply, one_reply_part}
 use Rattle.query_core.proofs.ReplyLemmas.{replied_front, replied_none, replied_taken, serve_rules, spent_more}
 use Rattle.query_core.proofs.ReplyLemmas.{spent_none, spent_part, spent_stop, spent_within}
 use Rattle.query_core.proofs.serving.serve.Goals as goal
@@ -129,7 +130,8 @@ returns-in_err-lines-clause-lines g c =
     rw (err_from_is_err_and c.from_residual.result c.from_residual.ensures.1).1 (nothing_replied _ _ _ _)
 
 pub returns-in_err-lines-clause-bytes : goal.returns-in_err-lines-clause-bytes
-returns-in_err-lines-clause-bytes g c = λ texts indexes known are. nothing_spent g.S.Source _ texts indexes _ _ _ known are
+returns-in_err-lines-clause-bytes g c = λ texts indexes known are.
+    nothing_spent g.S.Source _ texts indexes _ _ _ known are
 
 pub returns-in_err-lines-clause-failures : goal.returns-in_err-lines-clause-failures
 returns-in_err-lines-clause-failures g c =
@@ -144,4 +146,5 @@ pub returns-then-sources-gt-SOURCES_LIMIT-clause-lines : goal.returns-then-sourc
 returns-then-sources-gt-SOURCES_LIMIT-clause-lines g c = nothing_replied _ _ _ _
 
 pub returns-then-sources-gt-SOURCES_LIMIT-clause-bytes : goal.returns-then-sources-gt-SOURCES_LIMIT-clause-bytes
-returns-then-sources-gt-SOURCES_LIMIT-clause-bytes g c = λ texts indexes known are. nothing_spent g.S.Source _ texts indexes _ _ _ known are
+returns-then-sources-gt-SOURCES_LIMIT-clause-bytes g c = λ texts indexes known are.
+    nothing_spent g.S.Source _ texts indexes _ _ _ known are
