@@ -33,6 +33,17 @@ pub enum FileKind {
     Other,
 }
 
+/// With what the files of a kind begin.
+const FRONTS: [(&[u8], FileKind); 7] = [
+    (b"\x1f\x8b", FileKind::Gzip),
+    (b"PK\x03\x04", FileKind::Zip),
+    (b"\x28\xb5\x2f\xfd", FileKind::Zstandard),
+    (b" CDX ", FileKind::Cdx),
+    (b"\xef\xbb\xbf", FileKind::ByteOrderMark),
+    (b"<", FileKind::Markup),
+    (b"filedesc:", FileKind::Arc),
+];
+
 /// Returns the kind of the file of this name. Only a file is opened, because a pipe would be waited for.
 pub fn file_kind<R: Runtime>(rt: &R, name: &str) -> FileKind {
     if !is_file(rt, name) {
@@ -53,18 +64,21 @@ fn opened_kind<F: Read>(file: &mut F) -> FileKind {
 }
 
 fn kind_of(front: &[u8]) -> FileKind {
-    match front {
-        [0x1f, 0x8b, ..] => FileKind::Gzip,
-        [b'P', b'K', 3, 4, ..] => FileKind::Zip,
-        [0x28, 0xb5, 0x2f, 0xfd, ..] => FileKind::Zstandard,
-        [b'W', b'A', b'R', b'C', b'/', _, _, _, b'\n', ..] => FileKind::WarcWithLineFeeds,
-        [b'W', b'A', b'R', b'C', b'/', ..] => FileKind::Warc,
-        [b' ', b'C', b'D', b'X', b' ', ..] => FileKind::Cdx,
-        [0xef, 0xbb, 0xbf, ..] => FileKind::ByteOrderMark,
-        [b'<', ..] => FileKind::Markup,
-        _ if front.starts_with(b"filedesc:") => FileKind::Arc,
-        _ if has_object(front) => FileKind::Index,
-        _ => FileKind::Other,
+    if front.starts_with(b"WARC/") {
+        return match front.get(8) {
+            Some(b'\n') => FileKind::WarcWithLineFeeds,
+            _ => FileKind::Warc,
+        };
+    }
+    for (begin, kind) in FRONTS {
+        if front.starts_with(begin) {
+            return kind;
+        }
+    }
+    if has_object(front) {
+        FileKind::Index
+    } else {
+        FileKind::Other
     }
 }
 
