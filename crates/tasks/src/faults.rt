@@ -114,10 +114,7 @@ pub fn say_answer_fault<R: Runtime>(rt: &R, name: &str, fault: AnswerFault) {
         AnswerFault::Read(_source) => {
             let _ = eprintln!(rt; "warcdx: {name}: {cause}");
         }
-        AnswerFault::BadLine(_source, offset) => {
-            let _ = eprintln!(rt; "warcdx: {name}: {cause} {offset}");
-        }
-        AnswerFault::OutOfOrder(_source, offset) => {
+        AnswerFault::BadLine(_source, offset) | AnswerFault::OutOfOrder(_source, offset) => {
             let _ = eprintln!(rt; "warcdx: {name}: {cause} {offset}");
         }
         _ => {}
