@@ -1,15 +1,14 @@
 -- The capture of a record, from how its block was read.
-use Rattle.std.proofs.Common.{◌≡◌, ℕ, ◌-◌, ◌≤◌, List, ◌++◌, Option, None, Some, Result, Ok, Err, IfErr}
+use Rattle.std.proofs.Common.{◌≡◌, ℕ, ◌-◌, ◌≤◌, List, ◌++◌, Option, None, Some, Result, Ok, Err}
 use Rattle.std.proofs.Common.{IfSome, length, take, refl, arith}
 use Rattle.std.proofs.lemmas.List.{length-take}
 use Rattle.sha1.specs.Sha1.{sha1}
-use Rattle.warc_core.specs.HeadView.{HeadView, record_length}
+use Rattle.warc_core.specs.HeadView.{HeadView}
 use Rattle.warc_core.specs.Answers.{CountsRead}
 use Rattle.warc_core.specs.Cause.{StopsRecord}
 use Rattle.warc_core.specs.Reading.{Reads}
 use Rattle.warc_core.proofs.ReadingLemmas.{GoesOn}
 use Rattle.warc_core.specs.ReaderView.{FailedBy, ReaderState, ahead}
-use Rattle.warc_core.specs.Calls.{Finishes}
 use Rattle.warc_core.specs.Record.{after_record}
 use Rattle.warc_core.specs.declared.fault.Cause.{Cause}
 use Rattle.warc_core.specs.declared.fault.Fault.{Fault}
@@ -19,18 +18,12 @@ use Rattle.capture_core.specs.declared.fault.CaptureFault.TheVariants.{Archive, 
 use Rattle.warc_core.specs.Base32.{base32_of}
 use Rattle.warc_core.specs.RestDigest.{digest_of_rest}
 use Rattle.capture_core.specs.Capture.{ResponseValue, IsCaptureUnder, entry_of, digest_of, known_digest}
-use Rattle.capture_core.specs.RecordReading.{reading_after, reading_of, IsCaptureFaultAt, ReadsRest}
+use Rattle.capture_core.specs.RecordReading.{reading_after, ReadsRest}
 use Rattle.capture_core.specs.CaptureAnswer.{Limits, IsCaptureOf, AnswersEntry, PartsBlock}
 use Rattle.warc_core.proofs.DigestLemmas.{take_past}
 use Rattle.warc_core.proofs.VerdictLemmas.{digest-then}
 
 -- ---- how the record was read
-
--- an open record was read to its end, and then this was answered of it
-pub rest-whole : {A : Type 0} (left n : ℕ) (h : HeadView) (old new : ReaderState) (r : Result A CaptureFault)
-    → old.reader.offset ≡ h.start → Finishes left (record_length h) old new (Ok n) → reading_of r ≡ Ok tt
-    → IfErr r (IsCaptureFaultAt h.start) → ReadsRest left h old new r
-rest-whole left n h old new r o f own at = grind arith
 
 -- a fault that ends the reading of a record is no refused growth
 after-stop : (c : Cause) → StopsRecord c → reading_after c ≡ Err c

@@ -8,7 +8,7 @@ use Rattle.warc_core.specs.Walk.{record_at}
 use Rattle.index_core.specs.FetchingAt.{BeginsRecord, BeginsOther}
 use Rattle.index_core.specs.FetchingLaws.{WroteRecord}
 use Rattle.index_core.specs.OneText.{HasFront, IsUnwritten, IsNotDamagedAt, FetchesOneText}
-use Rattle.index_core.specs.OneText.{FetchesFront, FetchesAtOneText, FetchesAtFront}
+use Rattle.index_core.specs.OneText.{FetchesFront, FetchesAtOneText}
 use Rattle.index_core.proofs.FormLemmas.{wrote}
 use Rattle.index_core.proofs.OffsetLemmas.{one_stands}
 use Rattle.index_core.proofs.OneTextLemmas.{grown, has_front, damage}
@@ -97,6 +97,3 @@ fetches_at_one_text limit offset len archive before this that text other i j (in
     (settled_at limit offset len bytes before that other j y.1) p q
 fetches_at_one_text limit offset len archive before this that text other i j (inl x) (inr y) p q = grind arith
 fetches_at_one_text limit offset len archive before this that text other i j (inr x) (inl y) p q = grind arith
-
-pub fetches_at_front : FetchesAtFront
-fetches_at_front limit offset len archive before n that text other i r s = grind (arith, failed_front, grown)

@@ -2,7 +2,7 @@
 use Rattle.index_core.proofs.Words.{◌≡◌, ℕ, ◌<◌, List, [], ◌∷◌, ◌++◌, Option, IfSome}
 use Rattle.index_core.proofs.Words.{option_to_list, append-nil, arith, HeadView, EntryValue}
 use Rattle.index_core.proofs.Words.{is_among}
-use Rattle.std.proofs.Common.{true, false}
+use Rattle.std.proofs.Common.{true}
 use Rattle.std.specs.FinMap.{slice_cmp-IsAntisymmetric, nat_cmp-IsAntisymmetric}
 use Rattle.std.specs.declared.cmp.Ordering.TheVariants.{Equal}
 use Rattle.std.proofs.lemmas.List.Folds.{list_any-append}
@@ -58,8 +58,3 @@ sound_under limit names new name xs e s = record {
   named = each_weaker (λ y k. rw e (among_more names (name ∷ []) y.filename k)) xs s.named;
   lines = s.lines;
 }
-
--- where a name isn't among the names, no capture is under it
-pub none_under : (limit : ℕ) (names : List (List ℕ)) (name : List ℕ) (xs : List EntryValue) → is_among names name
-    ≡ false → AreSound limit names xs → StandBefore name 0 xs
-none_under limit names name xs unused s = each_weaker (λ y k e. absurd (cc)) xs s.named

@@ -1,10 +1,9 @@
 -- A page in the pieces in which it is written.
 use Rattle.std.proofs.Common.{arith, ◌≡◌, ℕ, List, [], ◌∷◌, ◌++◌, Option, refl, sym, append_assoc}
-use Rattle.std.proofs.Common.{append-nil, subst}
+use Rattle.std.proofs.Common.{subst}
 use Rattle.std.specs.Prelude.{flat_map}
 use Rattle.std.proofs.lemmas.List.Concat.{flat_map-append}
 use Rattle.std.proofs.lemmas.List.Folds.{flat_map-map}
-use Rattle.std.specs.Io.KnownBytes.{Appends}
 use Rattle.devices.specs.Device.{AppendsPrefix}
 use Rattle.cdxj_core.specs.Members.{Member}
 use Rattle.page_core.specs.Form.{FormValue, Text}
@@ -31,11 +30,6 @@ begun_is_front form members later key = (
 )
 
 -- ---- what an output has after each call
-
--- after the start
-pub written-start : (old now : Option (List ℕ)) (form : FormValue) → Appends old now (page_start form)
-    → Appends old now (begun form [])
-written-start old now form = grind (arith, append-nil)
 
 -- ---- after a fault: a front of each page that begins with these captures
 

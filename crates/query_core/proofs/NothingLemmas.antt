@@ -1,8 +1,8 @@
 -- The query that selects nothing, and is refused as another.
 use Rattle.query_core.proofs.Words.{[], ℕ, ◌++◌, ◌<◌, ◌∷◌, ◌≡◌, ◌≤◌, Err, List, Member, Ok, QUERY_LIMIT, QueryValue}
-use Rattle.query_core.proofs.Words.{TargetValue, ap, arith, codes, le-ltb, length, length-append, list_all-append, refl}
-use Rattle.query_core.proofs.Words.{selected, true}
-use Rattle.std.proofs.Common.{◌==◌}
+use Rattle.query_core.proofs.Words.{TargetValue, ap, arith, codes, false, le-ltb, length, length-append}
+use Rattle.query_core.proofs.Words.{list_all-append, matches, refl, selected, true}
+use Rattle.std.proofs.{Common.◌==◌, Math.Bool.and-false}
 use Rattle.std.specs.Prelude.{MatchResult}
 use Rattle.std.specs.List.{onto_first, slice_split}
 use Rattle.std.proofs.{lemmas.List.Splits.length-slice_split, lemmas.Str.IsUtf8-from_ascii}
@@ -70,7 +70,10 @@ occurs_always (b ∷ value) = refl
 none_selected : (q : QueryValue) (filters : List FilterValue) → q.filters ≡ filters ++ no_key ∷ []
     → (lines : List Member) → selected q lines ≡ []
 none_selected q filters is [] = refl
-none_selected q filters is (m ∷ lines) = grind (arith, list_all-append, occurs_always, none_selected q filters is lines)
+none_selected q filters is (m ∷ lines) =
+    let never : matches q m.values ≡ false =
+    rw (is, list_all-append, occurs_always, and-false, and-false) refl in
+    rw never (none_selected q filters is lines)
 
 -- the second is read as a query that selects nothing if the first is read, and else is refused alike
 abbrev Follows : Read QueryValue → Read QueryValue → Type 0

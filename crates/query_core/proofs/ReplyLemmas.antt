@@ -19,7 +19,6 @@ use Rattle.query_core.specs.ReplyReach.{lines_most, query_most}
 use Rattle.query_core.specs.Conversations.{AreLeft, HoldsOfReplies, IsLineReply, IsMarkedReply, IsOneReply, Replied}
 use Rattle.query_core.specs.Conversations.{RepliedInPart, RepliedToAll, RepliedToFirst, RepliedToTaken, WritesSome}
 use Rattle.query_core.proofs.PagesLemmas.{whole_prefix}
-use Rattle.query_core.specs.{Answering.Answered, declared.report.Report.Report}
 use Rattle.query_core.specs.AnyReplies.{IsPageReply, IsQueryReply, fault_text}
 use Rattle.devices.specs.declared.input_lines.InputLineFault.TheVariants as input
 use Rattle.query_core.specs.declared.fault.AnswerFault.TheVariants as fault
@@ -50,13 +49,6 @@ pub fault_reply : {A E : Type 0} (told : List (Option (List ℕ))) (q : QueryVal
     → fault_text fault ≡ Some line → WritesText r mid new line → WritesSome r old new (IsPageReply told q)
 fault_reply told q lines r old mid new fault line are (rest, wrote) named is w =
     let m = marked r old mid new wrote.front line wrote.grown w in grind arith
-
--- the page
-pub page_reply : (told : List (Option (List ℕ))) (q : QueryValue) (old new : Option (List ℕ)) (report : Report)
-    → (lines : List Member) × AreLinesOf told lines × Answered q lines old new report
-    → (reply : List ℕ) × IsPageReply told q reply × Appends old new reply
-page_reply told q old new report (lines, are, a) =
-    (answer_text q (query_page q lines), record { lines = lines; are = are; page = inl refl }, a.text)
 
 -- there is one
 pub some_reply : (told : List (Option (List ℕ))) (r : Result QueryValue QueryFault) → (reply : List ℕ)

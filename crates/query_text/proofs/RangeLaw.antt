@@ -89,16 +89,9 @@ pub covered_not_below : (t : TargetValue) (key : List ℕ) → covers t key ≡ 
     ≡ false
 covered_not_below t key h = grind (arith, bytes_eq-Decides, not_above_itself, front_not_above)
 
-pub match_covered : (t : TargetValue) (key : List ℕ) → key_matches t key ≡ true → covers t key ≡ true
-match_covered t key h = (and_parts _ _ h).0
-
 pub match_not_below : (t : TargetValue) (key : List ℕ) → key_matches t key ≡ true → is_gt (slice_cmp nat_cmp t.text key)
     ≡ false
 match_not_below t key h = covered_not_below t key (and_parts _ _ h).0
-
--- a key that is asked for is not past the range
-pub match_not_past : (t : TargetValue) (key : List ℕ) → key_matches t key ≡ true → is_past t key ≡ false
-match_not_past t key h = grind arith
 
 -- what is not below a key past the range is past it too
 pub past_upward : (t : TargetValue) (key later : List ℕ) → is_past t key ≡ true → is_gt (slice_cmp nat_cmp key later)

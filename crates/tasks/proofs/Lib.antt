@@ -1,4 +1,3 @@
-pub mod AddedArchive
 pub mod EachLemmas
 pub mod LastSlash
 pub mod NamedLemmas

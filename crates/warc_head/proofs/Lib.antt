@@ -4,7 +4,6 @@ pub mod NameLemmas
 pub mod FieldLemmas
 pub mod SpanLemmas
 pub mod NumberLemmas
-pub mod DayLemmas
 pub mod DateLemmas
 pub mod SpellingLemmas
 pub mod FoldingLemmas

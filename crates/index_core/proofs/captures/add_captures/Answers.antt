@@ -1,4 +1,4 @@
-use Rattle.index_core.proofs.Words.{◌∙◌, ◌++◌, [], append-nil, length-append}
+use Rattle.index_core.proofs.Words.{◌∙◌, ◌++◌, append-nil, length-append}
 use Rattle.index_core.proofs.Words.{option_to_list, append_assoc, arith, HEAD_LIMIT}
 use Rattle.cdxj_places.proofs.RisingLaws.{each_join}
 use Rattle.cdxj_core.specs.declared.limit.TheConstants.{LINE_LIMIT}
@@ -21,12 +21,6 @@ returns-in-Ok-None-clause-gains g c =
       ),
     )
 
-pub overflow_sub-result : goal.overflow_sub-result
-overflow_sub-result g c = grind (arith, length-append)
-
-pub returns-in_err-reader-clause-gains : goal.returns-in_err-reader-clause-gains
-returns-in_err-reader-clause-gains g c = ([], grind (arith, append-nil), grind arith)
-
 pub returns-in-Err-clause-gains : goal.returns-in-Err-clause-gains
 returns-in-Err-clause-gains g c =
     let i = c.loop-captures.invariant.gains in (
@@ -36,19 +30,6 @@ returns-in-Err-clause-gains g c =
         i.3,
         AddedSoFar-refused (includes c.args.types) usual_limits HEAD_LIMIT c.args.name.now _ _ _ i.0 _ i.2
             c.in-Err.ensures.takes,
-      ),
-    )
-
-pub returns-in-Err-keep-clause-gains : goal.returns-in-Err-keep-clause-gains
-returns-in-Err-keep-clause-gains g c =
-    let e = rw c.in-Ok-Some.field-0-is at c.in-Ok-Some.ensures in
-    let i = c.loop-captures.invariant.gains in (
-      i.0,
-      grind arith,
-      (
-        i.3,
-        AddedSoFar-refused (includes c.args.types) usual_limits HEAD_LIMIT c.args.name.now _ _ _ i.0 _ i.2
-            (c.start.ensures ∙ e.takes.begins.start_is, grind arith),
       ),
     )
 

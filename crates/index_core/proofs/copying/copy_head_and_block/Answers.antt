@@ -1,4 +1,5 @@
-use Rattle.index_core.proofs.Words.{arith, err_from_is_err_and}
+use Rattle.index_core.proofs.Words.{[], append-nil, refl, arith, err_from_is_err_and}
+use Rattle.warc_core.proofs.FillLemmas.{Consumes-none}
 use Rattle.index_core.proofs.CopyLemmas.{copied_more, head_cut, piece_cut, piece_stop}
 use Rattle.index_core.proofs.copying.copy_head_and_block.Goals as goal
 
@@ -25,4 +26,17 @@ loop-count-preserved g c = record {
       c.in_ok-count.ensures.open c.in_ok-put_bytes-2.ensures.bytes;
   reads = grind arith;
   writes = grind arith;
+}
+
+pub loop-count-init : goal.loop-count-init
+loop-count-init g c = record {
+  copied = rw c.requires.phase_is (record {
+    front = [];
+    whole = omega arith;
+    given = Consumes-none _;
+    stands = grind arith;
+    grown = rw append-nil (rw c.raw.ensures.value at c.in_ok-put_bytes.ensures.bytes);
+  });
+  reads = refl;
+  writes = c.in_ok-put_bytes.ensures.failures;
 }

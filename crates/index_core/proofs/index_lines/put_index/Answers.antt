@@ -1,6 +1,5 @@
 use Rattle.index_core.proofs.Words.{arith, Option, slice_get, subst, ap, ◌∙◌, filter_map}
 use Rattle.index_core.proofs.Words.{EntryValue, entries_text}
-use Rattle.std.proofs.lemmas.List.{length-map}
 use Rattle.devices.proofs.WritingLemmas.{wrote_nothing}
 use Rattle.devices.specs.Writing.{WritesText}
 use Rattle.cdxj_places.specs.declared.order.Row.{Row}
@@ -18,6 +17,3 @@ returns-in-Ok-clause-lines g c =
     (g.O.Output.written c.put_lines.new.out) (entries_text es))
     (ap (filter_map found) c.deref.ensures.value
     ∙ found_all found c.in-Ok.rows.items (in_places c.args.captures.now) c.in-Ok.ensures) c.put_lines.ensures.lines
-
-pub returns-in-Ok-clause-number : goal.returns-in-Ok-clause-number
-returns-in-Ok-clause-number g c = grind (arith, length-map)

@@ -1,4 +1,4 @@
-use Rattle.index_core.proofs.OneRecordLemmas.{fetches_one_text, fetches_front, fetches_at_one_text, fetches_at_front}
+use Rattle.index_core.proofs.OneRecordLemmas.{fetches_one_text, fetches_front, fetches_at_one_text}
 use Rattle.index_core.proofs.laws.get_writes_one_text.Goals as goal
 
 pub returns-clause-offset : goal.returns-clause-offset
@@ -9,6 +9,3 @@ returns-clause-offset_front c = fetches_front
 
 pub returns-clause-length : goal.returns-clause-length
 returns-clause-length c = fetches_at_one_text
-
-pub returns-clause-length_front : goal.returns-clause-length_front
-returns-clause-length_front c = fetches_at_front

@@ -22,8 +22,7 @@ reached : (g : _) (c : After-pass_group g) → Reached (g.R.Range.past c.args.ra
     c.args.sources.now c.args.merge.now c.gather.new.sources c.gather.new.self (Some (member_pair c.in-Some.first.value)) (taken g c)
 reached g c =
     let ok = c.in_ok-first.ensures in
-    reached_next c.loop-rest.invariant.came.reached (grouped g c) ok.ready c.gather.ensures.moved
-    (grind arith)
+    reached_next c.loop-rest.invariant.came.reached (grouped g c) ok.ready c.gather.ensures.moved (grind arith)
 
 -- the waiting lines and the group are one line of each source, and as many as share a pair
 most_lines : (g : _) (c : After-pass_group g) (now : ℕ)

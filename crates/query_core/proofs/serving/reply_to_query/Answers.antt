@@ -1,6 +1,6 @@
 use Rattle.query_core.proofs.Words.{ap, arith}
 use Rattle.query_core.proofs.PageIndexes.{no_line_at_fault}
-use Rattle.query_core.proofs.ReplyLemmas.{fault_reply, gave_page, page_reply}
+use Rattle.query_core.proofs.ReplyLemmas.{fault_reply, gave_page}
 use Rattle.query_core.specs.AnyReplies.{fault_text}
 use Rattle.query_core.proofs.serving.reply_to_query.Goals as goal
 
@@ -12,19 +12,6 @@ returns-in-Err-OutOfOrder-clause-text g c = grind (arith, no_line_at_fault)
 
 pub returns-in-Err-clause-lines : goal.returns-in-Err-clause-lines
 returns-in-Err-clause-lines g c = grind arith
-
-pub returns-in-Ok-clause-sources : goal.returns-in-Ok-clause-sources
-returns-in-Ok-clause-sources g c = (c.answer.ensures.kept, c.in-Ok.ensures.failures)
-
-pub returns-in-Ok-clause-text : goal.returns-in-Ok-clause-text
-returns-in-Ok-clause-text g c = λ texts indexes known are. (c.in-Ok.ensures.page.over texts indexes known are).text
-
-pub returns-in-Ok-clause-lines : goal.returns-in-Ok-clause-lines
-returns-in-Ok-clause-lines g c = page_reply _ _ _ _ _ c.in-Ok.ensures.page.any
-
-pub returns-in-Ok-clause-bytes : goal.returns-in-Ok-clause-bytes
-returns-in-Ok-clause-bytes g c = λ texts indexes known are.
-    gave_page g.S.Source c.args.query.now _ texts indexes _ _ (c.answer.ensures.reads.bytes texts indexes known are).page
 
 pub returns-in-Err-BadLine-clause-lines : goal.returns-in-Err-BadLine-clause-lines
 returns-in-Err-BadLine-clause-lines g c =

@@ -1,7 +1,6 @@
 use Rattle.query_core.proofs.Words.{◌∙◌, arith, err_from_is_err_and, refl}
 use Rattle.devices.proofs.Takings.{taken-join}
-use Rattle.query_core.proofs.ReplyLemmas.{input_stops, line_more, line_none, line_within, nothing_replied}
-use Rattle.query_core.proofs.ReplyLemmas.{nothing_spent, one_reply, one_reply_part}
+use Rattle.query_core.proofs.ReplyLemmas.{input_stops, line_more, line_none, line_within, one_reply, one_reply_part}
 use Rattle.query_core.proofs.ReplyLemmas.{replied_front, replied_none, replied_taken, serve_rules, spent_more}
 use Rattle.query_core.proofs.ReplyLemmas.{spent_none, spent_part, spent_stop, spent_within}
 use Rattle.query_core.proofs.serving.serve.Goals as goal
@@ -76,8 +75,7 @@ loop-lines-init g c =
 
 pub loop-lines-preserved : goal.loop-lines-preserved
 loop-lines-preserved g c =
-    let inv = c.loop-lines.invariant in
-    let read = c.in_ok-next.ensures in
+    let inv = c.loop-lines.invariant in let read = c.in_ok-next.ensures in
     let marked = c.in_ok-reply_and_mark.ensures in
     let there = rw (inv.most, c.if-branch.true) at c.in_ok-next.ensures.line in
     record {
@@ -97,8 +95,7 @@ loop-lines-preserved g c =
 
 pub returns-clause-replies : goal.returns-clause-replies
 returns-clause-replies g c = λ texts indexes known are.
-    let inv = c.loop-lines.invariant in
-    let read = c.in_ok-next.ensures in
+    let inv = c.loop-lines.invariant in let read = c.in_ok-next.ensures in
     one_reply _ _ _ _ _ _ (line_none (inv.told texts indexes known are).so_far _ _ _ _ _ (rw inv.most at read.line)
     c.if-branch.false inv.taken read.count read.within)
 
@@ -112,39 +109,8 @@ returns-clause-part g c = λ texts indexes known are. spent_part (c.loop-lines.i
 
 pub returns-clause-lines : goal.returns-clause-lines
 returns-clause-lines g c =
-    let inv = c.loop-lines.invariant in
-    let read = c.in_ok-next.ensures in
+    let inv = c.loop-lines.invariant in let read = c.in_ok-next.ensures in
     line_none inv.any _ _ _ _ _ (rw inv.most at read.line) c.if-branch.false inv.taken read.count read.within
 
 pub returns-clause-bytes : goal.returns-clause-bytes
 returns-clause-bytes g c = λ texts indexes known are. spent_stop (c.loop-lines.invariant.told texts indexes known are)
-
--- ---- nothing was read
-
-pub returns-in_err-lines-clause-part : goal.returns-in_err-lines-clause-part
-returns-in_err-lines-clause-part g c = λ texts indexes known are.
-    one_reply_part _ _ _ _ _ (nothing_replied _ _ _ _)
-
-pub returns-in_err-lines-clause-lines : goal.returns-in_err-lines-clause-lines
-returns-in_err-lines-clause-lines g c =
-    rw (err_from_is_err_and c.from_residual.result c.from_residual.ensures.1).1 (nothing_replied _ _ _ _)
-
-pub returns-in_err-lines-clause-bytes : goal.returns-in_err-lines-clause-bytes
-returns-in_err-lines-clause-bytes g c = λ texts indexes known are.
-    nothing_spent g.S.Source _ texts indexes _ _ _ known are
-
-pub returns-in_err-lines-clause-failures : goal.returns-in_err-lines-clause-failures
-returns-in_err-lines-clause-failures g c =
-    let failed = err_from_is_err_and c.from_residual.result c.from_residual.ensures.1 in
-    rw (failed.1, failed.2) ((refl, refl), refl)
-
-pub returns-then-sources-gt-SOURCES_LIMIT-clause-part : goal.returns-then-sources-gt-SOURCES_LIMIT-clause-part
-returns-then-sources-gt-SOURCES_LIMIT-clause-part g c = λ texts indexes known are.
-    one_reply_part _ _ _ _ _ (nothing_replied _ _ _ _)
-
-pub returns-then-sources-gt-SOURCES_LIMIT-clause-lines : goal.returns-then-sources-gt-SOURCES_LIMIT-clause-lines
-returns-then-sources-gt-SOURCES_LIMIT-clause-lines g c = nothing_replied _ _ _ _
-
-pub returns-then-sources-gt-SOURCES_LIMIT-clause-bytes : goal.returns-then-sources-gt-SOURCES_LIMIT-clause-bytes
-returns-then-sources-gt-SOURCES_LIMIT-clause-bytes g c = λ texts indexes known are.
-    nothing_spent g.S.Source _ texts indexes _ _ _ known are

@@ -1,4 +1,4 @@
-use Rattle.std.proofs.Common.{arith, ◌≡◌, ◌≢◌, ◌++◌, ◌∙◌, ap, false, nat_eq, bytes_eq, codes, refl, sym}
+use Rattle.std.proofs.Common.{arith, ◌≡◌, ◌≢◌, ◌++◌, false, nat_eq, bytes_eq, codes, refl}
 use Rattle.std.specs.List.{starts_with}
 use Rattle.std.proofs.lemmas.Bool.{false_from_ne_true}
 use Rattle.std.proofs.lemmas.Slice.Eq.{bytes_eq-Decides}
@@ -16,11 +16,6 @@ behind text digits e = rw e refl
 lacks : (text : Text) → ((rest : Text) → text ≢ codes "timestamp:" ++ rest)
     → starts_with nat_eq text (codes "timestamp:") ≡ false
 lacks text none = false_from_ne_true _ (λ e. let front = begun (codes "timestamp:") text e in none front.0 front.1)
-
-pub returns-in-Some : goal.returns-in-Some
-returns-in-Some c =
-    let cut = c.in-Some.ensures.cases in
-    rw (behind _ _ (cut.1.1 ∙ ap (λ digits. codes "timestamp:" ++ digits) (sym cut.2))) c.read_width.ensures
 
 pub returns-in-None : goal.returns-in-None
 returns-in-None c =

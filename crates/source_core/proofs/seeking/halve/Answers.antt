@@ -11,15 +11,13 @@ returns-in_err-found g c = grind arith
 
 pub returns-in-Some-clause-halved : goal.returns-in-Some-clause-halved
 returns-in-Some-clause-halved g c =
-    let ok = c.in_ok-found.ensures in let is = c.in-Some.is in
-    let among = rw is at ok.among in
+    let ok = c.in_ok-found.ensures in let is = c.in-Some.is in let among = rw is at ok.among in
     rw (ok.source.0.0.0, ok.source.0.0.1) (halves_down _ _ _ _ _ c.requires.halved c.requires.some _ refl _ refl _
     (omega (arith, among.1)) (λ t e. ((rw is at (ok.line t e)).0, sym (rw is at (ok.stops t e)) ∙ c.if-probed.true)))
 
 pub returns-in-Some-2-clause-halved : goal.returns-in-Some-2-clause-halved
 returns-in-Some-2-clause-halved g c =
-    let ok = c.in_ok-found.ensures in let is = c.in-Some-2.is in
-    let among = rw is at ok.among in
+    let ok = c.in_ok-found.ensures in let is = c.in-Some-2.is in let among = rw is at ok.among in
     let guarded : c.in-Some.probed.stops ≡ c.in-Some-2.probed.stops = cc in
     rw (ok.source.0.0.0, ok.source.0.0.1) (halves_up _ _ _ _ _ c.requires.halved c.requires.some _ refl _ refl _
     among.0 (omega (arith, among.1, c.min.ensures))

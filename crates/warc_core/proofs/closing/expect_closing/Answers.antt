@@ -1,17 +1,10 @@
 use Rattle.warc_core.proofs.Words.{arith}
-use Rattle.std.proofs.lemmas.Result.{err_from_is_err_and}
 use Rattle.warc_core.proofs.RecordLemmas.{after_text-other, after_text-end, after_text-here, after_text-done}
 use Rattle.warc_core.proofs.RecordLemmas.{closing-held, here}
 use Rattle.warc_core.proofs.closing.expect_closing.Goals as goal
 
-pub returns-in_err-fill : goal.returns-in_err-fill
-returns-in_err-fill g c = grind (arith, err_from_is_err_and)
-
 pub returns-then-begins_with_closing : goal.returns-then-begins_with_closing
 returns-then-begins_with_closing g c = grind (arith, closing-held)
-
-pub returns-in_err-byte : goal.returns-in_err-byte
-returns-in_err-byte g c = grind (arith, err_from_is_err_and)
 
 pub returns-in_default : goal.returns-in_default
 returns-in_default g c = grind (arith, here, after_text-other)

@@ -5,9 +5,6 @@ use Rattle.warc_core.proofs.PartsLemmas.{purely-found, read-ok}
 use Rattle.warc_core.proofs.SpelledLemmas.{taken-head}
 use Rattle.warc_core.proofs.next.next_parts.Goals as goal
 
-pub returns-in_err-parts : goal.returns-in_err-parts
-returns-in_err-parts g c = grind (arith, err_from_is_err_and)
-
 pub returns-in_err-raw-in-None : goal.returns-in_err-raw-in-None
 returns-in_err-raw-in-None g c = grind (arith, err_from_is_err_and, text-unread)
 

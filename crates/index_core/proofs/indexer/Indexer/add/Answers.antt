@@ -1,5 +1,5 @@
 use Rattle.index_core.proofs.Words.{arith, err_from_is_err_and}
-use Rattle.index_core.proofs.SoundLemmas.{among_last, none_under, sound_under}
+use Rattle.index_core.proofs.SoundLemmas.{among_last, sound_under}
 use Rattle.index_core.proofs.indexer.Indexer.add.Goals as goal
 
 pub invariant_of-self-in_err-add_captures : goal.invariant_of-self-in_err-add_captures
@@ -17,6 +17,3 @@ returns-in_err-add_captures-clause-adds g c =
 
 pub returns-clause-adds : goal.returns-clause-adds
 returns-clause-adds g c = rw (← c.self.view_is) (grind arith)
-
-pub add_captures-requires-clause-unused : goal.add_captures-requires-clause-unused
-add_captures-requires-clause-unused g c = none_under _ c.self.inside.names _ _ (grind arith) c.self.invariant

@@ -2,21 +2,6 @@ use Rattle.merge_core.proofs.Words.{◌∷◌, ◌≡◌, arith, drop, lines}
 use Rattle.merge_core.proofs.InputLemmas.{first_long}
 use Rattle.merge_core.proofs.line_buffers.LineBuffers.next_line.Goals as goal
 
-pub returns-in-Ok : goal.returns-in-Ok
-returns-in-Ok g c = grind arith
-
-pub returns-in-Ok-line_of : goal.returns-in-Ok-line_of
-returns-in-Ok-line_of g c = grind arith
-
-pub returns-in-Ok-false : goal.returns-in-Ok-false
-returns-in-Ok-false g c = grind arith
-
-pub returns-in-Err-Memory : goal.returns-in-Err-Memory
-returns-in-Err-Memory g c = grind arith
-
-pub returns-in-Err-Read : goal.returns-in-Err-Read
-returns-in-Err-Read g c = grind arith
-
 pub returns-in-Err-clause-fault : goal.returns-in-Err-clause-fault
 returns-in-Err-clause-fault g c = λ t e.
     let line : lines (drop c.args.cursor.now.at t) ≡ c.in-Some.bytes.now ∷ lines (drop c.pass_line.new.self.at t) =

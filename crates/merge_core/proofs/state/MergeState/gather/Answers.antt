@@ -38,8 +38,7 @@ taken g c h =
 
 pub sources-init : goal.sources-init
 sources-init g c =
-    let old = c.args.self.now in
-    let now : MergeState = record c.args.self.now { queue = c.pop.new.self } in
+    let old = c.args.self.now in let now : MergeState = record c.args.self.now { queue = c.pop.new.self } in
     let left = c.pop.new.self in
     let from : Member → WaitingLine = λ m. record { member = m; source = c.next.inside.source } in
     let w = from c.with_start-keyed.result in
@@ -59,15 +58,13 @@ pop_at-requires g c = grind (arith, drained, each_weaker)
 
 pub sources-smaller : goal.sources-smaller
 sources-smaller g c =
-    let here = goal.at.sources-smaller g c in
-    let t = taken g here.After-push (drained g here.In_ok-read_on) in
+    let here = goal.at.sources-smaller g c in let t = taken g here.After-push (drained g here.In_ok-read_on) in
     let read = c.in_ok-read_on.ensures.read in
     omega (arith, read.fewer)
 
 pub sources-preserved : goal.sources-preserved
 sources-preserved g c =
-    let here = goal.at.sources-preserved g c in
-    let t = taken g here.After-push (drained g here.In_ok-read_on) in
+    let here = goal.at.sources-preserved g c in let t = taken g here.After-push (drained g here.In_ok-read_on) in
     grind (arith, map-append)
 
 pub returns-in_default-pop_at : goal.returns-in_default-pop_at
@@ -92,11 +89,6 @@ pub returns-in_err-read_on-clause-gathered : goal.returns-in_err-read_on-clause-
 returns-in_err-read_on-clause-gathered g c =
     on_fault _ _ _ _ c.from_residual.ensures.1
     (halted g (goal.at.returns-in_err-read_on-clause-gathered g c).After-read_on _ refl)
-
-pub returns-in_err-push-clause-moved : goal.returns-in_err-push-clause-moved
-returns-in_err-push-clause-moved g c =
-    let here = goal.at.returns-in_err-push-clause-moved g c in
-    (taken g here.After-push (drained g here.In_ok-read_on)).gathers.moved
 
 pub returns-in_err-push-clause-gathered : goal.returns-in_err-push-clause-gathered
 returns-in_err-push-clause-gathered g c =

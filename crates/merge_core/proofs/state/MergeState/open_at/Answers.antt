@@ -14,8 +14,7 @@ pub loop-i-preserved : goal.loop-i-preserved
 loop-i-preserved g c =
     let inv = c.loop-i.invariant in let ok = c.in-Ok.ensures in let added = ok.added in
     let olds = c.args.sources.now in let ss = c.loop-i.sources in let m = c.loop-i.merge in
-    let fs = inputs m in
-    let i = c.loop-i.i in let a = c.index-sources-i.result in let s = c.add_from.new.source in
+    let fs = inputs m in let i = c.loop-i.i in let a = c.index-sources-i.result in let s = c.add_from.new.source in
     let f = input_of added.cursor added.first in
     let inside : i < length ss = omega arith in
     let now = added_inputs inv.ready added in let ready = ready_added inv.ready added in

@@ -17,13 +17,6 @@ returns-then-self-clause-wrote g c = λ first taken start s.
       stands = λ sized. rw more.1 (stands_over (s.stands sized) (wrote_holds s sized) c.if-self.true more.0);
     }
 
--- ---- the line is no capture
-
-pub returns-then-not-branch-clause-wrote : goal.returns-then-not-branch-clause-wrote
-returns-then-not-branch-clause-wrote g c = λ first taken start s.
-    let took = c.in_ok-takes.ensures.took taken (s.selects c.if-self.false) in
-    let next = took_next s took in grind arith
-
 -- ---- a capture follows the page, which is the only one
 
 pub returns-then-is_full-clause-wrote : goal.returns-then-is_full-clause-wrote

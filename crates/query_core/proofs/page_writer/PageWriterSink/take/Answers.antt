@@ -1,4 +1,4 @@
-use Rattle.query_core.proofs.Words.{◌≡◌, arith, err_from_is_err_and, grows_on, take, take_all}
+use Rattle.query_core.proofs.Words.{arith, err_from_is_err_and, grows_on}
 use Rattle.query_core.proofs.{PagesLemmas.broke_more, WriterLemmas.one_more, WriterLemmas.parted}
 use Rattle.query_core.proofs.page_writer.PageWriterSink.take.Goals as goal
 
@@ -10,11 +10,6 @@ loop-line-preserved g c = record {
   grows = grows_on _ _ _ c.loop-line.invariant.grows c.take_line.ensures.grows;
   failures = grind arith;
 }
-
-pub returns-clause-wrote : goal.returns-clause-wrote
-returns-clause-wrote g c = λ first taken start s.
-    let all : take c.loop-line.line-index c.args.lines.now ≡ c.args.lines.now = grind (arith, take_all) in
-    rw all at (c.loop-line.invariant.wrote first taken start s)
 
 pub returns-in_err-take_line-clause-wrote : goal.returns-in_err-take_line-clause-wrote
 returns-in_err-take_line-clause-wrote g c = λ first taken start s.

@@ -1,6 +1,5 @@
 use Rattle.std.proofs.Common.{arith, ◌≡◌, ◌<◌, ◌∙◌, ℕ, Bool, true, false, List, [], ◌∷◌, Some, ap, length, refl, sym}
 use Rattle.std.specs.List.{after_first, before_first, list_any, position_or_len}
-use Rattle.std.proofs.lemmas.Result.{err_from_is_err_and}
 use Rattle.cdxj_core.specs.Fields.{field_named}
 use Rattle.query_text.specs.declared.filter.Test.{Test}
 use Rattle.query_text.specs.Filters.{filter_of, filter_on, is_colon}
@@ -33,11 +32,6 @@ cut_there c =
 pub returns-in_default-field_named : goal.returns-in_default-field_named
 returns-in_default-field_named c = λ other. cut_there (goal.at.returns-in_default-field_named c).In-Some
     ∙ ap (filter_on c.args.test c.in-Some.text.now) (sym c.field_named.ensures ∙ c.in_default-field_named.is)
-
-pub returns-in_err-text : goal.returns-in_err-text
-returns-in_err-text c =
-    let p = err_from_is_err_and c.from_residual.result c.from_residual.ensures.1 in
-    rw (p.1, p.2) (λ other. absurd (other refl))
 
 pub returns : goal.returns
 returns c = cut_there (goal.at.returns c).In-Some

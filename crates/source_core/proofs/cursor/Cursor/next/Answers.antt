@@ -66,8 +66,7 @@ returns-then-length-len g c =
 
 pub returns-then-ends-clause-given : goal.returns-then-ends-clause-given
 returns-then-ends-clause-given g c = λ t e.
-    let here = goal.at.returns-then-ends-clause-given g c in
-    let long = longer g here.In_ok-extend_from_slice in
+    let here = goal.at.returns-then-ends-clause-given g c in let long = longer g here.In_ok-extend_from_slice in
     let reads = rw (← grown g here.In_ok-extend_from_slice, c.if-ends.true) at
     (reads g here.After-line_part-length t e) in
     grind arith
@@ -84,8 +83,7 @@ returns-then-ends-clause-most g c = grind (arith, common_steps, returns-then-end
 
 pub returns-then-ends-clause-gave : goal.returns-then-ends-clause-gave
 returns-then-ends-clause-gave g c =
-    let here = (goal.at.returns-then-ends-clause-gave g c).After-line_part-length in
-    let rest = left g here in
+    let here = (goal.at.returns-then-ends-clause-gave g c).After-line_part-length in let rest = left g here in
     omega arith
 
 pub loop-self-preserved : goal.loop-self-preserved

@@ -30,6 +30,3 @@ returns-then-size-eq14 c = λ fields all.
     let record_id = c.count-then-size-eq14.ensures (field_values (codes "WARC-Record-ID") fields) all.record_id in
     let length = c.count-then-size-eq14-2.ensures (field_values (codes "Content-Length") fields) all.length in
     grind (arith, kept, counted, codes)
-
-pub returns-else-size-eq14 : goal.returns-else-size-eq14
-returns-else-size-eq14 c = grind (arith, kept)
