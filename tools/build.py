@@ -7,20 +7,26 @@ rt works on one crate of a checkout at a time. So each crate is proved in a fold
 there is then moved into the crate's folder. The crates that the build would wait for come first. A crate that is proved already isn't proved again.
 
 Prints a line on standard error when a crate begins and when it ends. The file crates/NAME/out/build.log contains what rt printed for a crate. If a crate
-isn't proved, the script ends the others and prints the last lines of that file. The exit status is 0, 1 if a crate isn't proved, or 2 after a usage error.
+isn't proved, the script ends the others and prints the last lines of that file. INT, TERM and HUP end the script as they do by default, after it has
+ended the runs of rt and removed their folders. What was proved before stays. The exit status is 0, 1 if a crate isn't proved, 2 after a usage error, or 3
+if rt can't be run, a file can't be used, or memory can't be allocated.
 
 Needs rt on the PATH, and 4 GB of memory for each processor that it uses.
 """
 import argparse
+import contextlib
 import os
 import re
 import shutil
+import signal
 import subprocess
 import sys
 import time
+from collections.abc import Iterator
 from concurrent.futures import FIRST_COMPLETED, Future, ThreadPoolExecutor, wait
 from pathlib import Path
-from typing import NamedTuple
+from types import FrameType
+from typing import NamedTuple, Optional
 
 ROOT = Path(__file__).resolve().parents[1]
 CRATES = ROOT / "crates"
@@ -29,6 +35,7 @@ ROOMS = CRATES / PROGRAM / "out/rooms"
 SOURCES = ("src", "specs", "proofs")
 MEMORY = 4 << 30  # bytes, for each processor
 LAST_LINES = 30
+NO_THREAD = "can't start new thread"  # the message of a RuntimeError if there is no memory for a thread
 
 # The seconds that each crate took alone, on one machine. They only decide which crates come first.
 SECONDS = {
@@ -57,6 +64,10 @@ NEAR = 0.93  # of the longest chain: a chain of this part of it is as urgent
 class NotProved(Exception):
     """A crate isn't proved."""
 
+    def __init__(self, crate: "Crate") -> None:
+        super().__init__(crate.name)
+        self.crate = crate
+
 
 class Crate(NamedTuple):
     """A crate, and all crates below it."""
@@ -73,8 +84,14 @@ class Crate(NamedTuple):
         return self.folder / "out/build.log"
 
 
+def write_error(text: str) -> None:
+    """Writes to standard error, if that is possible."""
+    with contextlib.suppress(OSError), open(2, "w", errors="backslashreplace", closefd=False) as errors:
+        errors.write(text)
+
+
 def say(text: str) -> None:
-    print(f"warcdx: {text}", file=sys.stderr, flush=True)
+    write_error(f"warcdx: {text}\n")
 
 
 def direct_dependencies() -> dict[str, list[str]]:
@@ -108,20 +125,24 @@ def chain_lengths(crates: list[Crate]) -> dict[str, int]:
     return lengths
 
 
-def make_room(crate: Crate) -> Path:
-    """Makes a checkout of the crate and of those below it. What was built of them before is there by links."""
+@contextlib.contextmanager
+def room_of(crate: Crate) -> Iterator[Path]:
+    """Makes a checkout of the crate and of those below it, for a block. What was built of them before is there by links."""
     room = ROOMS / crate.name
     shutil.rmtree(room, ignore_errors=True)
-    for name in (crate.name, *crate.below):
-        for part in SOURCES:
-            if (CRATES / name / part).is_dir():
-                shutil.copytree(CRATES / name / part, room / "crates" / name / part)
-        for part in ("rlib", "incremental") if name == crate.name else ("rlib",):
-            if (CRATES / name / "out" / part).is_dir():
-                shutil.copytree(CRATES / name / "out" / part, room / "crates" / name / "out" / part, copy_function=os.link)
-    lines = (line for line in (ROOT / "crates.txt").read_text().splitlines() if line.partition(":")[0].strip() in {crate.name, *crate.below})
-    (room / "crates.txt").write_text("\n".join([*lines, ""]))
-    return room
+    try:
+        for name in (crate.name, *crate.below):
+            for part in SOURCES:
+                if (CRATES / name / part).is_dir():
+                    shutil.copytree(CRATES / name / part, room / "crates" / name / part)
+            for part in ("rlib", "incremental") if name == crate.name else ("rlib",):
+                if (CRATES / name / "out" / part).is_dir():
+                    shutil.copytree(CRATES / name / "out" / part, room / "crates" / name / "out" / part, copy_function=os.link)
+        lines = (line for line in (ROOT / "crates.txt").read_text().splitlines() if line.partition(":")[0].strip() in {crate.name, *crate.below})
+        (room / "crates.txt").write_text("\n".join([*lines, ""]))
+        yield room
+    finally:
+        shutil.rmtree(room, ignore_errors=True)
 
 
 def keep(room: Path, crate: Crate) -> None:
@@ -134,38 +155,49 @@ def keep(room: Path, crate: Crate) -> None:
 
 
 class Builder:
-    """The runs of rt."""
+    """The runs of rt. They end with a block, and at a signal that would end the script."""
 
     def __init__(self) -> None:
         self.running: set[subprocess.Popen[bytes]] = set()
         self.is_ended = False
+        self.signal: Optional[int] = None  # the first one that came
+
+    def __enter__(self) -> "Builder":
+        for number in (signal.SIGINT, signal.SIGTERM, signal.SIGHUP):
+            if signal.getsignal(number) is not signal.SIG_IGN:
+                signal.signal(number, self.end_at_signal)
+        return self
+
+    def __exit__(self, *exception: object) -> None:
+        self.end()
+
+    def end_at_signal(self, number: int, frame: Optional[FrameType]) -> None:
+        self.signal = self.signal or number
+        self.end()
 
     def prove(self, crate: Crate, jobs: int, is_urgent: bool) -> float:
         """Proves the crate, or builds the program. What isn't urgent yields to what is. Returns the seconds that it took."""
         began = time.monotonic()
         crate.log.parent.mkdir(parents=True, exist_ok=True)
         if crate.name == PROGRAM:
-            self.call_rt(["run", "--jobs", str(jobs)], crate.folder, crate.log, is_urgent)
+            self.call_rt(["run", "--jobs", str(jobs)], crate, crate.folder, is_urgent)
         else:
-            room = make_room(crate)
-            try:
-                self.call_rt(["lib", "--jobs", str(jobs)], room / "crates" / crate.name, crate.log, is_urgent)
+            with room_of(crate) as room:
+                self.call_rt(["lib", "--jobs", str(jobs)], crate, room / "crates" / crate.name, is_urgent)
                 keep(room, crate)
-            finally:
-                shutil.rmtree(room, ignore_errors=True)
         return time.monotonic() - began
 
-    def call_rt(self, arguments: list[str], folder: Path, log: Path, is_urgent: bool) -> None:
+    def call_rt(self, arguments: list[str], crate: Crate, folder: Path, is_urgent: bool) -> None:
         words = ["rt", *arguments] if is_urgent else ["nice", "-n", "5", "rt", *arguments]
         streams = {"stdin": subprocess.DEVNULL, "stderr": subprocess.STDOUT}
-        with log.open("wb") as output, subprocess.Popen(words, cwd=folder, stdout=output, **streams) as process:
+        with crate.log.open("wb") as output, subprocess.Popen(words, cwd=folder, stdout=output, **streams) as process:
             self.running.add(process)
             if self.is_ended:
                 process.terminate()
             status = process.wait()
             self.running.discard(process)
         if status:
-            raise NotProved
+            raise NotProved(crate)
 
     def end(self) -> None:
         """Ends the runs of rt, and those that begin later."""
@@ -180,7 +212,7 @@ def free_memory() -> int:
     return int(found[1]) << 10 if found else MEMORY
 
 
-def build(crates: list[Crate], processors: int) -> None:
+def build(crates: list[Crate], processors: int, builder: Builder) -> None:
     """Proves the crates.
 
     The build waits for the longest chain. So the crates that begin chains of about that length are urgent, and the others yield to them. Each job reads
@@ -191,8 +223,7 @@ def build(crates: list[Crate], processors: int) -> None:
     waiting = sorted(crates, key=lambda crate: -lengths[crate.name])
     proved: set[str] = set()
     running: dict[Future[float], tuple[Crate, bool]] = {}
-    builder = Builder()
-    with ThreadPoolExecutor(len(crates)) as pool:
+    with ThreadPoolExecutor(len(crates)) as pool, builder:
         while waiting or running:
             ready = [crate for crate in waiting if crate.below <= proved]
             begun = [*ready, *(crate for crate, _ in running.values())]
@@ -209,15 +240,26 @@ def build(crates: list[Crate], processors: int) -> None:
                 running[pool.submit(builder.prove, crate, jobs, is_urgent)] = crate, is_urgent
             for ended in wait(running, return_when=FIRST_COMPLETED).done:
                 crate, _ = running.pop(ended)
-                try:
-                    seconds = ended.result()
-                except NotProved:
-                    builder.end()
-                    sys.stderr.writelines(crate.log.read_text(errors="replace").splitlines(keepends=True)[-LAST_LINES:])
-                    say(f"{crate.name} isn't proved; all that rt printed is in {crate.log.relative_to(ROOT)}")
-                    raise
+                seconds = ended.result()
                 proved.add(crate.name)
                 say(f"{crate.name} is proved, {len(proved)} of {len(crates)}; {seconds:.0f} s")
+
+
+def reason_of(error: Exception) -> str:
+    """Returns why the build has failed. Raises an error of the script itself."""
+    if isinstance(error, shutil.Error):  # the files that couldn't be copied, each with its copy and the reason
+        return str(error.args[0][0][2])
+    if isinstance(error, OSError):
+        return f"{error.filename}: {error.strerror}" if error.filename else str(error.strerror)
+    if isinstance(error, MemoryError) or str(error) == NO_THREAD:
+        return "Memory"
+    raise error
+
+
+def report(crate: Crate) -> None:
+    """Says that a crate isn't proved, after the last lines that rt printed for it."""
+    write_error("".join(crate.log.read_text(errors="replace").splitlines(keepends=True)[-LAST_LINES:]))
+    say(f"{crate.name} isn't proved; all that rt printed is in {crate.log.relative_to(ROOT)}")
 
 
 def main() -> int:
@@ -225,11 +267,24 @@ def main() -> int:
     parser.add_argument("--processors", type=int, default=len(os.sched_getaffinity(0)), metavar="N", help="use at most N processors")
     arguments = parser.parse_args()
     processors = max(1, min(arguments.processors, free_memory() // MEMORY))
+    if shutil.which("rt") is None:
+        say("rt is not on the PATH")
+        return 3
+    builder = Builder()
+    status = 0
     try:
-        build(crates_of_program(), processors)
-    except NotProved:
-        return 1
-    return 0
+        build(crates_of_program(), processors, builder)
+    except NotProved as error:
+        status = 1
+        if builder.signal is None:
+            report(error.crate)
+    except (OSError, MemoryError, RuntimeError) as error:
+        status = 3
+        say(reason_of(error))
+    if builder.signal is not None:
+        signal.signal(builder.signal, signal.SIG_DFL)
+        os.kill(os.getpid(), builder.signal)
+    return status
 
 
 if __name__ == "__main__":

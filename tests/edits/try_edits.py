@@ -13,14 +13,13 @@ kit's rt.
 """
 import pathlib
 import re
-import shutil
 import subprocess
 import sys
 
 HERE = pathlib.Path(__file__).resolve().parent
 sys.path[:0] = [str(HERE.parent), str(HERE.parents[1] / "tools")]
 
-from build import Crate, crates_of_program, make_room
+from build import Crate, crates_of_program, room_of
 from program import Report, need, parser_of
 
 EDIT = re.compile(r"rt: must-fail (\S+): (.*)")
@@ -29,15 +28,12 @@ CLAUSE = re.compile(r"^clause: (.*)\n", re.MULTILINE)
 
 def try_edits(crate: Crate, report: Report) -> None:
     texts = {path.name: path.read_text() for path in sorted((HERE / crate.name).glob("*.edit"))}
-    room = make_room(crate)
-    try:
+    with room_of(crate) as room:
         folder = room / "crates" / crate.name / "must-fail"
         folder.mkdir()
         for name, text in texts.items():
             (folder / name).write_text(CLAUSE.sub("", text))
         done = subprocess.run(("rt", "must-fail", crate.name), cwd=room, stdout=subprocess.PIPE, stderr=subprocess.STDOUT, text=True, errors="replace")
-    finally:
-        shutil.rmtree(room, ignore_errors=True)
     found = dict(EDIT.findall(done.stdout))
     for edit, text in texts.items():
         name = f"{crate.name}/{edit}"
