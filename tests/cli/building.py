@@ -1,5 +1,5 @@
 #!/usr/bin/env python3
-"""Checks how ./warcdx and tools/build.py build the program, with a script in the place of rt.
+"""Checks how ./warcdx and tools/build.py build the program, and how tests/run ends, with a script in the place of rt.
 
 usage: building.py
 
@@ -44,8 +44,8 @@ if sys.argv[1] == "run":
     pathlib.Path("out/warcdx.stamp").touch()
 """
 LONG = 60.0  # seconds, of a run that is waited for only if something is wrong
-FIRST = 3  # the crates that stand on none
 CRATES = 18
+FIRST = 3  # of them, which stand on none
 
 
 class Ended(NamedTuple):
@@ -66,8 +66,8 @@ class Checkout:
         self.rt = work / "bin/rt"
         for crate in (ROOT / "crates").iterdir():
             shutil.copytree(crate, self.folder / "crates" / crate.name, ignore=shutil.ignore_patterns("out"))
-        (self.folder / "tools").mkdir()
-        for name in ("crates.txt", "warcdx", "tools/build.py"):
+        for name in ("crates.txt", "warcdx", "tools/build.py", "tests/run", "tests/program.py"):
+            (self.folder / name).parent.mkdir(exist_ok=True)
             shutil.copy(ROOT / name, self.folder / name)
         self.rt.parent.mkdir()
         self.rt.write_text(RT)
@@ -83,12 +83,13 @@ class Checkout:
         limit: Optional[tuple[int, int]] = None,
         path: Optional[str] = None,
         error: int = subprocess.PIPE,
+        runs: int = FIRST,
         ending: Optional[Callable[[int], None]] = None,
     ) -> Ended:
         """Runs a command in the copy, from nothing or over what was built before.
 
         Each run of rt takes `delay` seconds. `failing` and `killed` are crates, `limit` is a resource and its limit. `ending` is called with the process when
-        three runs of rt have begun.
+        `runs` runs of rt have begun.
         """
         for out in self.folder.glob("crates/*/out") if is_anew else ():
             shutil.rmtree(out)
@@ -105,7 +106,7 @@ class Checkout:
         streams = {"stdin": subprocess.DEVNULL, "stdout": subprocess.PIPE, "stderr": error}
         process = subprocess.Popen(words, cwd=self.folder, env=environment, start_new_session=True, preexec_fn=prepare, text=True, **streams)
         if ending is not None:
-            while len(self.begun()) < FIRST:
+            while len(self.begun()) < runs:
                 time.sleep(0.01)
             ending(process.pid)
         began = time.monotonic()
@@ -164,12 +165,12 @@ def check_ends(report: Report, checkout: Checkout) -> None:
 
 
 def check_signals(report: Report, checkout: Checkout) -> None:
-    """Builds that a signal ends."""
-    for command in ("tools/build.py", "./warcdx"):
+    """Builds that a signal ends, and the tests."""
+    for command, runs in (("tools/build.py", FIRST), ("./warcdx", FIRST), ("tests/run", 1)):
         for number in (signal.SIGINT, signal.SIGTERM, signal.SIGHUP):
             for send in (os.kill, os.killpg):
                 case = f"{command} and {number.name}, which {'it' if send is os.kill else 'its group'} gets"
-                ended = checkout.build(command, delay=LONG, ending=lambda process: send(process, number))
+                ended = checkout.build(command, delay=LONG, runs=runs, ending=lambda process: send(process, number))
                 found = ended.status, "Traceback" in ended.error, checkout.left(), ended.seconds < LONG / 2
                 if found == (-number, False, "", True):
                     report.add_ok(case)
