@@ -24,7 +24,9 @@ sys.path[:0] = [str(ROOT / "gateway"), str(ROOT / "python")]
 
 PROGRAM = os.path.abspath(shutil.which(os.environ.get("WARCDX", "warcdx")) or "warcdx")
 COMMAND = ROOT / "gateway/bin/warcdx-gateway"
-WAIT = 30  # seconds for what takes a few milliseconds
+WAIT = 120  # seconds for what takes a few milliseconds, also on a busy machine
+# A rule of a program to which every file is an index in order.
+ALL_IN_ORDER = '[ "$1" != check ] || { shift; for file; do echo "$file 1"; done; exit; }'
 LINE = (
     '%s %s {"url": "%s", "mime": "%s", "status": "%s", "digest": "%s", "length": "%d", "offset": "%d", '
     '"filename": "%s"}\n'
@@ -137,21 +139,12 @@ def lines(count: int, status: int = 200, size: int = 0) -> str:
     """Returns an index of `count` captures, each of another page and with a URL that is longer by
     `size`.
     """
+    end, kind = "x" * size, ("text/html", str(status))
     return "".join(
-        LINE
-        % (
-            f"com,example)/{n:07}",
-            "20160101000000",
-            f"http://example.com/{n:07}{'x' * size}",
-            "text/html",
-            str(status),
-            f"D{n}",
-            n + 1,
-            n,
-            "a.warc",
-        )
+        LINE % (f"com,example)/{n:07}", "20160101000000", f"http://example.com/{n:07}{end}", *kind,
+                f"D{n}", n + 1, n, "a.warc")
         for n in range(count)
-    )
+    )  # fmt: skip
 
 
 class Response(NamedTuple):
@@ -305,7 +298,13 @@ class Case(unittest.TestCase):
         path.write_text(text)
         return path
 
-    def start(self, settings: Optional[str] = None, head: str = "", **limits: int) -> Server:
+    def start(
+        self,
+        settings: Optional[str] = None,
+        head: str = "",
+        program: "str | pathlib.Path" = PROGRAM,
+        **limits: int,
+    ) -> Server:
         """Starts a gateway over the file `index`, or with these settings, with `head` before them."""
         if settings is None:
             settings = '[collections.main]\nindexes = ["index"]\n'
@@ -313,14 +312,21 @@ class Case(unittest.TestCase):
         table = "".join(f"{name} = {value}\n" for name, value in limits.items())
         workers = "" if "workers" in settings else "workers = 3\n"
         path = self.put(
-            f'port = 0\nprogram = "{PROGRAM}"\n{workers}{settings}[limits]\n{table}',
+            f'port = 0\nprogram = "{program}"\n{workers}{settings}[limits]\n{table}',
             "settings.toml",
         )
         server = self.run_command(str(path))
         found = re.search("workers = ([0-9]+)", path.read_text())
         assert found is not None
+        self.assertTrue(server.url, server.said.read_text())
         self.wait_for(lambda: len(server.workers()) == int(found[1]), "no workers")
         return server
+
+    def program(self, *rules: str) -> pathlib.Path:
+        """Returns a program that is warcdx, but for what these lines of sh do with its arguments."""
+        path = self.put("\n".join(("#!/bin/sh", *rules, f'exec "{PROGRAM}" "$@"\n')), "program")
+        path.chmod(0o755)
+        return path
 
     def run_command(self, *arguments: str) -> Server:
         said = self.folder / "said"

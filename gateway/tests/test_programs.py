@@ -7,7 +7,7 @@ import threading
 import time
 import unittest
 
-from .support import LINE, PROGRAM, SAMPLE, Case, Server, connected, lines
+from .support import ALL_IN_ORDER, LINE, PROGRAM, SAMPLE, Case, Server, connected, lines
 
 EXACT = "/cdx?url=example.com/0000007&fl=length"
 ALL = "/cdx?url=example.com/*"
@@ -74,7 +74,7 @@ class Programs(Case):
         first = LINE % ("b", "20160101000000", "b", "-", "-", "-", 1, 0, "a.warc")
         last = LINE % ("c", "20160101000000", "c", "-", "-", "-", 1, 0, "a.warc")
         self.put(first + first.replace("b", "a", 1) + last * 50)
-        server = self.start()
+        server = self.start(program=self.program(ALL_IN_ORDER))
         for rest in ("", "&output=json", "&output=cdxj", "&filter=offset:.*", "&limit=-1"):
             found = server.ask(f"/cdx?key=&matchType=prefix{rest}")
             self.assertEqual(
@@ -93,7 +93,7 @@ class Programs(Case):
         done = subprocess.run(command, stdout=subprocess.DEVNULL, stderr=subprocess.PIPE, text=True)
         name, offset = done.stderr.splitlines()[0].split()[-2:]
         self.assertEqual("OutOfOrder", name)
-        server = self.start()
+        server = self.start(program=self.program(ALL_IN_ORDER))
         for rest in ("", "&filter=statuscode:2..", "&limit=-3", "&sort=reverse", "&collapse=digest"):
             found = server.ask(ALL + rest)
             self.assertEqual(
@@ -104,7 +104,7 @@ class Programs(Case):
         """The client sees that the answer isn't whole, and a line says so."""
         middle = LINE % ("com,example)/0", "20160101000000", "a", "-", "-", "-", 1, 0, "a.warc")
         self.put(lines(30_000) + middle + lines(30_000).replace("com,", "dom,"))
-        server = self.start()
+        server = self.start(program=self.program(ALL_IN_ORDER))
         for query in ("", "&filter=statuscode:.*"):
             target = f"/cdx?key=&matchType=prefix{query}"
             with connected(server) as client, self.assertRaises((EOFError, ConnectionError)):
@@ -123,18 +123,8 @@ class Programs(Case):
     def test_a_query_that_takes_too_long_is_ended(self) -> None:
         self.put(SAMPLE)
         answers = 'case $line in *example.com*) exec sleep 60;; esac; echo refused NoUrl; echo .'
-        text = (
-            f'#!/bin/sh\n[ "$1" = serve ] || exec "{PROGRAM}" "$@"\n'
-            f"while read -r line; do {answers}; done\n"
-        )
-        program = self.put(text, "program")
-        program.chmod(0o755)
-        self.put(
-            f'port = 0\nworkers = 2\nprogram = "{program}"\n[collections.main]\n'
-            'indexes = ["index"]\n[limits]\nquery = 1\n',
-            "settings.toml",
-        )
-        server = self.run_command(str(self.folder / "settings.toml"))
+        rule = f'[ "$1" != serve ] || {{ while read -r line; do {answers}; done; exit; }}'
+        server = self.start(program=self.program(rule), query=1)
         start = time.monotonic()
         found = server.ask("/cdx?url=example.com")
         self.assertEqual((503, "1"), (found.status, found.fields["retry-after"]))

@@ -9,7 +9,7 @@ import subprocess
 import time
 import unittest
 
-from .support import COMMAND, LINE, PROGRAM, ROOT, SAMPLE, WAIT, Case, Server, lines
+from .support import ALL_IN_ORDER, COMMAND, LINE, PROGRAM, ROOT, SAMPLE, WAIT, Case, Server, lines
 
 SERVICE = ROOT / "gateway/service"
 NGINX = shutil.which("nginx", path=os.environ["PATH"] + ":/usr/sbin")
@@ -96,7 +96,8 @@ class Nginx(Case):
             SAMPLE.rpartition("org,example")[0]
             + lines(20_000).replace("com,example)/", "com,example,z)/")
         )
-        self.server = self.start(head='hosts = ["cdx.example.org"]\norigins = ["https://example.net"]\n')
+        head = 'hosts = ["cdx.example.org"]\norigins = ["https://example.net"]\n'
+        self.server = self.start(head=head, program=self.program(ALL_IN_ORDER))
         self.port = free_port()
         self.make_keys()
         text = (SERVICE / "nginx.conf").read_text()

@@ -26,7 +26,7 @@ from .plan import Plan, plan_of
 from .refusal import TEXT, Refusal, http_response, program_refusal, say, text_of
 from .rows import Output
 from .settings import Settings, is_loopback
-from .shared import Metrics, Shares
+from .shared import Board, Metrics, Shares
 
 METHODS = ("GET", "HEAD")
 KINDS = {
@@ -48,6 +48,7 @@ MODULES = ("memento", "clients", "browse")  # each has `rules()`
 MOST_BODY = 1 << 17  # bytes of a request
 MOST_PATHS = 64  # whose rules are remembered
 HEALTH_SECONDS = 5
+LOOKS = 0.25  # seconds between two looks at the words of the master
 MOST_WHOLE = 1 << 16  # bytes of an answer that is made before it is sent
 
 Handler = Callable[..., WSGIApplication]  # of the gateway, a request and the values of its path
@@ -75,12 +76,16 @@ class Gateway:
         collections: Mapping[str, Collection],
         shares: Shares,
         metrics: Metrics,
+        board: Board,
     ) -> None:
         self.settings = settings
         self.collections = collections
         self.main = collections[settings.main]
         self.slot = shares.slot
         self.metrics = metrics
+        self._board = board
+        self._followed = b""
+        self._looked = 0.0
         self._answers = Answers(settings.limits)
         self.beat: Callable[[], None] = lambda: None  # shows the master that an answer goes on
         found = [rule("/health", health), rule("/metrics", show_metrics)]
@@ -98,6 +103,21 @@ class Gateway:
             raise NotFound("there is no such collection")
         return self.collections[name]
 
+    def look(self) -> None:
+        """Goes on with the files that the master has taken into use."""
+        now = time.monotonic()
+        if now - self._looked < LOOKS:
+            return
+        self._looked = now
+        text = self._board.read()
+        if text != self._followed:
+            followed = [
+                self.collections[name].follow(self._board.owner, state)
+                for name, state in json.loads(text).items()
+            ]
+            if all(followed):
+                self._followed = text
+
     def source(self, collection: Collection, client: Optional[socket.socket] = None) -> Source:
         """Returns what asks the indexes for an answer that may be wide or costly.
 
@@ -111,7 +131,7 @@ class Gateway:
                     client.recv(1, socket.MSG_PEEK | socket.MSG_DONTWAIT)
 
         limits = self.settings.limits
-        return Source(collection.index, limits.wide, limits.query, beat)
+        return Source(collection, limits.wide, limits.query, beat)
 
     def captures(self, collection: Collection, query: str, limit: int) -> list[Capture]:
         """Returns the first captures that a query of the program selects, at most `limit`.
@@ -133,13 +153,14 @@ class Gateway:
         limits = self.settings.limits
         plan = plan_of(text, form, limits)
         if plan.is_exact:
-            source = Source(collection.index, limits.exact, limits.query, self.beat)
+            source = Source(collection, limits.exact, limits.query, self.beat)
         else:
             source = self.source(collection, request.environ.get("gunicorn.socket"))
         headers = collection.validators()
         if is_unchanged(request, headers):
             source.check()  # a query that is refused has no 304
             collection.index.text(plan.plain_query(plan.resume_key, 1))
+            collection.expect_unchanged()
             return Response(status=304, headers=headers)
 
         def pieces() -> Generator[bytes, None, None]:
@@ -175,8 +196,7 @@ class Gateway:
         name = ""
         try:
             self._check_host(request)
-            for collection in self.collections.values():
-                collection.look()
+            self.look()
             path, method = request.path, request.method
             if method == "OPTIONS" and self.settings.origins:
                 return self.settings.main, preflight(self._paths.allowed_methods(path))
@@ -286,15 +306,19 @@ def rule(path: str, handler: Handler, methods: Iterable[str] = METHODS) -> Rule:
 
 
 def health(gateway: Gateway, request: GatewayRequest) -> Response:
-    """Asks each collection for a capture that no index has."""
+    """Asks each collection for a capture that no index has, and names those whose indexes are old."""
+    said = ["ok\n"]
     for collection in gateway.collections.values():
         try:
             index = collection.index
             index.seconds = HEALTH_SECONDS
             index.text("key=!&limit=1&fl=offset")
-        except (Error, OSError) as error:
+            collection.expect_unchanged()
+        except (Error, OSError, Refusal) as error:
             return Response(f"{collection.name}: {error}\n", 503, content_type=TEXT)
-    return Response("ok\n", content_type=TEXT)
+        if collection.is_old:
+            said.append(f"{collection.name}: the old indexes are in use\n")
+    return Response("".join(said), content_type=TEXT)
 
 
 def show_metrics(gateway: Gateway, request: GatewayRequest) -> Response:

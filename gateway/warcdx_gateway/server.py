@@ -1,6 +1,7 @@
 """The workers: gunicorn runs the application in processes of limits of their own."""
 import contextlib
 import gc
+import json
 import logging
 import os
 import pathlib
@@ -10,7 +11,7 @@ import signal
 import socket
 import sys
 import tempfile
-from collections.abc import Callable
+from collections.abc import Callable, Container, Iterator
 from types import FrameType
 from typing import Any, Optional
 
@@ -27,10 +28,12 @@ from warcdx import Error, command
 from warcdx.program import end_with_parent
 
 from .application import Gateway
-from .collection import Collection
+from .collection import Collection, most_state
+from .generation import Identity
 from .refusal import NAME, say
+from .renewing import AT_A_TIME, Openings, Renewal
 from .settings import BadSettings, Settings
-from .shared import Beat, Metrics, Shares
+from .shared import Beat, Board, Metrics, Shares
 
 BACKLOG = 1024  # connections that wait for a worker
 MOST_LINE = 70_000  # bytes of the line of a request: a query has at most 65,536
@@ -57,8 +60,14 @@ class Master(gunicorn.arbiter.Arbiter):
     """The process that keeps the workers."""
 
     def manage_workers(self) -> None:
-        self.app.look()
-        super().manage_workers()
+        if self.app.look():
+            self.reload()  # which comes back to this
+        else:
+            super().manage_workers()
+
+    def handle_hup(self) -> None:
+        """Reads the settings again. They come into use when their indexes were checked."""
+        self.app.read_again()
 
     def handle_usr2(self) -> None:
         """Does nothing: the address has one master."""
@@ -74,6 +83,7 @@ class Master(gunicorn.arbiter.Arbiter):
 
     def stop(self, graceful: bool = True) -> None:
         gunicorn.systemd.sd_notify("STOPPING=1", self.log)
+        self.app.end_checks()
         super().stop(graceful)
 
 
@@ -137,8 +147,11 @@ class Server(BaseApplication):
         self._folder = folder
         self._listener = listener
         self._metrics = Metrics(folder, settings.workers)
-        self._gateway = self._opened(settings)
+        self._next: Optional[tuple[Settings, Openings]] = None  # when their indexes were checked
         self._ended = 0  # workers that aren't counted yet
+        with contextlib.closing(self._openings(settings, ())) as openings:
+            openings.wait()
+            self._use(settings, openings)
         super().__init__()
 
     def load_config(self) -> None:
@@ -168,28 +181,46 @@ class Server(BaseApplication):
     def load(self) -> Gateway:
         return self._gateway
 
-    def reload(self) -> None:
-        """Reads the settings again. If they are bad, the old ones stay in use."""
+    def read_again(self) -> None:
+        """Reads the settings again. They come into use when their indexes were checked."""
+        self._end_next()
         try:
             settings = self._read()
-            gateway = self._opened(settings)
+            self._next = settings, self._openings(settings, self._known())
         except (BadSettings, Error, OSError) as error:
-            say(f"the old settings stay in use: {command.reason_of(error)}")
+            self._keep_settings(error)
+
+    def look(self) -> bool:
+        """Goes on with the checks of indexes. Returns whether settings that were read can be used."""
+        ended, self._ended = self._ended, 0
+        self._metrics.ended.inc(ended)
+        self._renew()
+        try:
+            return self._next is not None and self._next[1].advance()
+        except (Error, OSError) as error:
+            self._end_next()
+            self._keep_settings(error)
+            return False
+
+    def reload(self) -> None:
+        """Takes the settings into use that were read, if there are any."""
+        if self._next is None:
             return
+        for renewal in self._renewals:
+            renewal.close()
         old = self._gateway
-        self._settings, self._gateway, self.callable = settings, gateway, None
+        self._use(*self._next)
+        self._next, self.callable = None, None
         for collection in old.collections.values():
+            self._metrics.old_indexes.labels(collection.name).set(0)
             collection.close()
         super().reload()
 
-    def look(self) -> None:
-        """Looks whether indexes were replaced, so that new workers begin with them."""
-        ended, self._ended = self._ended, 0
-        self._metrics.ended.inc(ended)
-        for collection in self._gateway.collections.values():
-            result = collection.look(is_told=True)
-            if result:
-                self._metrics.renewals.labels(collection.name, result).inc()
+    def end_checks(self) -> None:
+        """Ends the checks that go on."""
+        self._end_next()
+        for renewal in self._renewals:
+            renewal.close()
 
     def run(self) -> None:
         logging.raiseExceptions = False  # a line that can't be written is lost
@@ -222,20 +253,50 @@ class Server(BaseApplication):
         """
         self._ended += 1
 
-    def _opened(self, settings: Settings) -> Gateway:
-        """Returns the application of settings. Raises Error or OSError."""
+    def _openings(self, settings: Settings, known: Container[Identity]) -> Openings:
+        """Begins to check the indexes of settings. Raises OSError."""
         for folder in (folder for each in settings.collections for folder in each.archives):
             if not folder.is_dir():
                 raise OSError(f"{folder}: no such folder")
-        collections = {}
+        return Openings(settings.collections, settings.program, settings.memory, known)
+
+    def _use(self, settings: Settings, openings: Openings) -> None:
+        """Makes the application of settings whose indexes were checked."""
+        found = openings.taken()
+        collections = {
+            each.name: Collection(each, settings, found[each.name]) for each in settings.collections
+        }
         shares = Shares(self._folder, settings.workers, settings.wide)
-        with contextlib.ExitStack() as opened:
-            for each in settings.collections:
-                collections[each.name] = Collection(each, settings)
-                opened.callback(collections[each.name].close)
-            gateway = Gateway(settings, collections, shares, self._metrics)
-            opened.pop_all()  # which stay open
-        return gateway
+        self._board = Board(sum(map(most_state, settings.collections)))
+        self._settings = settings
+        self._gateway = Gateway(settings, collections, shares, self._metrics, self._board)
+        self._renewals = [Renewal(each, settings.memory) for each in collections.values()]
+
+    def _renew(self) -> None:
+        """Goes on with the files that replace indexes, and lets the workers know of them."""
+        collections, known = self._gateway.collections, self._known()
+        for renewal in sorted(self._renewals, key=lambda each: each.begun):
+            running = sum(each.is_running for each in self._renewals)
+            renewal.look(known, running < AT_A_TIME)
+            if renewal.result:
+                self._metrics.renewals.labels(renewal.name, renewal.result).inc()
+        for name, collection in collections.items():
+            self._metrics.old_indexes.labels(name).set(collection.is_old)
+        states = {name: collection.state() for name, collection in collections.items()}
+        self._board.write(json.dumps(states).encode())
+
+    def _known(self) -> set[Identity]:
+        """Returns the identities of the files in use."""
+        used = [each for each in self._gateway.collections.values() if each.is_usable]
+        return {identity for each in used for identity in each.generation.stamp}
+
+    def _keep_settings(self, error: Exception) -> None:
+        say(f"the old settings stay in use: {command.reason_of(error)}")
+
+    def _end_next(self) -> None:
+        if self._next is not None:
+            self._next[1].close()
+        self._next = None
 
 
 def run(settings: Settings, read: Callable[[], Settings]) -> None:
@@ -246,9 +307,12 @@ def run(settings: Settings, read: Callable[[], Settings]) -> None:
     base = os.environ.get("RUNTIME_DIRECTORY")
     folder = pathlib.Path(tempfile.mkdtemp(prefix=f"{NAME}-", dir=base))
     try:
-        with listening(settings.address, settings.port) as listener:
+        with bound(settings.address, settings.port) as listener:
+            server = Server(settings, read, folder, listener.fileno())
+            with naming(settings.address, settings.port):
+                listener.listen(BACKLOG)  # no client waits for the check of the indexes
             address = shown_address(listener)
-            server = Server(settings, read, folder, listener.detach())  # gunicorn closes it
+            listener.detach()  # gunicorn closes it
         print(f"http://{address}/", flush=True)
         server.run()
     finally:
@@ -256,19 +320,29 @@ def run(settings: Settings, read: Callable[[], Settings]) -> None:
             shutil.rmtree(folder, ignore_errors=True)
 
 
-def listening(address: str, port: int) -> socket.socket:
+def bound(address: str, port: int) -> socket.socket:
+    """Returns a socket with an address, which doesn't listen yet. Raises OSError."""
     family, _, _, _, found = socket.getaddrinfo(
         address, port, type=socket.SOCK_STREAM, flags=socket.AI_PASSIVE
     )[0]
     listener = socket.socket(family, socket.SOCK_STREAM)
     try:
         listener.setsockopt(socket.SOL_SOCKET, socket.SO_REUSEADDR, 1)
-        listener.bind(found)
-        listener.listen(BACKLOG)
-    except OSError as error:
+        with naming(address, port):
+            listener.bind(found)
+    except OSError:
         listener.close()
-        raise OSError(error.errno, f"{address}:{port}: {error.strerror}") from None
+        raise
     return listener
+
+
+@contextlib.contextmanager
+def naming(address: str, port: int) -> Iterator[None]:
+    """Names the address in an OSError."""
+    try:
+        yield
+    except OSError as error:
+        raise OSError(error.errno, f"{address}:{port}: {error.strerror}") from None
 
 
 def shown_address(found: socket.socket) -> str:
@@ -278,7 +352,7 @@ def shown_address(found: socket.socket) -> str:
 
 def allow_files(indexes: int) -> None:
     """Raises the limit of open files if that is necessary and possible. Raises OSError if it stays too low."""
-    wanted, least = indexes + OTHER_FILES, indexes + LEAST_FILES
+    wanted, least = 2 * indexes + OTHER_FILES, indexes + LEAST_FILES  # twice while they are replaced
     soft, hard = resource.getrlimit(resource.RLIMIT_NOFILE)
     if soft != resource.RLIM_INFINITY and soft < wanted:
         soft = wanted if hard == resource.RLIM_INFINITY else min(wanted, hard)

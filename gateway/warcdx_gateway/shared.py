@@ -1,14 +1,17 @@
-"""What the workers share: slots for costly requests, and counts for Prometheus."""
+"""What the workers share: slots for costly requests, words of the master, and counts for Prometheus."""
 import contextlib
 import fcntl
+import hashlib
+import mmap
 import os
 import pathlib
+import struct
 import time
 from collections.abc import Callable, Iterator
 from typing import BinaryIO, Optional
 
 from prometheus_client import CollectorRegistry, generate_latest, multiprocess, values
-from prometheus_client.metrics import Counter, Histogram
+from prometheus_client.metrics import Counter, Gauge, Histogram
 
 from .refusal import Refusal
 
@@ -87,6 +90,36 @@ class Shares:
         return None
 
 
+class Board:
+    """A text that one process writes and the ones that it starts read, in memory that no others have.
+
+    `owner` is the ID of that process, and `size` the most bytes of the text.
+    """
+
+    _HEAD = struct.Struct("=QQ32s")  # how often it was written, the bytes of the text, its digest
+
+    def __init__(self, size: int) -> None:
+        self.owner = os.getpid()
+        self._memory = mmap.mmap(-1, self._HEAD.size + size)
+        self._count = 0
+        self._text = b""
+
+    def write(self, text: bytes) -> None:
+        if text != self._text:
+            self._count, self._text = self._count + 1, text
+            head = self._HEAD.pack(self._count, len(text), hashlib.sha256(text).digest())
+            self._memory[: len(head) + len(text)] = head + text
+
+    def read(self) -> bytes:
+        """Returns the text. While another one is written, it is that of before."""
+        count, size, digest = self._HEAD.unpack_from(self._memory)
+        if count != self._count:
+            text = self._memory[self._HEAD.size : self._HEAD.size + size]
+            if hashlib.sha256(text).digest() == digest:
+                self._count, self._text = count, text
+        return self._text
+
+
 class Metrics:
     """Counts of all workers since the start, in files of a folder.
 
@@ -99,7 +132,7 @@ class Metrics:
         self._seats = Slots(folder, "seat", MOST_SEATS)
         self._seat = "master"
         for seat in ("master", *map(str, range(2 * workers))):
-            for kind in ("counter", "histogram"):
+            for kind in ("counter", "gauge_max", "histogram"):
                 (folder / f"{kind}_{seat}.db").write_bytes(bytes(FILE))
         os.environ["PROMETHEUS_MULTIPROC_DIR"] = str(folder)
         values.ValueClass = values.MultiProcessValue(lambda: self._seat)
@@ -116,6 +149,13 @@ class Metrics:
         self.ended = counter("ended_workers", "Workers that were ended, or have failed.")
         self.renewals = counter(
             "index_renewals", "Indexes that were replaced and opened.", "collection", "result"
+        )
+        self.old_indexes = Gauge(
+            "warcdx_gateway_old_indexes",
+            "Whether the indexes in use aren't those that have the names now.",
+            ("collection",),
+            registry=registry,
+            multiprocess_mode="max",
         )
         self.seconds = Histogram(
             "warcdx_gateway_request_seconds",

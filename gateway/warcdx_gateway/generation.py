@@ -1,0 +1,94 @@
+"""The files that the indexes of a collection were at one time, which stay open."""
+import errno
+import os
+import stat
+from collections.abc import Iterable, Sequence
+from typing import NamedTuple, Optional
+
+from warcdx import Index
+
+MOST_REPLY = 8 << 20  # bytes of a reply, unless no shorter one can be had
+
+
+class Identity(NamedTuple):
+    """What differs if another file has the name, or if the file was changed.
+
+    `size` is in bytes. `modified` and `changed` are the times of its content and of its inode, in
+    nanoseconds since 1970.
+    """
+
+    device: int
+    inode: int
+    size: int
+    modified: int
+    changed: int
+
+    def has_content_of(self, other: "Identity") -> bool:
+        """Returns whether it is the same file, to which nothing was written as its size and time say.
+
+        The time of the inode isn't compared: it changes when another file takes the name.
+        """
+        return self[:-1] == other[:-1]
+
+
+Stamp = tuple[Identity, ...]
+
+
+class Generation:
+    """Regular files that are open for reading, in the order of their paths.
+
+    `stamp` is what they were when they were opened first. The program opens them by their
+    descriptors. So a program that is started again reads the same files, also after others have
+    taken their names. The constructor raises OSError, also if the files aren't those of a `stamp`
+    that is given, or were changed.
+    """
+
+    def __init__(
+        self, paths: Iterable["str | os.PathLike[str]"], stamp: Optional[Stamp] = None
+    ) -> None:
+        self.files: list[int] = []
+        try:
+            for path in paths:
+                self.files.append(os.open(path, os.O_RDONLY | os.O_CLOEXEC | os.O_NONBLOCK))
+                if not stat.S_ISREG(os.fstat(self.files[-1]).st_mode):
+                    raise OSError(errno.EINVAL, "not a regular file", str(path))
+            found = stamp_of(map(os.fstat, self.files))
+            self.stamp = found if stamp is None else stamp
+            if not all(map(Identity.has_content_of, found, self.stamp)):
+                raise OSError(errno.ESTALE, os.strerror(errno.ESTALE))
+            self._contents = [(each.size, each.modified) for each in self.stamp]
+        except BaseException:
+            self.close()
+            raise
+
+    def index(self, program: str, seconds: Optional[float]) -> Index:
+        return Index(self.names, program=program, processes=2, seconds=seconds, most=MOST_REPLY)
+
+    @property
+    def names(self) -> list[str]:
+        """The paths by which the programs of this process open the files."""
+        return names_of(os.getpid(), self.files)
+
+    @property
+    def is_unchanged(self) -> bool:
+        """Whether nothing was written to the files, as `Identity.has_content_of` says."""
+        return [
+            (found.st_size, found.st_mtime_ns) for found in map(os.fstat, self.files)
+        ] == self._contents
+
+    def close(self) -> None:
+        for file in self.files:
+            os.close(file)
+        self.files.clear()
+
+
+def names_of(process: int, files: Sequence[int]) -> list[str]:
+    """Returns paths of the files that a process has open, by their descriptors."""
+    return [f"/proc/{process}/fd/{file}" for file in files]
+
+
+def stamp_of(found: Iterable[os.stat_result]) -> Stamp:
+    return tuple(
+        Identity(each.st_dev, each.st_ino, each.st_size, each.st_mtime_ns, each.st_ctime_ns)
+        for each in found
+    )
