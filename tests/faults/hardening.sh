@@ -3,7 +3,8 @@
 #
 # usage: hardening.sh [PROGRAM]
 #
-# What the page says that the program lacks is compared too, so that the page is changed once it has it.
+# What the page says that the program lacks is compared too, so that the page is changed once it has it. The functions
+# of C that docs/TRUST.md lists are compared with those that the program imports, and with the count beside them.
 #
 # Prints a line for each case, and the counts. The exit status is 0, or 1 if a case differs. Needs readelf (Debian's
 # package binutils).
@@ -39,4 +40,12 @@ expect "libraries" libc.so.6 "$(sed -n 's/.*(NEEDED).*\[\(.*\)\]/\1/p' <<< "$dyn
 expect "stack protector" no "$(has "$symbols" ' __stack_chk_fail')"
 expect "fortified functions" no "$(has "$symbols" ' __[a-z]+_chk(@|$)')"
 expect "control flow integrity" no "$(has "$notes" 'x86 feature: .*(IBT|SHSTK)')"
+
+page=$root/docs/TRUST.md
+rows=$(sed -n '/^| C function /,/^$/p' "$page")
+unused=$(grep "the binary doesn't import them" <<< "$rows" | cut --delimiter='|' --fields=2 | grep --only-matching '`[^`]*`' | tr --delete '`')
+imported=$(awk '$7 == "UND" && $8 { sub(/@.*/, "", $8); print $8 }' <<< "$symbols")
+expect "functions that it imports, and the page says it doesn't" "" "$(grep --fixed-strings --line-regexp "$unused" <<< "$imported" || true)"
+expect "functions that the page lists" "$(sed -n 's/^| `axioms=\([0-9]*\)`.*/\1/p' "$page")" \
+    "$(cut --delimiter='|' --fields=2 <<< "$rows" | grep --only-matching '`[^`]*`' | grep --count --invert-match --extended-regexp '`(malloc|realloc|free)`')"
 end_script

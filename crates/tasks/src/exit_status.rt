@@ -27,7 +27,8 @@ pub fn status(outcome: &Outcome) -> u8
     }
 }
 
-/// The exit status of a command is 0 only if it ended as done, and its output could be flushed.
+/// The exit status of an outcome, and of a flush that failed or didn't, is 0 only if the outcome is `Done`, and the flush
+/// didn't fail.
 pub fn status_zero_is_done()
     ensures { ZeroIsDone }
 {}

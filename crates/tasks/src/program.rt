@@ -38,8 +38,8 @@ const OUTPUT_ROOM: usize = 65_536;
 // The bytes of an argument that are looked at: Linux has no longer file names.
 const ARGUMENT_ROOM: usize = 4_096;
 
-/// Runs the program, and returns its exit status. It is 0 only if the task of the arguments ended as done, or if they
-/// asked for help.
+/// Runs the program, and returns its exit status. Of 0 the contract says only that some arguments can end as done. They
+/// needn't be those of the process, and `--help` is such. So it binds no status, and tests compare the statuses of tasks.
 #[tactic(auto, unfolding(crate::specs::Outcome::exit_status_of))]
 pub fn run<R: Runtime + AllocGlobal>(rt: &R, input: StandardInput) -> u8
     ensures { result ≡ 0 → EndsAsDone }
