@@ -45,14 +45,15 @@ class Page(NamedTuple):
 
 class Crawl:
     """Response records as wget writes them, each of another URL, in no order of their URLs. The payload's digest stands in a
-    field of this name. Pages are random bytes, half to one and a half times as many as the length; they come again and again.
+    field of this name. Pages are random bytes, half to one and a half times as many as the length. `pages` is how many there
+    are, which come again and again.
     """
 
-    def __init__(self, captures, page_length, digest_name="WARC-Payload-Digest"):
+    def __init__(self, captures, page_length, digest_name="WARC-Payload-Digest", pages=PAGES):
         choice = random.Random(page_length)
         self.digest_name = digest_name
         self.numbers = choice.sample(range(captures), captures)
-        self.pages = [make_page(choice, page_length) for _ in range(PAGES)]
+        self.pages = [make_page(choice, page_length) for _ in range(pages)]
 
     @property
     def pieces(self):

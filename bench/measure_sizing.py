@@ -9,6 +9,7 @@ is 0.
 import gzip
 import os
 import pathlib
+import random
 import resource
 import shutil
 import subprocess
@@ -58,14 +59,16 @@ def write_packed(crawl: Crawl, path: pathlib.Path) -> None:
 
 def index_sizes(program: pathlib.Path, folder: pathlib.Path) -> list[Size]:
     """Bytes of an index, and the memory of the commands, for a capture."""
-    archive, index, packed = folder / "short.warc", folder / "short.cdxj", folder / "short.cdxj.gz"
-    write_archive(Crawl(CAPTURES, 100), archive)
+    archive, index = folder / "short.warc", folder / "short.cdxj"
+    # Each page has a digest of its own, which gzip can't make smaller.
+    write_archive(Crawl(CAPTURES, 100, pages=CAPTURES), archive)
     with open(index, "wb") as output:
         subprocess.run((program, "index", archive), stdout=output, check=True)
     size = index.stat().st_size
     line = index.read_bytes().split(b"\n", 1)[0]
-    with open(packed, "wb") as output:
-        subprocess.run(("gzip", "-6", "-c", index), stdout=output, check=True)
+    packed_size = size_of_packed(index)
+    varied = folder / "varied.cdxj"
+    write_varied(index, varied)
     key, url = line.split(b" ", 1)[0], line.split(b'"url": "')[1].split(b'"')[0]
     named = len(key) + len(url) + len(archive.name)
     query = program, "query", ALL, index
@@ -74,7 +77,8 @@ def index_sizes(program: pathlib.Path, folder: pathlib.Path) -> list[Size]:
     return [
         Size("index: bytes for a capture", size / CAPTURES, "bytes"),
         Size("index: the same, without URL key, URL and file name", size / CAPTURES - named, "bytes"),
-        Size("index, by gzip -6: bytes for a capture", packed.stat().st_size / CAPTURES, "bytes"),
+        Size("index, by gzip -6: bytes for a capture", packed_size / CAPTURES, "bytes"),
+        Size("index, by gzip -6, of other URLs and times: bytes for a capture", size_of_packed(varied) / CAPTURES, "bytes"),
         Size("memory of index: bytes for a capture", peak((program, "index", archive)) / CAPTURES, "bytes"),
         Size("memory of check", peak(check) / 1e6, "MB"),
         Size("memory of merge of two", peak(merge) / 1e6, "MB"),
@@ -83,6 +87,25 @@ def index_sizes(program: pathlib.Path, folder: pathlib.Path) -> list[Size]:
         Size("processor time of merge of two over cat", ratio(merge, ("cat", index, index)), "times"),
         Size("processor time of query of all captures over cat", ratio(query, ("cat", index)), "times"),
     ]
+
+
+def size_of_packed(index: pathlib.Path) -> int:
+    """Returns how many bytes an index has after gzip -6."""
+    packed = index.with_suffix(".cdxj.gz")
+    with open(packed, "wb") as output:
+        subprocess.run(("gzip", "-6", "-c", index), stdout=output, check=True)
+    return packed.stat().st_size
+
+
+def write_varied(index: pathlib.Path, output: pathlib.Path) -> None:
+    """Writes lines of the same lengths, with letters at random in their URLs and seconds of a day at random."""
+    choice, lines = random.Random(1), []
+    for line in index.read_bytes().splitlines(keepends=True):
+        path = b"articles/" + line.split(b"/", 3)[2]
+        letters = bytes(choice.choices(b"abcdefghijklmnopqrstuvwxyz", k=len(path)))
+        time = b"%02d%02d%02d" % (choice.randrange(24), choice.randrange(60), choice.randrange(60))
+        lines.append(line.replace(path, letters).replace(b"172024", time, 1))
+    output.write_bytes(b"".join(sorted(lines)))
 
 
 def ratio(command: Sequence[object], other: Sequence[object]) -> float:

@@ -39,7 +39,7 @@ const OUTPUT_ROOM: usize = 65_536;
 const ARGUMENT_ROOM: usize = 4_096;
 
 /// Runs the program, and returns its exit status. Of 0 the contract says only that some arguments can end as done. They
-/// needn't be those of the process, and `--help` is such. So it binds no status, and tests compare the statuses of tasks.
+/// needn't be those of the process, and `--help` is such. So it binds no status: tests compare the statuses of tasks.
 #[tactic(auto, unfolding(crate::specs::Outcome::exit_status_of))]
 pub fn run<R: Runtime + AllocGlobal>(rt: &R, input: StandardInput) -> u8
     ensures { result ≡ 0 → EndsAsDone }
