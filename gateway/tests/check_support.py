@@ -3,7 +3,7 @@ import os
 import pathlib
 import random
 
-from .support import Case, Server, lines
+from .support import WAIT, Case, Server, lines
 
 PAGES = 12
 # Rules of a program, whose checks are noted in the file `checks`.
@@ -61,7 +61,7 @@ class Checked(Case):
     def refused_start(self, *arguments: str) -> str:
         """Returns what a gateway says that doesn't start."""
         server = self.run_command("--port", "0", "--workers", "2", *arguments)
-        self.assertEqual(1, server.process.wait(30))
+        self.assertEqual(1, server.process.wait(WAIT))
         self.assertEqual("", server.url)
         said = server.said.read_text()
         self.assertEqual(1, said.count("\n"), said)

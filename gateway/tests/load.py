@@ -4,14 +4,14 @@
 usage: load.py [--seconds N] [PROGRAM]
 
 First 64 and then 500 clients of wrk ask for one key after another for N seconds (20). Then a client asks
-for one key again and again, and its seconds are compared with those that it needs alone: while 64 clients
+for one key again and again, first alone, so that its seconds can be compared: while 64 clients
 do the same, while 8 clients read the whole index, while 4 clients ask for regular expressions that no capture
 matches, and, behind nginx, while 1,000 connections are silent and while 300 clients take nothing of an answer
 of 4 MB.
 
-Prints a line for each case, and the memory of the workers. The exit status is 0, or 1 if the slowest of 99 %
-takes 50 ms more than alone, an answer differs, or the workers take more than their settings allow. Needs
-the packages of the gateway, and Debian's packages nginx-light and wrk.
+Prints a line for each case, and the memory of the workers. The exit status is 0, or 1 if an answer differs, or
+the workers take more than their settings allow. No verdict is made of times, as they depend on what else the
+machine has to do. Needs the packages of the gateway, and Debian's packages nginx-light and wrk.
 """
 import contextlib
 import pathlib
@@ -32,7 +32,6 @@ from program import Report, add_program, find_program, need, parser_of
 from tests import support
 
 COUNT = 1_000_000
-MOST_MORE = 0.050  # seconds
 MEMORY = 512 << 20  # bytes of each worker, the usual setting
 PROBE = 10.0  # seconds of each case
 ALL = "/cdx?url=example.com/*"
@@ -175,15 +174,13 @@ def measure(server: support.Server, folder: pathlib.Path, seconds: int, report: 
         errors = re.findall(r"Socket errors.*|Non-2xx.*", said[0])
         line = f"{count} clients: {rate and rate[1]} requests a second, 99 % {slowest and slowest[1]}, errors {errors}"
         report.add_ok(line)
-    alone: list[float] = []
 
     def compare(name: str, asked: support.Server) -> None:
         median, slowest, differing = probe(asked)
         memory = server.memory()
-        alone.append(slowest)
         line = f"{name}: median {median * 1000:.1f} ms, 99 % {slowest * 1000:.1f} ms, {differing} wrong, {memory >> 20} MB"
-        if slowest > alone[0] + MOST_MORE or differing or memory > 8 * MEMORY:
-            report.add_difference(line, f"alone 99 % {alone[0] * 1000:.1f} ms")
+        if differing or memory > 8 * MEMORY:
+            report.add_difference(line, "wrong answers or too much memory")
         else:
             report.add_ok(line)
 

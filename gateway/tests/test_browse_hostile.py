@@ -331,7 +331,7 @@ class Records(support.Pages):
     def test_bombs_are_given_up(self) -> None:
         tracemalloc.start()
         self.addCleanup(tracemalloc.stop)
-        start = time.monotonic()
+        start = time.process_time()
         self.assertIn(
             "The payload has more than 4,194,304 bytes. Its beginning is shown.",
             text_of(self.shown("bomb")),
@@ -339,7 +339,7 @@ class Records(support.Pages):
         self.assertEqual(4 * MEGABYTE, len((self.payload("bomb"))[1]))
         self.assertIn("can't be unpacked to its end", text_of(self.shown("nested")))
         self.assertIn("more than 8 codings", text_of(self.shown("codings")))
-        self.assertLess(time.monotonic() - start, 20)
+        self.assertLess(time.process_time() - start, 20)
         self.assertLess(tracemalloc.get_traced_memory()[1], 60 * MEGABYTE)
 
     def test_codings_that_can_not_be_undone_are_said(self) -> None:

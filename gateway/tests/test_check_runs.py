@@ -9,7 +9,7 @@ import time
 import unittest
 
 from .check_support import HOLD, PAGES, Checked, disorders
-from .support import COMMAND, children, lines
+from .support import COMMAND, WAIT, children, lines
 
 ALL = "/cdx?url=example.com/*"
 
@@ -161,7 +161,7 @@ class Runs(Checked):
             processes = (between, *children(between))
             self.assertEqual(2, len(processes))
             server.process.send_signal(number)
-            server.process.wait(30)
+            server.process.wait(WAIT)
             self.wait_for(
                 lambda: not any(pathlib.Path(f"/proc/{each}").exists() for each in processes),
                 "a process is left",
@@ -184,7 +184,7 @@ class Runs(Checked):
             found = [*between, *(each for one in between for each in children(one))]
             self.assertEqual(2, len(found))
             process.send_signal(number)
-            self.assertEqual(-number, process.wait(30))
+            self.assertEqual(-number, process.wait(WAIT))
             self.wait_for(
                 lambda: not any(pathlib.Path(f"/proc/{each}").exists() for each in found),
                 "a process is left",

@@ -1,11 +1,11 @@
 """The literal requests of clients on other paths than `/cdx`, and in other words."""
 import json
-import time
 import unittest
 import urllib.error
 import urllib.request
 from xml.etree import ElementTree
 
+from .costs import processor_time
 from .support import Shared
 from .test_clients import REQUESTS, TIMES
 
@@ -155,9 +155,9 @@ class Paths(Shared):
         wayback = self.xml("/main?q=type:urlquery+url:http%3A%2F%2Fexample.net%2F", 404)
         self.assertEqual("Resource Not In Archive", wayback.findtext("error/title"))
         self.assertTrue(self.refused("/main?q=type:urlquery").startswith("refused NoUrl"))
-        start = time.monotonic()
+        before = processor_time(self.server)
         self.assertTrue(self.refused(f"/main?q={'a' * 60_000}").startswith("refused NoUrl"))
-        self.assertLess(time.monotonic() - start, 2)
+        self.assertLess(processor_time(self.server) - before, 2)
 
     def xml(self, target: str, status: int = 200) -> ElementTree.Element:
         found = self.server.ask(target)

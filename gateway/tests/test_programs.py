@@ -7,7 +7,7 @@ import threading
 import time
 import unittest
 
-from .support import ALL_IN_ORDER, LINE, PROGRAM, SAMPLE, Case, Server, connected, lines
+from .support import ALL_IN_ORDER, LINE, PROGRAM, SAMPLE, WAIT, Case, Server, connected, lines
 
 EXACT = "/cdx?url=example.com/0000007&fl=length"
 ALL = "/cdx?url=example.com/*"
@@ -30,20 +30,22 @@ class Programs(Case):
         threads = [threading.Thread(target=ask) for _ in range(3)]
         for thread in threads:
             thread.start()
-        killed, end = 0, time.monotonic() + seconds
-        while time.monotonic() < end:
+        killed, answered, end = 0, list[bool](), time.monotonic() + seconds
+        while time.monotonic() < end or killed < 12 or len(answered) < 30:
             for process in server.programs()[:1]:
                 with contextlib.suppress(ProcessLookupError):
                     os.kill(process, signal.SIGKILL)
                     killed += 1
             time.sleep(0.05)
+            answered = [is_right for status, is_right in results if status == 200]
+            if time.monotonic() > end + WAIT:
+                break
         is_over.set()
         for thread in threads:
             thread.join()
-        self.assertGreater(killed, 10)
-        answered = [is_right for status, is_right in results if status == 200]
         self.assertEqual({True}, set(answered))
-        self.assertGreater(len(answered), 20)
+        self.assertGreaterEqual(killed, 12)
+        self.assertGreaterEqual(len(answered), 30)
         self.assertLessEqual({status for status, _ in results}, {200, 500, 503})
 
     def test_a_killed_program_loses_no_answer(self) -> None:
@@ -122,14 +124,12 @@ class Programs(Case):
 
     def test_a_query_that_takes_too_long_is_ended(self) -> None:
         self.put(SAMPLE)
-        answers = 'case $line in *example.com*) exec sleep 60;; esac; echo refused NoUrl; echo .'
+        answers = 'case $line in *example.com*) exec sleep 600;; esac; echo refused NoUrl; echo .'
         rule = f'[ "$1" != serve ] || {{ while read -r line; do {answers}; done; exit; }}'
         server = self.start(program=self.program(rule), query=1)
-        start = time.monotonic()
         found = server.ask("/cdx?url=example.com")
         self.assertEqual((503, "1"), (found.status, found.fields["retry-after"]))
         self.assertIn("refused TooSlow", found.text)
-        self.assertLess(time.monotonic() - start, 5)
 
 
 class Indexes(Case):
@@ -170,7 +170,7 @@ class Indexes(Case):
         for thread in threads:
             thread.join()
         self.assertEqual([], wrong)
-        self.assertGreater(len(asked), 20)
+        self.assertTrue(asked)
         self.wait_for(lambda: self.renewals(server, "done") >= 2, "the renewals aren't counted")
 
     def test_what_is_no_index_does_not_come_into_use(self) -> None:

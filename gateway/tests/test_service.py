@@ -1,12 +1,12 @@
 """The unit of systemd, and nginx with TLS and access in front of the gateway."""
 import base64
 import os
+import pathlib
 import shutil
 import signal
 import socket
 import ssl
 import subprocess
-import time
 import unittest
 
 from .support import ALL_IN_ORDER, COMMAND, LINE, PROGRAM, ROOT, SAMPLE, WAIT, Case, Server, lines
@@ -252,12 +252,18 @@ class Nginx(Case):
             client.sendall(request.encode() if number % 2 else b"GET /cdx?url=")
             silent.append(client)
         for _ in range(20):
-            start = time.monotonic()
             found = self.curl("/cdx?url=example.com/a&fl=length", "--user", "reader:word")
             self.assertEqual((200, b"300\n"), found)
-            self.assertLess(time.monotonic() - start, WAIT / 2)
+        self.wait_for(lambda: not connections(self.server.address[1]), "a worker is kept")
+        self.assertGreaterEqual(connections(self.port), count // 2)  # those that take nothing
         for client in silent:
             client.close()
+
+
+def connections(port: int) -> int:
+    """Returns how many connections are established at a port of this machine."""
+    found = [line.split() for line in pathlib.Path("/proc/net/tcp").read_text().splitlines()[1:]]
+    return sum(each[1].endswith(f":{port:04X}") and each[3] == "01" for each in found)
 
 
 if __name__ == "__main__":

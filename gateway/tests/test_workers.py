@@ -7,7 +7,7 @@ import socket
 import time
 import unittest
 
-from .support import LINE, Case, connected, lines
+from .support import LINE, WAIT, Case, connected, lines
 
 EXACT = "/cdx?url=example.com/0000007&fl=length"
 ALL = "/cdx?url=example.com/*"
@@ -17,15 +17,14 @@ class Workers(Case):
     def test_a_worker_that_is_stuck_is_replaced(self) -> None:
         """A client takes nothing of a long answer."""
         self.put(lines(200_000, size=100))
-        server = self.start(head="workers = 2\ntimeout = 3\n", query=2)
+        server = self.start(head="workers = 2\ntimeout = 8\n", query=7)
         with connected(server) as client:
             client.begin(ALL)
-            workers, start = server.workers(), time.monotonic()
+            workers = server.workers()
             self.assertEqual(503, server.ask(ALL).status)
             self.assertEqual(b"8\n", server.ask(EXACT).body)
             self.wait_for(lambda: set(server.workers()) != set(workers), "no worker is ended")
             self.wait_for(lambda: len(server.workers()) == 2, "no worker is back")
-            self.assertLess(time.monotonic() - start, 8)
             with self.assertRaises((EOFError, ConnectionError)):
                 client.response()
         self.assertEqual(10, len(server.ask(f"{ALL}&limit=10").text.splitlines()))
@@ -34,15 +33,15 @@ class Workers(Case):
     def test_a_client_may_read_slowly(self) -> None:
         """All of an answer may take longer than the time for a piece."""
         self.put(lines(60_000, size=100))
-        server = self.start(head="workers = 2\ntimeout = 3\n", query=2)
+        server = self.start(head="workers = 2\ntimeout = 8\n", query=7)
         wanted = self.page("url=example.com/*")
         with connected(server) as client:
             client.send(f"GET {ALL} HTTP/1.0\r\nHost: localhost\r\n\r\n".encode())
             found, start = b"", time.monotonic()
             while piece := client.socket.recv(len(wanted) // 30, socket.MSG_WAITALL):
                 found += piece
-                time.sleep(0.2)
-        self.assertGreater(time.monotonic() - start, 5)
+                time.sleep(0.4)
+        self.assertGreater(time.monotonic() - start, 10)
         self.assertTrue(found.partition(b"\r\n\r\n")[2] == wanted)
         self.assertEqual("", server.said.read_text())
 
@@ -106,31 +105,27 @@ class Ends(Case):
                 self.wait_for(lambda: not server.ask(EXACT), "it still listens")
             self.assertIsNone(server.process.poll())
             self.assertTrue(client.response().body == wanted)
-        self.assertEqual(0, server.process.wait(20))
+        self.assertEqual(0, server.process.wait(WAIT))
         self.assertEqual("", server.said.read_text())
 
     def test_sigterm_does_not_wait_for_silent_clients(self) -> None:
         """They have sent nothing, or a part of a request."""
         self.put(lines(10))
-        server = self.start()
+        server = self.start(head="timeout = 1000\n", drain=1000)
         with connected(server) as first, connected(server) as second:
             second.send(b"GET /cdx?url=")
             time.sleep(0.5)
             self.assertEqual(b"8\n", server.ask(EXACT).body)
-            start = time.monotonic()
             self.assertEqual(0, server.end())
-            self.assertLess(time.monotonic() - start, 8)
             self.assertEqual(b"", first.input.read())
 
     def test_sigterm_waits_no_longer_than_it_is_told(self) -> None:
         self.put(lines(100_000, size=100))
-        server = self.start(drain=1)
+        server = self.start(head="timeout = 1000\n", drain=1)
         with connected(server) as client:
             client.begin(ALL)
             server.process.send_signal(signal.SIGTERM)
-            start = time.monotonic()
-            self.assertEqual(0, server.process.wait(20))
-            self.assertLess(time.monotonic() - start, 8)
+            self.assertEqual(0, server.process.wait(WAIT))
 
     def test_sighup_reads_the_settings_again(self) -> None:
         """Running answers go on, and bad settings change nothing."""
@@ -170,7 +165,7 @@ class Ends(Case):
             processes = server.workers() + server.programs()
             self.assertGreater(len(processes), 3)
             server.process.send_signal(number)
-            server.process.wait(20)
+            server.process.wait(WAIT)
             self.wait_for(
                 lambda: not any(pathlib.Path(f"/proc/{each}").exists() for each in processes),
                 "processes are left",

@@ -5,17 +5,18 @@ usage: gateway_memory.py [--size BYTES] [PROGRAM]
 
 The index has one line of BYTES bytes (default: 16,777,216, the limit of a line), whose URL is `%` or `é` again and
 again. Each request is answered by a gateway of its own. The memory is that of its largest process at its peak. For
-each byte of the line it has to be what docs/COSTS.md says, at most a tenth more. An answer has 3 s.
+each byte of the line it has to be what docs/COSTS.md says, at most a tenth more. An answer may take 3 s of the
+processors.
 
 Prints a line for each request, and the counts. The exit status is 0, 1 if a figure is exceeded or an answer isn't
 whole, or 77 if a package of the gateway is missing.
 """
 import importlib.util
+import os
 import pathlib
 import subprocess
 import sys
 import tempfile
-import time
 import urllib.error
 import urllib.request
 from collections.abc import Iterator
@@ -26,8 +27,8 @@ from program import MISSING, ROOT, Report, add_program, find_program, parser_of
 
 COMMAND = ROOT / "gateway/bin/warcdx-gateway"
 PACKAGES = ("gunicorn", "prometheus_client", "regex", "werkzeug")
-SECONDS = 60  # until a request is given up
-MOST_SECONDS = 3  # that an answer may take
+SECONDS = 300  # until a request is given up
+MOST_SECONDS = 3  # of the processors, that an answer may take
 MOST_MEMORY = 7.3  # bytes for a byte of the line
 SIGNS = ("%", "é")
 # Queries with the status of their answers. A regular expression isn't tried on a value that long.
@@ -64,13 +65,22 @@ def peak(process: int) -> int:
     return max(sizes)
 
 
+def processor_time(process: int) -> float:
+    """Returns the seconds that the process and all that it has started have taken of the processors."""
+    ticks = 0
+    for number in family(process):
+        fields = pathlib.Path(f"/proc/{number}/stat").read_text().rpartition(")")[2].split()
+        ticks += sum(map(int, fields[11:15]))  # with those of programs that have ended
+    return ticks / os.sysconf("SC_CLK_TCK")
+
+
 def ask(program: pathlib.Path, index: pathlib.Path, query: str) -> tuple[int, float, int]:
-    """Returns the status of an answer, the seconds that it took, and the memory in bytes."""
+    """Returns the status of an answer, its seconds of the processors, and the memory in bytes."""
     command = (COMMAND, "--program", program, "--port", "0", "--workers", "2", "--indexes", index)
     with subprocess.Popen(command, stdout=subprocess.PIPE, text=True) as gateway:
         try:
             address = gateway.stdout.readline().split()[-1].rstrip("/")
-            start = time.monotonic()
+            before = processor_time(gateway.pid)
             try:
                 with urllib.request.urlopen(f"{address}/cdx?key=k{query}", timeout=SECONDS) as answer:
                     status = answer.status
@@ -78,7 +88,7 @@ def ask(program: pathlib.Path, index: pathlib.Path, query: str) -> tuple[int, fl
                         pass
             except urllib.error.HTTPError as error:
                 status = error.code
-            return status, time.monotonic() - start, peak(gateway.pid)
+            return status, processor_time(gateway.pid) - before, peak(gateway.pid)
         finally:
             gateway.terminate()
 
