@@ -78,8 +78,11 @@ shows "another file" "the input isn't a record" body text
 
 row "\`is one record whose head the package can't read\`, \`at no member that the package has read\`"
 
-# The tests of the gateway have its refusals.
-for refusals in Host "BadPage BadSort BadQuery" "TooMany TooLarge" "TooSlow TooBusy"; do
+# The tests of the gateway have its refusals, and what it says of indexes.
+for refusals in Host "BadPage BadSort BadQuery" "TooMany TooLarge" "TooSlow TooBusy" Changed; do
     # shellcheck disable=SC2016,SC2086 # several names
     row "$(printf '`refused %s`, ' $refusals | sed 's/, $//')"
 done
+row "\`an index in use was changed: replace indexes by mv\` on standard error"
+row "\`the old indexes stay in use\`, and \`/health\` says \`the old indexes are in use\`"
+row "\`couldn't be checked\`, \`the check of the indexes was ended\`"
