@@ -220,6 +220,14 @@ class Settings(Checked):
         self.assertEqual(["1", "1"], self.checks())
         self.assertEqual("", self.server.said.read_text())
 
+    def test_another_program_checks_all_indexes(self) -> None:
+        program = self.folder / "program"
+        other = self.put(program.read_text(), "other_program")
+        other.chmod(0o755)
+        self.read_again(self.first.replace(f'"{program}"', f'"{other}"'))
+        self.wait_for(lambda: len(self.checks()) == 2, "no check")
+        self.assertEqual([], self.ask_pages(self.server))
+
     def test_those_that_are_read_last_are_used(self) -> None:
         hold = self.put("", "hold")
         self.read_again(self.first.replace('["index"]', '["other"]'))

@@ -41,7 +41,7 @@ class Opening:
         self.unchecked = [n for n, identity in enumerate(stamp) if identity not in known]
         # Of two writes within a tick of the clock the second one doesn't change the time.
         newest = max((stamp[n].changed / 1e9 for n in self.unchecked), default=0.0)
-        self.settled = newest + TICK if newest <= time.time() else 0.0
+        self.settled = min(newest, time.time()) + TICK
 
     def begin(self, program: str, memory: int) -> None:
         """Starts a check if one is needed. Raises an Error of the package, or OSError."""

@@ -186,7 +186,8 @@ class Server(BaseApplication):
         self._end_next()
         try:
             settings = self._read()
-            self._next = settings, self._openings(settings, self._known())
+            known = self._known() if settings.program == self._settings.program else ()
+            self._next = settings, self._openings(settings, known)
         except (BadSettings, Error, OSError) as error:
             self._keep_settings(error)
 
