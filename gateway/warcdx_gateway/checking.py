@@ -20,12 +20,13 @@ PIECE = 1 << 16  # bytes
 class NotInOrder(Error):
     """A file is no index in order. The message has its path, and what the program says of it.
 
-    `paths` are those of all such files.
+    `paths` are those of all such files, and `files` their devices and inodes.
     """
 
     def __init__(self, message: str, paths: Sequence[str]) -> None:
         super().__init__(message)
         self.paths = paths
+        self.files: set[tuple[int, ...]] = set()
 
 
 class NotChecked(Error):

@@ -54,8 +54,11 @@ class Opening:
         """Returns whether all files are in order. Raises NotInOrder, or NotChecked."""
         try:
             is_done = self.check is None or self.check.is_done()
-        except (NotInOrder, NotChecked):
+        except (NotInOrder, NotChecked) as error:
             self._expect_unchanged()
+            if isinstance(error, NotInOrder):
+                files = zip(self._paths, self.generation.stamp)
+                error.files = {each[:2] for path, each in files if path in error.paths}
             raise
         self._expect_unchanged()
         return is_done
@@ -224,11 +227,8 @@ class Renewal:
         collection.is_old = True
         if isinstance(error, NotInOrder):
             self._again, told = math.inf, self._stamp
-            paths = map(str, collection.settings.indexes)
-            bad = [each for path, each in zip(paths, self._stamp) if path in error.paths]
-            used = collection.generation.stamp
             # A file that was found to be bad may be one in use whose time was set back.
-            if {each[:2] for each in bad} & {each[:2] for each in used}:
+            if error.files & {each[:2] for each in collection.generation.stamp}:
                 collection.is_usable = False
         if (told, str(error)) != self._told:
             self._told = (told, str(error))
