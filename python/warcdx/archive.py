@@ -1,17 +1,17 @@
 """The records of an archive, by `warcdx list`, `verify` and `get`."""
 import contextlib
 import re
-import subprocess
 from collections.abc import Iterator
 from dataclasses import dataclass
 from typing import Optional
 
+from .command import temporary_file
 from .errors import ProgramError, fault
-from .program import Path, find_program, operand, running
+from .program import Path, find_program, operand, running, started
 from .record import Record, RecordStream, Unreadable
 
 FAULTY = 1  # the exit status after a fault that is on the output, and after a digest that differs
-_VERDICT = re.compile("0 ([a-z0-9-]+)\n")
+_VERDICT = re.compile(b"0 ([a-z0-9-]+)\n")
 _LISTED = re.compile(b"([0-9]+) ([0-9]+) ([a-z]+)\n")
 _VERIFIED = re.compile(b"([0-9]+) ([a-z0-9-]+)\n")
 _FAULT = re.compile(b"fault ([0-9]+) ([A-Za-z0-9]+)\n")
@@ -82,13 +82,14 @@ class Archive:
 
     def verdict(self, offset: int) -> str:
         """Returns the verdict of `verify` on the record that begins at an offset, which alone is read whole."""
-        with running(self._program, "get", str(offset), self.path) as record:
-            command = (self._program, "verify", "-")
-            done = subprocess.run(command, stdin=record, stdout=subprocess.PIPE, stderr=subprocess.DEVNULL)
-        found = _VERDICT.fullmatch(done.stdout.decode())
-        if not found:
+        with running(self._program, "get", str(offset), self.path) as record, temporary_file() as said:
+            with started((self._program, "verify", "-"), said, record.fileno()) as process:
+                assert process.stdout is not None
+                found = _VERDICT.fullmatch(process.stdout.read())
+                is_whole = process.wait() in (0, FAULTY)
+        if not found or not is_whole:
             raise Unreadable("the program has given no verdict")
-        return found[1]
+        return found[1].decode()
 
     def _lines(self, command: str, pattern: "re.Pattern[bytes]") -> Iterator[tuple[str, ...]]:
         """Yields each line of a report with its groups."""

@@ -44,6 +44,8 @@ class _Signals:
         for number in (signal.SIGINT, signal.SIGTERM, signal.SIGHUP):
             if signal.getsignal(number) is not signal.SIG_IGN:
                 signal.signal(number, self._handle)
+        # If the starter ignores it, so would the command, and the system would keep no status of a program that ends.
+        signal.signal(signal.SIGCHLD, signal.SIG_DFL)
         signal.signal(signal.SIGALRM, self._handle_alarm)
         # Python handles a signal that comes just before a system call only after the call. Each tick ends one that waits.
         signal.setitimer(signal.ITIMER_REAL, _TICK, _TICK)

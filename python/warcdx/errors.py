@@ -19,11 +19,14 @@ class ProgramTooOld(ProgramError):
     """The program is older than this package needs."""
 
 
-class ProgramEnded(ProgramError):
-    """The program has ended before its output was complete.
+NO_STATUS = 256  # stands for the exit status of a program if the system hasn't given it; no program has it
 
-    `status` is its exit status, or the negative number of the signal that ended it. `said` is what it
-    wrote to standard error.
+
+class ProgramEnded(ProgramError):
+    """The program has ended before its output was complete, or before it was known to be.
+
+    `status` is its exit status, or the negative number of the signal that ended it, or NO_STATUS, 256, if the
+    system hasn't given one. `said` is what it wrote to standard error.
     """
 
     def __init__(self, status: int, said: str) -> None:
@@ -32,8 +35,10 @@ class ProgramEnded(ProgramError):
         self.said = said
 
     def __str__(self) -> str:
-        how = f"signal {-self.status}" if self.status < 0 else f"exit status {self.status}"
-        return f"warcdx has ended with {how}" + (f": {self.said.strip()}" if self.said else "")
+        how = f" with signal {-self.status}" if self.status < 0 else f" with exit status {self.status}"
+        if self.status == NO_STATUS:
+            how = ", and the system has no exit status of it, as if SIGCHLD is ignored"
+        return f"warcdx has ended{how}" + (f": {self.said.strip()}" if self.said else "")
 
 
 class ReplyTooLate(ProgramError):

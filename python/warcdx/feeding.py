@@ -11,7 +11,7 @@ from typing import IO, NamedTuple, Optional
 from .command import temporary_file
 from .errors import Error, Fault
 from .members import Piece
-from .program import close, end_of, started
+from .program import Process, close, end_of, started
 
 BATCH = 1 << 18  # bytes that are written at once, at least
 _LINE = re.compile(rb"(fault )?([0-9]{1,19}) ([^\n]+)\n")
@@ -21,7 +21,7 @@ _OUTPUT = 1 << 16  # bytes of the output that are read at once
 class _Output(io.RawIOBase):
     """The output of a program. While it is read, the program is given its input."""
 
-    def __init__(self, process: subprocess.Popen[bytes], pieces: Iterator[Piece]) -> None:
+    def __init__(self, process: Process, pieces: Iterator[Piece]) -> None:
         assert process.stdin is not None and process.stdout is not None
         self.fault: Optional[Fault] = None
         self._input: IO[bytes] = process.stdin
@@ -96,7 +96,7 @@ class Line(NamedTuple):
 class Run:
     """A run of the program, to which pieces are given as it reads them. `output` is what it prints."""
 
-    def __init__(self, process: subprocess.Popen[bytes], said: IO[bytes], pieces: Iterator[Piece]) -> None:
+    def __init__(self, process: Process, said: IO[bytes], pieces: Iterator[Piece]) -> None:
         self._process = process
         self._said = said
         self._raw = _Output(process, pieces)

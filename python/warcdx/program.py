@@ -9,16 +9,18 @@ import signal
 import subprocess
 import sys
 import threading
+import time
 from collections.abc import Callable, Iterator
-from typing import IO, Optional, Union
+from typing import IO, Any, Optional, Union
 
 from .command import deferred, reserve, temporary_file
-from .errors import Error, Fault, ProgramMissing, ProgramTooOld, error_of
+from .errors import NO_STATUS, Error, Fault, ProgramMissing, ProgramTooOld, error_of
 
 Path = Union[str, os.PathLike[str]]
 
 LEAST_VERSION = (0, 1, 0)
 _PARENT_DEATH_SIGNAL = 1  # PR_SET_PDEATHSIG of prctl(2)
+_PAUSE = 0.01  # seconds between two looks at a program that may end
 _HELP = re.compile(rb"warcdx ([0-9]+)\.([0-9]+)\.([0-9]+)")
 
 
@@ -61,19 +63,62 @@ def operand(path: Path) -> str:
     return f"./{name}" if name.startswith("-") else name
 
 
+class Process(subprocess.Popen[bytes]):
+    """A program. Its `returncode` is NO_STATUS, and never 0, if the system doesn't give its exit status.
+
+    That is so if this process ignores SIGCHLD, or another part of it has waited for all processes. Popen takes such a
+    program for one that has succeeded.
+    """
+
+    def __init__(self, *arguments: Any, **options: Any) -> None:
+        self._turn = threading.Lock()  # of the one thread that takes the status
+        super().__init__(*arguments, **options)
+
+    def poll(self) -> Optional[int]:
+        if self._turn.acquire(blocking=False):
+            try:
+                self._take_status(os.WNOHANG)
+            finally:
+                self._turn.release()
+        return self.returncode
+
+    def wait(self, timeout: Optional[float] = None) -> int:
+        if timeout is None:
+            with self._turn:
+                self._take_status(0)
+            return self.returncode
+        end = time.monotonic() + timeout
+        while self.poll() is None:
+            if time.monotonic() > end:
+                raise subprocess.TimeoutExpired(self.args, timeout)
+            time.sleep(_PAUSE)
+        return self.returncode
+
+    def _take_status(self, options: int) -> None:
+        if self.returncode is not None:
+            return
+        try:
+            found, status = os.waitpid(self.pid, options)
+        except ChildProcessError:
+            self.returncode = NO_STATUS
+        else:
+            if found:
+                self.returncode = os.waitstatus_to_exitcode(status)
+
+
 def start(
     command: tuple[str, ...],
     said: IO[bytes],
     stdin: int,
     stdout: Union[int, IO[bytes]] = subprocess.PIPE,
     room: int = -1,
-) -> subprocess.Popen[bytes]:
+) -> Process:
     """Starts the program, whose standard error goes to the file `said`. A pipe to it has a buffer of `room` bytes.
 
     A program that the main thread has started ends with this process, also if that is killed.
     """
     try:
-        return subprocess.Popen(command, room, stdin=stdin, stdout=stdout, stderr=said, preexec_fn=_ending_with_starter())
+        return Process(command, room, stdin=stdin, stdout=stdout, stderr=said, preexec_fn=_ending_with_starter())
     except OSError as error:
         raise ProgramMissing(f"{command[0]}: {error.strerror}") from error
     except subprocess.SubprocessError as error:  # the new process had no memory to do what it does first
@@ -107,7 +152,7 @@ def started(
     stdin: int,
     stdout: Union[int, IO[bytes]] = subprocess.PIPE,
     room: int = -1,
-) -> Iterator[subprocess.Popen[bytes]]:
+) -> Iterator[Process]:
     """Starts the program as `start` does, and ends it at the end of the block, also if a signal ends the command."""
     process = None
     try:
@@ -120,7 +165,7 @@ def started(
             _end(process)
 
 
-def _end(process: subprocess.Popen[bytes]) -> None:
+def _end(process: Process) -> None:
     with deferred():
         process.kill()
         process.wait()
@@ -135,14 +180,14 @@ def close(pipe: IO[bytes]) -> None:
         pipe.close()
 
 
-def end_of(process: subprocess.Popen[bytes], said: IO[bytes]) -> Error:
+def end_of(process: Process, said: IO[bytes]) -> Error:
     """Waits for a program that doesn't go on, and returns what it has reported."""
     status = process.wait()
     said.seek(0)
     return error_of(status, said.read().decode(errors="surrogateescape"))
 
 
-def fault_of(process: subprocess.Popen[bytes], said: IO[bytes]) -> Optional[Fault]:
+def fault_of(process: Process, said: IO[bytes]) -> Optional[Fault]:
     """Waits for the program to end, and returns the fault of its input that it has reported, if any.
 
     Raises what else it has reported.

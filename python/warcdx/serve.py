@@ -9,7 +9,7 @@ from collections.abc import Generator, Iterator
 from typing import IO, Optional
 
 from .errors import Error, ProgramEnded, ProgramError, ReplyTooLate, ReplyTooLong
-from .program import end_of, start
+from .program import Process, end_of, start
 from .reply import END, MARK, NOTHING, PIECE, is_whole, refusal_of, rows_of, text_of
 
 PATIENCE = 10  # seconds for the program to end
@@ -26,7 +26,7 @@ class Serve:
     def __init__(self, program: str, indexes: tuple[str, ...]) -> None:
         self._command = (program, "serve", *indexes)
         self._indexes = indexes
-        self._process: Optional[subprocess.Popen[bytes]] = None
+        self._process: Optional[Process] = None
         self._said: Optional[IO[bytes]] = None
 
     def rows(self, query: bytes, seconds: Optional[float] = None, most: Optional[int] = None) -> list[list[str]]:
@@ -109,7 +109,7 @@ class Serve:
         yield text_of(last, is_json, self._indexes)
 
     def _longer_pieces(
-        self, process: subprocess.Popen[bytes], query: bytes, held: bytearray, seconds: Optional[float]
+        self, process: Process, query: bytes, held: bytearray, seconds: Optional[float]
     ) -> Generator[bytes, None, bool]:
         """Asks, and yields the reply but for its end, which is left in `held`. Returns whether it has nothing else."""
         is_short, limit = True, _limit(seconds)
@@ -123,7 +123,7 @@ class Serve:
         return is_short
 
     def _exchange(
-        self, process: subprocess.Popen[bytes], asked: bytes, end: bytes, limit: Optional[float], most: Optional[int]
+        self, process: Process, asked: bytes, end: bytes, limit: Optional[float], most: Optional[int]
     ) -> bytes:
         self._ask(process, asked, limit)
         reply = bytearray()
@@ -135,7 +135,7 @@ class Serve:
         return bytes(reply)
 
     @staticmethod
-    def _ask(process: subprocess.Popen[bytes], asked: bytes, limit: Optional[float]) -> None:
+    def _ask(process: Process, asked: bytes, limit: Optional[float]) -> None:
         assert process.stdin is not None
         left = memoryview(asked)
         with contextlib.suppress(BrokenPipeError):
@@ -145,7 +145,7 @@ class Serve:
                 except BlockingIOError:
                     _wait(process.stdin, select.POLLOUT, limit)
 
-    def _read(self, process: subprocess.Popen[bytes], limit: Optional[float]) -> bytes:
+    def _read(self, process: Process, limit: Optional[float]) -> bytes:
         assert process.stdout is not None and self._said is not None
         if limit is not None:
             _wait(process.stdout, select.POLLIN, limit)
@@ -155,7 +155,7 @@ class Serve:
         return piece
 
     @staticmethod
-    def _end_of(process: subprocess.Popen[bytes], said: IO[bytes]) -> Error:
+    def _end_of(process: Process, said: IO[bytes]) -> Error:
         """Returns why the program has closed its output. One that doesn't end by itself is ended."""
         assert process.stdin is not None
         with contextlib.suppress(BrokenPipeError):
@@ -166,7 +166,7 @@ class Serve:
             process.kill()
         return end_of(process, said)
 
-    def _running(self) -> subprocess.Popen[bytes]:
+    def _running(self) -> Process:
         if self._process is not None:
             if self._process.poll() is None:
                 return self._process
@@ -182,7 +182,7 @@ class Serve:
         self._said = said
         return self._process
 
-    def _forget(self, process: subprocess.Popen[bytes]) -> subprocess.Popen[bytes]:
+    def _forget(self, process: Process) -> Process:
         for pipe in (process.stdin, process.stdout, self._said):
             if pipe is not None:
                 with contextlib.suppress(BrokenPipeError):

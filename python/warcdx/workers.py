@@ -91,7 +91,10 @@ class _Workers:
         found = os.waitid(os.P_ALL, 0, os.WEXITED | os.WNOWAIT)
         assert found is not None
         with deferred():
-            self._end(found.si_pid)
+            if found.si_pid in self._running:
+                self._end(found.si_pid)
+            else:  # what became this command had started it
+                os.waitpid(found.si_pid, 0)
 
     def _end(self, identifier: int) -> None:
         """Takes the status of a process that has ended, and what it has said."""
