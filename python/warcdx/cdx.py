@@ -8,6 +8,7 @@ from .codings import Unreadable
 from .command import temporary_file
 from .merging import MOST, merge
 from .program import Path, find_program, operand, running
+from .streams import whole
 from .url_keys import MOST_URL, Keyed, keys_of
 
 HEADER = b" CDX N b a m s k r M S V g\n"
@@ -44,6 +45,7 @@ def write_cdx(indexes: Sequence[Path], output: IO[bytes], program: str) -> None:
 
     Raises Error as `warcdx merge` fails, after the captures before the fault.
     """
+    output = whole(output)
     if len(indexes) > MOST:
         with temporary_file() as merged:
             merge(indexes, merged, program=program)

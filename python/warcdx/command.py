@@ -14,10 +14,11 @@ from collections.abc import Callable, Iterator, Sequence
 from types import FrameType, TracebackType
 from typing import IO, BinaryIO, NoReturn, Optional
 
+from .streams import OutputError, open_closed_streams, replace_standard_streams, write_error
+
 USAGE = 2  # the exit status after a usage error
 FAILED = 3  # the exit status if a file, memory, the output or a program failed
 NO_THREAD = "can't start new thread"  # the message of a RuntimeError if there is no memory for a thread
-_BUFFER = 1 << 16  # bytes
 _RESERVE = 1 << 21  # bytes
 _AGAIN = 0.001  # seconds
 _TICK = 1.0  # seconds
@@ -25,10 +26,6 @@ _TICK = 1.0  # seconds
 
 class Ended(BaseException):
     """A signal ends the command. No command handles it, but each one cleans up as it passes."""
-
-
-class OutputError(OSError):
-    """Standard output can't be written."""
 
 
 class _Signals:
@@ -198,25 +195,6 @@ def _is_text(word: str) -> bool:
     return True
 
 
-class _StandardOutput(io.FileIO):
-    def write(self, data: "bytes | bytearray | memoryview") -> int:  # type: ignore[override]
-        try:
-            return super().write(data)
-        except OSError as error:
-            raise OutputError(error.errno, error.strerror) from None
-
-
-class _StandardError(io.RawIOBase):
-    """Standard error. What can't be written is lost, as there is no other place for it."""
-
-    def writable(self) -> bool:
-        return True
-
-    def write(self, data: "bytes | bytearray | memoryview") -> int:  # type: ignore[override]
-        _write_error(data)
-        return len(data)
-
-
 def run(name: str, work: Callable[[BinaryIO], int]) -> int:
     """Runs a command, whose standard output is handed to `work`, and returns its exit status.
 
@@ -232,17 +210,17 @@ def run(name: str, work: Callable[[BinaryIO], int]) -> int:
     except (MemoryError, SystemError):  # SystemError: Python's own code had no memory for an exception
         status, said = FAILED, no_memory
     # What the exceptions held is free, so that there is memory to say so.
-    _write_error(said)
+    write_error(said)
     _signals.end()
     return status
 
 
 def _run_on_standard_streams(name: str, work: Callable[[BinaryIO], int]) -> tuple[int, bytes]:
     """Returns the exit status, and what is to be written to standard error."""
-    _open_closed_streams()
+    open_closed_streams()
     _signals.catch()
     threading.excepthook = _end_of_thread
-    output = _replace_standard_streams()
+    output = replace_standard_streams()
     try:
         return _work_and_flush(work, output), b""
     except Ended:
@@ -251,18 +229,6 @@ def _run_on_standard_streams(name: str, work: Callable[[BinaryIO], int]) -> tupl
         return FAILED, _message(name, _failure_of(error))
     finally:
         _close(output)
-
-
-def _replace_standard_streams() -> io.BufferedWriter:
-    """Returns standard output."""
-    # Unbuffered, a file of Python writes a part of what it is given. This one writes all of it.
-    output = io.BufferedWriter(_StandardOutput(1, "wb", closefd=False), _BUFFER)
-    if sys.stdin is None:  # it was closed
-        sys.stdin = io.TextIOWrapper(io.BufferedReader(io.FileIO(0, closefd=False)))
-    sys.stdout = io.TextIOWrapper(output, "utf-8", "surrogateescape", "\n", write_through=True)
-    errors = io.BufferedWriter(_StandardError())
-    sys.stderr = io.TextIOWrapper(errors, "utf-8", "backslashreplace", "\n", line_buffering=True)
-    return output
 
 
 def _work_and_flush(work: Callable[[BinaryIO], int], output: io.BufferedWriter) -> int:
@@ -311,37 +277,13 @@ def reason_of(error: Exception) -> str:
     return f"{printable(os.fsdecode(error.filename))}: {error.strerror}"
 
 
-def _open_closed_streams() -> None:
-    """Opens files that can't be used as the standard streams that are closed.
-
-    So no other file takes their places.
-    """
-    for number, mode in ((0, os.O_WRONLY), (1, os.O_RDONLY), (2, os.O_RDONLY)):
-        try:
-            os.fstat(number)
-        except OSError:
-            opened = os.open(os.devnull, mode)
-            if opened != number:
-                os.dup2(opened, number)
-                os.close(opened)
-            os.set_inheritable(number, True)
-
-
 def report(name: str, text: str) -> None:
     """Writes a line to standard error, if that is possible."""
-    _write_error(_message(name, text))
+    write_error(_message(name, text))
 
 
 def _message(name: str, text: str) -> bytes:
     return f"{name}: {text}\n".encode(errors="surrogateescape")
-
-
-def _write_error(data: "bytes | bytearray | memoryview") -> None:
-    try:
-        while data:
-            data = data[os.write(2, data) :]
-    except (OSError, MemoryError):
-        pass
 
 
 def printable(text: str) -> str:

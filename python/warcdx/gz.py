@@ -25,6 +25,7 @@ from .members import MAGIC, MOST_TEXT, Member, Members, Piece
 from .places import Places
 from .program import Path, close, fault_of, find_program, started
 from .record import HEAD_LIMIT, Record, RecordStream, Unreadable, size_of_record
+from .streams import whole
 
 MOST_NAME = 255  # bytes
 GOOD = (0, 1)  # the exit statuses of the program if its output is complete
@@ -62,7 +63,7 @@ class CompressedArchive:
         with self.open() as file, temporary_file() as lines:
             damage, reported = self._index_members(command, file, lines, places)
             lines.seek(0)
-            places.write(lines, output, shown)
+            places.write(lines, whole(output), shown)
         if reported is not None:
             raise self._fault_of_member(reported, places) or damage or self._elsewhere(reported)
         if damage is not None:
@@ -114,7 +115,7 @@ class CompressedArchive:
         with self.open() as file:
             self._only("list", file, offset)
             members = Members(file, self.path, offset)
-            output.writelines(members.one(offset))
+            whole(output).writelines(members.one(offset))
             self._check_length(members, length)
 
     def verdict(self, offset: int) -> str:
@@ -171,7 +172,7 @@ class CompressedArchive:
         with file:
             copy = tempfile.TemporaryFile(buffering=0)
             try:
-                shutil.copyfileobj(file, copy)
+                shutil.copyfileobj(file, whole(copy))
                 copy.seek(0)
             except BaseException:
                 copy.close()

@@ -5,6 +5,7 @@ from typing import IO
 
 from .command import temporary_folder
 from .program import Path, find_program, operand, running
+from .streams import whole
 
 MOST = 1000  # indexes that are merged at a time: the program takes 1,024, and many systems as many open files
 _PIECE = 1 << 20
@@ -30,6 +31,7 @@ def _merge_group(indexes: Sequence[Path], path: pathlib.Path, program: str) -> p
 
 def write_output(output: IO[bytes], *command: str) -> None:
     """Runs the program, and writes what it prints to an output."""
+    output = whole(output)
     with running(*command) as pipe:
         while piece := pipe.read(_PIECE):
             output.write(piece)

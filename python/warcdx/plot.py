@@ -27,9 +27,10 @@ from dataclasses import dataclass
 from typing import Any, Optional
 
 from . import command, counting
-from .command import OutputError, printable
+from .command import printable
 from .errors import Error, Fault, Refused
 from .index import Index
+from .streams import OutputError
 
 NAME = "warcdx.plot"
 FORMATS = (".png", ".svg")

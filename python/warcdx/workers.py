@@ -9,6 +9,7 @@ from typing import IO, BinaryIO, NoReturn
 
 from .command import FAILED, deferred, printable, report, reserve, run, temporary_folder
 from .errors import Error
+from .streams import write_error
 
 Work = Callable[[BinaryIO], int]
 BROKEN = 64  # is added to the exit status of a process whose work has failed by an exception
@@ -115,10 +116,7 @@ class _Workers:
 
     def _report(self, number: int) -> None:
         """Writes what a work has written to standard error, which is less than a pipe holds."""
-        text = self._said.pop(number)
-        with contextlib.suppress(OSError):
-            while text:
-                text = text[os.write(2, text) :]
+        write_error(self._said.pop(number))
 
     def close(self) -> None:
         """Ends the processes that run."""

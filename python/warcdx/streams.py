@@ -1,0 +1,131 @@
+"""The standard streams of a command, and outputs to which all comes that is written, or an error."""
+import contextlib
+import errno
+import io
+import os
+import select
+import sys
+from typing import IO, cast
+
+_BUFFER = 1 << 16  # bytes
+
+
+class OutputError(OSError):
+    """Standard output can't be written."""
+
+
+class _StandardInput(io.RawIOBase):
+    """Standard input. Where reading doesn't wait, as of a pipe that its other users have set so, this waits."""
+
+    def readable(self) -> bool:
+        return True
+
+    def fileno(self) -> int:
+        return 0
+
+    def readinto(self, room: "bytearray | memoryview") -> int:  # type: ignore[override]
+        while True:
+            try:
+                return os.readv(0, [room])
+            except BlockingIOError:
+                _wait_for(0, select.POLLIN)
+
+
+class _StandardOutput(io.RawIOBase):
+    def writable(self) -> bool:
+        return True
+
+    def fileno(self) -> int:
+        return 1
+
+    def write(self, data: "bytes | bytearray | memoryview") -> int:  # type: ignore[override]
+        while True:
+            try:
+                return os.write(1, data)
+            except BlockingIOError:
+                _wait_for(1, select.POLLOUT)
+            except OSError as error:
+                raise OutputError(error.errno, error.strerror) from None
+
+
+def _wait_for(descriptor: int, event: int) -> None:
+    """Waits until a file can be read or written, or has ended."""
+    poll = select.poll()
+    poll.register(descriptor, event)
+    poll.poll()
+
+
+class _StandardError(io.RawIOBase):
+    """Standard error. What can't be written is lost, as there is no other place for it."""
+
+    def writable(self) -> bool:
+        return True
+
+    def write(self, data: "bytes | bytearray | memoryview") -> int:  # type: ignore[override]
+        write_error(data)
+        return len(data)
+
+
+def open_closed_streams() -> None:
+    """Opens files that can't be used as the standard streams that are closed.
+
+    So no other file takes their places.
+    """
+    for number, mode in ((0, os.O_WRONLY), (1, os.O_RDONLY), (2, os.O_RDONLY)):
+        try:
+            os.fstat(number)
+        except OSError:
+            opened = os.open(os.devnull, mode)
+            if opened != number:
+                os.dup2(opened, number)
+                os.close(opened)
+            os.set_inheritable(number, True)
+
+
+def replace_standard_streams() -> io.BufferedWriter:
+    """Returns standard output."""
+    # Unbuffered, a file of Python writes a part of what it is given. This one writes all of it.
+    output = io.BufferedWriter(_StandardOutput(), _BUFFER)
+    sys.stdin = io.TextIOWrapper(io.BufferedReader(_StandardInput(), _BUFFER))
+    sys.stdout = io.TextIOWrapper(output, "utf-8", "surrogateescape", "\n", write_through=True)
+    errors = io.BufferedWriter(_StandardError())
+    sys.stderr = io.TextIOWrapper(errors, "utf-8", "backslashreplace", "\n", line_buffering=True)
+    return output
+
+
+def write_error(data: "bytes | bytearray | memoryview") -> None:
+    """Writes to standard error, if that is possible."""
+    with contextlib.suppress(OSError, MemoryError):
+        while data:
+            try:
+                data = data[os.write(2, data) :]
+            except BlockingIOError:
+                _wait_for(2, select.POLLOUT)
+
+
+class _Whole(io.BufferedIOBase):
+    """Writes all of what it is given to an unbuffered file, or fails."""
+
+    def __init__(self, file: io.RawIOBase) -> None:
+        self._file = file
+
+    def writable(self) -> bool:
+        return True
+
+    def write(self, data: "bytes | bytearray | memoryview") -> int:  # type: ignore[override]
+        left = memoryview(data).cast("B")
+        while left:
+            count = self._file.write(left)
+            if not count:
+                raise BlockingIOError(errno.EAGAIN, os.strerror(errno.EAGAIN))
+            left = left[count:]
+        return len(data)
+
+
+def whole(output: IO[bytes]) -> IO[bytes]:
+    """Returns an output for a given one, that writes all of what it is given, or fails.
+
+    An unbuffered file of Python may write a part, and returns how much.
+    """
+    given: object = output
+    return cast("IO[bytes]", _Whole(given)) if isinstance(given, io.RawIOBase) else output
