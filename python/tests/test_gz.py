@@ -13,8 +13,9 @@ import unittest
 import unittest.mock
 from collections.abc import Iterator, Sequence
 
-from warcdx import Archive, Fault, ProgramEnded, faults, gz
+from warcdx import Archive, Fault, ProgramEnded, faults
 from warcdx.gz import CompressedArchive
+from warcdx.member_records import first_record
 from warcdx.members import MAGIC, MOST_TEXT, PIECE
 
 from .support import PROGRAM, SAMPLES, Case
@@ -169,7 +170,7 @@ class Bad(Gz):
                 taken += len(piece)
                 yield piece
 
-        for _ in gz._first_record(pieces()):
+        for _ in first_record(pieces()):
             pass
         self.assertLessEqual(taken, len(start) + MOST_TEXT + PIECE)
         archive = self.archive(packed(start + bytes(64 << 20)))
@@ -335,7 +336,9 @@ class Commands(Gz):
         for arguments in ((), ("index",), ("get", "x", "a"), ("get", "0"), ("get", 1 << 63, "a"), ("nosuch", "a")):
             self.assertEqual(2, self.run_command(*arguments)[0])
         self.archive(packed(resource(1)))
-        self.assertEqual(2, self.run_command("index", "--types", "nosuch", "a.warc.gz")[0])
+        (self.folder / "a.warc").write_bytes(resource(1))
+        for types, name in itertools.product(("nosuch", "", "response,"), ("a.warc.gz", "a.warc")):
+            self.assertEqual((2, b""), self.run_command("index", "--types", types, name)[:2])
 
     def test_an_output_that_fails_is_named(self) -> None:
         self.archive(packed(*map(resource, range(20_000))))

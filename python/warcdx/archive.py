@@ -7,10 +7,12 @@ from typing import Optional
 
 from .command import temporary_file
 from .errors import ProgramError, fault
+from .faults import NoRecord
 from .program import Path, find_program, operand, running, started
 from .record import Record, RecordStream, Unreadable
 
 FAULTY = 1  # the exit status after a fault that is on the output, and after a digest that differs
+_MOST = (1 << 63) - 1  # bytes before the end of a record
 _VERDICT = re.compile(b"0 ([a-z0-9-]+)\n")
 _LISTED = re.compile(b"([0-9]+) ([0-9]+) ([a-z]+)\n")
 _VERIFIED = re.compile(b"([0-9]+) ([a-z0-9-]+)\n")
@@ -72,6 +74,7 @@ class Archive:
 
         It needn't be read to its end. If it is, and the archive is damaged in it, the fault is raised at the end.
         """
+        self._expect_possible(offset, length or 0)
         only = () if length is None else ("--length", str(length))
         with running(self._program, "get", *only, str(offset), self.path) as output:
             record = RecordStream.read(output)
@@ -82,6 +85,7 @@ class Archive:
 
     def verdict(self, offset: int) -> str:
         """Returns the verdict of `verify` on the record that begins at an offset, which alone is read whole."""
+        self._expect_possible(offset)
         with running(self._program, "get", str(offset), self.path) as record, temporary_file() as said:
             with started((self._program, "verify", "-"), said, record.fileno()) as process:
                 assert process.stdout is not None
@@ -90,6 +94,11 @@ class Archive:
         if not found or not is_whole:
             raise Unreadable("the program has given no verdict")
         return found[1].decode()
+
+    def _expect_possible(self, offset: int, length: int = 0) -> None:
+        """Raises NoRecord for an offset or a length that no record has, and the program refuses as an argument."""
+        if not (0 <= offset <= _MOST and 0 <= length <= _MOST):
+            raise NoRecord("NoRecord", self.path)
 
     def _lines(self, command: str, pattern: "re.Pattern[bytes]") -> Iterator[tuple[str, ...]]:
         """Yields each line of a report with its groups."""

@@ -21,10 +21,11 @@ from .errors import Fault, fault
 from .faults import BadName, CannotOpen, Closing, NoMember, NoRecord, NotCompressed, Read
 from .faults import SeveralMembers, SeveralRecords, ShortBlock, ShortHead
 from .feeding import BATCH, Run, fed
+from .member_records import first_record, rest_of, with_head
 from .members import MAGIC, MOST_TEXT, Member, Members, Piece
 from .places import Places
 from .program import Path, close, fault_of, find_program, started
-from .record import HEAD_LIMIT, Record, RecordStream, Unreadable, size_of_record
+from .record import Record, RecordStream, Unreadable, size_of_record
 from .streams import whole
 
 MOST_NAME = 255  # bytes
@@ -58,7 +59,7 @@ class CompressedArchive:
         If the archive is at fault, the captures before the fault are written first.
         """
         shown = self._checked_name(os.path.basename(self.path) if name is None else name)
-        command = (self._program, "index", *(("--types", types) if types else ()), "-")
+        command = (self._program, "index", *(() if types is None else ("--types", types)), "-")
         places = Places()
         with self.open() as file, temporary_file() as lines:
             damage, reported = self._index_members(command, file, lines, places)
@@ -112,7 +113,7 @@ class CompressedArchive:
         Raises NoRecord if no member begins there, or after it one of another length than that which is given, in
         bytes of the compressed file. Only that member is read.
         """
-        with self.open() as file:
+        with self._opened_at(offset) as file:
             self._only("list", file, offset)
             members = Members(file, self.path, offset)
             whole(output).writelines(members.one(offset))
@@ -120,7 +121,7 @@ class CompressedArchive:
 
     def verdict(self, offset: int) -> str:
         """Returns the verdict of `verify` on the record of the member that begins at an offset."""
-        with self.open() as file:
+        with self._opened_at(offset) as file:
             return self._only("verify", file, offset).decode().rstrip("\n")
 
     @contextlib.contextmanager
@@ -130,7 +131,7 @@ class CompressedArchive:
         What follows the record in its member isn't noticed. If the record is read to its end, and the member has another
         length than that which is given, raises NoRecord.
         """
-        with self.open() as file:
+        with self._opened_at(offset) as file:
             members = Members(file, self.path, offset)
             with fed((self._program, "get", "0", "-"), members.one(offset)) as run:
                 record = RecordStream.read(run.output)
@@ -160,6 +161,14 @@ class CompressedArchive:
             if isinstance(error, Fault):
                 raise fault(error.name, self.path, None if error.offset is None else offset)
             raise error
+
+    @contextlib.contextmanager
+    def _opened_at(self, offset: int) -> Iterator[IO[bytes]]:
+        """Opens the compressed file. Raises NoRecord if no byte of it has this offset, which may be any number."""
+        with self.open() as file:
+            if not 0 <= offset < file.seek(0, os.SEEK_END):
+                raise NoRecord("NoRecord", self.path)
+            yield file
 
     def open(self) -> IO[bytes]:
         """Opens the compressed file, unbuffered. What can't be set back, such as a pipe, is copied first."""
@@ -203,13 +212,15 @@ class CompressedArchive:
         members, is_read, add = Members(file, self.path), True, places.add
         for piece in members:
             size = size_of_record(piece)
+            if size is None and not members.is_whole:
+                piece, size = with_head(members, piece)
             try:
                 output.write(piece)
                 if not members.is_whole:
-                    output.writelines(members.rest())
+                    output.writelines(rest_of(members, size))
             except BrokenPipeError:  # the program has ended at a fault, here or before
                 is_read = False
-                collections.deque(members.rest(), 0)
+                collections.deque(rest_of(members, size), 0)
             if members.size - members.start != size:
                 self.refuse(file, members.packed_start)
             add(members.start, members.packed_start, members.position - members.packed_start)
@@ -229,7 +240,7 @@ class CompressedArchive:
         Raises why the member isn't one whole record. What is after the record costs at most MOST_TEXT bytes.
         """
         members = Members(file, self.path, offset)
-        with fed((self._program, command, "-"), _first_record(members.one(offset))) as run:
+        with fed((self._program, command, "-"), first_record(members.one(offset))) as run:
             return self._said_of_one(run, offset)
 
     def _said_of_one(self, run: Run, offset: int) -> bytes:
@@ -251,33 +262,21 @@ class CompressedArchive:
         return first.said
 
     def refuse(self, file: IO[bytes], offset: int) -> NoReturn:
-        """Raises why the member at an offset isn't one whole record."""
-        with contextlib.suppress(ShortHead, ShortBlock, Closing):
-            self._one("list", file, offset)
-            raise Unreadable(f"the member at {offset} is one record whose head the package can't read")
+        """Raises why the member at an offset isn't one whole record: alone, or with the members after it."""
+        cut = self._cut_of(file, offset)
         with fed((self._program, "list", "-"), Members(file, self.path, offset).all()) as run:
-            self._refuse_first(run, offset)
+            first = run.line()
+            if first is None:
+                raise run.error()
+            raise cut if first.is_fault else SeveralMembers("SeveralMembers", self.path, offset)
 
-    def _refuse_first(self, run: Run, offset: int) -> NoReturn:
-        first = run.line()
-        if first is None:
-            raise run.error()
-        if first.is_fault:
-            raise fault(first.said.decode(), self.path, offset)
-        raise SeveralMembers("SeveralMembers", self.path, offset)
-
-
-def _first_record(pieces: Iterator[Piece]) -> Iterator[Piece]:
-    """Yields pieces up to MOST_TEXT bytes behind the end of the record that they begin with."""
-    head, taken, end = bytearray(), 0, None
-    for piece in pieces:
-        if end is None and len(head) <= HEAD_LIMIT:
-            head += piece
-            end = size_of_record(head)
-        taken += len(piece)
-        yield piece
-        if end is not None and taken > end + MOST_TEXT:
-            return
+    def _cut_of(self, file: IO[bytes], offset: int) -> Fault:
+        """Returns the fault of the member at an offset if it ends in a record. Raises another one."""
+        try:
+            self._one("list", file, offset)
+        except (ShortHead, ShortBlock, Closing) as cut:
+            return cut
+        raise Unreadable(f"the member at {offset} is one record whose head the package can't read")
 
 
 class _Source:
@@ -293,10 +292,12 @@ class _Source:
         """Yields what these members hold. A short one is checked before it is yielded, a long one meanwhile."""
         for piece in self.members:
             size = size_of_record(piece)
+            if size is None and not self.members.is_whole:
+                piece, size = with_head(self.members, piece)
             if self.members.is_whole and len(piece) != size:
                 return
             yield self._copied(piece)
-            for piece in self.members.rest():
+            for piece in rest_of(self.members, size):
                 yield self._copied(piece)
             if self.members.size - self.members.start != size:
                 return

@@ -149,7 +149,7 @@ def index_one(given: argparse.Namespace, file: str, output: IO[bytes]) -> None:
     if isinstance(archive, CompressedArchive):
         archive.index(output, types=given.types)
     else:
-        types = ("--types", given.types) if given.types else ()
+        types = () if given.types is None else ("--types", given.types)
         write_output(output, find_program(given.warcdx), "index", *types, archive.path)
 
 

@@ -19,6 +19,8 @@ _LENGTH = re.compile("[0-9]{1,19}")
 _USUAL_HEAD = 2048  # bytes in which most heads end
 _LAST_LENGTH = b"\r\nContent-Length: "  # how the last field begins of most heads
 _USUAL_LENGTH = re.compile(rb"\r\nContent-Length: ([0-9]{1,19})\r\n(?![ \t])")
+_LENGTH_NAME = re.compile(rb"\r\n(?i:Content-Length):")
+_END_OF_FIELD = re.compile(rb"\r\n(?![ \t])")
 _CLOSINGS = 2 * len(CLOSING)
 
 
@@ -187,13 +189,17 @@ def size_of_record(start: Union[bytes, bytearray, memoryview]) -> Optional[int]:
 
 
 def _length_in(head: bytes) -> Optional[int]:
+    """Returns the length in a head, of which no other field is read: there may be hundreds of thousands."""
     found = _USUAL_LENGTH.search(head)
     if found:
         return int(found[1])
-    try:
-        return _length_of(Head(Head.fields_of(head)))
-    except Unreadable:
+    found = _LENGTH_NAME.search(head)
+    if not found:
         return None
+    end = _END_OF_FIELD.search(head, found.end())
+    (line,) = _unfolded(head[found.end() : end.start() if end else None].decode(errors="surrogateescape").split("\r\n"))
+    value = line.strip(" \t")
+    return int(value) if _LENGTH.fullmatch(value) else None
 
 
 def _length_of(head: Head) -> int:
