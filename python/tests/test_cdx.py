@@ -1,4 +1,5 @@
 """warcdx-cdx: eleven-column CDX from indexes, and indexes from CDX files."""
+import io
 import json
 import os
 import pathlib
@@ -9,6 +10,8 @@ import subprocess
 import sys
 import unittest
 from typing import Any
+
+from warcdx.cdx import _batches
 
 from tests.support import ENDING, PROGRAM, SAMPLES, WAIT, Case, lines, wait_until_caught
 
@@ -80,6 +83,31 @@ class To(Cdx):
         names = [self.put_bytes(line("k", offset=str(number)), str(number)) for number in range(1030)]
         found, said, status = self.run_command("to", *names)
         self.assertEqual((1031, "", 0), (len(found.splitlines()), said, status))
+
+    def test_a_pipe_is_copied_once_to_a_file(self) -> None:
+        """Also where it is named twice."""
+        self.put_bytes(LINE, "index")
+        os.mkfifo(self.folder / "pipe")
+        for words, wanted in (
+            ("pipe", (HEADER + ROW, "", 0)),
+            ("pipe index pipe", (HEADER + ROW, "", 0)),
+            ("pipe nosuch", (b"", "warcdx-cdx: nosuch: cannot open: No such file or directory\n", 3)),
+        ):
+            shell = f'cat index > pipe & exec "$0" "$1" --warcdx "$2" to {words}'
+            command = ("sh", "-c", shell, sys.executable, str(COMMAND), os.path.abspath(PROGRAM))
+            done = subprocess.run(command, cwd=self.folder, capture_output=True, timeout=WAIT)
+            self.assertEqual(wanted, (done.stdout, done.stderr.decode(), done.returncode), words)
+        self.put_bytes(b"x\n", "index")
+        done = subprocess.run(("sh", "-c", shell.replace(words, "pipe"), *command[3:]), cwd=self.folder, capture_output=True, timeout=WAIT)
+        self.assertEqual((b"", b"warcdx-cdx: pipe: BadLine 0\n", 1), (done.stdout, done.stderr, done.returncode))
+
+    def test_a_pipe_that_the_shell_has_opened(self) -> None:
+        reading_end, writing_end = os.pipe()
+        with open(reading_end, "rb"), open(writing_end, "wb") as pipe:
+            pipe.write(LINE)
+            pipe.close()
+            found = self.run_command("to", f"/dev/fd/{reading_end}", pass_fds=(reading_end,))
+        self.assertEqual((HEADER + ROW, "", 0), found)
 
     def test_what_is_no_index_is_said(self) -> None:
         for text, wanted in (
@@ -215,6 +243,17 @@ class Both(Cdx):
 
         for word, text_of in (("to", lambda count: lines(count).encode()), ("from", lambda count: ROW * count)):
             self.assertLess(peak(word, text_of(100_000)), peak(word, text_of(20_000)) + 2000, word)  # kB
+
+    def test_rows_are_held_up_to_a_number_of_bytes(self) -> None:
+        """Whatever columns are long. One row aside, as each is held alone."""
+        for count, long in ((2_000, {"k": "x" * 10_000}), (300, {"g": "x" * 100_000}), (300, {"m": "x" * 100_000}), (40_000, {})):
+            batches = list(_batches(io.BytesIO(row(**long) * count)))
+            self.assertEqual(count, sum(len(rows) for rows, _ in batches))
+            for rows, end in batches:
+                sizes = [sum(map(len, each[1:])) for each in rows]
+                self.assertLess(sum(sizes[:-1]), 1 << 20)
+                self.assertIsNone(end)
+            self.assertLess(len(batches), 2 + sum(map(len, long.values())) * count // 900_000 + count // 4096)
 
     def test_help_version_and_usage_errors(self) -> None:
         version = (COMMAND.parents[1] / "VERSION").read_text().strip()

@@ -86,7 +86,7 @@ class Heads(Case):
             self.assertEqual(([(0, len(first))], [0], f"{name} {len(first)}"), self.listed(first, damaged))
 
     def test_a_head_is_read_in_many_small_pieces_at_the_cost_of_its_bytes(self) -> None:
-        """Stored blocks of one byte each make it. Each byte is looked at once, and not once for each piece."""
+        """Stored blocks of one byte each make it. The head is measured once, and not once for each piece."""
         text = record(100_000, 50_000)
         blocks = b"".join(b"\0\1\0\xfe\xff" + text[at : at + 1] for at in range(len(text) - 1)) + b"\1\1\0\xfe\xff" + text[-1:]
         end = zlib.crc32(text).to_bytes(4, "little") + len(text).to_bytes(4, "little")

@@ -2,9 +2,11 @@
 import json
 import os
 import pathlib
+import random
 import resource
 import subprocess
 import unittest
+from unittest import mock
 
 from warcdx import Capture, Refused, faults, refusals
 
@@ -74,6 +76,22 @@ class Queries(Case):
             self.assertEqual(50, sum(1 for _ in index.rows(("offset",), ALL + "&limit=50", page_size=size)))
         last = list(index.captures(ALL, page_size=3, resumeKey="com%2Cexample%29%2F0023450+20160101000000+a.warc+23450"))
         self.assertEqual([23_451, 23_452, 23_453, 23_454, 23_455], [capture.offset for capture in last])
+
+    def test_pages_end_only_at_keys_that_a_query_can_have(self) -> None:
+        """Every capture is given, whatever its key is, also if no page but the last can end."""
+        choice = random.Random(2)
+        for long in (lambda number: number % 5 == 4, lambda number: True, lambda number: choice.random() < 0.5, lambda number: number > 6):
+            keys = [f"{number:04}" + "%25" * 22_000 * long(number) for number in range(20)]
+            text = "".join(LINE % (key, "a", number + 1, number) for number, key in enumerate(keys))
+            index = self.open(self.put(text))
+            for page_size in (1, 2, 5, 7, 20, 100):
+                self.assertEqual(list(range(20)), [each.offset for each in index.captures(ALL, page_size=page_size)])
+                self.assertEqual(list(range(20)), index.columns(["offset"], ALL, page_size=page_size)["offset"])
+                for limit in (1, 4, 5, 6, 19, 20, 21):
+                    rows = index.rows(["offset"], ALL, page_size=page_size, limit=limit)
+                    self.assertEqual([[str(number)] for number in range(min(limit, 20))], list(rows))
+        with mock.patch.multiple("warcdx.index", PAGE_SIZE=5, MOST_LIMIT=9):
+            self.assertEqual((20, 13), (index.count(ALL), index.count(ALL, limit=13)))
 
     def test_a_page_has_the_key_of_the_next(self) -> None:
         index = self.open(self.put(lines(5)))

@@ -14,7 +14,8 @@ from .url_keys import MOST_URL, Keyed, keys_of
 HEADER = b" CDX N b a m s k r M S V g\n"
 MOST_LINE = 1 << 24  # bytes of a line, with its line feed
 _MOST_ROWS = 4096  # that one run of the program makes keys for
-_MOST_BYTES = 1 << 18  # of their URLs, one row aside
+_MOST_URLS = 1 << 18  # bytes of their URLs, one row aside
+_MOST_HELD = 1 << 20  # bytes of all their values, one row aside
 _MOST_COLUMNS = 64  # of a header
 _USUAL_LETTERS = {11: b"NbamskrMSVg", 9: b"NbamskrVg"}  # of files without a header, by their columns
 _TIMESTAMP = re.compile(rb"[0-9]{14}")
@@ -141,14 +142,15 @@ def cdxj_lines(file: IO[bytes], program: str) -> Iterator[bytes]:
 def _batches(file: IO[bytes]) -> Iterator[tuple[list[_Row], Optional[Exception]]]:
     """Yields the rows that one run of the program makes keys for, with the last ones also the fault that ended them."""
     rows: list[_Row] = []
-    size = 0
+    urls = held = 0
     try:
         for row in _rows(file):
             rows.append(row)
-            size += len(row.url)
-            if len(rows) == _MOST_ROWS or size >= _MOST_BYTES:
+            urls += len(row.url)
+            held += sum(map(len, row[1:]))
+            if len(rows) == _MOST_ROWS or urls >= _MOST_URLS or held >= _MOST_HELD:
                 yield rows, None
-                rows, size = [], 0
+                rows, urls, held = [], 0, 0
     except (BadRow, CannotRead) as error:
         yield rows, error
     else:

@@ -16,7 +16,7 @@ import argparse
 import contextlib
 import functools
 import os
-import shutil
+import pathlib
 import sys
 from collections.abc import Iterator, Sequence
 from typing import IO, Optional
@@ -31,6 +31,7 @@ from .program import find_program
 NAME = "warcdx-cdx"
 FAULTY = 1
 INPUT = "-"
+_PIECE = 1 << 20  # bytes
 _FAILURES = (CannotFlush, CannotOpen, Input, Memory, Read, Write)
 
 
@@ -48,45 +49,52 @@ def read_arguments(arguments: Optional[Sequence[str]]) -> argparse.Namespace:
 
 
 def to_cdx(given: argparse.Namespace, output: IO[bytes]) -> int:
+    """Writes the captures of indexes. Those that aren't files, such as pipes, are copied first: the program needs files."""
     files = given.files or [INPUT]
-    for file in files:
-        if file != INPUT and not can_open(file):
+    with contextlib.ExitStack() as stack:
+        try:
+            copies = copies_of(files, stack)
+        except CannotRead as error:
+            report(NAME, str(error))
             return FAILED
-    if INPUT not in files:
-        return write_captures(files, output, given.warcdx)
-    with copied_input() as copy:
-        return write_captures([copy if file == INPUT else file for file in files], output, given.warcdx, copy)
-
-
-def can_open(file: str) -> bool:
-    """Reports a file that can't be opened."""
-    try:
-        opened(file).close()
-    except CannotRead as error:
-        report(NAME, f"{printable(file)}: {error}")
-        return False
-    return True
-
-
-def write_captures(files: Sequence[str], output: IO[bytes], program: str, copy: Optional[str] = None) -> int:
-    """Writes the captures of indexes, one of which may be the copy of standard input. Returns the exit status."""
-    try:
-        write_cdx(files, output, program)
-    except Fault as fault:
-        if copy is not None and fault.file == copy:
-            fault.file = INPUT
-        return say(fault)
+        try:
+            write_cdx([copies.get(file, file) for file in files], output, given.warcdx)
+        except Fault as fault:
+            names = {copy: file for file, copy in copies.items()}
+            fault.file = names.get(fault.file or "", fault.file)
+            return say(fault)
     return 0
 
 
-@contextlib.contextmanager
-def copied_input() -> Iterator[str]:
-    """Copies standard input to a file, since the program reads an index only of a file."""
-    with temporary_folder() as folder:
-        path = folder / "index"
-        with open(path, "wb") as file:
-            shutil.copyfileobj(sys.stdin.buffer, file)
-        yield os.fspath(path)
+def copies_of(files: Sequence[str], stack: contextlib.ExitStack) -> dict[str, str]:
+    """Returns the copy of each file that can be read only once. Raises CannotRead, with the name of the file."""
+    copies: dict[str, str] = {}
+    folder: Optional[pathlib.Path] = None
+    for file in files:
+        if file in copies:
+            continue
+        try:
+            with opened(file) as source:
+                if file == INPUT or not source.seekable():
+                    folder = folder or stack.enter_context(temporary_folder())
+                    copies[file] = os.fspath(folder / str(len(copies)))
+                    copy_all(source, copies[file])
+        except CannotRead as error:
+            raise CannotRead(f"{printable(file)}: {error}") from error
+    return copies
+
+
+def copy_all(source: IO[bytes], path: str) -> None:
+    with open(path, "wb") as copy:
+        while piece := piece_of(source):
+            copy.write(piece)
+
+
+def piece_of(source: IO[bytes]) -> bytes:
+    try:
+        return source.read(_PIECE)
+    except OSError as error:
+        raise CannotRead(f"Read: {error.strerror}") from error
 
 
 def say(fault: Fault) -> int:
@@ -107,7 +115,8 @@ def from_cdx(given: argparse.Namespace, output: IO[bytes]) -> int:
 def convert(name: str, program: str, output: IO[bytes]) -> int:
     """Writes the lines of a CDX file, and returns the exit status. Raises Error if the program fails."""
     try:
-        write_lines(name, program, output)
+        with opened(name) as file:
+            output.writelines(cdxj_lines(file, program))
     except BadRow as bad:
         report(NAME, f"{printable(name)}: {bad}")
         return FAULTY
@@ -117,19 +126,18 @@ def convert(name: str, program: str, output: IO[bytes]) -> int:
     return 0
 
 
-def write_lines(name: str, program: str, output: IO[bytes]) -> None:
+@contextlib.contextmanager
+def opened(name: str) -> Iterator[IO[bytes]]:
+    """Opens a file, or standard input. Raises CannotRead."""
     if name == INPUT:
-        output.writelines(cdxj_lines(sys.stdin.buffer, program))
-    else:
-        with opened(name) as file:
-            output.writelines(cdxj_lines(file, program))
-
-
-def opened(name: str) -> IO[bytes]:
+        yield sys.stdin.buffer
+        return
     try:
-        return open(name, "rb")
+        file = open(name, "rb")
     except OSError as error:
         raise CannotRead(f"cannot open: {error.strerror}") from error
+    with file:
+        yield file
 
 
 def work(arguments: Optional[Sequence[str]], output: IO[bytes]) -> int:

@@ -10,7 +10,7 @@ from .faults import CannotOpen
 from .parameters import parameter_of
 from .pieces import Pieces
 from .program import Path, find_program, operand
-from .query import FIELDS, Capture, Page, Query, Value, length_of, one_line, rows_query, split_rows
+from .query import FIELDS, MOST_LIMIT, Capture, Page, Query, Value, fits, length_of, one_line, rows_query, split_rows
 from .serve import Serve
 
 PAGE_SIZE = 5000  # captures that an iterator holds at a time
@@ -76,8 +76,8 @@ class Index:
     ) -> Iterator[Capture]:
         """Yields the captures that a query selects, in order: as many as its `limit`, or all.
 
-        They are read page by page, and `page_size` of them are held at a time. Other queries are
-        answered meanwhile, however slowly the captures are taken.
+        They are read page by page, and `page_size` of them are held at a time, or more if the keys at the ends of
+        pages are too long for a query. Other queries are answered meanwhile, however slowly the captures are taken.
         """
         for row in self.rows(FIELDS, query, page_size=page_size, **parameters):
             yield Capture.of(row)
@@ -87,17 +87,19 @@ class Index:
     ) -> Iterator[list[str]]:
         """Yields the values of these fields of each capture that a query selects, as `captures` does."""
         left, asked = Query.of(query, parameters).take_limit()
-        key: Optional[str] = ""
-        while key is not None:
-            size = page_size if left is None else min(left, page_size)
-            rows, key = self._page(asked, fields, size)
-            yield from rows
-            if left is not None:
-                left -= len(rows)
-                if not left:
-                    return
-            if key is not None:
-                asked = asked.take("resumeKey")[1].with_parameters(resumeKey=key)
+        size, given = page_size, 0  # captures of the page, and how many of these were given
+        while True:
+            is_rest = left is not None and left <= size
+            rows, key = self._page(asked, fields, left if is_rest else size if size <= MOST_LIMIT else None)
+            yield from rows[given:]
+            if key is None or is_rest:
+                return
+            following = asked.take("resumeKey")[1].with_parameters(resumeKey=key)
+            if fits(following, fields):
+                asked, left = following, None if left is None else left - len(rows)
+                size, given = page_size, 0
+            else:  # no page can begin there, so this one is made longer
+                size, given = 2 * size, len(rows)
 
     def columns(
         self, fields: Sequence[str], query: Optional[str] = None, *, page_size: int = PAGE_SIZE, **parameters: Value

@@ -2,14 +2,12 @@
 from typing import Optional
 from urllib.parse import unquote_plus
 
-from .query import Query, one_line
+from .query import MOST_LIMIT, MOST_TEXT, Query, one_line
 
 FIRST = 200  # captures of the first piece
 TARGET = 1 << 18  # bytes that the other pieces are to have
 MOST = 10_000  # captures of a piece, unless its resume key would be too long for a query
-MOST_LIMIT = 1_000_000  # the largest limit of the program
 REST = MOST_LIMIT + 1  # the size of a piece without a limit
-MOST_TEXT = 65_536  # bytes of a query text
 _KEY_ROW = b',\n[],\n["'
 
 

@@ -9,6 +9,8 @@ from urllib.parse import quote_plus, unquote_plus
 Value = Union[str, int, bool, Iterable[str]]
 
 FIELDS = ("urlkey", "timestamp", "original", "mimetype", "statuscode", "digest", "length", "offset", "filename")
+MOST_LIMIT = 1_000_000  # the largest limit of the program
+MOST_TEXT = 65_536  # bytes of a query text
 _LIMIT = re.compile("[0-9]{1,7}")
 _MOST_DIGITS = 20
 
@@ -88,7 +90,7 @@ class Query:
         """Returns the limit, and the query without it. A limit that is to be refused stays in the query."""
         value, rest = self.take("limit")
         digits = unquote_plus(value or "")
-        if not _LIMIT.fullmatch(digits) or not 1 <= int(digits) <= 1_000_000 or rest.take("limit")[0] is not None:
+        if not _LIMIT.fullmatch(digits) or not 1 <= int(digits) <= MOST_LIMIT or rest.take("limit")[0] is not None:
             return None, self
         return int(digits), rest
 
@@ -114,6 +116,11 @@ def rows_query(query: Query, fields: Sequence[str], size: Optional[int]) -> Quer
     """Returns the query for the rows of a page of at most `size` captures, with the resume key of the next."""
     asked = query.with_parameters(output="json", fl=",".join(fields), showResumeKey=True)
     return asked if size is None else asked.with_parameters(limit=size)
+
+
+def fits(query: Query, fields: Sequence[str]) -> bool:
+    """Returns whether the query for a page of rows, of any size, isn't too long for the program."""
+    return len(rows_query(query, fields, MOST_LIMIT).encoded()) <= MOST_TEXT
 
 
 def split_rows(rows: list[list[str]]) -> tuple[list[list[str]], Optional[str]]:
