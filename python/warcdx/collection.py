@@ -66,9 +66,10 @@ class Collection:
             if name not in self._archives:
                 raise NoArchive(name)
             return self._archives[name]
-        if not _is_below(name):
+        path = _path_of(name)
+        if path is None:
             raise NoArchive(name)
-        return os.path.join(os.fspath(self._archives), name)
+        return os.path.join(os.fspath(self._archives), path)
 
     def close(self) -> None:
         """Ends the processes of the index."""
@@ -83,10 +84,12 @@ class Collection:
         self.close()
 
 
-def _is_below(name: str) -> bool:
-    """Returns whether a name is that of a file in a folder or below, without `..` and the like."""
+def _path_of(name: str) -> Optional[str]:
+    """Returns the path of a file in a folder or below, whose bytes are a name in UTF-8, or None for `..` and the like."""
     try:
-        os.fsencode(name)
+        path = name.encode(errors="surrogateescape")
     except UnicodeEncodeError:
-        return False
-    return "\0" not in name and not any(part in ("", ".", "..") for part in name.split("/"))
+        return None
+    if b"\0" in path or any(part in (b"", b".", b"..") for part in path.split(b"/")):
+        return None
+    return os.fsdecode(path)

@@ -176,6 +176,8 @@ class Parser(argparse.ArgumentParser):
 
     def parse(self, arguments: Optional[Sequence[str]] = None) -> argparse.Namespace:
         """Returns the arguments of the command. Those that aren't UTF-8 are usage errors, as in the program."""
+        if arguments is None:
+            use_utf8()
         words = sys.argv[1:] if arguments is None else arguments
         for number, word in enumerate(words, 1):
             if not _is_text(word):
@@ -185,6 +187,18 @@ class Parser(argparse.ArgumentParser):
     def error(self, message: str) -> NoReturn:
         report(self.prog, f"error: {printable(message)}")
         sys.exit(USAGE)
+
+
+def use_utf8() -> None:
+    """Starts the command anew with file names in UTF-8, as the program has them, if those of the locale are others.
+
+    Nothing is done yet but that signals are handled. A script that comes from standard input isn't started anew.
+    """
+    if sys.getfilesystemencoding() == "utf-8" or not sys.executable or sys.argv[0] in ("", "-"):
+        return
+    words = pathlib.Path("/proc/self/cmdline").read_bytes().split(b"\0")[1:-1]
+    signal.setitimer(signal.ITIMER_REAL, 0)  # which would end the new program before it handles the signal
+    os.execv(sys.executable, (os.fsencode(sys.executable), b"-X", b"utf8", *words))
 
 
 def _is_text(word: str) -> bool:

@@ -54,11 +54,11 @@ class CompressedArchive:
             yield Verified(member.packed_start, said.decode().rstrip("\n"))
 
     def index(self, output: IO[bytes], *, name: Optional[str] = None, types: Optional[str] = None) -> None:
-        """Writes an index of the captures, with this file name, or that of the archive.
+        """Writes an index of the captures, with this file name, or that of the archive, whose bytes are UTF-8.
 
         If the archive is at fault, the captures before the fault are written first.
         """
-        shown = self._checked_name(os.path.basename(self.path) if name is None else name)
+        shown = self._checked_name(os.fsencode(os.path.basename(self.path)) if name is None else name)
         command = (self._program, "index", *(() if types is None else ("--types", types)), "-")
         places = Places()
         with self.open() as file, temporary_file() as lines:
@@ -70,10 +70,14 @@ class CompressedArchive:
         if damage is not None:
             raise damage
 
-    def _checked_name(self, name: str) -> str:
-        if not 1 <= len(name.encode(errors="surrogateescape")) <= MOST_NAME:
-            raise BadName("BadName", self.path)
-        return name
+    def _checked_name(self, name: Union[str, bytes]) -> str:
+        try:
+            text = name if isinstance(name, str) else name.decode()
+            if 1 <= len(text.encode()) <= MOST_NAME:
+                return text
+        except UnicodeError:
+            pass
+        raise BadName("BadName", self.path)
 
     def _fault_of_member(self, reported: Fault, places: Places) -> Optional[Fault]:
         """Returns what the program has reported, at the offset of the member in the compressed file."""

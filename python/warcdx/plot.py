@@ -283,6 +283,8 @@ def read_arguments(arguments: Optional[Sequence[str]]) -> argparse.Namespace:
     parser.add_argument("--warcdx", default="warcdx", metavar="PROGRAM", help="the program (%(default)s)")
     parser.add_argument("kind", choices=KINDS, metavar="KIND", help=", ".join(KINDS))
     parser.add_argument("indexes", nargs="+", metavar="INDEX")
+    if arguments is None:
+        command.use_utf8()
     given = parser.parse_args(arguments)
     if given.output is not None:
         if not given.output.endswith(FORMATS):

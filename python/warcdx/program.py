@@ -184,7 +184,7 @@ def end_of(process: Process, said: IO[bytes]) -> Error:
     """Waits for a program that doesn't go on, and returns what it has reported."""
     status = process.wait()
     said.seek(0)
-    return error_of(status, said.read().decode(errors="surrogateescape"))
+    return error_of(status, os.fsdecode(said.read()))  # a path in it is as it was given
 
 
 def fault_of(process: Process, said: IO[bytes]) -> Optional[Fault]:
