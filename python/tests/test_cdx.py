@@ -215,7 +215,7 @@ class Both(Cdx):
                         preexec_fn=lambda: resource.setrlimit(resource.RLIMIT_FSIZE, (1000, 1000)),
                     )  # fmt: skip
                 self.assertEqual(3, done.returncode, (arguments, done.stderr))
-                self.assertRegex(done.stderr, r"\Awarcdx-cdx: (Write: File too large|warcdx has ended with signal 25)\n\Z")
+                self.assertRegex(done.stderr, r"\Awarcdx-cdx: (Write: )?File too large\n\Z")
 
     def test_a_signal_ends_it_without_a_word_and_leaves_nothing(self) -> None:
         temporary = self.folder / "temporary"

@@ -37,6 +37,46 @@ class Pipes(Case):
                     self.assertIn(b"warcdx-gz: File too large\n", done.stderr, (size, shell))
 
 
+class Limits(Case):
+    def limited(self, limit: str, *words: str) -> "tuple[int, bytes, list[str]]":
+        """Returns the status, what was said, and what is left in the folder for temporary files."""
+        temporary = self.folder / "temporary"
+        temporary.mkdir(exist_ok=True)
+        command = ("prlimit", limit, str(FOLDER / "bin" / words[0]), "--warcdx", PROGRAM, *words[1:])
+        done = subprocess.run(
+            command, cwd=self.folder, capture_output=True, timeout=WAIT, env={**os.environ, "TMPDIR": str(temporary)}
+        )
+        return done.returncode, done.stderr, os.listdir(temporary)
+
+    def test_temporary_files_that_can_not_grow_are_said(self) -> None:
+        """The program's own message about its output has no reason."""
+        for name in ("a.warc.gz", "b.warc.gz"):
+            (self.folder / name).write_bytes(b"".join(packed(*(resource(number) for number in range(300)))))
+        self.put(f"{CDX}\n" * 300, "a.cdx")
+        for words in (
+            ("warcdx-gz", "index", "a.warc.gz"),
+            ("warcdx-gz", "index", "a.warc.gz", "b.warc.gz"),
+            ("warcdx-cdx", "from", "a.cdx"),
+        ):
+            for size in (64, 1000, 4096, 20_000):
+                said = words[0].encode() + b": File too large\n"
+                self.assertEqual((3, said, []), self.limited(f"--fsize={size}", *words), (words, size))
+
+    def test_few_open_files_leave_no_folder(self) -> None:
+        for name in ("a.warc.gz", "b.warc.gz"):
+            (self.folder / name).write_bytes(b"".join(packed(resource(0), resource(1))))
+        index = self.put(lines(3))
+        for words in (
+            ("warcdx-gz", "index", "a.warc.gz", "b.warc.gz"),
+            ("warcdx-verify", "--jobs", "2", "a.warc.gz", "b.warc.gz"),
+            ("warcdx-cdx", "to", str(index), "/dev/null"),
+        ):
+            for files in range(5, 20):
+                status, said, left = self.limited(f"--nofile={files}", *words)
+                self.assertEqual([], left, (words, files))
+                self.assertNotIn(b"Traceback", said)
+
+
 class Partial(io.RawIOBase):
     """An unbuffered file that takes at most seven bytes at a time, and after `most` of them none."""
 

@@ -5,7 +5,7 @@ from collections.abc import Iterator
 from dataclasses import dataclass
 from typing import Optional
 
-from .command import temporary_file
+from .command import memory_file
 from .errors import ProgramError, fault
 from .faults import NoRecord
 from .program import Path, find_program, operand, running, started
@@ -86,7 +86,7 @@ class Archive:
     def verdict(self, offset: int) -> str:
         """Returns the verdict of `verify` on the record that begins at an offset, which alone is read whole."""
         self._expect_possible(offset)
-        with running(self._program, "get", str(offset), self.path) as record, temporary_file() as said:
+        with running(self._program, "get", str(offset), self.path) as record, memory_file() as said:
             with started((self._program, "verify", "-"), said, record.fileno()) as process:
                 assert process.stdout is not None
                 found = _VERDICT.fullmatch(process.stdout.read())

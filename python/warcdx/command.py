@@ -148,18 +148,40 @@ def temporary_file() -> Iterator[IO[bytes]]:
 
 
 @contextlib.contextmanager
+def memory_file() -> Iterator[IO[bytes]]:
+    """Makes a file in memory, for what a program says (Linux). A disk that is full would not take why it failed."""
+    with contextlib.ExitStack() as stack, reserve:
+        with deferred():
+            file = stack.enter_context(open_memory_file())
+        yield file
+
+
+def open_memory_file() -> IO[bytes]:
+    return open(os.memfd_create("warcdx"), "w+b")
+
+
+@contextlib.contextmanager
 def temporary_folder() -> Iterator[pathlib.Path]:
-    """Makes a folder, and removes it and all that is in it, also if a signal ends the command."""
-    folder = None
+    """Makes a folder for files, and removes it and them, also if a signal ends the command, or it has no more files."""
+    spare, path = -1, ""
     try:
         with reserve:
             with deferred():
-                folder = tempfile.TemporaryDirectory(prefix="warcdx-")
-            yield pathlib.Path(folder.name)
+                spare = os.open(os.devnull, os.O_RDONLY | os.O_CLOEXEC)
+                path = tempfile.mkdtemp(prefix="warcdx-")
+            yield pathlib.Path(path)
     finally:
-        if folder is not None:
-            with deferred():
-                folder.cleanup()
+        with deferred():
+            if spare >= 0:
+                os.close(spare)  # to read the folder takes a file
+            if path:
+                _remove_folder(path)
+
+
+def _remove_folder(path: str) -> None:
+    for name in os.listdir(path):
+        os.remove(os.path.join(path, name))
+    os.rmdir(path)
 
 
 class Parser(argparse.ArgumentParser):

@@ -8,7 +8,7 @@ import subprocess
 from collections.abc import Iterator
 from typing import IO, NamedTuple, Optional
 
-from .command import temporary_file
+from .command import memory_file
 from .errors import Error, Fault
 from .members import Piece
 from .program import Process, close, end_of, started
@@ -131,5 +131,5 @@ class Run:
 @contextlib.contextmanager
 def fed(command: tuple[str, ...], pieces: Iterator[Piece]) -> Iterator[Run]:
     """Runs the program on an input of these pieces, and ends it at the end of the block."""
-    with temporary_file() as said, started(command, said, subprocess.PIPE, room=0) as process:
+    with memory_file() as said, started(command, said, subprocess.PIPE, room=0) as process:
         yield Run(process, said, pieces)

@@ -16,7 +16,7 @@ from collections.abc import Iterator
 from typing import IO, NoReturn, Optional, Union
 
 from .archive import Archive, Listed, Verified
-from .command import temporary_file
+from .command import memory_file, temporary_file
 from .errors import Fault, fault
 from .faults import BadName, CannotOpen, Closing, NoMember, NoRecord, NotCompressed, Read
 from .faults import SeveralMembers, SeveralRecords, ShortBlock, ShortHead
@@ -94,7 +94,7 @@ class CompressedArchive:
 
         Returns the fault at which the members end, and that which the program has reported. Raises its other errors.
         """
-        with temporary_file() as said, started(command, said, subprocess.PIPE, lines, BATCH) as process:
+        with memory_file() as said, started(command, said, subprocess.PIPE, lines, BATCH) as process:
             assert process.stdin is not None
             damage = None
             try:
@@ -102,7 +102,7 @@ class CompressedArchive:
             except Fault as found:
                 damage = found
             close(process.stdin)
-            return damage, fault_of(process, said)
+            return damage, fault_of(process, said, lines)
 
     def get(self, offset: int, *, length: Optional[int] = None) -> Record:
         """Returns the record of the member that begins at an offset of the compressed file. Raises as `copy` does."""

@@ -13,13 +13,14 @@ import time
 from collections.abc import Callable, Iterator
 from typing import IO, Any, Optional, Union
 
-from .command import deferred, reserve, temporary_file
+from .command import deferred, memory_file, reserve
 from .errors import NO_STATUS, Error, Fault, ProgramMissing, ProgramTooOld, error_of
 
 Path = Union[str, os.PathLike[str]]
 
 LEAST_VERSION = (0, 1, 0)
 _PARENT_DEATH_SIGNAL = 1  # PR_SET_PDEATHSIG of prctl(2)
+_ROOM = 1 << 16  # bytes, more than the block of a file that the program has begun
 _PAUSE = 0.01  # seconds between two looks at a program that may end
 _HELP = re.compile(rb"warcdx ([0-9]+)\.([0-9]+)\.([0-9]+)")
 
@@ -187,16 +188,18 @@ def end_of(process: Process, said: IO[bytes]) -> Error:
     return error_of(status, os.fsdecode(said.read()))  # a path in it is as it was given
 
 
-def fault_of(process: Process, said: IO[bytes]) -> Optional[Fault]:
+def fault_of(process: Process, said: IO[bytes], output: IO[bytes]) -> Optional[Fault]:
     """Waits for the program to end, and returns the fault of its input that it has reported, if any.
 
-    Raises what else it has reported.
+    Raises what else it has reported, or why its output, a file that isn't needed then, takes no more.
     """
     if not process.wait():
         return None
     reported = end_of(process, said)
     if isinstance(reported, Fault) and reported.offset is not None:
         return reported
+    output.write(bytes(_ROOM))
+    output.flush()
     raise reported
 
 
@@ -207,7 +210,7 @@ def running(*command: str, good: tuple[int, ...] = (0,)) -> Iterator[IO[bytes]]:
     If the output was read to its end, raises what the program has reported, unless its exit status is one
     of the good ones. A program whose output isn't read to its end is ended.
     """
-    with temporary_file() as said, started(command, said, subprocess.DEVNULL) as process:
+    with memory_file() as said, started(command, said, subprocess.DEVNULL) as process:
         assert process.stdout is not None
         yield process.stdout
         if not process.stdout.read(1) and process.wait() not in good:

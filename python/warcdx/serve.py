@@ -3,11 +3,11 @@ import contextlib
 import os
 import select
 import subprocess
-import tempfile
 import time
 from collections.abc import Generator, Iterator
 from typing import IO, Optional
 
+from .command import open_memory_file
 from .errors import Error, ProgramEnded, ProgramError, ReplyTooLate, ReplyTooLong
 from .program import Process, end_of, start
 from .reply import END, MARK, NOTHING, PIECE, is_whole, refusal_of, rows_of, text_of
@@ -171,7 +171,7 @@ class Serve:
             if self._process.poll() is None:
                 return self._process
             self._forget(self._process)
-        said = tempfile.TemporaryFile()
+        said = open_memory_file()
         try:
             self._process = start(self._command, said, subprocess.PIPE)
             assert self._process.stdin is not None

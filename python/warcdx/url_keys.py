@@ -6,7 +6,7 @@ from collections.abc import Iterable, Iterator, Sequence
 from typing import IO, NamedTuple
 
 from .codings import Unreadable
-from .command import temporary_file
+from .command import memory_file, temporary_file
 from .program import close, fault_of, started
 
 MOST_URL = 1 << 20  # bytes: the program refuses the head of a record that is longer
@@ -47,12 +47,12 @@ def keys_of(program: str, urls: Sequence[bytes]) -> Iterator[Keyed]:
 
 def _index(program: str, urls: Sequence[bytes], lines: IO[bytes]) -> None:
     """Writes the lines of an archive with a record for each URL, up to the first one that the program can't index."""
-    with temporary_file() as said, started((program, "index", "-"), said, subprocess.PIPE, lines) as process:
+    with memory_file() as said, started((program, "index", "-"), said, subprocess.PIPE, lines) as process:
         assert process.stdin is not None
         with contextlib.suppress(BrokenPipeError):  # the program has ended at a fault
             process.stdin.writelines(_HEAD + url + _END for url in urls)
         close(process.stdin)
-        fault_of(process, said)
+        fault_of(process, said, lines)
 
 
 def _keyed_by_offset(lines: Iterable[bytes]) -> dict[int, Keyed]:
