@@ -1,10 +1,12 @@
-"""What archived bytes may cost: twice as many take at most about twice the time."""
+"""What archived bytes may cost: a million of them take a few seconds of the processor, whatever they are."""
 import contextlib
 import io
 import itertools
+import os
 import re
-import time
+import resource
 import unittest
+import unittest.mock
 from collections.abc import Callable
 from typing import NamedTuple
 
@@ -15,10 +17,10 @@ from warcdx.record import Head, HttpHead, Record, payload
 from warcdx.reply import refusal_of, text_of
 from warcdx.url_keys import _LINE
 
-SIZE = 5_000  # bytes of the smallest input
-LEAST_SECONDS = 0.01  # what is shorter can't be measured
-LINEAR = 3  # the most that doubling may cost; a quadratic expression costs 4
-TRIES = 3
+SIZE = 1_000_000  # bytes of an input
+# Seconds of the processor. Each input takes one or two on a busy host. One that costs the square of its size takes minutes:
+# 5 * 10^11 steps of an expression, or as many bytes that are copied.
+MOST_SECONDS = 30
 FIRST = b"WARC/1.1\r\n"
 # How heads were unfolded once. These are quadratic in runs of blanks.
 FOLD = re.compile(r"[ \t]*\r\n[ \t]+")
@@ -68,43 +70,42 @@ SHAPES = (
 )
 
 
-def seconds(shape: Shape, size: int) -> float:
-    """Returns the time of the processor for an input of about `size` bytes."""
-    text = shape.before + shape.repeated * (size // len(shape.repeated)) + shape.after
-    start = time.process_time()
-    try:
-        shape.read(text)
-    except Unreadable:
-        pass
-    return time.process_time() - start + LEAST_SECONDS
+def expect_little(case: unittest.TestCase, read: Callable[[bytes], object], text: bytes) -> None:
+    """Reads an input in a process of its own, which the system ends if it takes too long."""
+    process = os.fork()
+    if not process:
+        try:
+            resource.setrlimit(resource.RLIMIT_CORE, (0, 0))
+            resource.setrlimit(resource.RLIMIT_CPU, (MOST_SECONDS, MOST_SECONDS))
+            with contextlib.suppress(Unreadable):
+                read(text)
+            os._exit(0)
+        finally:
+            os._exit(1)
+    case.assertEqual(0, os.waitstatus_to_exitcode(os.waitpid(process, 0)[1]))
 
 
 class Costs(unittest.TestCase):
-    """No count of the steps of an expression can be had, so these are ratios of times of one run, each with retries."""
-
-    def test_doubling_an_input_doubles_its_cost(self) -> None:
+    def test_a_million_bytes_of_each_shape(self) -> None:
         for shape in SHAPES:
             with self.subTest(before=shape.before, repeated=shape.repeated, after=shape.after):
-                for size in (2 * SIZE, 16 * SIZE):
-                    ratios = (seconds(shape, 2 * size) / seconds(shape, size) for _ in range(TRIES))
-                    self.assertTrue(any(ratio < LINEAR for ratio in ratios), size)
-
-
-class Blanks(unittest.TestCase):
-    """A million blanks, as an archive may have them in one field, take under a second."""
+                text = shape.before + shape.repeated * (SIZE // len(shape.repeated)) + shape.after
+                expect_little(self, shape.read, text)
 
     def test_heads_and_bodies_with_a_million_blanks(self) -> None:
-        for blanks in (b" " * 10**6, b"\t" * 10**6, b"\r\n " * (10**6 // 3), b" \n" * (10**6 // 2)):
+        for blanks in (b" " * SIZE, b"\t" * SIZE, b"\r\n " * (SIZE // 3), b" \n" * (SIZE // 2)):
             http = b"HTTP/1.1 200\r\nX: a" + blanks + b"b"
             block = http + b"\r\n\r\nbody"
             record = FIRST + b"Content-Type: application/http\r\nX: a" + blanks + b"b\r\n\r\n" + block + b"\r\n\r\n"
             for read, text in ((Head.fields_of, record), (HttpHead.of, http), (Record.read, record), (payload, record), (CHUNKED, blanks)):
-                start = time.process_time()
-                try:
-                    read(text)
-                except Unreadable:
-                    pass
-                self.assertLess(time.process_time() - start, 1, (read, blanks[:3]))
+                with self.subTest(read=read, blanks=blanks[:3]):
+                    expect_little(self, read, text)
+
+    @unittest.mock.patch(f"{__name__}.MOST_SECONDS", 1)
+    def test_what_costs_the_square_is_found(self) -> None:
+        for read in (lambda text: FOLD.sub(" ", f"{text.decode()}b"), lambda text: [text[at:] for at in range(len(text))][:0]):
+            with self.assertRaises(AssertionError):
+                expect_little(self, read, b" " * SIZE)
 
 
 def field_of(line: str) -> tuple[str, str]:

@@ -3,10 +3,12 @@
 
 usage: costly_shapes.py [--scale N] [PROGRAM]
 
-Each size is twice the one before. The cost is the number of bytes that are read, or the time of the processor: the
-least of three runs, and 20 ms. A shape is costly if the last doubling costs more than 2.5 times as much, or more than
-1.5 times if nothing that is added needs to be read, and does so in each of three tries: other work on the machine
-changes times.
+Each size is twice the one before. If the cost is the number of bytes that are read, a shape is costly if the last
+doubling costs more than 2.5 times as much, or more than 1.5 times if nothing that is added needs to be read.
+
+Otherwise the cost is the time of the processor: the least of three runs, and 20 ms. Other work on the machine changes
+times, up to twice or so. So the first size is compared with the last, which is eight times as large. A shape is costly
+if it takes more than 24 times as long in each of three tries. A cost that grows with the square takes 64 times.
 
 With --scale all sizes are N times those of the script.
 
@@ -25,8 +27,9 @@ from program import Report, add_program, find_program, parser_of
 
 ALL = "key=&matchType=prefix"
 RESUMED = f"{ALL}&showResumeKey=true"
-LINEAR = 2.5  # the most that doubling may cost
+LINEAR = 2.5  # the most bytes that doubling may cost
 FLAT = 1.5  # the same, of an input of which no more needs to be read
+LONGER = 24  # the most time that an input may take which is eight times as large
 LEAST_SECONDS = 0.02  # what is shorter can't be measured
 RUNS = 3
 TRIES = 3
@@ -167,6 +170,11 @@ def costs_of(program: pathlib.Path, shape: Shape, scale: int) -> list[float]:
     return costs
 
 
+def growth(shape: Shape, costs: Sequence[float]) -> tuple[float, float]:
+    """Returns how costs grow, and the most that they may."""
+    return (costs[-1] / costs[0], LONGER) if shape.cost is seconds else (costs[-1] / costs[-2], shape.most)
+
+
 def run(program: pathlib.Path, folder: pathlib.Path, words: Sequence[str]) -> Costs:
     costs = measure(program, folder, words)
     if costs.status != 0 and b": BadLine " not in costs.error:
@@ -183,15 +191,15 @@ def main() -> int:
     for shape in SHAPES:
         for _ in range(TRIES):
             costs = costs_of(program, shape, arguments.scale)
-            ratio = costs[-1] / costs[-2]
-            if ratio <= shape.most:
+            ratio, most = growth(shape, costs)
+            if ratio <= most:
                 break
         figures = ", ".join(f"{cost:,.3f} s" if shape.cost is seconds else f"{cost:,} bytes" for cost in costs)
-        title = f"{shape.name}: {figures}; doubling costs {ratio:.2f}"
-        if ratio <= shape.most:
+        title = f"{shape.name}: {figures}; {'eight times the size' if shape.cost is seconds else 'doubling'} costs {ratio:.2f}"
+        if ratio <= most:
             report.add_ok(title)
         else:
-            report.add_difference(title, f"more than {shape.most}")
+            report.add_difference(title, f"more than {most}")
     return report.end()
 
 

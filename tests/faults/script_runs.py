@@ -18,7 +18,7 @@ from device_runs import LINE, SECONDS, expect
 from program import ROOT
 
 MANY = 6000  # records of an archive, so that a report on it is larger than any buffer and any pipe
-PATIENCE = 5  # seconds in which the processes of a run that a signal has ended are gone
+PATIENCE = 30  # seconds in which, on a busy host too, the processes of a run that a signal has ended are gone
 RECORD = (
     b"WARC/1.1\r\nWARC-Type: resource\r\nWARC-Record-ID: <urn:x:1>\r\nWARC-Date: 2016-09-19T17:20:24Z\r\n"
     b"WARC-Target-URI: http://example.com/%07d\r\nWARC-Block-Digest: sha1:%b\r\nContent-Length: %d\r\n\r\n%b\r\n\r\n"
