@@ -1,6 +1,8 @@
 """How a signal ends a command, and a lack of memory."""
 import dis
+import os
 import pathlib
+import shutil
 import signal
 import subprocess
 import sys
@@ -8,7 +10,7 @@ import unittest
 from collections.abc import Iterator
 from types import CodeType
 
-from .support import WAIT
+from .support import WAIT, Case
 
 INSTRUCTION = 2  # bytes
 BEGINS = """
@@ -54,6 +56,23 @@ class Signals(unittest.TestCase):
             command = (sys.executable, "-c", BEGINS + text + ENDS)
             done = subprocess.run(command, cwd=folder, stderr=subprocess.PIPE, timeout=WAIT)
             self.assertEqual((-signal.SIGTERM, b""), (done.returncode, done.stderr))
+
+
+class ByteCode(Case):
+    def test_a_file_of_byte_code_that_is_cut_ends_no_command(self) -> None:
+        """Python writes it so on a full disk, and then can't load it again."""
+        folder = pathlib.Path(__file__).resolve().parents[1]
+        environment = {**os.environ, "PYTHONPYCACHEPREFIX": str(self.folder), "PYTHONDONTWRITEBYTECODE": ""}
+        for path in sorted((folder / "bin").iterdir()):
+            for cut in (0, 10, 100):
+                done = subprocess.run((path, "--version"), env=environment, capture_output=True, timeout=WAIT)
+                self.assertEqual((0, b""), (done.returncode, done.stderr), path)
+                for name in ("command", "program", f"{path.name[7:]}_command"):
+                    (code,) = self.folder.rglob(f"{name}.*.pyc")
+                    os.truncate(code, cut and code.stat().st_size - cut)
+            done = subprocess.run((path, "--version"), env=environment, capture_output=True, timeout=WAIT)
+            self.assertEqual((0, b""), (done.returncode, done.stderr), path)
+            shutil.rmtree(self.folder / str(folder).lstrip("/"))
 
 
 @unittest.skipUnless(hasattr(dis, "_parse_exception_table"), "this Python has no tables of exception handlers")

@@ -3,7 +3,7 @@ import contextlib
 import re
 from collections.abc import Iterator
 from dataclasses import dataclass
-from typing import Optional
+from typing import IO, Optional
 
 from .command import memory_file
 from .errors import ProgramError, fault
@@ -86,14 +86,20 @@ class Archive:
     def verdict(self, offset: int) -> str:
         """Returns the verdict of `verify` on the record that begins at an offset, which alone is read whole."""
         self._expect_possible(offset)
-        with running(self._program, "get", str(offset), self.path) as record, memory_file() as said:
-            with started((self._program, "verify", "-"), said, record.fileno()) as process:
-                assert process.stdout is not None
-                found = _VERDICT.fullmatch(process.stdout.read())
-                is_whole = process.wait() in (0, FAULTY)
-        if not found or not is_whole:
+        with running(self._program, "get", str(offset), self.path) as record:
+            verdict = self._verdict_on(record)
+        if verdict is None:
             raise Unreadable("the program has given no verdict")
-        return found[1].decode()
+        return verdict
+
+    def _verdict_on(self, record: IO[bytes]) -> Optional[str]:
+        """Returns the verdict on a record that a program writes, or None if the record or the verdict isn't whole."""
+        command = (self._program, "verify", "-")
+        with memory_file() as said, started(command, said, record.fileno()) as process:
+            assert process.stdout is not None
+            found = _VERDICT.fullmatch(process.stdout.read())
+            is_whole = process.wait() in (0, FAULTY)
+        return found[1].decode() if found and is_whole else None
 
     def _expect_possible(self, offset: int, length: int = 0) -> None:
         """Raises NoRecord for an offset or a length that no record has, and the program refuses as an argument."""

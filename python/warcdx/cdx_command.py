@@ -18,7 +18,7 @@ import functools
 import os
 import pathlib
 import sys
-from collections.abc import Iterator, Sequence
+from collections.abc import Iterator, Mapping, Sequence
 from typing import IO, Optional
 
 from . import __version__
@@ -57,12 +57,18 @@ def to_cdx(given: argparse.Namespace, output: IO[bytes]) -> int:
         except CannotRead as error:
             report(NAME, str(error))
             return FAILED
-        try:
-            write_cdx([copies.get(file, file) for file in files], output, given.warcdx)
-        except Fault as fault:
-            names = {copy: file for file, copy in copies.items()}
-            fault.file = names.get(fault.file or "", fault.file)
-            return say(fault)
+        status = write_captures([copies.get(file, file) for file in files], copies, output, given.warcdx)
+    return status
+
+
+def write_captures(files: Sequence[str], copies: Mapping[str, str], output: IO[bytes], program: str) -> int:
+    """Writes the captures of indexes, of which some are copies. Returns the exit status."""
+    try:
+        write_cdx(files, output, program)
+    except Fault as fault:
+        names = {copy: file for file, copy in copies.items()}
+        fault.file = names.get(fault.file or "", fault.file)
+        return say(fault)
     return 0
 
 

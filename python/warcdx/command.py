@@ -160,28 +160,38 @@ def open_memory_file() -> IO[bytes]:
     return open(os.memfd_create("warcdx"), "w+b")
 
 
+class _Folder:
+    """A folder for files, and a file that is kept open, as reading the folder to remove it takes one."""
+
+    def __init__(self) -> None:
+        self.path = ""
+        self._spare: Optional[int] = None
+
+    def make(self) -> None:
+        self._spare = os.open(os.devnull, os.O_RDONLY | os.O_CLOEXEC)
+        self.path = tempfile.mkdtemp(prefix="warcdx-")
+
+    def remove(self) -> None:
+        if self._spare is not None:
+            os.close(self._spare)
+        if self.path:
+            for name in os.listdir(self.path):
+                os.remove(os.path.join(self.path, name))
+            os.rmdir(self.path)
+
+
 @contextlib.contextmanager
 def temporary_folder() -> Iterator[pathlib.Path]:
     """Makes a folder for files, and removes it and them, also if a signal ends the command, or it has no more files."""
-    spare, path = -1, ""
+    folder = _Folder()
     try:
         with reserve:
             with deferred():
-                spare = os.open(os.devnull, os.O_RDONLY | os.O_CLOEXEC)
-                path = tempfile.mkdtemp(prefix="warcdx-")
-            yield pathlib.Path(path)
+                folder.make()
+            yield pathlib.Path(folder.path)
     finally:
         with deferred():
-            if spare >= 0:
-                os.close(spare)  # to read the folder takes a file
-            if path:
-                _remove_folder(path)
-
-
-def _remove_folder(path: str) -> None:
-    for name in os.listdir(path):
-        os.remove(os.path.join(path, name))
-    os.rmdir(path)
+            folder.remove()
 
 
 class Parser(argparse.ArgumentParser):

@@ -58,7 +58,7 @@ class CompressedArchive:
 
         If the archive is at fault, the captures before the fault are written first.
         """
-        shown = self._checked_name(os.fsencode(os.path.basename(self.path)) if name is None else name)
+        shown = self._checked_name(name)
         command = (self._program, "index", *(() if types is None else ("--types", types)), "-")
         places = Places()
         with self.open() as file, temporary_file() as lines:
@@ -70,9 +70,10 @@ class CompressedArchive:
         if damage is not None:
             raise damage
 
-    def _checked_name(self, name: Union[str, bytes]) -> str:
+    def _checked_name(self, name: Optional[str]) -> str:
+        """Returns a file name, or that of the archive. Raises BadName."""
         try:
-            text = name if isinstance(name, str) else name.decode()
+            text = os.fsencode(os.path.basename(self.path)).decode() if name is None else name
             if 1 <= len(text.encode()) <= MOST_NAME:
                 return text
         except UnicodeError:

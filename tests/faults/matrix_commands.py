@@ -1,0 +1,209 @@
+"""The commands of this repository, each with an input, and runs of them that fault_matrix.py spoils."""
+import hashlib
+import os
+import pathlib
+import re
+import subprocess
+import sys
+from collections.abc import Iterator
+from typing import NamedTuple, Optional
+
+from device_runs import SECONDS, expect
+from program import ROOT
+from script_runs import Ended, Run, Script, Word, gateway, inputs, record
+
+FAULT_LINE = re.compile(rb"fault [0-9]+ [A-Za-z]+\n")
+TRACES = (b"Traceback", b"Exception ignored", b"Fatal Python error", b"Segmentation fault")
+INDEX = "all.cdxj"
+MADE = {INDEX, f"{INDEX}.parts", f"{INDEX}.summary.json"}  # by warcdx-update
+FAILED = 3
+ADDED = 20  # captures of each archive that is added to the folder
+
+
+class Outcome(NamedTuple):
+    """How a run ended below a fault: by a signal that was sent to it, if any was, and which of its streams were seen."""
+
+    ended: Ended
+    signal: int = 0
+    is_read: bool = True
+    is_said: bool = True
+
+
+class Command(NamedTuple):
+    """A run of a command, the name before its messages, and its exit status if nothing is wrong."""
+
+    script: Script
+    name: str
+    status: int = 0
+    pipe: Optional[str] = None  # the file that is written to the named pipe `pipe`
+
+
+def commands_of(program: pathlib.Path) -> Iterator[Command]:
+    folder, of_warcdx = ROOT / "python/bin", ("--warcdx", str(program))
+    for name, status, *words in (
+        ("warcdx-gz", 0, "list", "a.warc.gz"),
+        ("warcdx-gz", 0, "verify", "a.warc.gz"),
+        ("warcdx-gz", 0, "index", "a.warc.gz"),
+        ("warcdx-gz", 0, "get", "0", "large.warc.gz"),
+        ("warcdx-gz", 1, "list", "cut.warc.gz"),
+        ("warcdx-gz", 1, "index", "cut.warc.gz", "b.warc"),
+        ("warcdx-gz", 0, "list", "pipe"),
+        ("warcdx-gz", 0, "index", "pipe"),
+        ("warcdx-verify", 0, "digests.warc.gz"),
+        ("warcdx-verify", 1, "--jobs", "2", "digests.warc.gz", "cut.warc.gz"),
+        ("warcdx-cdx", 0, "to", "a.cdxj"),
+        ("warcdx-cdx", 1, "to", "bad.cdxj"),
+        ("warcdx-cdx", 1, "from", "bad.cdx", "a.cdx"),
+    ):
+        script = Script(" ".join((name, *words)), folder / name, (*of_warcdx, *words), most_lines=3)
+        yield Command(script, name, status, "a.warc.gz" if "pipe" in words else None)
+    words = ("-m", "warcdx.plot", *of_warcdx, "hosts", "a.cdxj")
+    yield Command(Script("python3 -m warcdx.plot", pathlib.Path(sys.executable), words), "warcdx.plot")
+    words = ("--quiet", "--jobs", "2", *of_warcdx, "--warcdx-gz", str(folder / "warcdx-gz"), "crawl", INDEX)
+    yield Command(Script("warcdx-update", folder / "warcdx-update", words, most_lines=20), "warcdx-update")
+    for script in gateway(program):
+        yield Command(script, "warcdx-gateway")
+
+
+def spoiled_inputs() -> dict[str, bytes]:
+    """Returns inputs that are at fault near their ends."""
+    usual = inputs()
+    return {
+        "cut.warc.gz": usual["a.warc.gz"][:-40],
+        "bad.cdxj": usual["a.cdxj"] + b"x\n",
+        "bad.cdx": usual["a.cdx"] + b"a b c\n",
+    }
+
+
+class Trial(Run):
+    """Runs of a command, of which each leaves the folder as it was, or as the command is to leave it."""
+
+    def __init__(self, program: pathlib.Path, command: Command, folder: pathlib.Path, cache: pathlib.Path) -> None:
+        super().__init__(program, command.script, folder, cache, "")
+        self.command = command
+        if command.pipe:
+            os.mkfifo(folder / "pipe")
+        self.environment = {"PYTHONPATH": str(ROOT / "python")} if command.name == "warcdx.plot" else {}
+        self.ended(words=self.help_words)  # which writes the files of byte code
+        # Python writes them without a look at the count, so a limit of sizes would cut them for all others.
+        self.environment["PYTHONDONTWRITEBYTECODE"] = "1"
+        for name, text in spoiled_inputs().items():
+            (folder / name).write_bytes(text)
+        self._before = digests_of(folder)
+
+    @property
+    def help_words(self) -> "tuple[Word, ...]":
+        return ("--help",) if self.script.path != pathlib.Path(sys.executable) else (*self.script.words[:2], "--help")
+
+    def prepare(self) -> None:
+        """Makes the folder ready for a run."""
+
+    @property
+    def updates(self) -> bool:
+        return self.command.name == "warcdx-update"
+
+    def usual(self) -> Ended:
+        if self._usual is None:
+            self._usual = self.ended()
+            expect(self._usual.status == self.command.status, "usual", self._usual.status, self._usual.error)
+        return self._usual
+
+    def start(self, *front: str, environment: "dict[str, str]" = {}, **arguments: object) -> "subprocess.Popen[bytes]":  # type: ignore[override]
+        process = super().start(*front, environment={**self.environment, **environment}, **arguments)  # type: ignore[arg-type]
+        if self.command.pipe:
+            # It ends with the command, which may not open the pipe.
+            writer = f"exec 2> /dev/null; cat {self.command.pipe} > pipe & while kill -0 {process.pid}; do sleep 0.05; done; kill $!"
+            subprocess.Popen(("sh", "-c", writer), cwd=self.folder, stdout=subprocess.DEVNULL, stdin=subprocess.DEVNULL)
+        return process
+
+    def expect_nothing_left(self, error: bytes) -> None:
+        super().expect_nothing_left(b"")  # what a run says is judged later
+
+    def expect_unchanged(self) -> None:
+        """What was beside the run is beside it after, byte for byte."""
+        found = digests_of(self.folder)
+        expect(found == self._before, "files have changed", set(found.items()) ^ set(self._before.items()))
+
+    def judge(self, outcome: Outcome, is_harmless: bool, can_start: bool) -> None:
+        """The one rule: nothing is lost in silence, there is no traceback, and nothing is left."""
+        ended, usual = outcome.ended, self.usual()
+        if not can_start:  # Python or the modules can't be loaded
+            expect(ended.status and not ended.output, "a start that fails", ended)
+            return
+        expect(not any(trace in ended.error for trace in TRACES), ended.error)
+        seen = usual._replace(
+            output=usual.output if outcome.is_read else b"", error=usual.error if outcome.is_said else b""
+        )
+        if ended == seen and (outcome.is_read or self.updates or not usual.output):
+            return
+        expect(not is_harmless, "another result", ended.status, ended.output[-200:], ended.error)
+        whole = usual.output.startswith(ended.output)
+        if outcome.signal and ended.status == -outcome.signal:
+            expect(whole and usual.error.startswith(ended.error), "by the signal", ended.output[-200:], ended.error)
+            return
+        expect(ended.status == FAILED, "status", ended.status, ended.error)
+        lines = ended.error.splitlines(keepends=True)
+        expect(lines or not outcome.is_said, "no message")
+        front = self.command.name.encode() + b": "
+        expect(all(line.startswith(front) and line.endswith(b"\n") for line in lines), "messages", ended.error)
+        last = ended.output.rfind(b"\n", 0, -1) + 1
+        is_part = whole or FAULT_LINE.fullmatch(ended.output[last:]) and usual.output.startswith(ended.output[:last])
+        expect(is_part, "another output", ended.output[-200:])
+
+
+class UpdateTrial(Trial):
+    """Each run updates the index of a folder that has one more archive than before."""
+
+    def __init__(self, program: pathlib.Path, command: Command, folder: pathlib.Path, cache: pathlib.Path) -> None:
+        super().__init__(program, command, folder, cache)
+        (folder / "crawl").mkdir()
+        (folder / "mine").write_bytes(b"of others")
+        self._usual = Ended(0, b"", b"")
+        self._number = 0
+        self._old = b""
+        self.prepare()
+        expect(self.ended() == self._usual, "the first update")
+
+    def prepare(self) -> None:
+        self._number += 1
+        records = b"".join(record(number, b"%d" % self._number) for number in range(ADDED))
+        (self.folder / f"crawl/{self._number}.warc").write_bytes(records)
+        self._before = self._beside()
+        self._old = (self.folder / INDEX).read_bytes() if (self.folder / INDEX).exists() else b""
+
+    def _beside(self) -> dict[str, str]:
+        return {name: digest for name, digest in digests_of(self.folder).items() if name.partition("/")[0] not in MADE}
+
+    def expect_unchanged(self) -> None:
+        found = self._beside()
+        expect(found == self._before, "files have changed", set(found.items()) ^ set(self._before.items()))
+
+    def judge(self, outcome: Outcome, is_harmless: bool, can_start: bool) -> None:
+        super().judge(outcome, is_harmless, can_start)
+        index = (self.folder / INDEX).read_bytes()
+        again = self.ended()
+        new = (self.folder / INDEX).read_bytes()
+        expect(again == self._usual and new.count(b"\n") == ADDED * self._number, "the run after it", again)
+        lines = set(index.splitlines())
+        is_between = set(self._old.splitlines()) <= lines <= set(new.splitlines())
+        expect(is_between and index.endswith(b"\n"), "captures are lost", len(lines))
+        expect(outcome.ended.status or index == new, "status 0, and not all captures")
+        self.expect_unchanged()
+
+
+def trial_of(program: pathlib.Path, command: Command, folder: pathlib.Path, cache: pathlib.Path) -> Trial:
+    kind = UpdateTrial if command.name == "warcdx-update" else Trial
+    return kind(program, command, folder, cache)
+
+
+def digests_of(folder: pathlib.Path) -> dict[str, str]:
+    """Returns the digests of all files of a folder and below, by their paths. Named pipes have none."""
+    found = {}
+    for path in folder.rglob("*"):
+        if path.is_file():
+            found[str(path.relative_to(folder))] = hashlib.sha256(path.read_bytes()).hexdigest()
+        else:
+            found[str(path.relative_to(folder))] = ""
+    return found
+
+
