@@ -31,12 +31,11 @@ from collections.abc import Callable, Iterator
 sys.path.insert(0, str(pathlib.Path(__file__).resolve().parents[1]))
 
 from device_runs import SECONDS, Differs, expect
-from matrix_commands import Command, Outcome, Trial, commands_of, trial_of
+from matrix_commands import PAGE, Command, Outcome, Trial, commands_of, trial_of
 from program import Report, add_program, find_program, parser_of
 from script_runs import Disk, Ended
 from script_signals import is_caught, wait_until
 
-PAGE = 4096  # bytes
 PAGES = 16  # of the disk
 PIPE = 1 << 16  # bytes that a pipe holds
 UNBUFFERED = ("", "1")
@@ -142,7 +141,7 @@ def full_disks(cell: Cell) -> Iterator[None]:
     folder, filler = cell.disk.path / "temporary", cell.disk.path / "filler"
     folder.mkdir(exist_ok=True)
     for unbuffered in UNBUFFERED:
-        for free in (0, 1, 2, cell.choice.randrange(3, PAGES)):
+        for free in (0, 1, 8, cell.choice.randrange(2, PAGES)):
             yield
             filler.write_bytes(bytes(PAGE * (PAGES - free)))
             environment = {"TMPDIR": str(folder), "PYTHONUNBUFFERED": unbuffered}
@@ -153,7 +152,7 @@ def full_disks(cell: Cell) -> Iterator[None]:
 
 def limits_of_sizes(cell: Cell) -> Iterator[None]:
     for unbuffered in UNBUFFERED:
-        for size in (0, PAGE, cell.choice.randrange(PAGE), cell.choice.randrange(100_000), cell.choice.randrange(1_000_000)):
+        for size in (0, 4 * PAGE, cell.choice.randrange(10 * PAGE), cell.choice.randrange(100_000), cell.choice.randrange(1_000_000)):
             yield
             front = ("prlimit", f"--fsize={size}")
             ended = cell.trial.ended(*front, environment={"PYTHONUNBUFFERED": unbuffered})

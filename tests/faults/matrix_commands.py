@@ -1,4 +1,5 @@
 """The commands of this repository, each with an input, and runs of them that fault_matrix.py spoils."""
+import gzip
 import hashlib
 import os
 import pathlib
@@ -17,6 +18,8 @@ TRACES = (b"Traceback", b"Exception ignored", b"Fatal Python error", b"Segmentat
 INDEX = "all.cdxj"
 MADE = {INDEX, f"{INDEX}.parts", f"{INDEX}.summary.json"}  # by warcdx-update
 FAILED = 3
+PAGE = 4096  # bytes
+MEMBERS = 11
 ADDED = 20  # captures of each archive that is added to the folder
 
 
@@ -42,11 +45,11 @@ def commands_of(program: pathlib.Path) -> Iterator[Command]:
     folder, of_warcdx = ROOT / "python/bin", ("--warcdx", str(program))
     for name, status, *words in (
         ("warcdx-gz", 0, "list", "a.warc.gz"),
-        ("warcdx-gz", 0, "verify", "a.warc.gz"),
-        ("warcdx-gz", 0, "index", "a.warc.gz"),
+        ("warcdx-gz", 1, "verify", "cut.warc.gz"),
+        ("warcdx-gz", 0, "index", "\u00e9.warc.gz"),
         ("warcdx-gz", 0, "get", "0", "large.warc.gz"),
-        ("warcdx-gz", 1, "list", "cut.warc.gz"),
-        ("warcdx-gz", 1, "index", "cut.warc.gz", "b.warc"),
+        ("warcdx-gz", 1, "index", "cut.warc", "a.warc.gz"),
+        ("warcdx-gz", 1, "get", "7", "b.warc"),
         ("warcdx-gz", 0, "list", "pipe"),
         ("warcdx-gz", 0, "index", "pipe"),
         ("warcdx-verify", 0, "digests.warc.gz"),
@@ -56,7 +59,7 @@ def commands_of(program: pathlib.Path) -> Iterator[Command]:
         ("warcdx-cdx", 1, "from", "bad.cdx", "a.cdx"),
     ):
         script = Script(" ".join((name, *words)), folder / name, (*of_warcdx, *words), most_lines=3)
-        yield Command(script, name, status, "a.warc.gz" if "pipe" in words else None)
+        yield Command(script, name, status, "pages.warc.gz" if "pipe" in words else None)
     words = ("-m", "warcdx.plot", *of_warcdx, "hosts", "a.cdxj")
     yield Command(Script("python3 -m warcdx.plot", pathlib.Path(sys.executable), words), "warcdx.plot")
     words = ("--quiet", "--jobs", "2", *of_warcdx, "--warcdx-gz", str(folder / "warcdx-gz"), "crawl", INDEX)
@@ -66,13 +69,23 @@ def commands_of(program: pathlib.Path) -> Iterator[Command]:
 
 
 def spoiled_inputs() -> dict[str, bytes]:
-    """Returns inputs that are at fault near their ends."""
+    """Returns inputs that are at fault near their ends, one with a name that isn't ASCII, and one of whole pages."""
     usual = inputs()
     return {
+        "\u00e9.warc.gz": usual["a.warc.gz"],
+        "cut.warc": usual["b.warc"][:-40],
+        "pages.warc.gz": b"".join(page_of(record(number, b"block")) for number in range(MEMBERS)),
         "cut.warc.gz": usual["a.warc.gz"][:-40],
         "bad.cdxj": usual["a.cdxj"] + b"x\n",
         "bad.cdx": usual["a.cdx"] + b"a b c\n",
     }
+
+
+def page_of(text: bytes) -> bytes:
+    """Returns a member of gzip that takes a page of a disk. A field of its header, which is passed over, fills it."""
+    member = gzip.compress(text, mtime=0)
+    filling = bytes(PAGE - len(member) - 2)
+    return member[:3] + b"\4" + member[4:10] + len(filling).to_bytes(2, "little") + filling + member[10:]
 
 
 class Trial(Run):
