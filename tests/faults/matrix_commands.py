@@ -4,14 +4,17 @@ import hashlib
 import os
 import pathlib
 import re
+import signal
 import subprocess
 import sys
+import time
 from collections.abc import Iterator
-from typing import NamedTuple, Optional
+from typing import Any, NamedTuple, Optional
 
-from device_runs import SECONDS, expect
+from device_runs import expect
 from program import ROOT
 from script_runs import Ended, Run, Script, Word, gateway, inputs, record
+from script_signals import is_caught, wait_until
 
 FAULT_LINE = re.compile(rb"fault [0-9]+ [A-Za-z]+\n")
 TRACES = (b"Traceback", b"Exception ignored", b"Fatal Python error", b"Segmentation fault")
@@ -20,6 +23,7 @@ MADE = {INDEX, f"{INDEX}.parts", f"{INDEX}.summary.json"}  # by warcdx-update
 FAILED = 3
 PAGE = 4096  # bytes
 MEMBERS = 11
+SERVES = 0.5  # seconds after which a gateway serves, or has said why it doesn't, on most hosts
 ADDED = 20  # captures of each archive that is added to the folder
 
 
@@ -204,9 +208,25 @@ class UpdateTrial(Trial):
         self.expect_unchanged()
 
 
+class GatewayTrial(Trial):
+    """Each run is ended by TERM once it serves, if it does."""
+
+    def __init__(self, program: pathlib.Path, command: Command, folder: pathlib.Path, cache: pathlib.Path) -> None:
+        super().__init__(program, command, folder, cache)
+        self._usual = Ended(0, b"", b"")
+
+    def ended(self, *front: str, **arguments: Any) -> Ended:
+        process = self.start(*front, **arguments)
+        wait_until(process, lambda: is_caught(process, signal.SIGTERM))
+        time.sleep(SERVES)
+        process.terminate()
+        found = self.end_of(process)
+        return found._replace(status=0) if found.status == -signal.SIGTERM else found
+
+
 def trial_of(program: pathlib.Path, command: Command, folder: pathlib.Path, cache: pathlib.Path) -> Trial:
-    kind = UpdateTrial if command.name == "warcdx-update" else Trial
-    return kind(program, command, folder, cache)
+    kinds = {"warcdx-update": UpdateTrial, "warcdx-gateway": GatewayTrial}
+    return kinds.get(command.name, Trial)(program, command, folder, cache)
 
 
 def digests_of(folder: pathlib.Path) -> dict[str, str]:
