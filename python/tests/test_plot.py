@@ -183,6 +183,19 @@ class Drawings(Plots):
         found = self.run_command("months", "--output", self.folder / "nosuch/a.svg", self.put_rows(ONE))
         self.assertEqual((3, True), (found[0], "nosuch" in found[2]))
 
+    def test_a_drawing_that_can_not_be_written_leaves_the_one_before(self) -> None:
+        index = self.put_rows(ONE)
+        for ending in (".svg", ".png"):
+            drawing = self.folder / f"drawing{ending}"
+            drawing.write_text("another")
+            command = (sys.executable, "-m", "warcdx.plot", "--warcdx", PROGRAM, "months", "--output", drawing, index)
+            environment = {**os.environ, "PYTHONPATH": str(ROOT / "python"), "PYTHONDONTWRITEBYTECODE": "1"}
+            before = set(self.folder.iterdir())
+            done = subprocess.run(("prlimit", "--fsize=3000", *command), env=environment, capture_output=True, cwd="/")
+            said = f"warcdx.plot: {drawing}: File too large\n".encode()
+            self.assertEqual((3, said), (done.returncode, done.stderr))
+            self.assertEqual(("another", before), (drawing.read_text(), set(self.folder.iterdir())))
+
 
 if __name__ == "__main__":
     unittest.main()

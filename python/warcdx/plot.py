@@ -19,7 +19,10 @@ after a usage error; or 3 if a file can't be written, or the program failed.
 Only --output needs matplotlib (Debian's package python3-matplotlib).
 """
 import argparse
+import contextlib
 import datetime
+import io
+import os
 import sys
 from collections import Counter
 from collections.abc import Callable, Sequence
@@ -263,7 +266,25 @@ def save(table: Table, title: str, file: str) -> None:
         table.draw(figure, axes)
         axes.set_title(", ".join(part for part in (shown(title, 90), table.note) if part), fontsize=10)
         metadata = {"Date": None, "Creator": "warcdx.plot"} if file.endswith(".svg") else {"Software": "warcdx.plot"}
-        figure.savefig(file, dpi=110, metadata=metadata)
+        drawing = io.BytesIO()
+        figure.savefig(drawing, dpi=110, metadata=metadata, format=file.rpartition(".")[2])
+    put(drawing.getvalue(), os.path.realpath(file))
+
+
+def put(drawing: bytes, file: str) -> None:
+    """Writes a drawing. A file of this name is replaced at once, and stays as it was if the disk is full."""
+    new = f"{file}.{os.getpid()}.new"
+    try:
+        try:
+            with open(new, "xb") as output:
+                output.write(drawing)
+            os.replace(new, file)
+        except BaseException:
+            with contextlib.suppress(OSError):
+                os.remove(new)
+            raise
+    except OSError as error:
+        raise OSError(error.errno, error.strerror, file) from error
 
 
 # ---- command
@@ -326,7 +347,7 @@ def main(arguments: Optional[Sequence[str]] = None) -> int:
     except OutputError:
         raise
     except (Error, OSError) as error:
-        print(f"{NAME}: {printable(str(error))}", file=sys.stderr)
+        print(f"{NAME}: {printable(command.reason_of(error))}", file=sys.stderr)
         return 1 if isinstance(error, Refused) or isinstance(error, Fault) and error.offset is not None else 3
 
 
