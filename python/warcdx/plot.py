@@ -27,7 +27,7 @@ import sys
 from collections import Counter
 from collections.abc import Callable, Sequence
 from dataclasses import dataclass
-from typing import Any, Optional
+from typing import IO, Any, Optional
 
 from . import command, counting
 from .command import printable
@@ -258,17 +258,22 @@ def shown(name: str, most: int = 40) -> str:
 def save(table: Table, title: str, file: str) -> None:
     """Writes the drawing. The same table makes the same bytes."""
     import matplotlib
+
+    drawing = io.BytesIO()
+    with matplotlib.rc_context(STYLE):
+        draw(table, title, drawing, file.rpartition(".")[2])
+    put(drawing.getvalue(), os.path.realpath(file))
+
+
+def draw(table: Table, title: str, output: IO[bytes], form: str) -> None:
     from matplotlib.figure import Figure
 
-    with matplotlib.rc_context(STYLE):
-        figure = Figure(figsize=(8, 3.2), layout="constrained")
-        axes = figure.add_subplot()
-        table.draw(figure, axes)
-        axes.set_title(", ".join(part for part in (shown(title, 90), table.note) if part), fontsize=10)
-        metadata = {"Date": None, "Creator": "warcdx.plot"} if file.endswith(".svg") else {"Software": "warcdx.plot"}
-        drawing = io.BytesIO()
-        figure.savefig(drawing, dpi=110, metadata=metadata, format=file.rpartition(".")[2])
-    put(drawing.getvalue(), os.path.realpath(file))
+    figure = Figure(figsize=(8, 3.2), layout="constrained")
+    axes = figure.add_subplot()
+    table.draw(figure, axes)
+    axes.set_title(", ".join(part for part in (shown(title, 90), table.note) if part), fontsize=10)
+    metadata = {"Date": None, "Creator": "warcdx.plot"} if form == "svg" else {"Software": "warcdx.plot"}
+    figure.savefig(output, dpi=110, metadata=metadata, format=form)
 
 
 def put(drawing: bytes, file: str) -> None:

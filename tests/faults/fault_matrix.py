@@ -44,7 +44,7 @@ OTHER_PROGRAMS = (
     "echo warcdx 0.0.1: of old",
     "echo another 9.9.9",
     "exit 1",
-    'echo "warcdx 99.0.0: newer"; [ "$1" = --help ] || exit 3',
+    '[ "$1" = --help ] && echo "warcdx 99.0.0: newer" || exit 3',
     '[ "$1" = --help ] && echo "warcdx 0.1.0: x" || kill -9 $$',
 )
 
