@@ -14,7 +14,8 @@ from warcdx.gz import CompressedArchive
 from warcdx.member_records import with_head
 from warcdx.members import MOST_AT_ONCE, MOST_TEXT, Members
 from warcdx.query import Capture
-from warcdx.record import HEAD_LIMIT, Head, _length_in, size_of_record
+from warcdx.record import HEAD_LIMIT, Head, _length_in, _unfolded, fields_named, size_of_record
+from warcdx.record_digests import _READ, RecordCheck
 
 from .support import PROGRAM, Case
 from .test_gz import packed, resource
@@ -128,6 +129,37 @@ class Lengths(unittest.TestCase):
         head = b"WARC/1.0\r\ncontent-length: 5\r\n" + b"a:\r\n" * 170_000
         with unittest.mock.patch.object(Head, "fields_of", side_effect=AssertionError):
             self.assertEqual(len(head) + 2 + 5 + 4, size_of_record(head + b"\r\n"))
+
+
+class Fields(unittest.TestCase):
+    def test_chosen_fields_are_those_of_the_head(self) -> None:
+        choice = random.Random(5)
+        parts = (b"Content-Type", b"content-TYPE", b"WARC-Type", b"warc-block-digest", b"X", b":", b": a", b" ", b"\t", b"\r\n", b"\r\n ", b"b", b"\xff")
+        for _ in range(20_000):
+            head = b"WARC/1.0\r\n" + b"".join(choice.choice(parts) for _ in range(choice.randrange(20)))
+            for name in ("Content-Type", "WARC-Type", "WARC-Block-Digest"):
+                chosen = Head(tuple(fields_named(head, _READ)))
+                lines = b"\r\n" + head.partition(b"\r\n")[2]
+                if lines.startswith((b"\r\n ", b"\r\n\t")):
+                    continue  # which continues the version line
+                self.assertEqual(with_colons(head).field(name), chosen.field(name), head)
+
+    def test_a_head_of_many_fields_is_not_read_whole_to_check_digests(self) -> None:
+        head = b"WARC/1.0\r\nwarc-type: resource\r\ncontent-length: 5\r\n" + b"a:\r\n" * 170_000 + b"\r\n"
+        check = RecordCheck()
+        with unittest.mock.patch.object(Head, "fields_of", side_effect=AssertionError):
+            check.add(memoryview(head + b"block\r\n\r\n"))
+        self.assertTrue(check.is_whole)
+
+
+def with_colons(head: bytes) -> Head:
+    """Returns a head of its lines that have a colon."""
+    unfolded = Head.fields_of(head)
+    return Head(tuple(field for field, line in zip(unfolded, unfolded_lines(head)) if ":" in line))
+
+
+def unfolded_lines(head: bytes) -> "list[str]":
+    return _unfolded(head.decode(errors="surrogateescape").split("\r\n"))[1:]
 
 
 class Costs(Case):

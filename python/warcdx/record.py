@@ -189,17 +189,23 @@ def size_of_record(start: Union[bytes, bytearray, memoryview]) -> Optional[int]:
 
 
 def _length_in(head: bytes) -> Optional[int]:
-    """Returns the length in a head, of which no other field is read: there may be hundreds of thousands."""
+    """Returns the length in a head. No other field is read."""
     found = _USUAL_LENGTH.search(head)
     if found:
         return int(found[1])
-    found = _LENGTH_NAME.search(head)
-    if not found:
-        return None
-    end = _END_OF_FIELD.search(head, found.end())
-    (line,) = _unfolded(head[found.end() : end.start() if end else None].decode(errors="surrogateescape").split("\r\n"))
-    value = line.strip(" \t")
+    _, value = next(fields_named(head, _LENGTH_NAME), ("", ""))
     return int(value) if _LENGTH.fullmatch(value) else None
+
+
+def fields_named(head: bytes, names: "re.Pattern[bytes]") -> Iterator[tuple[str, str]]:
+    """Yields those fields of the text of a head at whose beginnings an expression matches: a line break, a name and a colon.
+
+    Others aren't read: a head may have hundreds of thousands.
+    """
+    for found in names.finditer(head):
+        end = _END_OF_FIELD.search(head, found.end())
+        text = head[found.start() + len(b"\r\n") : end.start() if end else None]
+        yield _field_of(_unfolded(text.decode(errors="surrogateescape").split("\r\n"))[0])
 
 
 def _length_of(head: Head) -> int:

@@ -5,13 +5,16 @@ from typing import TYPE_CHECKING, NamedTuple, Optional, Union
 
 from .codings import HEAD_LIMIT, Unreadable
 from .digests import Digest
-from .record import CLOSING, Head, HttpHead
+from .record import CLOSING, Head, HttpHead, fields_named
 
 if TYPE_CHECKING:
     from hashlib import _Hash
 
 BLOCK_DIGEST = "WARC-Block-Digest"
 PAYLOAD_DIGEST = "WARC-Payload-Digest"
+_READ = re.compile(
+    rb"\r\n(?i:Content-Length|Content-Type|WARC-Type|WARC-Segment-Number|WARC-(?:Block|Payload)-Digest):"
+)
 _LENGTH = re.compile("[0-9]{1,19}")
 _END_OF_HTTP_HEAD = re.compile(rb"\r?\n\r?\n")
 _CHUNK_HEAD = re.compile(rb"([0-9A-Fa-f]{1,15})[ \t]*(?:;[^\r\n]*)?\r?\n")
@@ -91,7 +94,7 @@ class RecordCheck:
                 raise Unreadable("the head of the record is too long")
             return piece[len(piece) :]
         self._taken = at + len(CLOSING)
-        self._start_block(Head(Head.fields_of(bytes(self._text[:at]))))
+        self._start_block(Head(tuple(fields_named(bytes(self._text[:at]), _READ))))
         self._text = bytearray()
         return piece[self._taken - held :]
 
