@@ -2,10 +2,10 @@
 
 _warcdx_update() {
     local word=${COMP_WORDS[COMP_CWORD]} before=${COMP_WORDS[COMP_CWORD - 1]}
-    local options='--dry-run --help --jobs --quiet --recursive --report --scheduler --version --warcdx --warcdx-gz -h'
+    local options='--all-faults --dry-run --help --jobs --quiet --recursive --remove --report --scheduler --types --version --warcdx --warcdx-gz -h'
     COMPREPLY=()
     case $before in
-        --jobs | --scheduler) return ;;
+        --jobs | --remove | --scheduler | --types) return ;;
         --report | --warcdx | --warcdx-gz) compopt -o default && return ;;
     esac
     if [[ $word == -* ]]; then

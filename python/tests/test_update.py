@@ -10,11 +10,15 @@ from collections.abc import Sequence
 from unittest import mock
 
 from warcdx import update, update_command
-from warcdx.update import Programs, Update, local_workers, message_of
+from warcdx.update import Outcome, Programs, Update
 from warcdx.update_counts import Counts
+from warcdx.update_files import CannotUpdate
 from warcdx.update_log import HEAD, Identity, Log, Part
-from warcdx.update_results import Results
+from warcdx.update_reports import message_of
+from warcdx.update_results import Removal, Results
+from warcdx.update_settings import Settings
 from warcdx.update_task import _add_hosts, _whole_lines
+from warcdx.update_workers import local_workers
 
 from .support import PROGRAM, SAMPLES
 
@@ -26,31 +30,56 @@ class LogTest(unittest.TestCase):
         self.path = pathlib.Path(folder.name, "log.jsonl")
 
     def part(self, archive: str, file: str = "f") -> Part:
-        return Part(archive, Identity(1, 2, 3), 1, "warcdx: ./a: fault 0 Version", file, 4, 5)
+        return Part(archive, Identity(1, 2, 3, 4), 1, "warcdx: ./a: fault 0 Version", file * 32, 4, 5)
+
+    def started(self) -> Log:
+        log = Log(self.path)
+        log.start([], self.path.with_name("new"))
+        return log
+
+    def add(self, log: Log, *parts: Part) -> None:
+        for part in parts:
+            log.announce(part)
+            log.add(part)
+        log.close()
+
+    def read(self, absent: str = "") -> Log:
+        log = Log(self.path)
+        log.load(lambda part: part.file != absent * 32)
+        return log
 
     def test_a_log_is_read_back(self) -> None:
-        log = Log(self.path)
-        log.start([])
         names = ("a.warc", "b\n\u2028é.warc", "\udcff.warc")
-        for name in names:
-            log.add(self.part(name))
-        log.add(self.part("a.warc", "g"))
-        log.close()
-        self.assertEqual(Log(self.path).parts, {name: self.part(name) for name in names} | {"a.warc": self.part("a.warc", "g")})
+        self.add(self.started(), *map(self.part, names), self.part("a.warc", "e"))
+        self.assertEqual(self.read().parts, {name: self.part(name) for name in names} | {"a.warc": self.part("a.warc", "e")})
+        self.assertEqual(self.read().files, {"e" * 32, "f" * 32})
+
+    def test_a_part_that_is_not_there_leaves_the_earlier_one(self) -> None:
+        self.add(self.started(), self.part("a.warc", "d"), self.part("a.warc", "e"), self.part("b.warc", "e"))
+        self.assertEqual(self.read(absent="e").parts, {"a.warc": self.part("a.warc", "d")})
+        self.assertEqual(self.read(absent="e").files, {"d" * 32, "e" * 32})
 
     def test_lines_that_are_not_whole_are_left_out(self) -> None:
-        log = Log(self.path)
-        log.start([])
-        log.add(self.part("a.warc"))
-        log.add(self.part("b.warc"))
-        log.close()
+        self.add(self.started(), self.part("a.warc"), self.part("b.warc"))
+        whole = json.dumps(self.part("c.warc"))
         with open(self.path, "a") as file:
-            file.write('["c.warc", [1, 2, 3]]\n\0\0\n7\nnull\n["d.warc", [1,')
-        self.assertEqual(set(Log(self.path).parts), {"a.warc", "b.warc"})
+            file.write('["c.warc", [1, 2, 3, 4]]\n\0\0\n7\nnull\n["d.warc", [1,\n' + "[" * 100_000 + "\n")
+            for old, new in (("1, 2,", "1, 2.5,"), ('"c.warc"', "7"), (", 4, 5]", ', "4", 5]'), ("[1, 2, 3, 4]", "[1, 2, 3]")):
+                file.write(whole.replace(old, new) + "\n")
+        self.assertEqual(set(self.read().parts), {"a.warc", "b.warc"})
 
-    def test_a_log_of_another_form_is_empty(self) -> None:
-        self.path.write_text(HEAD.replace("1", "2") + json.dumps(self.part("a.warc")) + "\n")
-        self.assertEqual(Log(self.path).parts, {})
+    def test_a_log_that_names_other_files_is_refused(self) -> None:
+        self.add(self.started(), self.part("a.warc"))
+        for name in ("/home/me/conf", "../" + "f" * 32, "F" * 32, "f" * 31, "f" * 33, "f" * 32 + "\n", "", "lock"):
+            self.path.write_text(HEAD + json.dumps(self.part("a.warc")._replace(file=name)) + "\n")
+            with self.assertRaises(CannotUpdate):
+                self.read()
+
+    def test_a_log_of_another_form_is_refused(self) -> None:
+        for head in (HEAD.replace("2", "3"), "", "\n"):
+            self.path.write_text(head + json.dumps(self.part("a.warc")) + "\n")
+            with self.assertRaises(CannotUpdate):
+                self.read()
 
 
 class CountsTest(unittest.TestCase):
@@ -121,13 +150,14 @@ class LevelsTest(unittest.TestCase):
             results = Results(str(pathlib.Path(name, "all.cdxj")))
             programs = Programs((PROGRAM,), (PROGRAM,))
             with mock.patch.object(update, "merge_parts", merge):
-                work = Update(str(folder), results, programs, lambda: local_workers(2), update_command.Silent())
-                reports, failure = work.run(recursive=False)
-            self.assertIsNone(failure)
+                settings = Settings.of(str(folder), False, None)
+                work = Update(settings, results, programs, lambda: local_workers(2), update_command.Silent())
+                outcome: Outcome = work.run(Removal(0, False), lambda found: found)
+            self.assertIsNone(outcome.failure)
             wanted = subprocess.run((PROGRAM, "index", *sorted(folder.iterdir())), stdout=subprocess.PIPE, check=True).stdout
             self.assertEqual(results.index.read_bytes(), wanted)
             self.assertEqual(sorted(merges), [1, 1, 2, 3, 3, 3, 3])
-            self.assertEqual([report.captures for report in reports], [1] * 10)
+            self.assertEqual([report.captures for report in outcome.reports], [1] * 10)
 
 
 if __name__ == "__main__":

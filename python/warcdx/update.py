@@ -1,25 +1,22 @@
 """Keeps one index of the archives in a folder up to date."""
 import contextlib
-import json
 import os
-import re
-import subprocess
-import threading
 from collections.abc import Callable, Iterator, Mapping, Sequence
-from concurrent.futures import CancelledError, Executor, Future, ThreadPoolExecutor, as_completed
-from enum import Enum
-from typing import Any, NamedTuple, Optional, Protocol, Union
+from typing import Any, NamedTuple, Optional, Protocol, TypeVar, Union
 
-from .update_counts import Made, counts_of, summary_of, write_text
-from .update_folder import Archive, Found, find_archives
-from .update_log import Identity, Part
-from .update_results import UNFINISHED, Plan, Results
-from .update_task import FAULT, Failed, Indexed, Start, check_index, index_archive, merge_parts
+from .update_counts import Counts, Made, counts_in, counts_of, has_members, summary_of
+from .update_files import CannotUpdate, Fingerprint
+from .update_folder import Archive, Found, Passed, find_archives
+from .update_reports import FAILED, Action, Report, damage_of, reason_of
+from .update_results import Plan, Removal, Results
+from .update_settings import Settings
+from .update_task import FAULT, Failed, Indexed, check_index, index_archive, merge_parts
+from .update_workers import Task, Workers
 
-FAILED = 3  # the status of an archive that can't be indexed
-RETRIES = 2  # further tries of a task that fails
 MOST = 1000  # parts that are merged at a time: the program takes 1,024, and many systems as many open files
-_SAID = re.compile(r"warcdx(?:-gz)?: (?:.*): (?:fault ([0-9]+) ([A-Za-z0-9]+)|([A-Za-z0-9]+|cannot open))", re.DOTALL)
+GONE = "it is gone"  # what a report says of an archive whose captures the index keeps all the same
+Value = TypeVar("Value")
+
 
 class Programs(NamedTuple):
     """The commands for plain and for compressed archives, each as a list of arguments."""
@@ -28,46 +25,29 @@ class Programs(NamedTuple):
     compressed: tuple[str, ...]
 
 
-class CannotUpdate(Exception):
-    """The index can't be brought up to date, and stays as it was."""
-
-
-class Action(Enum):
-    """What became of an archive."""
-
-    INDEXED = "indexed"
-    UNCHANGED = "unchanged"
-    KEPT = "kept"  # it can't be read, and the index has its captures as they were
-    LEFT_OUT = "left out"  # it can't be read, and wasn't indexed before
-    REMOVED = "removed"  # it is gone
-
-
-class Report(NamedTuple):
-    """What became of an archive. `status` is 0, 1 if it is damaged, or 3 if it can't be indexed.
-
-    `bytes` is the size of the archive, and `captures` how many of its captures are in the index.
-    """
-
-    archive: str
-    action: Action
-    status: int
-    message: str
-    bytes: int
-    captures: int
-
-    @classmethod
-    def of(cls, part: Part, action: Action) -> "Report":
-        return cls(part.archive, action, part.status, message_of(part.said), part.identity.size, part.captures)
-
-    def values(self) -> dict[str, Any]:
-        return {**self._asdict(), "action": self.action.value}
-
-
 class Outcome(NamedTuple):
-    """What an update has done: a report on each archive, in the order of their names, and why the index stays as it was."""
+    """What an update has done: a report on each archive, in the order of their names, and why it has failed, if it has.
+
+    `is_replaced` says whether it has replaced the index, if it has failed. `gone` are the archives that are gone, and keep their
+    captures. `known` has the messages of the faults that earlier runs have reported, by the names of reports.
+    """
 
     reports: list[Report]
     failure: Optional[str]
+    is_replaced: bool
+    gone: list[str]
+    passed: Passed
+    known: dict[str, str]
+
+    @property
+    def faults(self) -> list[Report]:
+        """The reports on archives and folders at fault, but for those on archives that are gone."""
+        gone = frozenset(self.gone)
+        return [report for report in self.reports if report.status and report.archive not in gone]
+
+    def is_known(self, report: Report) -> bool:
+        """Returns whether an earlier run has reported this fault."""
+        return self.known.get(report.archive) == report.message
 
 
 class Progress(Protocol):
@@ -83,142 +63,59 @@ class Progress(Protocol):
         """The archives are done."""
 
 
-class Task(NamedTuple):
-    """A call that an executor can run. Its arguments are plain values, since a worker may not have the classes of this package."""
-
-    function: Callable[..., Any]
-    arguments: tuple[Any, ...]
-
-
-class Workers(NamedTuple):
-    """What runs the tasks, and how a task starts a program. Without a `start`, a task starts it by itself."""
-
-    executor: Executor
-    start: Optional[Start] = None
-
-    def run(self, tasks: Sequence[Task]) -> Iterator[tuple[Task, Any]]:
-        """Runs tasks. Yields each with its result, or with the error of the last try, as they come."""
-        for attempt in range(RETRIES + 1):
-            futures = {self._submit(task): task for task in tasks}
-            tasks = []
-            for future in as_completed(list(futures)):
-                task = futures.pop(future)
-                outcome = _outcome_of(future)
-                if isinstance(outcome, Exception) and attempt < RETRIES:
-                    tasks.append(task)
-                else:
-                    yield task, outcome
-
-    def run_all(self, tasks: Sequence[Task]) -> list[Any]:
-        """Runs tasks, and returns their results. Raises CannotUpdate if one fails."""
-        found = []
-        for _, outcome in self.run(tasks):
-            if isinstance(outcome, Exception):
-                raise CannotUpdate(reason_of(outcome))
-            found.append(outcome)
-        return found
-
-    def _submit(self, task: Task) -> "Future[Any]":
-        options = {} if self.start is None else {"start": self.start}
-        try:
-            return self.executor.submit(task.function, *task.arguments, **options)
-        except RuntimeError as error:  # no thread can be started, or the cluster is gone
-            raise CannotUpdate(str(error)) from None
-
-
-def _outcome_of(future: "Future[Any]") -> Any:
-    try:
-        return future.result()
-    except (CancelledError, Exception) as error:
-        return error
-
-
-class Children:
-    """The programs that the tasks run in this process, so that they can be ended."""
-
-    def __init__(self) -> None:
-        self._lock = threading.Lock()
-        self._running: set[subprocess.Popen[bytes]] = set()
-        self._is_ended = False
-
-    def start(self, command: Sequence[str], **options: Any) -> "subprocess.Popen[bytes]":
-        with self._lock:
-            if self._is_ended:
-                raise Failed("the work is ended")
-            process: subprocess.Popen[bytes] = subprocess.Popen(command, **options)
-            self._running = {each for each in self._running if each.returncode is None} | {process}
-            return process
-
-    def end(self) -> None:
-        """Ends the programs that run, and refuses others."""
-        with self._lock:
-            self._is_ended = True
-            for process in self._running:
-                process.kill()
-
-
-@contextlib.contextmanager
-def local_workers(jobs: int) -> Iterator[Workers]:
-    """Yields threads of this process, each of which runs one program at a time."""
-    children = Children()
-    executor = ThreadPoolExecutor(jobs)
-    try:
-        yield Workers(executor, children.start)
-    finally:
-        children.end()
-        executor.shutdown(cancel_futures=True)
-
-
 class Update:
     """An update of the index of a folder. It is held by the lock of the results while it works."""
 
     def __init__(
         self,
-        folder: str,
+        settings: Settings,
         results: Results,
         programs: Programs,
         open_workers: Callable[[], contextlib.AbstractContextManager[Workers]],
         progress: Progress,
     ) -> None:
-        self._folder = os.path.abspath(folder)
+        self._settings = settings
         self._results = results
         self._programs = programs
         self._open_workers = open_workers
         self._progress = progress
 
-    def run(self, recursive: bool) -> Outcome:
-        """Indexes what is new, and makes the index of all. Raises Locked, CannotUpdate or OSError if nothing was indexed."""
-        os.scandir(self._folder).close()  # so that nothing is made for a folder that can't be read
-        self._expect_replaceable()
-        with self._results.locked():
-            return self._run_alone(recursive)
+    def run(self, removal: Removal, say: Callable[[Outcome], Value]) -> Value:
+        """Indexes what is new, makes the index of all, and says what was done. The faults that were said are known to the next run.
 
-    def _run_alone(self, recursive: bool) -> Outcome:
-        found = find_archives(self._folder, recursive)
-        plan = self._results.plan(found)
-        with self._results.open(plan):
-            others = list(self._reports_of_others(found, plan))
-            reports, failure = self._carry_out(plan)
-        return Outcome(sorted(others + reports, key=lambda report: report.archive), failure)
+        Raises Locked, CannotUpdate, Failed or OSError if nothing was indexed.
+        """
+        self._results.look(self._settings)
+        os.scandir(self._settings.folder).close()  # so that nothing is made for a folder that can't be read
+        with self._results.locked(self._settings):
+            outcome = self._run_alone(self.find(), removal)
+            said = say(outcome)
+            self._results.remember({report.archive: report.message for report in outcome.faults})
+        return said
 
-    def _carry_out(self, plan: Plan) -> tuple[list[Report], Optional[str]]:
+    def find(self) -> Found:
+        """Returns the archives. Raises OSError if the folder can't be read."""
+        results = self._results
+        return find_archives(self._settings.folder, self._settings.recursive, str(results.folder), results.own)
+
+    def _run_alone(self, found: Found, removal: Removal) -> Outcome:
+        plan = self._results.plan(found, removal)
+        others = list(self._reports_of_others(found, plan))
+        reports, failure = self._carry_out(plan, found, others)
+        ordered = sorted(others + reports, key=lambda report: report.archive)
+        return Outcome(ordered, failure, self._results.is_replaced, plan.gone, found.passed, self._results.faults)
+
+    def _carry_out(self, plan: Plan, found: Found, others: Sequence[Report]) -> tuple[list[Report], Optional[str]]:
         """Indexes what is new, and makes the index of all. Returns a report on each new archive, and why there is no index."""
-        if not plan.new and self._is_current():
+        if not plan.new and not plan.removed and self._is_made(self._members(plan, found, others)):
             return [], None
-        with self._open_workers() as workers:
-            return list(self._index(workers, plan.new)), self._try_to_merge(workers)
-
-    def _expect_replaceable(self) -> None:
-        """Raises CannotUpdate if the index would replace what is neither an index nor the result of an earlier update."""
-        index = self._results.index
-        try:
-            Identity.of(str(index))
-            if self._results.is_new:
-                check_index(self._programs.plain, str(index.parent), f"./{index.name}")
-        except FileNotFoundError:
-            pass
-        except Failed:
-            raise CannotUpdate("this file isn't an index, and isn't replaced") from None
+        with self._results.open(plan), self._open_workers() as workers:
+            reports = list(self._index(workers, plan.new))
+            try:
+                self._make(workers, plan, self._members(plan, found, [*others, *reports]))
+            except (CannotUpdate, Failed, OSError) as error:
+                return reports, reason_of(error)
+            return reports, None
 
     def _reports_of_others(self, found: Found, plan: Plan) -> Iterator[Report]:
         """Yields a report on each archive that isn't indexed now."""
@@ -227,22 +124,33 @@ class Update:
             yield Report.of(parts[archive.name], Action.UNCHANGED)
         for name in plan.removed:
             yield Report(name, Action.REMOVED, 0, "", 0, 0)
-        for name, part in parts.items():
+        for name in plan.gone:
+            yield self._failure(name, GONE)
+        for name in parts:
             reason = found.reason_for(name)
             if reason is not None:
-                yield Report.of(part, Action.KEPT)._replace(status=FAILED, message=reason)
+                yield self._failure(name, reason)
         for folder, reason in found.unreadable.items():
             yield Report(f"{folder}/", Action.LEFT_OUT, FAILED, reason, 0, 0)
+
+    def _failure(self, name: str, reason: str, size: Optional[int] = None) -> Report:
+        """Returns a report on an archive that can't be indexed, of `size` bytes if its size is known."""
+        part = self._results.log.parts.get(name)
+        if part is None:
+            return Report(name, Action.LEFT_OUT, FAILED, reason, size or 0, 0)
+        kept = Report.of(part, Action.KEPT)
+        return kept._replace(status=FAILED, message=reason, bytes=kept.bytes if size is None else size)
 
     def _index(self, workers: Workers, archives: Sequence[Archive]) -> Iterator[Report]:
         """Indexes archives. Yields a report on each."""
         for archive in archives:
             if not archive.is_text:
-                yield self._failure(archive, "the name isn't UTF-8")
-        places = (self._folder, str(self._results.unfinished))
+                yield self._failure(archive.name, "the name isn't UTF-8", archive.size)
+        places = (self._settings.folder, str(self._results.unfinished))
+        words = self._settings.words
         yield from self._run(
             workers,
-            {Task(index_archive, (*self._programs, *places, archive.name)): archive for archive in archives if archive.is_text},
+            {Task(index_archive, (*self._programs, *places, each.name, words)): each for each in archives if each.is_text},
         )
 
     def _run(self, workers: Workers, tasks: Mapping[Task, Archive]) -> Iterator[Report]:
@@ -257,103 +165,87 @@ class Update:
 
     def _keep(self, archive: Archive, outcome: Union[Indexed, Exception]) -> Report:
         if isinstance(outcome, Exception):
-            return self._failure(archive, reason_of(outcome))
+            return self._failure(archive.name, reason_of(outcome), archive.size)
         try:
             self._results.keep(archive.name, outcome)
         except OSError as error:
-            return self._failure(archive, reason_of(error))
+            return self._failure(archive.name, reason_of(error), archive.size)
         return Report.of(self._results.log.parts[archive.name], Action.INDEXED)
-
-    def _failure(self, archive: Archive, reason: str) -> Report:
-        part = self._results.log.parts.get(archive.name)
-        if part is None:
-            return Report(archive.name, Action.LEFT_OUT, FAILED, reason, archive.size, 0)
-        return Report.of(part, Action.KEPT)._replace(status=FAILED, message=reason, bytes=archive.size)
 
     def _is_current(self) -> bool:
         """Returns whether the index is the one that was made of the parts."""
-        made, parts = Made.read(self._results.made), self._results.log.parts.values()
-        if made is None or not self._results.summary.is_file():
+        results = self._results
+        made = results.made
+        if made is None or made.parts != {part.archive: part.file for part in results.log.parts.values()}:
             return False
-        try:
-            return made.identity == Identity.of(str(self._results.index)) and made.parts == {part.file for part in parts}
-        except (OSError, Failed):
-            return False
+        return made.index_file == Fingerprint.of(results.index) and made.summary_file == Fingerprint.of(results.summary)
 
-    def _try_to_merge(self, workers: Workers) -> Optional[str]:
-        """Makes the index of all parts if there isn't one. Returns why it can't be made."""
-        try:
-            if not self._is_current():
-                self._merge(workers)
-        except (CannotUpdate, Failed, OSError) as error:
-            return reason_of(error)
-        return None
+    def _is_made(self, members: Mapping[str, Any]) -> bool:
+        """Returns whether the index is current, and its summary has these members."""
+        return self._is_current() and has_members(self._results.summary, members)
 
-    def _merge(self, workers: Workers) -> None:
+    def _members(self, plan: Plan, found: Found, reports: Sequence[Report]) -> dict[str, Any]:
+        """Returns the members of a summary that aren't counts of captures."""
+        removed, gone = frozenset(plan.removed), frozenset(plan.gone)
+        parts = sorted(part for part in self._results.log.parts.values() if part.archive not in removed)
+        return {
+            "archives": len(parts),
+            "bytes": sum(part.identity.size for part in parts),
+            "damaged": [damage_of(part) for part in parts if part.status == FAULT],
+            "unread": [
+                {"archive": report.archive, "cause": report.message}
+                for report in sorted(reports, key=lambda report: report.archive)
+                if report.status == FAILED and report.archive not in gone
+            ],
+            "gone": len(plan.gone),
+            "passed_over": found.passed.values(),
+        }
+
+    def _make(self, workers: Workers, plan: Plan, members: Mapping[str, Any]) -> None:
+        """Makes the index of all parts and its summary, or the summary alone if the index is current."""
+        if self._is_made(members):
+            return
+        if self._is_current() and (counts := counts_in(self._results.made_file)) is not None:
+            self._replace(counts, members)
+        else:
+            self._merge(workers, plan, members)
+
+    def _merge(self, workers: Workers, plan: Plan, members: Mapping[str, Any]) -> None:
         """Makes the index of all parts, and its summary."""
         results = self._results
-        parts = sorted(results.log.parts.values())
-        files = frozenset(part.file for part in parts)
-        counts = counts_of(results.folder, files, Made.read(results.made))
-        merged = f"{UNFINISHED}/merged"
+        self._expect_kept(plan)
+        files = frozenset(part.file for part in results.log.parts.values())
+        counts = counts_of(results.folder, files, results.made, results.made_file)
+        merged = f"{results.unfinished.name}/merged"
         self._merge_levels(workers, sorted(files), merged)
         (captures,) = workers.run_all([Task(check_index, (self._programs.plain, str(results.folder), merged))])
         if captures != counts.captures:
             raise CannotUpdate(f"the parts have {counts.captures} captures, and the index of them has {captures}")
-        replace_index(str(results.folder / merged), str(results.index))
-        damaged = [damage_of(part) for part in parts if part.status == FAULT]
-        write_text(results.summary, json.dumps(summary_of(parts, counts, damaged), indent=1))
-        Made(Identity.of(str(results.index)), files, counts).write(results.made)
+        self._replace(counts, members, merged)
+
+    def _expect_kept(self, plan: Plan) -> None:
+        """Raises CannotUpdate if the index would lose the captures of an archive that isn't to leave it."""
+        made, log = self._results.made, self._results.log
+        lost = sorted((frozenset() if made is None else made.parts.keys()) - log.parts.keys() - frozenset(plan.removed))
+        if lost:
+            raise CannotUpdate(f"{len(lost):,} parts are missing or damaged and can't be made anew, such as of {lost[0]!a}")
+
+    def _replace(self, counts: Counts, members: Mapping[str, Any], merged: Optional[str] = None) -> None:
+        """Replaces the index, if a new one is there, and the summary, and notes of which parts the index was made."""
+        results = self._results
+        index, summary = results.replace(summary_of(counts, members), merged)
+        made = Made(index, summary, {part.archive: part.file for part in results.log.parts.values()})
+        results.write(results.made_file.name, made.text(counts))
 
     def _merge_levels(self, workers: Workers, files: list[str], output: str) -> None:
         """Merges parts, in levels if there are too many for one merge."""
-        level = 0
+        level, folder = 0, os.path.dirname(output)
         while len(files) > MOST:
             groups = [files[start : start + MOST] for start in range(0, len(files), MOST)]
-            outputs = [f"{UNFINISHED}/merged-{level}-{number}" for number in range(len(groups))]
+            outputs = [f"{folder}/merged-{level}-{number}" for number in range(len(groups))]
             workers.run_all([self._merge_task(group, output) for group, output in zip(groups, outputs)])
             files, level = outputs, level + 1
         workers.run_all([self._merge_task(files, output)])
 
     def _merge_task(self, files: Sequence[str], output: str) -> Task:
         return Task(merge_parts, (self._programs.plain, str(self._results.folder), tuple(files), output))
-
-
-def replace_index(new: str, index: str) -> None:
-    """Gives a file that is on the disk the name of the index, and the permissions of the earlier one if there is one."""
-    with contextlib.suppress(FileNotFoundError):
-        os.chmod(new, os.stat(index).st_mode & 0o7777)
-    os.replace(new, index)
-    folder = os.open(os.path.dirname(index), os.O_RDONLY | os.O_DIRECTORY)
-    try:
-        os.fsync(folder)
-    finally:
-        os.close(folder)
-
-
-def reason_of(error: Exception) -> str:
-    """Returns why a task has failed."""
-    if isinstance(error, (Failed, CannotUpdate)):
-        return message_of(str(error))
-    if isinstance(error, OSError):
-        return error.strerror or str(error)
-    if isinstance(error, MemoryError):
-        return "Memory"
-    return ": ".join(filter(None, (type(error).__name__, str(error))))
-
-
-def message_of(said: str) -> str:
-    """Returns what the program has said of an archive, without the names of the program and of the archive."""
-    found = _SAID.fullmatch(said)
-    if not found:
-        return said
-    return found[3] if found[1] is None else f"fault {found[1]} {found[2]}"
-
-
-def damage_of(part: Part) -> dict[str, Any]:
-    """Returns the archive, the offset of the record at fault in bytes, and the cause, as a summary has them."""
-    found = _SAID.fullmatch(part.said)
-    if not found:
-        return {"archive": part.archive, "offset": None, "cause": part.said}
-    offset = None if found[1] is None else int(found[1])
-    return {"archive": part.archive, "offset": offset, "cause": found[2] or found[3]}

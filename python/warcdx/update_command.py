@@ -1,19 +1,22 @@
 """Keeps one index of all archives in a folder up to date.
 
-usage: warcdx-update [--recursive] [--jobs N | --scheduler ADDRESS] [--report FILE] [--quiet] [--dry-run]
-                     [--warcdx PROGRAM] [--warcdx-gz PROGRAM] FOLDER INDEX
+usage: warcdx-update [--recursive] [--types TYPES] [--remove N|N%|all] [--jobs N | --scheduler ADDRESS] [--report FILE]
+                     [--all-faults] [--quiet] [--dry-run] [--warcdx PROGRAM] [--warcdx-gz PROGRAM] FOLDER INDEX
 
 FOLDER contains the archives: files whose names end with .warc or .warc.gz. Each one is read as a plain or as a
 compressed archive, as its first bytes say. INDEX is created, or replaced by an index of all of them. In it, the
 file name of an archive is the path of the archive below FOLDER.
 
-Only archives that are new or changed are indexed. An archive has changed if its size, its time or its inode has.
-Archives that are gone leave the index. The folder INDEX.parts keeps an index of each archive, and the file
-INDEX.summary.json counts the captures. INDEX is replaced at once, and only by an index that `warcdx check` accepts.
+Only archives that are new or changed are indexed. An archive has changed if its size, its inode, or the time of a
+change of either has. The folder INDEX.parts keeps an index of each archive, and the file INDEX.summary.json counts
+the captures. INDEX is replaced at once, by an index that `warcdx check` accepts, and only if an earlier run has made
+it. FOLDER, --recursive and --types are those of the first run.
 
-An archive that is damaged is indexed up to the damage. If an archive can't be read, the index keeps the captures
-that it had of it. A line on standard error names each such archive. The exit status is 0; 1 if an archive is
-damaged; 2 after a usage error; or 3 if an archive can't be read, INDEX can't be made, or another process updates it.
+If archives are gone, the index keeps their captures, unless --remove lets that many leave it. An archive that
+is damaged is indexed up to the damage. If an archive can't be read, the index keeps the captures that it had of it.
+A line on standard error names each such archive, once for the same fault. The exit status is 0; 1 if an archive is
+newly damaged; 2 after a usage error; or 3 if an archive newly can't be read, archives are gone, INDEX can't be made,
+or another process updates it.
 """
 import argparse
 import contextlib
@@ -25,20 +28,24 @@ import re
 import sys
 from collections import Counter
 from collections.abc import Callable, Iterator, Sequence
-from typing import Any, BinaryIO, Optional, TextIO
+from typing import Any, BinaryIO, Optional
 
 from . import __version__, update_task
 from .command import FAILED, Parser, printable, report, run
 from .errors import Error
 from .program import find_program
-from .update import Action, CannotUpdate, Outcome, Programs, Progress, Report, Update, Workers, local_workers
-from .update_folder import find_archives
-from .update_results import Locked, Results
+from .update import Outcome, Programs, Progress, Update
+from .update_files import CannotUpdate
+from .update_reports import Action, Report
+from .update_results import Locked, Removal, Results
+from .update_settings import TYPES, Settings
+from .update_task import Failed
+from .update_workers import Workers, local_workers
 
 NAME = "warcdx-update"
 CONSEQUENCES = {Action.KEPT: "; the index keeps its captures", Action.LEFT_OUT: "; left out"}
 _NUMBER = re.compile("[1-9][0-9]{0,2}")
-_REPORT = b'{"archive": '  # the first bytes of a report
+_REMOVAL = re.compile("(0|[1-9][0-9]{0,17})(%?)")
 
 
 def read_arguments(arguments: Optional[Sequence[str]]) -> argparse.Namespace:
@@ -47,6 +54,14 @@ def read_arguments(arguments: Optional[Sequence[str]]) -> argparse.Namespace:
     add = parser.add_argument
     add("--version", action="version", version=f"{NAME} {__version__}")
     add("--recursive", action="store_true", help="also index the archives in the folders below FOLDER")
+    add("--types", type=types_of, metavar="TYPES", help="the types of records that are indexed, as in warcdx index")
+    add(
+        "--remove",
+        type=removal_of,
+        default=Removal(0, False),
+        metavar="N|N%%|all",
+        help="let archives that are gone leave the index, if they are at most this number or share of its archives",
+    )
     workers.add_argument(
         "--jobs",
         type=jobs_of,
@@ -56,8 +71,9 @@ def read_arguments(arguments: Optional[Sequence[str]]) -> argparse.Namespace:
     )
     workers.add_argument("--scheduler", metavar="ADDRESS", help="use the workers of the Dask scheduler at ADDRESS")
     add("--report", metavar="FILE", help="write a line of JSON about each archive to FILE")
+    add("--all-faults", action="store_true", help="report the faults too that an earlier run has reported")
     add("--quiet", action="store_true", help="print nothing but faults")
-    add("--dry-run", action="store_true", help="print what would be indexed and removed, and change nothing")
+    add("--dry-run", action="store_true", help="print what would be indexed, removed and kept, and change nothing")
     add("--warcdx", default="warcdx", metavar="PROGRAM", help="the program for plain archives (%(default)s)")
     add("--warcdx-gz", default=compressed_program(), metavar="PROGRAM", help="the program for compressed archives (warcdx-gz)")
     add("folder", metavar="FOLDER")
@@ -69,6 +85,22 @@ def jobs_of(text: str) -> int:
     if not _NUMBER.fullmatch(text):
         raise argparse.ArgumentTypeError("the number of jobs is 1 to 999")
     return int(text)
+
+
+def types_of(text: str) -> frozenset[str]:
+    types = text.split(",")
+    if len(set(types)) < len(types) or not set(types) <= set(TYPES):
+        raise argparse.ArgumentTypeError(f"types are {', '.join(TYPES[:-1])} and {TYPES[-1]}, each once at most, with ',' between")
+    return frozenset(types)
+
+
+def removal_of(text: str) -> Removal:
+    if text == "all":
+        return Removal(100, True)
+    found = _REMOVAL.fullmatch(text)
+    if found is None or found[2] and int(found[1]) > 100:
+        raise argparse.ArgumentTypeError("a number of archives, 0% to 100% of them, or all")
+    return Removal(int(found[1]), bool(found[2]))
 
 
 def compressed_program() -> str:
@@ -162,37 +194,36 @@ def progress_of(given: argparse.Namespace) -> Progress:
     return Lines()
 
 
-def print_plan(given: argparse.Namespace, results: Results, output: BinaryIO) -> None:
-    plan = results.plan(find_archives(given.folder, given.recursive))
-    for word, names in (("index", [archive.name for archive in plan.new]), ("remove", sorted(plan.removed))):
+def print_plan(given: argparse.Namespace, work: Update, results: Results, settings: Settings, output: BinaryIO) -> None:
+    results.look(settings)
+    found = work.find()
+    plan = results.plan(found, given.remove)
+    for word, names in (("index", [archive.name for archive in plan.new]), ("remove", plan.removed), ("keep", plan.gone)):
         for name in names:
             output.write(f"{word} {printable(name)}\n".encode())
+    if line := found.passed.line():
+        output.write(f"{line}\n".encode())
 
 
 def update(given: argparse.Namespace, output: BinaryIO) -> int:
     results = Results(given.index)
+    settings = Settings.of(given.folder, given.recursive, given.types)
+    work = Update(settings, results, programs_of(given), workers_of(given), progress_of(given))
     if given.dry_run:
-        print_plan(given, results, output)
+        print_plan(given, work, results, settings, output)
         return 0
-    work = Update(given.folder, results, programs_of(given), workers_of(given), progress_of(given))
-    outcome = run_with_report(work, given) if given.report else work.run(given.recursive)
-    return say(given, outcome)
+    if given.report:
+        results.look(settings)
+        results.expect_report(given.report)
+    return work.run(given.remove, functools.partial(say_and_report, given, results))
 
 
-def run_with_report(work: Update, given: argparse.Namespace) -> Outcome:
-    with open_report(given.report) as file:
-        outcome = work.run(given.recursive)
-        file.writelines(json.dumps(each.values()) + "\n" for each in outcome.reports)
-    return outcome
-
-
-def open_report(path: str) -> TextIO:
-    """Opens a file for a report. Raises Error if it would replace a file that isn't a report, such as the index."""
-    if os.path.isfile(path):
-        with open(path, "rb") as file:
-            if file.read(len(_REPORT)) not in (b"", _REPORT):
-                raise Error(f"{path}: this file isn't a report, and isn't replaced")
-    return open(path, "w", encoding="ascii")
+def say_and_report(given: argparse.Namespace, results: Results, outcome: Outcome) -> int:
+    """Says what was done, writes the report on it, and returns the exit status."""
+    status = say(given, outcome)
+    if given.report:
+        results.write_report(given.report, (json.dumps(each.values()) + "\n" for each in outcome.reports))
+    return status
 
 
 def workers_of(given: argparse.Namespace) -> Callable[[], contextlib.AbstractContextManager[Workers]]:
@@ -203,24 +234,42 @@ def workers_of(given: argparse.Namespace) -> Callable[[], contextlib.AbstractCon
 
 def say(given: argparse.Namespace, outcome: Outcome) -> int:
     """Reports what was done, and returns the exit status."""
-    reports, failure = outcome
-    for each in reports:
-        if each.status:
-            report(NAME, f"{printable(each.archive)}: {printable(each.message)}{CONSEQUENCES.get(each.action, '')}")
-    if failure is not None:
-        report(NAME, f"{printable(given.index)}: {printable(failure)}; the index stays as it was")
+    faults = outcome.faults if given.all_faults else [each for each in outcome.faults if not outcome.is_known(each)]
+    for each in faults:
+        report(NAME, f"{printable(each.archive)}: {printable(each.message)}{CONSEQUENCES.get(each.action, '')}")
+    if outcome.gone:
+        report(NAME, gone_line(outcome.gone))
+    if outcome.failure is not None:
+        report(NAME, f"{printable(given.index)}: {printable(outcome.failure)}; {state_of(given.index, outcome)}")
         return FAILED
     if not given.quiet:
-        report(NAME, total_of(given.index, reports))
-    return max((each.status for each in reports), default=0)
+        if line := outcome.passed.line():
+            report(NAME, line)
+        report(NAME, total_of(given.index, outcome, len(outcome.faults) - len(faults)))
+    return FAILED if outcome.gone else max((each.status for each in faults), default=0)
 
 
-def total_of(index: str, reports: Sequence[Report]) -> str:
-    counts = Counter(each.action for each in reports)
-    captures = sum(each.captures for each in reports)
-    archives = len(reports) - counts[Action.REMOVED] - counts[Action.LEFT_OUT]
-    changes = ", ".join(f"{counts[action]:,} {action.value}" for action in Action if counts[action])
-    return f"{printable(index)}: {captures:,} captures of {archives:,} archives" + (f" ({changes})" if changes else "")
+def gone_line(gone: Sequence[str]) -> str:
+    if len(gone) == 1:
+        return f"{printable(gone[0])} is gone; the index keeps its captures, unless --remove 1 is given"
+    return f"{len(gone):,} archives are gone, the first of them {printable(gone[0])}; the index keeps their captures, unless --remove {len(gone)} is given"
+
+
+def state_of(index: str, outcome: Outcome) -> str:
+    """Says what a run has done to an index before it failed."""
+    if outcome.is_replaced:
+        return "the index was replaced, but what belongs to it wasn't; the next update replaces both"
+    return "the index stays as it was" if os.path.exists(index) else "there is no index"
+
+
+def total_of(index: str, outcome: Outcome, known: int) -> str:
+    counts = Counter(each.action for each in outcome.reports)
+    captures = sum(each.captures for each in outcome.reports)
+    archives = len(outcome.reports) - counts[Action.REMOVED] - counts[Action.LEFT_OUT]
+    changes = [f"{counts[action]:,} {action.value}" for action in Action if counts[action]]
+    if known:
+        changes.append(f"{known:,} known to be at fault")
+    return f"{printable(index)}: {captures:,} captures of {archives:,} archives" + (f" ({', '.join(changes)})" if changes else "")
 
 
 def main(arguments: Optional[Sequence[str]] = None) -> int:
@@ -230,7 +279,7 @@ def main(arguments: Optional[Sequence[str]] = None) -> int:
             return update(given, output)
         except Locked:
             report(NAME, f"{printable(given.index)}: another process updates this index")
-        except CannotUpdate as error:
+        except (CannotUpdate, Failed) as error:
             report(NAME, f"{printable(given.index)}: {printable(str(error))}")
         except Error as error:
             report(NAME, printable(str(error)))

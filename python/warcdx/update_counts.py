@@ -4,20 +4,25 @@ import json
 import os
 import pathlib
 from collections import Counter
-from collections.abc import Iterable, Sequence
+from collections.abc import Mapping, Sequence
 from operator import index
 from typing import Any, NamedTuple, Optional
 
-from .update_log import Identity, Part
-from .update_task import COUNTED, Failed
+from .update_files import Fingerprint, open_regular, read
+from .update_log import Part
+from .update_task import COUNTED, Failed, most_of
 
 MOST = 100  # values of a field in a summary
+MOST_KEPT = 100_000  # values of a field that are counted
 # What a file raises that doesn't have the expected values.
 _DAMAGE = (AttributeError, KeyError, RecursionError, TypeError, ValueError)
 
 
 class Counts:
-    """The captures of parts, in all and for each value of a field."""
+    """The captures of parts, in all and for each value of a field. A value that isn't counted has fewer than those that are.
+
+    The captures that a field's values don't have in all are those of other values.
+    """
 
     def __init__(self) -> None:
         self.captures = 0
@@ -33,94 +38,112 @@ class Counts:
     def values(self) -> dict[str, Any]:
         return {"captures": self.captures, **self.fields}
 
+    @property
+    def others(self) -> dict[str, int]:
+        """The captures of each field that have other values than those that are counted."""
+        return {name: self.captures - sum(counter.values()) for name, counter in self.fields.items()}
+
     def add(self, other: "Counts") -> None:
         self.captures += other.captures
         for name, counter in self.fields.items():
             counter.update(other.fields[name])
+            if len(counter) > 2 * MOST_KEPT:
+                self.fields[name] = most_of(counter, MOST_KEPT)
 
     def remove(self, other: "Counts") -> None:
         self.captures -= other.captures
         for name, counter in self.fields.items():
             counter.subtract(other.fields[name])
             for value in other.fields[name]:
-                if not counter[value]:
+                if counter[value] <= 0:
                     del counter[value]
 
 
 class Made(NamedTuple):
-    """What an index was made of: the file as it was then, the names of the parts, and the counts of their captures."""
+    """What an index was made of: the parts by their archives. The index and its summary are known by their fingerprints."""
 
-    identity: Identity
-    parts: frozenset[str]
-    counts: Counts
+    index_file: Fingerprint
+    summary_file: Fingerprint
+    parts: dict[str, str]
 
     @classmethod
     def read(cls, path: pathlib.Path) -> "Optional[Made]":
-        """Returns what is in a file, or None if it isn't there or isn't whole."""
+        """Returns what is in a file, or None if it isn't there or isn't whole. The counts of the file aren't read."""
         try:
-            values = json.loads(path.read_text(encoding="utf-8"))
-            return cls(Identity(*values["index"]), frozenset(values["parts"]), Counts.of(values["counts"]))
-        except (FileNotFoundError, *_DAMAGE):
+            with open_regular(path) as file:
+                values = json.loads(file.readline())
+            return cls(Fingerprint(*values["index_file"]), Fingerprint(*values["summary_file"]), dict(values["parts"]))
+        except (FileNotFoundError, Failed, *_DAMAGE):
             return None
 
-    def write(self, path: pathlib.Path) -> None:
-        write_text(path, json.dumps({"index": self.identity, "parts": sorted(self.parts), "counts": self.counts.values()}))
+    def text(self, counts: Counts) -> str:
+        """Returns the text of the file, which has the counts of the captures too."""
+        fields = {name: most_of(counter, MOST_KEPT) for name, counter in counts.fields.items()}
+        return f"{json.dumps(self._asdict())}\n{json.dumps({'captures': counts.captures, **fields})}"
 
 
-def counts_of(folder: pathlib.Path, wanted: frozenset[str], made: Optional[Made]) -> Counts:
+def counts_of(folder: pathlib.Path, wanted: frozenset[str], made: Optional[Made], made_file: pathlib.Path) -> Counts:
     """Returns the counts of the wanted parts of a folder. Only those that differ from what an index was made of are read."""
-    if made is not None:
+    counts = None if made is None else counts_in(made_file)
+    if made is not None and counts is not None:
         try:
-            counts = made.counts
-            for part in wanted - made.parts:
+            earlier = frozenset(made.parts.values())
+            for part in wanted - earlier:
                 counts.add(read_counts(folder, part))
-            for part in made.parts - wanted:
+            for part in earlier - wanted:
                 counts.remove(read_counts(folder, part))
             return counts
         except FileNotFoundError:  # the counts of a part that is gone: all are counted anew
             pass
     counts = Counts()
-    for part in wanted:
+    for part in sorted(wanted):
         counts.add(read_counts(folder, part))
     return counts
+
+
+def counts_in(path: pathlib.Path) -> Optional[Counts]:
+    """Returns the counts in the file on an index, or None if they aren't there, or aren't whole."""
+    try:
+        with open_regular(path) as file:
+            file.readline()
+            return Counts.of(json.loads(file.readline()))
+    except (FileNotFoundError, Failed, *_DAMAGE):
+        return None
 
 
 def read_counts(folder: pathlib.Path, part: str) -> Counts:
     """Returns the counts of a part. Raises Failed if they are damaged, and then removes them."""
     file = folder / f"{part}.json"
     try:
-        return Counts.of(json.loads(file.read_text(encoding="utf-8")))
+        with open_regular(file) as opened:
+            return Counts.of(json.loads(opened.read()))
     except _DAMAGE:
         os.remove(file)  # so that the next update makes the part anew
         raise Failed(f"{file.name} in {folder.name} is damaged; the next update indexes its archive anew") from None
 
 
-def summary_of(parts: Sequence[Part], counts: Counts, damaged: Iterable[dict[str, Any]]) -> dict[str, Any]:
-    """Returns the summary of an index that is made now."""
+def summary_of(counts: Counts, others: Mapping[str, Any]) -> str:
+    """Returns the text of the summary of an index that is made now, with members that aren't counts of captures."""
     now = datetime.datetime.now(datetime.timezone.utc)
-    return {
-        "made": now.strftime("%Y-%m-%dT%H:%M:%SZ"),
-        "archives": len(parts),
-        "bytes": sum(part.identity.size for part in parts),
-        "captures": counts.captures,
-        "years": dict(sorted(counts.fields["years"].items())),
-        "hosts": _most(counts.fields["hosts"]),
-        "types": _most(counts.fields["types"]),
-        "statuses": _most(counts.fields["statuses"]),
-        "damaged": list(damaged),
-    }
+    return json.dumps(
+        {
+            "made": now.strftime("%Y-%m-%dT%H:%M:%SZ"),
+            "captures": counts.captures,
+            "years": dict(sorted(counts.fields["years"].items())),
+            "hosts": most_of(counts.fields["hosts"], MOST),
+            "types": most_of(counts.fields["types"], MOST),
+            "statuses": most_of(counts.fields["statuses"], MOST),
+            "others": counts.others,
+            **others,
+        },
+        indent=1,
+    )
 
 
-def _most(counter: Counter[str]) -> dict[str, int]:
-    """Returns the values with the most captures, and of equal ones the first."""
-    return dict(sorted(counter.items(), key=lambda each: (-each[1], each[0]))[:MOST])
-
-
-def write_text(path: pathlib.Path, text: str) -> None:
-    """Writes a file that has its name once it is whole and on the disk."""
-    new = path.with_name(f"{path.name}.new")
-    with open(new, "w", encoding="ascii") as file:
-        file.write(text + "\n")
-        file.flush()
-        os.fsync(file.fileno())
-    os.replace(new, path)
+def has_members(path: pathlib.Path, wanted: Mapping[str, Any]) -> bool:
+    """Returns whether a summary has these members."""
+    try:
+        values = json.loads(read(path))
+        return all(values[name] == value for name, value in wanted.items())
+    except _DAMAGE:
+        return False

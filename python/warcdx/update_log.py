@@ -1,21 +1,27 @@
 """The log of warcdx-update: which part is the index of which archive."""
-import contextlib
 import json
 import os
 import pathlib
-from collections.abc import Iterable, Iterator
-from typing import NamedTuple, Optional, TextIO
+import re
+from collections.abc import Callable, Iterable, Iterator
+from typing import IO, Any, NamedTuple, Optional
 
+from .update_files import CannotUpdate, read, write_new
 from .update_task import state_of
 
-HEAD = json.dumps({"form": 1}) + "\n"  # the first line
+HEAD = json.dumps({"form": 2}) + "\n"  # the first line
+PART = re.compile("[0-9a-f]{32}")  # the name of a part
 
 
 class Identity(NamedTuple):
-    """What changes if a file does: its size in bytes, the time of its last change in nanoseconds, and its inode."""
+    """What changes if a file does: its size in bytes, the times of its last change and of its inode's in nanoseconds, its inode.
+
+    A program that restores an archive may keep all but the time of its inode's last change.
+    """
 
     size: int
     time: int
+    inode_time: int
     inode: int
 
     @classmethod
@@ -45,37 +51,50 @@ class Part(NamedTuple):
 
 
 class Log:
-    """The parts that are there, by their archives. A part is added to the log once it is on the disk.
+    """The parts that are there, by their archives. A part is in the file of the log before it is at its place.
 
-    A line that isn't whole is one of an archive that is indexed again. So are all lines of a log of another form.
+    So a line may name a part that isn't there. Its archive has the part of an earlier line, or is indexed again. So is an archive
+    whose line isn't whole. `files` are the names of all parts that the log has named.
     """
 
     def __init__(self, path: pathlib.Path) -> None:
         self._path = path
-        self._file: Optional[TextIO] = None
+        self._file: Optional[IO[bytes]] = None
         self.parts: dict[str, Part] = {}
-        with contextlib.suppress(FileNotFoundError):
-            head, *lines = path.read_text(encoding="ascii", errors="replace").split("\n")
-            if head + "\n" == HEAD:
-                self.parts = {part.archive: part for part in _parts_of(lines)}
+        self.files: set[str] = set()
 
-    def start(self, archives: Iterable[str]) -> None:
-        """Writes the log anew, with the parts of these archives alone."""
+    def load(self, is_there: Callable[[Part], bool]) -> None:
+        """Reads the log, if there is one. Raises OSError, Failed if it isn't a file, or CannotUpdate if it isn't a log of parts."""
+        try:
+            head, *lines = read(self._path).split("\n")
+        except FileNotFoundError:
+            return
+        if head + "\n" != HEAD:
+            raise CannotUpdate(f"{self._path} isn't a log that this version has written")
+        for part in _parts_of(lines):
+            if not PART.fullmatch(part.file):
+                raise CannotUpdate(f"{self._path} names a file that isn't a part: {part.file!a}")
+            self.files.add(part.file)
+            if is_there(part):
+                self.parts[part.archive] = part
+
+    def start(self, archives: Iterable[str], new: pathlib.Path) -> None:
+        """Writes the log anew, with the parts of these archives alone, first under the name `new`."""
         self.parts = {archive: self.parts[archive] for archive in archives}
-        new = self._path.with_suffix(".new")
-        with open(new, "w", encoding="ascii") as file:
-            file.write(HEAD)
-            file.writelines(map(_line_of, self.parts.values()))
-            file.flush()
-            os.fsync(file.fileno())
+        write_new(new, [HEAD, *map(_line_of, self.parts.values())])
         os.replace(new, self._path)
-        self._file = open(self._path, "a", encoding="ascii")
+        self._file = open(os.open(self._path, os.O_WRONLY | os.O_APPEND | os.O_NOFOLLOW | os.O_CLOEXEC), "ab")
+
+    def announce(self, part: Part) -> None:
+        """Writes to the disk that a part will be at its place."""
+        assert self._file is not None
+        self.files.add(part.file)
+        self._file.write(_line_of(part).encode("ascii"))
+        self._file.flush()
+        os.fsync(self._file.fileno())
 
     def add(self, part: Part) -> None:
-        """Adds a part, in place of an earlier one of its archive."""
-        assert self._file is not None
-        self._file.write(_line_of(part))
-        self._file.flush()
+        """Adds a part that is at its place, instead of an earlier one of its archive."""
         self.parts[part.archive] = part
 
     def close(self) -> None:
@@ -89,6 +108,22 @@ def _line_of(part: Part) -> str:
 
 def _parts_of(lines: Iterable[str]) -> Iterator[Part]:
     for line in lines:
-        with contextlib.suppress(ValueError, TypeError):
-            archive, identity, *others = json.loads(line)
-            yield Part(archive, Identity(*identity), *others)
+        try:
+            part = _part_of(json.loads(line))
+        except (RecursionError, ValueError):
+            continue
+        if part is not None:
+            yield part
+
+
+def _part_of(values: Any) -> Optional[Part]:
+    """Returns the part of a line, or None if the line has other values."""
+    if not isinstance(values, list) or len(values) != len(Part._fields) or not isinstance(values[1], list):
+        return None
+    archive, identity, status, said, file, size, captures = values
+    numbers = (*identity, status, size, captures)
+    if len(identity) != len(Identity._fields) or not all(type(number) is int for number in numbers):
+        return None
+    if not all(isinstance(text, str) for text in (archive, said, file)):
+        return None
+    return Part(archive, Identity(*identity), status, said, file, size, captures)

@@ -1,19 +1,27 @@
-"""The folder `INDEX.parts` beside an index, with an index of each archive and the log of these."""
+"""An index, the files beside it, and the folder `INDEX.parts` with an index of each archive and the log of these."""
 import contextlib
+import errno
 import fcntl
+import hashlib
+import json
 import os
 import pathlib
-import shutil
-import uuid
-from collections.abc import Iterator
-from typing import NamedTuple
+import re
+import stat
+from collections.abc import Iterable, Iterator
+from typing import Any, NamedTuple, Optional
 
 from .command import deferred
+from .update_counts import Made
+from .update_files import CannotUpdate, Fingerprint, is_in, is_regular, move, read, remove, write_new, write_to_disk
 from .update_folder import Archive, Found
-from .update_log import Identity, Log, Part
+from .update_log import PART, Identity, Log, Part
+from .update_settings import LOCK, Marked, Settings, mark, marked, unmarked_if_failed
 from .update_task import Indexed
 
-UNFINISHED = "unfinished"  # the folder in which the tasks write
+_MOST_KNOWN = 1000  # files of a kind that are known as made by a run
+_MERGED = "merged"
+_UNFINISHED = re.compile(rf"{PART.pattern}(?:\.json)?|{_MERGED}(?:-[0-9]+){{0,2}}")  # what tasks write
 
 
 class Locked(Exception):
@@ -21,109 +29,307 @@ class Locked(Exception):
 
 
 class Plan(NamedTuple):
-    """What an update does: the archives that it indexes, those that it doesn't, and the names of those that are gone."""
+    """What an update does: the archives that it indexes, those that it doesn't, and the names of those that are gone.
+
+    Of those the index loses the captures of all that are `removed`, or keeps the captures of all that are `gone`.
+    """
 
     new: list[Archive]
     unchanged: list[Archive]
     removed: list[str]
+    gone: list[str]
+
+
+class Removal(NamedTuple):
+    """How many archives may leave an index in a run: a number, or a share of those that it has in hundredths."""
+
+    most: int
+    is_share: bool
+
+    def allows(self, archives: int, of: int) -> bool:
+        return 100 * archives <= self.most * of if self.is_share else archives <= self.most
 
 
 class Results:
-    """The files that belong to an index. A part has a name that no other part has had, and is never changed."""
+    """The files that belong to an index. A part has a name that no other part has had, and is never changed.
+
+    What a run makes for a while has names with a word that no other folder of parts has. All that is removed has such a name, or is a
+    part that the log names.
+    """
 
     def __init__(self, index: str) -> None:
         self.index = pathlib.Path(os.path.realpath(index))
+        if not self.index.name:
+            raise CannotUpdate("this is a folder")
         self.summary = self.index.with_name(f"{self.index.name}.summary.json")
-        self.folder = self.index.with_name(f"{self.index.name}.parts")
-        self.unfinished = self.folder / UNFINISHED
-        self.made = self.folder / "made.json"
-        self._log_file = self.folder / "log.jsonl"
-        self._lock_file = self.folder / "lock"
-        self.log = Log(self._log_file)
+        self._link = self.index.with_name(f"{self.index.name}.parts")
+        self.folder = pathlib.Path(os.path.realpath(self._link))
+        self.made_file = self.folder / "made.jsonl"
+        self.log = Log(self.folder / "log.jsonl")
+        self.made: Optional[Made] = None
+        self.faults: dict[str, str] = {}  # by archives and folders, those that a run has reported
+        self.is_replaced = False  # whether this run has replaced the index
+        self._token = ""
+        self._known: dict[str, list[Fingerprint]] = {}
 
     @property
-    def is_new(self) -> bool:
-        """Whether the folder isn't there."""
-        return not self._log_file.exists()
+    def unfinished(self) -> pathlib.Path:
+        """The folder in which the tasks write."""
+        return self.folder / f"unfinished-{self._token}"
 
-    def plan(self, found: Found) -> Plan:
-        plan = Plan([], [], [])
+    @property
+    def _new(self) -> pathlib.Path:
+        return self.folder / f"new-{self._token}"
+
+    @property
+    def _new_index(self) -> pathlib.Path:
+        return self.index.with_name(f".warcdx-{self._token}.index")
+
+    @property
+    def _new_summary(self) -> pathlib.Path:
+        return self.index.with_name(f".warcdx-{self._token}.summary")
+
+    @property
+    def own(self) -> list[str]:
+        """The real paths of the files beside the folder of parts."""
+        return [str(path) for path in (self.index, self.summary, self._new_index, self._new_summary)]
+
+    def look(self, settings: Settings) -> None:
+        """Reads what earlier runs have left. Raises OSError, Failed, or CannotUpdate if a run with these settings may not change it."""
+        self._expect_apart(settings)
+        if os.path.islink(self._link) and not self.folder.exists():
+            raise CannotUpdate(f"{self._link} is a link that leads to nothing; is its disk mounted?")
+        self._load(marked(self.folder), settings)
+        self.expect_replaceable()
+
+    def _expect_apart(self, settings: Settings) -> None:
+        if is_in(settings.folder, self.folder):
+            raise CannotUpdate(f"the folder of archives is in the folder of parts, {self.folder}")
+        if settings.recursive and is_in(self.folder, settings.folder):
+            raise CannotUpdate(f"with --recursive, the folder of parts, {self.folder}, can't be in the folder of archives")
+
+    def _load(self, found: Optional[Marked], settings: Settings) -> None:
+        if found is None:
+            return
+        settings.expect(found.settings)
+        # A copy of the folder beside another index has the same word.
+        self._token = hashlib.sha256(os.fsencode(f"{found.token}/{self.index}")).hexdigest()[:32]
+        self._known = {kind: _fingerprints_of(known) for kind, known in self._read("results.json").items()}
+        self.faults = self._read("faults.json")
+        self.made = Made.read(self.made_file)
+        self.log.load(self._has)
+
+    def _read(self, name: str) -> dict[str, Any]:
+        """Returns the values of a file of the folder. They are none if it isn't there, or isn't whole."""
+        try:
+            values = json.loads(read(self.folder / name))
+        except (FileNotFoundError, RecursionError, ValueError):
+            return {}
+        return values if isinstance(values, dict) else {}
+
+    def _has(self, part: Part) -> bool:
+        return is_regular(self.folder / part.file, part.size) and is_regular(self.folder / part.counts_file)
+
+    def expect_replaceable(self) -> None:
+        """Raises CannotUpdate if the index or its summary isn't one that an earlier run has made."""
+        for kind, path in (("index", self.index), ("summary", self.summary)):
+            found = Fingerprint.of(path)
+            if found is not None and found not in self._known.get(kind, ()):
+                raise CannotUpdate(f"no earlier run has made {path} as it is, and it isn't replaced")
+
+    def plan(self, found: Found, removal: Removal) -> Plan:
+        plan = Plan([], [], [], [])
         for archive in found.archives:
             (plan.unchanged if self._is_current(archive) else plan.new).append(archive)
-        names = {archive.name for archive in found.archives}
-        plan.removed.extend(
-            name for name in self.log.parts if name not in names and found.reason_for(name) is None
-        )
+        had = self.log.parts.keys() | (frozenset() if self.made is None else self.made.parts.keys())
+        gone = had - {archive.name for archive in found.archives}
+        gone = {name for name in gone if found.reason_for(name) is None}
+        (plan.removed if removal.allows(len(gone), len(had)) else plan.gone).extend(sorted(gone))
         return plan
 
     def _is_current(self, archive: Archive) -> bool:
         part = self.log.parts.get(archive.name)
-        return part is not None and part.identity == archive.identity and self._has(part)
-
-    def _has(self, part: Part) -> bool:
-        try:
-            return os.path.getsize(self.folder / part.file) == part.size and (self.folder / part.counts_file).is_file()
-        except OSError:
-            return False
+        return part is not None and part.identity == archive.identity
 
     @contextlib.contextmanager
-    def locked(self) -> Iterator[None]:
-        """Makes the folder, and keeps other processes from it. Raises Locked."""
+    def locked(self, settings: Settings) -> Iterator[None]:
+        """Makes the folder, keeps other processes from it, and removes what an ended run has left. Raises as `look` does, or Locked.
+
+        A folder that is made here is removed if nothing but what marks it was made.
+        """
+        is_new = not self.folder.exists()
         self.folder.mkdir(exist_ok=True)
-        with open(self._lock_file, "a") as file:
-            try:
-                fcntl.flock(file, fcntl.LOCK_EX | fcntl.LOCK_NB)
-            except BlockingIOError:
-                raise Locked from None
-            self.log = Log(self._log_file)
-            yield
+        lock = os.open(self.folder / LOCK, os.O_RDWR | os.O_CREAT | os.O_NOFOLLOW | os.O_CLOEXEC, 0o666)
+        try:
+            self._lock(lock)
+            with unmarked_if_failed(self.folder) if is_new else contextlib.nullcontext():
+                self.log = Log(self.folder / "log.jsonl")
+                self._load(marked(self.folder) or mark(self.folder, settings), settings)
+                self.expect_replaceable()
+                self._clear()
+                yield
+        finally:
+            os.close(lock)
+
+    def _lock(self, file: int) -> None:
+        with contextlib.suppress(BlockingIOError, FileNotFoundError):
+            fcntl.flock(file, fcntl.LOCK_EX | fcntl.LOCK_NB)
+            if os.path.samestat(os.fstat(file), os.stat(self.folder / LOCK)):
+                return
+        raise Locked  # perhaps another process has removed the folder, or has made it anew
 
     @contextlib.contextmanager
     def open(self, plan: Plan) -> Iterator[None]:
-        """Prepares for new parts. At the end, removes each file that isn't one of a part.
+        """Prepares for new parts. At the end, removes the parts that are no more those of an archive.
 
         What a worker of an earlier run still writes is in a folder that is no more.
         """
         try:
-            self._remove_unfinished()
-            self.log.start(self._names_kept(plan))
+            removed = set(plan.removed)
+            self.log.start([name for name in self.log.parts if name not in removed], self._new)
             self.unfinished.mkdir()
             yield
         finally:
-            self._close()
-
-    def _close(self) -> None:
-        with deferred():
-            self.log.close()
-            self._remove_unfinished()
-            self._remove_others()
-
-    def _names_kept(self, plan: Plan) -> list[str]:
-        removed = set(plan.removed)
-        return [name for name, part in self.log.parts.items() if name not in removed and self._has(part)]
+            with deferred():
+                self.log.close()
+                self._clear()
 
     def keep(self, archive: str, made: Indexed) -> None:
         """Makes what a task has made the part of an archive. Only here is a part put into the folder."""
         state, status, said, path, size, captures = made
         part = Part(archive, Identity(*state), status, said, os.path.basename(path), size, captures)
+        self.log.announce(part)
         os.replace(f"{path}.json", self.folder / part.counts_file)
         os.replace(path, self.folder / part.file)
         self.log.add(part)
 
-    def _remove_unfinished(self) -> None:
-        """Removes the folder in which tasks write. It gets another name first, so that a late worker finds it no more."""
-        removed = self.folder / f"removed-{uuid.uuid4().hex}"
-        with contextlib.suppress(FileNotFoundError):
-            os.rename(self.unfinished, removed)
-            shutil.rmtree(removed)
+    def replace(self, summary: str, merged: Optional[str] = None) -> tuple[Fingerprint, Fingerprint]:
+        """Replaces the summary, and the index by a file of the folder if one is named. Returns what they are known by.
 
-    def _remove_others(self) -> None:
-        wanted = {file.name for file in (self._lock_file, self._log_file, self.made)}
-        for part in self.log.parts.values():
-            wanted |= {part.file, part.counts_file}
-        for entry in list(os.scandir(self.folder)):
-            if entry.name not in wanted:
-                if entry.is_dir(follow_symlinks=False):
-                    shutil.rmtree(entry)
-                else:
-                    os.remove(entry)
+        Raises OSError or CannotUpdate.
+        """
+        if merged is not None:
+            move(self.folder / merged, self._new_index)
+            _take_mode(self._new_index, self.index)
+        write_new(self._new_summary, [summary, "\n"])
+        index = self._fingerprint(self.index if merged is None else self._new_index)
+        known = self._fingerprint(self._new_summary)
+        self._know(index=index, summary=known)
+        self.expect_replaceable()
+        if merged is not None:
+            os.replace(self._new_index, self.index)
+            self.is_replaced = True
+        os.replace(self._new_summary, self.summary)
+        write_to_disk(self.index.parent)
+        return index, known
+
+    @staticmethod
+    def _fingerprint(path: pathlib.Path) -> Fingerprint:
+        found = Fingerprint.of(path)
+        if found is None:
+            raise CannotUpdate(f"something else has removed {path}")
+        return found
+
+    def _know(self, **made: Fingerprint) -> None:
+        """Writes to the disk what a run makes, before it has its name."""
+        for kind, fingerprint in made.items():
+            earlier = [each for each in self._known.get(kind, ()) if each != fingerprint]
+            self._known[kind] = [*earlier, fingerprint][-_MOST_KNOWN:]
+        self.write("results.json", json.dumps(self._known))
+
+    def write(self, name: str, text: str) -> None:
+        """Writes a file of the folder. It has its name once it is whole and on the disk."""
+        write_new(self._new, [text, "\n"])
+        os.replace(self._new, self.folder / name)
+
+    def expect_report(self, path: str) -> None:
+        """Raises CannotUpdate or OSError if a report can't be written to a file. One is replaced that is empty, or a report of a run."""
+        if _is_stream(path):
+            return
+        file = pathlib.Path(os.path.realpath(path))
+        found = Fingerprint.of(file)
+        if found is None and not os.access(file.parent, os.W_OK | os.X_OK):
+            write_to_disk(file.parent)  # raises the error of a folder that isn't there
+            raise PermissionError(errno.EACCES, os.strerror(errno.EACCES), path)
+        if found is not None and found.size and found not in self._known.get("report", ()):
+            raise CannotUpdate(f"no earlier run has made {path} as its report, and it isn't replaced")
+
+    def write_report(self, path: str, lines: Iterable[str]) -> None:
+        """Writes a report to a stream, or replaces a file by it. Raises as `expect_report` does."""
+        if _is_stream(path):
+            with open(path, "w", encoding="ascii") as stream:
+                stream.writelines(lines)
+            return
+        file = pathlib.Path(os.path.realpath(path))
+        new = file.with_name(f".warcdx-{self._token}.report")
+        remove(new)  # of a run that was ended as it wrote it
+        write_new(new, lines)
+        try:
+            _take_mode(new, file)
+            self._know(report=self._fingerprint(new))
+            self.expect_report(path)
+            os.replace(new, file)
+        finally:
+            remove(new)
+
+    def remember(self, faults: dict[str, str]) -> None:
+        """Notes the faults that are reported, by archives and folders."""
+        if faults != self.faults:
+            self.write("faults.json", json.dumps(faults))
+
+    def _clear(self) -> None:
+        """Removes what is unfinished, and the parts that are no more those of an archive."""
+        for path in (self._new, self._new_index, self._new_summary):
+            remove(path)
+        removed = self.folder / f"removed-{self._token}"
+        _remove_unfinished(removed)
+        with contextlib.suppress(FileNotFoundError):
+            os.rename(self.unfinished, removed)  # so that a late worker doesn't find it
+            _remove_unfinished(removed)
+        current = {part.file for part in self.log.parts.values()}
+        for name in self._named() - current:
+            remove(self.folder / name)
+            remove(self.folder / f"{name}.json")
+
+    def _named(self) -> set[str]:
+        """The names of parts that the log has, or that an index was made of."""
+        made = () if self.made is None else self.made.parts.values()
+        return self.log.files | set(filter(PART.fullmatch, made))
+
+
+def _fingerprints_of(values: Any) -> list[Fingerprint]:
+    """Returns the fingerprints in a file of the folder, or none if it has others than the command has written."""
+    try:
+        return [Fingerprint(*each) for each in values]
+    except TypeError:
+        return []
+
+
+def _is_stream(path: str) -> bool:
+    """Returns whether a file is there in which nothing is to be kept, such as a pipe."""
+    try:
+        mode = os.stat(path).st_mode
+    except FileNotFoundError:
+        return False
+    return not stat.S_ISREG(mode) and not stat.S_ISDIR(mode)
+
+
+def _remove_unfinished(folder: pathlib.Path) -> None:
+    """Removes a folder in which tasks have written. It stays if anything else is in it."""
+    try:
+        entries = list(os.scandir(folder))
+    except FileNotFoundError:
+        return
+    for entry in entries:
+        if _UNFINISHED.fullmatch(entry.name):
+            remove(entry.path)
+    try:
+        os.rmdir(folder)
+    except OSError:
+        raise CannotUpdate(f"warcdx-update hasn't made all that is in {folder}; move it elsewhere") from None
+
+
+def _take_mode(new: pathlib.Path, path: pathlib.Path) -> None:
+    """Gives a file the permissions of another one, if there is one."""
+    with contextlib.suppress(FileNotFoundError):
+        os.chmod(new, os.stat(path).st_mode & 0o7777)

@@ -20,6 +20,8 @@ FAULT = 1  # the exit status of the program after a damaged archive
 COUNTED = ("hosts", "years", "types", "statuses")
 _EACH = "key=&matchType=prefix&fl=urlkey,timestamp,mimetype,statuscode"
 _YEAR = operator.itemgetter(slice(4))  # of a timestamp
+_MOST_VALUES = 10_000  # of a field in the counts of an archive
+_FRONT = operator.itemgetter(slice(256))  # bytes of a value
 _GZIP = b"\x1f\x8b"
 _PIECE = 1 << 20  # bytes
 _ROOM = 1 << 16  # bytes, more than the block of a file that the program has begun
@@ -31,8 +33,8 @@ class Failed(Exception):
     """A task didn't succeed. Another try may."""
 
 
-# The size of a file in bytes, the time of its last change in nanoseconds, and its inode.
-State = tuple[int, int, int]
+# The size of a file in bytes, the times of its last change and of its inode's in nanoseconds, and its inode.
+State = tuple[int, int, int, int]
 # What a task has made of an archive: the state of the archive, the status of the program and what it said, and the index: its
 # path, its size in bytes and the number of its lines.
 Indexed = tuple[State, int, str, str, int, int]
@@ -43,7 +45,7 @@ def state_of(path: str) -> State:
     found = os.stat(path)
     if not stat.S_ISREG(found.st_mode):
         raise Failed("not a regular file")
-    return found.st_size, found.st_mtime_ns, found.st_ino
+    return found.st_size, found.st_mtime_ns, found.st_ctime_ns, found.st_ino
 
 
 def index_archive(
@@ -52,20 +54,21 @@ def index_archive(
     folder: str,
     output: str,
     name: str,
+    options: Sequence[str] = (),
     start: Start = subprocess.Popen,
 ) -> Indexed:
     """Indexes the archive at the path `name` below a folder, into a new file of the folder `output`.
 
-    `plain` and `compressed` are the commands for plain and for compressed archives. In the index, the file name of the archive is
-    `name`. The counts of the captures are in the file of the index's path and ".json". Raises Failed or OSError, and then leaves no
-    file.
+    `plain` and `compressed` are the commands for plain and for compressed archives, whose `index` takes the options. In the index, the
+    file name of the archive is `name`. The counts of the captures are in the file of the index's path and ".json". Raises Failed or
+    OSError, and then leaves no file.
     """
     path = os.path.join(folder, name)
     part = os.path.join(output, uuid.uuid4().hex)
     state = state_of(path)
     try:
         program = compressed if _is_compressed(path) else plain
-        status, said = _write_successfully(program, folder, name, part, start)
+        status, said = _write_successfully((*program, "index", *options), folder, name, part, start)
         captures = _write_counts(plain, part, start)
         _expect_state(path, state)
         return state, status, said, part, os.path.getsize(part), captures
@@ -74,11 +77,11 @@ def index_archive(
         raise
 
 
-def _write_successfully(program: Sequence[str], folder: str, name: str, part: str, start: Start) -> tuple[int, str]:
+def _write_successfully(command: Sequence[str], folder: str, name: str, part: str, start: Start) -> tuple[int, str]:
     """Writes a part as _write_part does. Raises Failed if the program fails."""
-    status, said = _write_part((*program, "index", f"./{name}"), folder, name, part, start)
+    status, said = _write_part((*command, f"./{name}"), folder, name, part, start)
     if status not in (0, FAULT):
-        raise Failed(said or f"{program[0]} has ended with status {status}")
+        raise Failed(said or f"{command[0]} has ended with status {status}")
     return status, said
 
 
@@ -110,7 +113,7 @@ def _write_part(command: Sequence[str], folder: str, name: str, part: str, start
 
 def _status_of(process: "subprocess.Popen[bytes]", output: IO[bytes]) -> int:
     """Waits for a program to end, and returns its status. Its output is on the disk."""
-    status = process.wait()
+    status = _wait(process)
     if status not in (0, FAULT):
         _expect_room(output)
     output.flush()
@@ -141,7 +144,9 @@ def _write_counts(program: Sequence[str], part: str, start: Start) -> int:
         _expect_success(process, said)
     found: dict[str, Any] = {"captures": captures}
     for field, counter in counts.items():
-        found[field] = {value.decode(errors="replace"): count for value, count in counter.items()}
+        found[field] = Counter[str]()
+        for value, count in most_of(counter, _MOST_VALUES).items():
+            found[field][value.decode(errors="ignore")] += count
     _write_text(f"{part}.json", json.dumps(found, ensure_ascii=False))
     return captures
 
@@ -152,9 +157,17 @@ def _add_captures(counts: "dict[str, Counter[bytes]]", lines: bytes) -> int:
     keys, timestamps, types, statuses = (values[field::4] for field in range(4))
     _add_hosts(counts["hosts"], keys)
     counts["years"].update(map(_YEAR, timestamps))
-    counts["types"].update(types)
-    counts["statuses"].update(statuses)
+    counts["types"].update(map(_FRONT, types))
+    counts["statuses"].update(map(_FRONT, statuses))
+    for field, counter in counts.items():
+        if len(counter) > 10 * _MOST_VALUES:
+            counts[field] = most_of(counter, 5 * _MOST_VALUES)
     return len(keys)
+
+
+def most_of(counter: "Counter[Any]", number: int) -> "Counter[Any]":
+    """Returns this number of values, those with the most captures, and of equal ones the first, in this order."""
+    return Counter(dict(sorted(counter.items(), key=lambda each: (-each[1], each[0]))[:number]))
 
 
 def _write_text(path: str, text: str) -> None:
@@ -170,7 +183,7 @@ def _add_hosts(hosts: "Counter[bytes]", keys: Sequence[bytes]) -> None:
     while at < len(keys):
         front, slash, _ = keys[at].partition(b")/")
         end = bisect.bisect_left(keys, front + b")0", at + 1) if slash else at + 1  # `0` is the byte behind `/`
-        hosts[_host_of(front + slash)] += end - at
+        hosts[_FRONT(_host_of(front + slash))] += end - at
         at = end
 
 
@@ -200,7 +213,7 @@ def merge_parts(
 
 def _write_merged(command: Sequence[str], folder: str, file: IO[bytes], start: Start) -> None:
     with _running(command, folder, start, file) as (process, said):
-        if process.wait():
+        if _wait(process):
             _expect_room(file)
         _expect_success(process, said)
 
@@ -221,8 +234,21 @@ def _expect_room(file: IO[bytes]) -> None:
     os.fsync(file.fileno())
 
 
+def _wait(process: "subprocess.Popen[bytes]") -> int:
+    """Waits for a program to end, and returns its status. Raises Failed if the system doesn't give it.
+
+    That is so if this process ignores SIGCHLD. Popen.wait returns 0 then.
+    """
+    with contextlib.suppress(ChildProcessError):
+        os.waitid(os.P_PID, process.pid, os.WEXITED | os.WNOWAIT)
+        return process.wait()
+    if process.returncode is None:
+        raise Failed("the system hasn't given the status of the program")
+    return process.returncode
+
+
 def _expect_success(process: "subprocess.Popen[bytes]", said: IO[bytes]) -> None:
-    if process.wait():
+    if _wait(process):
         raise Failed(_text_of(said) or f"the program has ended with status {process.returncode}")
 
 

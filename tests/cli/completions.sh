@@ -107,9 +107,10 @@ warcdx-verify --j|--jobs
 warcdx-verify --jobs |
 warcdx-verify --jobs 2 |a.warc b.warc.gz
 warcdx-verify a.warc --v|--version
-warcdx-update --|--dry-run --help --jobs --quiet --recursive --report --scheduler --version --warcdx --warcdx-gz
-warcdx-update --re|--recursive --report
+warcdx-update --|--all-faults --dry-run --help --jobs --quiet --recursive --remove --report --scheduler --types --version --warcdx --warcdx-gz
+warcdx-update --re|--recursive --remove --report
 warcdx-update --jobs |
+warcdx-update --remove |
 warcdx-update --scheduler |
 warcdx-gz |get index list verify
 warcdx-gz --w|--warcdx

@@ -35,16 +35,75 @@ locked() {
 }
 shows "a second run" "another process updates this index" locked
 
-row "\`this file isn't an index, and isn't replaced\`"
-echo x > text
-shows "another file" "this file isn't an index, and isn't replaced" run_python update --warcdx "$program" --quiet folder text
+update() { # ARGUMENT..
+    run_python update --warcdx "$program" --quiet "$@"
+}
 
-row "\`this file isn't a report, and isn't replaced\`"
-shows "another report" "this file isn't a report, and isn't replaced" run_python update --warcdx "$program" --report text folder reported
+row "\`as it is, and it isn't replaced\`, \`isn't a regular file, and isn't replaced\`"
+echo x > text
+shows "another file" "as it is, and it isn't replaced" update folder text
+mkdir indexfolder
+shows "a folder as index" "isn't a regular file, and isn't replaced" update folder indexfolder
+
+row "\`as its report, and it isn't replaced\`"
+shows "another report" "as its report, and it isn't replaced" update --report text folder reported
+
+row "\`archives are gone, the first of them\`, \`is gone; the index keeps its captures\`"
+mkdir leaving
+cp folder/*.warc leaving
+cp response.warc leaving/more.warc
+update leaving left
+rm leaving/more.warc
+shows "an archive that is gone" "is gone; the index keeps its captures" update leaving left
+rm leaving/*
+shows "archives that are gone" "archives are gone, the first of them" update leaving left
+
+row "\`it is the index of another folder,\`, \`it was made .. --recursive\`, \`it was made with --types\`"
+shows "another folder" "it is the index of another folder," update leaving locked
+shows "another option" "it was made without --recursive" update --recursive folder locked
+shows "other types" "it was made with --types response,resource,revisit" update --types metadata folder locked
+
+row "\`the folder of archives is in the folder of parts,\`, \`with --recursive, the folder of parts,\`"
+shows "archives in the parts" "the folder of archives is in the folder of parts," update locked.parts locked
+shows "parts in the archives" "with --recursive, the folder of parts," update --recursive folder folder/all.cdxj
+
+row "\`warcdx-update hasn't made all that is in\`, \`and doesn't use it\`"
+mkdir other.parts
+touch other.parts/thesis.txt
+shows "other files in the parts" "warcdx-update hasn't made all that is in" update folder other
+
+row "\`is a link that leads to nothing; is its disk mounted?\`"
+ln -s nosuch linked.parts
+shows "parts that aren't there" "is a link that leads to nothing; is its disk mounted?" update folder linked
+
+row "\`another version of warcdx-update has made\`, \`isn't as warcdx-update writes it\`, \`isn't a log that this version has written\`, \`names a file that isn't a part:\`"
+update folder changed
+sed -i 's/"form": 1/"form": 9/' changed.parts/settings.json
+shows "another version" "another version of warcdx-update has made" update folder changed
+sed -i -e 's/"form": 9/"form": 1/' -e 's/"recursive": false/"recursive": 7/' changed.parts/settings.json
+shows "other settings" "isn't as warcdx-update writes it" update folder changed
+sed -i 's/"recursive": 7/"recursive": false/' changed.parts/settings.json
+sed -i 's/"[0-9a-f]\{32\}"/"conf"/' changed.parts/log.jsonl
+shows "another file in the log" "names a file that isn't a part:" update folder changed
+: > changed.parts/log.jsonl
+shows "another log" "isn't a log that this version has written" update folder changed
+
+row "\`parts are missing or damaged and can't be made anew, such as of\`"
+mkdir lost
+cp response.warc lost
+update lost lostindex
+rm lost/response.warc lostindex.parts/*[0-9a-f]
+cp wget.warc lost
+shows "a lost part" "parts are missing or damaged and can't be made anew, such as of" update lost lostindex
+
+row "\`something else has removed\`"
+
+row "\`this is a folder\`"
+shows "the root as index" "this is a folder" update folder /
 
 row "\`is damaged; the next update indexes its archive anew\`"
 run_python update --warcdx "$program" --quiet folder damaged
-for file in damaged.parts/*.json; do
+for file in damaged.parts/*[0-9a-f].json damaged.parts/made.jsonl; do
     : > "$file"
 done
 shows "damaged counts" "is damaged; the next update indexes its archive anew" run_python update --warcdx "$program" --quiet folder damaged

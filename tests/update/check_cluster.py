@@ -74,7 +74,7 @@ def compressed_archives_and_folders_below(program: pathlib.Path, folder: pathlib
         expect("status", trial.run("--recursive", "--scheduler", address), 1)
         trial.expect_results({"07.warc": 1}, index_of_folders(program, trial.archives, folder))
         (trial.archives / "00.warc").unlink()
-        expect("status of a second run", trial.run("--recursive", "--scheduler", address), 1)
+        expect("status of a second run", trial.run("--recursive", "--remove", "1", "--scheduler", address), 1)
     trial.expect_results({"07.warc": 1}, index_of_folders(program, trial.archives, folder))
 
 
@@ -83,7 +83,7 @@ def a_run_that_is_ended_goes_on(program: pathlib.Path, folder: pathlib.Path) -> 
     trial = Trial(program, folder, SLOW)
     with cluster(folder) as (address, _, _):
         for number in (signal.SIGKILL, signal.SIGTERM, signal.SIGINT):
-            shutil.rmtree(trial.parts, ignore_errors=True)
+            trial.remove_results()
             work = trial.start("--quiet", "--scheduler", address)
             until("parts", lambda: len(trial.done) >= 2)
             work.send_signal(number)

@@ -170,7 +170,7 @@ def files_have_the_modes_of_the_umask(program: pathlib.Path, folder: pathlib.Pat
     expect("modes", {oct(path.stat().st_mode & 0o777) for path in made}, {"0o640"})
     trial.index.chmod(0o604)
     (trial.archives / "03.warc").unlink()
-    expect("status", trial.run(), 1)
+    expect("status", trial.run("--remove", "1"), 1)
     expect("mode", oct(trial.index.stat().st_mode & 0o777), "0o604")
 
 
@@ -190,8 +190,6 @@ def folders_below_are_read_if_they_are_to_be(program: pathlib.Path, folder: path
     faulty = {"07.warc": 1, "00.cdxj/damaged.warc.gz": 1}
     (trial.archives / "cycle").unlink()
     trial.expect_results(faulty, index_of_folders(program, trial.archives, folder))
-    expect("status without --recursive", trial.run(), 1)
-    trial.expect_results({"07.warc": 1}, trial.wanted)
 
 
 def a_folder_that_cannot_be_read_keeps_its_captures(program: pathlib.Path, folder: pathlib.Path) -> None:
@@ -234,9 +232,10 @@ def a_further_run_indexes_what_is_new(program: pathlib.Path, folder: pathlib.Pat
     os.replace(folder / "11.warc", trial.archives / "11.warc")
     expect("time", (trial.archives / "11.warc").stat().st_mtime_ns, same)
     trial.forget()
-    dry = subprocess.run(trial.command("--dry-run"), stdout=subprocess.PIPE, check=True).stdout.decode()
-    expect("what would be done", dry, "index 05.warc\nindex 09.warc\nindex 11.warc\nindex new.warc\nremove 03.warc\n")
-    expect("status", trial.run(), 1)
+    for words, last in (((), "keep"), (("--remove", "1"), "remove")):
+        dry = subprocess.run(trial.command("--dry-run", *words), stdout=subprocess.PIPE, check=True).stdout.decode()
+        expect("what would be done", dry, f"index 05.warc\nindex 09.warc\nindex 11.warc\nindex new.warc\n{last} 03.warc\n")
+    expect("status", trial.run("--remove", "1"), 1)
     expect("archives", {name for _, name in trial.begun}, {"05.warc", "09.warc", "11.warc", "new.warc"})
     trial.expect_results({"07.warc": 1}, trial.index_of("*.warc"))
 
@@ -289,11 +288,15 @@ def another_file_is_not_replaced(program: pathlib.Path, folder: pathlib.Path) ->
     trial = Trial(program, folder)
     copy_sample("wget", trial.index)
     expect("status", trial.run(), 3)
-    expect("line", trial.said, [f"warcdx-update: {trial.index}: this file isn't an index, and isn't replaced"])
+    line = f"warcdx-update: {trial.index}: no earlier run has made {trial.index} as it is, and it isn't replaced"
+    expect("line", trial.said, [line])
     expect("file", trial.index.read_bytes(), sample("wget"))
     expect("parts", trial.parts.exists(), False)
-    trial.index.write_bytes(trial.wanted[: trial.wanted.index(b"\n") + 1])
-    expect("status over an index", trial.run(), 1)
+    trial.index.write_bytes(trial.wanted)
+    expect("status over an index of another program", trial.run(), 3)
+    expect("line", trial.said, [line])
+    trial.index.unlink()
+    expect("status without it", trial.run(), 1)
     trial.expect_results({"07.warc": 1}, trial.wanted)
 
 
@@ -317,7 +320,7 @@ def the_summary_counts_the_captures(program: pathlib.Path, folder: pathlib.Path)
     expect("summary", {name: summary[name] for name in wanted}, wanted)
     (trial.archives / "damaged.warc").unlink()
     (trial.archives / "c.warc").unlink()
-    expect("status", trial.run(), 0)
+    expect("status", trial.run("--remove", "50%"), 0)
     summary = trial_summary()
     made = summary.pop("made")
     expect("time", bool(re.fullmatch(r"20[0-9]{2}-[0-9]{2}-[0-9]{2}T[0-9]{2}:[0-9]{2}:[0-9]{2}Z", made)), True)
@@ -332,7 +335,11 @@ def the_summary_counts_the_captures(program: pathlib.Path, folder: pathlib.Path)
             "hosts": {"example.com": 2},
             "types": {"text/html": 2},
             "statuses": {"200": 2},
+            "others": {"hosts": 0, "years": 0, "types": 0, "statuses": 0},
             "damaged": [],
+            "unread": [],
+            "gone": 0,
+            "passed_over": {"endings": {}, "links": 0, "below": 0},
         },
     )
 

@@ -16,7 +16,7 @@ def a_signal_ends_a_run(program: pathlib.Path, folder: pathlib.Path) -> None:
     temporary.mkdir()
     for number in (signal.SIGINT, signal.SIGTERM):
         for delay in (0.1, 0.2, 0.4, 0.7, 1.0):
-            shutil.rmtree(trial.parts, ignore_errors=True)
+            trial.remove_results()
             work = trial.start("--quiet", "--jobs", "2", env={**os.environ, "TMPDIR": str(temporary)})
             time.sleep(delay)
             children = children_of(work.pid)
@@ -26,7 +26,7 @@ def a_signal_ends_a_run(program: pathlib.Path, folder: pathlib.Path) -> None:
             for child in children:
                 until("the end of the programs", lambda: not os.path.exists(f"/proc/{child}"))
             expect("temporary files", list(temporary.iterdir()), [])
-            expect("unfinished files", (trial.parts / "unfinished").exists(), False)
+            expect("unfinished files", list(trial.parts.glob("*-*")), [])
     kept = trial.done
     trial.forget()
     expect("status", trial.run(), 1)
@@ -67,8 +67,7 @@ def streams_may_be_closed(program: pathlib.Path, folder: pathlib.Path) -> None:
             with open(folder / "said", "wb") as said:
                 expect(closed, subprocess.run(shell, stderr=said, env={**os.environ, **setting}).returncode, 1)
             trial.expect_results({"07.warc": 1}, trial.wanted)
-            shutil.rmtree(trial.parts)
-            trial.index.unlink()
+            trial.remove_results()
 
 
 def memory_may_be_refused(program: pathlib.Path, folder: pathlib.Path) -> None:
@@ -84,7 +83,7 @@ def memory_may_be_refused(program: pathlib.Path, folder: pathlib.Path) -> None:
         statuses.add(done.returncode)
         expect(f"status with {megabytes} MB", done.returncode in (1, 3), True)
         expect(f"lines with {megabytes} MB", b"Traceback" in done.stderr, False)
-        expect("unfinished files", (trial.parts / "unfinished").exists(), False)
+        expect("unfinished files", list(trial.parts.glob("*-*")), [])
     expect("statuses", statuses, {1, 3})
     expect("status", trial.run(), 1)
     trial.expect_results({"07.warc": 1}, trial.wanted)
@@ -99,7 +98,7 @@ def an_archive_that_cannot_be_read_keeps_its_part(program: pathlib.Path, folder:
     trial.expect_results({"05.warc": 3, "07.warc": 1}, trial.wanted)
     expect("line", "warcdx-update: 05.warc: No such file or directory; the index keeps its captures" in trial.said, True)
     (trial.archives / "05.warc").unlink()
-    expect("status without the archive", trial.run(), 1)
+    expect("status without the archive", trial.run("--remove", "1"), 1)
     trial.expect_results({"07.warc": 1}, trial.index_of("*.warc"))
     expect("action", trial.reports["05.warc"]["action"], "removed")
 
@@ -122,9 +121,9 @@ def counts_that_are_damaged_are_made_anew(program: pathlib.Path, folder: pathlib
     """The run that finds them leaves the index as it was, and the next one indexes the archive of the part."""
     trial = Trial(program, folder)
     expect("status", trial.run(), 1)
-    made = trial.parts / "made.json"
+    made = trial.parts / "made.jsonl"
     for text in ("", "[]", "{", '{"captures": "1"}', made.read_text()[:40], "\0" * 100, "[" * 100_000):
-        counts = next(path for path in trial.parts.iterdir() if path.suffix == ".json" and path != made)
+        counts = next(path for path in trial.parts.iterdir() if len(path.name) == 37)
         counts.write_text(text)
         made.write_text(text)
         trial.forget()
@@ -144,7 +143,8 @@ def a_report_replaces_no_other_file(program: pathlib.Path, folder: pathlib.Path)
     for path in (trial.index, trial.archives / "05.warc"):
         before = path.read_bytes()
         expect("status", trial.run("--report", path), 3)
-        expect("line", trial.said, [f"warcdx-update: {path}: this file isn't a report, and isn't replaced"])
+        line = f"warcdx-update: {trial.index}: no earlier run has made {path} as its report, and it isn't replaced"
+        expect("line", trial.said, [line])
         expect("file", path.read_bytes() == before, True)
     expect("status over a report", trial.run(), 1)
     trial.expect_results({"07.warc": 1}, trial.wanted)

@@ -113,7 +113,11 @@ class Trial:
         return index_of(self._built, sorted(self.archives.glob(pattern)))
 
     def command(self, *words: object) -> list[str]:
-        options = ("--warcdx", self.program, "--warcdx-gz", GZ, "--report", self.folder / "report")
+        """Returns the command with these options, which reports known faults too."""
+        return self.usual_command("--all-faults", "--report", self.folder / "report", *words)
+
+    def usual_command(self, *words: object) -> list[str]:
+        options = ("--warcdx", self.program, "--warcdx-gz", GZ)
         return [*map(str, (COMMAND, *options, *words)), str(self.archives), str(self.index)]
 
     def start(self, *words: object, **options: Any) -> "subprocess.Popen[bytes]":
@@ -123,6 +127,11 @@ class Trial:
     def run(self, *words: object) -> int:
         """Runs warcdx-update, and returns its exit status."""
         return self.start(*words).wait(WAIT)
+
+    def run_usually(self, *words: object) -> int:
+        """Runs it without a report, and so that it reports new faults only."""
+        with open(self.folder / "said", "wb") as said:
+            return subprocess.Popen(self.usual_command(*words), stdin=subprocess.DEVNULL, stderr=said).wait(WAIT)
 
     @property
     def said(self) -> list[str]:
@@ -136,6 +145,12 @@ class Trial:
             lines = (self.folder / "begun").read_text().splitlines()
             return [(parent, archive) for parent, _, archive in (line.partition(" ") for line in lines)]
         return []
+
+    def remove_results(self) -> None:
+        """Removes what earlier runs have made."""
+        shutil.rmtree(self.parts, ignore_errors=True)
+        for path in (self.index, self.index.with_name(f"{self.index.name}.summary.json"), self.folder / "report"):
+            path.unlink(missing_ok=True)
 
     def forget(self) -> None:
         """Forgets what has begun."""
@@ -168,8 +183,10 @@ class Trial:
         """Expects the files of the parts in the log, and no others."""
         lines = (self.parts / "log.jsonl").read_text().split("\n")[1:-1]
         current = {json.loads(line)[0]: json.loads(line)[4] for line in lines}.values()
-        wanted = {"lock", "log.jsonl", "made.json", *current, *(f"{file}.json" for file in current)}
-        expect("files", {path.name for path in self.parts.iterdir()}, wanted)
+        wanted = {"lock", "settings.json", "log.jsonl", "made.jsonl", "results.json", *current, *(f"{file}.json" for file in current)}
+        expect("files", {path.name for path in self.parts.iterdir()} - {"faults.json"}, wanted)
+        beside = {path.name for path in self.index.parent.iterdir() if path.name.startswith((".", self.index.name))}
+        expect("files beside the index", beside, {self.index.name, self.parts.name, f"{self.index.name}.summary.json"})
 
 
 def copy_sample(name: str, path: pathlib.Path) -> None:
