@@ -2,6 +2,7 @@
 import io
 import json
 import pathlib
+import signal
 import subprocess
 import tempfile
 import unittest
@@ -9,15 +10,16 @@ from collections import Counter
 from collections.abc import Sequence
 from unittest import mock
 
-from warcdx import update, update_command
+from warcdx import update, update_command, update_counts, update_task
 from warcdx.update import Outcome, Programs, Update
 from warcdx.update_counts import Counts
 from warcdx.update_files import CannotUpdate
+from warcdx.update_folder import Found, Passed
 from warcdx.update_log import HEAD, Identity, Log, Part
 from warcdx.update_reports import message_of
 from warcdx.update_results import Removal, Results
-from warcdx.update_settings import Settings
-from warcdx.update_task import _add_hosts, _whole_lines
+from warcdx.update_settings import Settings, mark, marked
+from warcdx.update_task import Failed, _add_captures, _add_hosts, _whole_lines, index_archive
 from warcdx.update_workers import local_workers
 
 from .support import PROGRAM, SAMPLES
@@ -116,7 +118,83 @@ class CountsTest(unittest.TestCase):
         self.assertEqual(counts, {b"a.com": 3, b"b.a.com": 1, b"a.com:80": 1, b"ab.com": 1, b"dns:": 2})
 
 
+    def test_counts_are_bounded(self) -> None:
+        """The values with the most captures are counted, and the captures of the others are known in all."""
+        counts = self.counts(0)
+        with mock.patch.object(update_counts, "MOST_KEPT", 3):
+            for number in range(20):
+                hosts = {"most": 5, f"host{number:02}": 2, f"few{number:02}": 1}
+                counts.add(self.counts(9, **hosts))
+            counts.limit()
+        self.assertEqual(dict(counts.fields["hosts"]), {"most": 100, "host00": 2, "host01": 2})
+        self.assertEqual(counts.others, {"hosts": 180 - 104, "years": 180, "types": 180, "statuses": 180})
+        counts.remove(self.counts(9, most=5, host00=3, host19=2))
+        self.assertEqual((counts.captures, dict(counts.fields["hosts"])), (171, {"most": 95, "host01": 2}))
+
+
+class SettingsTest(unittest.TestCase):
+    def test_a_folder_that_is_marked_is_known_again(self) -> None:
+        with tempfile.TemporaryDirectory() as name:
+            folder = pathlib.Path(name)
+            settings = Settings.of(name, True, ["metadata", "response"])
+            self.assertIsNone(marked(folder))
+            made = mark(folder, settings)
+            self.assertEqual(marked(folder), made)
+            self.assertEqual(made.settings, settings)
+            text = (folder / "settings.json").read_text()
+            for length in range(len(text.rstrip())):  # of a run that was ended as it wrote it
+                (folder / "settings.json").write_text(text[:length])
+                self.assertIsNone(marked(folder))
+                (folder / "other").touch()
+                with self.assertRaises(CannotUpdate):
+                    marked(folder)
+                (folder / "other").unlink()
+
+    def test_the_words_of_the_types(self) -> None:
+        self.assertEqual(Settings.of("/", False, None).words, ())
+        self.assertEqual(Settings.of("/", False, ["revisit", "resource", "response"]).words, ())
+        self.assertEqual(Settings.of("/", False, ["metadata", "response"]).words, ("--types", "response,metadata"))
+
+
+class FolderTest(unittest.TestCase):
+    def test_the_reason_of_a_folder_is_found_by_the_name(self) -> None:
+        """The work depends on the name alone, and not on the number of folders."""
+        found = Found([], {"a": "why", "b/c": "because"}, Passed())
+        names = ("a/x", "a/b/x", "b/c/d/x", "b/x", "ab/x", "a", "b/cd/x")
+        self.assertEqual([found.reason_for(name) for name in names], ["why", "why", "because", None, None, None, None])
+
+    def test_endings(self) -> None:
+        passed = Passed()
+        for name in ("a.wacz", "b.WACZ", "c.warc.zst", "x.tar.gz", "y.gz", ".gz", "README", "a.2016", "a.é", "a." + "x" * 99, "a.b c"):
+            passed.add(name)
+        wanted = {"": 6, ".wacz": 2, ".gz": 1, ".tar.gz": 1, ".warc.zst": 1}
+        self.assertEqual(passed.values(), {"endings": wanted, "links": 0, "below": 0})
+        for number in range(3000):
+            passed.add(f"a.x{number}")
+        self.assertLessEqual(len(passed.endings), 1001)
+        self.assertEqual(sum(passed.endings.values()), 3011)
+
+
 class TaskTest(unittest.TestCase):
+    def test_a_status_that_is_not_given_is_an_error(self) -> None:
+        usual = signal.signal(signal.SIGCHLD, signal.SIG_IGN)
+        self.addCleanup(signal.signal, signal.SIGCHLD, usual)
+        with tempfile.TemporaryDirectory() as name:
+            for sample in ("damaged", "response"):
+                with self.assertRaisesRegex(Failed, "status"):
+                    index_archive([PROGRAM], [PROGRAM], str(SAMPLES), name, f"{sample}.warc")
+            self.assertEqual(list(pathlib.Path(name).iterdir()), [])
+
+    def test_values_are_bounded(self) -> None:
+        counts = {name: Counter[bytes]() for name in ("hosts", "years", "types", "statuses")}
+        with mock.patch.object(update_task, "_MOST_VALUES", 10):
+            for number in range(1000):
+                kind = b"x" * 300 if number % 2 else b"%d" % number
+                _add_captures(counts, b"com,h%d)/ 20160101000000 %b 200\n" % (number, kind))
+        self.assertLessEqual(len(counts["hosts"]), 100)
+        self.assertEqual(counts["types"][b"x" * 256], 500)
+        self.assertEqual(counts["statuses"], {b"200": 1000})
+
     def test_pieces_end_with_lines(self) -> None:
         text = b"a" * (3 << 20) + b"\nb\n\nc\n"
         pieces = list(_whole_lines(io.BytesIO(text)))

@@ -47,8 +47,7 @@ class Counts:
         self.captures += other.captures
         for name, counter in self.fields.items():
             counter.update(other.fields[name])
-            if len(counter) > 2 * MOST_KEPT:
-                self.fields[name] = most_of(counter, MOST_KEPT)
+        self.limit(2)
 
     def remove(self, other: "Counts") -> None:
         self.captures -= other.captures
@@ -57,6 +56,13 @@ class Counts:
             for value in other.fields[name]:
                 if counter[value] <= 0:
                     del counter[value]
+
+
+    def limit(self, times: int = 1) -> None:
+        """Keeps the values with the most captures of each field that has more values than are kept, or more than this many times."""
+        for name, counter in self.fields.items():
+            if len(counter) > times * MOST_KEPT:
+                self.fields[name] = most_of(counter, MOST_KEPT)
 
 
 class Made(NamedTuple):
@@ -78,8 +84,7 @@ class Made(NamedTuple):
 
     def text(self, counts: Counts) -> str:
         """Returns the text of the file, which has the counts of the captures too."""
-        fields = {name: most_of(counter, MOST_KEPT) for name, counter in counts.fields.items()}
-        return f"{json.dumps(self._asdict())}\n{json.dumps({'captures': counts.captures, **fields})}"
+        return f"{json.dumps(self._asdict())}\n{json.dumps(counts.values())}"
 
 
 def counts_of(folder: pathlib.Path, wanted: frozenset[str], made: Optional[Made], made_file: pathlib.Path) -> Counts:
@@ -92,12 +97,14 @@ def counts_of(folder: pathlib.Path, wanted: frozenset[str], made: Optional[Made]
                 counts.add(read_counts(folder, part))
             for part in earlier - wanted:
                 counts.remove(read_counts(folder, part))
+            counts.limit()
             return counts
         except FileNotFoundError:  # the counts of a part that is gone: all are counted anew
             pass
     counts = Counts()
     for part in sorted(wanted):
         counts.add(read_counts(folder, part))
+    counts.limit()
     return counts
 
 

@@ -99,11 +99,11 @@ def read(path: Path) -> str:
 
 def open_regular(path: Path) -> IO[bytes]:
     """Opens a regular file to read it. Raises OSError, or Failed if it isn't one."""
-    file = open(os.open(path, _READ), "rb")
-    if not stat.S_ISREG(os.fstat(file.fileno()).st_mode):
-        file.close()
+    descriptor = os.open(path, _READ)
+    if not stat.S_ISREG(os.fstat(descriptor).st_mode):
+        os.close(descriptor)
         raise Failed(f"{os.fspath(path)}: not a regular file")
-    return file
+    return open(descriptor, "rb")
 
 
 def remove(path: Path) -> None:

@@ -26,7 +26,7 @@ from failing_runs import (
     counts_that_are_damaged_are_made_anew, memory_may_be_refused, parts_that_are_damaged_leave_the_index, streams_may_be_closed
 )
 from update_trial import (
-    FAILING, SLOW, WAIT, Differs, Trial, compressed, copy_sample, expect, index_of, index_of_folders, kill_group, merged, sample, until
+    FAILING, SLOW, WAIT, Differs, Trial, compressed, copy_sample, expect, index_of, index_of_folders, kill_group, merged, sample, until, until_unlocked
 )
 
 from program import Report, add_program, find_program, parser_of  # isort: skip
@@ -117,6 +117,7 @@ def a_run_that_is_killed_loses_nothing(program: pathlib.Path, folder: pathlib.Pa
         time.sleep(RANDOM.uniform(0.02, seconds))
         kill_group(work, signal.SIGKILL)
         work.wait()
+        until_unlocked(trial)
         expect(f"index after kill {number}", trial.index.read_bytes() in (before, wanted), True)
         if number % 4 == 3:
             expect("status", trial.run(), 1)

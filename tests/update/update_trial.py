@@ -1,5 +1,6 @@
 """A folder of archives, and runs of warcdx-update over it, for the scripts of this folder."""
 import contextlib
+import fcntl
 import gzip
 import json
 import os
@@ -200,6 +201,17 @@ def children_of(pid: int) -> list[str]:
         with contextlib.suppress(OSError):
             found += path.read_text().split()
     return found
+
+
+def until_unlocked(trial: Trial) -> None:
+    """Waits until no process has the lock of the parts. What a killed run has just started has it until it runs its program."""
+    def is_free() -> bool:
+        with contextlib.suppress(BlockingIOError, FileNotFoundError), open(trial.parts / "lock") as lock:
+            fcntl.flock(lock, fcntl.LOCK_EX | fcntl.LOCK_NB)
+            return True
+        return not (trial.parts / "lock").exists()
+
+    until("the end of the killed run", is_free)
 
 
 def kill_group(process: "subprocess.Popen[bytes]", number: int) -> None:

@@ -1,0 +1,119 @@
+"""Runs of warcdx-update that are killed at random moments, and programs whose ends the system doesn't tell."""
+import os
+import pathlib
+import random
+import signal
+import subprocess
+
+from update_trial import (
+    SLOW, WAIT, Trial, children_of, compressed, copy_sample, expect, index_of_folders, kill_group, sample, until, until_unlocked
+)
+
+KILLS = 50
+FIRST = 12  # kills of runs that begin without results
+LONGEST = 0.9  # seconds until a run is killed
+
+
+def runs_that_are_killed_lose_nothing(program: pathlib.Path, folder: pathlib.Path, seed: int = 1) -> None:
+    """Archives are added, changed and removed between them. After each kill the index is the old or the new one, and a rerun makes the new
+    one, with what belongs to it and nothing else. The moments follow from the seed."""
+    choose = random.Random(seed)
+    trial = Trial(program, folder, SLOW.replace("sleep 0.5", "sleep 0.02"))
+    (trial.archives / "below").mkdir()
+    for number in range(2):
+        (trial.archives / f"below/{number}.warc.gz").write_bytes(compressed(sample("response") * 2))
+    words = ("--recursive", "--remove", "all", "--jobs", "3")
+    for number in range(KILLS):
+        if number <= FIRST:
+            trial.remove_results()
+        before = trial.index.read_bytes() if trial.index.exists() else None
+        change_some(trial, choose, number)
+        wanted = index_of_folders(program, trial.archives, folder)
+        work = trial.start(*words, start_new_session=True)
+        wait_for(work, choose.uniform(0, LONGEST))
+        children = children_of(work.pid)
+        if number % 2:
+            kill_group(work, signal.SIGKILL)
+        else:
+            work.kill()
+        work.wait(WAIT)
+        for child in children:
+            until("the end of the programs", lambda: not os.path.exists(f"/proc/{child}"))
+        until_unlocked(trial)
+        found = trial.index.read_bytes() if trial.index.exists() else None
+        expect(f"index after kill {number}", found in (before, wanted), True)
+        status = trial.run(*words)
+        expect(f"status after kill {number}", status, 1)
+        trial.expect_results({"07.warc": 1}, wanted)
+
+
+def wait_for(work: "subprocess.Popen[bytes]", seconds: float) -> None:
+    try:
+        work.wait(seconds)
+    except subprocess.TimeoutExpired:
+        pass
+
+
+def change_some(trial: Trial, choose: random.Random, number: int) -> None:
+    """Changes a third of the archives, adds one, and removes one. One archive stays damaged."""
+    archives = sorted(path for path in trial.archives.rglob("*.warc*") if path.name != "07.warc")
+    for path in choose.sample(archives, 5):
+        more = sample("response")
+        path.write_bytes(path.read_bytes() + (compressed(more) if path.suffix == ".gz" else more))
+    choose.choice(archives).unlink()
+    copy_sample("response", trial.archives / f"new-{number}.warc")
+    if number % 10 == 9:  # so that they don't grow for ever
+        for path in trial.archives.rglob("*.warc"):
+            if path.name != "07.warc":
+                copy_sample("response", path)
+
+
+def programs_end_with_a_run_that_is_killed(program: pathlib.Path, folder: pathlib.Path) -> None:
+    """Nothing but the run is killed. Its programs would take a minute more, and those that they start."""
+    trial = Trial(program, folder, SLOW.replace("sleep 0.5", "sleep 60"))
+    (trial.archives / "packed.warc.gz").write_bytes(compressed(sample("response")))
+    work = trial.start("--jobs", "20")
+    until("the programs", lambda: len(trial.begun) == 13)
+    processes = children_of(work.pid)
+    for process in tuple(processes):
+        processes += [each for each in children_of(int(process)) if name_of(each) != "sleep"]
+    expect("number of the programs", len(processes) > 12, True)
+    work.kill()
+    work.wait()
+    for process in processes:
+        until(f"the end of {process}", lambda: not os.path.exists(f"/proc/{process}"))
+    until_unlocked(trial)
+    for path in folder.glob("program"):
+        path.write_text(path.read_text().replace("sleep 60\n", ""))
+    expect("status", trial.run(), 1)
+
+
+def name_of(process: str) -> str:
+    try:
+        return pathlib.Path(f"/proc/{process}/comm").read_text().strip()
+    except OSError:
+        return ""
+
+
+def a_status_that_is_not_given_is_a_fault(program: pathlib.Path, folder: pathlib.Path) -> None:
+    """If a starter ignores SIGCHLD and nothing handles it, the system keeps no status. No damage is lost by that."""
+    trial = Trial(program, folder)
+
+    def ignore() -> None:
+        signal.signal(signal.SIGCHLD, signal.SIG_IGN)
+
+    status = trial.start(preexec_fn=ignore).wait(WAIT)
+    expect("status", status in (1, 3), True)
+    expect("line", any("07.warc" in line for line in trial.said), True)
+    expect("index", trial.index.exists() and trial.index.read_bytes() != trial.wanted, False)
+    if status == 1:
+        trial.expect_results({"07.warc": 1}, trial.wanted)
+    expect("status of a further run", trial.run(), 1)
+    trial.expect_results({"07.warc": 1}, trial.wanted)
+
+
+CASES = (
+    runs_that_are_killed_lose_nothing,
+    programs_end_with_a_run_that_is_killed,
+    a_status_that_is_not_given_is_a_fault,
+)

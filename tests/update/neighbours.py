@@ -1,0 +1,480 @@
+"""Runs of warcdx-update beside files that it hasn't made. What was there before a run is there after it, byte for byte."""
+import contextlib
+import os
+import pathlib
+import shutil
+import signal
+import socket
+import stat
+import subprocess
+import uuid
+from collections.abc import Callable, Iterable, Iterator
+
+from update_trial import SLOW, WAIT, Trial, copy_sample, expect, kill_group, sample, until, until_unlocked
+
+State = tuple[object, ...]
+# Names that the command or an earlier state of it might use.
+NAMES = (
+    "thesis.txt", "lock.new", "log.new", "log.jsonl.new", "made.json", "made.json.new", "unfinished", "removed", "merged", "new",
+    "all.cdxj.new", "all.cdxj.summary.json.new", ".all.cdxj.new", ".warcdx.index", ".warcdx-.index", "removed-", "unfinished-", "new-",
+    "d41d8cd98f00b204e9800998ecf8427e", "d41d8cd98f00b204e9800998ecf8427e.json", f"unfinished-{uuid.UUID(int=7).hex}",
+    f"removed-{uuid.UUID(int=7).hex}", f"new-{uuid.UUID(int=7).hex}", f".warcdx-{uuid.UUID(int=7).hex}.index",
+)  # fmt: skip
+
+
+def states(folder: pathlib.Path) -> dict[str, State]:
+    """Returns what a folder has: of each entry its kind, mode, inode and time, and its bytes, where it leads, or which names it has."""
+    found = {}
+    for path in (folder, *folder.rglob("*")):
+        entry = path.lstat()
+        kept: object = None
+        if path.is_symlink():
+            kept = os.readlink(path)
+        elif stat.S_ISREG(entry.st_mode):
+            kept = path.read_bytes()
+        elif stat.S_ISDIR(entry.st_mode):
+            kept = sorted(os.listdir(path))
+        time_of_change = None if stat.S_ISDIR(entry.st_mode) else entry.st_mtime_ns
+        found[str(path.relative_to(folder))] = (entry.st_mode, entry.st_ino, time_of_change, kept)
+    return found
+
+
+@contextlib.contextmanager
+def unchanged(*folders: pathlib.Path) -> Iterator[None]:
+    """Expects folders, and all that is in them, to be the same after a block."""
+    before = [states(folder) for folder in folders]
+    yield
+    for folder, wanted in zip(folders, before):
+        expect_same(str(folder), states(folder), wanted)
+
+
+def expect_same(name: str, found: dict[str, State], wanted: dict[str, State]) -> None:
+    if found != wanted:
+        differing = sorted(each for each in found.keys() | wanted.keys() if found.get(each) != wanted.get(each))
+        expect(f"what differs in {name}", differing, [])
+
+
+def put_others(folder: pathlib.Path, names: Iterable[str] = NAMES) -> None:
+    """Puts what others may have into a folder: files, folders, a pipe, a socket and links. Each name has another kind of thing."""
+    outside = folder.parent / f"behind-{folder.name}"
+    outside.mkdir(exist_ok=True)
+    (outside / "file").write_text("behind a link\n")
+    kinds = (_put_file, _put_folder, _put_file, _put_link, os.mkfifo, _put_socket, _put_folder_link, _put_dangling_link)
+    for number, name in enumerate(names):
+        if not os.path.lexists(folder / name):
+            kinds[number % len(kinds)](folder / name)
+
+
+def _put_file(path: pathlib.Path) -> None:
+    path.write_text(f"mine: {path.name}\n")
+
+
+def _put_folder(path: pathlib.Path) -> None:
+    (path / "below").mkdir(parents=True)
+    (path / "below/photo.jpg").write_bytes(b"\xff\xd8")
+
+
+def _put_link(path: pathlib.Path) -> None:
+    path.symlink_to(path.parent.parent / f"behind-{path.parent.name}" / "file")
+
+
+def _put_folder_link(path: pathlib.Path) -> None:
+    path.symlink_to(path.parent.parent / f"behind-{path.parent.name}")
+
+
+def _put_dangling_link(path: pathlib.Path) -> None:
+    path.symlink_to(path.parent / f"nothing-{path.name}")
+
+
+def _put_socket(path: pathlib.Path) -> None:
+    here = os.getcwd()
+    os.chdir(path.parent)  # the path of a socket is short
+    try:
+        with socket.socket(socket.AF_UNIX) as made:
+            made.bind(path.name)
+    finally:
+        os.chdir(here)
+
+
+class Home:
+    """A trial whose index is in a folder with other files, `home`, and whose folder of parts may be elsewhere."""
+
+    def __init__(self, program: pathlib.Path, folder: pathlib.Path, script: str = SLOW) -> None:
+        self.trial = Trial(program, folder, script.replace("sleep 0.5", "sleep 0.05"))
+        self.home = folder / "home"
+        self.home.mkdir()
+        self.trial.index, self.trial.parts = self.home / "all.cdxj", self.home / "all.cdxj.parts"
+
+    @property
+    def own(self) -> set[str]:
+        """The names that the command gives in the folder of parts."""
+        logged = (self.trial.parts / "log.jsonl").read_text().split('"')
+        parts = {word for word in logged if len(word) == 32}
+        return {"lock", "settings.json", "log.jsonl", "made.jsonl", "results.json", "faults.json", *parts, *(f"{part}.json" for part in parts)}
+
+    def states(self) -> dict[str, State]:
+        """Returns what others have in the home, in the folder of parts and behind links."""
+        found = {}
+        for folder in (self.home, self.trial.parts.resolve(), *self.trial.folder.glob("behind-*")):
+            own = self.own if folder.name != "home" and not folder.name.startswith("behind") else set()
+            for name, state in states(folder).items():
+                top = name.split("/")[0]
+                if name != "." and top not in own and not top.startswith("all.cdxj.parts") and top not in ("all.cdxj", "all.cdxj.summary.json"):
+                    found[f"{folder}/{name}"] = state
+        return found
+
+
+def every_run_leaves_what_others_have(program: pathlib.Path, folder: pathlib.Path) -> None:
+    """Beside the index, in the folder of parts and behind links: after runs over new, changed and removed archives, a killed one, one
+    that is ended, and one that fails."""
+    home = Home(program, folder)
+    trial = home.trial
+    put_others(home.home)
+    expect("status of the first run", trial.run(), 1)
+    put_others(trial.parts)
+    before = home.states()
+    expect("number of what others have", len(before) > 2 * len(NAMES), True)
+
+    def ends(name: str, run: Callable[[], object], wanted: object, is_whole: bool = True) -> None:
+        expect(name, run(), wanted)
+        found = home.states()
+        expect_same(name, found if is_whole else {each: found.get(each, ()) for each in before}, before)
+
+    def interrupted(number: int) -> int:
+        for archive in sorted(trial.archives.iterdir())[:6]:
+            archive.write_bytes(archive.read_bytes() + sample("response"))
+        trial.forget()
+        work = trial.start("--jobs", "2", start_new_session=True)
+        until("archives", lambda: len(trial.begun) > 3)
+        kill_group(work, number)
+        ended = work.wait(WAIT)
+        until_unlocked(trial)
+        return ended
+
+    copy_sample("response", trial.archives / "new.warc")
+    (trial.archives / "03.warc").write_bytes(sample("response"))
+    ends("a new and a changed archive", trial.run, 1)
+    (trial.archives / "05.warc").unlink()
+    ends("an archive that is gone", trial.run, 3)
+    ends("a removed archive", lambda: trial.run("--remove", "all"), 1)
+    ends("a run that is killed", lambda: interrupted(signal.SIGKILL), -signal.SIGKILL, is_whole=False)
+    ends("a run after it", trial.run, 1)
+    ends("a run that is ended", lambda: interrupted(signal.SIGTERM), -signal.SIGTERM)
+    ends("a run after it", trial.run, 1)
+    trial.index.write_text("notes\n")
+    copy_sample("response", trial.archives / "newer.warc")
+    ends("a run that is refused", trial.run, 3)
+    trial.index.unlink()
+    ends("a run without an index", trial.run, 1)
+    expect("index", trial.index.read_bytes() == trial.index_of("*.warc"), True)
+
+
+def other_folders_of_parts_are_refused(program: pathlib.Path, folder: pathlib.Path) -> None:
+    """They are so if anything is in them, also behind a link, also if it looks like parts of an earlier state of the command."""
+    home = Home(program, folder)
+    trial = home.trial
+    expect("status", trial.run(), 1)
+    made = folder / "made"
+    shutil.copytree(trial.parts, made)
+    trial.remove_results()
+    disk = folder / "disk"
+
+    def with_files(parts: pathlib.Path) -> None:
+        put_others(parts)
+
+    def with_one(name: str, text: str = "") -> Callable[[pathlib.Path], None]:
+        return lambda parts: _ignore((parts / name).write_text(text))
+
+    def of_an_earlier_state(parts: pathlib.Path) -> None:
+        shutil.copytree(made, parts, dirs_exist_ok=True)
+        (parts / "settings.json").unlink()
+
+    def of_another_version(parts: pathlib.Path) -> None:
+        shutil.copytree(made, parts, dirs_exist_ok=True)
+        settings = parts / "settings.json"
+        settings.write_text(settings.read_text().replace('"form": 1', '"form": 2'))
+
+    def with_a_folder(name: str) -> Callable[[pathlib.Path], None]:
+        return lambda parts: (parts / name).mkdir()
+
+    fillings = (
+        with_files, with_one("thesis.txt"), with_one("lock", "1"), with_one("settings.json", "{}"), with_one("log.jsonl"),
+        with_one(".hidden"), with_one("d41d8cd98f00b204e9800998ecf8427e"), with_a_folder("lock"), with_a_folder("settings.json"),
+        with_a_folder("unfinished"), of_an_earlier_state, of_another_version,
+    )  # fmt: skip
+    for filling in fillings:
+        for is_link in (False, True):
+            disk.mkdir()
+            (disk / "parts").mkdir()
+            filling(disk / "parts")
+            if is_link:
+                trial.parts.symlink_to(disk / "parts")
+            else:
+                shutil.copytree(disk / "parts", trial.parts, symlinks=True, copy_function=_copy)
+            with unchanged(folder / "home", disk, trial.archives):
+                expect(f"status with {filling}", trial.run(), 3)
+                expect("lines", (len(trial.said), "Traceback" in trial.said[0]), (1, False))
+            shutil.rmtree(disk)
+            trial.parts.unlink() if is_link else shutil.rmtree(trial.parts)
+    trial.parts.symlink_to(folder / "not mounted")
+    with unchanged(folder / "home", trial.archives):
+        expect("status with a link that leads to nothing", trial.run(), 3)
+    trial.parts.unlink()
+    trial.parts.mkdir()
+    (trial.parts / "lock").touch()
+    expect("status with an empty folder", trial.run(), 1)
+    expect("index", trial.index.read_bytes() == trial.wanted, True)
+
+
+def _ignore(_: object) -> None: ...
+
+
+def _copy(source: str, target: str) -> str:
+    kind = os.lstat(source).st_mode
+    if stat.S_ISREG(kind):
+        return str(shutil.copy2(source, target))
+    os.mkfifo(target)
+    return target
+
+
+def archives_and_parts_are_apart(program: pathlib.Path, folder: pathlib.Path) -> None:
+    """FOLDER isn't in the folder of parts, by whatever name, and with --recursive the folder of parts isn't in FOLDER."""
+    trial = Trial(program, folder)
+    crawl = folder / "crawl.parts"
+    (crawl / "below").mkdir(parents=True)
+    for place in (crawl, crawl / "below"):
+        copy_sample("response", place / "a.warc")
+    links = folder / "links"
+    links.mkdir()
+    (links / "crawl").symlink_to(crawl)
+    (links / "home").symlink_to(folder)
+    (folder / "all.parts").symlink_to(crawl)
+    pairs = (
+        (crawl, folder / "crawl"), (crawl / "below", folder / "crawl"), (links / "crawl", folder / "crawl"),
+        (crawl, folder / "all"), (links / "crawl/below", folder / "all"), (links / "crawl/../crawl.parts", links / "home/crawl"),
+        (folder / "archives/../crawl.parts/below/..", folder / "crawl"),
+    )  # fmt: skip
+    for archives, index in pairs:
+        for words in ((), ("--recursive",)):
+            with unchanged(folder):
+                expect(f"status of {archives} {index}", updated(trial, archives, index, *words), 3)
+    for archives, index in (
+        (trial.archives, trial.archives / "all.cdxj"),
+        (folder, trial.archives / "all.cdxj"),
+        (links / "home", folder / "archives/../archives/all.cdxj"),
+        (trial.archives, links / "home/archives/all.cdxj"),
+    ):
+        with unchanged(folder):
+            expect(f"status of --recursive {archives} {index}", updated(trial, archives, index, "--recursive"), 3)
+
+
+def updated(trial: Trial, archives: object, index: object, *words: object) -> int:
+    """Runs the command, and returns its status."""
+    command = (*trial.usual_command(*words)[:-2], str(archives), str(index))
+    done = subprocess.run(command, stdin=subprocess.DEVNULL, stdout=subprocess.DEVNULL, stderr=subprocess.PIPE, timeout=WAIT)
+    expect("tracebacks", b"Traceback" in done.stderr, False)
+    return done.returncode
+
+
+def an_index_may_be_beside_its_archives(program: pathlib.Path, folder: pathlib.Path) -> None:
+    """Without --recursive nothing below is read, so no archive is taken for a part, and no part for an archive."""
+    trial = Trial(program, folder)
+    put_others(trial.archives)
+    before = states(trial.archives)
+    before.pop(".")
+    for _ in range(2):
+        command = (*trial.usual_command("--quiet", "--all-faults")[:-2], ".", "all.cdxj")
+        done = subprocess.run(command, stderr=subprocess.PIPE, cwd=trial.archives, timeout=WAIT)
+        expect("status", (done.returncode, done.stderr), (1, b"warcdx-update: 07.warc: fault 448 ShortBlock\n"))
+        found = {name: state for name, state in states(trial.archives).items() if name in before}
+        expect_same("the archives", found, before)
+        expect("index", (trial.archives / "all.cdxj").read_bytes() == trial.wanted, True)
+        copy_sample("response", trial.archives / "00.warc")
+        before["00.warc"] = states(trial.archives)["00.warc"]
+
+
+def links_are_taken_where_they_lead(program: pathlib.Path, folder: pathlib.Path) -> None:
+    """The index and its parts may be behind links, on other file systems too. Nothing beside them is touched there."""
+    trial = Trial(program, folder)
+    disk, other = folder / "disk", folder / "other"
+    for place in (disk, other):
+        place.mkdir()
+    is_mounted = not subprocess.run(("mount", "-t", "tmpfs", "-o", "size=4m", "tmpfs", disk), stderr=subprocess.DEVNULL).returncode
+    if not is_mounted:
+        print("skipped  a folder of parts on another file system: only root can mount one")
+    try:
+        (disk / "parts").mkdir()
+        put_others(disk)
+        put_others(other)
+        (other / "all.cdxj.parts").symlink_to(disk / "parts")
+        trial.index.symlink_to(other / "all.cdxj")
+        before = {**states(disk), **{f"other/{name}": state for name, state in states(other).items()}}
+
+        def expect_others() -> None:
+            found = {**states(disk), **{f"other/{name}": state for name, state in states(other).items()}}
+            own = ("parts", "other/all.cdxj", "other/all.cdxj.summary.json", "other/.")
+            wanted = {name: state for name, state in before.items() if not name.startswith("parts") and name not in own}
+            found = {name: state for name, state in found.items() if not name.startswith("parts") and name not in own}
+            expect_same("what others have", found, wanted)
+
+        for status, change in ((1, lambda: None), (1, lambda: copy_sample("response", trial.archives / "new.warc"))):
+            change()
+            expect("status", trial.run(), status)
+            expect_others()
+            expect("index", (other / "all.cdxj").read_bytes() == trial.index_of("*.warc"), True)
+            expect("whether INDEX is a link", (trial.index.is_symlink(), (other / "all.cdxj").is_symlink()), (True, False))
+            expect("whether the parts are behind the link", (disk / "parts/settings.json").is_file(), True)
+    finally:
+        if is_mounted:
+            subprocess.run(("umount", disk), check=True)
+
+
+def only_results_of_runs_are_replaced(program: pathlib.Path, folder: pathlib.Path) -> None:
+    """INDEX and its summary are refused if they were written, replaced by another file, a folder, a pipe, a socket or a link."""
+    home = Home(program, folder)
+    trial = home.trial
+    summary = home.home / "all.cdxj.summary.json"
+    expect("status", trial.run(), 1)
+    copy_sample("response", trial.archives / "new.warc")
+
+    def written(path: pathlib.Path) -> None:
+        path.write_text("notes\n")
+
+    def appended(path: pathlib.Path) -> None:
+        path.write_bytes(path.read_bytes() + b"\n")
+
+    def copied(path: pathlib.Path) -> None:
+        copy = path.with_name("copy")
+        shutil.copy2(path, copy)
+        os.replace(copy, path)
+
+    def linked(path: pathlib.Path) -> None:
+        target = path.with_name(f"mine-{path.name}")
+        target.write_text("mine\n")
+        path.unlink()
+        path.symlink_to(target)
+
+    def remade(kind: Callable[[pathlib.Path], object]) -> Callable[[pathlib.Path], None]:
+        def make(path: pathlib.Path) -> None:
+            path.unlink()
+            kind(path)
+
+        return make
+
+    kept = folder / "kept"
+    for path in (trial.index, summary):
+        for change in (written, appended, copied, linked, remade(os.mkfifo), remade(_put_socket), remade(_put_folder)):
+            os.rename(path, kept)
+            shutil.copy2(kept, path)
+            change(path)
+            with unchanged(home.home, folder / "archives"):
+                expect(f"status after {change} of {path.name}", trial.run(), 3)
+                expect("lines", "Traceback" in "\n".join(trial.said), False)
+            shutil.rmtree(path) if path.is_dir() and not path.is_symlink() else path.unlink()
+            os.rename(kept, path)
+    trial.index.chmod(0o600)
+    expect("status with the files of the run", trial.run(), 1)
+    expect("index", trial.index.read_bytes() == trial.index_of("*.warc"), True)
+    trial.remove_results()
+    summary.write_text("mine\n")
+    with unchanged(home.home):
+        expect("status with a summary alone", trial.run(), 3)
+
+
+def a_report_replaces_no_other_file(program: pathlib.Path, folder: pathlib.Path) -> None:
+    """It may be an earlier report of the index, an empty file, or a pipe. A run that is refused leaves the earlier one."""
+    trial = Trial(program, folder)
+    report = folder / "report"
+    expect("status", trial.run(), 1)
+    copied, noted, link = folder / "copied", folder / "noted", folder / "link"
+    shutil.copy2(report, copied)
+    noted.write_bytes(report.read_bytes() + b"notes\n")
+    link.symlink_to(copied)
+    (folder / "planted").write_bytes(b'{"archive": "mine"}\n')
+    others = (trial.index, trial.archives / "05.warc", copied, noted, link, folder / "planted", trial.parts / "log.jsonl", folder)
+    for path in others:
+        with unchanged(folder / "archives", trial.parts):
+            before = path.read_bytes() if path.is_file() else b""
+            expect(f"status with {path.name}", updated(trial, trial.archives, trial.index, "--report", path), 3)
+            expect("file", (path.read_bytes() if path.is_file() else b"") == before, True)
+    with open(trial.parts / "lock", "a") as lock:
+        subprocess.run(("flock", "--exclusive", str(lock.fileno())), pass_fds=(lock.fileno(),), check=True)
+        before = report.read_bytes()
+        expect("status of a run that is refused", trial.run(), 3)
+        expect("report", report.read_bytes() == before, True)
+    (folder / "empty").touch(0o640)
+    (folder / "leads").symlink_to(folder / "empty")
+    for path in (report, folder / "empty", folder / "leads", folder / "leads", folder / "fresh"):
+        expect(f"status over {path.name}", updated(trial, trial.archives, trial.index, "--all-faults", "--report", path), 1)
+        expect("report", path.read_bytes() == report.read_bytes(), True)
+    expect("mode and link", ((folder / "empty").stat().st_mode & 0o777, (folder / "leads").is_symlink()), (0o640, True))
+    shell = ("bash", "-c", '"$@" --report >(cat > "$0") archives all.cdxj; wait $!', folder / "piped", *trial.usual_command("--quiet")[:-2])
+    subprocess.run(shell, cwd=folder, check=True)
+    expect("report by a pipe", (folder / "piped").read_bytes() == report.read_bytes(), True)
+    missing = folder / "missing/report"
+    expect("status without the folder", updated(trial, trial.archives, trial.index, "--report", missing), 3)
+    expect("what is left", [path.name for path in folder.iterdir() if path.name.startswith(".")], [])
+
+
+def names_in_the_log_are_those_of_parts(program: pathlib.Path, folder: pathlib.Path) -> None:
+    """A log that names other files is refused, and a link in the place of a part isn't followed."""
+    trial = Trial(program, folder)
+    conf = folder / "conf"
+    for path in (conf, folder / "conf.json"):
+        path.write_text("mine\n")
+    expect("status", trial.run(), 1)
+    log = trial.parts / "log.jsonl"
+    usual = log.read_text()
+    name = usual.split('"')[-2]
+    copy_sample("response", trial.archives / "new.warc")
+    for planted in (str(conf), "../conf", "..", "lock", "settings.json", f"./{name}", name.upper(), name[1:], ""):
+        log.write_text(usual.replace(f'"{name}"', f'"{planted}"'))
+        with unchanged(folder):
+            expect(f"status with {planted!r}", updated(trial, trial.archives, trial.index), 3)
+    log.write_text(usual)
+    part = trial.parts / name
+    os.rename(part, folder / "elsewhere")
+    part.symlink_to(folder / "elsewhere")
+    with unchanged(trial.archives):
+        expect("status with a link in the place of a part", trial.run(), 1)
+    expect("file behind the link", (folder / "elsewhere").is_file(), True)
+    expect("index", trial.index.read_bytes() == trial.index_of("*.warc"), True)
+
+
+def a_folder_that_may_not_be_written_is_reported(program: pathlib.Path, folder: pathlib.Path) -> None:
+    """The folder of the index is read-only for a user. The parts may be elsewhere."""
+    if os.getuid():
+        print("skipped  a folder that may not be written: only root can run a command as another user")
+        return
+    home = Home(program, folder)
+    trial = home.trial
+    parts = folder / "parts"
+    parts.mkdir()
+    trial.parts.symlink_to(parts)
+    (folder / "said").touch()
+    for path in (folder, *folder.rglob("*")):
+        os.chown(path, 65534, 65534, follow_symlinks=False)
+    nobody = {"user": 65534, "group": 65534, "extra_groups": ()}
+    expect("status", trial.start(**nobody).wait(WAIT), 1)
+    copy_sample("response", trial.archives / "new.warc")
+    home.home.chmod(0o555)
+    with unchanged(home.home):
+        expect("status", trial.start(**nobody).wait(WAIT), 3)
+    expect("line", trial.said[-1], f"warcdx-update: {trial.index}: Permission denied; the index stays as it was")
+    expect("unfinished files", [path.name for path in parts.iterdir() if "-" in path.name], [])
+    home.home.chmod(0o755)
+    expect("status", trial.start(**nobody).wait(WAIT), 1)
+    expect("index", trial.index.read_bytes() == trial.index_of("*.warc"), True)
+
+
+CASES = (
+    every_run_leaves_what_others_have,
+    other_folders_of_parts_are_refused,
+    archives_and_parts_are_apart,
+    an_index_may_be_beside_its_archives,
+    links_are_taken_where_they_lead,
+    only_results_of_runs_are_replaced,
+    a_report_replaces_no_other_file,
+    names_in_the_log_are_those_of_parts,
+    a_folder_that_may_not_be_written_is_reported,
+)
