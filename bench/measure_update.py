@@ -40,6 +40,7 @@ def seconds(program: pathlib.Path, folder: pathlib.Path, jobs: int) -> float:
     subprocess.run(command, check=True)
     elapsed = time.perf_counter() - start
     index.unlink()
+    index.with_name(f"{index.name}.summary.json").unlink()
     shutil.rmtree(folder / f"{jobs}.cdxj.parts")
     return elapsed
 

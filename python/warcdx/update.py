@@ -111,11 +111,15 @@ class Update:
             return [], None
         with self._results.open(plan), self._open_workers() as workers:
             reports = list(self._index(workers, plan.new))
-            try:
-                self._make(workers, plan, self._members(plan, found, [*others, *reports]))
-            except (CannotUpdate, Failed, OSError) as error:
-                return reports, reason_of(error)
-            return reports, None
+            return reports, self._try_to_make(workers, plan, self._members(plan, found, [*others, *reports]))
+
+    def _try_to_make(self, workers: Workers, plan: Plan, members: Mapping[str, Any]) -> Optional[str]:
+        """Makes the index of all parts if there isn't one. Returns why it can't be made."""
+        try:
+            self._make(workers, plan, members)
+        except (CannotUpdate, Failed, OSError) as error:
+            return reason_of(error)
+        return None
 
     def _reports_of_others(self, found: Found, plan: Plan) -> Iterator[Report]:
         """Yields a report on each archive that isn't indexed now."""

@@ -196,6 +196,7 @@ def progress_of(given: argparse.Namespace) -> Progress:
 
 def print_plan(given: argparse.Namespace, work: Update, results: Results, settings: Settings, output: BinaryIO) -> None:
     results.look(settings)
+    results.load()
     found = work.find()
     plan = results.plan(found, given.remove)
     for word, names in (("index", [archive.name for archive in plan.new]), ("remove", plan.removed), ("keep", plan.gone)):

@@ -1,5 +1,6 @@
 """The archives in a folder, and what in it isn't one."""
 import contextlib
+import itertools
 import os
 import re
 from collections import Counter
@@ -159,19 +160,22 @@ class _Walk:
 
     def count_below(self, folders: list[str]) -> None:
         """Counts the archives in folders below, until it has seen as many entries as a count may take."""
-        passed, waiting, left = self.found.passed, list(folders), _MOST_SEEN
-        while waiting and passed.is_whole:
-            below = waiting.pop()
+        waiting, left = list(folders), _MOST_SEEN
+        while waiting and left > 0:
             with contextlib.suppress(OSError):  # what can't be read isn't counted
-                for entry in self._entries(below):
-                    left -= 1
-                    if left < 0:
-                        passed.is_whole = False
-                        break
-                    if entry.is_dir(follow_symlinks=False):
-                        waiting += [f"{below}/{entry.name}"] * (not self._is_parts(entry))
-                    elif _is_archive(entry) and not _leads_to_folder(entry):
-                        passed.below += 1
+                left -= self._count(waiting.pop(), waiting, left)
+        self.found.passed.is_whole = left > 0
+
+    def _count(self, below: str, waiting: list[str], most: int) -> int:
+        """Counts the archives in a folder, and adds the folders in it to those that wait. Returns how many entries it has seen, at most `most`."""
+        seen = 0
+        for entry in itertools.islice(self._entries(below), most):
+            seen += 1
+            if entry.is_dir(follow_symlinks=False):
+                waiting += [f"{below}/{entry.name}"] * (not self._is_parts(entry))
+            elif _is_archive(entry) and not _leads_to_folder(entry):
+                self.found.passed.below += 1
+        return seen
 
     def _entries(self, below: str) -> "Iterator[os.DirEntry[str]]":
         with os.scandir(os.path.join(self._folder, below) if below else self._folder) as entries:

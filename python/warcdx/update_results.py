@@ -95,11 +95,13 @@ class Results:
         return [str(path) for path in (self.index, self.summary, self._new_index, self._new_summary)]
 
     def look(self, settings: Settings) -> None:
-        """Reads what earlier runs have left. Raises OSError, Failed, or CannotUpdate if a run with these settings may not change it."""
+        """Looks at what earlier runs have left. Raises OSError, Failed, or CannotUpdate if a run with these settings may not change it."""
         self._expect_apart(settings)
         if os.path.islink(self._link) and not self.folder.exists():
             raise CannotUpdate(f"{self._link} is a link that leads to nothing; is its disk mounted?")
-        self._load(marked(self.folder), settings)
+        found = marked(self.folder)
+        if found is not None:
+            self._take(found, settings)
         self.expect_replaceable()
 
     def _expect_apart(self, settings: Settings) -> None:
@@ -108,15 +110,17 @@ class Results:
         if settings.recursive and is_in(self.folder, settings.folder):
             raise CannotUpdate(f"with --recursive, the folder of parts, {self.folder}, can't be in the folder of archives")
 
-    def _load(self, found: Optional[Marked], settings: Settings) -> None:
-        if found is None:
-            return
+    def _take(self, found: Marked, settings: Settings) -> None:
         settings.expect(found.settings)
         # A copy of the folder beside another index has the same word.
         self._token = hashlib.sha256(os.fsencode(f"{found.token}/{self.index}")).hexdigest()[:32]
         self._known = {kind: _fingerprints_of(known) for kind, known in self._read("results.json").items()}
+
+    def load(self) -> None:
+        """Reads of which parts the index was made, which there are, and which faults were reported. Raises as `look` does."""
         self.faults = self._read("faults.json")
         self.made = Made.read(self.made_file)
+        self.log = Log(self.folder / "log.jsonl")
         self.log.load(self._has)
 
     def _read(self, name: str) -> dict[str, Any]:
@@ -159,19 +163,27 @@ class Results:
         """
         is_new = not self.folder.exists()
         self.folder.mkdir(exist_ok=True)
-        lock = os.open(self.folder / LOCK, os.O_RDWR | os.O_CREAT | os.O_NOFOLLOW | os.O_CLOEXEC, 0o666)
-        try:
-            self._lock(lock)
-            with unmarked_if_failed(self.folder) if is_new else contextlib.nullcontext():
-                self.log = Log(self.folder / "log.jsonl")
-                self._load(marked(self.folder) or mark(self.folder, settings), settings)
-                self.expect_replaceable()
-                self._clear()
-                yield
-        finally:
-            os.close(lock)
+        with self._lock(), unmarked_if_failed(self.folder) if is_new else contextlib.nullcontext():
+            self._prepare(settings)
+            yield
 
-    def _lock(self, file: int) -> None:
+    def _prepare(self, settings: Settings) -> None:
+        self._take(marked(self.folder) or mark(self.folder, settings), settings)
+        self.expect_replaceable()
+        self.load()
+        self._clear()
+
+    @contextlib.contextmanager
+    def _lock(self) -> Iterator[None]:
+        file = os.open(self.folder / LOCK, os.O_RDWR | os.O_CREAT | os.O_NOFOLLOW | os.O_CLOEXEC, 0o666)
+        try:
+            self._expect_free(file)
+            yield
+        finally:
+            os.close(file)
+
+    def _expect_free(self, file: int) -> None:
+        """Takes the lock of a file. Raises Locked if another process has it."""
         with contextlib.suppress(BlockingIOError, FileNotFoundError):
             fcntl.flock(file, fcntl.LOCK_EX | fcntl.LOCK_NB)
             if os.path.samestat(os.fstat(file), os.stat(self.folder / LOCK)):
@@ -185,14 +197,19 @@ class Results:
         What a worker of an earlier run still writes is in a folder that is no more.
         """
         try:
-            removed = set(plan.removed)
-            self.log.start([name for name in self.log.parts if name not in removed], self._new)
-            self.unfinished.mkdir()
+            self._begin(frozenset(plan.removed))
             yield
         finally:
-            with deferred():
-                self.log.close()
-                self._clear()
+            self._end()
+
+    def _begin(self, removed: frozenset[str]) -> None:
+        self.log.start([name for name in self.log.parts if name not in removed], self._new)
+        self.unfinished.mkdir()
+
+    def _end(self) -> None:
+        with deferred():
+            self.log.close()
+            self._clear()
 
     def keep(self, archive: str, made: Indexed) -> None:
         """Makes what a task has made the part of an archive. Only here is a part put into the folder."""
@@ -259,15 +276,17 @@ class Results:
         if _is_stream(path):
             with open(path, "w", encoding="ascii") as stream:
                 stream.writelines(lines)
-            return
-        file = pathlib.Path(os.path.realpath(path))
+        else:
+            self._replace_report(pathlib.Path(os.path.realpath(path)), lines)
+
+    def _replace_report(self, file: pathlib.Path, lines: Iterable[str]) -> None:
         new = file.with_name(f".warcdx-{self._token}.report")
         remove(new)  # of a run that was ended as it wrote it
-        write_new(new, lines)
         try:
+            write_new(new, lines)
             _take_mode(new, file)
             self._know(report=self._fingerprint(new))
-            self.expect_report(path)
+            self.expect_report(str(file))
             os.replace(new, file)
         finally:
             remove(new)

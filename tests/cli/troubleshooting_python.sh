@@ -96,6 +96,7 @@ rm lost/response.warc lostindex.parts/*[0-9a-f]
 cp wget.warc lost
 shows "a lost part" "parts are missing or damaged and can't be made anew, such as of" update lost lostindex
 
+row "\`the system hasn't given the status of the program\`"
 row "\`something else has removed\`"
 
 row "\`this is a folder\`"

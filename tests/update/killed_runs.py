@@ -1,4 +1,5 @@
 """Runs of warcdx-update that are killed at random moments, and programs whose ends the system doesn't tell."""
+import contextlib
 import os
 import pathlib
 import random
@@ -69,30 +70,27 @@ def change_some(trial: Trial, choose: random.Random, number: int) -> None:
 
 
 def programs_end_with_a_run_that_is_killed(program: pathlib.Path, folder: pathlib.Path) -> None:
-    """Nothing but the run is killed. Its programs would take a minute more, and those that they start."""
-    trial = Trial(program, folder, SLOW.replace("sleep 0.5", "sleep 60"))
+    """Nothing but the run is killed. Its programs, and the one that a program starts, would go on for longer than is waited."""
+    trial = Trial(program, folder, SLOW.replace("sleep 0.5", f"exec sleep {10 * WAIT}"))
     (trial.archives / "packed.warc.gz").write_bytes(compressed(sample("response")))
     work = trial.start("--jobs", "20")
     until("the programs", lambda: len(trial.begun) == 13)
     processes = children_of(work.pid)
     for process in tuple(processes):
-        processes += [each for each in children_of(int(process)) if name_of(each) != "sleep"]
-    expect("number of the programs", len(processes) > 12, True)
+        processes += children_of(int(process))
+    expect("number of the programs", len(processes), 14)
     work.kill()
     work.wait()
-    for process in processes:
-        until(f"the end of {process}", lambda: not os.path.exists(f"/proc/{process}"))
-    until_unlocked(trial)
-    for path in folder.glob("program"):
-        path.write_text(path.read_text().replace("sleep 60\n", ""))
-    expect("status", trial.run(), 1)
-
-
-def name_of(process: str) -> str:
     try:
-        return pathlib.Path(f"/proc/{process}/comm").read_text().strip()
-    except OSError:
-        return ""
+        for process in processes:
+            until(f"the end of {process}", lambda: not os.path.exists(f"/proc/{process}"))
+    finally:
+        for process in processes:
+            with contextlib.suppress(ProcessLookupError):
+                os.kill(int(process), signal.SIGKILL)
+    until_unlocked(trial)
+    trial.program.write_text(trial.program.read_text().replace("exec sleep", ": "))
+    expect("status", trial.run(), 1)
 
 
 def a_status_that_is_not_given_is_a_fault(program: pathlib.Path, folder: pathlib.Path) -> None:
