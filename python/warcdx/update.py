@@ -90,7 +90,7 @@ class Update:
         with self._results.locked(self._settings):
             outcome = self._run_alone(self.find(), removal)
             said = say(outcome)
-            self._results.remember({report.archive: report.message for report in outcome.faults})
+            self._results.remember({report.archive: report.message for report in outcome.faults if report.is_lasting})
         return said
 
     def find(self) -> Found:
@@ -207,10 +207,12 @@ class Update:
 
     def _make(self, workers: Workers, plan: Plan, members: Mapping[str, Any]) -> None:
         """Makes the index of all parts and its summary, or the summary alone if the index is current."""
+        made, results = self._results.made, self._results
         if self._is_made(members):
             return
-        if self._is_current() and (counts := counts_in(self._results.made_file)) is not None:
-            self._replace(counts, members)
+        if made is not None and self._is_current() and (counts := counts_in(results.made_file)) is not None:
+            summary = results.replace_summary(summary_of(counts, members))
+            results.write(results.made_file.name, made._replace(summary_file=summary).text(counts))
         else:
             self._merge(workers, plan, members)
 
@@ -225,7 +227,9 @@ class Update:
         (captures,) = workers.run_all([Task(check_index, (self._programs.plain, str(results.folder), merged))])
         if captures != counts.captures:
             raise CannotUpdate(f"the parts have {counts.captures} captures, and the index of them has {captures}")
-        self._replace(counts, members, merged)
+        index, summary = results.replace_index(merged, summary_of(counts, members))
+        made = Made(index, summary, {part.archive: part.file for part in results.log.parts.values()})
+        results.write(results.made_file.name, made.text(counts))
 
     def _expect_kept(self, plan: Plan) -> None:
         """Raises CannotUpdate if the index would lose the captures of an archive that isn't to leave it."""
@@ -233,13 +237,6 @@ class Update:
         lost = sorted((frozenset() if made is None else made.parts.keys()) - log.parts.keys() - frozenset(plan.removed))
         if lost:
             raise CannotUpdate(f"{len(lost):,} parts are missing or damaged and can't be made anew, such as of {lost[0]!a}")
-
-    def _replace(self, counts: Counts, members: Mapping[str, Any], merged: Optional[str] = None) -> None:
-        """Replaces the index, if a new one is there, and the summary, and notes of which parts the index was made."""
-        results = self._results
-        index, summary = results.replace(summary_of(counts, members), merged)
-        made = Made(index, summary, {part.archive: part.file for part in results.log.parts.values()})
-        results.write(results.made_file.name, made.text(counts))
 
     def _merge_levels(self, workers: Workers, files: list[str], output: str) -> None:
         """Merges parts, in levels if there are too many for one merge."""

@@ -1,13 +1,20 @@
 """What became of the archives in an update, and why."""
+import os
 import re
 from enum import Enum
+from errno import EACCES, EIO, ELOOP, ENAMETOOLONG, ENOENT, ENOTDIR, EPERM
 from typing import Any, NamedTuple, Optional
 
 from .update_files import CannotUpdate
 from .update_log import Part
-from .update_task import Failed
+from .update_task import FAULT, Failed
 
 FAILED = 3  # the status of an archive that can't be indexed
+# Why an archive can't be read that may not be read the next time either. Another reason may lie with the machine.
+_LASTING = frozenset(
+    ("cannot open", "Read", "not a regular file", "the name isn't UTF-8")
+    + tuple(map(os.strerror, (EACCES, EIO, ELOOP, ENAMETOOLONG, ENOENT, ENOTDIR, EPERM)))
+)
 _SAID = re.compile(r"warcdx(?:-gz)?: (?:.*): (?:fault ([0-9]+) ([A-Za-z0-9]+)|([A-Za-z0-9]+|cannot open))", re.DOTALL)
 
 
@@ -37,6 +44,11 @@ class Report(NamedTuple):
     @classmethod
     def of(cls, part: Part, action: Action) -> "Report":
         return cls(part.archive, action, part.status, message_of(part.said), part.identity.size, part.captures)
+
+    @property
+    def is_lasting(self) -> bool:
+        """Whether the archive is at fault, and not the machine, as without memory or room on a disk."""
+        return self.status == FAULT or self.status == FAILED and self.message in _LASTING
 
     def values(self) -> dict[str, Any]:
         return {**self._asdict(), "action": self.action.value}

@@ -69,7 +69,8 @@ class Results:
         self.made: Optional[Made] = None
         self.faults: dict[str, str] = {}  # by archives and folders, those that a run has reported
         self.is_replaced = False  # whether this run has replaced the index
-        self._token = ""
+        self._report: Optional[pathlib.Path] = None
+        self._token = self._token_beside = ""
         self._known: dict[str, list[Fingerprint]] = {}
 
     @property
@@ -83,16 +84,17 @@ class Results:
 
     @property
     def _new_index(self) -> pathlib.Path:
-        return self.index.with_name(f".warcdx-{self._token}.index")
+        return self.index.with_name(f".warcdx-{self._token_beside}.index")
 
     @property
     def _new_summary(self) -> pathlib.Path:
-        return self.index.with_name(f".warcdx-{self._token}.summary")
+        return self.index.with_name(f".warcdx-{self._token_beside}.summary")
 
     @property
     def own(self) -> list[str]:
-        """The real paths of the files beside the folder of parts."""
-        return [str(path) for path in (self.index, self.summary, self._new_index, self._new_summary)]
+        """The real paths of the files that the command makes beside the folder of parts."""
+        report = () if self._report is None else (self._report,)
+        return [str(path) for path in (self.index, self.summary, self._new_index, self._new_summary, *report)]
 
     def look(self, settings: Settings) -> None:
         """Looks at what earlier runs have left. Raises OSError, Failed, or CannotUpdate if a run with these settings may not change it."""
@@ -112,8 +114,9 @@ class Results:
 
     def _take(self, found: Marked, settings: Settings) -> None:
         settings.expect(found.settings)
+        self._token = found.token
         # A copy of the folder beside another index has the same word.
-        self._token = hashlib.sha256(os.fsencode(f"{found.token}/{self.index}")).hexdigest()[:32]
+        self._token_beside = hashlib.sha256(os.fsencode(f"{found.token}/{self.index}")).hexdigest()[:32]
         self._known = {kind: _fingerprints_of(known) for kind, known in self._read("results.json").items()}
 
     def load(self) -> None:
@@ -220,39 +223,42 @@ class Results:
         os.replace(path, self.folder / part.file)
         self.log.add(part)
 
-    def replace(self, summary: str, merged: Optional[str] = None) -> tuple[Fingerprint, Fingerprint]:
-        """Replaces the summary, and the index by a file of the folder if one is named. Returns what they are known by.
-
-        Raises OSError or CannotUpdate.
-        """
-        if merged is not None:
-            move(self.folder / merged, self._new_index)
-            _take_mode(self._new_index, self.index)
-        write_new(self._new_summary, [summary, "\n"])
-        index = self._fingerprint(self.index if merged is None else self._new_index)
-        known = self._fingerprint(self._new_summary)
-        self._know(index=index, summary=known)
-        self.expect_replaceable()
-        if merged is not None:
-            os.replace(self._new_index, self.index)
-            self.is_replaced = True
-        os.replace(self._new_summary, self.summary)
-        write_to_disk(self.index.parent)
+    def replace_index(self, merged: str, summary: str) -> tuple[Fingerprint, Fingerprint]:
+        """Replaces the index by a file of the folder, and the summary. Returns what they are known by. Raises OSError or CannotUpdate."""
+        move(self.folder / merged, self._new_index)
+        _take_mode(self._new_index, self.index)
+        index = self._know("index", self._new_index)
+        known = self._write_summary(summary)
+        os.replace(self._new_index, self.index)
+        self.is_replaced = True
+        self._replace_summary()
         return index, known
 
-    @staticmethod
-    def _fingerprint(path: pathlib.Path) -> Fingerprint:
+    def replace_summary(self, summary: str) -> Fingerprint:
+        """Replaces the summary alone. Returns what it is known by. Raises OSError or CannotUpdate."""
+        known = self._write_summary(summary)
+        self._replace_summary()
+        return known
+
+    def _write_summary(self, summary: str) -> Fingerprint:
+        write_new(self._new_summary, [summary, "\n"])
+        known = self._know("summary", self._new_summary)
+        self.expect_replaceable()
+        return known
+
+    def _replace_summary(self) -> None:
+        os.replace(self._new_summary, self.summary)
+        write_to_disk(self.index.parent)
+
+    def _know(self, kind: str, path: pathlib.Path) -> Fingerprint:
+        """Writes to the disk what a file of a run is known by, before it has its name, and returns that."""
         found = Fingerprint.of(path)
         if found is None:
             raise CannotUpdate(f"something else has removed {path}")
-        return found
-
-    def _know(self, **made: Fingerprint) -> None:
-        """Writes to the disk what a run makes, before it has its name."""
-        for kind, fingerprint in made.items():
-            earlier = [each for each in self._known.get(kind, ()) if each != fingerprint]
-            self._known[kind] = [*earlier, fingerprint][-_MOST_KNOWN:]
+        self._known[kind] = [*self._known.get(kind, ()), found][-_MOST_KNOWN:]
         self.write("results.json", json.dumps(self._known))
+        write_to_disk(self.folder)
+        return found
 
     def write(self, name: str, text: str) -> None:
         """Writes a file of the folder. It has its name once it is whole and on the disk."""
@@ -263,7 +269,7 @@ class Results:
         """Raises CannotUpdate or OSError if a report can't be written to a file. One is replaced that is empty, or a report of a run."""
         if _is_stream(path):
             return
-        file = pathlib.Path(os.path.realpath(path))
+        self._report = file = pathlib.Path(os.path.realpath(path))
         found = Fingerprint.of(file)
         if found is None and not os.access(file.parent, os.W_OK | os.X_OK):
             write_to_disk(file.parent)  # raises the error of a folder that isn't there
@@ -280,12 +286,12 @@ class Results:
             self._replace_report(pathlib.Path(os.path.realpath(path)), lines)
 
     def _replace_report(self, file: pathlib.Path, lines: Iterable[str]) -> None:
-        new = file.with_name(f".warcdx-{self._token}.report")
+        new = file.with_name(f".warcdx-{self._token_beside}.report")
         remove(new)  # of a run that was ended as it wrote it
         try:
             write_new(new, lines)
             _take_mode(new, file)
-            self._know(report=self._fingerprint(new))
+            self._know("report", new)
             self.expect_report(str(file))
             os.replace(new, file)
         finally:

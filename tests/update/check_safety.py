@@ -18,6 +18,7 @@ import killed_runs
 import large_states
 import leaving_runs
 import neighbours
+import replaced_results
 import reported_faults
 from update_trial import Differs
 
@@ -30,7 +31,7 @@ def main() -> int:
     add_program(parser)
     given = parser.parse_args()
     program = find_program(given.program)
-    for module in (neighbours, leaving_runs, reported_faults, killed_runs, large_states):
+    for module in (neighbours, replaced_results, leaving_runs, reported_faults, killed_runs, large_states):
         for case in module.CASES:
             title = case.__name__.replace("_", " ")
             if case is killed_runs.runs_that_are_killed_lose_nothing:

@@ -92,6 +92,24 @@ def a_fault_is_reported_once(program: pathlib.Path, folder: pathlib.Path) -> Non
     ends("a new damaged archive", 1, said=("newer",))
 
 
+def what_the_machine_lacks_is_reported_each_time(program: pathlib.Path, folder: pathlib.Path) -> None:
+    """It isn't a fault of the archive. Here the program for one archive ends as it does without memory, or can't be started."""
+    trial = Trial(program, folder)
+    usual = trial.program.read_text()
+    for said in ("echo warcdx: Memory >&2; exit 3", "kill -9 $$", "exit 7"):
+        trial.remove_results()
+        trial.program.write_text(usual.replace("#!/bin/sh\n", f'#!/bin/sh\ncase $2 in */05.warc) {said};; esac\n'))
+        for _ in range(2):
+            expect(f"status with {said}", trial.run_usually("--quiet"), 3)
+            expect("lines", [line.split(":")[1] for line in trial.said if "07" not in line], [" 05.warc"])
+    missing = ("--warcdx-gz", folder / "missing")
+    (trial.archives / "packed.warc.gz").write_bytes(compressed(sample("response")))
+    trial.program.write_text(usual)
+    for _ in range(2):
+        expect("status without a program", trial.run_usually("--quiet", *missing), 3)
+        expect("lines", [line for line in trial.said if "07" not in line and "No such file" in line] != [], True)
+
+
 def a_fault_is_known_once_it_was_said(program: pathlib.Path, folder: pathlib.Path) -> None:
     """A run that is killed before it says a fault leaves it to the next one."""
     trial = Trial(program, folder, SLOW)
@@ -223,6 +241,7 @@ os.replace = replace
 CASES = (
     a_restored_archive_is_read_again,
     a_fault_is_reported_once,
+    what_the_machine_lacks_is_reported_each_time,
     a_fault_is_known_once_it_was_said,
     what_is_passed_over_is_said,
     a_folder_with_many_files_below_is_not_read_to_its_end,
