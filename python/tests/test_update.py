@@ -8,6 +8,7 @@ import tempfile
 import unittest
 from collections import Counter
 from collections.abc import Sequence
+from typing import Any, NoReturn
 from unittest import mock
 
 from warcdx import update, update_command, update_counts, update_task
@@ -156,12 +157,29 @@ class SettingsTest(unittest.TestCase):
         self.assertEqual(Settings.of("/", False, ["metadata", "response"]).words, ("--types", "response,metadata"))
 
 
+class Lookups(dict[str, str]):
+    """Counts how often a value is looked up, and has no other use."""
+
+    number = 0
+
+    def get(self, key: str, default: Any = None) -> Any:
+        self.number += 1
+        return super().get(key, default)
+
+    def __iter__(self) -> NoReturn:
+        raise AssertionError
+
+    items = keys = values = __iter__  # type: ignore[assignment]
+
+
 class FolderTest(unittest.TestCase):
     def test_the_reason_of_a_folder_is_found_by_the_name(self) -> None:
-        """The work depends on the name alone, and not on the number of folders."""
-        found = Found([], {"a": "why", "b/c": "because"}, Passed())
+        """As many folders are looked up as the name has, however many can't be read."""
+        folders = Lookups({"a": "why", "b/c": "because", **{f"z{number}": "" for number in range(1000)}})
+        found = Found([], folders, Passed())
         names = ("a/x", "a/b/x", "b/c/d/x", "b/x", "ab/x", "a", "b/cd/x")
         self.assertEqual([found.reason_for(name) for name in names], ["why", "why", "because", None, None, None, None])
+        self.assertEqual(folders.number, 8)
 
     def test_endings(self) -> None:
         passed = Passed()

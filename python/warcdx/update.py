@@ -4,7 +4,7 @@ import os
 from collections.abc import Callable, Iterator, Mapping, Sequence
 from typing import Any, NamedTuple, Optional, Protocol, TypeVar, Union
 
-from .update_counts import Counts, Made, counts_in, counts_of, has_members, summary_of
+from .update_counts import Made, counts_in, counts_of, has_members, summary_of
 from .update_files import CannotUpdate, Fingerprint
 from .update_folder import Archive, Found, Passed, find_archives
 from .update_reports import FAILED, Action, Report, damage_of, reason_of

@@ -36,7 +36,7 @@ from .errors import Error
 from .program import find_program
 from .update import Outcome, Programs, Progress, Update
 from .update_files import CannotUpdate
-from .update_reports import Action, Report
+from .update_reports import Action
 from .update_results import Locked, Removal, Results
 from .update_settings import TYPES, Settings
 from .update_task import Failed
@@ -59,7 +59,7 @@ def read_arguments(arguments: Optional[Sequence[str]]) -> argparse.Namespace:
         "--remove",
         type=removal_of,
         default=Removal(0, False),
-        metavar="N|N%%|all",
+        metavar="N|N%|all",
         help="let archives that are gone leave the index, if they are at most this number or share of its archives",
     )
     workers.add_argument(

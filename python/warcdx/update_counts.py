@@ -4,12 +4,11 @@ import json
 import os
 import pathlib
 from collections import Counter
-from collections.abc import Mapping, Sequence
+from collections.abc import Mapping
 from operator import index
 from typing import Any, NamedTuple, Optional
 
 from .update_files import Fingerprint, open_regular, read
-from .update_log import Part
 from .update_task import COUNTED, Failed, most_of
 
 MOST = 100  # values of a field in a summary

@@ -3,7 +3,7 @@ import os
 import re
 from enum import Enum
 from errno import EACCES, EIO, ELOOP, ENAMETOOLONG, ENOENT, ENOTDIR, EPERM
-from typing import Any, NamedTuple, Optional
+from typing import Any, NamedTuple
 
 from .update_files import CannotUpdate
 from .update_log import Part

@@ -1,7 +1,6 @@
 """Runs of warcdx-update that signals end, and runs without room on the disk, streams, memory, an archive or whole files."""
 import os
 import pathlib
-import shutil
 import signal
 import subprocess
 import time
