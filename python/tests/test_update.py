@@ -62,6 +62,14 @@ class LogTest(unittest.TestCase):
         self.assertEqual(self.read(absent="e").parts, {"a.warc": self.part("a.warc", "d")})
         self.assertEqual(self.read(absent="e").files, {"d" * 32, "e" * 32})
 
+    def test_a_log_that_is_written_anew_names_the_other_parts(self) -> None:
+        self.add(self.started(), self.part("a.warc", "d"), self.part("b.warc", "e"))
+        log = self.read()
+        log.start(["b.warc"], self.path.with_name("new"))
+        self.add(log, self.part("c.warc", "f"))
+        self.assertEqual(self.read().parts, {"b.warc": self.part("b.warc", "e"), "c.warc": self.part("c.warc", "f")})
+        self.assertEqual(self.read().files, {"d" * 32, "e" * 32, "f" * 32})
+
     def test_lines_that_are_not_whole_are_left_out(self) -> None:
         self.add(self.started(), self.part("a.warc"), self.part("b.warc"))
         whole = json.dumps(self.part("c.warc"))
@@ -74,9 +82,10 @@ class LogTest(unittest.TestCase):
     def test_a_log_that_names_other_files_is_refused(self) -> None:
         self.add(self.started(), self.part("a.warc"))
         for name in ("/home/me/conf", "../" + "f" * 32, "F" * 32, "f" * 31, "f" * 33, "f" * 32 + "\n", "", "lock"):
-            self.path.write_text(HEAD + json.dumps(self.part("a.warc")._replace(file=name)) + "\n")
-            with self.assertRaises(CannotUpdate):
-                self.read()
+            for line in (self.part("a.warc")._replace(file=name), name):
+                self.path.write_text(HEAD + json.dumps(line) + "\n")
+                with self.assertRaises(CannotUpdate):
+                    self.read()
 
     def test_a_log_of_another_form_is_refused(self) -> None:
         for head in (HEAD.replace("2", "3"), "", "\n"):

@@ -4,7 +4,7 @@ import os
 import pathlib
 import re
 from collections.abc import Callable, Iterable, Iterator
-from typing import IO, Any, NamedTuple, Optional
+from typing import IO, Any, NamedTuple, Optional, Union
 
 from .update_files import CannotUpdate, read, write_new
 from .update_task import state_of
@@ -72,16 +72,22 @@ class Log:
         if head + "\n" != HEAD:
             raise CannotUpdate(f"{self._path} isn't a log that this version has written")
         for part in _parts_of(lines):
-            if not PART.fullmatch(part.file):
-                raise CannotUpdate(f"{self._path} names a file that isn't a part: {part.file!a}")
-            self.files.add(part.file)
-            if is_there(part):
+            file = part if isinstance(part, str) else part.file
+            if not PART.fullmatch(file):
+                raise CannotUpdate(f"{self._path} names a file that isn't a part: {file!a}")
+            self.files.add(file)
+            if isinstance(part, Part) and is_there(part):
                 self.parts[part.archive] = part
 
     def start(self, archives: Iterable[str], new: pathlib.Path) -> None:
-        """Writes the log anew, with the parts of these archives alone, first under the name `new`."""
-        self.parts = {archive: self.parts[archive] for archive in archives}
-        write_new(new, [HEAD, *map(_line_of, self.parts.values())])
+        """Writes the log anew, with the parts of these archives alone, first under the name `new`.
+
+        The names of the other parts stay in it, so that they are removed by a later run if this one is killed.
+        """
+        kept = {archive: self.parts[archive] for archive in archives}
+        others = [part.file for archive, part in self.parts.items() if archive not in kept]
+        self.parts = kept
+        write_new(new, [HEAD, *map(_line_of, kept.values()), *map(_line_of, others)])
         os.replace(new, self._path)
         self._file = open(os.open(self._path, os.O_WRONLY | os.O_APPEND | os.O_NOFOLLOW | os.O_CLOEXEC), "ab")
 
@@ -102,16 +108,18 @@ class Log:
             self._file.close()
 
 
-def _line_of(part: Part) -> str:
+def _line_of(part: Union[Part, str]) -> str:
     return json.dumps(part) + "\n"
 
 
-def _parts_of(lines: Iterable[str]) -> Iterator[Part]:
+def _parts_of(lines: Iterable[str]) -> Iterator[Union[Part, str]]:
+    """Yields the parts of lines, and the names of the parts that are no more those of an archive."""
     for line in lines:
         try:
-            part = _part_of(json.loads(line))
+            values = json.loads(line)
         except (RecursionError, ValueError):
             continue
+        part = values if isinstance(values, str) else _part_of(values)
         if part is not None:
             yield part
 

@@ -10,6 +10,27 @@ from update_trial import (
     SLOW, WAIT, Trial, children_of, compressed, copy_sample, expect, index_of_folders, kill_group, sample, until, until_unlocked
 )
 
+# A module that Python loads first. It kills the process before the call of the number KILL_AT that changes a name, or writes one to the disk.
+KILLING = """
+import itertools
+import os
+import signal
+
+numbers = itertools.count(1)
+
+
+def killing(usual):
+    def call(*arguments, **options):
+        if next(numbers) == int(os.environ["KILL_AT"]):
+            os.kill(os.getpid(), signal.SIGKILL)
+        return usual(*arguments, **options)
+
+    return call
+
+
+for name in ("chmod", "fsync", "mkdir", "remove", "rename", "replace", "rmdir"):
+    setattr(os, name, killing(getattr(os, name)))
+"""
 KILLS = 50
 FIRST = 12  # kills of runs that begin without results
 LONGEST = 0.9  # seconds until a run is killed
@@ -69,6 +90,40 @@ def change_some(trial: Trial, choose: random.Random, number: int) -> None:
                 copy_sample("response", path)
 
 
+def a_run_may_be_killed_before_each_change(program: pathlib.Path, folder: pathlib.Path) -> None:
+    """That is before each call that changes a name, or writes one to the disk: of a first run, and of one that has all to do."""
+    trial = Trial(program, folder)
+    for path in trial.archives.glob("*.warc"):
+        path.unlink()
+    modules = folder / "modules"
+    modules.mkdir()
+    (modules / "sitecustomize.py").write_text(KILLING)
+    words = ("--remove", "all", "--jobs", "1")
+    for is_first in (True, False):
+        status, number = -signal.SIGKILL, 0
+        while status == -signal.SIGKILL:
+            number += 1
+            trial.remove_results()
+            (trial.archives / "new.warc").unlink(missing_ok=True)
+            copy_sample("response", trial.archives / "05.warc")
+            copy_sample("wget", trial.archives / "old.warc")
+            if not is_first:
+                expect("status of a first run", trial.run(*words), 0)
+            before = trial.index.read_bytes() if trial.index.exists() else None
+            (trial.archives / "old.warc").unlink()
+            copy_sample("wget", trial.archives / "05.warc")
+            copy_sample("response", trial.archives / "new.warc")
+            wanted = trial.index_of("*.warc")
+            environment = {**os.environ, "PYTHONPATH": str(modules), "KILL_AT": str(number)}
+            status = trial.start(*words, env=environment).wait(WAIT)
+            found = trial.index.read_bytes() if trial.index.exists() else None
+            expect(f"index after a kill before call {number}", found in (before, wanted), True)
+            expect(f"status after a kill before call {number}", trial.run(*words), 0)
+            trial.expect_results({}, wanted)
+        expect("status of a run that isn't killed", status, 0)
+        expect("number of the calls", number > 20, True)
+
+
 def programs_end_with_a_run_that_is_killed(program: pathlib.Path, folder: pathlib.Path) -> None:
     """Nothing but the run is killed. Its programs, and the one that a program starts, would go on for longer than is waited."""
     trial = Trial(program, folder, SLOW.replace("sleep 0.5", f"exec sleep {10 * WAIT}"))
@@ -112,6 +167,7 @@ def a_status_that_is_not_given_is_a_fault(program: pathlib.Path, folder: pathlib
 
 CASES = (
     runs_that_are_killed_lose_nothing,
+    a_run_may_be_killed_before_each_change,
     programs_end_with_a_run_that_is_killed,
     a_status_that_is_not_given_is_a_fault,
 )

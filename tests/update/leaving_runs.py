@@ -229,7 +229,7 @@ def a_part_that_is_missing_loses_no_captures(program: pathlib.Path, folder: path
     trial = Trial(program, folder)
     expect("status", trial.run(), 1)
     log = trial.parts / "log.jsonl"
-    lines = {json.loads(line)[0]: json.loads(line)[4] for line in log.read_text().splitlines()[1:]}
+    lines = {part[0]: part[4] for part in trial.logged}
     kept = folder / "02.warc"
     os.rename(trial.archives / "02.warc", kept)
     copy_sample("wget", trial.archives / "new.warc")

@@ -162,9 +162,14 @@ class Trial:
     def done(self) -> set[str]:
         """The archives that the log has."""
         with contextlib.suppress(FileNotFoundError):
-            lines = (self.parts / "log.jsonl").read_text().split("\n")[1:-1]
-            return {json.loads(line)[0] for line in lines}
+            return {part[0] for part in self.logged}
         return set()
+
+    @property
+    def logged(self) -> list[list[Any]]:
+        """The parts that the log has."""
+        lines = (self.parts / "log.jsonl").read_text().split("\n")[1:-1]
+        return [part for part in map(json.loads, lines) if isinstance(part, list)]
 
     @property
     def reports(self) -> dict[str, dict[str, Any]]:
@@ -182,8 +187,7 @@ class Trial:
 
     def expect_parts(self) -> None:
         """Expects the files of the parts in the log, and no others."""
-        lines = (self.parts / "log.jsonl").read_text().split("\n")[1:-1]
-        current = {json.loads(line)[0]: json.loads(line)[4] for line in lines}.values()
+        current = {part[0]: part[4] for part in self.logged}.values()
         wanted = {"lock", "settings.json", "log.jsonl", "made.jsonl", "results.json", *current, *(f"{file}.json" for file in current)}
         expect("files", {path.name for path in self.parts.iterdir()} - {"faults.json"}, wanted)
         beside = {path.name for path in self.index.parent.iterdir() if path.name.startswith((".", self.index.name))}
