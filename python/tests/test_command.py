@@ -75,6 +75,28 @@ class ByteCode(Case):
             shutil.rmtree(self.folder / str(folder).lstrip("/"))
 
 
+GROWTH = """
+import sys, site
+def memory(name):
+    return next(int(line.split()[1]) for line in open("/proc/self/status") if line.startswith(name)) << 10
+before = memory("VmSize:")
+site.main()
+__import__(sys.argv[1])
+print(memory("VmPeak:") - before)
+"""
+
+
+class Modules(unittest.TestCase):
+    def test_the_memory_of_the_modules_is_had_before_they_are_loaded(self) -> None:
+        folder = pathlib.Path(__file__).resolve().parents[1]
+        environment = {**os.environ, "PYTHONPATH": str(folder)}
+        for path in (folder / "bin").iterdir():
+            command = ("/usr/bin/python3", "-S", "-c", GROWTH, f"warcdx.{path.name[7:]}_command")
+            grown = int(subprocess.run(command, env=environment, stdout=subprocess.PIPE, check=True).stdout)
+            stated = next(line for line in path.read_text().splitlines() if line.startswith("MODULES = "))
+            self.assertLessEqual(grown, eval(stated.partition("=")[2]), path.name)
+
+
 @unittest.skipUnless(hasattr(dis, "_parse_exception_table"), "this Python has no tables of exception handlers")
 class Memory(unittest.TestCase):
     def test_no_block_is_far_from_the_start_of_its_function(self) -> None:
