@@ -14,7 +14,8 @@ from collections.abc import Callable, Iterator, Sequence
 from types import FrameType, TracebackType
 from typing import IO, BinaryIO, NoReturn, Optional
 
-from .streams import OutputError, open_closed_streams, replace_standard_streams, write_error
+from .streams import OutputError as OutputError
+from .streams import open_closed_streams, replace_standard_streams, write_error
 
 USAGE = 2  # the exit status after a usage error
 FAILED = 3  # the exit status if a file, memory, the output or a program failed
