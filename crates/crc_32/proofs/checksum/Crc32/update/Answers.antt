@@ -1,4 +1,4 @@
-use Rattle.std.proofs.Common.{◌≡◌, ◌++◌, ℕ, List, ◌-◌, ◌^◌, bit_xor, ap, sym, ◌∙◌}
+use Rattle.std.proofs.Common.{ℕ, ◌-◌, ◌^◌, bit_xor, ap, sym, ◌∙◌}
 use Rattle.crc_32.specs.Crc.{crc_register}
 use Rattle.crc_32.proofs.CrcLemmas.{crc_register-append, turned}
 use Rattle.crc_32.proofs.checksum.Crc32.update.Goals as goal
