@@ -1,4 +1,4 @@
-use deflate_codes::{BadCodes, code_ranges, fill_table, symbol_at};
+use deflate_codes::{Codes, code_ranges, fill_table, symbol_at};
 
 /// The lengths of the example of RFC 1951, 3.2.2: the symbols A to H.
 const LENGTHS: [u8; 8] = [3, 3, 3, 3, 3, 2, 4, 4];
@@ -9,11 +9,12 @@ const BITS: [u32; 8] = [0b010, 0b110, 0b001, 0b101, 0b011, 0b00, 0b0111, 0b1111]
 #[test]
 fn the_example_of_the_standard_has_its_codes(rt: HostRuntime) {
     let ranges = code_ranges(&LENGTHS).expect(&rt, "the lengths give codes");
+    let codes = Codes { lengths: &LENGTHS, ranges: &ranges };
     assert_eq!(rt; ranges.first[2], 0);
     assert_eq!(rt; ranges.first[3], 2);
     assert_eq!(rt; ranges.first[4], 14);
     for (symbol, bits) in BITS.iter().enumerate() {
-        assert_eq!(rt; symbol_at(&LENGTHS, &ranges, *bits), Some(symbol));
+        assert_eq!(rt; symbol_at(codes, *bits), Some(symbol));
     }
 }
 
@@ -31,7 +32,7 @@ fn a_table_has_each_code_with_any_bits_behind_it(rt: HostRuntime) {
         7 << 16,
     ];
     let mut table = [9u32; 8];
-    fill_table(&LENGTHS, &symbols, &ranges, 3, &mut table);
+    fill_table(codes, &symbols, 3, &mut table);
     assert_eq!(rt;
         table,
         [
@@ -63,6 +64,7 @@ fn a_code_is_used_up_or_alone_or_none(rt: HostRuntime) {
 fn no_symbol_is_behind_a_single_code(rt: HostRuntime) {
     let lengths = [0, 1];
     let ranges = code_ranges(&lengths).expect(&rt, "one code");
-    assert_eq!(rt; symbol_at(&lengths, &ranges, 0b10), Some(1));
-    assert_eq!(rt; symbol_at(&lengths, &ranges, 0b01), None);
+    let codes = Codes { lengths: &lengths, ranges: &ranges };
+    assert_eq!(rt; symbol_at(codes, 0b10), Some(1));
+    assert_eq!(rt; symbol_at(codes, 0b01), None);
 }
