@@ -9,7 +9,10 @@ const BITS: [u32; 8] = [0b010, 0b110, 0b001, 0b101, 0b011, 0b00, 0b0111, 0b1111]
 #[test]
 fn the_example_of_the_standard_has_its_codes(rt: HostRuntime) {
     let ranges = code_ranges(&LENGTHS).expect(&rt, "the lengths give codes");
-    let codes = Codes { lengths: &LENGTHS, ranges: &ranges };
+    let codes = Codes {
+        lengths: &LENGTHS,
+        ranges: &ranges,
+    };
     assert_eq!(rt; ranges.first[2], 0);
     assert_eq!(rt; ranges.first[3], 2);
     assert_eq!(rt; ranges.first[4], 14);
@@ -64,7 +67,10 @@ fn a_code_is_used_up_or_alone_or_none(rt: HostRuntime) {
 fn no_symbol_is_behind_a_single_code(rt: HostRuntime) {
     let lengths = [0, 1];
     let ranges = code_ranges(&lengths).expect(&rt, "one code");
-    let codes = Codes { lengths: &lengths, ranges: &ranges };
+    let codes = Codes {
+        lengths: &lengths,
+        ranges: &ranges,
+    };
     assert_eq!(rt; symbol_at(codes, 0b10), Some(1));
     assert_eq!(rt; symbol_at(codes, 0b01), None);
 }
