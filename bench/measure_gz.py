@@ -4,18 +4,15 @@
 usage: measure_gz.py [PROGRAM]
 
 Makes compressed archives in a temporary folder (TMPDIR, 100 MB) and prints a table. The exit status is 0, or 1 if a goal is missed.
-Without libdeflate (Debian's package libdeflate0) its figures are 1.
 """
 import gzip
 import os
 import pathlib
 import random
-import resource
 import subprocess
 import sys
 import tempfile
 import time
-from collections.abc import Sequence
 
 from measuring import Figure, read_program, report
 
@@ -45,14 +42,6 @@ def seconds(command: str) -> float:
     return time.perf_counter() - start
 
 
-def processor_seconds(command: Sequence[str], by: str) -> float:
-    """Returns the processor time of the command and of the programs that it runs, with libdeflate (`yes`) or without (`no`)."""
-    start = resource.getrusage(resource.RUSAGE_CHILDREN)
-    subprocess.run(command, check=True, stdout=subprocess.DEVNULL, env={**os.environ, "WARCDX_LIBDEFLATE": by})
-    end = resource.getrusage(resource.RUSAGE_CHILDREN)
-    return end.ru_utime + end.ru_stime - start.ru_utime - start.ru_stime
-
-
 def memory(program: pathlib.Path, archive: pathlib.Path) -> float:
     """Returns the peak memory of the command and of the programs that it runs, the largest of them, in MB."""
     process = os.fork()
@@ -78,10 +67,6 @@ def main() -> int:
             times[f"gunzip | index -, {title}"], times[f"warcdx-gz index, {title}"] = map(min, zip(*rounds))
             ratio = times[f"warcdx-gz index, {title}"] / times[f"gunzip | index -, {title}"]
             figures.append(Figure(f"over gunzip | index -, {title}", ratio, goal))
-            command = (str(COMMAND), "--warcdx", str(program), "index", str(archive))
-            rounds = [(processor_seconds(command, "yes"), processor_seconds(command, "no")) for _ in range(ROUNDS)]
-            with_library, without = map(min, zip(*rounds))
-            figures.append(Figure(f"libdeflate over zlib, {title}", with_library / without, 0.8))
             figures.append(Figure(f"memory, {title}", memory(program, archive), 60, "MB"))
         return report(times, figures, ROUNDS, "elapsed")
 

@@ -10,7 +10,6 @@ import re
 import subprocess
 import sys
 import unittest
-import unittest.mock
 from collections.abc import Iterator, Sequence
 
 from warcdx import Archive, Fault, ProgramEnded, faults
@@ -139,11 +138,6 @@ class Good(Gz):
         self.expect([output.getvalue(), *packed(resource(2))], 2, "")
 
 
-@unittest.mock.patch("warcdx.members.library", lambda: None)
-class GoodByZlib(Good):
-    pass
-
-
 class Bad(Gz):
     def test_a_member_with_several_records_is_refused(self) -> None:
         one, two = packed(resource(1), resource(2))
@@ -249,11 +243,6 @@ class Bad(Gz):
             archive = CompressedArchive(self.folder / "a.warc.gz", program=self.script(text))
             read = {"list": lambda: list(archive.list()), "index": lambda: archive.index(io.BytesIO())}[command]
             self.assertEqual(-9, self.raises(ProgramEnded, read).status)
-
-
-@unittest.mock.patch("warcdx.members.library", lambda: None)
-class BadByZlib(Bad):
-    pass
 
 
 class Commands(Gz):

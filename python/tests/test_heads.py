@@ -12,7 +12,7 @@ from warcdx import Archive, Fault, NoArchive, faults
 from warcdx.collection import Collection
 from warcdx.gz import CompressedArchive
 from warcdx.member_records import with_head
-from warcdx.members import MOST_AT_ONCE, MOST_TEXT, Members
+from warcdx.members import MOST_TEXT, PIECE, Members
 from warcdx.query import Capture
 from warcdx.record import HEAD_LIMIT, Head, _length_in, _unfolded, fields_named, size_of_record
 from warcdx.record_digests import _READ, RecordCheck
@@ -94,16 +94,10 @@ class Heads(Case):
         (self.folder / "a").write_bytes(b"\x1f\x8b\x08\0\0\0\0\0\0\xff" + blocks + end)
         with open(self.folder / "a", "rb", buffering=0) as file:
             members = Members(file, "a")
-            members._decompressor = None
             with unittest.mock.patch("warcdx.member_records.size_of_record", wraps=size_of_record) as measure:
                 piece, size = with_head(members, next(iter(members)))
         self.assertEqual((len(text), 1), (size, measure.call_count))
         self.assertLess(len(piece), len(text))
-
-
-@unittest.mock.patch("warcdx.members.library", lambda: None)
-class HeadsByZlib(Heads):
-    pass
 
 
 class Lengths(unittest.TestCase):
@@ -184,7 +178,7 @@ class Costs(Case):
             with unittest.mock.patch.object(archive, "open", counting):
                 fault = self.raises(faults.SeveralRecords, calls.get(read, lambda: list(getattr(archive, read)())))
             self.assertEqual(0, fault.offset)
-            self.assertLess(taken, 2 * (MOST_TEXT + 2 * MOST_AT_ONCE + (1 << 20)), read)
+            self.assertLess(taken, 2 * (MOST_TEXT + 2 * PIECE + (1 << 20)), read)
 
 
 class Counting(io.RawIOBase):

@@ -1,25 +1,42 @@
-"""Members of compressed archives, which are unpacked in two ways."""
+"""Members of compressed archives."""
 import collections
 import gzip
 import random
 import tempfile
 import unittest
-import unittest.mock
 import zlib
 
 from warcdx import Fault
-from warcdx.libdeflate import Decompressor, Room, library
-from warcdx.members import MAGIC, MOST_AT_ONCE, MOST_TEXT, Member, Members
+from warcdx.members import MAGIC, MOST_TEXT, PIECE, Member, Members
 
 
-@unittest.skipUnless(library(), "libdeflate is missing")
-class TwoWays(unittest.TestCase):
-    """libdeflate and zlib find the same members, texts and faults."""
+def plain_reading(text: bytes) -> tuple[bytes, list[Member], str]:
+    """Returns what `Reading.read` does, each member from all bytes behind the one before."""
+    found, members, start = b"", [], 0
+    while start < len(text):
+        stream = zlib.decompressobj(16 + zlib.MAX_WBITS)
+        if not text.startswith(MAGIC, start):
+            cause = "CutMember" if text[start:] == MAGIC[:1] else "NoMember" if start else "NotCompressed"
+            return found, members, f"{cause} {start}"
+        try:
+            part = stream.decompress(text[start:])
+        except zlib.error:
+            return found, members, f"BadMember {start}"
+        if not stream.eof:
+            return found, members, f"CutMember {start}"
+        end = len(text) - len(stream.unused_data)
+        members += [Member(len(found), len(found) + len(part), start, end)] * bool(part)
+        found, start = found + part, end
+    return found, members, ""
 
-    def read(self, text: bytes, by: object) -> tuple[bytes, list[Member], str]:
-        """Returns what the members hold, where they are, and the fault with its offset."""
-        found, members = bytearray(), []
-        with tempfile.TemporaryFile(buffering=0) as file, unittest.mock.patch("warcdx.members.library", lambda: by):
+
+class Reading(unittest.TestCase):
+    """The members, texts and faults are those of a plain reading."""
+
+    def read(self, text: bytes) -> tuple[bytes, list[Member], str]:
+        """Returns what the members hold up to the one at fault, where they are, and the fault with its offset."""
+        found, members = b"", []
+        with tempfile.TemporaryFile(buffering=0) as file:
             file.write(text)
             source = Members(file, "a")
             try:
@@ -29,12 +46,12 @@ class TwoWays(unittest.TestCase):
                     members.append(source.member)
                     self.assertEqual(source.member.end - source.member.start, len(part))
             except Fault as fault:
-                return bytes(found), members, f"{fault.name} {fault.offset}"
-        return bytes(found), members, ""
+                return found, members, f"{fault.name} {fault.offset}"
+        return found, members, ""
 
     def expect_same(self, text: bytes) -> tuple[bytes, list[Member], str]:
-        found = self.read(text, library())
-        self.assertEqual(self.read(text, None), found)
+        found = self.read(text)
+        self.assertEqual(plain_reading(text), found)
         return found
 
     def test_damaged_members(self) -> None:
@@ -64,22 +81,25 @@ class TwoWays(unittest.TestCase):
                 self.assertEqual("" if is_good else "BadMember 0", found[2], flags)
 
     def test_long_members(self) -> None:
-        """Packed and unpacked sizes below and above what is unpacked at once, and what is held at first."""
+        """Packed and unpacked sizes below and above what is read and unpacked at once."""
         noise = random.Random(4).randbytes(3 << 20)
-        for size in (60_000, 200_000, MOST_AT_ONCE - 3000, MOST_AT_ONCE - 340, MOST_AT_ONCE, 3 << 20):
-            for count in (1, 3):
-                texts = [noise[:size], b"a", noise[size // 2 :][:size]] * count
-                self.assertEqual((b"".join(texts), ""), self.expect_same(b"".join(map(gzip.compress, texts)))[::2])
+        for size in (60_000, PIECE - 340, PIECE - 100, PIECE - 18, PIECE, PIECE + 1, 3 << 20):
+            texts = [noise[:size], b"a", noise[size // 2 :][:size]] * 2
+            self.assertEqual((b"".join(texts), ""), self.expect_same(b"".join(map(gzip.compress, texts)))[::2])
         for size in (MOST_TEXT - 1, MOST_TEXT, MOST_TEXT + 1, 50_000_000):
             self.assertEqual(2 * size, len(self.expect_same(gzip.compress(bytes(size)) * 2)[0]))
 
-    def test_a_decompressor_is_freed(self) -> None:
-        found = unittest.mock.Mock(wraps=library())
-        decompressor = Decompressor(found, Room(100), 100)
-        del decompressor
-        self.assertEqual(1, found.libdeflate_free_decompressor.call_count)
-        found.libdeflate_alloc_decompressor = lambda: None
-        self.assertRaises(MemoryError, Decompressor, found, Room(100), 100)
+    def test_codes_that_leave_bits_unused(self) -> None:
+        """zlib refuses them, whatever checksum stands behind."""
+        lengths = {0: 2, 1: 2, 18: 2}  # of the codes of lengths: a quarter of the bits begins with none
+        order = (16, 17, 18, 0, 8, 7, 9, 6, 10, 5, 11, 4, 12, 3, 13, 2, 14, 1)
+        fields = ((1, 1), (2, 2), (0, 5), (0, 5), (len(order) - 4, 4), *((lengths.get(symbol, 0), 3) for symbol in order))
+        bits = "".join(format(value, f"0{size}b")[::-1] for value, size in fields)
+        packed = int(bits[::-1], 2).to_bytes(len(bits) // 8 + 1, "little")
+        member = gzip.compress(b"")[:10] + packed + bytes(300)
+        with self.assertRaisesRegex(zlib.error, "invalid code lengths set"):
+            zlib.decompress(member, 16 + zlib.MAX_WBITS)
+        self.assertEqual((b"", [], "BadMember 0"), self.expect_same(member))
 
 
 if __name__ == "__main__":

@@ -5,13 +5,10 @@ from typing import IO, NamedTuple, Optional, Union
 
 from .errors import Fault
 from .faults import BadMember, CutMember, NoMember, NotCompressed, Read
-from .libdeflate import Decompressor, Room, library
 
 MAGIC = b"\x1f\x8b"
-MOST_AT_ONCE = 1 << 20  # packed bytes of a member that libdeflate may unpack
-MOST_TEXT = 1 << 22  # bytes that such a member may hold
-PIECE = 1 << 18  # bytes that zlib unpacks at once, and that are read at once
-_LEAST = 1 << 16  # packed bytes that are held at first
+MOST_TEXT = 1 << 22  # bytes behind a record that are unpacked to see what else its member holds
+PIECE = 1 << 18  # bytes that are unpacked at once, and packed ones that are read at once
 _STEP = 1 << 15  # packed bytes that zlib gets at once. It copies what follows a member, so more would cost time.
 _GZIP = 16 + zlib.MAX_WBITS
 
@@ -42,44 +39,25 @@ class Members:
         self.position = position  # of the next byte of the file that isn't unpacked yet
         self._file = file
         self._name = name
-        self._packed = Room(MOST_AT_ONCE + PIECE)
+        self._packed = memoryview(bytearray(PIECE))
         self._from = self._to = 0  # the bytes of it that aren't unpacked yet
         self._is_at_end = False
-        self._least = _LEAST
         file.seek(position)
-        found = library()
-        self._decompressor = None if found is None else Decompressor(found, self._packed, MOST_TEXT)
         self._stream: Optional["zlib._Decompress"] = None
 
     def __iter__(self) -> Iterator[Piece]:
-        """Yields the first piece of each member. It is good until the next one is begun, after `rest` was read.
-
-        What all members need is done here, as calls take as long as the unpacking of a small member.
-        """
-        decompressor = self._decompressor
+        """Yields the first piece of each member. The next one is begun after `rest` was read."""
         while True:
-            if self._to - self._from < self._least:
-                self._fill(self._least)
+            self._fill(len(MAGIC))
             self.packed_start, self.start = self.position, self.size
             self.is_whole = self._from == self._to
             if self.is_whole:
                 return
-            text = None if decompressor is None else decompressor.unpack(self._from, self._to)
-            if text is not None:
-                assert decompressor is not None
-                packed_size = decompressor.packed_size.value
-                self._from += packed_size
-                self.position += packed_size
-                self.size += len(text)
-                self.is_whole = True
-                if text:
-                    yield text
-            elif not self._needs_more():
-                self._check_magic()
-                self._stream = zlib.decompressobj(_GZIP)
-                for piece in self.rest():
-                    yield piece
-                    break
+            self._check_magic()
+            self._stream = zlib.decompressobj(_GZIP)
+            for piece in self.rest():
+                yield piece
+                break
 
     def rest(self) -> Iterator[Piece]:
         """Yields what follows in the member, in pieces. It ends at once if the member was read to its end."""
@@ -87,7 +65,7 @@ class Members:
             assert self._stream is not None
             if self._from == self._to and not self._fill(1):
                 raise self._at(CutMember)
-            given = bytes(self._packed.view[self._from : min(self._to, self._from + _STEP)])
+            given = self._packed[self._from : min(self._to, self._from + _STEP)]
             try:
                 piece = self._stream.decompress(given, PIECE)
             except zlib.error:
@@ -116,17 +94,9 @@ class Members:
             yield piece
             yield from self.rest()
 
-    def _needs_more(self) -> bool:
-        """Returns whether the member may be unpacked at once after more of the file was read, and reads it."""
-        held = self._to - self._from
-        if self._decompressor is None or held >= MOST_AT_ONCE or self._is_at_end:
-            return False
-        self._least = min(2 * held, MOST_AT_ONCE)
-        return self._fill(self._least)
-
     def _check_magic(self) -> None:
         """Raises NoMember or NotCompressed if no member begins here."""
-        first = self._packed.bytes[self._from : min(self._to, self._from + len(MAGIC))]
+        first = bytes(self._packed[self._from : min(self._to, self._from + len(MAGIC))])
         if first == MAGIC:
             return
         if first == MAGIC[:1] and self._is_at_end:
@@ -140,18 +110,18 @@ class Members:
 
     def _fill(self, least: int) -> bool:
         """Reads until at least `least` bytes are held, or the file ends. Returns whether any are."""
-        view, held = self._packed.view, self._to - self._from
-        if self._from:
-            view[:held] = view[self._from : self._to]
+        held = self._to - self._from
+        if held < least and self._from:
+            self._packed[:held] = bytes(self._packed[self._from : self._to])
             self._from, self._to = 0, held
-        while self._to < least and not self._is_at_end:
+        while self._to - self._from < least and not self._is_at_end:
             try:
-                count = self._file.readinto(view[self._to : self._to + PIECE])  # type: ignore[attr-defined]
+                count = self._file.readinto(self._packed[self._to :])  # type: ignore[attr-defined]
             except OSError:
                 raise self._at(Read) from None
             self._is_at_end = not count
             self._to += count
-        return self._to > 0
+        return self._to > self._from
 
     def _at(self, kind: type[Fault]) -> Fault:
         return kind(kind.__name__, self._name, self.packed_start)

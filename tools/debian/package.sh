@@ -82,7 +82,7 @@ Architecture: amd64
 Maintainer: $(maintainer)
 Installed-Size: $(installed_size "$1")
 Depends: adduser, libc6 (>= $(c_library_version "$1/usr/bin/warcdx"))
-Recommends: libdeflate0, python3 (>= 3.9)
+Recommends: python3 (>= 3.9)
 Suggests: gunicorn, nginx-light, python3-distributed, python3-matplotlib, python3-prometheus-client, python3-regex, python3-tqdm, python3-werkzeug
 Section: web
 Priority: optional
