@@ -13,11 +13,11 @@ from unittest import mock
 
 from warcdx import update, update_command, update_counts, update_task
 from warcdx.update import Outcome, Programs, Update
-from warcdx.update_counts import Counts
-from warcdx.update_files import CannotUpdate
+from warcdx.update_counts import Counts, Made
+from warcdx.update_files import CannotUpdate, Fingerprint
 from warcdx.update_folder import Found, Passed
 from warcdx.update_log import HEAD, Identity, Log, Part
-from warcdx.update_reports import message_of
+from warcdx.update_reports import damage_of, message_of
 from warcdx.update_results import Removal, Results
 from warcdx.update_settings import Settings, mark, marked
 from warcdx.update_task import Failed, _add_captures, _add_hosts, _whole_lines, index_archive
@@ -75,7 +75,10 @@ class LogTest(unittest.TestCase):
         whole = json.dumps(self.part("c.warc"))
         with open(self.path, "a") as file:
             file.write('["c.warc", [1, 2, 3, 4]]\n\0\0\n7\nnull\n["d.warc", [1,\n' + "[" * 100_000 + "\n")
-            for old, new in (("1, 2,", "1, 2.5,"), ('"c.warc"', "7"), (", 4, 5]", ', "4", 5]'), ("[1, 2, 3, 4]", "[1, 2, 3]")):
+            changes = (("1, 2,", "1, 2.5,"), ('"c.warc"', "7"), (", 4, 5]", ', "4", 5]'), ("[1, 2, 3, 4]", "[1, 2, 3]"))
+            others = (("4], 1,", "4], 7,"), ("4], 1,", "4], true,"), (", 4, 5]", f", 4, {10**4000}]"), ("[1,", f"[{1 << 65},"))
+            for old, new in changes + others:
+                self.assertIn(old, whole)
                 file.write(whole.replace(old, new) + "\n")
         self.assertEqual(set(self.read().parts), {"a.warc", "b.warc"})
 
@@ -105,6 +108,28 @@ class CountsTest(unittest.TestCase):
         self.assertEqual((counts.captures, dict(counts.fields["hosts"])), (8, {"a": 1, "b": 6, "c": 1}))
         counts.remove(self.counts(3, a=1, b=2))
         self.assertEqual((counts.captures, dict(counts.fields["hosts"])), (5, {"b": 4, "c": 1}))
+
+    def test_counts_that_no_run_has_written_are_not_taken(self) -> None:
+        for captures in (-1, 1 << 63, 1.5, "1", None):
+            with self.subTest(captures=captures), self.assertRaises((TypeError, ValueError)):
+                self.counts(captures)  # type: ignore[arg-type]
+            with self.subTest(host=captures), self.assertRaises((TypeError, ValueError)):
+                self.counts(1, a=captures)  # type: ignore[arg-type]
+
+    def test_what_an_index_was_made_of_is_known_only_if_it_is_of_parts(self) -> None:
+        path = self.folder() / "made.jsonl"
+        made = Made(Fingerprint(1, 2, 3), Fingerprint(4, 5, 6), {"a.warc": "f" * 32})
+        path.write_text(made.text(self.counts(3, a=1)))
+        self.assertEqual(Made.read(path), made)
+        for parts in ({"a.warc": 5}, {"a.warc": None}, {"a.warc": ["f" * 32]}, {"a.warc": "../x"}, [["a.warc", "f" * 32]], [], 7, None):
+            with self.subTest(parts=parts):
+                path.write_text(json.dumps({**made._asdict(), "parts": parts}) + "\n")
+                self.assertIsNone(Made.read(path))
+
+    def folder(self) -> pathlib.Path:
+        folder = tempfile.TemporaryDirectory()
+        self.addCleanup(folder.cleanup)
+        return pathlib.Path(folder.name)
 
     def test_the_hosts_of_keys(self) -> None:
         hosts = {
@@ -234,6 +259,9 @@ class TaskTest(unittest.TestCase):
         self.assertEqual(message_of("warcdx-gz: ./a.warc.gz: fault 0 BadMember"), "fault 0 BadMember")
         self.assertEqual(message_of("warcdx: ./a.warc: cannot open"), "cannot open")
         self.assertEqual(message_of("warcdx: Memory"), "warcdx: Memory")
+        for offset, known in (("9" * 19, int("9" * 19)), ("9" * 5000, None)):
+            part = Part("a", Identity(1, 2, 3, 4), 1, f"warcdx: ./a: fault {offset} Version", "f" * 32, 4, 5)
+            self.assertEqual(damage_of(part)["offset"], known)
 
 
 class LevelsTest(unittest.TestCase):

@@ -9,10 +9,12 @@ from operator import index
 from typing import Any, NamedTuple, Optional
 
 from .update_files import Fingerprint, open_regular, read
+from .update_log import PART
 from .update_task import COUNTED, Failed, most_of
 
 MOST = 100  # values of a field in a summary
 MOST_KEPT = 100_000  # values of a field that are counted
+_MOST_CAPTURES = 1 << 63
 # What a file raises that doesn't have the expected values.
 _DAMAGE = (AttributeError, KeyError, RecursionError, TypeError, ValueError)
 
@@ -30,8 +32,8 @@ class Counts:
     @classmethod
     def of(cls, values: dict[str, Any]) -> "Counts":
         counts = cls()
-        counts.captures = index(values["captures"])
-        counts.fields = {name: Counter({value: index(count) for value, count in values[name].items()}) for name in COUNTED}
+        counts.captures = _count_of(values["captures"])
+        counts.fields = {name: Counter({value: _count_of(count) for value, count in values[name].items()}) for name in COUNTED}
         return counts
 
     def values(self) -> dict[str, Any]:
@@ -56,12 +58,19 @@ class Counts:
                 if counter[value] <= 0:
                     del counter[value]
 
-
     def limit(self, times: int = 1) -> None:
         """Keeps the values with the most captures of each field that has more values than are kept, or more than this many times."""
         for name, counter in self.fields.items():
             if len(counter) > times * MOST_KEPT:
                 self.fields[name] = most_of(counter, MOST_KEPT)
+
+
+def _count_of(value: Any) -> int:
+    """Returns a count of captures. Raises TypeError or ValueError of a value that can't be one."""
+    count = index(value)
+    if not 0 <= count < _MOST_CAPTURES:
+        raise ValueError(count)
+    return count
 
 
 class Made(NamedTuple):
@@ -77,7 +86,8 @@ class Made(NamedTuple):
         try:
             with open_regular(path) as file:
                 values = json.loads(file.readline())
-            return cls(Fingerprint(*values["index_file"]), Fingerprint(*values["summary_file"]), dict(values["parts"]))
+            made = cls(Fingerprint(*values["index_file"]), Fingerprint(*values["summary_file"]), values["parts"])
+            return made if all(map(PART.fullmatch, made.parts.values())) else None
         except (FileNotFoundError, Failed, *_DAMAGE):
             return None
 

@@ -7,7 +7,7 @@ from collections.abc import Callable, Iterable, Iterator
 from typing import IO, Any, NamedTuple, Optional, Union
 
 from .update_files import CannotUpdate, read, write_new
-from .update_task import state_of
+from .update_task import FAULT, state_of
 
 HEAD = json.dumps({"form": 2}) + "\n"  # the first line
 PART = re.compile("[0-9a-f]{32}")  # the name of a part
@@ -130,8 +130,13 @@ def _part_of(values: Any) -> Optional[Part]:
         return None
     archive, identity, status, said, file, size, captures = values
     numbers = (*identity, status, size, captures)
-    if len(identity) != len(Identity._fields) or not all(type(number) is int for number in numbers):
+    if len(identity) != len(Identity._fields) or not all(map(_is_number, numbers)) or status not in (0, FAULT):
         return None
     if not all(isinstance(text, str) for text in (archive, said, file)):
         return None
     return Part(archive, Identity(*identity), status, said, file, size, captures)
+
+
+def _is_number(value: Any) -> bool:
+    """Returns whether a value is an integer as the system has them."""
+    return type(value) is int and value.bit_length() <= 64

@@ -15,7 +15,7 @@ _LASTING = frozenset(
     ("cannot open", "Read", "not a regular file", "the name isn't UTF-8")
     + tuple(map(os.strerror, (EACCES, EIO, ELOOP, ENAMETOOLONG, ENOENT, ENOTDIR, EPERM)))
 )
-_SAID = re.compile(r"warcdx(?:-gz)?: (?:.*): (?:fault ([0-9]+) ([A-Za-z0-9]+)|([A-Za-z0-9]+|cannot open))", re.DOTALL)
+_SAID = re.compile(r"warcdx(?:-gz)?: (?:.*): (?:fault ([0-9]{1,19}) ([A-Za-z0-9]+)|([A-Za-z0-9]+|cannot open))", re.DOTALL)
 
 
 class Action(Enum):
