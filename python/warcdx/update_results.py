@@ -9,7 +9,7 @@ import pathlib
 import re
 import stat
 from collections.abc import Iterable, Iterator
-from typing import Any, NamedTuple, Optional
+from typing import IO, Any, NamedTuple, Optional
 
 from .command import deferred
 from .update_counts import Made
@@ -270,6 +270,8 @@ class Results:
         if _is_stream(path):
             return
         self._report = file = pathlib.Path(os.path.realpath(path))
+        if file in (self.index, self.summary) or is_in(file, self.folder):
+            raise CannotUpdate(f"{path} belongs to the index, and can't be its report")
         found = Fingerprint.of(file)
         if found is None and not os.access(file.parent, os.W_OK | os.X_OK):
             write_to_disk(file.parent)  # raises the error of a folder that isn't there
@@ -280,7 +282,7 @@ class Results:
     def write_report(self, path: str, lines: Iterable[str]) -> None:
         """Writes a report to a stream, or replaces a file by it. Raises as `expect_report` does."""
         if _is_stream(path):
-            with open(path, "w", encoding="ascii") as stream:
+            with _open_stream(path) as stream:
                 stream.writelines(lines)
         else:
             self._replace_report(pathlib.Path(os.path.realpath(path)), lines)
@@ -331,12 +333,24 @@ def _fingerprints_of(values: Any) -> list[Fingerprint]:
 
 
 def _is_stream(path: str) -> bool:
-    """Returns whether a file is there in which nothing is to be kept, such as a pipe."""
+    """Returns whether a file is there in which nothing is replaced, such as a pipe, or one that has the output of this command."""
     try:
         mode = os.stat(path).st_mode
     except FileNotFoundError:
         return False
-    return not stat.S_ISREG(mode) and not stat.S_ISDIR(mode)
+    return _output_of(path) is not None if stat.S_ISREG(mode) else not stat.S_ISDIR(mode)
+
+
+def _output_of(path: str) -> Optional[int]:
+    """Returns the number of the standard output or error of this command if it is a file, and a path leads to it, such as /dev/stdout."""
+    found = os.stat(path)
+    return next((number for number in (1, 2) if os.path.samestat(found, os.fstat(number))), None)
+
+
+def _open_stream(path: str) -> IO[str]:
+    """Opens a stream. The command's own output is continued, also if it is a file, in which others may have written."""
+    output = _output_of(path)
+    return open(path, "w", encoding="ascii") if output is None else open(output, "w", encoding="ascii", closefd=False)
 
 
 def _remove_unfinished(folder: pathlib.Path) -> None:

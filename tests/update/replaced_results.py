@@ -71,7 +71,8 @@ def a_report_replaces_no_other_file(program: pathlib.Path, folder: pathlib.Path)
     noted.write_bytes(report.read_bytes() + b"notes\n")
     link.symlink_to(copied)
     (folder / "planted").write_bytes(b'{"archive": "mine"}\n')
-    others = (trial.index, trial.archives / "05.warc", copied, noted, link, folder / "planted", trial.parts / "log.jsonl", folder)
+    parts = (trial.parts / name for name in ("log.jsonl", "lock", "planted"))  # the second one is empty, the third isn't there
+    others = (trial.index, trial.archives / "05.warc", copied, noted, link, folder / "planted", *parts, folder)
     for path in others:
         with unchanged(folder / "archives", trial.parts):
             before = path.read_bytes() if path.is_file() else b""
@@ -91,9 +92,31 @@ def a_report_replaces_no_other_file(program: pathlib.Path, folder: pathlib.Path)
     shell = ("bash", "-c", '"$@" --report >(cat > "$0") archives all.cdxj; wait $!', folder / "piped", *trial.usual_command("--quiet")[:-2])
     subprocess.run(shell, cwd=folder, check=True)
     expect("report by a pipe", (folder / "piped").read_bytes() == report.read_bytes(), True)
+    at_first = folder / "first.cdxj"
+    expect("status with the index", updated(trial, trial.archives, at_first, "--report", at_first), 3)
+    expect("index", at_first.exists(), False)
     missing = folder / "missing/report"
     expect("status without the folder", updated(trial, trial.archives, trial.index, "--report", missing), 3)
     expect("what is left", [path.name for path in folder.iterdir() if path.name.startswith(".")], [])
+
+
+def a_report_continues_the_output_of_the_command(program: pathlib.Path, folder: pathlib.Path) -> None:
+    """Standard output or error may be a file in which others write, before and after."""
+    trial = Trial(program, folder)
+    expect("status", trial.run(), 1)
+    report = (folder / "report").read_bytes().replace(b'"indexed"', b'"unchanged"')
+    log = folder / "log"
+    for path in ("/dev/stdout", "/dev/fd/1", "/proc/self/fd/1", log, "/dev/stderr"):
+        for before in (b"", b"before\n"):
+            with open(log, "wb", buffering=0) as output:
+                output.write(before)
+                command = trial.usual_command("--quiet", "--report", path)
+                expect(f"status with {path}", subprocess.run(command, stdout=output, stderr=output, timeout=WAIT).returncode, 0)
+                output.write(b"after\n")
+            expect(f"what {path} has", log.read_bytes(), before + report + b"after\n")
+    with open("/dev/full", "wb") as full:
+        command = trial.usual_command("--quiet", "--report", "/dev/stdout")
+        expect("status with a full disk", subprocess.run(command, stdout=full, stderr=full, timeout=WAIT).returncode, 3)
 
 
 def names_in_the_log_are_those_of_parts(program: pathlib.Path, folder: pathlib.Path) -> None:
@@ -150,6 +173,7 @@ def a_folder_that_may_not_be_written_is_reported(program: pathlib.Path, folder: 
 CASES = (
     only_results_of_runs_are_replaced,
     a_report_replaces_no_other_file,
+    a_report_continues_the_output_of_the_command,
     names_in_the_log_are_those_of_parts,
     a_folder_that_may_not_be_written_is_reported,
 )
