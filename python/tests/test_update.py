@@ -12,7 +12,7 @@ from typing import Any, NoReturn
 from unittest import mock
 
 from warcdx import update, update_command, update_counts, update_task
-from warcdx.update import Outcome, Programs, Update
+from warcdx.update import Outcome, Programs, Said, Update
 from warcdx.update_counts import Counts, Made
 from warcdx.update_files import CannotUpdate, Fingerprint
 from warcdx.update_folder import Found, Passed
@@ -285,7 +285,9 @@ class LevelsTest(unittest.TestCase):
             with mock.patch.object(update, "merge_parts", merge):
                 settings = Settings.of(str(folder), False, None)
                 work = Update(settings, results, programs, lambda: local_workers(2), update_command.Silent())
-                outcome: Outcome = work.run(Removal(0, False), lambda found: found)
+                outcomes: list[Outcome] = []
+                self.assertEqual(work.run(Removal(0, False), lambda found: outcomes.append(found) or Said(5, [])), 5)
+            (outcome,) = outcomes
             self.assertIsNone(outcome.failure)
             wanted = subprocess.run((PROGRAM, "index", *sorted(folder.iterdir())), stdout=subprocess.PIPE, check=True).stdout
             self.assertEqual(results.index.read_bytes(), wanted)

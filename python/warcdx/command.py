@@ -324,9 +324,9 @@ def reason_of(error: Exception) -> str:
     return f"{printable(os.fsdecode(error.filename))}: {error.strerror}"
 
 
-def report(name: str, text: str) -> None:
-    """Writes a line to standard error, if that is possible."""
-    write_error(_message(name, text))
+def report(name: str, text: str) -> bool:
+    """Writes a line to standard error, if that is possible, and returns whether it was."""
+    return write_error(_message(name, text))
 
 
 def _message(name: str, text: str) -> bytes:

@@ -93,14 +93,15 @@ def replace_standard_streams() -> io.BufferedWriter:
     return output
 
 
-def write_error(data: "bytes | bytearray | memoryview") -> None:
-    """Writes to standard error, if that is possible."""
+def write_error(data: "bytes | bytearray | memoryview") -> bool:
+    """Writes to standard error, if that is possible, and returns whether it was."""
     with contextlib.suppress(OSError, MemoryError):
         while data:
             try:
                 data = data[os.write(2, data) :]
             except BlockingIOError:
                 _wait_for(2, select.POLLOUT)
+    return not data
 
 
 class _Whole(io.BufferedIOBase):

@@ -2,7 +2,7 @@
 import contextlib
 import os
 from collections.abc import Callable, Iterator, Mapping, Sequence
-from typing import Any, NamedTuple, Optional, Protocol, TypeVar, Union
+from typing import Any, NamedTuple, Optional, Protocol, Union
 
 from .update_counts import Made, counts_in, counts_of, has_members, summary_of
 from .update_files import CannotUpdate, Fingerprint
@@ -15,7 +15,6 @@ from .update_workers import Task, Workers
 
 MOST = 1000  # parts that are merged at a time: the program takes 1,024, and many systems as many open files
 GONE = "it is gone"  # what a report says of an archive whose captures the index keeps all the same
-Value = TypeVar("Value")
 
 
 class Programs(NamedTuple):
@@ -50,6 +49,13 @@ class Outcome(NamedTuple):
         return self.known.get(report.archive) == report.message
 
 
+class Said(NamedTuple):
+    """What was said of an outcome: the exit status, and the faults that who runs the command knows of now."""
+
+    status: int
+    faults: list[Report]
+
+
 class Progress(Protocol):
     """Shows how far the work is."""
 
@@ -80,18 +86,18 @@ class Update:
         self._open_workers = open_workers
         self._progress = progress
 
-    def run(self, removal: Removal, say: Callable[[Outcome], Value]) -> Value:
+    def run(self, removal: Removal, say: Callable[[Outcome], Said]) -> int:
         """Indexes what is new, makes the index of all, and says what was done. The faults that were said are known to the next run.
 
+        Returns the exit status.
         Raises Locked, CannotUpdate, Failed or OSError if nothing was indexed.
         """
         self._results.look(self._settings)
         os.scandir(self._settings.folder).close()  # so that nothing is made for a folder that can't be read
         with self._results.locked(self._settings):
-            outcome = self._run_alone(self.find(), removal)
-            said = say(outcome)
-            self._results.remember({report.archive: report.message for report in outcome.faults if report.is_lasting})
-        return said
+            said = say(self._run_alone(self.find(), removal))
+            self._results.remember({report.archive: report.message for report in said.faults if report.is_lasting})
+        return said.status
 
     def find(self) -> Found:
         """Returns the archives. Raises OSError if the folder can't be read."""

@@ -34,9 +34,9 @@ from . import __version__, update_task
 from .command import FAILED, Parser, printable, report, run
 from .errors import Error
 from .program import find_program
-from .update import Outcome, Programs, Progress, Update
+from .update import Outcome, Programs, Progress, Said, Update
 from .update_files import CannotUpdate
-from .update_reports import Action
+from .update_reports import Action, Report
 from .update_results import Locked, Removal, Results
 from .update_settings import TYPES, Settings
 from .update_task import Failed
@@ -219,12 +219,12 @@ def update(given: argparse.Namespace, output: BinaryIO) -> int:
     return work.run(given.remove, functools.partial(say_and_report, given, results))
 
 
-def say_and_report(given: argparse.Namespace, results: Results, outcome: Outcome) -> int:
-    """Says what was done, writes the report on it, and returns the exit status."""
-    status = say(given, outcome)
+def say_and_report(given: argparse.Namespace, results: Results, outcome: Outcome) -> Said:
+    """Says what was done, and writes the report on it."""
+    said = say(given, outcome)
     if given.report:
         results.write_report(given.report, (json.dumps(each.values()) + "\n" for each in outcome.reports))
-    return status
+    return said
 
 
 def workers_of(given: argparse.Namespace) -> Callable[[], contextlib.AbstractContextManager[Workers]]:
@@ -233,11 +233,20 @@ def workers_of(given: argparse.Namespace) -> Callable[[], contextlib.AbstractCon
     return functools.partial(local_workers, given.jobs)
 
 
-def say(given: argparse.Namespace, outcome: Outcome) -> int:
-    """Reports what was done, and returns the exit status."""
+def say(given: argparse.Namespace, outcome: Outcome) -> Said:
+    """Reports the faults that are to be said, and what was done. A fault that standard error doesn't take isn't said."""
     faults = outcome.faults if given.all_faults else [each for each in outcome.faults if not outcome.is_known(each)]
-    for each in faults:
-        report(NAME, f"{printable(each.archive)}: {printable(each.message)}{CONSEQUENCES.get(each.action, '')}")
+    lost = {each.archive for each in faults if not report(NAME, line_of(each))}
+    status = say_result(given, outcome, faults)
+    return Said(status, [each for each in outcome.faults if each.archive not in lost])
+
+
+def line_of(fault: Report) -> str:
+    return f"{printable(fault.archive)}: {printable(fault.message)}{CONSEQUENCES.get(fault.action, '')}"
+
+
+def say_result(given: argparse.Namespace, outcome: Outcome, faults: Sequence[Report]) -> int:
+    """Reports what was done beside the faults that were said, and returns the exit status."""
     if outcome.gone:
         report(NAME, gone_line(outcome.gone))
     if outcome.failure is not None:

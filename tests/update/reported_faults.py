@@ -111,13 +111,16 @@ def what_the_machine_lacks_is_reported_each_time(program: pathlib.Path, folder: 
 
 
 def a_fault_is_known_once_it_was_said(program: pathlib.Path, folder: pathlib.Path) -> None:
-    """A run that is killed before it says a fault leaves it to the next one."""
+    """A run that is killed before it says a fault leaves it to the next one, and so does one that can't say it."""
     trial = Trial(program, folder, SLOW)
     work = trial.start("--jobs", "4")
     until("the damaged archive", lambda: "07.warc" in trial.done)
     work.send_signal(signal.SIGKILL)
     work.wait()
     until_unlocked(trial)
+    for script in ('"$@" 2> /dev/full', '"$@" 2>&-'):
+        command = ("sh", "-c", script, "sh", *trial.usual_command("--quiet"))
+        expect(f"status of {script}", subprocess.run(command, timeout=WAIT).returncode, 1)
     for status in (1, 0):
         expect("status", trial.run_usually("--quiet"), status)
         expect("lines", trial.said, ["warcdx-update: 07.warc: fault 448 ShortBlock"] * status)
