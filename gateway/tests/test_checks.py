@@ -104,6 +104,34 @@ class Changes(Checked):
         self.wait_for(lambda: not self.ask_pages(server), "it isn't used again")
         self.assertIn("an index in use was changed: replace indexes by mv", server.said.read_text())
 
+    def test_a_worker_that_had_no_request_answers_from_no_earlier_index(self) -> None:
+        """It has the files of before, and can't have those that it should, as they are changed."""
+        self.put(lines(PAGES))
+        server = self.start()
+        idle, *busy = server.workers()
+        os.kill(idle, signal.SIGSTOP)
+        self.addCleanup(self.go_on, idle, *busy)
+        self.replace(lines(PAGES, size=9))
+        self.wait_for(lambda: b"xxxxxxxxx" in server.ask(ALL).body, "the index isn't seen")
+        self.write_in_place(disorders()["reversed"])
+        self.wait_for(lambda: server.ask(ALL).status == 503, "it is used")
+        for worker in busy:
+            os.kill(worker, signal.SIGSTOP)
+        self.go_on(idle)
+        for path in (ALL, "/cdx?url=example.com/0000001"):
+            found = server.ask(path)
+            self.assertEqual(503, found.status)
+            self.assertIn("refused Changed: ", found.text)
+        self.assertEqual(503, server.ask("/health").status)
+        self.go_on(*busy)
+        self.replace(lines(PAGES))
+        self.wait_for(lambda: not self.ask_pages(server), "it doesn't answer again")
+
+    def go_on(self, *workers: int) -> None:
+        for worker in workers:
+            with contextlib.suppress(ProcessLookupError):
+                os.kill(worker, signal.SIGCONT)
+
     def test_a_change_whose_time_is_set_back_is_found(self) -> None:
         path = self.put(lines(PAGES))
         found = path.stat()

@@ -49,6 +49,8 @@ MOST_BODY = 1 << 17  # bytes of a request
 MOST_PATHS = 64  # whose rules are remembered
 HEALTH_SECONDS = 5
 LOOKS = 0.25  # seconds between two looks at the words of the master
+TRIES = 4  # to have the files of the master, in a look
+AGAIN = 0.05  # seconds after which they are tried again
 MOST_WHOLE = 1 << 16  # bytes of an answer that is made before it is sent
 
 Handler = Callable[..., WSGIApplication]  # of the gateway, a request and the values of its path
@@ -109,14 +111,21 @@ class Gateway:
         if now - self._looked < LOOKS:
             return
         self._looked = now
+        for _ in range(TRIES):  # while the master goes on to other files
+            if self._has_followed():
+                break
+            time.sleep(AGAIN)
+
+    def _has_followed(self) -> bool:
+        """Returns whether all collections have the files of the master."""
         text = self._board.read()
         if text != self._followed:
             followed = [
                 self.collections[name].follow(self._board.owner, state)
                 for name, state in json.loads(text).items()
             ]
-            if all(followed):
-                self._followed = text
+            self._followed = text if all(followed) else b""
+        return bool(self._followed) or not text
 
     def source(self, collection: Collection, client: Optional[socket.socket] = None) -> Source:
         """Returns what asks the indexes for an answer that may be wide or costly.

@@ -71,7 +71,8 @@ class Collection:
     def follow(self, process: int, state: Sequence[Any]) -> bool:
         """Goes on with the files of the master, a process, by its `state`.
 
-        Returns False if they can't be had now, because it has gone on to others.
+        Returns False if they can't be had now, because it has gone on to others, or they were
+        changed. Then the collection isn't usable: the files that it has may be much older ones.
         """
         self.is_old, is_usable, files = state
         stamp = tuple(Identity(*identity) for _, identity in files)
@@ -80,6 +81,7 @@ class Collection:
                 names = names_of(process, [file for file, _ in files])
                 self.take(Generation(names, stamp))
             except OSError:
+                self.is_usable = False
                 return False
         self.is_usable = is_usable
         return True
