@@ -17,6 +17,7 @@ from collections.abc import Sequence
 from typing import Optional
 
 from warcdx import Error, __version__, command
+from warcdx.streams import OutputError
 
 from .settings import BadSettings, CollectionSettings, Settings, checked, read_settings
 
@@ -73,7 +74,7 @@ def work(arguments: Optional[Sequence[str]]) -> int:
         packages = "Debian's packages gunicorn, python3-werkzeug, python3-prometheus-client and python3-regex"
         command.report(NAME, f"{error.name} is missing ({packages})")
         return 1
-    except command.OutputError:
+    except OutputError:
         raise
     except (BadSettings, Error, OSError, OverflowError) as error:
         command.report(NAME, command.printable(command.reason_of(error)))
