@@ -13,9 +13,9 @@ fn the_example_of_the_standard_has_its_codes(rt: HostRuntime) {
         lengths: &LENGTHS,
         ranges: &ranges,
     };
-    assert_eq!(rt; ranges.first[2], 0);
-    assert_eq!(rt; ranges.first[3], 2);
-    assert_eq!(rt; ranges.first[4], 14);
+    assert!(rt; ranges.first[2] == 0);
+    assert!(rt; ranges.first[3] == 2);
+    assert!(rt; ranges.first[4] == 14);
     for (symbol, bits) in BITS.iter().enumerate() {
         assert_eq!(rt; symbol_at(codes, *bits), Some(symbol));
     }
@@ -35,6 +35,10 @@ fn a_table_has_each_code_with_any_bits_behind_it(rt: HostRuntime) {
         7 << 16,
     ];
     let mut table = [9u32; 8];
+    let codes = Codes {
+        lengths: &LENGTHS,
+        ranges: &ranges,
+    };
     fill_table(codes, &symbols, 3, &mut table);
     assert_eq!(rt;
         table,
