@@ -5,10 +5,13 @@ import os
 import pathlib
 import subprocess
 import sys
+import tempfile
 import time
 import unittest
+import unittest.mock
 from typing import IO, Any
 
+from warcdx import command
 from warcdx.cdx import write_cdx
 from warcdx.gz import CompressedArchive
 from warcdx.merging import merge
@@ -35,6 +38,22 @@ class Pipes(Case):
                     done = subprocess.run(("sh", "-c", shell), cwd=self.folder, capture_output=True, timeout=WAIT)
                     self.assertEqual((3, b""), (done.returncode, done.stdout), (size, shell))
                     self.assertIn(b"warcdx-gz: File too large\n", done.stderr, (size, shell))
+
+    def test_no_signal_comes_between_the_file_of_a_copy_and_the_removal_of_its_name(self) -> None:
+        """The first temporary file of a process has a name for a moment."""
+        deferrals = []
+
+        def making(**options: Any) -> IO[bytes]:
+            deferrals.append(command._signals._deferrals)
+            return usual(**options)
+
+        usual = tempfile.TemporaryFile
+        os.mkfifo(self.folder / "pipe")
+        (self.folder / "a.warc.gz").write_bytes(packed(resource(1))[0])
+        with subprocess.Popen(("cp", "a.warc.gz", "pipe"), cwd=self.folder):
+            with unittest.mock.patch("tempfile.TemporaryFile", making), command._signals.raising():
+                CompressedArchive(self.folder / "pipe", program=PROGRAM).open().close()
+        self.assertEqual([1], deferrals)
 
 
 class Limits(Case):

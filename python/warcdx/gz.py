@@ -16,7 +16,7 @@ from collections.abc import Iterator
 from typing import IO, NoReturn, Optional, Union
 
 from .archive import Archive, Listed, Verified
-from .command import memory_file, temporary_file
+from .command import deferred, memory_file, temporary_file
 from .errors import Fault, fault
 from .faults import BadName, CannotOpen, Closing, NoMember, NoRecord, NotCompressed, Read
 from .faults import SeveralMembers, SeveralRecords, ShortBlock, ShortHead
@@ -184,7 +184,8 @@ class CompressedArchive:
         if file.seekable():
             return file
         with file:
-            copy = tempfile.TemporaryFile(buffering=0)
+            with deferred():  # it has a name for a moment if it is the first one of the process
+                copy = tempfile.TemporaryFile(buffering=0)
             try:
                 shutil.copyfileobj(file, whole(copy))
                 copy.seek(0)

@@ -48,6 +48,9 @@ shows "a folder as index" "isn't a regular file, and isn't replaced" update fold
 row "\`as its report, and it isn't replaced\`"
 shows "another report" "as its report, and it isn't replaced" update --report text folder reported
 
+row "\`belongs to the index, and can't be its report\`"
+shows "the index as report" "belongs to the index, and can't be its report" update --report reported folder reported
+
 row "\`archives are gone, the first of them\`, \`is gone; the index keeps its captures\`"
 mkdir leaving
 cp folder/*.warc leaving

@@ -139,11 +139,14 @@ def counts_that_are_damaged_are_made_anew(program: pathlib.Path, folder: pathlib
 def a_report_replaces_no_other_file(program: pathlib.Path, folder: pathlib.Path) -> None:
     trial = Trial(program, folder)
     expect("status", trial.run(), 1)
-    for path in (trial.index, trial.archives / "05.warc"):
+    archive = trial.archives / "05.warc"
+    for path, why in (
+        (trial.index, f"{trial.index} belongs to the index, and can't be its report"),
+        (archive, f"no earlier run has made {archive} as its report, and it isn't replaced"),
+    ):
         before = path.read_bytes()
         expect("status", trial.run("--report", path), 3)
-        line = f"warcdx-update: {trial.index}: no earlier run has made {path} as its report, and it isn't replaced"
-        expect("line", trial.said, [line])
+        expect("line", trial.said, [f"warcdx-update: {trial.index}: {why}"])
         expect("file", path.read_bytes() == before, True)
     expect("status over a report", trial.run(), 1)
     trial.expect_results({"07.warc": 1}, trial.wanted)

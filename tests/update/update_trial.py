@@ -160,10 +160,13 @@ class Trial:
 
     @property
     def done(self) -> set[str]:
-        """The archives that the log has."""
+        """The archives that have a part at its place, which the log has named before."""
         with contextlib.suppress(FileNotFoundError):
-            return {part[0] for part in self.logged}
+            return {part[0] for part in self.logged if self._has(part[4])}
         return set()
+
+    def _has(self, part: str) -> bool:
+        return (self.parts / part).is_file() and (self.parts / f"{part}.json").is_file()
 
     @property
     def logged(self) -> list[list[Any]]:
