@@ -43,9 +43,11 @@ expect "control flow integrity" no "$(has "$notes" 'x86 feature: .*(IBT|SHSTK)')
 
 page=$root/docs/TRUST.md
 rows=$(sed -n '/^| C function /,/^$/p' "$page")
+# shellcheck disable=SC2016  # the backquotes of the page
 unused=$(grep "the binary doesn't import them" <<< "$rows" | cut --delimiter='|' --fields=2 | grep --only-matching '`[^`]*`' | tr --delete '`')
 imported=$(awk '$7 == "UND" && $8 { sub(/@.*/, "", $8); print $8 }' <<< "$symbols")
 expect "functions that it imports, and the page says it doesn't" "" "$(grep --fixed-strings --line-regexp "$unused" <<< "$imported" || true)"
+# shellcheck disable=SC2016
 expect "functions that the page lists" "$(sed -n 's/^| `axioms=\([0-9]*\)`.*/\1/p' "$page")" \
     "$(cut --delimiter='|' --fields=2 <<< "$rows" | grep --only-matching '`[^`]*`' | grep --count --invert-match --extended-regexp '`(malloc|realloc|free)`')"
 end_script

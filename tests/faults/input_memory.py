@@ -53,7 +53,7 @@ WITH_RESUME_KEY = f"{ALL}&showResumeKey=true"
 OF_URLS = ((("check",), 4.2), (("merge",), 4.2), (("query", ALL), 5.2), (("pages", "1", ALL), 5.2), (("warcdx-cdx", "to"), 7.1))
 OF_KEYS = (
     (("check",), 3.2), (("merge",), 3.2), (("query", ALL), 5.2), (("query", f"{WITH_RESUME_KEY}&limit=1"), 8.2),
-    (("pages", "1", WITH_RESUME_KEY), 11.2), (("warcdx-cdx", "to"), 4.6),
+    (("pages", "1", WITH_RESUME_KEY), 11.2), (("warcdx-cdx", "to"), 4.9),
 )  # fmt: skip
 OF_LINES = ((("check",), 3.2), (("merge",), 3.2), (("query", ALL), 3.2))
 INPUTS = (
@@ -65,8 +65,8 @@ INPUTS = (
     Input("a line with a URL of é", f'{OBJECT}"url": "', ACCENT, AS_URL, OF_URLS),
     Input("two lines with URL keys of %", "", PERCENT, AS_KEY, OF_KEYS, 2),
     Input("two lines with URL keys of é", "", ACCENT, AS_KEY, OF_KEYS, 2),
-    Input("a line of a CDX file with %", "k 20160101000000 http://a/ ", PERCENT, AFTER_TYPE, ((("warcdx-cdx", "from"), 5.2),)),
-    Input("a line of a CDX file with é", "k 20160101000000 http://a/ ", ACCENT, AFTER_TYPE, ((("warcdx-cdx", "from"), 5.2),)),
+    Input("a line of a CDX file with %", "k 20160101000000 http://a/ ", PERCENT, AFTER_TYPE, ((("warcdx-cdx", "from"), 5.8),)),
+    Input("a line of a CDX file with é", "k 20160101000000 http://a/ ", ACCENT, AFTER_TYPE, ((("warcdx-cdx", "from"), 5.8),)),
     Input("targets of %", "", FRONT + "http://a/" + PERCENT * 1_000_000 + BACK, "", ((("index",), 2.4), (("scan", "1", ALL), 4.9))),
     Input("targets of é", "", FRONT + "http://a/" + ACCENT * 500_000 + BACK, "", ((("index",), 4.8), (("scan", "1", ALL), 9.8))),
     Input("targets of control characters", "", TARGET, "", ((("index",), 11), (("scan", "1", ALL), 22))),
