@@ -184,15 +184,7 @@ class CompressedArchive:
         if file.seekable():
             return file
         with file:
-            with deferred():  # it has a name for a moment if it is the first one of the process
-                copy = tempfile.TemporaryFile(buffering=0)
-            try:
-                shutil.copyfileobj(file, whole(copy))
-                copy.seek(0)
-            except BaseException:
-                copy.close()
-                raise
-            return copy
+            return _copy_of(file)
 
     @contextlib.contextmanager
     def _reading(self, command: str, also: Optional[IO[bytes]] = None) -> Iterator["Reading"]:
@@ -374,6 +366,19 @@ def open_archive(path: Path, *, program: str = "warcdx") -> Union[Archive, Compr
         except OSError:
             raise Read("Read", archive.path) from None
     return archive if first and MAGIC.startswith(first) else Archive(path, program=program)
+
+
+def _copy_of(pipe: IO[bytes]) -> IO[bytes]:
+    """Returns what a pipe holds, from its start on, in a file without a name."""
+    with deferred():  # it has a name for a moment if it is the first one of the process
+        copy = tempfile.TemporaryFile(buffering=0)
+    try:
+        shutil.copyfileobj(pipe, whole(copy))
+        copy.seek(0)
+    except BaseException:
+        copy.close()
+        raise
+    return copy
 
 
 def _mode_of(path: str) -> int:
