@@ -1,1 +1,3 @@
 pub mod Windows
+pub mod Header
+pub mod Reading

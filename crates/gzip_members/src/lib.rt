@@ -1,8 +1,13 @@
 //! The members of a compressed file (RFC 1952).
 #![tactic(auto)]
 
+mod checked_input;
+mod fault;
+mod header;
 mod read_ahead;
 mod window;
 
+pub use crate::checked_input::CheckedInput;
+pub use crate::fault::MemberFault;
 pub use crate::read_ahead::ReadAhead;
 pub use crate::window::Window;

@@ -1,5 +1,5 @@
 //! Bytes that were read from an input and not yet taken.
-ghost use Rattle.std.specs.Prelude.{◌≡◌, ℕ, ◌+◌, ◌-◌, ◌<◌, ◌≤◌, List, [], length, drop, take, IfOk, OnOk, OnErr, Ok};
+ghost use Rattle.std.specs.Prelude.{◌≡◌, ℕ, ◌+◌, ◌-◌, ◌<◌, ◌≤◌, List, [], length, drop, take, slice_get, IfOk, OnOk, OnErr, Ok};
 ghost use Rattle.std.specs.Io.KnownBytes.{Keeps, IsAtEnd, ReadConsumes, prepend_known};
 ghost use Rattle.devices.specs.Device.{CountsFailure};
 
@@ -55,6 +55,14 @@ impl ReadAhead {
         ensures { result.now ≡ self.now }
     {
         &self.bytes.as_slice()[self.from..self.to]
+    }
+
+    /// Returns the first byte, if any is held.
+    #[inline(always)]
+    pub fn first(&self) -> Option<u8>
+        ensures { result ≡ slice_get self.now 0 }
+    {
+        self.as_slice().first().copied()
     }
 
     /// Takes the first `count` bytes.

@@ -1,0 +1,64 @@
+//! An input that is read byte by byte, with the checksum of what was read.
+ghost use Rattle.std.specs.Prelude.{◌≡◌, ℕ, ◌+◌, ◌-◌, ◌^◌, ◌<◌, ◌≤◌, List, [], length, IfOk, IfErr, OnOk};
+ghost use Rattle.std.specs.Io.KnownBytes.{Keeps, IsAtEnd, prepend_known};
+
+use crate::fault::MemberFault;
+use crate::read_ahead::ReadAhead;
+use crc_32::Crc32;
+use devices::Input;
+
+/// The greatest offset in a file, in bytes from its start.
+const GREATEST_OFFSET: u64 = (1 << 63) - 1;
+
+/// An input of which some bytes were read ahead. It counts the bytes that were taken, and has a checksum of them.
+#[derive(Drop)]
+pub struct CheckedInput<I: Input> {
+    pub input: I,
+    pub ahead: ReadAhead,
+    pub crc: Crc32,
+    pub checksum: u32,
+    pub passed: u64,
+    pub ghost within: { passed ≤ 2 ^ 63 - 1 },
+}
+
+impl<I: Input> CheckedInput<I> {
+    ghost use Rattle.gzip_members.specs.Header.{byte_in};
+    ghost use Rattle.gzip_members.specs.Reading.{Reads, CountsMember, taken};
+
+    /// Reads once from the input if nothing is held. If nothing is held after that, the input is at its end.
+    fn fill(&mut self) -> Result<(), MemberFault>
+        ensures bytes { Keeps (prepend_known self.old.ahead (I.remaining self.old.input))
+            (prepend_known self.new.ahead (I.remaining self.new.input)) }
+        ensures end { OnOk result (self.new.ahead ≡ [] → IsAtEnd (I.remaining self.new.input)) }
+        ensures checksum { self.new.checksum ≡ self.old.checksum }
+        ensures passed { self.new.passed ≡ self.old.passed }
+        ensures fault { IfErr result (λ fault. fault ≡ MemberFault.Read) }
+        ensures failures { CountsMember result (I.failures self.old.input) (I.failures self.new.input) }
+    {
+        if self.ahead.as_slice().is_empty() {
+            self.ahead.read_on(&mut self.input)?;
+        }
+        Ok(())
+    }
+
+    /// Takes the next byte.
+    pub fn byte(&mut self) -> Result<u8, MemberFault>
+        ensures byte { Reads byte_in result (taken self.old) (taken self.new) }
+        ensures passed { OnOk result (self.new.passed ≡ self.old.passed + 1) }
+        ensures failures { CountsMember result (I.failures self.old.input) (I.failures self.new.input) }
+    {
+        self.fill()?;
+        match self.ahead.first() {
+            Some(byte) => {
+                if self.passed == GREATEST_OFFSET {
+                    return Err(MemberFault::TooFar);
+                }
+                self.passed += 1;
+                self.ahead.consume(1);
+                self.checksum = self.crc.update(self.checksum, &[byte]);
+                Ok(byte)
+            }
+            None => Err(MemberFault::Cut),
+        }
+    }
+}
