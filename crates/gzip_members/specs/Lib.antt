@@ -1,3 +1,4 @@
 pub mod Windows
 pub mod Header
 pub mod Reading
+pub mod Starts

@@ -15,7 +15,7 @@ impl<I: Input> CheckedInput<I> {
 
     /// Takes two bytes as a number, the first the least significant.
     #[tactic(auto, unfolding(crate::specs::Header::pair_in))]
-    fn pair(&mut self) -> Result<u16, MemberFault>
+    pub(crate) fn pair(&mut self) -> Result<u16, MemberFault>
         ensures pair { Reads pair_in result (taken self.old) (taken self.new) }
         ensures failures { CountsMember result (I.failures self.old.input) (I.failures self.new.input) }
     {

@@ -5,6 +5,8 @@ mod checked_input;
 mod fault;
 mod header;
 mod read_ahead;
+mod starts;
+mod trailer;
 mod window;
 
 pub use crate::checked_input::CheckedInput;
