@@ -13,7 +13,7 @@ use Rattle.std.proofs.Math.Seq.{get_or-append_right}
 use Rattle.deflate_bits.specs.Bits.{little_endian}
 use Rattle.deflate_bits.proofs.BitLemmas.{little_endian-drop}
 use Rattle.crc_32.specs.Tables.{HasEntries}
-use Rattle.crc_32.specs.Crc.{crc_bit, crc_bits, crc_register}
+use Rattle.crc_32.specs.Crc.{crc_after, crc_bit, crc_bits, crc_register}
 
 -- the four parts of two sums
 pub xor_swap : (a b c d : ℕ) → bit_xor (bit_xor a b) (bit_xor c d) ≡ bit_xor (bit_xor a c) (bit_xor b d)
@@ -252,3 +252,10 @@ one_more xs n v size has e =
             ∙ ap (λ (k : ℕ). crc_bits (8 * (k / 256 + 1)) (k % 256)) (sym same)
       ];
     }
+
+-- the checksum goes on from piece to piece
+pub crc_after-append : (checksum : ℕ) (xs ys : List ℕ) → crc_after (crc_after checksum xs) ys ≡ crc_after checksum (xs ++ ys)
+crc_after-append checksum xs ys =
+    let register = crc_register (bit_xor checksum (2 ^ 32 - 1)) xs in
+    ap (λ (v : ℕ). bit_xor (crc_register v ys) (2 ^ 32 - 1)) (turned register (crc_after checksum xs) refl)
+    ∙ ap (λ (v : ℕ). bit_xor v (2 ^ 32 - 1)) (sym (crc_register-append (bit_xor checksum (2 ^ 32 - 1)) xs ys))

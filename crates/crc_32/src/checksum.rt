@@ -1,7 +1,7 @@
 //! The checksum of a text in pieces.
 
 ghost use Rattle.std.specs.Prelude.{◌≡◌, ◌++◌, List, ℕ};
-ghost use Rattle.crc_32.specs.Crc.{crc_32};
+ghost use Rattle.crc_32.specs.Crc.{crc_32, crc_after};
 ghost use Rattle.crc_32.specs.Tables.{HasEntries};
 
 use crate::slicing::register_after;
@@ -25,7 +25,8 @@ impl Crc32 {
 
     /// Returns the checksum of a text and of `bytes` behind it. `checksum` is that of the text, and 0 of an empty one.
     pub fn update(&self, checksum: u32, bytes: &[u8]) -> u32
-        ensures { (text : List ℕ) → checksum ≡ crc_32 text → result ≡ crc_32 (text ++ bytes.now) }
+        ensures after { result ≡ crc_after checksum bytes.now }
+        ensures text { (text : List ℕ) → checksum ≡ crc_32 text → result ≡ crc_32 (text ++ bytes.now) }
     {
         register_after(&self.entries, checksum ^ u32::MAX, bytes) ^ u32::MAX
     }

@@ -1,3 +1,4 @@
 pub mod WindowLemmas
 pub mod ReadAheadLemmas
 pub mod HeaderLemmas
+pub mod UnpackLemmas

@@ -84,22 +84,3 @@ header_in bytes = do
   flags ← flags_in bytes
   fixed ← past_in 6 flags.1
   fields_in flags.0 fixed.1
-
--- four bytes as a number, the first the least significant
-unfoldable pub four_in : Parted → Result (ℕ × Parted) DeflateFault
-four_in bytes = do
-  low ← pair_in bytes
-  high ← pair_in low.1
-  Ok (low.0 + 65536 * high.0, high.1)
-
--- a number that has to be this one
-unfoldable pub same_in : ℕ → Parted → Result (Unit {0} × Parted) DeflateFault
-same_in number bytes = do
-  found ← four_in bytes
-  if found.0 == number then Ok (tt, found.1) else Err Bad
-
--- the trailer of a member: the checksum of its text, and the text's length modulo 2^32
-unfoldable pub trailer_in : ℕ → ℕ → Parted → Result (Unit {0} × Parted) DeflateFault
-trailer_in sum size bytes = do
-  checksum ← same_in sum bytes
-  same_in size checksum.1

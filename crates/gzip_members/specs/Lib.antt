@@ -2,3 +2,5 @@ pub mod Windows
 pub mod Header
 pub mod Reading
 pub mod Starts
+pub mod Members
+pub mod Unpacking

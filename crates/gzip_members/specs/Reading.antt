@@ -1,5 +1,5 @@
 -- What a call reads from the front of a file's bytes.
-use Rattle.std.specs.Prelude.{◌≡◌, ℕ, ◌+◌, ◌-◌, ◌^◌, ◌<◌, ⊤, List, length, Option, None, Some, Result, Ok, Err}
+use Rattle.std.specs.Prelude.{◌≡◌, ℕ, ◌+◌, ◌-◌, ◌^◌, ◌<◌, ⊤, List, length, drop, Option, None, Some, Result, Ok, Err}
 use Rattle.devices.specs.Device.{next_count}
 use Rattle.deflate_bits.specs.declared.fault.DeflateFault.{DeflateFault}
 use Rattle.deflate_bits.specs.declared.fault.DeflateFault.TheVariants as faults
@@ -48,3 +48,8 @@ CountsMember (Err NoMember) old new = new ≡ old
 CountsMember (Err Bad) old new = new ≡ old
 CountsMember (Err Cut) old new = new ≡ old
 CountsMember (Err TooFar) old new = new ≡ old
+
+-- what was found in the first n bytes leaves those behind
+abbrev pub GivesRest : ℕ → List ℕ → Result (Unit {0}) DeflateFault → Result (List ℕ) DeflateFault → Type 0
+GivesRest n bytes (Ok u) read = read ≡ Ok (drop n bytes)
+GivesRest n bytes (Err e) read = read ≡ Err e

@@ -1,5 +1,5 @@
 //! Whether a member begins.
-ghost use Rattle.std.specs.Prelude.{◌≡◌, ℕ, ◌≤◌, ◌⊎◌, length, OnOk};
+ghost use Rattle.std.specs.Prelude.{◌≡◌, ℕ, ◌≤◌, ◌⊎◌, length, IfErr, OnOk};
 ghost use Rattle.std.specs.Io.KnownBytes.{Keeps, IsAtEnd, prepend_known};
 
 use crate::checked_input::CheckedInput;
@@ -17,6 +17,7 @@ impl<I: Input> CheckedInput<I> {
         ensures two { OnOk result ((2 ≤ length self.new.ahead) ⊎ IsAtEnd (I.remaining self.new.input)) }
         ensures checksum { self.new.checksum ≡ self.old.checksum }
         ensures passed { self.new.passed ≡ self.old.passed }
+        ensures fault { IfErr result (λ fault. fault ≡ MemberFault.Read) }
         ensures failures { CountsMember result (I.failures self.old.input) (I.failures self.new.input) }
     {
         'bytes: while self.ahead.as_slice().len() < 2 {

@@ -1,46 +1,46 @@
 //! The trailer of a member (RFC 1952, 2.3).
-ghost use Rattle.std.specs.Prelude.{◌≡◌, ℕ, ◌+◌, ◌-◌, ◌^◌, ◌<◌, ◌≤◌, List, [], length, IfOk};
+ghost use Rattle.std.specs.Prelude.{◌≡◌, ◌≤◌, ◌<◌, ◌^◌, length, take, drop};
+ghost use Rattle.deflate_bits.specs.Bits.{little_endian};
+ghost use Rattle.gzip_members.specs.Members.{size_in, trailer_in};
+ghost use Rattle.gzip_members.specs.Reading.{GivesRest};
 
-use crate::checked_input::CheckedInput;
-use crate::fault::MemberFault;
-use devices::Input;
+use deflate_bits::DeflateFault;
 
-impl<I: Input> CheckedInput<I> {
-    ghost use Rattle.gzip_members.specs.Header.{four_in, same_in, trailer_in};
-    ghost use Rattle.gzip_members.specs.Reading.{Reads, CountsMember, taken};
+/// The number of bytes of a trailer.
+pub(crate) const TRAILER: usize = 8;
 
-    /// Takes four bytes as a number, the first the least significant.
-    #[tactic(auto, unfolding(crate::specs::Header::four_in))]
-    fn four(&mut self) -> Result<u32, MemberFault>
-        ensures four { Reads four_in result (taken self.old) (taken self.new) }
-        ensures failures { CountsMember result (I.failures self.old.input) (I.failures self.new.input) }
-    {
-        let low = self.pair()?;
-        let high = self.pair()?;
-        Ok(u32::from(low) + 65_536 * u32::from(high))
+/// Returns four bytes as a number, the first the least significant.
+fn four(bytes: &[u8]) -> u32
+    requires { 4 ≤ length bytes.now }
+    ensures { result ≡ little_endian (take 4 bytes.now) }
+{
+    u32::from_le_bytes([bytes[0], bytes[1], bytes[2], bytes[3]])
+}
+
+/// Compares the length at the end of a trailer.
+#[tactic(auto, unfolding(crate::specs::Members::size_in))]
+fn compare_size(bytes: &[u8], size: u32) -> Result<(), DeflateFault>
+    ensures { GivesRest 4 bytes.now result (size_in size bytes.now) }
+{
+    if bytes.len() < 4 {
+        Err(DeflateFault::Cut)
+    } else if four(bytes) == size {
+        Ok(())
+    } else {
+        Err(DeflateFault::Bad)
     }
+}
 
-    /// Takes four bytes that have to be this number.
-    #[tactic(auto, unfolding(crate::specs::Header::same_in))]
-    fn same(&mut self, number: u32) -> Result<(), MemberFault>
-        ensures same { Reads (same_in number) result (taken self.old) (taken self.new) }
-        ensures failures { CountsMember result (I.failures self.old.input) (I.failures self.new.input) }
-    {
-        let found = self.four()?;
-        if found == number {
-            Ok(())
-        } else {
-            Err(MemberFault::Bad)
-        }
-    }
-
-    /// Takes a trailer, and compares it with the checksum of the member's text and its length modulo 2^32.
-    #[tactic(auto, unfolding(crate::specs::Header::trailer_in))]
-    pub fn trailer(&mut self, sum: u32, size: u32) -> Result<(), MemberFault>
-        ensures trailer { Reads (trailer_in sum size) result (taken self.old) (taken self.new) }
-        ensures failures { CountsMember result (I.failures self.old.input) (I.failures self.new.input) }
-    {
-        self.same(sum)?;
-        self.same(size)
+/// Compares the trailer that begins these bytes with the checksum of the member's text and its length modulo 2^32.
+#[tactic(auto, unfolding(crate::specs::Members::trailer_in))]
+pub(crate) fn compare_trailer(bytes: &[u8], sum: u32, size: u32) -> Result<(), DeflateFault>
+    ensures { GivesRest 8 bytes.now result (trailer_in sum size bytes.now) }
+{
+    if bytes.len() < 4 {
+        Err(DeflateFault::Cut)
+    } else if four(bytes) == sum {
+        compare_size(&bytes[4..], size)
+    } else {
+        Err(DeflateFault::Bad)
     }
 }
