@@ -2,3 +2,4 @@ pub mod WindowLemmas
 pub mod ReadAheadLemmas
 pub mod HeaderLemmas
 pub mod UnpackLemmas
+pub mod BodyLemmas

@@ -4,3 +4,4 @@ pub mod Reading
 pub mod Starts
 pub mod Members
 pub mod Unpacking
+pub mod Bodies
