@@ -3,3 +3,4 @@ pub mod ReadAheadLemmas
 pub mod HeaderLemmas
 pub mod UnpackLemmas
 pub mod BodyLemmas
+pub mod StepLemmas

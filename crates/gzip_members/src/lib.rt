@@ -1,6 +1,7 @@
 //! The members of a compressed file (RFC 1952).
 #![tactic(auto)]
 
+mod body;
 mod checked_input;
 mod fault;
 mod header;
@@ -9,6 +10,7 @@ mod starts;
 mod trailer;
 mod window;
 
+pub use crate::body::{Body, Stage};
 pub use crate::checked_input::CheckedInput;
 pub use crate::fault::MemberFault;
 pub use crate::read_ahead::ReadAhead;
