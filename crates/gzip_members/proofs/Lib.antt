@@ -4,3 +4,4 @@ pub mod HeaderLemmas
 pub mod UnpackLemmas
 pub mod BodyLemmas
 pub mod StepLemmas
+pub mod TrailerLemmas

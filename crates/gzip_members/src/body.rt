@@ -84,10 +84,10 @@ fn longer(size: u32, count: usize) -> u32
 }
 
 impl Body {
-    ghost use Rattle.std.specs.Prelude.{◌≡◌, ◌++◌, ◌≤◌, ◌<◌, Bool, true, List, [], ℕ, length, drop, IfOk};
+    ghost use Rattle.std.specs.Prelude.{◌≡◌, ◌++◌, ◌≤◌, ◌<◌, ◌⊎◌, Bool, true, List, [], ℕ, length, drop, IfOk};
     ghost use Rattle.inflate.specs.Inflating.{place_of};
     ghost use Rattle.inflate.specs.Heads.{AtBlock};
-    ghost use Rattle.gzip_members.specs.Bodies.{left_in, text_so_far};
+    ghost use Rattle.gzip_members.specs.Bodies.{is_over, left_in, text_so_far};
     ghost use Rattle.gzip_members.specs.Windows.{pending};
 
     /// Creates a body of which nothing is left. The only error is refused memory.
@@ -147,6 +147,29 @@ impl Body {
             Err(fault) => {
                 self.stage = Stage::Refused(fault);
                 self.bits = 0;
+                0
+            }
+        }
+    }
+
+    /// Compares the trailer, and returns how many of the bytes were taken.
+    fn close(&mut self, bytes: &[u8], is_whole: bool) -> usize
+        requires stage { self.old.stage ≡ Stage.Trailer }
+        requires enough { (8 ≤ length bytes.now) ⊎ (is_whole ≡ true) }
+        ensures inside { result ≤ length bytes.now }
+        ensures window { self.new.window ≡ self.old.window }
+        ensures bits { self.new.bits ≡ self.old.bits }
+        ensures over { is_over self.new.stage ≡ true }
+        ensures left { (more : List ℕ) → (is_whole ≡ true → more ≡ [])
+            → left_in self.old (bytes.now ++ more) ≡ left_in self.new (drop result (bytes.now ++ more)) }
+    {
+        match compare_trailer(bytes, self.checksum, self.size) {
+            Ok(()) => {
+                self.stage = Stage::Ended;
+                TRAILER
+            }
+            Err(fault) => {
+                self.stage = Stage::Refused(fault);
                 0
             }
         }

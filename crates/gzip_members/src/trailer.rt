@@ -1,5 +1,5 @@
 //! The trailer of a member (RFC 1952, 2.3).
-ghost use Rattle.std.specs.Prelude.{◌≡◌, ◌≤◌, ◌<◌, ◌^◌, length, take, drop};
+ghost use Rattle.std.specs.Prelude.{◌≡◌, ◌≤◌, ◌<◌, ◌^◌, length, take, drop, OnOk};
 ghost use Rattle.deflate_bits.specs.Bits.{little_endian};
 ghost use Rattle.gzip_members.specs.Members.{size_in, trailer_in};
 ghost use Rattle.gzip_members.specs.Reading.{GivesRest};
@@ -20,7 +20,8 @@ fn four(bytes: &[u8]) -> u32
 /// Compares the length at the end of a trailer.
 #[tactic(auto, unfolding(crate::specs::Members::size_in))]
 fn compare_size(bytes: &[u8], size: u32) -> Result<(), DeflateFault>
-    ensures { GivesRest 4 bytes.now result (size_in size bytes.now) }
+    ensures size { GivesRest 4 bytes.now result (size_in size bytes.now) }
+    ensures whole { OnOk result (4 ≤ length bytes.now) }
 {
     if bytes.len() < 4 {
         Err(DeflateFault::Cut)
@@ -34,7 +35,8 @@ fn compare_size(bytes: &[u8], size: u32) -> Result<(), DeflateFault>
 /// Compares the trailer that begins these bytes with the checksum of the member's text and its length modulo 2^32.
 #[tactic(auto, unfolding(crate::specs::Members::trailer_in))]
 pub(crate) fn compare_trailer(bytes: &[u8], sum: u32, size: u32) -> Result<(), DeflateFault>
-    ensures { GivesRest 8 bytes.now result (trailer_in sum size bytes.now) }
+    ensures trailer { GivesRest 8 bytes.now result (trailer_in sum size bytes.now) }
+    ensures whole { OnOk result (8 ≤ length bytes.now) }
 {
     if bytes.len() < 4 {
         Err(DeflateFault::Cut)
