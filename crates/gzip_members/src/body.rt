@@ -84,10 +84,10 @@ fn longer(size: u32, count: usize) -> u32
 }
 
 impl Body {
-    ghost use Rattle.std.specs.Prelude.{◌≡◌, ◌++◌, ◌≤◌, ◌<◌, ◌⊎◌, Bool, true, List, [], ℕ, length, drop, IfOk};
+    ghost use Rattle.std.specs.Prelude.{◌≡◌, ◌++◌, ◌≤◌, ◌<◌, ◌⊎◌, Bool, true, false, List, [], ℕ, length, drop, IfOk};
     ghost use Rattle.inflate.specs.Inflating.{place_of};
     ghost use Rattle.inflate.specs.Heads.{AtBlock};
-    ghost use Rattle.gzip_members.specs.Bodies.{is_over, left_in, text_so_far};
+    ghost use Rattle.gzip_members.specs.Bodies.{is_over, left_in, text_so_far, GoesOn};
     ghost use Rattle.gzip_members.specs.Windows.{pending};
 
     /// Creates a body of which nothing is left. The only error is refused memory.
@@ -127,6 +127,8 @@ impl Body {
         requires some { 0 < self.old.bits → 0 < length bytes.now }
         ensures inside { result ≤ length bytes.now }
         ensures some { 0 < self.new.bits → result < length bytes.now }
+        ensures moves { GoesOn self.old.stage self.new.stage self.new.window is_whole
+            (length bytes.now - result) }
         ensures left { (more : List ℕ) → (is_whole ≡ true → more ≡ [])
             → left_in self.old (bytes.now ++ more) ≡ left_in self.new (drop result (bytes.now ++ more)) }
     {
@@ -157,12 +159,12 @@ impl Body {
         requires stage { self.old.stage ≡ Stage.Trailer }
         requires enough { (8 ≤ length bytes.now) ⊎ (is_whole ≡ true) }
         ensures inside { result ≤ length bytes.now }
-        ensures window { self.new.window ≡ self.old.window }
-        ensures bits { self.new.bits ≡ self.old.bits }
+        ensures bits { self.new.bits ≡ 0 }
         ensures over { is_over self.new.stage ≡ true }
         ensures left { (more : List ℕ) → (is_whole ≡ true → more ≡ [])
             → left_in self.old (bytes.now ++ more) ≡ left_in self.new (drop result (bytes.now ++ more)) }
     {
+        self.bits = 0;
         match compare_trailer(bytes, self.checksum, self.size) {
             Ok(()) => {
                 self.stage = Stage::Ended;
@@ -199,6 +201,33 @@ impl Body {
                 self.bits = taken.bits;
                 taken.bytes
             }
+        }
+    }
+
+    /// Goes on over the bytes that are held of the member, and returns how many of them were taken. All text was given out.
+    /// `is_whole` says that nothing comes behind them.
+    pub fn step(&mut self, crc: &Crc32, bytes: &[u8], is_whole: bool) -> usize
+        requires more { is_over self.old.stage ≡ false }
+        requires given { pending self.old.window ≡ [] }
+        requires some { 0 < self.old.bits → 0 < length bytes.now }
+        ensures inside { result ≤ length bytes.now }
+        ensures some { 0 < self.new.bits → result < length bytes.now }
+        ensures moves { GoesOn self.old.stage self.new.stage self.new.window is_whole
+            (length bytes.now - result) }
+        ensures left { (more : List ℕ) → (is_whole ≡ true → more ≡ [])
+            → left_in self.old (bytes.now ++ more) ≡ left_in self.new (drop result (bytes.now ++ more)) }
+    {
+        match self.stage {
+            Stage::Data => self.unpack(crc, bytes, is_whole),
+            Stage::Trailer => {
+                if bytes.len() >= TRAILER || is_whole {
+                    self.close(bytes, is_whole)
+                } else {
+                    0
+                }
+            }
+            Stage::Ended => unreachable!(),
+            Stage::Refused(_) => unreachable!(),
         }
     }
 }

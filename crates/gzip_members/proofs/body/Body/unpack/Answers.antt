@@ -5,7 +5,7 @@ use Rattle.crc_32.specs.Crc.{crc_after}
 use Rattle.inflate.specs.Inflating.{place_of}
 use Rattle.gzip_members.specs.declared.body.Body.{Body}
 use Rattle.gzip_members.specs.Bodies.{TextSoFar, text_so_far}
-use Rattle.gzip_members.proofs.StepLemmas.{Slid, Grown, StopsAt, all-given, unpacked-left, refused-left, stops-by}
+use Rattle.gzip_members.proofs.StepLemmas.{Slid, Grown, StopsAt, all-given, unpacked-left, goes-on, refused-left, stops-by, why-later}
 use Rattle.gzip_members.proofs.body.Body.unpack.Goals as goal
 
 pub returns-in-Ok-clause-left : goal.returns-in-Ok-clause-left
@@ -50,3 +50,16 @@ returns-in-Err-clause-left c =
     let few : old.bits ≤ 8 * length c.args.bytes.now = omega arith in
     refused-left old _ s c.slide.ensures.kept.0 c.args.bytes.now c.bits_behind-held.result c.args.is_whole c.in-Err.fault (place_of c.unpack.new.inflater) c.unpack.new.self.text
         c.requires.stage refl c.has_ended-is_place.ensures.place slid few c.bits_behind-held.ensures.offset c.in-Err.ensures.data
+
+pub returns-in-Ok-clause-moves : goal.returns-in-Ok-clause-moves
+returns-in-Ok-clause-moves c =
+    let w = c.slide.new.self in let v = c.unpack.new.self in
+    let given : w.given ≡ length w.text = all-given w.given w.text c.slide.ensures.given c.slide.ensures.inside in
+    let e : text_so_far c.stop_at.new.self ≡ record { text = v.text; given = v.given; checksum = c.update-self.result; size = c.longer-self.result } =
+        c.stop_at.ensures.text in
+    let g : c.stop_at.new.self.window.given ≡ w.given = ap (λ (t : TextSoFar). t.given) e ∙ c.unpack.ensures.given in
+    goes-on c.in-Ok.stopped.stop c.args.self.now.stage c.stop_at.new.self.stage c.stop_at.new.self.window c.args.is_whole c.stop_at.new.self.bits
+        (bit_offset c.in-Ok.stopped.moved.held) c.stop_at.result (length c.args.bytes.now) c.requires.stage c.stop_at.ensures.ended c.stop_at.ensures.paused
+        (λ p. why-later 131072 290 c.args.bytes.now v.text c.stop_at.new.self.window.text c.in-Ok.stopped.moved.held c.args.is_whole
+            (ap (λ (t : TextSoFar). t.text) e) (c.in-Ok.ensures.paused p))
+        (omega (arith, c.slide.ensures.room))
