@@ -5,3 +5,4 @@ pub mod UnpackLemmas
 pub mod BodyLemmas
 pub mod StepLemmas
 pub mod TrailerLemmas
+pub mod LeftLemmas

@@ -5,3 +5,4 @@ pub mod Starts
 pub mod Members
 pub mod Unpacking
 pub mod Bodies
+pub mod Left

@@ -92,7 +92,8 @@ impl Body {
 
     /// Creates a body of which nothing is left. The only error is refused memory.
     pub fn new(alloc: Global) -> Result<Body, AllocError>
-        ensures { IfOk result (λ body. body.stage ≡ Stage.Ended) }
+        ensures stage { IfOk result (λ body. body.stage ≡ Stage.Ended) }
+        ensures bits { IfOk result (λ body. body.bits ≡ 0) }
     {
         Ok(Body {
             inflater: Inflater::new(alloc)?,

@@ -1,11 +1,13 @@
 //! An input that is read byte by byte, with the checksum of what was read.
-ghost use Rattle.std.specs.Prelude.{◌≡◌, ℕ, ◌+◌, ◌-◌, ◌^◌, ◌<◌, ◌≤◌, List, [], length, IfOk, IfErr, OnOk};
+ghost use Rattle.std.specs.Prelude.{◌≡◌, ℕ, ◌+◌, ◌-◌, ◌^◌, ◌<◌, ◌≤◌, List, [], ◌⊎◌, true, false, length, drop, Ok, IfOk, IfErr, OnOk, OnErr};
+ghost use Rattle.devices.specs.Device.{CountsFailure};
+ghost use Rattle.std.specs.Bool.{OnTrue, OnFalse};
 ghost use Rattle.std.specs.Io.KnownBytes.{Keeps, IsAtEnd, prepend_known};
 
 use crate::fault::MemberFault;
-use crate::read_ahead::ReadAhead;
+use crate::read_ahead::{MOST_HELD, ReadAhead};
 use crc_32::Crc32;
-use devices::Input;
+use devices::{DeviceFault, Input};
 
 /// The greatest offset in a file, in bytes from its start.
 const GREATEST_OFFSET: u64 = (1 << 63) - 1;
@@ -41,6 +43,25 @@ impl<I: Input> CheckedInput<I> {
         Ok(())
     }
 
+    /// Reads once from the input, unless much is held. Returns whether the input has ended.
+    pub fn read_more(&mut self) -> Result<bool, DeviceFault>
+        ensures bytes { Keeps (prepend_known self.old.ahead (I.remaining self.old.input))
+            (prepend_known self.new.ahead (I.remaining self.new.input)) }
+        ensures end { result ≡ Ok true → IsAtEnd (I.remaining self.new.input) }
+        ensures more { result ≡ Ok false → (length self.old.ahead < length self.new.ahead)
+            ⊎ (MOST_HELD ≤ length self.new.ahead) }
+        ensures grown { length self.old.ahead ≤ length self.new.ahead }
+        ensures err { OnErr result (self.new.ahead ≡ self.old.ahead) }
+        ensures passed { self.new.passed ≡ self.old.passed }
+        ensures failures { CountsFailure result (I.failures self.old.input) (I.failures self.new.input) }
+    {
+        if self.ahead.as_slice().len() >= MOST_HELD {
+            return Ok(false);
+        }
+        let count = self.ahead.read_on(&mut self.input)?;
+        Ok(count == 0)
+    }
+
     /// Takes the next byte.
     pub fn byte(&mut self) -> Result<u8, MemberFault>
         ensures byte { Reads byte_in result (taken self.old) (taken self.new) }
@@ -60,5 +81,23 @@ impl<I: Input> CheckedInput<I> {
             }
             None => Err(MemberFault::Cut),
         }
+    }
+
+    /// Takes the first `count` bytes that are held, and returns `true`; or `false` if they end at 2^63 or above.
+    pub fn take(&mut self, count: usize) -> bool
+        requires { count ≤ length self.old.ahead }
+        ensures taken { OnTrue result (self.new.ahead ≡ drop count self.old.ahead) }
+        ensures passed { OnTrue result (self.new.passed ≡ self.old.passed + count) }
+        ensures not { OnFalse result (self.new.ahead ≡ self.old.ahead) }
+        ensures stays { OnFalse result (self.new.passed ≡ self.old.passed) }
+        ensures too_far { OnFalse result (2 ^ 63 - 1 < self.old.passed + count) }
+        ensures input { self.new.input ≡ self.old.input }
+    {
+        if count as u64 > GREATEST_OFFSET - self.passed {
+            return false;
+        }
+        self.passed += count as u64;
+        self.ahead.consume(count);
+        true
     }
 }

@@ -1,0 +1,35 @@
+-- What is left of the member that is read, where the file's bytes are known.
+use Rattle.std.specs.Prelude.{◌≡◌, ℕ, ◌+◌, ◌-◌, ◌*◌, ◌^◌, ◌||◌, suc, nat_lt, Bool, List, length, Option, None, Some, Result, Ok, Err, if◌then◌else◌}
+use Rattle.std.specs.Io.KnownBytes.{prepend_known}
+use Rattle.deflate_bits.specs.declared.fault.DeflateFault.{DeflateFault}
+use Rattle.gzip_members.specs.declared.body.Body.{Body}
+use Rattle.gzip_members.specs.declared.body.Stage.{Stage}
+use Rattle.gzip_members.specs.declared.members.Members.{Members}
+use Rattle.gzip_members.specs.Windows.{WindowView}
+use Rattle.gzip_members.specs.Bodies.{is_over, left_in, parts_left}
+
+-- what is left of a member, by the bytes ahead; nothing is said of a file of 2^63 bytes or more
+abbrev pub left_ahead : Body → ℕ → Option (List ℕ) → Option (Result (List ℕ × List ℕ) DeflateFault)
+left_ahead b passed None = None
+left_ahead b passed (Some bytes) = if nat_lt (2 ^ 63 - 1) (passed + length bytes) then None else Some (left_in b bytes)
+
+abbrev pub left_of : {I : Type 0} {g : _} → Members I g → Option (Result (List ℕ × List ℕ) DeflateFault)
+left_of {I} {g} m = left_ahead m.body m.source.passed (prepend_known m.source.ahead (g.remaining m.source.input))
+
+-- the text that is left of a member, where there is one
+abbrev pub text_of : Option (Result (List ℕ × List ℕ) DeflateFault) → Option (List ℕ)
+text_of None = None
+text_of (Some (Ok (text, behind))) = Some text
+text_of (Some (Err fault)) = None
+
+-- what stands behind the member, or why there is none
+abbrev pub behind_of : Result (List ℕ × List ℕ) DeflateFault → Result (List ℕ) DeflateFault
+behind_of (Ok (text, behind)) = Ok behind
+behind_of (Err fault) = Err fault
+
+-- how much is to be done before there is text, or the end of the member, or of what can be read
+abbrev pub work_left : Stage → Bool → WindowView → ℕ → ℕ → ℕ
+work_left stage is_too_far w passed held =
+    if is_over stage || (is_too_far || nat_lt w.given (length w.text))
+    then 0
+    else suc (parts_left stage * 2 ^ 80 + (2 ^ 63 - passed) * 8193 + (8192 - held))

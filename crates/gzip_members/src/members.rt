@@ -1,0 +1,69 @@
+//! The members of a file, one after another.
+ghost use Rattle.std.specs.Prelude.{◌≡◌, ◌≤◌, ◌<◌, [], false, length, IfOk, OnOk, OnErr, Some, Result, List, ℕ};
+ghost use Rattle.deflate_bits.specs.declared.fault.DeflateFault.{DeflateFault};
+ghost use Rattle.devices.specs.Device.{CountsFailure};
+
+use crate::body::Body;
+use crate::checked_input::CheckedInput;
+use crate::read_ahead::ReadAhead;
+use crc_32::Crc32;
+use devices::{DeviceFault, Input};
+use std::alloc::{AllocError, Global};
+
+/// A compressed file, of which the members are read one after another. It takes some 300 kB, whatever they hold.
+#[derive(Drop)]
+pub struct Members<I: Input> {
+    pub source: CheckedInput<I>,
+    pub body: Body,
+    /// Whether the member would end at 2^63 or above, in bytes from the file's start.
+    pub is_too_far: bool,
+    pub ghost partial: { 0 < body.bits → 0 < length source.ahead },
+}
+
+impl<I: Input> Members<I> {
+    ghost use Rattle.gzip_members.specs.Windows.{pending};
+    ghost use Rattle.gzip_members.specs.Bodies.{is_over};
+    ghost use Rattle.gzip_members.specs.Left.{left_of, work_left};
+
+    /// Creates a file of which nothing was read. The only error is refused memory.
+    pub fn new(alloc: Global, input: I) -> Result<Members<I>, AllocError>
+    where
+        I: Drop,
+    {
+        let source = CheckedInput {
+            input,
+            ahead: ReadAhead::new(alloc)?,
+            crc: Crc32::new(alloc)?,
+            checksum: 0,
+            passed: 0,
+        };
+        Ok(Members {
+            source,
+            body: Body::new(alloc)?,
+            is_too_far: false,
+        })
+    }
+
+    /// Goes on in the member, of which all text was given out. The only error is the input's failure.
+    fn advance(&mut self) -> Result<(), DeviceFault>
+        requires more { is_over self.old.body.stage ≡ false }
+        requires given { pending self.old.body.window ≡ [] }
+        requires near { self.old.is_too_far ≡ false }
+        ensures left { (r : Result (List ℕ × List ℕ) DeflateFault) → left_of self.old ≡ Some r
+            → left_of self.new ≡ Some r }
+        ensures failures { CountsFailure result (I.failures self.old.source.input)
+            (I.failures self.new.source.input) }
+        ensures nearer { OnOk result
+            (work_left self.new.body.stage self.new.is_too_far self.new.body.window
+            self.new.source.passed (length self.new.source.ahead)
+            < work_left self.old.body.stage self.old.is_too_far self.old.body.window
+            self.old.source.passed (length self.old.source.ahead)) }
+    {
+        let is_whole = self.source.read_more()?;
+        let taken = self
+            .body
+            .step(&self.source.crc, self.source.ahead.as_slice(), is_whole);
+        self.is_too_far = !self.source.take(taken);
+        Ok(())
+    }
+}
