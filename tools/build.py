@@ -1,7 +1,9 @@
 #!/usr/bin/env python3
 """Proves and builds the program, crates side by side where none of them stands on another.
 
-usage: build.py [--processors N]
+usage: build.py [--processors N] [CRATE..]
+
+With CRATE it proves these crates and those below them, and builds the program only if it is one of them.
 
 rt works on one crate of a checkout at a time. So each crate is proved in a folder of its own, with its sources and those of the crates below it. What was made
 there is then moved into the crate's folder. The crates that the build would wait for come first. A crate that is proved already isn't proved again.
@@ -22,7 +24,7 @@ import signal
 import subprocess
 import sys
 import time
-from collections.abc import Iterator
+from collections.abc import Iterable, Iterator
 from concurrent.futures import FIRST_COMPLETED, Future, ThreadPoolExecutor, wait
 from pathlib import Path
 from types import FrameType
@@ -101,8 +103,8 @@ def direct_dependencies() -> dict[str, list[str]]:
     return {name: [other for other in names if other in named] for name, names in named.items()}
 
 
-def crates_of_program() -> list[Crate]:
-    """Returns the crate of the program and those below it, each after the crates that it stands on."""
+def with_crates_below(names: Iterable[str]) -> list[Crate]:
+    """Returns the crates of these names and those below them, each after the crates that it stands on."""
     direct = direct_dependencies()
     found: dict[str, Crate] = {}
 
@@ -112,7 +114,8 @@ def crates_of_program() -> list[Crate]:
             found[name] = Crate(name, below)
         return found[name].below | {name}
 
-    find(PROGRAM)
+    for name in names:
+        find(name)
     return list(found.values())
 
 
@@ -265,7 +268,11 @@ def report(crate: Crate) -> None:
 def main() -> int:
     parser = argparse.ArgumentParser(description=__doc__, usage=argparse.SUPPRESS, formatter_class=argparse.RawDescriptionHelpFormatter)
     parser.add_argument("--processors", type=int, default=len(os.sched_getaffinity(0)), metavar="N", help="use at most N processors")
+    parser.add_argument("crates", metavar="CRATE", nargs="*", help="a crate of crates.txt")
     arguments = parser.parse_args()
+    unknown = set(arguments.crates) - direct_dependencies().keys()
+    if unknown:
+        parser.error(f"{', '.join(sorted(unknown))}: not in crates.txt")
     processors = max(1, min(arguments.processors, free_memory() // MEMORY))
     if shutil.which("rt") is None:
         say("rt is not on the PATH")
@@ -273,7 +280,7 @@ def main() -> int:
     builder = Builder()
     status = 0
     try:
-        build(crates_of_program(), processors, builder)
+        build(with_crates_below(arguments.crates or [PROGRAM]), processors, builder)
     except NotProved as error:
         status = 1
         if builder.signal is None:

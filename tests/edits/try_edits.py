@@ -3,13 +3,13 @@
 
 usage: try_edits.py [CRATE..]
 
-They are beside this script, in a folder for each crate. Without CRATE all are tried. `rt must-fail` tries them on copies of the crate and of those
-below it. It uses what tools/build.py has proved of these, and proves the rest first.
+They are beside this script, in a folder for each crate. Without CRATE all are tried. tools/build.py first proves the crates below these. Then
+`rt must-fail` tries the edits on copies of the crate.
 
 An edit may have a line `clause: TEXT`. What the prover says of the first clause that it can't prove then has to contain TEXT.
 
-Prints a line for each edit, and the counts. The exit status is 0, or 1 if an edit isn't refused, or at another clause. Needs the
-kit's rt.
+Prints a line for each edit, and the counts. The exit status is 0, or 1 if an edit isn't refused, or at another clause, or if a crate below isn't proved.
+Needs the kit's rt.
 """
 import pathlib
 import re
@@ -17,9 +17,10 @@ import subprocess
 import sys
 
 HERE = pathlib.Path(__file__).resolve().parent
-sys.path[:0] = [str(HERE.parent), str(HERE.parents[1] / "tools")]
+TOOLS = HERE.parents[1] / "tools"
+sys.path[:0] = [str(HERE.parent), str(TOOLS)]
 
-from build import Crate, crates_of_program, room_of
+from build import Crate, direct_dependencies, room_of, with_crates_below
 from program import Report, need, parser_of
 
 EDIT = re.compile(r"rt: must-fail (\S+): (.*)")
@@ -45,18 +46,26 @@ def try_edits(crate: Crate, report: Report) -> None:
             report.add_difference(name, said)
 
 
+def prove_below(crates: list[Crate]) -> bool:
+    """Proves the crates below these, and returns whether all are proved."""
+    below = sorted(frozenset[str]().union(*(crate.below for crate in crates)))
+    return not below or subprocess.run((TOOLS / "build.py", *below)).returncode == 0
+
+
 def main() -> int:
     parser = parser_of(__doc__)
     parser.add_argument("crates", metavar="CRATE", nargs="*", help="a crate that has a folder here")
     chosen = parser.parse_args().crates
     need("rt:the Rattle kit")
-    crates = {crate.name: crate for crate in crates_of_program() if (HERE / crate.name).is_dir()}
+    crates = {crate.name: crate for crate in with_crates_below(direct_dependencies()) if (HERE / crate.name).is_dir()}
     if not set(chosen) <= crates.keys():
         parser.error(f"a CRATE is {', '.join(crates)}")
+    tried = [crate for name, crate in crates.items() if not chosen or name in chosen]
+    if not prove_below(tried):
+        return 1
     report = Report()
-    for name, crate in crates.items():
-        if not chosen or name in chosen:
-            try_edits(crate, report)
+    for crate in tried:
+        try_edits(crate, report)
     return report.end()
 
 
