@@ -149,6 +149,8 @@ def check_ends(report: Report, checkout: Checkout) -> None:
 
     script = "tools/build.py"
     expect("a whole build", checkout.build(script), 0, f"warcdx is proved, {CRATES} of {CRATES}")
+    expect("a crate and those below it", checkout.build(script, "warc_core"), 0, "warc_core is proved, 3 of 3")
+    expect("a crate that doesn't exist", checkout.build(script, "nothing"), 2, "nothing: not in crates.txt")
     ended = checkout.build("./warcdx", "list", "a b")
     expect("a whole build, and the program", ended, 0, "built in")
     compare("its output", ended.output, "list a b\n")
