@@ -1,5 +1,5 @@
 -- What is left of the member that is read, where the file's bytes are known.
-use Rattle.std.specs.Prelude.{◌≡◌, ℕ, ◌+◌, ◌-◌, ◌*◌, ◌^◌, ◌||◌, suc, nat_lt, Bool, List, length, Option, None, Some, Result, Ok, Err, if◌then◌else◌}
+use Rattle.std.specs.Prelude.{◌≡◌, ℕ, ◌+◌, ◌-◌, ◌*◌, ◌^◌, ◌||◌, suc, nat_lt, not, ◌++◌, Bool, List, length, Option, None, Some, Result, Ok, Err, if◌then◌else◌}
 use Rattle.std.specs.Io.KnownBytes.{prepend_known}
 use Rattle.deflate_bits.specs.declared.fault.DeflateFault.{DeflateFault}
 use Rattle.gzip_members.specs.declared.body.Body.{Body}
@@ -33,3 +33,13 @@ work_left stage is_too_far w passed held =
     if is_over stage || (is_too_far || nat_lt w.given (length w.text))
     then 0
     else suc (parts_left stage * 2 ^ 80 + (2 ^ 63 - passed) * 8193 + (8192 - held))
+
+-- whether neither text nor the end of the member was reached, nor the greatest offset
+abbrev pub waits : Stage → Bool → WindowView → Bool
+waits stage is_too_far w = not (is_over stage || (is_too_far || nat_lt w.given (length w.text)))
+
+-- the same is left, but for text that was given out
+pub record GivesText (old new : Option (Result (List ℕ × List ℕ) DeflateFault)) (given : List ℕ) : Type 0 where
+  pub text : (text behind : List ℕ) → old ≡ Some (Ok (text, behind))
+      → (rest : List ℕ) × (new ≡ Some (Ok (rest, behind))) × (text ≡ given ++ rest)
+  pub fault : (fault : DeflateFault) → old ≡ Some (Err fault) → new ≡ Some (Err fault)

@@ -84,7 +84,7 @@ fn longer(size: u32, count: usize) -> u32
 }
 
 impl Body {
-    ghost use Rattle.std.specs.Prelude.{◌≡◌, ◌++◌, ◌≤◌, ◌<◌, ◌⊎◌, Bool, true, false, List, [], ℕ, length, drop, IfOk};
+    ghost use Rattle.std.specs.Prelude.{◌≡◌, ◌++◌, ◌≤◌, ◌<◌, ◌⊎◌, Bool, true, false, List, [], ℕ, length, drop, nat_lt, IfOk};
     ghost use Rattle.inflate.specs.Inflating.{place_of};
     ghost use Rattle.inflate.specs.Heads.{AtBlock};
     ghost use Rattle.gzip_members.specs.Bodies.{is_over, left_in, text_so_far, GoesOn};
@@ -230,5 +230,24 @@ impl Body {
             Stage::Ended => unreachable!(),
             Stage::Refused(_) => unreachable!(),
         }
+    }
+
+    /// Returns whether nothing comes next of the member.
+    pub fn is_over(&self) -> bool
+        ensures { result ≡ is_over self.now.stage }
+    {
+        match self.stage {
+            Stage::Data => false,
+            Stage::Trailer => false,
+            Stage::Ended => true,
+            Stage::Refused(_) => true,
+        }
+    }
+
+    /// Returns whether there is text that wasn't given out.
+    pub fn has_text(&self) -> bool
+        ensures { result ≡ nat_lt self.now.window.given (length self.now.window.text) }
+    {
+        self.window.has_text()
     }
 }

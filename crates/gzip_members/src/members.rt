@@ -23,7 +23,7 @@ pub struct Members<I: Input> {
 impl<I: Input> Members<I> {
     ghost use Rattle.gzip_members.specs.Windows.{pending};
     ghost use Rattle.gzip_members.specs.Bodies.{is_over};
-    ghost use Rattle.gzip_members.specs.Left.{left_of, work_left};
+    ghost use Rattle.gzip_members.specs.Left.{left_of, waits, work_left};
 
     /// Creates a file of which nothing was read. The only error is refused memory.
     pub fn new(alloc: Global, input: I) -> Result<Members<I>, AllocError>
@@ -64,6 +64,28 @@ impl<I: Input> Members<I> {
             .body
             .step(&self.source.crc, self.source.ahead.as_slice(), is_whole);
         self.is_too_far = !self.source.take(taken);
+        Ok(())
+    }
+
+    /// Returns whether neither text nor the end was reached.
+    fn waits(&self) -> bool
+        ensures { result ≡ waits self.now.body.stage self.now.is_too_far self.now.body.window }
+    {
+        !(self.body.is_over() || self.is_too_far || self.body.has_text())
+    }
+
+    /// Goes on to the next text of the member, or to its end. The only error is the input's failure.
+    pub fn fill(&mut self) -> Result<(), DeviceFault>
+        ensures left { (r : Result (List ℕ × List ℕ) DeflateFault) → left_of self.old ≡ Some r
+            → left_of self.new ≡ Some r }
+        ensures failures { CountsFailure result (I.failures self.old.source.input)
+            (I.failures self.new.source.input) }
+        ensures stops { OnOk result
+            (waits self.new.body.stage self.new.is_too_far self.new.body.window ≡ false) }
+    {
+        'text: while self.waits() {
+            self.advance()?;
+        }
         Ok(())
     }
 }
