@@ -27,18 +27,18 @@ abbrev pub behind_of : Result (List ℕ × List ℕ) DeflateFault → Result (Li
 behind_of (Ok (text, behind)) = Ok behind
 behind_of (Err fault) = Err fault
 
--- how much is to be done before there is text, or the end of the member, or of what can be read
-abbrev pub work_left : Stage → Bool → WindowView → ℕ → ℕ → ℕ
-work_left stage is_too_far w passed held =
-    if is_over stage || (is_too_far || nat_lt w.given (length w.text))
+-- whether neither text nor the end of the member was reached
+abbrev pub waits : Stage → WindowView → Bool
+waits stage w = not (is_over stage || nat_lt w.given (length w.text))
+
+-- how much is to be done before there is text, or the end of the member
+abbrev pub work_left : Stage → WindowView → ℕ → ℕ → ℕ
+work_left stage w passed held =
+    if is_over stage || nat_lt w.given (length w.text)
     then 0
     else suc (parts_left stage * 2 ^ 80 + (2 ^ 63 - passed) * 8193 + (8192 - held))
 
--- whether neither text nor the end of the member was reached, nor the greatest offset
-abbrev pub waits : Stage → Bool → WindowView → Bool
-waits stage is_too_far w = not (is_over stage || (is_too_far || nat_lt w.given (length w.text)))
-
--- the same is left, but for text that was given out
+-- text was given out; else the same is left
 pub record GivesText (old new : Option (Result (List ℕ × List ℕ) DeflateFault)) (given : List ℕ) : Type 0 where
   pub text : (text behind : List ℕ) → old ≡ Some (Ok (text, behind))
       → (rest : List ℕ) × (new ≡ Some (Ok (rest, behind))) × (text ≡ given ++ rest)

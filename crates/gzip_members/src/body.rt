@@ -232,6 +232,16 @@ impl Body {
         }
     }
 
+    /// Reads no more of the member.
+    pub fn refuse(&mut self, fault: DeflateFault)
+        ensures stage { self.new.stage ≡ Stage.Refused fault }
+        ensures window { self.new.window ≡ self.old.window }
+        ensures bits { self.new.bits ≡ 0 }
+    {
+        self.stage = Stage::Refused(fault);
+        self.bits = 0;
+    }
+
     /// Returns whether nothing comes next of the member.
     pub fn is_over(&self) -> bool
         ensures { result ≡ is_over self.now.stage }

@@ -7,6 +7,7 @@ use crate::body::Body;
 use crate::checked_input::CheckedInput;
 use crate::read_ahead::ReadAhead;
 use crc_32::Crc32;
+use deflate_bits::DeflateFault;
 use devices::{DeviceFault, Input};
 use std::alloc::{AllocError, Global};
 
@@ -48,30 +49,32 @@ impl<I: Input> Members<I> {
     fn advance(&mut self) -> Result<(), DeviceFault>
         requires more { is_over self.old.body.stage ≡ false }
         requires given { pending self.old.body.window ≡ [] }
-        requires near { self.old.is_too_far ≡ false }
         ensures left { (r : Result (List ℕ × List ℕ) DeflateFault) → left_of self.old ≡ Some r
             → left_of self.new ≡ Some r }
         ensures failures { CountsFailure result (I.failures self.old.source.input)
             (I.failures self.new.source.input) }
         ensures nearer { OnOk result
-            (work_left self.new.body.stage self.new.is_too_far self.new.body.window
+            (work_left self.new.body.stage self.new.body.window
             self.new.source.passed (length self.new.source.ahead)
-            < work_left self.old.body.stage self.old.is_too_far self.old.body.window
+            < work_left self.old.body.stage self.old.body.window
             self.old.source.passed (length self.old.source.ahead)) }
     {
         let is_whole = self.source.read_more()?;
         let taken = self
             .body
             .step(&self.source.crc, self.source.ahead.as_slice(), is_whole);
-        self.is_too_far = !self.source.take(taken);
+        if !self.source.take(taken) {
+            self.is_too_far = true;
+            self.body.refuse(DeflateFault::Bad);
+        }
         Ok(())
     }
 
     /// Returns whether neither text nor the end was reached.
     fn waits(&self) -> bool
-        ensures { result ≡ waits self.now.body.stage self.now.is_too_far self.now.body.window }
+        ensures { result ≡ waits self.now.body.stage self.now.body.window }
     {
-        !(self.body.is_over() || self.is_too_far || self.body.has_text())
+        !(self.body.is_over() || self.body.has_text())
     }
 
     /// Goes on to the next text of the member, or to its end. The only error is the input's failure.
@@ -81,7 +84,7 @@ impl<I: Input> Members<I> {
         ensures failures { CountsFailure result (I.failures self.old.source.input)
             (I.failures self.new.source.input) }
         ensures stops { OnOk result
-            (waits self.new.body.stage self.new.is_too_far self.new.body.window ≡ false) }
+            (waits self.new.body.stage self.new.body.window ≡ false) }
     {
         'text: while self.waits() {
             self.advance()?;

@@ -10,4 +10,4 @@ invariant-text g l = record {
 }
 
 abbrev pub decreases-text : goal.decreases-text
-decreases-text g l = work_left l.self.body.stage l.self.is_too_far l.self.body.window l.self.source.passed (length l.self.source.ahead)
+decreases-text g l = work_left l.self.body.stage l.self.body.window l.self.source.passed (length l.self.source.ahead)
