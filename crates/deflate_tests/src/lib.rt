@@ -4,6 +4,8 @@
 #[cfg(test)]
 mod bits;
 #[cfg(test)]
+mod blocks;
+#[cfg(test)]
 mod checksums;
 #[cfg(test)]
 mod codes;
