@@ -6,3 +6,5 @@ pub mod BodyLemmas
 pub mod StepLemmas
 pub mod TrailerLemmas
 pub mod LeftLemmas
+pub mod GiveLemmas
+pub mod EndLemmas

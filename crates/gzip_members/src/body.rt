@@ -84,10 +84,10 @@ fn longer(size: u32, count: usize) -> u32
 }
 
 impl Body {
-    ghost use Rattle.std.specs.Prelude.{◌≡◌, ◌++◌, ◌≤◌, ◌<◌, ◌⊎◌, Bool, true, false, List, [], ℕ, length, drop, nat_lt, IfOk};
+    ghost use Rattle.std.specs.Prelude.{◌≡◌, ◌++◌, ◌≤◌, ◌<◌, ◌⊎◌, Bool, true, false, List, [], ℕ, length, take, drop, nat_lt, IfOk};
     ghost use Rattle.inflate.specs.Inflating.{place_of};
     ghost use Rattle.inflate.specs.Heads.{AtBlock};
-    ghost use Rattle.gzip_members.specs.Bodies.{is_over, left_in, text_so_far, GoesOn};
+    ghost use Rattle.gzip_members.specs.Bodies.{is_over, left_in, text_so_far, GivesLeft, GoesOn};
     ghost use Rattle.gzip_members.specs.Windows.{pending};
 
     /// Creates a body of which nothing is left. The only error is refused memory.
@@ -240,6 +240,21 @@ impl Body {
     {
         self.stage = Stage::Refused(fault);
         self.bits = 0;
+    }
+
+    /// Gives the next text into the start of `piece`, and returns its length.
+    pub fn give(&mut self, piece: &mut [u8]) -> usize
+        ensures count { result ≤ length piece.new }
+        ensures some { 0 < length piece.new → result ≡ 0
+            → length self.old.window.text ≤ self.old.window.given }
+        ensures stage { self.new.stage ≡ self.old.stage }
+        ensures bits { self.new.bits ≡ self.old.bits }
+        ensures text { self.new.window.text ≡ self.old.window.text }
+        ensures given { self.new.window.given ≡ self.old.window.given + result }
+        ensures left { (bytes : List ℕ) → GivesLeft (left_in self.old bytes) (left_in self.new bytes)
+            (take result piece.new) }
+    {
+        self.window.give(piece)
     }
 
     /// Returns whether nothing comes next of the member.

@@ -1,5 +1,5 @@
 //! The members of a file, one after another.
-ghost use Rattle.std.specs.Prelude.{◌≡◌, ◌≤◌, ◌<◌, [], false, length, IfOk, OnOk, OnErr, Some, Result, List, ℕ};
+ghost use Rattle.std.specs.Prelude.{◌≡◌, ◌≤◌, ◌<◌, [], false, length, take, Ok, IfOk, OnOk, OnErr, Some, Result, List, ℕ};
 ghost use Rattle.deflate_bits.specs.declared.fault.DeflateFault.{DeflateFault};
 ghost use Rattle.devices.specs.Device.{CountsFailure};
 
@@ -24,7 +24,7 @@ pub struct Members<I: Input> {
 impl<I: Input> Members<I> {
     ghost use Rattle.gzip_members.specs.Windows.{pending};
     ghost use Rattle.gzip_members.specs.Bodies.{is_over};
-    ghost use Rattle.gzip_members.specs.Left.{left_of, waits, work_left};
+    ghost use Rattle.gzip_members.specs.Left.{GivesText, left_of, waits, work_left};
 
     /// Creates a file of which nothing was read. The only error is refused memory.
     pub fn new(alloc: Global, input: I) -> Result<Members<I>, AllocError>
@@ -90,5 +90,21 @@ impl<I: Input> Members<I> {
             self.advance()?;
         }
         Ok(())
+    }
+
+    /// Reads the next text of the member into the start of `piece`, and returns its length. `Ok(0)` for a piece that isn't
+    /// empty is the end of the member, or of what can be read of it. The only error is the input's failure.
+    pub fn read(&mut self, piece: &mut [u8]) -> Result<usize, DeviceFault>
+        ensures bound { IfOk result (λ n. n ≤ length piece.new) }
+        ensures text { IfOk result (λ n. GivesText (left_of self.old) (left_of self.new) (take n piece.new)) }
+        ensures err { (r : Result (List ℕ × List ℕ) DeflateFault) → OnErr result (left_of self.old ≡ Some r
+            → left_of self.new ≡ Some r) }
+        ensures end { result ≡ Ok 0 → 0 < length piece.new → (text behind : List ℕ)
+            → left_of self.new ≡ Some (Ok (text, behind)) → text ≡ [] }
+        ensures failures { CountsFailure result (I.failures self.old.source.input)
+            (I.failures self.new.source.input) }
+    {
+        self.fill()?;
+        Ok(self.body.give(piece))
     }
 }
