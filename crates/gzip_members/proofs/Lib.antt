@@ -8,3 +8,4 @@ pub mod TrailerLemmas
 pub mod LeftLemmas
 pub mod GiveLemmas
 pub mod EndLemmas
+pub mod BeginLemmas

@@ -1,10 +1,15 @@
 -- What is left of the member that is read, where the file's bytes are known.
-use Rattle.std.specs.Prelude.{◌≡◌, ℕ, ◌+◌, ◌-◌, ◌*◌, ◌^◌, ◌||◌, suc, nat_lt, not, ◌++◌, Bool, List, length, Option, None, Some, Result, Ok, Err, if◌then◌else◌}
+use Rattle.std.specs.Prelude.{◌≡◌, ℕ, ◌+◌, ◌-◌, ◌*◌, ◌^◌, ◌||◌, ◌⊎◌, ⊤, suc, nat_lt, not, ◌++◌, Bool, true, false, List, [], length, Option, None, Some, Result, Ok, Err, if◌then◌else◌}
 use Rattle.std.specs.Io.KnownBytes.{prepend_known}
 use Rattle.deflate_bits.specs.declared.fault.DeflateFault.{DeflateFault}
 use Rattle.gzip_members.specs.declared.body.Body.{Body}
 use Rattle.gzip_members.specs.declared.body.Stage.{Stage}
 use Rattle.gzip_members.specs.declared.members.Members.{Members}
+use Rattle.deflate_bits.specs.declared.fault.DeflateFault.TheVariants as faults
+use Rattle.gzip_members.specs.declared.fault.MemberFault.{MemberFault}
+use Rattle.gzip_members.specs.declared.fault.MemberFault.TheVariants.{Read, NoMember, Bad, Cut, TooFar}
+use Rattle.gzip_members.specs.Starts.{begins_member}
+use Rattle.gzip_members.specs.Members.{member_in}
 use Rattle.gzip_members.specs.Windows.{WindowView}
 use Rattle.gzip_members.specs.Bodies.{is_over, left_in, parts_left}
 
@@ -43,3 +48,13 @@ pub record GivesText (old new : Option (Result (List ℕ × List ℕ) DeflateFau
   pub text : (text behind : List ℕ) → old ≡ Some (Ok (text, behind))
       → (rest : List ℕ) × (new ≡ Some (Ok (rest, behind))) × (text ≡ given ++ rest)
   pub fault : (fault : DeflateFault) → old ≡ Some (Err fault) → new ≡ Some (Err fault)
+
+-- whether a member begins these bytes, what is then left of it, and else why not
+abbrev pub BeginsMember : List ℕ → Result Bool MemberFault → Option (Result (List ℕ × List ℕ) DeflateFault) → Type 0
+BeginsMember bytes (Ok false) left = bytes ≡ []
+BeginsMember bytes (Ok true) left = left ≡ Some (member_in bytes)
+BeginsMember bytes (Err Read) left = ⊤
+BeginsMember bytes (Err NoMember) left = begins_member bytes ≡ Err NoMember
+BeginsMember bytes (Err Bad) left = member_in bytes ≡ Err faults.Bad
+BeginsMember bytes (Err Cut) left = (begins_member bytes ≡ Err Cut) ⊎ (member_in bytes ≡ Err faults.Cut)
+BeginsMember bytes (Err TooFar) left = ⊥

@@ -1,10 +1,12 @@
 //! The members of a file, one after another.
-ghost use Rattle.std.specs.Prelude.{◌≡◌, ◌≤◌, ◌<◌, [], false, length, take, Ok, IfOk, OnOk, OnErr, Some, Result, List, ℕ};
+ghost use Rattle.std.specs.Io.KnownBytes.{prepend_known};
+ghost use Rattle.std.specs.Prelude.{◌≡◌, ◌+◌, ◌-◌, ◌^◌, ◌≤◌, ◌<◌, [], false, length, take, Ok, IfOk, OnOk, OnErr, Some, Result, List, ℕ};
 ghost use Rattle.deflate_bits.specs.declared.fault.DeflateFault.{DeflateFault};
 ghost use Rattle.devices.specs.Device.{CountsFailure};
 
 use crate::body::Body;
 use crate::checked_input::CheckedInput;
+use crate::fault::MemberFault;
 use crate::read_ahead::ReadAhead;
 use crc_32::Crc32;
 use deflate_bits::DeflateFault;
@@ -22,9 +24,10 @@ pub struct Members<I: Input> {
 }
 
 impl<I: Input> Members<I> {
+    ghost use Rattle.gzip_members.specs.Reading.{CountsMember};
     ghost use Rattle.gzip_members.specs.Windows.{pending};
     ghost use Rattle.gzip_members.specs.Bodies.{is_over};
-    ghost use Rattle.gzip_members.specs.Left.{GivesText, left_of, waits, work_left};
+    ghost use Rattle.gzip_members.specs.Left.{BeginsMember, GivesText, left_of, waits, work_left};
 
     /// Creates a file of which nothing was read. The only error is refused memory.
     pub fn new(alloc: Global, input: I) -> Result<Members<I>, AllocError>
@@ -43,6 +46,33 @@ impl<I: Input> Members<I> {
             body: Body::new(alloc)?,
             is_too_far: false,
         })
+    }
+
+    /// Begins the member that begins with the next bytes, and returns whether one does; or else the file has ended.
+    ///
+    /// Errors are `Read`; `NoMember` for other bytes than those that a member begins with; `Bad` and `Cut` for a header
+    /// that is none or goes on behind the file's end; and `TooFar`.
+    pub fn begin(&mut self) -> Result<bool, MemberFault>
+        ensures member { (bytes : List ℕ)
+            → prepend_known self.old.source.ahead (I.remaining self.old.source.input) ≡ Some bytes
+            → self.old.source.passed + length bytes ≤ 2 ^ 63 - 1
+            → BeginsMember bytes result (left_of self.new) }
+        ensures failures { CountsMember result (I.failures self.old.source.input)
+            (I.failures self.new.source.input) }
+    {
+        self.body.restart();
+        match self.source.start() {
+            Ok(begins) => {
+                if !begins {
+                    self.body.refuse(DeflateFault::Cut);
+                }
+                Ok(begins)
+            }
+            Err(fault) => {
+                self.body.refuse(DeflateFault::Cut);
+                Err(fault)
+            }
+        }
     }
 
     /// Goes on in the member, of which all text was given out. The only error is the input's failure.
