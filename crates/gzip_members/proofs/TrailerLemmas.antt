@@ -40,7 +40,7 @@ four-more number bytes more then_is then_was h e =
     ∙ if-followed more (little_endian (take 4 bytes) == number) then_was (Err Bad)
     ∙ sym (ap (λ v. followed more (if v then Err Cut else (if little_endian (take 4 bytes) == number then then_was else Err Bad))) b)
 
-append-nil : (xs : List ℕ) → xs ++ [] ≡ xs
+pub append-nil : (xs : List ℕ) → xs ++ [] ≡ xs
 append-nil [] = refl
 append-nil (x ∷ xs) = ap (λ l. x ∷ l) (append-nil xs)
 

@@ -87,7 +87,7 @@ impl Body {
     ghost use Rattle.std.specs.Prelude.{◌≡◌, ◌++◌, ◌≤◌, ◌<◌, ◌⊎◌, Bool, true, false, List, [], ℕ, length, take, drop, nat_lt, IfOk};
     ghost use Rattle.inflate.specs.Inflating.{place_of};
     ghost use Rattle.inflate.specs.Heads.{AtBlock};
-    ghost use Rattle.gzip_members.specs.Bodies.{is_over, left_in, text_so_far, GivesLeft, GoesOn};
+    ghost use Rattle.gzip_members.specs.Bodies.{fault_of, is_over, left_in, text_so_far, GivesLeft, GoesOn};
     ghost use Rattle.gzip_members.specs.Windows.{pending};
 
     /// Creates a body of which nothing is left. The only error is refused memory.
@@ -255,6 +255,29 @@ impl Body {
             (take result piece.new) }
     {
         self.window.give(piece)
+    }
+
+    /// Passes over all text that was unpacked.
+    pub fn pass(&mut self)
+        ensures stage { self.new.stage ≡ self.old.stage }
+        ensures bits { self.new.bits ≡ self.old.bits }
+        ensures given { self.new.window.given ≡ length self.new.window.text }
+        ensures left { (bytes : List ℕ) → GivesLeft (left_in self.old bytes) (left_in self.new bytes)
+            (drop self.old.window.given self.old.window.text) }
+    {
+        self.window.pass();
+    }
+
+    /// Returns why it is no member, if it was refused.
+    pub fn fault(&self) -> Option<DeflateFault>
+        ensures { result ≡ fault_of self.now.stage }
+    {
+        match self.stage {
+            Stage::Data => None,
+            Stage::Trailer => None,
+            Stage::Ended => None,
+            Stage::Refused(fault) => Some(fault),
+        }
     }
 
     /// Returns whether nothing comes next of the member.
