@@ -9,3 +9,4 @@ pub mod LeftLemmas
 pub mod GiveLemmas
 pub mod EndLemmas
 pub mod BeginLemmas
+pub mod RestLemmas

@@ -1,5 +1,5 @@
 -- What is left of the member that is read, where the file's bytes are known.
-use Rattle.std.specs.Prelude.{◌≡◌, ℕ, ◌+◌, ◌-◌, ◌*◌, ◌^◌, ◌||◌, ◌⊎◌, ⊤, suc, nat_lt, not, ◌++◌, Bool, true, false, List, [], length, Option, None, Some, Result, Ok, Err, if◌then◌else◌}
+use Rattle.std.specs.Prelude.{◌≡◌, ◌<◌, ◌≤◌, ℕ, ◌+◌, ◌-◌, ◌*◌, ◌^◌, ◌||◌, ◌⊎◌, ⊤, suc, nat_lt, not, ◌++◌, Bool, true, false, List, [], length, Option, None, Some, Result, Ok, Err, if◌then◌else◌}
 use Rattle.std.specs.Io.KnownBytes.{prepend_known}
 use Rattle.deflate_bits.specs.declared.fault.DeflateFault.{DeflateFault}
 use Rattle.gzip_members.specs.declared.body.Body.{Body}
@@ -58,3 +58,13 @@ BeginsMember bytes (Err NoMember) left = begins_member bytes ≡ Err NoMember
 BeginsMember bytes (Err Bad) left = member_in bytes ≡ Err faults.Bad
 BeginsMember bytes (Err Cut) left = (begins_member bytes ≡ Err Cut) ⊎ (member_in bytes ≡ Err faults.Cut)
 BeginsMember bytes (Err TooFar) left = ⊥
+
+-- text was passed over, some at least; or none is left, and the same is
+abbrev pub PassesText : Bool → Option (Result (List ℕ × List ℕ) DeflateFault) → Option (Result (List ℕ × List ℕ) DeflateFault) → Type 0
+PassesText true old new = (given : List ℕ) × (0 < length given) × GivesText old new given
+PassesText false old new = GivesText old new []
+
+-- all text was passed over, of which there was some or none; it was too much where nothing is answered
+abbrev pub PassesRest : Option Bool → List ℕ → List ℕ → Option (Result (List ℕ × List ℕ) DeflateFault) → Type 0
+PassesRest (Some had) text behind new = (new ≡ Some (Ok ([], behind))) × (had ≡ nat_lt 0 (length text))
+PassesRest None text behind new = 2 ^ 64 - 1 ≤ length text

@@ -1,6 +1,6 @@
 //! The members of a file, one after another.
 ghost use Rattle.std.specs.Io.KnownBytes.{prepend_known};
-ghost use Rattle.std.specs.Prelude.{◌≡◌, ◌+◌, ◌-◌, ◌^◌, ◌≤◌, ◌<◌, [], false, length, take, Ok, IfOk, OnOk, OnErr, Some, Result, List, ℕ};
+ghost use Rattle.std.specs.Prelude.{◌≡◌, ◌+◌, ◌-◌, ◌^◌, ◌≤◌, ◌<◌, [], true, false, length, take, Ok, IfOk, OnOk, OnErr, Bool, Err, Some, Result, List, ℕ};
 ghost use Rattle.deflate_bits.specs.declared.fault.DeflateFault.{DeflateFault};
 ghost use Rattle.devices.specs.Device.{CountsFailure};
 
@@ -27,7 +27,7 @@ impl<I: Input> Members<I> {
     ghost use Rattle.gzip_members.specs.Reading.{CountsMember};
     ghost use Rattle.gzip_members.specs.Windows.{pending};
     ghost use Rattle.gzip_members.specs.Bodies.{is_over};
-    ghost use Rattle.gzip_members.specs.Left.{BeginsMember, GivesText, left_of, waits, work_left};
+    ghost use Rattle.gzip_members.specs.Left.{BeginsMember, GivesText, PassesRest, PassesText, left_of, waits, work_left};
 
     /// Creates a file of which nothing was read. The only error is refused memory.
     pub fn new(alloc: Global, input: I) -> Result<Members<I>, AllocError>
@@ -136,5 +136,51 @@ impl<I: Input> Members<I> {
     {
         self.fill()?;
         Ok(self.body.give(piece))
+    }
+
+    /// Passes over the next text of the member, and returns whether there was some. The only error is the input's failure.
+    fn pass_text(&mut self) -> Result<bool, DeviceFault>
+        ensures passes { IfOk result (λ had. PassesText had (left_of self.old) (left_of self.new)) }
+        ensures end { result ≡ Ok false → is_over self.new.body.stage ≡ true }
+        ensures none { result ≡ Ok false → (text behind : List ℕ)
+            → left_of self.new ≡ Some (Ok (text, behind)) → text ≡ [] }
+        ensures err { (r : Result (List ℕ × List ℕ) DeflateFault) → OnErr result (left_of self.old ≡ Some r
+            → left_of self.new ≡ Some r) }
+        ensures failures { CountsFailure result (I.failures self.old.source.input)
+            (I.failures self.new.source.input) }
+    {
+        self.fill()?;
+        let has_text = self.body.has_text();
+        if has_text {
+            self.body.pass();
+        }
+        Ok(has_text)
+    }
+
+    /// Passes over all text of the member, and returns whether there was some; or `None` if it has 2^64 bytes or more. The
+    /// only error is the input's failure.
+    fn pass_rest(&mut self) -> Result<Option<bool>, DeviceFault>
+        ensures whole { (text behind : List ℕ) → left_of self.old ≡ Some (Ok (text, behind))
+            → IfOk result (λ had. PassesRest had text behind (left_of self.new)) }
+        ensures fault { (fault : DeflateFault) → OnOk result (left_of self.old ≡ Some (Err fault)
+            → left_of self.new ≡ Some (Err fault)) }
+        ensures end { (had : Bool) → result ≡ Ok (Some had) → is_over self.new.body.stage ≡ true }
+        ensures failures { CountsFailure result (I.failures self.old.source.input)
+            (I.failures self.new.source.input) }
+    {
+        let mut had = false;
+        'rest: for _ in 0..u64::MAX {
+            match self.pass_text() {
+                Ok(more) => {
+                    if more {
+                        had = true;
+                    } else {
+                        return Ok(Some(had));
+                    }
+                }
+                Err(fault) => return Err(fault),
+            }
+        }
+        Ok(None)
     }
 }
