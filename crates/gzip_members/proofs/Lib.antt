@@ -10,3 +10,4 @@ pub mod GiveLemmas
 pub mod EndLemmas
 pub mod BeginLemmas
 pub mod RestLemmas
+pub mod OverLemmas

@@ -8,6 +8,7 @@ use Rattle.gzip_members.specs.declared.members.Members.{Members}
 use Rattle.deflate_bits.specs.declared.fault.DeflateFault.TheVariants as faults
 use Rattle.gzip_members.specs.declared.fault.MemberFault.{MemberFault}
 use Rattle.gzip_members.specs.declared.fault.MemberFault.TheVariants.{Read, NoMember, Bad, Cut, TooFar}
+use Rattle.gzip_members.specs.Faults.{member_fault}
 use Rattle.gzip_members.specs.Starts.{begins_member}
 use Rattle.gzip_members.specs.Members.{member_in}
 use Rattle.gzip_members.specs.Windows.{WindowView}
@@ -68,3 +69,19 @@ PassesText false old new = GivesText old new []
 abbrev pub PassesRest : Option Bool → List ℕ → List ℕ → Option (Result (List ℕ × List ℕ) DeflateFault) → Type 0
 PassesRest (Some had) text behind new = (new ≡ Some (Ok ([], behind))) × (had ≡ nat_lt 0 (length text))
 PassesRest None text behind new = 2 ^ 64 - 1 ≤ length text
+
+-- the end of a member of this text was reached, and these bytes are ahead; unless the input failed
+abbrev pub EndsMember : Result Bool MemberFault → List ℕ → List ℕ → Option (List ℕ) → Type 0
+EndsMember (Ok had) text behind ahead = (had ≡ nat_lt 0 (length text)) × (ahead ≡ Some behind)
+EndsMember (Err Read) text behind ahead = ⊤
+EndsMember (Err NoMember) text behind ahead = ⊥
+EndsMember (Err Bad) text behind ahead = ⊥
+EndsMember (Err Cut) text behind ahead = ⊥
+EndsMember (Err TooFar) text behind ahead = ⊥
+
+-- the member was refused for this fault, unless the input failed or more text came than can be counted
+abbrev pub RefusesMember : Result Bool MemberFault → DeflateFault → Type 0
+RefusesMember (Ok had) fault = ⊥
+RefusesMember (Err Read) fault = ⊤
+RefusesMember (Err TooFar) fault = ⊤
+RefusesMember (Err other) fault = other ≡ member_fault fault

@@ -27,7 +27,7 @@ impl<I: Input> Members<I> {
     ghost use Rattle.gzip_members.specs.Reading.{CountsMember};
     ghost use Rattle.gzip_members.specs.Windows.{pending};
     ghost use Rattle.gzip_members.specs.Bodies.{is_over};
-    ghost use Rattle.gzip_members.specs.Left.{BeginsMember, GivesText, PassesRest, PassesText, left_of, waits, work_left};
+    ghost use Rattle.gzip_members.specs.Left.{BeginsMember, EndsMember, GivesText, RefusesMember, PassesRest, PassesText, left_of, waits, work_left};
 
     /// Creates a file of which nothing was read. The only error is refused memory.
     pub fn new(alloc: Global, input: I) -> Result<Members<I>, AllocError>
@@ -61,6 +61,7 @@ impl<I: Input> Members<I> {
             (I.failures self.new.source.input) }
     {
         self.body.restart();
+        self.is_too_far = false;
         match self.source.start() {
             Ok(begins) => {
                 if !begins {
@@ -182,5 +183,33 @@ impl<I: Input> Members<I> {
             }
         }
         Ok(None)
+    }
+
+    /// Reads the member to its end, and returns whether it had text that wasn't given out. The bytes ahead are then those
+    /// behind the member.
+    ///
+    /// Errors are `Read`; `Bad` and `Cut` for a member that is none or goes on behind the file's end; and `TooFar`, also for
+    /// text of 2^64 bytes.
+    pub fn end(&mut self) -> Result<bool, MemberFault>
+        ensures whole { (text behind : List ℕ) → left_of self.old ≡ Some (Ok (text, behind))
+            → length text < 2 ^ 64 - 1 → EndsMember result text behind
+            (prepend_known self.new.source.ahead (I.remaining self.new.source.input)) }
+        ensures refused { (fault : DeflateFault) → left_of self.old ≡ Some (Err fault)
+            → RefusesMember result fault }
+        ensures over { (had : Bool) → result ≡ Ok had → is_over self.new.body.stage ≡ true }
+        ensures failures { CountsMember result (I.failures self.old.source.input)
+            (I.failures self.new.source.input) }
+    {
+        match self.pass_rest()? {
+            Some(had) => match self.body.fault() {
+                None => Ok(had),
+                Some(fault) => Err(if self.is_too_far {
+                    MemberFault::TooFar
+                } else {
+                    MemberFault::from(fault)
+                }),
+            },
+            None => Err(MemberFault::TooFar),
+        }
     }
 }

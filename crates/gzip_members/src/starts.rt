@@ -63,6 +63,7 @@ impl<I: Input> CheckedInput<I> {
 
 /// The first two bytes of a member.
 const FIRST: u8 = 31;
+
 const SECOND: u8 = 139;
 
 ghost use Rattle.std.specs.Prelude.{take};
