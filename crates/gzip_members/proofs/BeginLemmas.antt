@@ -1,14 +1,14 @@
 -- A member is begun.
-use Rattle.std.proofs.Common.{◌≡◌, ℕ, ◌+◌, ◌-◌, ◌%◌, ◌^◌, ◌≤◌, ◌⊎◌, Bool, true, false, nat_lt, List, [], length, drop, Option, None, Some, Result, Ok, Err, refl, sym, ap, ◌∙◌, subst, inl, inr, arith, zero-add}
+use Rattle.std.proofs.Common.{◌≡◌, ℕ, ◌+◌, ◌-◌, ◌%◌, ◌^◌, ◌≤◌, true, false, nat_lt, List, [], length, Option, None, Some, Result, Ok, Err, refl, sym, ap, ◌∙◌, subst, inl, inr, arith, zero-add}
 use Rattle.std.specs.Bool.{if◌then◌else◌}
 use Rattle.std.proofs.lemmas.Bool.{le-ltb}
 use Rattle.std.specs.Io.KnownBytes.{Keeps}
 use Rattle.deflate_bits.specs.declared.fault.DeflateFault.{DeflateFault}
 use Rattle.deflate_bits.specs.Bits.{bits_of}
 use Rattle.deflate_bits.specs.Reading.{◌>>=◌}
-use Rattle.crc_32.specs.Crc.{crc_32, crc_after}
-use Rattle.inflate.specs.Heads.{Place, AtBlock}
-use Rattle.inflate.specs.Blocks.{inflated, inflated_from}
+use Rattle.crc_32.specs.Crc.{crc_32}
+use Rattle.inflate.specs.Heads.{AtBlock}
+use Rattle.inflate.specs.Blocks.{inflated}
 use Rattle.inflate.specs.Inflating.{place_of}
 use Rattle.gzip_members.specs.declared.fault.MemberFault.{MemberFault}
 use Rattle.gzip_members.specs.declared.fault.MemberFault.TheVariants.{Read, NoMember, Bad, Cut, TooFar}
@@ -17,8 +17,8 @@ use Rattle.gzip_members.specs.declared.body.Stage.TheVariants.{Data}
 use Rattle.gzip_members.specs.Header.{header_in}
 use Rattle.gzip_members.specs.Members.{bytes_behind, trailer_in, with_text, closed, body_in, body_behind, member_in}
 use Rattle.gzip_members.specs.Reading.{ReadsFrom}
-use Rattle.gzip_members.specs.Starts.{begins_member, StartsFrom}
-use Rattle.gzip_members.specs.Bodies.{TextSoFar, text_so_far, added, closing, left_in, left_in_data}
+use Rattle.gzip_members.specs.Starts.{StartsFrom}
+use Rattle.gzip_members.specs.Bodies.{TextSoFar, text_so_far, closing, left_in, left_in_data}
 use Rattle.gzip_members.specs.Left.{left_ahead, BeginsMember}
 use Rattle.gzip_members.proofs.StepLemmas.{left-data}
 
@@ -75,8 +75,8 @@ pub begun : (b : Body) (was is : ℕ) (before after : Option (List ℕ)) (bytes 
     → left_ahead b is after ≡ Some (member_in bytes)
 begun b was is before after bytes stage place bits text s e near =
     let all : left_in b ≡ body_in = λ i bytes. (left-data b bytes stage
-        ∙ ap (λ p. left_in_data p b.bits (text_so_far b) bytes) place ∙ ap (λ k. left_in_data AtBlock k (text_so_far b) bytes) bits
-        ∙ ap (λ t. left_in_data AtBlock 0 t bytes) text ∙ whole-left bytes) i in
+    ∙ ap (λ p. left_in_data p b.bits (text_so_far b) bytes) place ∙ ap (λ k. left_in_data AtBlock k (text_so_far b) bytes) bits
+    ∙ ap (λ t. left_in_data AtBlock 0 t bytes) text ∙ whole-left bytes) i in
     let P : Option (List ℕ) → Type 0 = λ o. StartsFrom (Ok true) was is o after in
     begun-from b was is bytes after all (subst P e s) near
 

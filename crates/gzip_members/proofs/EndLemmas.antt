@@ -53,7 +53,8 @@ no-text b passed (Some bytes) text behind stop given e =
 pub nothing-given : (old new : Stage) (w v : WindowView) (n : ℕ) → n ≡ 0 → new ≡ old → v.text ≡ w.text → v.given ≡ w.given + n
     → waits old w ≡ false → length w.text ≤ w.given → (waits new v ≡ false) × (length v.text ≤ v.given)
 nothing-given old new w v n none stage text given stop all =
-    let g : v.given ≡ w.given = omega arith in
-    (ap (λ (s : Stage). waits s v) stage ∙ ap (λ k. not (is_over old || nat_lt k (length v.text))) g
-        ∙ ap (λ l. not (is_over old || nat_lt w.given (length l))) text ∙ stop,
-     omega (arith, ap length text))
+    let g : v.given ≡ w.given = omega arith in (
+      ap (λ (s : Stage). waits s v) stage ∙ ap (λ k. not (is_over old || nat_lt k (length v.text))) g
+          ∙ ap (λ l. not (is_over old || nat_lt w.given (length l))) text ∙ stop,
+      omega (arith, ap length text),
+    )

@@ -1,11 +1,11 @@
 -- A member is read to its end.
-use Rattle.std.proofs.Common.{◌≡◌, ℕ, zero, suc, add-zero, ◌+◌, ◌-◌, ◌*◌, ◌^◌, ◌<◌, ◌≤◌, ◌⊎◌, Bool, true, false, nat_lt, List, [], length, drop, refl, sym, ap, ◌∙◌, inl, inr, arith, length-drop}
+use Rattle.std.proofs.Common.{◌≡◌, ℕ, zero, suc, add-zero, ◌+◌, ◌-◌, ◌*◌, ◌^◌, ◌<◌, ◌≤◌, ◌⊎◌, Bool, true, false, nat_lt, [], length, refl, ap, ◌∙◌, inl, inr, arith, length-drop}
 use Rattle.std.specs.Bool.{if◌then◌else◌}
 use Rattle.std.specs.Prelude.{◌||◌}
 use Rattle.std.proofs.lemmas.Bool.{le-ltb, lt-ltb}
 use Rattle.deflate_bits.specs.declared.fault.DeflateFault.{DeflateFault}
 use Rattle.gzip_members.specs.declared.body.Stage.{Stage}
-use Rattle.gzip_members.specs.declared.body.Stage.TheVariants.{Data, Trailer, Ended, Refused}
+use Rattle.gzip_members.specs.declared.body.Stage.TheVariants.{Refused}
 use Rattle.gzip_members.specs.Windows.{WindowView, pending}
 use Rattle.gzip_members.specs.Bodies.{is_over, parts_left, GoesOn}
 use Rattle.gzip_members.specs.Left.{work_left}
@@ -66,7 +66,7 @@ falls old new w v is_whole passed passed' held mid held' taken more given near n
 falls old new w v is_whole passed passed' held mid held' taken more given near near' count left inside read (inr (inr (same, waits, few))) =
     rw (work-is old w passed held more given, count, left)
     (least-of _ _ _ (work-most (is_over new) (nat_lt v.given (length v.text)) _)
-        (rw same (goes-further (parts_left old) passed taken held mid (omega arith) few (read waits))))
+    (rw same (goes-further (parts_left old) passed taken held mid (omega arith) few (read waits))))
 
 -- each turn leaves less to do
 pub work-falls : (old new : Stage) (w v : WindowView) (is_whole : Bool) (passed passed' held mid held' taken : ℕ)

@@ -1,7 +1,6 @@
 use Rattle.std.proofs.Common.{◌≡◌, ◌+◌, ◌≤◌, ◌-◌, ℕ, length, ap, ◌∙◌, subst, refl, arith, length-drop}
 use Rattle.deflate_bits.specs.declared.fault.DeflateFault.TheVariants.{Bad}
 use Rattle.gzip_members.specs.Bodies.{GoesOn}
-use Rattle.gzip_members.specs.Left.{work_left}
 use Rattle.gzip_members.proofs.LeftLemmas.{work-ends, work-falls}
 use Rattle.gzip_members.proofs.members.Members.advance.Goals as goal
 
@@ -9,7 +8,7 @@ pub returns-then-not-take-clause-nearer : goal.returns-then-not-take-clause-near
 returns-then-not-take-clause-nearer g c =
     let old = c.args.self.now in
     rw c.refuse.ensures.stage (work-ends old.body.stage Bad old.body.window c.refuse.new.self.window old.source.passed c.take.new.self.passed
-        (length old.source.ahead) (length c.take.new.self.ahead) c.requires.more c.requires.given)
+    (length old.source.ahead) (length c.take.new.self.ahead) c.requires.more c.requires.given)
 
 pub returns-else-not-take-clause-nearer : goal.returns-else-not-take-clause-nearer
 returns-else-not-take-clause-nearer g c =
@@ -22,5 +21,5 @@ returns-else-not-take-clause-nearer g c =
     let left : length new.ahead ≡ length mid.ahead - n = ap length c.if-not-take.ensures.taken ∙ length-drop n mid.ahead in
     let inside : n ≤ length mid.ahead = omega (arith, c.step-taken.ensures.inside) in
     work-falls old.body.stage b.stage old.body.window b.window whole old.source.passed new.passed (length old.source.ahead) (length mid.ahead)
-        (length new.ahead) n c.requires.more c.requires.given old.source.within new.within count left inside
-        (λ e. c.in_ok-is_whole.ensures.more (rw e refl)) on
+    (length new.ahead) n c.requires.more c.requires.given old.source.within new.within count left inside
+    (λ e. c.in_ok-is_whole.ensures.more (rw e refl)) on
