@@ -7,7 +7,7 @@ use Rattle.crc_32.specs.Crc.{crc_32}
 use Rattle.gzip_members.specs.declared.fault.MemberFault.{MemberFault}
 use Rattle.gzip_members.specs.declared.fault.MemberFault.TheVariants.{Read, NoMember, Bad, Cut, TooFar}
 use Rattle.gzip_members.specs.Header.{Parted, byte_in, past_in, text_in, name_in}
-use Rattle.gzip_members.specs.Reading.{Reads, ReadsFrom, IsFault, Taken}
+use Rattle.gzip_members.specs.Reading.{Reads, ReadsFrom, Taken}
 
 -- what is read from the start on is what is read later from here on
 abbrev pub ContinuesFrom : {A : Type 0} → (Parted → Result (A × Parted) DeflateFault) → (Parted → Result (A × Parted) DeflateFault) → ℕ → ℕ → ℕ → ℕ
@@ -35,10 +35,13 @@ byte-from : {A : Type 0} (whole later next : Parted → Result (A × Parted) Def
 byte-from whole later next byte start mid new was is will None before after step c r = tt
 byte-from whole later next byte start mid new was is will (Some z) None after step c r = absurd c
 byte-from whole later next byte start mid new was is will (Some z) (Some b) None step c r = absurd r
-byte-from whole later next byte start mid new was is will (Some z) (Some b) (Some rest) step c r = (λ read e.
-    let d = c.0 read e in
-    let h = r.0 d.0 d.2 in
-    (h.0, d.1 ∙ step d.0 b rest h.0 h.1, h.2), r.1 ∙ c.1)
+byte-from whole later next byte start mid new was is will (Some z) (Some b) (Some rest) step c r = (
+  λ read e.
+      let d = c.0 read e in
+      let h = r.0 d.0 d.2 in
+      (h.0, d.1 ∙ step d.0 b rest h.0 h.1, h.2),
+  r.1 ∙ c.1,
+)
 
 -- one byte on
 pub continues-byte : {A : Type 0} (whole later next : Parted → Result (A × Parted) DeflateFault) (byte : ℕ) (start mid new : Taken)
@@ -53,8 +56,11 @@ ends-from : {A : Type 0} (whole later : Parted → Result (A × Parted) DeflateF
 ends-from whole later start mid new was is will result None before after c r = tt
 ends-from whole later start mid new was is will result (Some z) None after c r = absurd c
 ends-from whole later start mid new was is will (Ok x) (Some z) (Some b) None c r = absurd r
-ends-from whole later start mid new was is will (Ok x) (Some z) (Some b) (Some rest) c r = (λ read e.
-    let d = c.0 read e in let h = r.0 d.0 d.2 in (h.0, d.1 ∙ h.1, h.2), r.1 ∙ c.1)
+ends-from whole later start mid new was is will (Ok x) (Some z) (Some b) (Some rest) c r = (
+  λ read e.
+      let d = c.0 read e in let h = r.0 d.0 d.2 in (h.0, d.1 ∙ h.1, h.2),
+  r.1 ∙ c.1,
+)
 ends-from whole later start mid new was is will (Err Read) (Some z) (Some b) after c r = λ read e. tt
 ends-from whole later start mid new was is will (Err NoMember) (Some z) (Some b) after c r = λ read e. let d = c.0 read e in r d.0 d.2
 ends-from whole later start mid new was is will (Err Bad) (Some z) (Some b) after c r = λ read e. let d = c.0 read e in d.1 ∙ r d.0 d.2
@@ -161,8 +167,11 @@ name-found : (byte old new was is : ℕ) (before after : Option (List ℕ)) → 
     → ReadsFrom name_in (Ok tt) old new was is before after
 name-found byte old new was is None after none r = tt
 name-found byte old new was is (Some z) None none r = absurd r
-name-found byte old new was is (Some z) (Some rest) none r = (λ read e.
-    let h = r.0 read e in (h.0, name-last byte read z rest h.0 none h.1, h.2), r.1)
+name-found byte old new was is (Some z) (Some rest) none r = (
+  λ read e.
+      let h = r.0 read e in (h.0, name-last byte read z rest h.0 none h.1, h.2),
+  r.1,
+)
 
 pub name-done : (byte : ℕ) (start mid new : Taken) → (byte == 0) ≡ true → Continues name_in name_in start mid
     → Reads byte_in (Ok byte) mid new → Reads name_in (Ok tt) start new

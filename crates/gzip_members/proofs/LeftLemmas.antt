@@ -1,17 +1,18 @@
 -- A member is read to its end.
-use Rattle.std.proofs.Common.{◌≡◌, ℕ, zero, suc, add-zero, ◌+◌, ◌-◌, ◌*◌, ◌^◌, ◌<◌, ◌≤◌, ◌⊎◌, Bool, true, false, nat_lt, List, [], length, drop, refl, sym, ap, ◌∙◌, inl, inr, arith, length-drop}
-use Rattle.std.specs.Bool.{if◌then◌else◌, OnTrue}
-use Rattle.std.specs.Prelude.{◌||◌, not}
+use Rattle.std.proofs.Common.{◌≡◌, ℕ, zero, suc, add-zero, ◌+◌, ◌-◌, ◌*◌, ◌^◌, ◌<◌, ◌≤◌, ◌⊎◌, Bool, true, false, nat_lt, [], length, refl, ap, ◌∙◌, inl, inr, arith, length-drop}
+use Rattle.std.specs.Bool.{if◌then◌else◌}
+use Rattle.std.specs.Prelude.{◌||◌}
 use Rattle.std.proofs.lemmas.Bool.{le-ltb, lt-ltb}
+use Rattle.deflate_bits.specs.declared.fault.DeflateFault.{DeflateFault}
 use Rattle.gzip_members.specs.declared.body.Stage.{Stage}
-use Rattle.gzip_members.specs.declared.body.Stage.TheVariants.{Data, Trailer, Ended, Refused}
+use Rattle.gzip_members.specs.declared.body.Stage.TheVariants.{Refused}
 use Rattle.gzip_members.specs.Windows.{WindowView, pending}
 use Rattle.gzip_members.specs.Bodies.{is_over, parts_left, GoesOn}
 use Rattle.gzip_members.specs.Left.{work_left}
 
 -- what is to be done where something is to be done
 work-is : (stage : Stage) (w : WindowView) (passed held : ℕ) → is_over stage ≡ false → pending w ≡ []
-    → work_left stage false w passed held ≡ suc (parts_left stage * 2 ^ 80 + (2 ^ 63 - passed) * 8193 + (8192 - held))
+    → work_left stage w passed held ≡ suc (parts_left stage * 2 ^ 80 + (2 ^ 63 - passed) * 8193 + (8192 - held))
 work-is stage w passed held more given =
     let h : length w.text ≤ w.given = omega (arith, ap length given, length-drop w.given w.text) in
     let far : nat_lt w.given (length w.text) ≡ false = le-ltb w.given (length w.text) h in
@@ -30,10 +31,6 @@ least-of a b c h k = omega arith
 none-left : (b : Bool) (g l n : ℕ) → g < l → (if b || nat_lt g l then 0 else n) ≡ 0
 none-left true g l n h = refl
 none-left false g l n h = ap (λ v. if v then 0 else n) (lt-ltb g l h)
-
-nothing-left : (b c : Bool) (n : ℕ) → (if b || (true || c) then 0 else n) ≡ 0
-nothing-left true c n = refl
-nothing-left false c n = refl
 
 -- by numbers alone: a part was read to its end, or bytes were taken, or more are held
 fewer : (p p' passed passed' held held' : ℕ) → passed' ≤ 2 ^ 63 - 1 → p' < p
@@ -60,7 +57,7 @@ falls : (old new : Stage) (w v : WindowView) (is_whole : Bool) (passed passed' h
     → is_over old ≡ false → pending w ≡ [] → passed ≤ 2 ^ 63 - 1 → passed' ≤ 2 ^ 63 - 1
     → passed' ≡ passed + taken → held' ≡ mid - taken → taken ≤ mid
     → (is_whole ≡ false → (held < mid) ⊎ (8192 ≤ mid)) → GoesOn old new v is_whole (mid - taken)
-    → work_left new false v passed' held' < work_left old false w passed held
+    → work_left new v passed' held' < work_left old w passed held
 falls old new w v is_whole passed passed' held mid held' taken more given near near' count left inside read (inl part) =
     rw (work-is old w passed held more given)
     (least-of _ _ _ (work-most (is_over new) (nat_lt v.given (length v.text)) _) (fewer (parts_left old) (parts_left new) passed passed' held held' near' part))
@@ -69,20 +66,18 @@ falls old new w v is_whole passed passed' held mid held' taken more given near n
 falls old new w v is_whole passed passed' held mid held' taken more given near near' count left inside read (inr (inr (same, waits, few))) =
     rw (work-is old w passed held more given, count, left)
     (least-of _ _ _ (work-most (is_over new) (nat_lt v.given (length v.text)) _)
-        (rw same (goes-further (parts_left old) passed taken held mid (omega arith) few (read waits))))
+    (rw same (goes-further (parts_left old) passed taken held mid (omega arith) few (read waits))))
 
 -- each turn leaves less to do
-pub work-falls : (ok : Bool) (old new : Stage) (w v : WindowView) (is_whole : Bool) (passed passed' held mid held' taken : ℕ)
+pub work-falls : (old new : Stage) (w v : WindowView) (is_whole : Bool) (passed passed' held mid held' taken : ℕ)
     → is_over old ≡ false → pending w ≡ [] → passed ≤ 2 ^ 63 - 1 → passed' ≤ 2 ^ 63 - 1
-    → OnTrue ok (passed' ≡ passed + taken) → OnTrue ok (held' ≡ mid - taken) → taken ≤ mid
+    → passed' ≡ passed + taken → held' ≡ mid - taken → taken ≤ mid
     → (is_whole ≡ false → (held < mid) ⊎ (8192 ≤ mid)) → GoesOn old new v is_whole (mid - taken)
-    → work_left new (not ok) v passed' held' < work_left old false w passed held
-work-falls false old new w v is_whole passed passed' held mid held' taken more given near near' count left inside read on =
-    rw (work-is old w passed held more given, nothing-left (is_over new) (nat_lt v.given (length v.text)) _) (omega arith)
-work-falls true old new w v is_whole passed passed' held mid held' taken more given near near' count left inside read on =
+    → work_left new v passed' held' < work_left old w passed held
+work-falls old new w v is_whole passed passed' held mid held' taken more given near near' count left inside read on =
     falls old new w v is_whole passed passed' held mid held' taken more given near near' count left inside read on
 
--- a fact for one answer leads to another
-pub on-true : {P Q : Type 0} (b : Bool) → (P → Q) → OnTrue b P → OnTrue b Q
-on-true true f h = f h
-on-true false f h = h
+-- also where no more is read
+pub work-ends : (old : Stage) (fault : DeflateFault) (w v : WindowView) (passed passed' held held' : ℕ) → is_over old ≡ false → pending w ≡ []
+    → work_left (Refused fault) v passed' held' < work_left old w passed held
+work-ends old fault w v passed passed' held held' more given = rw (work-is old w passed held more given) (omega arith)

@@ -6,3 +6,8 @@ pub mod BodyLemmas
 pub mod StepLemmas
 pub mod TrailerLemmas
 pub mod LeftLemmas
+pub mod GiveLemmas
+pub mod EndLemmas
+pub mod BeginLemmas
+pub mod RestLemmas
+pub mod OverLemmas

@@ -1,8 +1,8 @@
 -- Trailers with more bytes behind them.
-use Rattle.std.proofs.Common.{◌≡◌, ℕ, ◌+◌, ◌≤◌, ◌==◌, ◌⊎◌, Bool, true, false, nat_lt, List, [], ◌∷◌, ◌++◌, length, take, drop, Result, Ok, Err, refl, sym, ap, ◌∙◌, arith, length-append, length-drop, inl, inr}
+use Rattle.std.proofs.Common.{◌≡◌, ℕ, ◌≤◌, ◌==◌, ◌⊎◌, Bool, true, false, nat_lt, List, [], ◌∷◌, ◌++◌, length, take, drop, Result, Ok, Err, refl, sym, ap, ◌∙◌, arith, length-append, length-drop, inl, inr}
 use Rattle.std.specs.Bool.{if◌then◌else◌}
 use Rattle.std.proofs.lemmas.Bool.{le-ltb}
-use Rattle.std.proofs.lemmas.List.{take-append-le, drop-append-le, drop-drop}
+use Rattle.std.proofs.lemmas.List.{take-append-le, drop-append-le}
 use Rattle.deflate_bits.specs.declared.fault.DeflateFault.{DeflateFault}
 use Rattle.deflate_bits.specs.declared.fault.DeflateFault.TheVariants.{Bad, Cut}
 use Rattle.deflate_bits.specs.Bits.{little_endian}
@@ -11,8 +11,7 @@ use Rattle.gzip_members.specs.declared.body.Body.{Body}
 use Rattle.gzip_members.specs.declared.body.Stage.{Stage}
 use Rattle.gzip_members.specs.declared.body.Stage.TheVariants.{Trailer, Ended, Refused}
 use Rattle.gzip_members.specs.Members.{size_in, trailer_in, with_text}
-use Rattle.gzip_members.specs.Reading.{GivesRest}
-use Rattle.gzip_members.specs.Bodies.{left_by, left_in, left_at_trailer, text_so_far}
+use Rattle.gzip_members.specs.Bodies.{left_by, left_in, left_at_trailer}
 use Rattle.gzip_members.specs.Windows.{WindowView}
 use Rattle.gzip_members.proofs.StepLemmas.{left-trailer}
 
@@ -29,7 +28,7 @@ if-followed more false r s = refl
 -- four bytes that are compared
 four-more : (number : ℕ) (bytes more : List ℕ) (then_is then_was : Result (List ℕ) DeflateFault) → 4 ≤ length bytes → then_is ≡ followed more then_was
     → (if nat_lt (length (bytes ++ more)) 4 then Err Cut else (if little_endian (take 4 (bytes ++ more)) == number then then_is else Err Bad))
-      ≡ followed more (if nat_lt (length bytes) 4 then Err Cut else (if little_endian (take 4 bytes) == number then then_was else Err Bad))
+    ≡ followed more (if nat_lt (length bytes) 4 then Err Cut else (if little_endian (take 4 bytes) == number then then_was else Err Bad))
 four-more number bytes more then_is then_was h e =
     let long : 4 ≤ length (bytes ++ more) = omega (arith, length-append bytes more) in
     let a : nat_lt (length (bytes ++ more)) 4 ≡ false = le-ltb (length (bytes ++ more)) 4 long in
@@ -40,7 +39,7 @@ four-more number bytes more then_is then_was h e =
     ∙ if-followed more (little_endian (take 4 bytes) == number) then_was (Err Bad)
     ∙ sym (ap (λ v. followed more (if v then Err Cut else (if little_endian (take 4 bytes) == number then then_was else Err Bad))) b)
 
-append-nil : (xs : List ℕ) → xs ++ [] ≡ xs
+pub append-nil : (xs : List ℕ) → xs ++ [] ≡ xs
 append-nil [] = refl
 append-nil (x ∷ xs) = ap (λ l. x ∷ l) (append-nil xs)
 
@@ -59,7 +58,7 @@ trailer-more sum size bytes more h =
     let four : 4 ≤ length bytes = omega arith in
     let left : 4 ≤ length (drop 4 bytes) = omega (arith, length-drop 4 bytes) in
     four-more sum bytes more (size_in size (drop 4 (bytes ++ more))) (size_in size (drop 4 bytes)) four
-        (ap (size_in size) (drop-append-le 4 bytes more four) ∙ size-more size (drop 4 bytes) more left)
+    (ap (size_in size) (drop-append-le 4 bytes more four) ∙ size-more size (drop 4 bytes) more left)
 
 -- a trailer that was compared over enough bytes, or all
 compared : (sum size : ℕ) (bytes more : List ℕ) (is_whole : Bool) → (8 ≤ length bytes) ⊎ (is_whole ≡ true) → (is_whole ≡ true → more ≡ [])
@@ -76,7 +75,7 @@ unfolding left_in left_at_trailer
 closed-left old new bytes is_whole at ended window enough long read more whole =
     left-trailer old (bytes ++ more) at
     ∙ ap (λ r. r >>= with_text (drop old.window.given old.window.text))
-        (compared old.checksum old.size bytes more is_whole enough whole ∙ ap (followed more) read ∙ ap (λ l. Ok l) (sym (drop-append-le 8 bytes more long)))
+    (compared old.checksum old.size bytes more is_whole enough whole ∙ ap (followed more) read ∙ ap (λ l. Ok l) (sym (drop-append-le 8 bytes more long)))
     ∙ ap (λ (w : WindowView). with_text (drop w.given w.text) (drop 8 (bytes ++ more))) (sym window)
     ∙ sym (ap (λ (s : Stage). left_by s new (drop 8 (bytes ++ more))) ended)
 

@@ -6,3 +6,4 @@ pub mod Members
 pub mod Unpacking
 pub mod Bodies
 pub mod Left
+pub mod Faults

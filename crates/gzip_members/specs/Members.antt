@@ -1,5 +1,5 @@
 -- Members (RFC 1952, 2.2 and 2.3).
-use Rattle.std.specs.Prelude.{ℕ, ◌+◌, ◌-◌, ◌/◌, ◌%◌, ◌^◌, ◌==◌, nat_lt, List, [], length, take, drop, Result, Ok, Err, if◌then◌else◌}
+use Rattle.std.specs.Prelude.{ℕ, ◌-◌, ◌/◌, ◌%◌, ◌^◌, ◌==◌, nat_lt, List, [], length, take, drop, Result, Ok, Err, if◌then◌else◌}
 use Rattle.deflate_bits.specs.declared.fault.DeflateFault.{DeflateFault}
 use Rattle.deflate_bits.specs.declared.fault.DeflateFault.TheVariants.{Bad, Cut}
 use Rattle.deflate_bits.specs.Bits.{bits_of, little_endian}

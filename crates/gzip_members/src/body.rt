@@ -84,10 +84,10 @@ fn longer(size: u32, count: usize) -> u32
 }
 
 impl Body {
-    ghost use Rattle.std.specs.Prelude.{◌≡◌, ◌++◌, ◌≤◌, ◌<◌, ◌⊎◌, Bool, true, false, List, [], ℕ, length, drop, IfOk};
+    ghost use Rattle.std.specs.Prelude.{◌≡◌, ◌++◌, ◌≤◌, ◌<◌, ◌⊎◌, Bool, true, false, List, [], ℕ, length, take, drop, nat_lt, IfOk};
     ghost use Rattle.inflate.specs.Inflating.{place_of};
     ghost use Rattle.inflate.specs.Heads.{AtBlock};
-    ghost use Rattle.gzip_members.specs.Bodies.{is_over, left_in, text_so_far, GoesOn};
+    ghost use Rattle.gzip_members.specs.Bodies.{fault_of, is_over, left_in, text_so_far, GivesLeft, GoesOn};
     ghost use Rattle.gzip_members.specs.Windows.{pending};
 
     /// Creates a body of which nothing is left. The only error is refused memory.
@@ -230,5 +230,72 @@ impl Body {
             Stage::Ended => unreachable!(),
             Stage::Refused(_) => unreachable!(),
         }
+    }
+
+    /// Reads no more of the member.
+    pub fn refuse(&mut self, fault: DeflateFault)
+        ensures stage { self.new.stage ≡ Stage.Refused fault }
+        ensures window { self.new.window ≡ self.old.window }
+        ensures bits { self.new.bits ≡ 0 }
+    {
+        self.stage = Stage::Refused(fault);
+        self.bits = 0;
+    }
+
+    /// Gives the next text into the start of `piece`, and returns its length.
+    pub fn give(&mut self, piece: &mut [u8]) -> usize
+        ensures count { result ≤ length piece.new }
+        ensures some { 0 < length piece.new → result ≡ 0
+            → length self.old.window.text ≤ self.old.window.given }
+        ensures stage { self.new.stage ≡ self.old.stage }
+        ensures bits { self.new.bits ≡ self.old.bits }
+        ensures text { self.new.window.text ≡ self.old.window.text }
+        ensures given { self.new.window.given ≡ self.old.window.given + result }
+        ensures left { (bytes : List ℕ) → GivesLeft (left_in self.old bytes) (left_in self.new bytes)
+            (take result piece.new) }
+    {
+        self.window.give(piece)
+    }
+
+    /// Passes over all text that was unpacked.
+    pub fn pass(&mut self)
+        ensures stage { self.new.stage ≡ self.old.stage }
+        ensures bits { self.new.bits ≡ self.old.bits }
+        ensures given { self.new.window.given ≡ length self.new.window.text }
+        ensures left { (bytes : List ℕ) → GivesLeft (left_in self.old bytes) (left_in self.new bytes)
+            (drop self.old.window.given self.old.window.text) }
+    {
+        self.window.pass();
+    }
+
+    /// Returns why it is no member, if it was refused.
+    pub fn fault(&self) -> Option<DeflateFault>
+        ensures { result ≡ fault_of self.now.stage }
+    {
+        match self.stage {
+            Stage::Data => None,
+            Stage::Trailer => None,
+            Stage::Ended => None,
+            Stage::Refused(fault) => Some(fault),
+        }
+    }
+
+    /// Returns whether nothing comes next of the member.
+    pub fn is_over(&self) -> bool
+        ensures { result ≡ is_over self.now.stage }
+    {
+        match self.stage {
+            Stage::Data => false,
+            Stage::Trailer => false,
+            Stage::Ended => true,
+            Stage::Refused(_) => true,
+        }
+    }
+
+    /// Returns whether there is text that wasn't given out.
+    pub fn has_text(&self) -> bool
+        ensures { result ≡ nat_lt self.now.window.given (length self.now.window.text) }
+    {
+        self.window.has_text()
     }
 }

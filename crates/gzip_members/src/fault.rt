@@ -28,3 +28,17 @@ impl From<DeviceFault> for MemberFault {
         MemberFault::Read
     }
 }
+
+impl From<DeflateFault> for MemberFault {
+    ghost use Rattle.std.specs.Prelude.{◌≡◌};
+    ghost use Rattle.gzip_members.specs.Faults.{member_fault};
+
+    ghost from_gives = { λ fault found. found ≡ member_fault fault };
+
+    fn from(fault: DeflateFault) -> MemberFault {
+        match fault {
+            DeflateFault::Bad => MemberFault::Bad,
+            DeflateFault::Cut => MemberFault::Cut,
+        }
+    }
+}

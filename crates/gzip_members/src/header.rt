@@ -103,7 +103,11 @@ impl<I: Input> CheckedInput<I> {
         ensures extra { Reads (where_set 4 flags extra_in) result (taken self.old) (taken self.new) }
         ensures failures { CountsMember result (I.failures self.old.input) (I.failures self.new.input) }
     {
-        if flags / 4 % 2 == 1 { self.extra() } else { Ok(()) }
+        if flags / 4 % 2 == 1 {
+            self.extra()
+        } else {
+            Ok(())
+        }
     }
 
     /// Takes a name or a comment, if its flag is set.
@@ -112,7 +116,11 @@ impl<I: Input> CheckedInput<I> {
         ensures text { Reads (where_set flag flags name_in) result (taken self.old) (taken self.new) }
         ensures failures { CountsMember result (I.failures self.old.input) (I.failures self.new.input) }
     {
-        if flags / flag % 2 == 1 { self.text() } else { Ok(()) }
+        if flags / flag % 2 == 1 {
+            self.text()
+        } else {
+            Ok(())
+        }
     }
 
     /// Takes the checksum of the header, if its flag is set.
@@ -120,7 +128,11 @@ impl<I: Input> CheckedInput<I> {
         ensures sum { Reads (where_set 2 flags sum_in) result (taken self.old) (taken self.new) }
         ensures failures { CountsMember result (I.failures self.old.input) (I.failures self.new.input) }
     {
-        if flags / 2 % 2 == 1 { self.sum() } else { Ok(()) }
+        if flags / 2 % 2 == 1 {
+            self.sum()
+        } else {
+            Ok(())
+        }
     }
 
     /// Takes the optional fields.

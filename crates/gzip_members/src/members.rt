@@ -1,12 +1,15 @@
 //! The members of a file, one after another.
-ghost use Rattle.std.specs.Prelude.{◌≡◌, ◌≤◌, ◌<◌, [], false, length, IfOk, OnOk, OnErr, Some, Result, List, ℕ};
+ghost use Rattle.std.specs.Io.KnownBytes.{prepend_known};
+ghost use Rattle.std.specs.Prelude.{◌≡◌, ◌+◌, ◌-◌, ◌^◌, ◌≤◌, ◌<◌, [], true, false, length, take, Ok, IfOk, OnOk, OnErr, Bool, Err, Some, Result, List, ℕ};
 ghost use Rattle.deflate_bits.specs.declared.fault.DeflateFault.{DeflateFault};
 ghost use Rattle.devices.specs.Device.{CountsFailure};
 
 use crate::body::Body;
 use crate::checked_input::CheckedInput;
+use crate::fault::MemberFault;
 use crate::read_ahead::ReadAhead;
 use crc_32::Crc32;
+use deflate_bits::DeflateFault;
 use devices::{DeviceFault, Input};
 use std::alloc::{AllocError, Global};
 
@@ -21,9 +24,10 @@ pub struct Members<I: Input> {
 }
 
 impl<I: Input> Members<I> {
+    ghost use Rattle.gzip_members.specs.Reading.{CountsMember};
     ghost use Rattle.gzip_members.specs.Windows.{pending};
     ghost use Rattle.gzip_members.specs.Bodies.{is_over};
-    ghost use Rattle.gzip_members.specs.Left.{left_of, work_left};
+    ghost use Rattle.gzip_members.specs.Left.{BeginsMember, EndsMember, GivesText, RefusesMember, PassesRest, PassesText, left_of, waits, work_left};
 
     /// Creates a file of which nothing was read. The only error is refused memory.
     pub fn new(alloc: Global, input: I) -> Result<Members<I>, AllocError>
@@ -44,26 +48,168 @@ impl<I: Input> Members<I> {
         })
     }
 
+    /// Begins the member that begins with the next bytes, and returns whether one does; or else the file has ended.
+    ///
+    /// Errors are `Read`; `NoMember` for other bytes than those that a member begins with; `Bad` and `Cut` for a header
+    /// that is none or goes on behind the file's end; and `TooFar`.
+    pub fn begin(&mut self) -> Result<bool, MemberFault>
+        ensures member { (bytes : List ℕ)
+            → prepend_known self.old.source.ahead (I.remaining self.old.source.input) ≡ Some bytes
+            → self.old.source.passed + length bytes ≤ 2 ^ 63 - 1
+            → BeginsMember bytes result (left_of self.new) }
+        ensures failures { CountsMember result (I.failures self.old.source.input)
+            (I.failures self.new.source.input) }
+    {
+        self.body.restart();
+        self.is_too_far = false;
+        match self.source.start() {
+            Ok(begins) => {
+                if !begins {
+                    self.body.refuse(DeflateFault::Cut);
+                }
+                Ok(begins)
+            }
+            Err(fault) => {
+                self.body.refuse(DeflateFault::Cut);
+                Err(fault)
+            }
+        }
+    }
+
     /// Goes on in the member, of which all text was given out. The only error is the input's failure.
     fn advance(&mut self) -> Result<(), DeviceFault>
         requires more { is_over self.old.body.stage ≡ false }
         requires given { pending self.old.body.window ≡ [] }
-        requires near { self.old.is_too_far ≡ false }
         ensures left { (r : Result (List ℕ × List ℕ) DeflateFault) → left_of self.old ≡ Some r
             → left_of self.new ≡ Some r }
         ensures failures { CountsFailure result (I.failures self.old.source.input)
             (I.failures self.new.source.input) }
         ensures nearer { OnOk result
-            (work_left self.new.body.stage self.new.is_too_far self.new.body.window
+            (work_left self.new.body.stage self.new.body.window
             self.new.source.passed (length self.new.source.ahead)
-            < work_left self.old.body.stage self.old.is_too_far self.old.body.window
+            < work_left self.old.body.stage self.old.body.window
             self.old.source.passed (length self.old.source.ahead)) }
     {
         let is_whole = self.source.read_more()?;
         let taken = self
             .body
             .step(&self.source.crc, self.source.ahead.as_slice(), is_whole);
-        self.is_too_far = !self.source.take(taken);
+        if !self.source.take(taken) {
+            self.is_too_far = true;
+            self.body.refuse(DeflateFault::Bad);
+        }
         Ok(())
+    }
+
+    /// Returns whether neither text nor the end was reached.
+    fn waits(&self) -> bool
+        ensures { result ≡ waits self.now.body.stage self.now.body.window }
+    {
+        !(self.body.is_over() || self.body.has_text())
+    }
+
+    /// Goes on to the next text of the member, or to its end. The only error is the input's failure.
+    pub fn fill(&mut self) -> Result<(), DeviceFault>
+        ensures left { (r : Result (List ℕ × List ℕ) DeflateFault) → left_of self.old ≡ Some r
+            → left_of self.new ≡ Some r }
+        ensures failures { CountsFailure result (I.failures self.old.source.input)
+            (I.failures self.new.source.input) }
+        ensures stops { OnOk result
+            (waits self.new.body.stage self.new.body.window ≡ false) }
+    {
+        'text: while self.waits() {
+            self.advance()?;
+        }
+        Ok(())
+    }
+
+    /// Reads the next text of the member into the start of `piece`, and returns its length. `Ok(0)` for a piece that isn't
+    /// empty is the end of the member, or of what can be read of it. The only error is the input's failure.
+    pub fn read(&mut self, piece: &mut [u8]) -> Result<usize, DeviceFault>
+        ensures bound { IfOk result (λ n. n ≤ length piece.new) }
+        ensures text { IfOk result (λ n. GivesText (left_of self.old) (left_of self.new) (take n piece.new)) }
+        ensures err { (r : Result (List ℕ × List ℕ) DeflateFault) → OnErr result (left_of self.old ≡ Some r
+            → left_of self.new ≡ Some r) }
+        ensures end { result ≡ Ok 0 → 0 < length piece.new → (text behind : List ℕ)
+            → left_of self.new ≡ Some (Ok (text, behind)) → text ≡ [] }
+        ensures failures { CountsFailure result (I.failures self.old.source.input)
+            (I.failures self.new.source.input) }
+    {
+        self.fill()?;
+        Ok(self.body.give(piece))
+    }
+
+    /// Passes over the next text of the member, and returns whether there was some. The only error is the input's failure.
+    fn pass_text(&mut self) -> Result<bool, DeviceFault>
+        ensures passes { IfOk result (λ had. PassesText had (left_of self.old) (left_of self.new)) }
+        ensures end { result ≡ Ok false → is_over self.new.body.stage ≡ true }
+        ensures none { result ≡ Ok false → (text behind : List ℕ)
+            → left_of self.new ≡ Some (Ok (text, behind)) → text ≡ [] }
+        ensures err { (r : Result (List ℕ × List ℕ) DeflateFault) → OnErr result (left_of self.old ≡ Some r
+            → left_of self.new ≡ Some r) }
+        ensures failures { CountsFailure result (I.failures self.old.source.input)
+            (I.failures self.new.source.input) }
+    {
+        self.fill()?;
+        let has_text = self.body.has_text();
+        if has_text {
+            self.body.pass();
+        }
+        Ok(has_text)
+    }
+
+    /// Passes over all text of the member, and returns whether there was some; or `None` if it has 2^64 bytes or more. The
+    /// only error is the input's failure.
+    fn pass_rest(&mut self) -> Result<Option<bool>, DeviceFault>
+        ensures whole { (text behind : List ℕ) → left_of self.old ≡ Some (Ok (text, behind))
+            → IfOk result (λ had. PassesRest had text behind (left_of self.new)) }
+        ensures fault { (fault : DeflateFault) → OnOk result (left_of self.old ≡ Some (Err fault)
+            → left_of self.new ≡ Some (Err fault)) }
+        ensures end { (had : Bool) → result ≡ Ok (Some had) → is_over self.new.body.stage ≡ true }
+        ensures failures { CountsFailure result (I.failures self.old.source.input)
+            (I.failures self.new.source.input) }
+    {
+        let mut had = false;
+        'rest: for _ in 0..u64::MAX {
+            match self.pass_text() {
+                Ok(more) => {
+                    if more {
+                        had = true;
+                    } else {
+                        return Ok(Some(had));
+                    }
+                }
+                Err(fault) => return Err(fault),
+            }
+        }
+        Ok(None)
+    }
+
+    /// Reads the member to its end, and returns whether it had text that wasn't given out. The bytes ahead are then those
+    /// behind the member.
+    ///
+    /// Errors are `Read`; `Bad` and `Cut` for a member that is none or goes on behind the file's end; and `TooFar`, also for
+    /// text of 2^64 bytes.
+    pub fn end(&mut self) -> Result<bool, MemberFault>
+        ensures whole { (text behind : List ℕ) → left_of self.old ≡ Some (Ok (text, behind))
+            → length text < 2 ^ 64 - 1 → EndsMember result text behind
+            (prepend_known self.new.source.ahead (I.remaining self.new.source.input)) }
+        ensures refused { (fault : DeflateFault) → left_of self.old ≡ Some (Err fault)
+            → RefusesMember result fault }
+        ensures over { (had : Bool) → result ≡ Ok had → is_over self.new.body.stage ≡ true }
+        ensures failures { CountsMember result (I.failures self.old.source.input)
+            (I.failures self.new.source.input) }
+    {
+        match self.pass_rest()? {
+            Some(had) => match self.body.fault() {
+                None => Ok(had),
+                Some(fault) => Err(if self.is_too_far {
+                    MemberFault::TooFar
+                } else {
+                    MemberFault::from(fault)
+                }),
+            },
+            None => Err(MemberFault::TooFar),
+        }
     }
 }

@@ -126,11 +126,7 @@ fn refill<I: Input>(input: &mut I, bytes: &mut [u8], from: usize, to: usize) -> 
 }
 
 /// Reads once from the input, behind the first `to` bytes.
-fn read_behind<I: Input>(
-    input: &mut I,
-    bytes: &mut [u8],
-    to: usize,
-) -> Result<usize, DeviceFault>
+fn read_behind<I: Input>(input: &mut I, bytes: &mut [u8], to: usize) -> Result<usize, DeviceFault>
     requires { to < length bytes.old }
     ensures size { length bytes.new ≡ length bytes.old }
     ensures front { take to bytes.new ≡ take to bytes.old }

@@ -8,7 +8,7 @@ use devices::Input;
 
 impl<I: Input> CheckedInput<I> {
     ghost use Rattle.gzip_members.specs.Reading.{CountsMember};
-    ghost use Rattle.gzip_members.specs.Starts.{begins_member, AnswersStart};
+    ghost use Rattle.gzip_members.specs.Starts.{begins_member, AnswersStart, StartsFrom};
 
     /// Reads until two bytes are held, or the input is at its end.
     fn fill_two(&mut self) -> Result<(), MemberFault>
@@ -43,10 +43,27 @@ impl<I: Input> CheckedInput<I> {
         self.fill_two()?;
         start_of(self.ahead.as_slice())
     }
+
+    /// Takes the header of the member that begins with the next bytes, and returns whether one does; or else the file has
+    /// ended.
+    pub fn start(&mut self) -> Result<bool, MemberFault>
+        ensures starts { StartsFrom result self.old.passed self.new.passed
+            (prepend_known self.old.ahead (I.remaining self.old.input))
+            (prepend_known self.new.ahead (I.remaining self.new.input)) }
+        ensures failures { CountsMember result (I.failures self.old.input) (I.failures self.new.input) }
+    {
+        if !self.begins_member()? {
+            return Ok(false);
+        }
+        self.checksum = 0;
+        self.header()?;
+        Ok(true)
+    }
 }
 
 /// The first two bytes of a member.
 const FIRST: u8 = 31;
+
 const SECOND: u8 = 139;
 
 ghost use Rattle.std.specs.Prelude.{take};

@@ -10,7 +10,7 @@ returns-then-byte-eq0-clause-text g c = name-done c.in-Ok.byte (taken c.args.sel
 pub bytes-preserved : goal.bytes-preserved
 bytes-preserved g c = record {
   continues = name-step c.in-Ok.byte (taken c.args.self.now) (taken c.bytes.self) (taken c.byte.new.self) (ne_eqb c.in-Ok.byte 0 c.if-byte-eq0.false)
-    c.bytes.invariant.continues c.in-Ok.ensures.byte;
+      c.bytes.invariant.continues c.in-Ok.ensures.byte;
   failures = c.in-Ok.ensures.failures ∙ c.bytes.invariant.failures;
 }
 
