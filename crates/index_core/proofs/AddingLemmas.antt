@@ -12,6 +12,7 @@ use Rattle.warc_core.specs.Reading.{IsPossibleCause}
 use Rattle.warc_core.specs.Walk.{record_at}
 use Rattle.warc_core.specs.ReaderView.{ReaderView}
 use Rattle.capture_core.specs.Indexed.{url_of}
+use Rattle.capture_core.specs.Capture.{plain_place}
 use Rattle.capture_core.specs.CaptureAnswer.{Captures}
 use Rattle.capture_core.specs.RecordReading.{reading_of}
 use Rattle.index_core.specs.Accepted.{IsAccepted, IsCaptured, MayBeRefused}
@@ -36,7 +37,7 @@ module _ (types : Kind → Bool) (limits : Limits) (limit : ℕ) (name : List �
   pub capture_there : (start : ℕ) (h : HeadView) (captured : Option EntryValue) (before mid after : Option (List ℕ))
       → Reads (next_at limit start) (Ok (Some h)) before mid
       → Reads (after_record h.parts.block_length) (Ok tt) mid after
-      → Captures (url_of types h) limits h name mid (Ok captured)
+      → Captures (url_of types h) limits (plain_place h) h name mid (Ok captured)
       → IfSome before (λ bytes. IsCaptureAt types limits limit name h bytes captured)
   capture_there start h captured before mid after r s k = grind (arith, behind_head)
 
@@ -51,7 +52,7 @@ module _ (types : Kind → Bool) (limits : Limits) (limit : ℕ) (name : List �
   pub refused_there : (start : ℕ) (h : HeadView) (fault : CaptureFault) (before mid after : Option (List ℕ))
       → Reads (next_at limit start) (Ok (Some h)) before mid
       → Reads (after_record h.parts.block_length) (reading_of {A = Option EntryValue} (Err fault)) mid after
-      → Captures (url_of types h) limits h name mid (Err fault)
+      → Captures (url_of types h) limits (plain_place h) h name mid (Err fault)
       → IfSome before (λ bytes. MayBeRefused types limits limit name start bytes fault)
   refused_there start h fault before mid after r s k = grind (arith, record-whole, behind_head, record-unclosed)
 

@@ -4,7 +4,7 @@ use Rattle.index_core.proofs.Words.{drop, refl, ◌⊎◌, inl, inr, option_to_l
 use Rattle.index_core.proofs.Words.{HeadView, record_length, Kind, Walks, read-spelled, Walks-more}
 use Rattle.index_core.proofs.Words.{IsCaptureAt, AreCaptured, IsRecordOf}
 use Rattle.cdxj_places.specs.Rising.{IsIn}
-use Rattle.capture_core.specs.Capture.{IsCaptureUnder}
+use Rattle.capture_core.specs.Capture.{IsCaptureUnder, plain_place}
 use Rattle.capture_core.specs.Indexed.{url_of}
 use Rattle.warc_core.specs.HeadView.{block_at}
 use Rattle.warc_core.specs.Walk.{record_at}
@@ -21,7 +21,7 @@ module _ (types : Kind → Bool) (limits : Limits) (limit : ℕ) (name archive :
 
   -- the offset and the length of a record's capture
   under : (u : Option (List ℕ)) (h : HeadView) (block : List ℕ)
-      → IsCaptureUnder u limits.http_head limits.http_fields h block name (Some e)
+      → IsCaptureUnder u limits.http_head limits.http_fields (plain_place h) h block name (Some e)
       → (e.offset ≡ h.start) × (e.length ≡ record_length h)
   under u h block c = grind arith
 

@@ -10,6 +10,7 @@ use Rattle.std.proofs.lemmas.Slice.Eq.{bytes_eq-Decides}
 use Rattle.cdxj_core.specs.Entries.{entry_place}
 use Rattle.cdxj_places.specs.Places.{place_cmp}
 use Rattle.cdxj_places.proofs.RisingLaws.{each_join, each_weaker}
+use Rattle.capture_core.specs.Capture.{plain_place}
 use Rattle.capture_core.specs.CaptureAnswer.{IsEntryOf}
 use Rattle.index_core.specs.Indexing.{HaveOwnPlaces, AreSound}
 use Rattle.index_core.specs.Captures.{StandBefore}
@@ -32,12 +33,12 @@ places_push name o (x ∷ xs) e at named before own = (
 
 -- what a record at the offset adds stands before its end
 pub before_step : (name : List ℕ) (limit o p : ℕ) (h : HeadView) (xs : List EntryValue) (captured : Option EntryValue)
-    → o < p → h.start ≡ o → IfSome captured (IsEntryOf h name limit) → StandBefore name o xs
+    → o < p → h.start ≡ o → IfSome captured (IsEntryOf (plain_place h) h name limit) → StandBefore name o xs
     → StandBefore name p (xs ++ option_to_list captured)
 before_step name limit o p h xs captured less at e before = grind (arith, append-nil, each_weaker, each_join)
 
 pub sound_step : (limit : ℕ) (names : List (List ℕ)) (name : List ℕ) (o : ℕ) (h : HeadView) (xs : List EntryValue)
-    (captured : Option EntryValue) → is_among names name ≡ true → h.start ≡ o → IfSome captured (IsEntryOf h name limit)
+    (captured : Option EntryValue) → is_among names name ≡ true → h.start ≡ o → IfSome captured (IsEntryOf (plain_place h) h name limit)
     → StandBefore name o xs → AreSound limit names xs → AreSound limit names (xs ++ option_to_list captured)
 sound_step limit names name o h xs captured used at e before s = grind (arith, append-nil, places_push, each_join)
 

@@ -10,7 +10,7 @@ use Rattle.cdxj_core.specs.Entries.{EntryValue, line_text}
 use Rattle.capture_core.specs.declared.fault.CaptureFault.{CaptureFault}
 use Rattle.capture_core.specs.declared.fault.CaptureFault.TheVariants.{Archive, LineTooLong, KeyTooLong}
 use Rattle.capture_core.specs.Fault.{fault_offset}
-use Rattle.capture_core.specs.Capture.{IsCapture}
+use Rattle.capture_core.specs.Capture.{IsCapture, plain_place}
 use Rattle.capture_core.specs.Indexed.{url_of}
 use Rattle.capture_core.specs.CaptureAnswer.{Limits}
 
@@ -18,7 +18,8 @@ use Rattle.capture_core.specs.CaptureAnswer.{Limits}
 module _ (types : Kind → Bool) (limits : Limits) (limit : ℕ) (name : List ℕ) where
   -- the capture of the record that begins these bytes
   abbrev pub IsCaptureAt : HeadView → List ℕ → Option EntryValue → Type 0
-  IsCaptureAt h bytes captured = IsCapture types limits.http_head limits.http_fields h (block_at h bytes) name captured
+  IsCaptureAt h bytes captured = IsCapture types limits.http_head limits.http_fields (plain_place h) h (block_at h bytes)
+      name captured
 
   -- the capture of a record of the archive, with a line that isn't too long
   abbrev pub IsCaptured : List ℕ → HeadView → Option EntryValue → Type 0

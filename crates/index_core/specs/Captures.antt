@@ -9,6 +9,7 @@ use Rattle.warc_core.specs.ReaderView.{ReaderView, StandsAt}
 use Rattle.warc_core.specs.Walk.{record_at}
 use Rattle.cdxj_core.specs.Entries.{EntryValue}
 use Rattle.capture_core.specs.declared.fault.CaptureFault.{CaptureFault}
+use Rattle.capture_core.specs.Capture.{plain_place}
 use Rattle.capture_core.specs.CaptureAnswer.{Limits, IsEntryOf}
 use Rattle.index_core.specs.Accepted.{IsCaptureAt, MayBeRefused}
 use Rattle.capture_core.specs.Fault.{fault_offset}
@@ -25,7 +26,7 @@ module _ (types : Kind → Bool) (limits : Limits) (limit : ℕ) (name : List �
     pub stands : StandsAt new (offset + record_length h) Between
     pub begins : RecordBeginsAt offset h
     pub capture : IfSome before (λ bytes. IsCaptureAt types limits limit name h bytes captured)
-    pub entry : IfSome captured (IsEntryOf h name limits.line)
+    pub entry : IfSome captured (IsEntryOf (plain_place h) h name limits.line)
 
   -- what comes next at the offset was read, or refused
   abbrev pub TakesNext : ℕ → Result (Option (HeadView × Option EntryValue)) CaptureFault → ReaderView → Option (List ℕ)
