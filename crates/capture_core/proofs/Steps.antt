@@ -10,12 +10,11 @@ use Rattle.warc_core.specs.HeadView.{HeadView}
 use Rattle.warc_core.proofs.OpenLemmas.{behind-front}
 use Rattle.warc_core.proofs.ReadingLemmas.{GoesOn}
 use Rattle.warc_core.specs.Record.{after_record}
-use Rattle.cdxj_core.specs.Entries.{EntryValue}
-use Rattle.capture_core.specs.declared.fault.CaptureFault.{CaptureFault}
+use Rattle.warc_core.specs.declared.fault.Fault.{Fault}
 use Rattle.capture_core.specs.HttpHead.{IsHeadOf, then_more}
-use Rattle.capture_core.specs.Capture.{ResponseValue, IsHeadFor, response_of, payload_of}
+use Rattle.capture_core.specs.Capture.{BlockValue, ResponseValue, IsHeadFor, response_of, payload_of}
 use Rattle.capture_core.specs.RecordReading.{front_length}
-use Rattle.capture_core.specs.CaptureAnswer.{Limits, IsCaptureOf, PartsBlock}
+use Rattle.capture_core.specs.CaptureAnswer.{Limits, GivesBehind, PartsBlock}
 use Rattle.capture_core.proofs.HeadLemmas.{front_decides, no_head_in_nothing}
 
 -- ---- the head
@@ -71,8 +70,7 @@ pub goes-on-to : (n m : ℕ) (front : List ℕ) (before after : Option (List ℕ
 goes-on-to n m front before after h e c = grind (arith, behind-front)
 
 -- what is known of the bytes behind the front is known behind its first bytes
-pub capture-behind-first : (url : Option (List ℕ)) (limits : Limits) (h : HeadView) (name first piece front : List ℕ)
-    (before mid : Option (List ℕ)) (r : Result (Option EntryValue) CaptureFault) → front ≡ first ++ piece
-    → Consumes before mid piece → IfSome mid (λ bytes. IsCaptureOf url limits h name (front ++ bytes) r)
-    → IfSome before (λ bytes. IsCaptureOf url limits h name (first ++ bytes) r)
-capture-behind-first url limits h name first piece front before mid r e c t = grind (arith, append_assoc)
+pub gives-behind-first : (limits : Limits) (h : HeadView) (first piece front : List ℕ) (before mid : Option (List ℕ))
+    (r : Result BlockValue Fault) → front ≡ first ++ piece → Consumes before mid piece
+    → GivesBehind limits h front mid r → GivesBehind limits h first before r
+gives-behind-first limits h first piece front before mid r e c t = grind (arith, append_assoc)

@@ -4,6 +4,7 @@ pub mod FieldValue
 pub mod Types
 pub mod Indexed
 pub mod Capture
+pub mod BlockParts
 pub mod ResponseView
 pub mod Fault
 pub mod RecordReading

@@ -2,6 +2,7 @@
 use Rattle.std.specs.Prelude.{◌≡◌, ℕ, ◌+◌, min, Result, Ok, Err, IfErr, if◌then◌else◌}
 use Rattle.warc_core.specs.declared.fault.Cause.{Cause}
 use Rattle.warc_core.specs.declared.fault.Cause.TheVariants as causes
+use Rattle.warc_core.specs.declared.fault.Fault.{Fault}
 use Rattle.warc_core.specs.declared.phase.Phase.TheVariants.{Between, Open, Failed}
 use Rattle.warc_core.specs.Answers.{CountsRead}
 use Rattle.warc_core.specs.Cause.{StopsRecord}
@@ -25,6 +26,11 @@ reading_of (Err (Archive f)) = reading_after f.cause
 reading_of (Err (LineTooLong o)) = Ok tt
 reading_of (Err (KeyTooLong o)) = Ok tt
 
+-- the same, by an answer whose fault is the archive's
+abbrev pub reading_by : {A : Type 0} → Result A Fault → Result (Unit {0}) Cause
+reading_by (Ok x) = Ok tt
+reading_by (Err f) = reading_after f.cause
+
 -- the fault names this offset
 abbrev pub IsCaptureFaultAt : ℕ → CaptureFault → Type 0
 IsCaptureFaultAt start (Archive f) = f.offset ≡ start
@@ -37,17 +43,21 @@ Leaves h new (Ok x) = StandsAt new (h.start + record_length h) Between
 Leaves h new (Err c) = StandsAt new h.start (Failed c)
 
 -- A call read the record to its end, of whose block so many bytes were left, or failed by what it met.
-pub record ReadsRest {A : Type 0} (left : ℕ) (h : HeadView) (old new : ReaderState) (r : Result A CaptureFault) : Type 0
-  where
-    pub bytes : Reads (after_record left) (reading_of r) (ahead old) (ahead new)
-    pub state : Leaves h new.reader (reading_of r)
-    pub fault : IfErr r (IsCaptureFaultAt h.start)
-    pub cause : IfErr (reading_of r) StopsRecord
-    pub failures : CountsRead (reading_of r) old.failures new.failures
+pub record ReadsTo (left : ℕ) (h : HeadView) (old new : ReaderState) (reading : Result (Unit {0}) Cause) : Type 0 where
+  pub bytes : Reads (after_record left) reading (ahead old) (ahead new)
+  pub state : Leaves h new.reader reading
+  pub cause : IfErr reading StopsRecord
+  pub failures : CountsRead reading old.failures new.failures
+
+-- the same of an answer, whose fault is at the record's offset
+pub record ReadsRest {A : Type 0} (left : ℕ) (h : HeadView) (old new : ReaderState) (r : Result A Fault) : Type 0 where
+  pub reads : ReadsTo left h old new (reading_by r)
+  pub fault : IfErr r (λ f. f.offset ≡ h.start)
 
 -- A call read the record to its end, or failed by what it met.
-abbrev pub ReadsWhole : {A : Type 0} → HeadView → ReaderState → ReaderState → Result A CaptureFault → Type 0
-ReadsWhole h old new r = ReadsRest h.parts.block_length h old new r
+pub record ReadsWhole {A : Type 0} (h : HeadView) (old new : ReaderState) (r : Result A CaptureFault) : Type 0 where
+  pub reads : ReadsTo h.parts.block_length h old new (reading_of r)
+  pub fault : IfErr r (IsCaptureFaultAt h.start)
 
 -- the reader stands in this record
 abbrev pub IsOpenFor : HeadView → ReaderView → Type 0

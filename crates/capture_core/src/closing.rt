@@ -1,44 +1,74 @@
-//! The end of a capture: the rest of its record is read, and its line is written.
-ghost use Rattle.std.specs.Prelude.{◌≡◌, ◌<◌, ℕ, length, IfOk, IfSome, option_map};
+//! The end of a record whose capture is read.
+ghost use Rattle.std.specs.Prelude.{◌≡◌, ◌<◌, length, IfOk, IfSome, OnOk, option_map};
 ghost use Rattle.warc_core.specs.ReaderView.{IfOpen, state_of};
-ghost use Rattle.capture_core.specs.Capture.{entry_of};
-ghost use Rattle.capture_core.specs.CaptureAnswer.{IsEntryOf, AnswersEntry};
+ghost use Rattle.capture_core.specs.BlockParts.{block_view, digest_text};
+ghost use Rattle.capture_core.specs.Capture.{IsFilled, block_of};
 ghost use Rattle.capture_core.specs.RecordReading.{ReadsRest, IsOpenFor};
 ghost use Rattle.capture_core.specs.ResponseView.{response_view};
 
-use crate::capture_line::capture_line;
-use crate::fault::CaptureFault;
-use crate::held_line::HeldLine;
+use crate::block_parts::BlockParts;
 use crate::http_head::HttpHead;
-use crate::indexed::IndexedRecord;
-use cdxj_core::LINE_LIMIT;
-use std::alloc::Global;
-use warc_core::{Input, Reader};
+use crate::mime::mime;
+use crate::payload_digest::PayloadDigest;
+use std::alloc::AllocError;
+use warc_core::{Cause, Fault, Head, Input, Reader};
 
-/// Reads the rest of a record whose digest is known, and returns its capture.
-pub(crate) fn capture_closed<I: Input>(
-    alloc: Global,
+/// Returns the fault for memory that could not be allocated for a record.
+pub(crate) fn memory(head: &Head) -> Fault
+    ensures { result ≡ record { offset = head.now.start; cause = Cause.Memory } }
+{
+    Fault {
+        offset: head.start(),
+        cause: Cause::Memory,
+    }
+}
+
+/// Returns the status code of an HTTP head.
+fn code(response: Option<HttpHead<'_>>) -> Option<u16>
+    ensures { result ≡ option_map (λ r. r.code) response.entry }
+{
+    match response {
+        Some(response) => Some(response.code),
+        None => None,
+    }
+}
+
+/// Puts these bytes in the place of those that are there.
+fn replace(kept: &mut Vec<u8>, bytes: &[u8]) -> Result<(), AllocError>
+    ensures { OnOk result (kept.new.items ≡ bytes.now) }
+{
+    kept.clear();
+    kept.extend_from_slice(bytes)?;
+    Ok(())
+}
+
+/// Reads the rest of a record whose digest is known, keeps its media type, and returns what else
+/// its block holds.
+#[tactic(auto, using(crate::proofs::GoodEntries::content_is_filled))]
+pub(crate) fn close_block<'a, I: Input>(
     reader: &mut Reader,
     input: &mut I,
-    indexed: IndexedRecord<'_>,
+    head: &'a Head,
     response: Option<HttpHead<'_>>,
-    digest: &[u8],
-) -> Result<Option<HeldLine>, CaptureFault>
+    digest: PayloadDigest<'a>,
+    kept: &mut Vec<u8>,
+) -> Result<BlockParts<'a>, Fault>
     requires code { IfSome response (λ r. r.code < 1000) }
-    requires named { 0 < length indexed.name.now }
-    requires target { 0 < length indexed.url.now }
-    requires digested { 0 < length digest.now }
-    requires stands { IsOpenFor indexed.head.now reader.old }
-    ensures reads { IfOpen reader.old.phase (λ left _. ReadsRest left indexed.entry.head.now
+    requires digested { 0 < length (digest_text digest) }
+    requires stands { IsOpenFor head.now reader.old }
+    ensures reads { IfOpen reader.old.phase (λ left _. ReadsRest left head.now
         (state_of reader.old (I.remaining input.old) (I.failures input.old))
         (state_of reader.new (I.remaining input.new) (I.failures input.new)) result) }
-    ensures entry { IfOk result (λ captured. IfSome captured
-        (IsEntryOf indexed.entry.head.now indexed.entry.name.now LINE_LIMIT)) }
-    ensures answers { AnswersEntry LINE_LIMIT
-        (entry_of indexed.entry.head.now indexed.entry.name.now
-        (option_map response_view response.entry) digest.now indexed.entry.url.now) result }
+    ensures block { IfOk result (λ block. block_view kept.new.items block
+        ≡ block_of head.now (option_map response_view response.entry) (digest_text digest.entry)) }
+    ensures filled { IfOk result (λ block. IsFilled (block_view kept.new.items block)) }
 {
     reader.finish(input)?;
-    let line = capture_line(alloc, indexed, response, digest)?;
-    Ok(Some(line))
+    match replace(kept, mime(head, response)) {
+        Ok(()) => Ok(BlockParts {
+            code: code(response),
+            digest,
+        }),
+        Err(_) => Err(memory(head)),
+    }
 }

@@ -6,6 +6,29 @@ ghost use Rattle.capture_core.specs.Capture.{known_digest};
 use crate::field_value::{non_empty, without_sha1};
 use warc_core::{Head, Kind};
 
+/// The digest of a payload, as an entry has it.
+#[derive(Clone, Copy)]
+pub(crate) enum PayloadDigest<'a> {
+    /// The one that is known without the payload.
+    Known(&'a [u8]),
+    /// The base 32 of the payload's SHA-1.
+    Hashed([u8; 32]),
+}
+
+impl<'a> PayloadDigest<'a> {
+    ghost use Rattle.std.specs.Prelude.{◌≡◌};
+    ghost use Rattle.capture_core.specs.BlockParts.{digest_text};
+
+    pub(crate) fn text(&self) -> &[u8]
+        ensures { result.now ≡ digest_text self.now }
+    {
+        match self {
+            PayloadDigest::Known(text) => text,
+            PayloadDigest::Hashed(text) => text,
+        }
+    }
+}
+
 /// Returns the value of `WARC-Payload-Digest` without a leading `sha1:`, or `None` if nothing is
 /// left.
 fn given_digest(head: &Head) -> Option<&[u8]>

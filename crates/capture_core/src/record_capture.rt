@@ -4,21 +4,25 @@ ghost use Rattle.std.specs.Prelude.{OnOk, option_map};
 ghost use Rattle.std.specs.Io.KnownBytes.{prepend_known};
 ghost use Rattle.warc_core.specs.Calls.{GivesBlock};
 ghost use Rattle.warc_core.specs.ReaderView.{HasLeft, IfOpen, IsUnread, state_of};
+ghost use Rattle.capture_core.specs.BlockParts.{block_given};
+ghost use Rattle.capture_core.specs.Capture.{plain_place};
 ghost use Rattle.capture_core.specs.Indexed.{url_of};
 ghost use Rattle.capture_core.specs.Types.{includes};
 ghost use Rattle.capture_core.specs.ResponseView.{response_view};
-ghost use Rattle.capture_core.specs.RecordReading.{ReadsWhole};
-ghost use Rattle.capture_core.specs.CaptureAnswer.{Captures, IsEntryOf, PartsBlock, usual_limits};
-ghost use Rattle.capture_core.specs.CaptureSteps.{HasFront, FillsBehind, CapturesRest};
+ghost use Rattle.capture_core.specs.RecordReading.{ReadsRest, ReadsWhole};
+ghost use Rattle.capture_core.specs.CaptureAnswer.{Captures, GivesParts, IsEntryOf, PartsBlock};
+ghost use Rattle.capture_core.specs.CaptureAnswer.{usual_limits};
+ghost use Rattle.capture_core.specs.CaptureSteps.{HasFront, FillsBehind, ReadsBlock};
 
-use crate::capture_line::memory;
-use crate::closing::capture_closed;
+use crate::block_parts::BlockParts;
+use crate::capture_parts::CaptureParts;
+use crate::closing::{close_block, memory};
 use crate::fault::CaptureFault;
 use crate::held_line::HeldLine;
 use crate::http_head::{EMPTY_SPANS, HTTP_HEAD_LIMIT, UsualSpans};
-use crate::indexed::IndexedRecord;
 use crate::payload::{SplitBlock, front_length, part_decided};
-use crate::payload_digest::known_digest;
+use crate::payload_digest::{PayloadDigest, known_digest};
+use crate::place::plain_place;
 use crate::target::url;
 use crate::types::Types;
 use cdxj_core::{Entry, LINE_LIMIT};
@@ -37,6 +41,8 @@ pub struct BlockStart {
     bytes: Vec<u8>,
     /// For the fields of an HTTP head in it.
     spans: UsualSpans,
+    /// The media type of the record that was read last.
+    mime: Vec<u8>,
 }
 
 impl BlockStart {
@@ -45,6 +51,7 @@ impl BlockStart {
         BlockStart {
             bytes: Vec::new(alloc),
             spans: EMPTY_SPANS,
+            mime: Vec::new(alloc),
         }
     }
 }
@@ -69,16 +76,17 @@ pub fn capture<I: Input>(
     ensures reads { ReadsWhole head.now
         (state_of reader.old (I.remaining input.old) (I.failures input.old))
         (state_of reader.new (I.remaining input.new) (I.failures input.new)) result }
-    ensures capture { Captures (url_of (includes types) head.now) usual_limits head.now name.now
+    ensures capture { Captures (url_of (includes types) head.now) usual_limits
+        (plain_place head.now) head.now name.now
         (prepend_known reader.old.held (I.remaining input.old)) result }
     ensures entry { IfOk result (λ captured. IfSome captured
-        (IsEntryOf head.now name.now LINE_LIMIT)) }
+        (IsEntryOf (plain_place head.now) head.now name.now LINE_LIMIT)) }
 {
     let mut front = BlockStart::new(alloc);
     match held_capture(alloc, &mut front, reader, input, head, name, types)? {
         Some(line) => match line.entry(alloc, head.record_length()) {
             Ok(entry) => Ok(Some(entry)),
-            Err(_) => Err(memory(head)),
+            Err(_) => Err(CaptureFault::from(memory(head))),
         },
         None => Ok(None),
     }
@@ -101,22 +109,59 @@ pub fn held_capture<I: Input>(
     ensures reads { ReadsWhole head.now
         (state_of reader.old (I.remaining input.old) (I.failures input.old))
         (state_of reader.new (I.remaining input.new) (I.failures input.new)) result }
-    ensures capture { Captures (url_of (includes types) head.now) usual_limits head.now name.now
+    ensures capture { Captures (url_of (includes types) head.now) usual_limits
+        (plain_place head.now) head.now name.now
         (prepend_known reader.old.held (I.remaining input.old)) result }
     ensures entry { IfOk result (λ captured. IfSome captured
-        (IsEntryOf head.now name.now LINE_LIMIT)) }
+        (IsEntryOf (plain_place head.now) head.now name.now LINE_LIMIT)) }
+{
+    match read_capture(front, reader, input, head, types)? {
+        Some(parts) => {
+            let line = parts.line(alloc, name, plain_place(head))?;
+            Ok(Some(line))
+        }
+        None => Ok(None),
+    }
+}
+
+/// Reads a record to its end, and returns what it gives to its capture, or `None` if the record
+/// isn't indexed. A record is indexed if it has a target and its type is one of these. Its payload
+/// is hashed if the head gives no digest of it.
+///
+/// The record must be the last that the reader returned, with none of its block read. Errors are
+/// the archive's fault and, after the record was read to its end, `Memory`, all at the record's
+/// offset.
+pub fn read_capture<'a, I: Input>(
+    front: &'a mut BlockStart,
+    reader: &mut Reader,
+    input: &mut I,
+    head: &'a Head,
+    types: Types,
+) -> Result<Option<CaptureParts<'a>>, Fault>
+    requires { IsUnread reader.old head.now }
+    ensures reads { ReadsRest head.now.parts.block_length head.now
+        (state_of reader.old (I.remaining input.old) (I.failures input.old))
+        (state_of reader.new (I.remaining input.new) (I.failures input.new)) result }
+    ensures parts { GivesParts (url_of (includes types) head.now) usual_limits head.now
+        (prepend_known reader.old.held (I.remaining input.old)) result }
+    ensures stamp { IfOk result (λ parts. IfSome parts (λ p. p.stamp ≡ head.now.parts.stamp)) }
 {
     match url(head, types) {
         Some(url) => {
-            let indexed = IndexedRecord { head, name, url };
-            capture_indexed(
-                alloc,
+            let block = read_block(
                 &mut front.bytes,
                 &mut front.spans,
+                &mut front.mime,
                 reader,
                 input,
-                indexed,
-            )
+                head,
+            )?;
+            Ok(Some(CaptureParts {
+                stamp: head.stamp(),
+                url,
+                mime: &front.mime,
+                block,
+            }))
         }
         None => {
             reader.finish(input)?;
@@ -125,39 +170,40 @@ pub fn held_capture<I: Input>(
     }
 }
 
-/// Returns the line of a record that is indexed. The front of its block is read in three steps at
-/// most, and no further than to the step in which an HTTP head ends: what one call of the reader
-/// returns for a piece of 2,048 bytes, the first 8,192 bytes, and the whole front, of at most
-/// 65,536 bytes.
-fn capture_indexed<I: Input>(
-    alloc: Global,
+/// Reads the block of a record that is indexed, and the record to its end. Keeps the media type,
+/// and returns what else the block holds. The front of the block is read in three steps at most,
+/// and no further than to the step in which an HTTP head ends: what one call of the reader returns
+/// for a piece of 2,048 bytes, the first 8,192 bytes, and the whole front, of at most 65,536 bytes.
+fn read_block<'a, I: Input>(
     front: &mut Vec<u8>,
     spans: &mut UsualSpans,
+    mime: &mut Vec<u8>,
     reader: &mut Reader,
     input: &mut I,
-    indexed: IndexedRecord<'_>,
-) -> Result<Option<HeldLine>, CaptureFault>
-    requires { HasFront indexed [] reader.old }
-    ensures { CapturesRest indexed.entry []
+    head: &'a Head,
+) -> Result<BlockParts<'a>, Fault>
+    requires { HasFront head.now [] reader.old }
+    ensures { ReadsBlock head.now []
         (state_of reader.old (I.remaining input.old) (I.failures input.old))
-        (state_of reader.new (I.remaining input.new) (I.failures input.new)) result }
+        (state_of reader.new (I.remaining input.new) (I.failures input.new))
+        (block_given mime.new.items result) }
 {
-    let whole = front_length(indexed.head);
+    let whole = front_length(head);
     let first = whole.min(FIRST_STEP);
     match make_room(front, first) {
         Ok(()) => {}
-        Err(_) => return finish_without_memory(reader, input, indexed),
+        Err(_) => return finish_without_memory(reader, input, head),
     }
     let mut filled = read_first(reader, input, front, first)?;
     'steps: loop {
-        match part_decided(indexed.head, &front[..filled], whole, spans) {
-            Some(parted) => return finish_capture(alloc, reader, input, indexed, parted),
+        match part_decided(head, &front[..filled], whole, spans) {
+            Some(parted) => return finish_block(reader, input, head, parted, mime),
             None => {}
         }
         let goal = whole.min(step_after(filled));
         match make_room(front, goal) {
             Ok(()) => {}
-            Err(_) => return finish_without_memory(reader, input, indexed),
+            Err(_) => return finish_without_memory(reader, input, head),
         }
         read_behind(reader, input, front, filled, goal)?;
         filled = goal;
@@ -225,43 +271,49 @@ fn make_room(front: &mut Vec<u8>, size: usize) -> Result<(), AllocError>
 }
 
 /// Reads the rest of the open record, and returns that memory could not be allocated.
-fn finish_without_memory<I: Input>(
+fn finish_without_memory<'a, I: Input>(
     reader: &mut Reader,
     input: &mut I,
-    indexed: IndexedRecord<'_>,
-) -> Result<Option<HeldLine>, CaptureFault>
+    head: &'a Head,
+) -> Result<BlockParts<'a>, Fault>
     requires { HasLeft 0 reader.old.phase }
-    ensures { (first : List ℕ) → HasFront indexed.entry first reader.old
-        → CapturesRest indexed.entry first
+    ensures { (mime first : List ℕ) → HasFront head.now first reader.old
+        → ReadsBlock head.now first
         (state_of reader.old (I.remaining input.old) (I.failures input.old))
-        (state_of reader.new (I.remaining input.new) (I.failures input.new)) result }
+        (state_of reader.new (I.remaining input.new) (I.failures input.new))
+        (block_given mime result) }
 {
     reader.finish(input)?;
-    Err(memory(indexed.head))
+    Err(memory(head))
 }
 
-/// Returns the line of a record that is indexed, after the first bytes of its block were read and
-/// split.
-fn finish_capture<I: Input>(
-    alloc: Global,
+/// Reads the rest of a record, after the first bytes of its block were read and split. Keeps the
+/// media type, and returns what else the block holds.
+fn finish_block<'a, I: Input>(
     reader: &mut Reader,
     input: &mut I,
-    indexed: IndexedRecord<'_>,
+    head: &'a Head,
     parted: SplitBlock<'_>,
-) -> Result<Option<HeldLine>, CaptureFault>
-    requires ready { HasFront indexed parted.bytes.now reader.old }
-    requires parts { PartsBlock usual_limits indexed.head.now parted.bytes.now
+    mime: &mut Vec<u8>,
+) -> Result<BlockParts<'a>, Fault>
+    requires ready { HasFront head.now parted.bytes.now reader.old }
+    requires parts { PartsBlock usual_limits head.now parted.bytes.now
         (option_map response_view parted.response) parted.payload.now }
     requires code { IfSome parted.response (λ r. r.code < 1000) }
-    ensures { CapturesRest indexed.entry parted.entry.bytes.now
+    ensures { ReadsBlock head.now parted.entry.bytes.now
         (state_of reader.old (I.remaining input.old) (I.failures input.old))
-        (state_of reader.new (I.remaining input.new) (I.failures input.new)) result }
+        (state_of reader.new (I.remaining input.new) (I.failures input.new))
+        (block_given mime.new.items result) }
 {
-    match known_digest(indexed.head) {
-        Some(digest) => { capture_closed(alloc, reader, input, indexed, parted.response, digest) }
+    match known_digest(head) {
+        Some(digest) => {
+            let known = PayloadDigest::Known(digest);
+            close_block(reader, input, head, parted.response, known, mime)
+        }
         None => {
             let digest = base32(&digest_rest(reader, input, parted.payload)?);
-            capture_closed(alloc, reader, input, indexed, parted.response, &digest)
+            let hashed = PayloadDigest::Hashed(digest);
+            close_block(reader, input, head, parted.response, hashed, mime)
         }
     }
 }

@@ -1,11 +1,9 @@
 //! The status of a capture.
-ghost use Rattle.std.specs.Prelude.{◌≡◌, ◌+◌, ◌<◌, true, IfSome, option_map};
+ghost use Rattle.std.specs.Prelude.{◌≡◌, ℕ, ◌+◌, ◌<◌, true, Some};
 ghost use Rattle.std.specs.List.{list_all};
 ghost use Rattle.json.specs.Run.{is_plain};
 ghost use Rattle.capture_core.specs.Capture.{status_of, three_digits};
-ghost use Rattle.capture_core.specs.ResponseView.{response_view};
 
-use crate::http_head::HttpHead;
 use arrayvec::ArrayString;
 
 /// The text of a status: three digits, or `-`.
@@ -31,14 +29,14 @@ fn three_digits(code: u16) -> Status
     text
 }
 
-/// Returns the HTTP head's status code in three digits, or `-` if there is no HTTP head.
-pub(crate) fn status(response: Option<HttpHead<'_>>) -> Status
-    requires { IfSome response (λ r. r.code < 1000) }
-    ensures value { result.bytes ≡ status_of (option_map response_view response.entry) }
+/// Returns a status code in three digits, or `-` if there is none.
+pub(crate) fn status(code: Option<u16>) -> Status
+    requires { (number : ℕ) → code ≡ Some number → number < 1000 }
+    ensures value { result.bytes ≡ status_of code }
     ensures plain { list_all is_plain result.bytes ≡ true }
 {
-    match response {
-        Some(response) => three_digits(response.code),
+    match code {
+        Some(code) => three_digits(code),
         None => {
             let mut text = Status::new();
             text.push_str("-");

@@ -31,19 +31,20 @@ use Rattle.url.specs.Parser.{host_len, parse_port, parse_authority, leading_slas
 use Rattle.url.specs.Path.{dot_count, is_windows_drive_letter, drive_letter_prefix, shorten_path, push_segment, parse_segments, parse_path_start}
 use Rattle.url.specs.Scheme.{default_port, scheme_type, scheme_len}
 use Rattle.index_core.specs.Fetching.{StandsIn}
+use Rattle.index_core.specs.Form.{plain, plain_record}
 use Rattle.index_core.specs.Limits.{HEAD_LIMIT}
-use Rattle.door_examples.specs.Archives.{a_archive, a_view, info_view, InfoIsRead, PagesAreAccepted}
+use Rattle.door_examples.specs.Archives.{a_archive, a_view, info_archive, info_view, InfoIsRead, PagesAreAccepted}
 
 pub info_is_read : InfoIsRead
 unfolding record_at next_at head_at head_text shortest parts_or_cause parts_of parts_in kind_in stamp_in length_in
     stamp_of date_length fits kind_of each_once required length_of lines_of at_colon field_in given_by fields_of
-    value_of after_record after_block after_text
+    value_of after_record after_block after_text plain
 info_is_read = record {
   whole = record { end = 112; walks = ([], refl, (refl, refl)) };
   cut = record { rest = _; walks = (refl, refl); refused = refl };
   accepted = record {
-    heads = info_view ∷ [];
-    whole = record { end = 112; walks = ([], refl, (refl, refl)) };
+    records = plain_record info_view info_archive ∷ [];
+    whole = record { end = 112; rest = []; walks = ([], refl, (refl, refl)); ended = refl };
     captured = (None, [], (refl, tt), refl, refl);
   };
 }
@@ -56,17 +57,17 @@ unfolding record_at next_at head_at head_text shortest parts_or_cause parts_of p
     strip_tabs_and_new_lines split_once rsplit_once ends_in_a_number host_len parse_port parse_authority
     leading_slashes after_double_slash parse_body split_scheme parse_url dot_count is_windows_drive_letter
     drive_letter_prefix shorten_path push_segment parse_segments parse_path_start default_port scheme_type
-    scheme_len parser.parse_parts percent_decode should_percent_encode parse_number percent_encode
+    scheme_len parser.parse_parts percent_decode should_percent_encode parse_number percent_encode plain
 pages_are_accepted = record {
   records = record { end = 201; walks = ([], refl, (refl, refl)) };
   first = record {
-    heads = _ ∷ [];
-    whole = record { end = 201; walks = ([], refl, (refl, refl)) };
+    records = _ ∷ [];
+    whole = record { end = 201; rest = []; walks = ([], refl, (refl, refl)); ended = refl };
     captured = (Some _, [], ((None, refl, refl), leb-true _ _ refl), refl, refl);
   };
   second = record {
-    heads = _ ∷ [];
-    whole = record { end = 201; walks = ([], refl, (refl, refl)) };
+    records = _ ∷ [];
+    whole = record { end = 201; rest = []; walks = ([], refl, (refl, refl)); ended = refl };
     captured = (Some _, [], ((None, refl, refl), leb-true _ _ refl), refl, refl);
   };
 }

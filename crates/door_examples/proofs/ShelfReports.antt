@@ -5,12 +5,11 @@ use Rattle.std.specs.Fmt.{digits}
 use Rattle.std.specs.Io.KnownBytes.{Appends}
 use Rattle.json.specs.Print.{escape_byte}
 use Rattle.warc_head.specs.Fields.{value_of}
-use Rattle.warc_core.specs.HeadView.{HeadView}
 use Rattle.warc_core.specs.Laws.{OneReading}
-use Rattle.warc_core.specs.Walk.{AreRecords}
 use Rattle.capture_core.specs.Types.{includes, usual_types}
 use Rattle.index_core.specs.Indexing.{Held, index_text}
-use Rattle.index_core.specs.Laws.{OneIndexed, OneStands}
+use Rattle.index_core.specs.Form.{ConsistsOf, Stored, plain, plain_record}
+use Rattle.index_core.specs.Laws.{OneIndexed, OneStands, PlainIsWhole, records_of}
 use Rattle.index_core.specs.Limits.{HEAD_LIMIT}
 use Rattle.index_core.specs.declared.fault.IndexFault.{IndexFault}
 use Rattle.index_core.specs.Listing.{listing_line, record_line}
@@ -32,14 +31,18 @@ use Rattle.door_examples.specs.Texts.{a_line}
 use Rattle.door_examples.proofs.ReadArchives.{pages_are_accepted, a_stands}
 use Rattle.door_examples.proofs.ShelfOutcomes.{one_done, added_done}
 
+-- the record of the archive
+abbrev a_record : Stored
+a_record = plain_record a_view a_archive
+
 abbrev pub HasOneReading : Type 0
 HasOneReading = (limit : ℕ) (archive : List ℕ) → OneReading limit archive
 
-list_text : listing_line a_archive a_view ++ [] ≡ codes "0 201 resource\n"
+list_text : listing_line a_record ++ [] ≡ codes "0 201 resource\n"
 unfolding digits record_line
 list_text = refl
 
-verify_text : verification_line a_archive a_view ++ [] ≡ codes "0 absent\n"
+verify_text : verification_line a_record ++ [] ≡ codes "0 absent\n"
 unfolding digits value_of verdict_line
 verify_text = refl
 
@@ -47,26 +50,30 @@ line_text : index_text (a_entry ∷ []) ≡ a_line
 unfolding digits escape_byte
 line_text = refl
 
-heads_are : HasOneReading → (heads : List HeadView) → AreRecords HEAD_LIMIT a_archive heads → heads ≡ a_view ∷ []
-heads_are one heads are = (one HEAD_LIMIT a_archive).one_list heads (a_view ∷ []) are pages_are_accepted.records
+records_are : HasOneReading → PlainIsWhole → (records : List Stored) → ConsistsOf (plain HEAD_LIMIT) a_archive records
+    → records ≡ a_record ∷ []
+records_are one whole records are =
+    let w = whole HEAD_LIMIT a_archive records are in
+    w.2 ∙ ap (records_of a_archive)
+    ((one HEAD_LIMIT a_archive).one_list w.0 (a_view ∷ []) w.1 pages_are_accepted.records)
 
 -- ---- reports
 
-listed : HasOneReading → (start after : List ℕ) → WritesReport reports.Listing (Some a_archive) outcomes.Done (Some start)
+listed : HasOneReading → PlainIsWhole → (start after : List ℕ) → WritesReport reports.Listing (Some a_archive) outcomes.Done (Some start)
     (Some after) → after ≡ start ++ codes "0 201 resource\n"
-listed one start after (Ok n, is, lists) =
+listed one whole start after (Ok n, is, lists) =
     let r = lists.report in
-    r.3 ∙ ap (λ heads. start ++ report_lines listing_line a_archive heads) (heads_are one r.0 r.1)
+    r.3 ∙ ap (λ records. start ++ report_lines listing_line records) (records_are one whole r.0 r.1)
     ∙ ap (λ t. start ++ t) list_text
-listed one start after (Err f, is, lists) = grind arith
+listed one whole start after (Err f, is, lists) = grind arith
 
-verified : HasOneReading → (start after : List ℕ) → WritesReport reports.Verdicts (Some a_archive) outcomes.Done
+verified : HasOneReading → PlainIsWhole → (start after : List ℕ) → WritesReport reports.Verdicts (Some a_archive) outcomes.Done
     (Some start) (Some after) → after ≡ start ++ codes "0 absent\n"
-verified one start after (Ok v, is, verifies) =
+verified one whole start after (Ok v, is, verifies) =
     let r = verifies.report in
-    r.3 ∙ ap (λ heads. start ++ report_lines verification_line a_archive heads) (heads_are one r.0 r.1)
+    r.3 ∙ ap (λ records. start ++ report_lines verification_line records) (records_are one whole r.0 r.1)
     ∙ ap (λ t. start ++ t) verify_text
-verified one start after (Err f, is, verifies) = grind arith
+verified one whole start after (Err f, is, verifies) = grind arith
 
 module _ (report : ArchiveReport) (text before after : List ℕ)
     (whole : (start : List ℕ) → WritesReport report (Some a_archive) outcomes.Done (Some start) (Some after)
@@ -102,17 +109,17 @@ fetched one before after (Ok n) is (text, count, wrote, stands) = wrote
 fetched one before after (Err f) is fetches = grind arith
 
 module _ (before after : List ℕ) (unchanged : Type 0) where
-  pub lists : HasOneReading
+  pub lists : HasOneReading → PlainIsWhole
       → Performs shelf (Some before) (Some after) unchanged outcomes.Done (ToList (archive_name ∷ []))
       → after ≡ before ++ codes "0 201 resource\n"
   unfolding Performs
-  lists one p = reported reports.Listing _ before after (λ start. listed one start after) p
+  lists one whole p = reported reports.Listing _ before after (λ start. listed one whole start after) p
 
-  pub verifies : HasOneReading
+  pub verifies : HasOneReading → PlainIsWhole
       → Performs shelf (Some before) (Some after) unchanged outcomes.Done (ToVerify (archive_name ∷ []))
       → after ≡ before ++ codes "0 absent\n"
   unfolding Performs
-  verifies one p = reported reports.Verdicts _ before after (λ start. verified one start after) p
+  verifies one whole p = reported reports.Verdicts _ before after (λ start. verified one whole start after) p
 
   pub gets : OneStands → Performs shelf (Some before) (Some after) unchanged outcomes.Done (ToGet None 0 archive_name)
       → after ≡ before ++ a_archive
@@ -129,7 +136,7 @@ added one held (inl a) = go a.answer a.outcome_is a.adds
   where
     go : (answer : Result ℕ IndexFault) → outcomes.Done ≡ outcome_of answer
         → Rattle.index_core.specs.Adding.Adds (includes usual_types) Rattle.capture_core.specs.CaptureAnswer.usual_limits
-        HEAD_LIMIT archive_name (Some a_archive) (nothing_of usual_types) held answer → held.captures ≡ a_entry ∷ []
+        (plain HEAD_LIMIT) archive_name (Some a_archive) (nothing_of usual_types) held answer → held.captures ≡ a_entry ∷ []
     go (Ok n) is adds = grind (arith, one _ _ _ _ _ _ _ adds.2.2 pages_are_accepted.first)
     go (Err f) is adds = grind arith
 added one held (inr unopened) = grind arith

@@ -8,12 +8,13 @@ use Rattle.capture_core.specs.CaptureAnswer.{usual_limits}
 use Rattle.capture_core.specs.Types.{includes, usual_types}
 use Rattle.cdxj_core.specs.Entries.{EntryValue}
 use Rattle.index_core.specs.Accepted.{IsAccepted}
+use Rattle.index_core.specs.Form.{plain}
 use Rattle.index_core.specs.Limits.{HEAD_LIMIT}
 
 -- an archive of this name is accepted whole with these captures
 abbrev pub IsAcceptedUnder : List ℕ → List ℕ → List EntryValue → Type 0
 IsAcceptedUnder name archive captures =
-    IsAccepted (includes usual_types) usual_limits HEAD_LIMIT name archive captures
+    IsAccepted (includes usual_types) usual_limits (plain HEAD_LIMIT) name archive captures
 
 -- ---- a record that contains nothing, and isn't indexed
 

@@ -4,6 +4,7 @@ ghost use Rattle.std.specs.Io.KnownBytes.{Appends};
 ghost use Rattle.index_core.specs.Accepted.{IsAccepted};
 ghost use Rattle.index_core.specs.CaptureAnswer.{usual_limits};
 ghost use Rattle.index_core.specs.Entries.{EntryValue};
+ghost use Rattle.index_core.specs.Form.{plain};
 ghost use Rattle.index_core.specs.Indexing.{index_text};
 ghost use Rattle.index_core.specs.Limits.{HEAD_LIMIT};
 ghost use Rattle.index_core.specs.Types.{includes, usual_types};
@@ -23,7 +24,8 @@ pub fn write_index<I: Input, O: Output>(
 ) -> Result<u64, IndexFault>
     ensures index { (bytes : List ℕ) → I.remaining archive.old ≡ Some bytes
         → IfOk result (λ count. (captures : List EntryValue)
-        × IsAccepted (includes usual_types) usual_limits HEAD_LIMIT name.now bytes captures
+        × IsAccepted (includes usual_types) usual_limits (plain HEAD_LIMIT) name.now bytes
+        captures
         × Appends (O.written out.old) (O.written out.new) (index_text captures)) }
 {
     let mut indexer = Indexer::new(alloc, Types::usual());

@@ -8,7 +8,10 @@ ghost use Rattle.door_examples.specs.Texts.{a_line};
 
 use cdxj_core::index_has_one_list_of_members;
 use command_line::Task;
-use index_core::{Gather, Slice, archive_has_one_list_of_captures, one_thing_stands_at_an_offset};
+use index_core::{
+    Gather, Slice, archive_has_one_list_of_captures, one_thing_stands_at_an_offset,
+    plain_archive_is_its_records,
+};
 use query_core::{SliceSource, merge_writes_one_text, pages_write_one_text};
 use scan_core::scan_writes_one_text;
 use std::rt::Runtime;
@@ -71,6 +74,7 @@ pub fn perform_on_shelf<R: Runtime + AllocGlobal>(
         → WritesOfShelf (view task.now) (gathered out.old) (gathered out.new) }
 {
     one_reading();
+    plain_archive_is_its_records();
     one_thing_stands_at_an_offset();
     archive_has_one_list_of_captures();
     index_has_one_list_of_members();

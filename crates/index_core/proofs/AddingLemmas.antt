@@ -1,22 +1,27 @@
 -- The captures that are added, one record further, at the end, and at a fault.
-use Rattle.index_core.proofs.Words.{arith, ◌≡◌, ◌∙◌, ℕ, ◌+◌, Bool, List, [], ◌∷◌, ◌++◌, Option}
-use Rattle.index_core.proofs.Words.{None, Some, Ok, Err, IfSome, option_to_list, length, drop, ap}
-use Rattle.index_core.proofs.Words.{append_assoc, drop-append_seam, Kind, HeadView, record_length}
-use Rattle.index_core.proofs.Words.{Reads, after_record, Walks, next-spelled, Walks-more}
+use Rattle.index_core.proofs.Words.{arith, ◌≡◌, ◌∙◌, ℕ, ◌+◌, ◌<◌, ◌≤◌, Bool, List, [], ◌∷◌, ◌++◌, Option}
+use Rattle.index_core.proofs.Words.{None, Some, Ok, Err, IfSome, option_to_list, length, drop, ap, inl, refl, sym}
+use Rattle.index_core.proofs.Words.{append_assoc, drop-append_seam, Kind, HeadView, Archive, Fault}
+use Rattle.index_core.proofs.Words.{Reads, after_record, next-spelled, read-spelled}
 use Rattle.index_core.proofs.Words.{record-unclosed, record-whole, EntryValue, CaptureFault, Limits}
-use Rattle.index_core.proofs.Words.{IsCaptureAt, AreCaptured, IsAcceptedTo, fault_offset}
+use Rattle.index_core.proofs.Words.{AreCaptured, IsAcceptedTo, record-stopped}
+use Rattle.std.proofs.Common.{IsSome}
 use Rattle.std.specs.Bool.{⊤}
-use Rattle.index_core.proofs.Words.{Cause, none_at_end, record-stopped, subst}
+use Rattle.warc_core.specs.declared.fault.Cause.TheVariants as causes
 use Rattle.warc_core.specs.Next.{next_at}
 use Rattle.warc_core.specs.Reading.{IsPossibleCause}
 use Rattle.warc_core.specs.Walk.{record_at}
-use Rattle.warc_core.specs.ReaderView.{ReaderView}
+use Rattle.cdxj_core.specs.Entries.{line_text}
+use Rattle.capture_core.specs.Capture.{plain_place}
+use Rattle.capture_core.specs.CaptureAnswer.{Captures, IsEntryOf}
 use Rattle.capture_core.specs.Indexed.{url_of}
-use Rattle.capture_core.specs.CaptureAnswer.{Captures}
-use Rattle.capture_core.specs.RecordReading.{reading_of}
-use Rattle.index_core.specs.Accepted.{IsAccepted, IsCaptured, MayBeRefused}
+use Rattle.capture_core.specs.RecordReading.{IsCaptureFaultAt, reading_of}
+use Rattle.capture_core.specs.declared.fault.CaptureFault.TheVariants.{LineTooLong, KeyTooLong}
+use Rattle.index_core.specs.Accepted.{IsAccepted, IsCaptured, IsCaptureFrom, IsNext, MayBeRefused}
 use Rattle.index_core.specs.Captures.{TakesRecord}
-use Rattle.index_core.proofs.ArchiveWalks.{from_start}
+use Rattle.index_core.specs.Form.{Form, Placed, Stored, Comes, IsLawful, WalksOver, end_of, plain, plain_record}
+use Rattle.index_core.proofs.PlainLemmas.{plain_follows, plain_possible, plain_reads}
+use Rattle.index_core.proofs.RecordWalks.{walks_more}
 
 -- what stands behind a head
 pub behind_head : (limit start : ℕ) (h : HeadView) (z y : List ℕ) → next_at limit start z ≡ Ok (Some h, y)
@@ -24,66 +29,137 @@ pub behind_head : (limit start : ℕ) (h : HeadView) (z y : List ℕ) → next_a
 behind_head limit start h z y r = ap (drop (length h.raw)) (next-spelled limit start z y h r).0
     ∙ drop-append_seam h.raw y
 
-module _ (types : Kind → Bool) (limits : Limits) (limit : ℕ) (name : List ℕ) where
-  -- These are the captures of the records so far, the last of which ends at the offset.
-  abbrev pub AddedSoFar : Option (List ℕ) → Option (List ℕ) → ℕ → List EntryValue → Type 0
-  AddedSoFar None now offset captures = ⊤
-  AddedSoFar (Some archive) None offset captures = ⊥
-  AddedSoFar (Some archive) (Some rest) offset captures = (heads : List HeadView)
-      × Walks limit 0 archive heads offset rest × AreCaptured types limits limit name archive heads captures
+-- why the record that begins these bytes has no capture, in a plain archive
+abbrev pub WhyRefused : (Kind → Bool) → Limits → ℕ → List ℕ → ℕ → List ℕ → CaptureFault → Type 0
+WhyRefused types limits limit name start bytes (Archive f) = IsPossibleCause f.cause (record_at limit start bytes)
+WhyRefused types limits limit name start bytes (LineTooLong o) =
+    (h : HeadView) × (rest : List ℕ) × (record_at limit start bytes ≡ Ok (Some h, rest))
+    × (e : EntryValue) × IsCaptureFrom types limits (plain limit) name (plain_record h bytes) (Some e)
+    × (limits.line < length (line_text e))
+WhyRefused types limits limit name start bytes (KeyTooLong o) = (h : HeadView) × (rest : List ℕ)
+    × (record_at limit start bytes ≡ Ok (Some h, rest)) × IsSome (url_of types h)
 
+module _ (types : Kind → Bool) (limits : Limits) (limit : ℕ) (name : List ℕ) where
   -- a record's capture is that of the record which begins the bytes
   pub capture_there : (start : ℕ) (h : HeadView) (captured : Option EntryValue) (before mid after : Option (List ℕ))
       → Reads (next_at limit start) (Ok (Some h)) before mid
       → Reads (after_record h.parts.block_length) (Ok tt) mid after
-      → Captures (url_of types h) limits h name mid (Ok captured)
-      → IfSome before (λ bytes. IsCaptureAt types limits limit name h bytes captured)
+      → Captures (url_of types h) limits (plain_place h) h name mid (Ok captured)
+      → IfSome before (λ bytes. IsCaptureFrom types limits (plain limit) name (plain_record h bytes) captured)
   capture_there start h captured before mid after r s k = grind (arith, behind_head)
 
   -- why no record was read
-  pub stopped_there : (start : ℕ) (c : Cause) (before after : Option (List ℕ))
-      → Reads (next_at limit start) (Err c) before after
-      → IfSome before (λ bytes. IsPossibleCause c (record_at limit start bytes))
-  stopped_there start c None after r = tt
-  stopped_there start c (Some z) after r = record-stopped limit start (Some z) after after c r
+  pub stopped_there : (start : ℕ) (f : Fault) (before after : Option (List ℕ)) → f.offset ≡ start
+      → Reads (next_at limit start) (Err f.cause) before after
+      → IfSome before (λ bytes. MayBeRefused types limits (plain limit) name start bytes (Archive f))
+  stopped_there start f None after at r = tt
+  stopped_there start f (Some z) after at r =
+      plain_possible limit start z f at (record-stopped limit start (Some z) after after f.cause r)
 
   -- why a record that was read has no capture
-  pub refused_there : (start : ℕ) (h : HeadView) (fault : CaptureFault) (before mid after : Option (List ℕ))
+  why_there : (start : ℕ) (h : HeadView) (fault : CaptureFault) (before mid after : Option (List ℕ))
       → Reads (next_at limit start) (Ok (Some h)) before mid
       → Reads (after_record h.parts.block_length) (reading_of {A = Option EntryValue} (Err fault)) mid after
-      → Captures (url_of types h) limits h name mid (Err fault)
-      → IfSome before (λ bytes. MayBeRefused types limits limit name start bytes fault)
-  refused_there start h fault before mid after r s k = grind (arith, record-whole, behind_head, record-unclosed)
+      → Captures (url_of types h) limits (plain_place h) h name mid (Err fault)
+      → IfSome before (λ bytes. WhyRefused types limits limit name start bytes fault)
+  why_there start h fault before mid after r s k = grind (arith, record-whole, behind_head, record-unclosed)
 
-  captured_more : (archive : List ℕ) (heads : List HeadView) (captures : List EntryValue) (h : HeadView)
-      (captured : Option EntryValue) → AreCaptured types limits limit name archive heads captures
-      → IsCaptured types limits limit name archive h captured
-      → AreCaptured types limits limit name archive (heads ++ h ∷ []) (captures ++ option_to_list captured)
-  captured_more archive [] captures h captured w k = grind arith
-  captured_more archive (g ∷ heads) captures h captured w k =
-      grind (arith, append_assoc, captured_more archive heads w.1 h captured w.3 k)
+  next_is : (start : ℕ) (bytes rest : List ℕ) (h : HeadView) (o : ℕ) → record_at limit start bytes ≡ Ok (Some h, rest)
+      → o ≡ start → IsNext types limits (plain limit) name start bytes o (plain_record h bytes)
+  next_is start bytes rest h o e at =
+      let s = read-spelled limit start bytes rest h e in
+      (rest, plain_reads limit start bytes rest h e, s.2.start_is ∙ sym at)
 
-  pub AddedSoFar-more : (left now after : Option (List ℕ)) (o : ℕ) (gained : List EntryValue) (h : HeadView)
-      (captured : Option EntryValue) (new : ReaderView) → AddedSoFar left now o gained
-      → TakesRecord types limits limit name o h captured new now after
-      → AddedSoFar left after (o + record_length h) (gained ++ option_to_list captured)
-  AddedSoFar-more (Some archive) (Some z) (Some y) o gained h captured new s t =
-      let there = from_start limit archive s.0 o z s.1 h y t.bytes in
-      (s.0 ++ h ∷ [], Walks-more limit 0 archive s.0 o z h y s.1 t.bytes, grind (arith, captured_more))
-  AddedSoFar-more left now after o gained h captured new s t = grind arith
+  as_refused : (start : ℕ) (bytes : List ℕ) (fault : CaptureFault) → IsCaptureFaultAt start fault
+      → WhyRefused types limits limit name start bytes fault
+      → MayBeRefused types limits (plain limit) name start bytes fault
+  as_refused start bytes (Archive f) at w = plain_possible limit start bytes f at w
+  as_refused start bytes (LineTooLong o) at (h, rest, e, entry, is, long) =
+      (plain_record h bytes, next_is start bytes rest h o e at, entry, is, long)
+  as_refused start bytes (KeyTooLong o) at (h, rest, e, more) =
+      (plain_record h bytes, next_is start bytes rest h o e at, more)
+
+  pub refused_there : (start : ℕ) (h : HeadView) (fault : CaptureFault) (before mid after : Option (List ℕ))
+      → IsCaptureFaultAt start fault → Reads (next_at limit start) (Ok (Some h)) before mid
+      → Reads (after_record h.parts.block_length) (reading_of {A = Option EntryValue} (Err fault)) mid after
+      → Captures (url_of types h) limits (plain_place h) h name mid (Err fault)
+      → IfSome before (λ bytes. MayBeRefused types limits (plain limit) name start bytes fault)
+  refused_there start h fault None mid after at r s k = tt
+  refused_there start h fault (Some bytes) mid after at r s k =
+      as_refused start bytes fault at (why_there start h fault (Some bytes) mid after r s k)
+
+  -- there was no memory for a reader
+  pub no_reader : (left : Option (List ℕ)) (fault : CaptureFault)
+      → fault ≡ Archive (record { offset = 0; cause = causes.Memory })
+      → IfSome left (λ archive. IsAcceptedTo types limits (plain limit) name fault archive [])
+  no_reader None fault e = tt
+  no_reader (Some archive) fault e = rw e (record {
+    records = [];
+    end = 0;
+    rest = archive;
+    walks = (refl, refl);
+    captured = refl;
+    refused = (plain_follows limit 0 0 refl, inl refl);
+  })
+
+module _ (types : Kind → Bool) (limits : Limits) (form : Form) (name : List ℕ) where
+  -- These are the captures of the records so far, the last of which ends at the offset.
+  abbrev pub AddedSoFar : Option (List ℕ) → Option (List ℕ) → ℕ → List EntryValue → Type 0
+  AddedSoFar None now offset captures = ⊤
+  AddedSoFar (Some archive) None offset captures = ⊥
+  AddedSoFar (Some archive) (Some rest) offset captures = (records : List Stored)
+      × WalksOver form 0 archive records offset rest × AreCaptured types limits form name records captures
+
+  captured_more : (records : List Stored) (captures : List EntryValue) (r : Stored)
+      (captured : Option EntryValue) → AreCaptured types limits form name records captures
+      → IsCaptured types limits form name r captured
+      → AreCaptured types limits form name (records ++ r ∷ []) (captures ++ option_to_list captured)
+  captured_more [] captures r captured w k = grind arith
+  captured_more (g ∷ records) captures r captured w k =
+      grind (arith, append_assoc, captured_more records w.1 r captured w.3 k)
+
+  fits_line : (captured : Option EntryValue) (p : Placed) → IfSome captured (IsEntryOf p.place p.head name limits.line)
+      → IfSome captured (λ e. length (line_text e) ≤ limits.line)
+  fits_line None p e = tt
+  fits_line (Some x) p e = e.fits
+
+  pub AddedSoFar-more : (left now after : Option (List ℕ)) (o : ℕ) (gained : List EntryValue) (p : Placed)
+      (captured : Option EntryValue) → AddedSoFar left now o gained
+      → TakesRecord types limits form name o p captured now after
+      → AddedSoFar left after (end_of p.place) (gained ++ option_to_list captured)
+  AddedSoFar-more None now after o gained p captured s t = tt
+  AddedSoFar-more (Some archive) None after o gained p captured s t = absurd s
+  AddedSoFar-more (Some archive) (Some z) None o gained p captured s t = absurd t.comes.2
+  AddedSoFar-more (Some archive) (Some z) (Some y) o gained p captured s t =
+      let r = t.comes.0 in
+      let at : end_of r.place ≡ end_of p.place = ap (λ q. end_of q.place) t.comes.1 in
+      let walks = walks_more form 0 archive s.0 o z r y s.1 t.comes.2 in (
+        s.0 ++ r ∷ [],
+        rw (← at) walks,
+        captured_more s.0 gained r captured s.2 (t.comes.3, fits_line captured p t.entry),
+      )
 
   -- what comes next is refused
   pub AddedSoFar-refused : (left now : Option (List ℕ)) (o : ℕ) (gained : List EntryValue) (fault : CaptureFault)
       → AddedSoFar left now o gained
-      → (fault_offset fault ≡ o) × IfSome now (λ bytes. MayBeRefused types limits limit name o bytes fault)
-      → IfSome left (λ archive. IsAcceptedTo types limits limit name fault archive gained)
-  AddedSoFar-refused left now o gained fault s r = grind arith
+      → IfSome now (λ bytes. MayBeRefused types limits form name o bytes fault)
+      → IfSome left (λ archive. IsAcceptedTo types limits form name fault archive gained)
+  AddedSoFar-refused None now o gained fault s r = tt
+  AddedSoFar-refused (Some archive) None o gained fault s r = absurd s
+  AddedSoFar-refused (Some archive) (Some z) o gained fault s r =
+      record { records = s.0; end = o; rest = z; walks = s.1; captured = s.2; refused = r }
 
   -- nothing comes next
-  pub AddedSoFar-end : (left now after : Option (List ℕ)) (o : ℕ) (gained : List EntryValue)
-      → AddedSoFar left now o gained → Reads (record_at limit o) (Ok None) now after
-      → IfSome left (λ archive. IsAccepted types limits limit name archive gained)
-  AddedSoFar-end (Some archive) (Some z) (Some y) o gained s r =
-      let walks = subst (λ rest. Walks limit 0 archive s.0 o rest) (none_at_end limit o z y r) s.1 in
-      record { heads = s.0; whole = record { end = o; walks = walks }; captured = s.2 }
-  AddedSoFar-end left now after o gained s r = grind arith
+  pub AddedSoFar-end : (law : IsLawful form) (left now after : Option (List ℕ)) (o : ℕ) (gained : List EntryValue)
+      → AddedSoFar left now o gained → Comes form o (Ok None) now after
+      → IfSome left (λ archive. IsAccepted types limits form name archive gained)
+  AddedSoFar-end law None now after o gained s r = tt
+  AddedSoFar-end law (Some archive) None after o gained s r = absurd s
+  AddedSoFar-end law (Some archive) (Some z) None o gained s r = absurd r
+  AddedSoFar-end law (Some archive) (Some z) (Some y) o gained s r =
+      let none = law.ended o z y r in
+      record {
+        records = s.0;
+        whole = record { end = o; rest = z; walks = s.1; ended = rw none at r };
+        captured = s.2;
+      }

@@ -1,5 +1,8 @@
 pub mod Words
 mod ArchiveWalks
+pub mod RecordWalks
+pub mod PlainLemmas
+mod PlainArchives
 pub mod ReportLemmas
 pub mod ListingLemmas
 pub mod VerdictLemmas

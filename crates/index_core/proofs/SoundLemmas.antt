@@ -1,5 +1,5 @@
 -- Captures that stay sound: each has its own place, under a name that was added.
-use Rattle.index_core.proofs.Words.{◌≡◌, ℕ, ◌<◌, List, [], ◌∷◌, ◌++◌, Option, IfSome}
+use Rattle.index_core.proofs.Words.{◌≡◌, ℕ, ◌<◌, ◌≤◌, List, [], ◌∷◌, ◌++◌, Option, IfSome}
 use Rattle.index_core.proofs.Words.{option_to_list, append-nil, arith, HeadView, EntryValue}
 use Rattle.index_core.proofs.Words.{is_among}
 use Rattle.std.proofs.Common.{true}
@@ -11,6 +11,8 @@ use Rattle.cdxj_core.specs.Entries.{entry_place}
 use Rattle.cdxj_places.specs.Places.{place_cmp}
 use Rattle.cdxj_places.proofs.RisingLaws.{each_join, each_weaker}
 use Rattle.capture_core.specs.CaptureAnswer.{IsEntryOf}
+use Rattle.capture_core.specs.declared.place.Place.{Place}
+use Rattle.index_core.specs.Form.{end_of}
 use Rattle.index_core.specs.Indexing.{HaveOwnPlaces, AreSound}
 use Rattle.index_core.specs.Captures.{StandBefore}
 
@@ -30,16 +32,25 @@ places_push name o (x ∷ xs) e at named before own = (
   places_push name o xs e at named before.1 own.1,
 )
 
--- what a record at the offset adds stands before its end
-pub before_step : (name : List ℕ) (limit o p : ℕ) (h : HeadView) (xs : List EntryValue) (captured : Option EntryValue)
-    → o < p → h.start ≡ o → IfSome captured (IsEntryOf h name limit) → StandBefore name o xs
-    → StandBefore name p (xs ++ option_to_list captured)
-before_step name limit o p h xs captured less at e before = grind (arith, append-nil, each_weaker, each_join)
+-- what a record from the offset on adds stands before its end
+pub before_step : (name : List ℕ) (limit o : ℕ) (place : Place) (h : HeadView) (xs : List EntryValue)
+    (captured : Option EntryValue)
+    → o ≤ place.offset → 0 < place.length → IfSome captured (IsEntryOf place h name limit) → StandBefore name o xs
+    → StandBefore name (end_of place) (xs ++ option_to_list captured)
+before_step name limit o place h xs captured from filled e before =
+    grind (arith, append-nil, each_weaker, each_join)
 
-pub sound_step : (limit : ℕ) (names : List (List ℕ)) (name : List ℕ) (o : ℕ) (h : HeadView) (xs : List EntryValue)
-    (captured : Option EntryValue) → is_among names name ≡ true → h.start ≡ o → IfSome captured (IsEntryOf h name limit)
+-- captures that stand before an offset stand before any behind it
+before_later : (name : List ℕ) (o p : ℕ) (xs : List EntryValue) → o ≤ p → StandBefore name o xs → StandBefore name p xs
+before_later name o p xs l before = grind (arith, each_weaker)
+
+pub sound_step : (limit : ℕ) (names : List (List ℕ)) (name : List ℕ) (o : ℕ) (place : Place) (h : HeadView)
+    (xs : List EntryValue) (captured : Option EntryValue) → is_among names name ≡ true → o ≤ place.offset
+    → IfSome captured (IsEntryOf place h name limit)
     → StandBefore name o xs → AreSound limit names xs → AreSound limit names (xs ++ option_to_list captured)
-sound_step limit names name o h xs captured used at e before s = grind (arith, append-nil, places_push, each_join)
+sound_step limit names name o place h xs captured used from e before s =
+    let later = before_later name o place.offset xs from before in
+    grind (arith, append-nil, places_push, each_join)
 
 -- ---- names
 

@@ -6,7 +6,7 @@ pub use Rattle.capture_core.specs.declared.fault.CaptureFault.TheVariants.{Archi
 pub use Rattle.cdxj_core.specs.Entries.{EntryValue}
 pub use Rattle.devices.proofs.DeviceLemmas.{Appends-join, Appends-none}
 pub use Rattle.devices.specs.Device.{AppendsPrefix}
-pub use Rattle.index_core.specs.Accepted.{AreCaptured, IsAcceptedTo, IsCaptureAt, IsTaken}
+pub use Rattle.index_core.specs.Accepted.{AreCaptured, IsAcceptedTo, IsTaken}
 pub use Rattle.index_core.specs.Fetching.{Fetches, IsInRecord, IsRecordOf, StandsIn}
 pub use Rattle.index_core.specs.FetchingAt.{CopiesNextOf}
 pub use Rattle.index_core.specs.Indexing.{entries_text, is_among}

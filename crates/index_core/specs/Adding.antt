@@ -6,6 +6,7 @@ use Rattle.capture_core.specs.declared.fault.CaptureFault.{CaptureFault}
 use Rattle.capture_core.specs.CaptureAnswer.{Limits}
 use Rattle.index_core.specs.declared.fault.IndexFault.{IndexFault}
 use Rattle.index_core.specs.declared.fault.IndexFault.TheVariants as faults
+use Rattle.index_core.specs.Form.{Form}
 use Rattle.index_core.specs.Accepted.{IsAccepted, IsAcceptedTo}
 use Rattle.index_core.specs.Indexing.{Held, AreNamed}
 
@@ -13,14 +14,14 @@ use Rattle.index_core.specs.Indexing.{Held, AreNamed}
 abbrev pub with_archive : List ℕ → List EntryValue → Held → Held
 with_archive name captures held = record held { names = held.names ++ name ∷ []; captures = held.captures ++ captures }
 
--- the types of records that are indexed, the limits of captures and of a head, and the archive's name
-module _ (types : Kind → Bool) (limits : Limits) (limit : ℕ) (name : List ℕ) where
+-- the types of records that are indexed, the limits of captures, the form of the archive, and its name
+module _ (types : Kind → Bool) (limits : Limits) (form : Form) (name : List ℕ) where
   -- which captures a list gains from an archive, and the number that is answered
   abbrev pub Gains : Option (List ℕ) → List EntryValue → Result ℕ CaptureFault → Type 0
   Gains left captures (Ok n) = (n ≡ length captures) × AreNamed name captures
-      × IfSome left (λ archive. IsAccepted types limits limit name archive captures)
+      × IfSome left (λ archive. IsAccepted types limits form name archive captures)
   Gains left captures (Err fault) = AreNamed name captures
-      × IfSome left (λ archive. IsAcceptedTo types limits limit name fault archive captures)
+      × IfSome left (λ archive. IsAcceptedTo types limits form name fault archive captures)
 
   -- what an addition makes of what an indexer holds
   abbrev pub Adds : Option (List ℕ) → Held → Held → Result ℕ IndexFault → Type 0

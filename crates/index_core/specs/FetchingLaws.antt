@@ -13,6 +13,7 @@ use Rattle.index_core.specs.declared.fault.IndexFault.{IndexFault}
 use Rattle.index_core.specs.declared.fault.IndexFault.TheVariants as faults
 use Rattle.index_core.specs.Fetching.{AreRecordsTo, IsRecordOf, IsTextAt, Fetches}
 use Rattle.index_core.specs.FetchingAt.{FetchesAt}
+use Rattle.index_core.specs.Form.{plain}
 use Rattle.index_core.specs.Laws.{IsIndexed}
 use Rattle.index_core.specs.Report.{IsNoDamage}
 
@@ -51,7 +52,7 @@ WroteRecord text (Err other) before after = ⊥
 abbrev pub CapturesAreFetched : Type 0
 CapturesAreFetched = (types : Kind → Bool) (limits : Limits) (limit : ℕ) (name archive : List ℕ)
     (captures : List EntryValue) (e : EntryValue)
-    → IsIndexed types limits limit name archive captures → IsIn e captures
+    → IsIndexed types limits (plain limit) name archive captures → IsIn e captures
     → (text : List ℕ) × IsTextAt limit archive e.offset text × (length text ≡ e.length)
     × ((result : Result ℕ IndexFault) (before after : Option (List ℕ))
     → Fetches limit e.offset (Some archive) result before after

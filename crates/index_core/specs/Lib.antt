@@ -1,3 +1,4 @@
+pub mod Form
 pub mod Report
 pub mod Listing
 pub mod Verifying

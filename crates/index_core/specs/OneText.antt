@@ -11,6 +11,7 @@ use Rattle.index_core.specs.declared.fault.IndexFault.TheVariants as faults
 use Rattle.index_core.specs.Adding.{Adds, with_archive}
 use Rattle.index_core.specs.Fetching.{Fetches, IsMetBefore}
 use Rattle.index_core.specs.FetchingAt.{FetchesAt}
+use Rattle.index_core.specs.Form.{plain}
 use Rattle.index_core.specs.Indexing.{Held, index_text}
 use Rattle.index_core.specs.Laws.{IsNoFaultOfArchive}
 use Rattle.index_core.specs.Listing.{Lists}
@@ -63,16 +64,16 @@ PromisesPart {A} promise = (before : List ℕ) (this that : Result A IndexFault)
 
 -- of a report on an archive there is one text
 abbrev pub ListsOneText : Type 0
-ListsOneText = (limit : ℕ) (archive : List ℕ) → PromisesOneText (Lists limit (Some archive))
+ListsOneText = (limit : ℕ) (archive : List ℕ) → PromisesOneText (Lists (plain limit) (Some archive))
 
 abbrev pub ListsPart : Type 0
-ListsPart = (limit : ℕ) (archive : List ℕ) → PromisesPart (Lists limit (Some archive))
+ListsPart = (limit : ℕ) (archive : List ℕ) → PromisesPart (Lists (plain limit) (Some archive))
 
 abbrev pub VerifiesOneText : Type 0
-VerifiesOneText = (limit : ℕ) (archive : List ℕ) → PromisesOneText (Verifies limit (Some archive))
+VerifiesOneText = (limit : ℕ) (archive : List ℕ) → PromisesOneText (Verifies (plain limit) (Some archive))
 
 abbrev pub VerifiesPart : Type 0
-VerifiesPart = (limit : ℕ) (archive : List ℕ) → PromisesPart (Verifies limit (Some archive))
+VerifiesPart = (limit : ℕ) (archive : List ℕ) → PromisesPart (Verifies (plain limit) (Some archive))
 
 -- ---- the record at an offset
 
@@ -122,8 +123,8 @@ abbrev pub AddsOneList : Type 0
 AddsOneList = (types : Kind → Bool) (limits : Limits) (limit : ℕ) (name archive : List ℕ) (old new other : Held)
     (this that : Result ℕ IndexFault)
     → IsOfArchive this → IsOfArchive that
-    → Adds types limits limit name (Some archive) old new this
-    → Adds types limits limit name (Some archive) old other that → (this ≡ that) × (new ≡ other)
+    → Adds types limits (plain limit) name (Some archive) old new this
+    → Adds types limits (plain limit) name (Some archive) old other that → (this ≡ that) × (new ≡ other)
 
 -- the first of the captures that the one added, by the answer of the other
 abbrev pub HasFirst : List ℕ → Held → Held → Held → Result ℕ IndexFault → Type 0
@@ -136,8 +137,8 @@ abbrev pub AddsFirst : Type 0
 AddsFirst = (types : Kind → Bool) (limits : Limits) (limit : ℕ) (name archive : List ℕ) (old new other : Held)
     (this that : Result ℕ IndexFault)
     → IsOfArchive this → IsFailure that
-    → Adds types limits limit name (Some archive) old new this
-    → Adds types limits limit name (Some archive) old other that → HasFirst name old new other that
+    → Adds types limits (plain limit) name (Some archive) old new this
+    → Adds types limits (plain limit) name (Some archive) old other that → HasFirst name old new other that
 
 -- the index of the captures that are held is one text
 abbrev pub WritesOneIndex : Type 0

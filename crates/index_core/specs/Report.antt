@@ -8,93 +8,88 @@ use Rattle.warc_core.specs.declared.fault.Fault.{Fault}
 use Rattle.warc_core.specs.declared.phase.Phase.TheVariants.{Between}
 use Rattle.warc_core.specs.Cause.{cause_name}
 use Rattle.devices.specs.Device.{AppendsPrefix, next_count}
-use Rattle.warc_core.specs.HeadView.{HeadView, record_length, RecordBeginsAt}
-use Rattle.warc_core.specs.Reading.{IsPossibleCause}
+use Rattle.warc_core.specs.HeadView.{HeadView, record_length}
 use Rattle.warc_core.specs.ReaderView.{ReaderView, StandsAt}
-use Rattle.warc_core.specs.Walk.{Walks, AreRecords, IsDamaged, record_at}
 use Rattle.capture_core.specs.declared.fault.CaptureFault.TheVariants.{Archive}
 use Rattle.index_core.specs.declared.fault.IndexFault.{IndexFault}
+use Rattle.index_core.specs.Form.{Form, Placed, Stored, BreaksAfter, ConsistsOf, Follow, IsPossibleFault, WalksOver}
 use Rattle.index_core.specs.declared.fault.IndexFault.TheVariants as faults
 
--- what a report says of a record of an archive, by the record's head
+-- what a report says of a record
 abbrev pub RecordLine : Type 0
-RecordLine = List ℕ → HeadView → List ℕ
+RecordLine = Stored → List ℕ
 
 -- the lines of these records
-abbrev pub report_lines : RecordLine → List ℕ → List HeadView → List ℕ
-report_lines line archive heads = flat_map (line archive) heads
+abbrev pub report_lines : RecordLine → List Stored → List ℕ
+report_lines line records = flat_map line records
 
 -- `fault OFFSET CAUSE`
 unfoldable pub fault_line : Fault → List ℕ
 fault_line f = codes "fault " ++ decimal f.offset ++ codes " " ++ cause_name f.cause ++ codes "\n"
 
 -- the text is the report on the archive: its records, or those before its damage and the damage
-abbrev pub IsReport : ℕ → RecordLine → List ℕ → List ℕ → Type 0
-IsReport limit line archive text =
-    ((heads : List HeadView) × AreRecords limit archive heads × (text ≡ report_lines line archive heads))
-    ⊎ ((heads : List HeadView) × (f : Fault) × IsDamaged limit archive heads f.offset f.cause
-    × (text ≡ report_lines line archive heads ++ fault_line f))
+abbrev pub IsReport : Form → RecordLine → List ℕ → List ℕ → Type 0
+IsReport form line archive text =
+    ((records : List Stored) × ConsistsOf form archive records × (text ≡ report_lines line records))
+    ⊎ ((records : List Stored) × (f : Fault) × BreaksAfter form archive records f
+    × (text ≡ report_lines line records ++ fault_line f))
 
 -- the cause isn't the archive's
 abbrev pub IsNoDamage : Cause → Type 0
 IsNoDamage cause = (cause ≡ causes.Memory) ⊎ (cause ≡ causes.Read)
 
 -- the text is the report up to a record that couldn't be read, for want of memory or by the input's failure
-abbrev pub IsCutReport : ℕ → RecordLine → List ℕ → List ℕ → Type 0
-IsCutReport limit line archive text =
-    (heads : List HeadView) × (f : Fault) × (rest : List ℕ) × IsNoDamage f.cause
-    × Walks limit 0 archive heads f.offset rest × (text ≡ report_lines line archive heads ++ fault_line f)
+abbrev pub IsCutReport : Form → RecordLine → List ℕ → List ℕ → Type 0
+IsCutReport form line archive text =
+    (records : List Stored) × (f : Fault) × (end : ℕ) × (rest : List ℕ) × IsNoDamage f.cause
+    × WalksOver form 0 archive records end rest × form.Follows end f.offset
+    × (text ≡ report_lines line records ++ fault_line f)
 
 -- The lines of all records of the archive were written, where it is known, and the answer is their tally.
-abbrev pub Reported : {A : Type 0} → ℕ → RecordLine → (List ℕ → List HeadView → A) → Option (List ℕ) → A
+abbrev pub Reported : {A : Type 0} → Form → RecordLine → (List Stored → A) → Option (List ℕ) → A
     → Option (List ℕ) → Option (List ℕ) → Type 0
-Reported limit line tally None answer before after = ⊤
-Reported limit line tally (Some archive) answer before after =
-    (heads : List HeadView) × AreRecords limit archive heads × (answer ≡ tally archive heads)
-    × Appends before after (report_lines line archive heads)
+Reported form line tally None answer before after = ⊤
+Reported form line tally (Some archive) answer before after =
+    (records : List Stored) × ConsistsOf form archive records × (answer ≡ tally records)
+    × Appends before after (report_lines line records)
 
 -- The lines of the records before the fault were written, and the fault's line.
-abbrev pub ReportedToFault : ℕ → RecordLine → Option (List ℕ) → Fault → Option (List ℕ) → Option (List ℕ) → Type 0
-ReportedToFault limit line None f before after = ⊤
-ReportedToFault limit line (Some archive) f before after =
-    (heads : List HeadView) × (rest : List ℕ) × Walks limit 0 archive heads f.offset rest
-    × IsPossibleCause f.cause (record_at limit f.offset rest)
-    × Appends before after (report_lines line archive heads ++ fault_line f)
+abbrev pub ReportedToFault : Form → RecordLine → Option (List ℕ) → Fault → Option (List ℕ) → Option (List ℕ) → Type 0
+ReportedToFault form line None f before after = ⊤
+ReportedToFault form line (Some archive) f before after =
+    (records : List Stored) × (end : ℕ) × (rest : List ℕ) × WalksOver form 0 archive records end rest
+    × IsPossibleFault form end rest f
+    × Appends before after (report_lines line records ++ fault_line f)
 
 -- A prefix of the report was written.
-abbrev pub ReportedInPart : ℕ → RecordLine → Option (List ℕ) → Option (List ℕ) → Option (List ℕ) → Type 0
-ReportedInPart limit line None before after = ⊤
-ReportedInPart limit line (Some archive) before after =
-    (text : List ℕ) × (IsReport limit line archive text ⊎ IsCutReport limit line archive text)
+abbrev pub ReportedInPart : Form → RecordLine → Option (List ℕ) → Option (List ℕ) → Option (List ℕ) → Type 0
+ReportedInPart form line None before after = ⊤
+ReportedInPart form line (Some archive) before after =
+    (text : List ℕ) × (IsReport form line archive text ⊎ IsCutReport form line archive text)
     × AppendsPrefix before after text
 
 -- What a call wrote that reports on an archive, by its answer.
-abbrev pub Reports : {A : Type 0} → ℕ → RecordLine → (List ℕ → List HeadView → A) → Option (List ℕ)
+abbrev pub Reports : {A : Type 0} → Form → RecordLine → (List Stored → A) → Option (List ℕ)
     → Result A IndexFault → Option (List ℕ) → Option (List ℕ) → Type 0
-Reports limit line tally left (Ok answer) before after = Reported limit line tally left answer before after
-Reports limit line tally left (Err (faults.Capture (Archive f))) before after = ReportedToFault limit line left f before
+Reports form line tally left (Ok answer) before after = Reported form line tally left answer before after
+Reports form line tally left (Err (faults.Capture (Archive f))) before after = ReportedToFault form line left f before
     after
-Reports limit line tally left (Err faults.Write) before after = ReportedInPart limit line left before after
-Reports limit line tally left (Err other) before after = ⊥
-
--- records of which each begins where the one before it ends, from one offset to another
-abbrev pub Follow : {X : Type 0} → (X → HeadView) → ℕ → List X → ℕ → Type 0
-Follow head from [] to = from ≡ to
-Follow head from (x ∷ items) to = RecordBeginsAt from (head x) × Follow head (from + record_length (head x)) items to
+Reports form line tally left (Err faults.Write) before after = ReportedInPart form line left before after
+Reports form line tally left (Err other) before after = ⊥
 
 -- What a call wrote that reports on an archive of any bytes, by its answer: lines of records that follow one another
--- from the offset 0, and the line of a fault where they end.
-abbrev pub ReportsRecords : {A X : Type 0} → (X → HeadView) → (X → List ℕ) → (List X → A) → Result A IndexFault
+-- from the offset 0, and the line of a fault that follows them.
+abbrev pub ReportsRecords : {A X : Type 0} → Form → (X → Placed) → (X → List ℕ) → (List X → A) → Result A IndexFault
     → Option (List ℕ) → Option (List ℕ) → Type 0
-ReportsRecords {X = X} head line tally (Ok answer) before after =
-    (items : List X) × (end : ℕ) × Follow head 0 items end × (answer ≡ tally items)
+ReportsRecords {X = X} form placed line tally (Ok answer) before after =
+    (items : List X) × (end : ℕ) × Follow form placed 0 items end × (answer ≡ tally items)
     × Appends before after (flat_map line items)
-ReportsRecords {X = X} head line tally (Err (faults.Capture (Archive f))) before after =
-    (items : List X) × Follow head 0 items f.offset × Appends before after (flat_map line items ++ fault_line f)
-ReportsRecords {X = X} head line tally (Err faults.Write) before after =
-    (items : List X) × (f : Fault) × Follow head 0 items f.offset
+ReportsRecords {X = X} form placed line tally (Err (faults.Capture (Archive f))) before after =
+    (items : List X) × Follow form placed 0 items f.offset × Appends before after (flat_map line items ++ fault_line f)
+ReportsRecords {X = X} form placed line tally (Err faults.Write) before after =
+    (items : List X) × (f : Fault) × Follow form placed 0 items f.offset
     × AppendsPrefix before after (flat_map line items ++ fault_line f)
-ReportsRecords head line tally (Err other) before after = ⊥
+ReportsRecords form placed line tally (Err other) before after = ⊥
 
 -- a report is refused for the archive's fault, or where the output failed
 abbrev pub IsReportFault : IndexFault → Type 0

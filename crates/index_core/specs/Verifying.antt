@@ -1,31 +1,32 @@
 -- The verification of an archive: the digest of each block against the one that its record gives.
-use Rattle.std.specs.Prelude.{ℕ, List, ◌++◌, length, drop, Option, Result, Ok, Err, option_map, codes, decimal}
+use Rattle.std.specs.Prelude.{ℕ, List, ◌++◌, length, Option, Result, Ok, Err, option_map, codes, decimal}
 use Rattle.std.specs.List.{sum_by}
 use Rattle.warc_core.specs.Fields.{value_of}
 use Rattle.warc_core.specs.declared.fault.Fault.{Fault}
-use Rattle.warc_core.specs.HeadView.{HeadView, block_at}
+use Rattle.warc_core.specs.HeadView.{HeadView}
 use Rattle.warc_core.specs.declared.verdict.Verdict.{Verdict}
 use Rattle.warc_core.specs.declared.verdict.Verdict.TheVariants as verdicts
 use Rattle.capture_core.specs.BlockDigest.{verdict_of, verdict_name}
 use Rattle.index_core.specs.declared.fault.IndexFault.{IndexFault}
 use Rattle.index_core.specs.declared.verified.Verified.{Verified}
+use Rattle.index_core.specs.Form.{Form, Placed, Stored}
 use Rattle.index_core.specs.Report.{Reports, ReportsRecords}
 
 -- what the head says of a block
 abbrev pub verdict_on : HeadView → List ℕ → Verdict
 verdict_on h block = verdict_of (value_of (codes "WARC-Block-Digest") h.parts.fields) block
 
--- the verdict on a record of the archive
-abbrev pub verdict_in : List ℕ → HeadView → Verdict
-verdict_in archive h = verdict_on h (block_at h (drop h.start archive))
+-- the verdict on a record
+abbrev pub verdict_in : Stored → Verdict
+verdict_in r = verdict_on r.head r.block
 
 -- `OFFSET VERDICT`
 unfoldable pub verdict_line : ℕ → Verdict → List ℕ
 verdict_line offset verdict = decimal offset ++ codes " " ++ verdict_name verdict ++ codes "\n"
 
 -- what a verification says of a record
-abbrev pub verification_line : List ℕ → HeadView → List ℕ
-verification_line archive h = verdict_line h.start (verdict_in archive h)
+abbrev pub verification_line : Stored → List ℕ
+verification_line r = verdict_line r.place.offset (verdict_in r)
 
 -- one for a block with another digest
 abbrev pub differing_by : Verdict → ℕ
@@ -33,28 +34,28 @@ differing_by verdicts.Differs = 1
 differing_by verdict = 0
 
 -- how many of the records have a block with another digest
-abbrev pub differing_in : List ℕ → List HeadView → ℕ
-differing_in archive heads = sum_by (λ h. differing_by (verdict_in archive h)) heads
+abbrev pub differing_in : List Stored → ℕ
+differing_in records = sum_by (λ r. differing_by (verdict_in r)) records
 
 -- what a verification answers
-abbrev pub verified_in : List ℕ → List HeadView → Verified
-verified_in archive heads = record { records = length heads; differing = differing_in archive heads }
+abbrev pub verified_in : List Stored → Verified
+verified_in records = record { records = length records; differing = differing_in records }
 
 -- a record with a verdict on its block
 abbrev pub Judged : Type 0
-Judged = HeadView × Verdict
+Judged = Placed × Verdict
 
 abbrev pub judged_line : Judged → List ℕ
-judged_line judged = verdict_line judged.0.start judged.1
+judged_line judged = verdict_line judged.0.place.offset judged.1
 
 abbrev pub verified_of : List Judged → Verified
 verified_of judged = record { records = length judged; differing = sum_by (λ j. differing_by j.1) judged }
 
 -- what a verification wrote, by its answer
-pub record Verifies (limit : ℕ) (left : Option (List ℕ)) (answer : Result Verified IndexFault)
+pub record Verifies (form : Form) (left : Option (List ℕ)) (answer : Result Verified IndexFault)
     (before after : Option (List ℕ)) : Type 0 where
-  pub report : Reports limit verification_line verified_in left answer before after
-  pub records : ReportsRecords (λ j. j.0) judged_line verified_of answer before after
+  pub report : Reports form verification_line verified_in left answer before after
+  pub records : ReportsRecords form (λ j. j.0) judged_line verified_of answer before after
 
 -- an answer without its verdicts
 abbrev pub heads_of : Result (Option (HeadView × Verdict)) Fault → Result (Option HeadView) Fault

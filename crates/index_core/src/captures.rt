@@ -11,7 +11,8 @@ ghost use Rattle.capture_core.specs.CaptureAnswer.{usual_limits};
 ghost use Rattle.index_core.specs.Indexing.{AreSound, is_among};
 ghost use Rattle.index_core.specs.Adding.{Gains};
 ghost use Rattle.index_core.specs.Counting.{CountsCapture};
-ghost use Rattle.index_core.specs.Captures.{StandBefore, TakesNext};
+ghost use Rattle.index_core.specs.Captures.{StandBefore, StandsBehind, TakesNext, placed_in};
+ghost use Rattle.index_core.specs.Form.{plain};
 
 use capture_core::{BlockStart, CaptureFault, HeldLine, Types, held_capture};
 use std::alloc::{AllocError, Global};
@@ -29,9 +30,11 @@ fn next_capture<I: Input>(
 ) -> Result<Option<(Head, Option<HeldLine>)>, CaptureFault>
     requires between { reader.old.phase ≡ Between }
     requires named { 0 < length name.now }
-    ensures takes { TakesNext (includes types) usual_limits HEAD_LIMIT name.now reader.old.offset
-        result reader.new (prepend_known reader.old.held (I.remaining input.old))
+    ensures takes { TakesNext (includes types) usual_limits (plain HEAD_LIMIT) name.now
+        reader.old.offset (placed_in result)
+        (prepend_known reader.old.held (I.remaining input.old))
         (prepend_known reader.new.held (I.remaining input.new)) }
+    ensures stands { StandsBehind reader.new result }
     ensures failures { CountsCapture result (I.failures input.old) (I.failures input.new) }
 {
     match reader.next(input)? {
@@ -72,8 +75,8 @@ pub fn add_captures<I: Input>(
     requires named { 0 < length name.now }
     requires unused { StandBefore name.now 0 captures.old.items }
     ensures gains { (gained : List EntryValue) × (captures.new.items ≡ captures.old.items ++ gained)
-        × Gains (includes types) usual_limits HEAD_LIMIT name.now (I.remaining input.old) gained
-        result }
+        × Gains (includes types) usual_limits (plain HEAD_LIMIT) name.now (I.remaining input.old)
+        gained result }
     ensures sound { (names : List (List ℕ)) → is_among names name.now ≡ true
         → AreSound LINE_LIMIT names captures.old.items
         → AreSound LINE_LIMIT names captures.new.items }

@@ -50,6 +50,7 @@ impl Indexer {
     ghost use Rattle.capture_core.specs.CaptureAnswer.{usual_limits};
     ghost use Rattle.index_core.specs.Adding.{Adds, IsAddFault, IsRefusal};
     ghost use Rattle.index_core.specs.Counting.{CountsIndex, CountsIndexWrite};
+    ghost use Rattle.index_core.specs.Form.{plain};
     ghost use Rattle.index_core.specs.Indexing.{IsWriteFault, IsName, is_among, index_text};
     ghost use Rattle.index_core.specs.Indexing.{in_places, AreSound};
 
@@ -77,7 +78,7 @@ impl Indexer {
         ensures bad { (result ≡ Err IndexFault.BadName) ↔ ¬ (IsName name.now) }
         ensures duplicate { (result ≡ Err IndexFault.DuplicateName)
             ↔ (IsName name.now × (is_among self.old.names name.now ≡ true)) }
-        ensures adds { Adds (includes self.old.types) usual_limits HEAD_LIMIT name.now
+        ensures adds { Adds (includes self.old.types) usual_limits (plain HEAD_LIMIT) name.now
             (I.remaining input.old) self.old self.new result }
         ensures refusals { IfErr result IsAddFault }
         ensures unread { IfErr result (λ fault. IsRefusal fault → input.new ≡ input.old) }

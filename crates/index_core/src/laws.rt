@@ -2,7 +2,7 @@
 //! contract.
 ghost use Rattle.index_core.specs.Laws.{AcceptedIsWhole, OneIndexed, OneIndexedTo, CapturesStand};
 ghost use Rattle.index_core.specs.Laws.{OneStands, SomeStands, WholeIsNotRefused, WholeStays};
-ghost use Rattle.index_core.specs.Laws.{CapturesStay};
+ghost use Rattle.index_core.specs.Laws.{CapturesStay, PlainIsDamaged, PlainIsWhole};
 ghost use Rattle.index_core.specs.FetchingLaws.{LengthAgrees, OffsetAgrees, CapturesAreFetched};
 ghost use Rattle.index_core.specs.OneText.{ListsOneText, ListsPart, VerifiesOneText, VerifiesPart};
 ghost use Rattle.index_core.specs.OneText.{FetchesOneText, FetchesFront, FetchesAtOneText};
@@ -14,6 +14,13 @@ ghost use Rattle.index_core.specs.OneText.{WritesIndexFront};
 pub fn archive_has_one_list_of_captures()
     ensures whole { OneIndexed }
     ensures part { OneIndexedTo }
+{}
+
+/// A plain archive is read as the records that stand one after another in it, each at the offset
+/// and of the length that its head says, up to its end or to its damage.
+pub fn plain_archive_is_its_records()
+    ensures whole { PlainIsWhole }
+    ensures damaged { PlainIsDamaged }
 {}
 
 /// At each offset of an archive there is exactly one of these: a record's text, no record, or the

@@ -7,7 +7,7 @@ ghost use Rattle.index_core.specs.Report.{fault_line};
 ghost use Rattle.index_core.specs.Verifying.{verdict_line};
 
 use arrayvec::ArrayString;
-use capture_core::Verdict;
+use capture_core::{Place, Verdict};
 use itoa::Buffer;
 use warc_core::{Fault, Head};
 
@@ -16,14 +16,14 @@ pub type ReportLine = ArrayString<64>;
 
 /// Returns the line `OFFSET LENGTH KIND`.
 #[tactic(auto, unfolding(crate::specs::Listing::record_line))]
-pub fn record_line(head: &Head) -> ReportLine
-    ensures { result.bytes ≡ record_line head.now }
+pub fn record_line(head: &Head, place: Place) -> ReportLine
+    ensures { result.bytes ≡ record_line (record { head = head.now; place = place }) }
 {
     let mut digits = Buffer::new();
     let mut line = ReportLine::new();
-    line.push_str(digits.format(head.start()));
+    line.push_str(digits.format(place.offset));
     line.push_str(" ");
-    line.push_str(digits.format(head.record_length()));
+    line.push_str(digits.format(place.length));
     line.push_str(" ");
     line.push_str(head.kind().name());
     line.push_str("\n");

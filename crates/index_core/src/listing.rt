@@ -1,6 +1,7 @@
 //! The listing of an archive: a line for each record.
 ghost use Rattle.std.specs.Prelude.{IfErr};
 ghost use Rattle.index_core.specs.Counting.{CountsIndexWrite, CountsInput};
+ghost use Rattle.index_core.specs.Form.{plain};
 ghost use Rattle.index_core.specs.Listing.{Lists};
 ghost use Rattle.index_core.specs.Report.{IsReportFault};
 
@@ -8,6 +9,7 @@ use crate::fault::IndexFault;
 use crate::lines::record_line;
 use crate::walk::next_record;
 use crate::writing::{put_fault, put_line};
+use capture_core::plain_place;
 use std::alloc::Global;
 use warc_core::{HEAD_LIMIT, Input, Output, Reader};
 
@@ -21,7 +23,7 @@ pub fn list<I: Input, O: Output>(
     input: &mut I,
     out: &mut O,
 ) -> Result<u64, IndexFault>
-    ensures lists { Lists HEAD_LIMIT (I.remaining input.old) result (O.written out.old)
+    ensures lists { Lists (plain HEAD_LIMIT) (I.remaining input.old) result (O.written out.old)
         (O.written out.new) }
     ensures refusals { IfErr result IsReportFault }
     ensures reads { CountsInput result (I.failures input.old) (I.failures input.new) }
@@ -36,7 +38,7 @@ pub fn list<I: Input, O: Output>(
         match next_record(&mut reader, input) {
             Ok(None) => return Ok(count),
             Ok(Some(head)) => {
-                put_line(out, &record_line(&head))?;
+                put_line(out, &record_line(&head, plain_place(&head)))?;
                 count += 1;
                 reader.recycle(head);
             }

@@ -1,6 +1,7 @@
 //! The verification of an archive: a line for the digest of each block.
 ghost use Rattle.std.specs.Prelude.{◌≡◌, IfErr};
 ghost use Rattle.index_core.specs.Counting.{CountsIndexWrite, CountsInput};
+ghost use Rattle.index_core.specs.Form.{plain};
 ghost use Rattle.index_core.specs.Report.{IsReportFault};
 ghost use Rattle.index_core.specs.Verifying.{Verifies, differing_by};
 
@@ -25,8 +26,8 @@ pub fn verify<I: Input, O: Output>(
     input: &mut I,
     out: &mut O,
 ) -> Result<Verified, IndexFault>
-    ensures verifies { Verifies HEAD_LIMIT (I.remaining input.old) result (O.written out.old)
-        (O.written out.new) }
+    ensures verifies { Verifies (plain HEAD_LIMIT) (I.remaining input.old) result
+        (O.written out.old) (O.written out.new) }
     ensures refusals { IfErr result IsReportFault }
     ensures reads { CountsInput result (I.failures input.old) (I.failures input.new) }
     ensures writes { CountsIndexWrite result (O.failures out.old) (O.failures out.new) }

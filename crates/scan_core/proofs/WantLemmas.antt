@@ -5,7 +5,7 @@ use Rattle.std.proofs.Common.{set}
 use Rattle.warc_core.specs.{Kind.Kind, declared.next.TheConstants.HEAD_LIMIT}
 use Rattle.devices.specs.Device.{next_count}
 use Rattle.capture_core.specs.CaptureAnswer.{usual_limits}
-use Rattle.index_core.specs.{Accepted.IsAcceptedWhole, Laws.WholeIsNotRefused, declared.fault.IndexFault.IndexFault}
+use Rattle.index_core.specs.{Accepted.IsAcceptedWhole, Form.plain, Laws.WholeIsNotRefused, declared.fault.IndexFault.IndexFault}
 use Rattle.scan_core.specs.{Failures.CountsAt, Scanning.IsScanFault, declared.fault.ScanFault.TheVariants.Archive}
 use Rattle.scan_core.specs.Archives.{AreNewNames, IsFaultOfArchive, IsNewName}
 use Rattle.scan_core.specs.Laws.{IsWantOfRoom, MayRise, OnlyMemoryIsWanting}
@@ -23,10 +23,10 @@ new_at earlier names i h l = grind (arith, append-nil)
 record ToldWhole (types : Kind → Bool) (name : List ℕ) (input : Option (List ℕ)) : Type 0 where
   archive : List ℕ
   told : input ≡ Some archive
-  whole : IsAcceptedWhole types usual_limits HEAD_LIMIT name archive
+  whole : IsAcceptedWhole types usual_limits (plain HEAD_LIMIT) name archive
 
 whole_at : (types : Kind → Bool) (names : List (List ℕ)) (inputs : List (Option (List ℕ))) (archives : List (List ℕ))
-    (i : ℕ) → Known inputs archives → AllZip (IsAcceptedWhole types usual_limits HEAD_LIMIT) names archives
+    (i : ℕ) → Known inputs archives → AllZip (IsAcceptedWhole types usual_limits (plain HEAD_LIMIT)) names archives
     → i < length names → ToldWhole types (get_or names i []) (get_or inputs i None)
 whole_at types (n ∷ names) (o ∷ inputs) (a ∷ archives) (suc i) known whole l = whole_at types names inputs archives i
     known.1 whole.1 (omega arith)
@@ -46,7 +46,7 @@ stayed i [] m may l same e = absurd (omega arith)
 module _ (whole_is_not_refused : WholeIsNotRefused) (types : Kind → Bool) (names archives : List (List ℕ))
     (inputs : List (Option (List ℕ))) (i : ℕ) (counts : List ℕ) (new : AreNewNames [] names)
     (known : Known inputs archives)
-    (whole : AllZip (IsAcceptedWhole types usual_limits HEAD_LIMIT) names archives) (inside : i < length names)
+    (whole : AllZip (IsAcceptedWhole types usual_limits (plain HEAD_LIMIT)) names archives) (inside : i < length names)
     (may : AllByRecursion MayRise counts) where
   archive_want : (fault : IndexFault) → IsFaultOfArchive types (take i names) (get_or names i []) (get_or inputs i None)
       fault → CountsAt i fault counts counts → IsWantOfRoom (Archive i fault)

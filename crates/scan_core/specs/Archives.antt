@@ -11,6 +11,7 @@ use Rattle.cdxj_core.specs.Members.{Member, entry_member}
 use Rattle.capture_core.specs.CaptureAnswer.{usual_limits}
 use Rattle.index_core.specs.declared.fault.IndexFault.{IndexFault}
 use Rattle.index_core.specs.declared.fault.IndexFault.TheVariants as index
+use Rattle.index_core.specs.Form.{plain}
 use Rattle.index_core.specs.Accepted.{IsAccepted, IsAcceptedTo}
 use Rattle.index_core.specs.Indexing.{IsName, AreNamed, is_among, in_places, HaveOwnPlaces}
 
@@ -29,7 +30,7 @@ AreNewNames earlier (name ∷ names) = IsNewName earlier name × AreNewNames (ea
 abbrev pub AreCapturesOf : (Kind → Bool) → List ℕ → Option (List ℕ) → List EntryValue → Type 0
 AreCapturesOf types name input captures =
     AreNamed name captures
-    × IfSome input (λ archive. IsAccepted types usual_limits HEAD_LIMIT name archive captures)
+    × IfSome input (λ archive. IsAccepted types usual_limits (plain HEAD_LIMIT) name archive captures)
 
 -- the same of each archive
 abbrev pub AreCapturesOfEach : (Kind → Bool) → List (List ℕ) → List (Option (List ℕ)) → List (List EntryValue) → Type 0
@@ -78,7 +79,7 @@ IsFaultOfArchive types earlier name input index.DuplicateName = IsName name × (
 IsFaultOfArchive types earlier name input (index.Capture fault) =
     IsNewName earlier name
     × IfSome input (λ archive. (captures : List EntryValue)
-    × IsAcceptedTo types usual_limits HEAD_LIMIT name fault archive captures)
+    × IsAcceptedTo types usual_limits (plain HEAD_LIMIT) name fault archive captures)
 IsFaultOfArchive types earlier name input index.Memory = IsNewName earlier name
 IsFaultOfArchive types earlier name input other = ⊥
 

@@ -8,6 +8,7 @@ use Rattle.warc_core.specs.declared.next.TheConstants.{HEAD_LIMIT}
 use Rattle.capture_core.specs.declared.fault.CaptureFault.TheVariants as capture
 use Rattle.capture_core.specs.CaptureAnswer.{usual_limits}
 use Rattle.index_core.specs.declared.fault.IndexFault.TheVariants as index
+use Rattle.index_core.specs.Form.{plain}
 use Rattle.index_core.specs.Accepted.{IsAcceptedWhole}
 use Rattle.cdxj_core.specs.Entries.{EntryValue}
 use Rattle.index_core.specs.Indexing.{index_text}
@@ -29,7 +30,7 @@ pub record IsScannable (types : Kind → Bool) (names archives : List (List ℕ)
   pub query : QueryValue
   pub asked : IsAsked sizes text (length names) query
   pub named : AreNewNames [] names
-  pub whole : AllZip (IsAcceptedWhole types usual_limits HEAD_LIMIT) names archives
+  pub whole : AllZip (IsAcceptedWhole types usual_limits (plain HEAD_LIMIT)) names archives
 
 -- a fault for want of memory, or for a key that the URL parser has no room for
 abbrev pub IsWantOfRoom : ScanFault → Type 0

@@ -1,9 +1,9 @@
 -- What is promised over an archive whose bytes are known is promised without them.
 use Rattle.std.proofs.Common.{arith, ℕ, List, Option, None, Result}
-use Rattle.warc_core.specs.HeadView.{HeadView}
 use Rattle.index_core.specs.declared.fault.IndexFault.{IndexFault}
 use Rattle.index_core.specs.Fetching.{Fetches}
 use Rattle.index_core.specs.FetchingAt.{FetchesAt}
+use Rattle.index_core.specs.Form.{Form, Stored}
 use Rattle.index_core.specs.Report.{RecordLine, Reports}
 use Rattle.tasks.specs.declared.outcome.Outcome.{Outcome}
 use Rattle.tasks.specs.declared.reports.ArchiveReport.{ArchiveReport}
@@ -13,10 +13,10 @@ use Rattle.index_core.specs.Indexing.{Held}
 use Rattle.tasks.specs.Reports.{WritesBelow, WritesReport}
 
 module _ (archive : Option (List ℕ)) where
-  reports_untold : {A : Type 0} (limit : ℕ) (line : RecordLine) (tally : List ℕ → List HeadView → A)
+  reports_untold : {A : Type 0} (form : Form) (line : RecordLine) (tally : List Stored → A)
       (answer : Result A IndexFault) (before after : Option (List ℕ))
-      → Reports limit line tally archive answer before after → Reports limit line tally None answer before after
-  reports_untold limit line tally answer before after r = grind arith
+      → Reports form line tally archive answer before after → Reports form line tally None answer before after
+  reports_untold form line tally answer before after r = grind arith
 
   report_untold : (report : ArchiveReport) (outcome : Outcome) (before after : Option (List ℕ))
       → WritesReport report archive outcome before after → WritesReport report None outcome before after

@@ -11,6 +11,7 @@ use Rattle.capture_core.specs.CaptureAnswer.{usual_limits}
 use Rattle.command_line.specs.Commands.{is_input}
 use Rattle.index_core.specs.declared.fault.IndexFault.{IndexFault}
 use Rattle.index_core.specs.declared.fault.IndexFault.TheVariants as faults
+use Rattle.index_core.specs.Form.{plain}
 use Rattle.index_core.specs.Adding.{Adds}
 use Rattle.index_core.specs.Indexing.{Held, IsName, IsWriteFault, index_text, is_among}
 use Rattle.tasks.specs.declared.outcome.Outcome.{Outcome}
@@ -47,7 +48,7 @@ pub record AddsArchive (name : List ℕ) (archive : Option (List ℕ)) (old new 
   pub bad : (answer ≡ Err faults.BadName) ↔ ¬ (IsName name)
   pub duplicate : (answer ≡ Err faults.DuplicateName)
       ↔ (IsName name × (is_among old.names name ≡ true))
-  pub adds : Adds (includes old.types) usual_limits HEAD_LIMIT name archive old new answer
+  pub adds : Adds (includes old.types) usual_limits (plain HEAD_LIMIT) name archive old new answer
 
 -- the outcome of the adding, unless the writing was refused
 abbrev pub unless_refused : {A : Type 0} → Outcome → Result A IndexFault → Outcome

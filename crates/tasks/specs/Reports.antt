@@ -6,6 +6,7 @@ use Rattle.warc_core.specs.declared.next.TheConstants.{HEAD_LIMIT}
 use Rattle.index_core.specs.declared.fault.IndexFault.{IndexFault}
 use Rattle.index_core.specs.declared.fault.IndexFault.TheVariants as faults
 use Rattle.index_core.specs.declared.verified.Verified.{Verified}
+use Rattle.index_core.specs.Form.{plain}
 use Rattle.index_core.specs.Listing.{Lists}
 use Rattle.index_core.specs.Verifying.{Verifies}
 use Rattle.tasks.specs.declared.outcome.Outcome.{Outcome}
@@ -27,10 +28,10 @@ heading_among count name = if nat_lt 1 count then heading name else []
 -- the report on an archive was written, by the outcome of its call
 abbrev pub WritesReport : ArchiveReport → Option (List ℕ) → Outcome → Option (List ℕ) → Option (List ℕ) → Type 0
 WritesReport reports.Listing archive outcome before after =
-    (answer : Result ℕ IndexFault) × (outcome ≡ outcome_of answer) × Lists HEAD_LIMIT archive answer before after
+    (answer : Result ℕ IndexFault) × (outcome ≡ outcome_of answer) × Lists (plain HEAD_LIMIT) archive answer before after
 WritesReport reports.Verdicts archive outcome before after =
     (answer : Result Verified IndexFault) × (outcome ≡ verification_outcome answer)
-    × Verifies HEAD_LIMIT archive answer before after
+    × Verifies (plain HEAD_LIMIT) archive answer before after
 
 -- the report was written below a heading, or the output failed in the heading
 abbrev pub WritesBelow : List ℕ → ArchiveReport → Option (List ℕ) → Outcome → Option (List ℕ) → Option (List ℕ) → Type 0

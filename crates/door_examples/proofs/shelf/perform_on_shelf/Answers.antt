@@ -8,8 +8,8 @@ use Rattle.door_examples.proofs.shelf.perform_on_shelf.Goals as goal
 pub returns : goal.returns
 unfolding Performs
 returns g c archive index input is = record {
-  list = λ same. lists _ _ ⊤ c.one_reading.ensures (on_shelf _ _ _ _ _ _ _ _ _ archive index input is same c.perform.ensures.performs);
-  verify = λ same. verifies _ _ ⊤ c.one_reading.ensures (on_shelf _ _ _ _ _ _ _ _ _ archive index input is same c.perform.ensures.performs);
+  list = λ same. lists _ _ ⊤ c.one_reading.ensures c.plain_archive_is_its_records.ensures.whole (on_shelf _ _ _ _ _ _ _ _ _ archive index input is same c.perform.ensures.performs);
+  verify = λ same. verifies _ _ ⊤ c.one_reading.ensures c.plain_archive_is_its_records.ensures.whole (on_shelf _ _ _ _ _ _ _ _ _ archive index input is same c.perform.ensures.performs);
   index = λ same. indexes c.archive_has_one_list_of_captures.ensures.whole _ _ _ (on_shelf _ _ _ _ _ _ _ _ _
       archive index input is same c.perform.ensures.performs);
   merge = λ same. merges _ _ _ c.merge_writes_one_text.ensures (on_shelf _ _ _ _ _ _ _ _ _ archive index input is same c.perform.ensures.performs);

@@ -6,6 +6,7 @@ use Rattle.capture_core.specs.Types.{includes}
 use Rattle.capture_core.specs.CaptureAnswer.{usual_limits}
 use Rattle.index_core.specs.Indexing.{AreNamed, AreSound}
 use Rattle.index_core.specs.Captures.{StandBefore}
+use Rattle.index_core.specs.Form.{plain}
 use Rattle.index_core.proofs.AddingLemmas.{AddedSoFar}
 use Rattle.index_core.proofs.captures.add_captures.Given as goal
 
@@ -15,7 +16,7 @@ invariant-loop-captures g l = record {
   phase : l.reader.phase ≡ Between;
   within : l.reader.offset ≤ 2 ^ 63 - 1;
   gains : (gained : List EntryValue) × (l.captures.items ≡ l.fn.captures.items ++ gained)
-      × AddedSoFar (includes l.types) usual_limits HEAD_LIMIT l.name (g.I.Input.remaining l.fn.input)
+      × AddedSoFar (includes l.types) usual_limits (plain HEAD_LIMIT) l.name (g.I.Input.remaining l.fn.input)
       (prepend_known l.reader.held (g.I.Input.remaining l.input)) l.reader.offset gained × AreNamed l.name gained;
   before : StandBefore l.name l.reader.offset l.captures.items;
   sound : (names : List (List ℕ)) → is_among names l.name ≡ true → AreSound LINE_LIMIT names l.fn.captures.items

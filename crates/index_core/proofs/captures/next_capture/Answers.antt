@@ -1,22 +1,46 @@
-use Rattle.index_core.proofs.Words.{arith, err_from_is_err_and, record-whole, HEAD_LIMIT}
+use Rattle.index_core.proofs.Words.{◌≡◌, HEAD_LIMIT, arith, err_from_is_err_and, record-whole, subst}
 use Rattle.warc_core.proofs.WalkLemmas.{record-end}
 use Rattle.capture_core.specs.Types.{includes}
 use Rattle.capture_core.specs.CaptureAnswer.{usual_limits}
+use Rattle.capture_core.specs.RecordReading.{IsCaptureFaultAt}
 use Rattle.index_core.proofs.AddingLemmas.{capture_there, refused_there, stopped_there}
+use Rattle.index_core.proofs.PlainLemmas.{plain_comes, plain_comes_end, plain_stands}
 use Rattle.index_core.proofs.captures.next_capture.Goals as goal
 
 pub returns-in_err-next-clause-takes : goal.returns-in_err-next-clause-takes
 returns-in_err-next-clause-takes g c =
     let n = c.in_err-next.ensures.between c.requires.between in
     let p = err_from_is_err_and c.from_residual.result c.from_residual.ensures.1 in
-    rw (p.1, p.2)
-    (n.state.at, stopped_there (includes c.args.types) usual_limits HEAD_LIMIT c.args.name.now _ _ _ _ n.bytes)
+    rw (p.1, p.2) (stopped_there (includes c.args.types) usual_limits HEAD_LIMIT c.args.name.now _
+    c.in_err-next.field-0.0 _ _ n.state.at n.bytes)
 
 pub returns-in_err-captured-in-Some-clause-takes : goal.returns-in_err-captured-in-Some-clause-takes
-returns-in_err-captured-in-Some-clause-takes g c = grind (arith, err_from_is_err_and, refused_there)
+returns-in_err-captured-in-Some-clause-takes g c =
+    let n = rw c.in-Some.is at (c.in_ok-next.ensures.between c.requires.between) in
+    let r = c.from_residual-in_err-captured-in-Some in
+    let p = err_from_is_err_and r.result r.ensures.1 in
+    let h = c.in-Some.head in
+    let e = c.in_err-captured-in-Some.ensures in
+    let fault = c.in_err-captured-in-Some.field-0.0 in
+    let o = c.args.reader.now.offset in
+    let at : h.start ≡ o = grind arith in
+    rw (p.1, p.2) (refused_there (includes c.args.types) usual_limits HEAD_LIMIT c.args.name.now o h fault _ _ _
+    (subst (λ s. IsCaptureFaultAt s fault) at e.reads.fault) n.bytes e.reads.reads.bytes e.capture)
 
 pub returns-in-None-clause-takes : goal.returns-in-None-clause-takes
-returns-in-None-clause-takes g c = grind (arith, record-end)
+returns-in-None-clause-takes g c = grind (arith, record-end, plain_comes_end)
 
-pub returns-in_ok-captured-in-Some : goal.returns-in_ok-captured-in-Some
-returns-in_ok-captured-in-Some g c = grind (arith, record-whole, capture_there)
+pub returns-in_ok-captured-in-Some-clause-takes : goal.returns-in_ok-captured-in-Some-clause-takes
+returns-in_ok-captured-in-Some-clause-takes g c =
+    let n = rw c.in-Some.is at (c.in_ok-next.ensures.between c.requires.between) in
+    let h = c.in-Some.head in
+    let captured = c.in_ok-captured-in-Some.captured in
+    let e = c.in_ok-captured-in-Some.ensures in
+    let o = c.args.reader.now.offset in
+    record {
+      comes = plain_comes HEAD_LIMIT o h _ _ _ (record-whole HEAD_LIMIT o _ _ _ h n.bytes e.reads.reads.bytes)
+          (capture_there (includes c.args.types) usual_limits HEAD_LIMIT c.args.name.now o h captured _ _ _ n.bytes
+          e.reads.reads.bytes e.capture);
+      stands = plain_stands HEAD_LIMIT o h (grind arith);
+      entry = e.entry;
+    }

@@ -1,4 +1,5 @@
 use Rattle.index_core.proofs.Words.{◌≡◌, ◌≤◌, ◌-◌, ◌^◌, prepend_known, HEAD_LIMIT, Between}
+use Rattle.index_core.specs.Form.{plain}
 use Rattle.index_core.proofs.ReportLemmas.{Reporting}
 use Rattle.index_core.proofs.VerdictLemmas.{verification}
 use Rattle.index_core.proofs.verifying.verify.Given as goal
@@ -9,7 +10,7 @@ invariant-loop-reader g l = record {
   within : l.reader.offset ≤ 2 ^ 63 - 1;
   fewer : l.records ≤ l.reader.offset;
   among : l.differing ≤ l.records;
-  reporting : Reporting HEAD_LIMIT verification (g.I.Input.remaining l.fn.input)
+  reporting : Reporting (plain HEAD_LIMIT) verification (g.I.Input.remaining l.fn.input)
       (prepend_known l.reader.held (g.I.Input.remaining l.input)) l.reader.offset
       (record { records = l.records; differing = l.differing }) (g.O.Output.written l.fn.out)
       (g.O.Output.written l.out);

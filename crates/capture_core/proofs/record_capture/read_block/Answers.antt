@@ -5,15 +5,15 @@ use Rattle.std.proofs.lemmas.Result.{err_from_is_err_and}
 use Rattle.capture_core.specs.declared.http_head.TheConstants.{HTTP_HEAD_LIMIT}
 use Rattle.capture_core.specs.RecordReading.{front_length}
 use Rattle.capture_core.proofs.RestLemmas.{filled-failed, filled-rest, filled-ready, given-behind, given-failed}
-use Rattle.capture_core.proofs.record_capture.capture_indexed.Goals as goal
+use Rattle.capture_core.proofs.record_capture.read_block.Goals as goal
 
 pub returns-in-Err : goal.returns-in-Err
-returns-in-Err g c = c.finish_without_memory.ensures [] c.requires
+returns-in-Err g c = c.finish_without_memory.ensures c.args.mime.now.items [] c.requires
 
 pub returns-in_err-filled : goal.returns-in_err-filled
 returns-in_err-filled g c =
     let p = err_from_is_err_and c.from_residual.result c.from_residual.ensures.1 in
-    rw (p.1, p.2) (given-failed c.args.indexed _ _ c.in_err-filled.field-0.0 _ c.requires c.in_err-filled.ensures)
+    rw (p.1, p.2) (given-failed c.args.head.now _ _ c.in_err-filled.field-0.0 _ c.requires c.in_err-filled.ensures)
 
 -- a buffer whose bytes were all written
 back_is : (n : ℕ) (new old : List ℕ) → length new ≡ length old → n ≡ length old → take n (new ++ drop (length new) old)
@@ -22,7 +22,7 @@ back_is n new old same size = grind (arith, take-append_seam)
 
 pub steps-init : goal.steps-init
 steps-init g c =
-    let h = c.args.indexed.head.now in
+    let h = c.args.head.now in
     let room = c.make_room.new.front in
     let front = c.read_first.new.front in
     let first = c.min-first.result in
@@ -40,8 +40,8 @@ steps-init g c =
     c.in_ok-filled.ensures in
     rw back (record {
       within = inside;
-      ready = filled-ready c.args.indexed [] (take filled front) _ _ c.requires within fills;
-      rest = λ r new. filled-rest c.args.indexed [] (take filled front) _ _ c.requires new r within fills;
+      ready = filled-ready c.args.head.now [] (take filled front) _ _ c.requires within fills;
+      rest = λ r new. filled-rest c.args.head.now [] (take filled front) _ _ c.requires new r within fills;
     })
 
 pub returns-in-Some : goal.returns-in-Some
@@ -50,7 +50,8 @@ returns-in-Some g c =
     c.steps.invariant.rest _ _ (grind arith)
 
 pub returns-in-Err-make_room : goal.returns-in-Err-make_room
-returns-in-Err-make_room g c = c.steps.invariant.rest _ _ (grind arith)
+returns-in-Err-make_room g c =
+    c.steps.invariant.rest _ _ (c.finish_without_memory-in-Err-make_room.ensures _ _ c.steps.invariant.ready)
 
 pub returns-in_err-read_behind : goal.returns-in_err-read_behind
 returns-in_err-read_behind g c =
@@ -60,12 +61,12 @@ returns-in_err-read_behind g c =
     let first = ap (take c.steps.filled) c.deref_mut-in-steps.ensures.value
     ∙ c.in-Ok-make_room.ensures.kept c.steps.filled kept.within in
     let fills = rw first at c.in_err-read_behind.ensures in
-    rw (p.1, p.2) (kept.rest _ _ (filled-failed c.args.indexed (take c.steps.filled c.steps.front.items) _ _ _ kept.ready
+    rw (p.1, p.2) (kept.rest _ _ (filled-failed c.args.head.now (take c.steps.filled c.steps.front.items) _ _ _ kept.ready
     c.in_err-read_behind.field-0.0 fills))
 
 pub steps-preserved : goal.steps-preserved
 steps-preserved g c =
-    let h = c.args.indexed.head.now in
+    let h = c.args.head.now in
     let kept = c.steps.invariant in
     let room = c.make_room-in-steps.new.front in
     let front = c.read_behind.new.front in
@@ -83,7 +84,7 @@ steps-preserved g c =
     (arith, size, c.min-goal.ensures, c.front_length-whole.ensures) in
     rw back (record {
       within = inside;
-      ready = filled-ready c.args.indexed before (take goal_size front) _ _ kept.ready within fills;
+      ready = filled-ready c.args.head.now before (take goal_size front) _ _ kept.ready within fills;
       rest = λ r new s. kept.rest r new
-          (filled-rest c.args.indexed before (take goal_size front) _ _ kept.ready new r within fills s);
+          (filled-rest c.args.head.now before (take goal_size front) _ _ kept.ready new r within fills s);
     })
