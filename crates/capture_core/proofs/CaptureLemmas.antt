@@ -12,7 +12,7 @@ use Rattle.warc_core.specs.ReaderView.{FailedBy, ReaderState, ahead}
 use Rattle.warc_core.specs.Record.{after_record}
 use Rattle.warc_core.specs.declared.fault.Cause.{Cause}
 use Rattle.warc_core.specs.declared.fault.Fault.{Fault}
-use Rattle.cdxj_core.specs.Entries.{EntryValue, line_text}
+use Rattle.cdxj_core.specs.Entries.{EntryValue}
 use Rattle.capture_core.specs.declared.fault.CaptureFault.{CaptureFault}
 use Rattle.capture_core.specs.declared.fault.CaptureFault.TheVariants.{Archive, LineTooLong, KeyTooLong}
 use Rattle.warc_core.specs.Base32.{base32_of}

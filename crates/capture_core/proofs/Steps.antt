@@ -1,7 +1,7 @@
 -- The front of a block, read in steps.
 use Rattle.std.proofs.lemmas.Grind.{common_steps}
 use Rattle.std.proofs.Common.{◌≡◌, ℕ, ◌-◌, ◌≤◌, ◌⊎◌, inl, inr, List, [], ◌∷◌, ◌++◌, Bool, true, false, cond}
-use Rattle.std.proofs.Common.{Option, None, Some, Result, IfSome, length, take, min, option_map, is_some, refl}
+use Rattle.std.proofs.Common.{Option, None, Some, Result, length, take, min, option_map, is_some, refl}
 use Rattle.std.proofs.Common.{arith, append-nil, append_assoc, if◌then◌else◌}
 use Rattle.std.proofs.Math.Seq.{take-append_seam, drop-append_seam}
 use Rattle.std.specs.Io.KnownBytes.{Consumes}

@@ -1,6 +1,6 @@
 -- Archives that are accepted: their captures are one list, and they are refused for no fault of their own.
-use Rattle.index_core.proofs.Words.{◌≡◌, ◌∙◌, ℕ, ◌+◌, ◌<◌, Bool, List, [], ◌∷◌, ◌++◌, Some, Ok}
-use Rattle.index_core.proofs.Words.{length, append_assoc, inl, inr, refl, sym, arith, AllByRecursion, Kind}
+use Rattle.index_core.proofs.Words.{◌≡◌, ◌∙◌, ℕ, ◌<◌, Bool, List, [], ◌∷◌, ◌++◌, Some, Ok}
+use Rattle.index_core.proofs.Words.{length, append_assoc, inl, inr, sym, arith, AllByRecursion, Kind}
 use Rattle.index_core.proofs.Words.{Archive, EntryValue, CaptureFault, Limits, fault_offset}
 use Rattle.index_core.proofs.Words.{AreCaptured, IsTaken, IsAcceptedTo}
 use Rattle.cdxj_core.specs.Entries.{line_text}

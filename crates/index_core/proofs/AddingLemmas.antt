@@ -1,5 +1,5 @@
 -- The captures that are added, one record further, at the end, and at a fault.
-use Rattle.index_core.proofs.Words.{arith, ◌≡◌, ◌∙◌, ℕ, ◌+◌, ◌<◌, ◌≤◌, Bool, List, [], ◌∷◌, ◌++◌, Option}
+use Rattle.index_core.proofs.Words.{arith, ◌≡◌, ◌∙◌, ℕ, ◌<◌, ◌≤◌, Bool, List, [], ◌∷◌, ◌++◌, Option}
 use Rattle.index_core.proofs.Words.{None, Some, Ok, Err, IfSome, option_to_list, length, drop, ap, inl, refl, sym}
 use Rattle.index_core.proofs.Words.{append_assoc, drop-append_seam, Kind, HeadView, Archive, Fault}
 use Rattle.index_core.proofs.Words.{Reads, after_record, next-spelled, read-spelled}

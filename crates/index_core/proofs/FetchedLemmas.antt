@@ -1,6 +1,6 @@
 -- A capture's record stands at its offset.
-use Rattle.index_core.proofs.Words.{arith, ◌≡◌, ℕ, ◌+◌, List, [], ◌∷◌, ◌++◌, Bool, Option, Some, Ok, ap, sym}
-use Rattle.index_core.proofs.Words.{drop, refl, ◌⊎◌, inl, inr, option_to_list, EntryValue, Limits, subst}
+use Rattle.index_core.proofs.Words.{arith, ◌≡◌, ℕ, List, [], ◌∷◌, ◌++◌, Bool, Option, Some, Ok}
+use Rattle.index_core.proofs.Words.{drop, refl, ◌⊎◌, inl, inr, option_to_list, EntryValue, Limits}
 use Rattle.index_core.proofs.Words.{HeadView, record_length, Kind, read-spelled}
 use Rattle.index_core.proofs.Words.{AreCaptured, IsRecordOf}
 use Rattle.cdxj_places.specs.Rising.{IsIn}
@@ -8,7 +8,7 @@ use Rattle.capture_core.specs.declared.place.Place.{Place}
 use Rattle.capture_core.specs.Capture.{IsCaptureUnder}
 use Rattle.capture_core.specs.Indexed.{url_of}
 use Rattle.index_core.specs.Accepted.{IsCaptureFrom}
-use Rattle.index_core.specs.Form.{Form, Stored, WalksOver, end_of, plain, plain_record}
+use Rattle.index_core.specs.Form.{Stored, WalksOver, end_of, plain, plain_record}
 use Rattle.index_core.specs.Laws.{IsIndexed}
 use Rattle.index_core.proofs.ArchiveWalks.{from_start}
 use Rattle.index_core.proofs.PlainLemmas.{heads_of, plain_read, plain_walk}

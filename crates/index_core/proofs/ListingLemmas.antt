@@ -1,6 +1,6 @@
 -- What a listing says of a record, and what it counts.
 use Rattle.index_core.proofs.Words.{ℕ, ◌≡◌, ◌+◌, List, [], ◌∷◌, length, length-append, arith, ap, sym}
-use Rattle.index_core.proofs.Words.{HeadView, IfSome, None, Ok, Option, Reads, Some, refl}
+use Rattle.index_core.proofs.Words.{HeadView, Ok, Option, Reads, Some, refl}
 use Rattle.warc_core.specs.Walk.{record_at}
 use Rattle.index_core.specs.Form.{ComesRecord, Placed, Stored, placed_of, plain, plain_placed, plain_record}
 use Rattle.index_core.specs.Listing.{record_line, listing_line, record_count}

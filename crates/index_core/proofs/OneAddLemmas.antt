@@ -6,7 +6,7 @@ use Rattle.index_core.proofs.Words.{AreCaptured, IsTaken, IsAcceptedTo, IsFailur
 use Rattle.capture_core.specs.declared.fault.CaptureFault.TheVariants.{LineTooLong, KeyTooLong}
 use Rattle.capture_core.proofs.Captures.{one_capture}
 use Rattle.index_core.specs.Adding.{Adds}
-use Rattle.index_core.specs.Form.{Form, Stored, WalksOver, end_of, plain}
+use Rattle.index_core.specs.Form.{Form, Stored, WalksOver, plain}
 use Rattle.index_core.specs.Indexing.{Held}
 use Rattle.index_core.specs.Laws.{IsNoFaultOfArchive}
 use Rattle.index_core.specs.OneText.{HasFirst, AddsOneList, AddsFirst, WritesOneIndex}

@@ -1,5 +1,5 @@
 -- An archive decides what a report on it answers and writes.
-use Rattle.index_core.proofs.Words.{◌≡◌, ◌∙◌, ℕ, List, [], ◌++◌, ◌⊎◌, inl, inr, Option, Some}
+use Rattle.index_core.proofs.Words.{◌≡◌, ◌∙◌, ℕ, List, ◌++◌, ◌⊎◌, inl, inr, Option, Some}
 use Rattle.index_core.proofs.Words.{Result, Ok, Err, refl, ap, sym, arith, Appends, AppendsPrefix, Cause}
 use Rattle.index_core.proofs.Words.{Fault, Archive, IndexFault}
 use Rattle.index_core.proofs.Words.{IsFailure, IsOfArchive}

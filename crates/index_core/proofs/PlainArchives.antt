@@ -1,6 +1,5 @@
 -- A plain archive is its records, one after another.
-use Rattle.index_core.proofs.Words.{◌≡◌, ◌∙◌, ℕ, List, [], ◌∷◌, ◌++◌, HeadView, ap, drop, none_at_end, refl, subst, sym}
-use Rattle.warc_core.specs.Walk.{record_at}
+use Rattle.index_core.proofs.Words.{◌≡◌, ◌∙◌, ℕ, List, [], ◌∷◌, ◌++◌, ap, drop, none_at_end, refl, sym}
 use Rattle.index_core.specs.Form.{Stored, WalksOver, end_of, plain, plain_record}
 use Rattle.index_core.specs.Laws.{PlainIsDamaged, PlainIsWhole, records_of}
 use Rattle.index_core.proofs.ArchiveWalks.{from_start}

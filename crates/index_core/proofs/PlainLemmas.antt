@@ -1,14 +1,14 @@
 -- Plain archives: what comes next in them is the record that begins the bytes.
-use Rattle.index_core.proofs.Words.{◌≡◌, ℕ, ◌+◌, ◌-◌, ◌<◌, ◌^◌, ◌≤◌, ◌⊎◌, inl, inr, List, [], ◌∷◌, ◌++◌, None, Some, Option}
-use Rattle.index_core.proofs.Words.{Result, Ok, Err, IfSome, Cause, Fault, HeadView, Reads, Walks, ap, arith, drop, length}
-use Rattle.index_core.proofs.Words.{length-append, map, none_at_end, read-spelled, record_length, refl, subst, sym, ◌∙◌}
-use Rattle.warc_core.specs.HeadView.{RecordBeginsAt, block_at}
+use Rattle.index_core.proofs.Words.{◌≡◌, ℕ, ◌+◌, inl, inr, List, [], ◌∷◌, None, Some, Option}
+use Rattle.index_core.proofs.Words.{Result, Ok, Err, IfSome, Cause, Fault, HeadView, Reads, Walks, ap, arith}
+use Rattle.index_core.proofs.Words.{length-append, map, none_at_end, read-spelled, record_length, refl, sym, ◌∙◌}
+use Rattle.warc_core.specs.HeadView.{RecordBeginsAt}
 use Rattle.warc_core.specs.Reading.{IsPossibleCause}
 use Rattle.warc_core.specs.Next.{next_at}
 use Rattle.warc_core.specs.Walk.{record_at}
 use Rattle.capture_core.specs.Capture.{plain_place}
-use Rattle.index_core.specs.Form.{Form, Placed, Stored, Comes, ComesRecord, IsLawful, IsPossibleFault, StandsFrom, WalksOver}
-use Rattle.index_core.specs.Form.{end_of, placed_of, plain, plain_next, plain_placed, plain_record}
+use Rattle.index_core.specs.Form.{Stored, Comes, ComesRecord, IsLawful, IsPossibleFault, StandsFrom, WalksOver}
+use Rattle.index_core.specs.Form.{end_of, plain, plain_next, plain_placed, plain_record}
 
 -- the heads of records
 abbrev pub heads_of : List Stored → List HeadView

@@ -7,7 +7,7 @@ use Rattle.std.proofs.lemmas.List.Concat.{flat_map-append}
 use Rattle.std.specs.List.{flat_map}
 use Rattle.devices.proofs.DeviceLemmas.{AppendsPrefix-behind}
 use Rattle.index_core.specs.Form.{Form, Placed, Stored, Comes, ComesRecord, Follow, IsLawful, StandsFrom, WalksOver}
-use Rattle.index_core.specs.Form.{end_of, placed_of}
+use Rattle.index_core.specs.Form.{end_of}
 use Rattle.index_core.specs.Report.{IsReport, RecordLine, Reports, ReportedInPart}
 use Rattle.index_core.specs.Report.{ReportsRecords, WritesFault, fault_line, report_lines}
 use Rattle.index_core.proofs.RecordWalks.{total, walk_extends, walks_more}

@@ -8,7 +8,7 @@ use Rattle.warc_core.specs.Next.{next_at}
 use Rattle.warc_core.specs.Walk.{record_at}
 use Rattle.warc_core.specs.declared.verdict.Verdict.{Verdict}
 use Rattle.capture_core.specs.BlockDigest.{judge_record}
-use Rattle.index_core.specs.Verifying.{verdict_on, verdict_in, verdict_line, verification_line}
+use Rattle.index_core.specs.Verifying.{verdict_on, verdict_in, verification_line}
 use Rattle.index_core.specs.Verifying.{differing_by, Judged, judged_line, verified_in, verified_of}
 use Rattle.index_core.specs.declared.verified.Verified.{Verified}
 use Rattle.index_core.specs.Form.{ComesRecord, Placed, Stored, placed_of, plain, plain_placed, plain_record}
