@@ -35,7 +35,8 @@ impl<I: Input> CheckedInput<I> {
         ensures checksum { self.new.checksum ≡ self.old.checksum }
         ensures passed { self.new.passed ≡ self.old.passed }
         ensures fault { IfErr result (λ fault. fault ≡ MemberFault.Read) }
-        ensures failures { CountsMember result (I.failures self.old.input) (I.failures self.new.input) }
+        ensures failures { CountsMember result (I.failures self.old.input)
+            (I.failures self.new.input) }
     {
         if self.ahead.as_slice().is_empty() {
             self.ahead.read_on(&mut self.input)?;
@@ -53,7 +54,8 @@ impl<I: Input> CheckedInput<I> {
         ensures grown { length self.old.ahead ≤ length self.new.ahead }
         ensures err { OnErr result (self.new.ahead ≡ self.old.ahead) }
         ensures passed { self.new.passed ≡ self.old.passed }
-        ensures failures { CountsFailure result (I.failures self.old.input) (I.failures self.new.input) }
+        ensures failures { CountsFailure result (I.failures self.old.input)
+            (I.failures self.new.input) }
     {
         if self.ahead.as_slice().len() >= MOST_HELD {
             return Ok(false);
@@ -66,7 +68,8 @@ impl<I: Input> CheckedInput<I> {
     pub fn byte(&mut self) -> Result<u8, MemberFault>
         ensures byte { Reads byte_in result (taken self.old) (taken self.new) }
         ensures passed { OnOk result (self.new.passed ≡ self.old.passed + 1) }
-        ensures failures { CountsMember result (I.failures self.old.input) (I.failures self.new.input) }
+        ensures failures { CountsMember result (I.failures self.old.input)
+            (I.failures self.new.input) }
     {
         self.fill()?;
         match self.ahead.first() {

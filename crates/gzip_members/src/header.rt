@@ -17,7 +17,8 @@ impl<I: Input> CheckedInput<I> {
     #[tactic(auto, unfolding(crate::specs::Header::pair_in))]
     pub(crate) fn pair(&mut self) -> Result<u16, MemberFault>
         ensures pair { Reads pair_in result (taken self.old) (taken self.new) }
-        ensures failures { CountsMember result (I.failures self.old.input) (I.failures self.new.input) }
+        ensures failures { CountsMember result (I.failures self.old.input)
+            (I.failures self.new.input) }
     {
         let low = self.byte()?;
         let high = self.byte()?;
@@ -28,7 +29,8 @@ impl<I: Input> CheckedInput<I> {
     #[tactic(auto, using(crate::proofs::HeaderLemmas::past_rules))]
     fn past(&mut self, count: u16) -> Result<(), MemberFault>
         ensures past { Reads (past_in count) result (taken self.old) (taken self.new) }
-        ensures failures { CountsMember result (I.failures self.old.input) (I.failures self.new.input) }
+        ensures failures { CountsMember result (I.failures self.old.input)
+            (I.failures self.new.input) }
     {
         let mut left = count;
         'bytes: while left > 0 {
@@ -43,7 +45,8 @@ impl<I: Input> CheckedInput<I> {
     /// Takes a text, up to and with the zero that ends it.
     fn text(&mut self) -> Result<(), MemberFault>
         ensures text { Reads name_in result (taken self.old) (taken self.new) }
-        ensures failures { CountsMember result (I.failures self.old.input) (I.failures self.new.input) }
+        ensures failures { CountsMember result (I.failures self.old.input)
+            (I.failures self.new.input) }
     {
         'bytes: loop {
             match self.byte() {
@@ -61,7 +64,8 @@ impl<I: Input> CheckedInput<I> {
     #[tactic(auto, unfolding(crate::specs::Header::extra_in))]
     fn extra(&mut self) -> Result<(), MemberFault>
         ensures extra { Reads extra_in result (taken self.old) (taken self.new) }
-        ensures failures { CountsMember result (I.failures self.old.input) (I.failures self.new.input) }
+        ensures failures { CountsMember result (I.failures self.old.input)
+            (I.failures self.new.input) }
     {
         let size = self.pair()?;
         self.past(size)
@@ -71,7 +75,8 @@ impl<I: Input> CheckedInput<I> {
     #[tactic(auto, unfolding(crate::specs::Header::sum_in))]
     fn sum(&mut self) -> Result<(), MemberFault>
         ensures sum { Reads sum_in result (taken self.old) (taken self.new) }
-        ensures failures { CountsMember result (I.failures self.old.input) (I.failures self.new.input) }
+        ensures failures { CountsMember result (I.failures self.old.input)
+            (I.failures self.new.input) }
     {
         let sum = self.checksum % 65_536;
         let pair = self.pair()?;
@@ -86,7 +91,8 @@ impl<I: Input> CheckedInput<I> {
     #[tactic(auto, unfolding(crate::specs::Header::flags_in))]
     fn flags(&mut self) -> Result<u8, MemberFault>
         ensures flags { Reads flags_in result (taken self.old) (taken self.new) }
-        ensures failures { CountsMember result (I.failures self.old.input) (I.failures self.new.input) }
+        ensures failures { CountsMember result (I.failures self.old.input)
+            (I.failures self.new.input) }
     {
         self.past(2)?;
         let method = self.byte()?;
@@ -101,7 +107,8 @@ impl<I: Input> CheckedInput<I> {
     /// Takes the extra field, if its flag is set.
     fn extra_where_set(&mut self, flags: u8) -> Result<(), MemberFault>
         ensures extra { Reads (where_set 4 flags extra_in) result (taken self.old) (taken self.new) }
-        ensures failures { CountsMember result (I.failures self.old.input) (I.failures self.new.input) }
+        ensures failures { CountsMember result (I.failures self.old.input)
+            (I.failures self.new.input) }
     {
         if flags / 4 % 2 == 1 {
             self.extra()
@@ -114,7 +121,8 @@ impl<I: Input> CheckedInput<I> {
     fn text_where_set(&mut self, flag: u8, flags: u8) -> Result<(), MemberFault>
         requires { 0 < flag }
         ensures text { Reads (where_set flag flags name_in) result (taken self.old) (taken self.new) }
-        ensures failures { CountsMember result (I.failures self.old.input) (I.failures self.new.input) }
+        ensures failures { CountsMember result (I.failures self.old.input)
+            (I.failures self.new.input) }
     {
         if flags / flag % 2 == 1 {
             self.text()
@@ -126,7 +134,8 @@ impl<I: Input> CheckedInput<I> {
     /// Takes the checksum of the header, if its flag is set.
     fn sum_where_set(&mut self, flags: u8) -> Result<(), MemberFault>
         ensures sum { Reads (where_set 2 flags sum_in) result (taken self.old) (taken self.new) }
-        ensures failures { CountsMember result (I.failures self.old.input) (I.failures self.new.input) }
+        ensures failures { CountsMember result (I.failures self.old.input)
+            (I.failures self.new.input) }
     {
         if flags / 2 % 2 == 1 {
             self.sum()
@@ -139,7 +148,8 @@ impl<I: Input> CheckedInput<I> {
     #[tactic(auto, unfolding(crate::specs::Header::fields_in))]
     fn fields(&mut self, flags: u8) -> Result<(), MemberFault>
         ensures fields { Reads (fields_in flags) result (taken self.old) (taken self.new) }
-        ensures failures { CountsMember result (I.failures self.old.input) (I.failures self.new.input) }
+        ensures failures { CountsMember result (I.failures self.old.input)
+            (I.failures self.new.input) }
     {
         self.extra_where_set(flags)?;
         self.text_where_set(8, flags)?;
@@ -151,7 +161,8 @@ impl<I: Input> CheckedInput<I> {
     #[tactic(auto, unfolding(crate::specs::Header::header_in))]
     pub fn header(&mut self) -> Result<(), MemberFault>
         ensures header { Reads header_in result (taken self.old) (taken self.new) }
-        ensures failures { CountsMember result (I.failures self.old.input) (I.failures self.new.input) }
+        ensures failures { CountsMember result (I.failures self.old.input)
+            (I.failures self.new.input) }
     {
         let flags = self.flags()?;
         self.past(6)?;

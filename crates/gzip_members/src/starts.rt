@@ -18,7 +18,8 @@ impl<I: Input> CheckedInput<I> {
         ensures checksum { self.new.checksum ≡ self.old.checksum }
         ensures passed { self.new.passed ≡ self.old.passed }
         ensures fault { IfErr result (λ fault. fault ≡ MemberFault.Read) }
-        ensures failures { CountsMember result (I.failures self.old.input) (I.failures self.new.input) }
+        ensures failures { CountsMember result (I.failures self.old.input)
+            (I.failures self.new.input) }
     {
         'bytes: while self.ahead.as_slice().len() < 2 {
             let count = self.ahead.read_on(&mut self.input)?;
@@ -38,7 +39,8 @@ impl<I: Input> CheckedInput<I> {
         ensures starts { AnswersStart result (prepend_known self.old.ahead (I.remaining self.old.input)) }
         ensures checksum { self.new.checksum ≡ self.old.checksum }
         ensures passed { self.new.passed ≡ self.old.passed }
-        ensures failures { CountsMember result (I.failures self.old.input) (I.failures self.new.input) }
+        ensures failures { CountsMember result (I.failures self.old.input)
+            (I.failures self.new.input) }
     {
         self.fill_two()?;
         start_of(self.ahead.as_slice())
@@ -50,7 +52,8 @@ impl<I: Input> CheckedInput<I> {
         ensures starts { StartsFrom result self.old.passed self.new.passed
             (prepend_known self.old.ahead (I.remaining self.old.input))
             (prepend_known self.new.ahead (I.remaining self.new.input)) }
-        ensures failures { CountsMember result (I.failures self.old.input) (I.failures self.new.input) }
+        ensures failures { CountsMember result (I.failures self.old.input)
+            (I.failures self.new.input) }
     {
         if !self.begins_member()? {
             return Ok(false);
