@@ -23,7 +23,8 @@ impl Crc32 {
         })
     }
 
-    /// Returns the checksum of a text and of `bytes` behind it. `checksum` is that of the text, and 0 of an empty one.
+    /// Returns the checksum of a text and of `bytes` behind it. `checksum` is that of the text, and
+    /// 0 of an empty one.
     pub fn update(&self, checksum: u32, bytes: &[u8]) -> u32
         ensures after { result ≡ crc_after checksum bytes.now }
         ensures text { (text : List ℕ) → checksum ≡ crc_32 text → result ≡ crc_32 (text ++ bytes.now) }

@@ -21,7 +21,8 @@ pub enum Stage {
     Refused(DeflateFault),
 }
 
-/// A member behind its header: the text that was unpacked last, and what is known of the text before.
+/// A member behind its header: the text that was unpacked last, and what is known of the text
+/// before.
 #[derive(Drop)]
 pub struct Body {
     pub(crate) inflater: Inflater,
@@ -205,8 +206,8 @@ impl Body {
         }
     }
 
-    /// Goes on over the bytes that are held of the member, and returns how many of them were taken. All text was given out.
-    /// `is_whole` says that nothing comes behind them.
+    /// Goes on over the bytes that are held of the member, and returns how many of them were taken.
+    /// All text was given out. `is_whole` says that nothing comes behind them.
     pub fn step(&mut self, crc: &Crc32, bytes: &[u8], is_whole: bool) -> usize
         requires more { is_over self.old.stage ≡ false }
         requires given { pending self.old.window ≡ [] }

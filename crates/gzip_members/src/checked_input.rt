@@ -12,7 +12,8 @@ use devices::{DeviceFault, Input};
 /// The greatest offset in a file, in bytes from its start.
 const GREATEST_OFFSET: u64 = (1 << 63) - 1;
 
-/// An input of which some bytes were read ahead. It counts the bytes that were taken, and has a checksum of them.
+/// An input of which some bytes were read ahead. It counts the bytes that were taken, and has a
+/// checksum of them.
 #[derive(Drop)]
 pub struct CheckedInput<I: Input> {
     pub input: I,
@@ -27,7 +28,8 @@ impl<I: Input> CheckedInput<I> {
     ghost use Rattle.gzip_members.specs.Header.{byte_in};
     ghost use Rattle.gzip_members.specs.Reading.{Reads, CountsMember, taken};
 
-    /// Reads once from the input if nothing is held. If nothing is held after that, the input is at its end.
+    /// Reads once from the input if nothing is held. If nothing is held after that, the input is at
+    /// its end.
     fn fill(&mut self) -> Result<(), MemberFault>
         ensures bytes { Keeps (prepend_known self.old.ahead (I.remaining self.old.input))
             (prepend_known self.new.ahead (I.remaining self.new.input)) }
@@ -86,7 +88,8 @@ impl<I: Input> CheckedInput<I> {
         }
     }
 
-    /// Takes the first `count` bytes that are held, and returns `true`; or `false` if they end at 2^63 or above.
+    /// Takes the first `count` bytes that are held, and returns `true`; or `false` if they end at
+    /// 2^63 or above.
     pub fn take(&mut self, count: usize) -> bool
         requires { count ≤ length self.old.ahead }
         ensures taken { OnTrue result (self.new.ahead ≡ drop count self.old.ahead) }

@@ -13,7 +13,8 @@ use deflate_bits::DeflateFault;
 use devices::{DeviceFault, Input};
 use std::alloc::{AllocError, Global};
 
-/// A compressed file, of which the members are read one after another. It takes some 300 kB, whatever they hold.
+/// A compressed file, of which the members are read one after another. It takes some 300 kB,
+/// whatever they hold.
 #[derive(Drop)]
 pub struct Members<I: Input> {
     pub source: CheckedInput<I>,
@@ -48,10 +49,11 @@ impl<I: Input> Members<I> {
         })
     }
 
-    /// Begins the member that begins with the next bytes, and returns whether one does; or else the file has ended.
+    /// Begins the member that begins with the next bytes, and returns whether one does; or else the
+    /// file has ended.
     ///
-    /// Errors are `Read`; `NoMember` for other bytes than those that a member begins with; `Bad` and `Cut` for a header
-    /// that is none or goes on behind the file's end; and `TooFar`.
+    /// Errors are `Read`; `NoMember` for other bytes than those that a member begins with; `Bad`
+    /// and `Cut` for a header that is none or goes on behind the file's end; and `TooFar`.
     pub fn begin(&mut self) -> Result<bool, MemberFault>
         ensures member { (bytes : List ℕ)
             → prepend_known self.old.source.ahead (I.remaining self.old.source.input) ≡ Some bytes
@@ -76,7 +78,8 @@ impl<I: Input> Members<I> {
         }
     }
 
-    /// Goes on in the member, of which all text was given out. The only error is the input's failure.
+    /// Goes on in the member, of which all text was given out. The only error is the input's
+    /// failure.
     fn advance(&mut self) -> Result<(), DeviceFault>
         requires more { is_over self.old.body.stage ≡ false }
         requires given { pending self.old.body.window ≡ [] }
@@ -108,7 +111,8 @@ impl<I: Input> Members<I> {
         !(self.body.is_over() || self.body.has_text())
     }
 
-    /// Goes on to the next text of the member, or to its end. The only error is the input's failure.
+    /// Goes on to the next text of the member, or to its end. The only error is the input's
+    /// failure.
     pub fn fill(&mut self) -> Result<(), DeviceFault>
         ensures left { (r : Result (List ℕ × List ℕ) DeflateFault) → left_of self.old ≡ Some r
             → left_of self.new ≡ Some r }
@@ -123,8 +127,9 @@ impl<I: Input> Members<I> {
         Ok(())
     }
 
-    /// Reads the next text of the member into the start of `piece`, and returns its length. `Ok(0)` for a piece that isn't
-    /// empty is the end of the member, or of what can be read of it. The only error is the input's failure.
+    /// Reads the next text of the member into the start of `piece`, and returns its length. `Ok(0)`
+    /// for a piece that isn't empty is the end of the member, or of what can be read of it. The
+    /// only error is the input's failure.
     pub fn read(&mut self, piece: &mut [u8]) -> Result<usize, DeviceFault>
         ensures bound { IfOk result (λ n. n ≤ length piece.new) }
         ensures text { IfOk result (λ n. GivesText (left_of self.old) (left_of self.new) (take n piece.new)) }
@@ -139,7 +144,8 @@ impl<I: Input> Members<I> {
         Ok(self.body.give(piece))
     }
 
-    /// Passes over the next text of the member, and returns whether there was some. The only error is the input's failure.
+    /// Passes over the next text of the member, and returns whether there was some. The only error
+    /// is the input's failure.
     fn pass_text(&mut self) -> Result<bool, DeviceFault>
         ensures passes { IfOk result (λ had. PassesText had (left_of self.old) (left_of self.new)) }
         ensures end { result ≡ Ok false → is_over self.new.body.stage ≡ true }
@@ -158,8 +164,8 @@ impl<I: Input> Members<I> {
         Ok(has_text)
     }
 
-    /// Passes over all text of the member, and returns whether there was some; or `None` if it has 2^64 bytes or more. The
-    /// only error is the input's failure.
+    /// Passes over all text of the member, and returns whether there was some; or `None` if it has
+    /// 2^64 bytes or more. The only error is the input's failure.
     fn pass_rest(&mut self) -> Result<Option<bool>, DeviceFault>
         ensures whole { (text behind : List ℕ) → left_of self.old ≡ Some (Ok (text, behind))
             → IfOk result (λ had. PassesRest had text behind (left_of self.new)) }
@@ -185,11 +191,11 @@ impl<I: Input> Members<I> {
         Ok(None)
     }
 
-    /// Reads the member to its end, and returns whether it had text that wasn't given out. The bytes ahead are then those
-    /// behind the member.
+    /// Reads the member to its end, and returns whether it had text that wasn't given out. The
+    /// bytes ahead are then those behind the member.
     ///
-    /// Errors are `Read`; `Bad` and `Cut` for a member that is none or goes on behind the file's end; and `TooFar`, also for
-    /// text of 2^64 bytes.
+    /// Errors are `Read`; `Bad` and `Cut` for a member that is none or goes on behind the file's
+    /// end; and `TooFar`, also for text of 2^64 bytes.
     pub fn end(&mut self) -> Result<bool, MemberFault>
         ensures whole { (text behind : List ℕ) → left_of self.old ≡ Some (Ok (text, behind))
             → length text < 2 ^ 64 - 1 → EndsMember result text behind

@@ -10,13 +10,15 @@ use std::marker::Model;
 /// The number of bytes that are read ahead at most.
 pub const AHEAD: usize = 131_072;
 
-/// The least room that is left for a read, in bytes. What is held is moved to the front where there is less.
+/// The least room that is left for a read, in bytes. What is held is moved to the front where there
+/// is less.
 const LEAST_ROOM: usize = 65_536;
 
 /// The most that may be held in front of a read, in bytes.
 pub const MOST_HELD: usize = 8192;
 
-/// Bytes that were read from an input and not yet taken, at most [`AHEAD`] of them. It does not hold the input.
+/// Bytes that were read from an input and not yet taken, at most [`AHEAD`] of them. It does not
+/// hold the input.
 #[derive(Drop)]
 pub struct ReadAhead {
     bytes: Vec<u8>,
@@ -139,8 +141,8 @@ fn read_behind<I: Input>(input: &mut I, bytes: &mut [u8], to: usize) -> Result<u
     input.read(&mut bytes[to..])
 }
 
-/// Moves the bytes between `from` and `to` to the front, where there is little room behind them. Returns how far they
-/// were moved, in bytes.
+/// Moves the bytes between `from` and `to` to the front, where there is little room behind them.
+/// Returns how far they were moved, in bytes.
 fn make_room(bytes: &mut [u8], from: usize, to: usize) -> usize
     requires size { length bytes.old ≡ AHEAD }
     requires order { from ≤ to }

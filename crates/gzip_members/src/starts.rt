@@ -30,9 +30,11 @@ impl<I: Input> CheckedInput<I> {
         Ok(())
     }
 
-    /// Returns whether a member begins with the next bytes, or else the file has ended. Takes none of them.
+    /// Returns whether a member begins with the next bytes, or else the file has ended. Takes none
+    /// of them.
     ///
-    /// Errors are `Read`; `NoMember` for other bytes, and `Cut` for the first byte of a member as the file's last one.
+    /// Errors are `Read`; `NoMember` for other bytes, and `Cut` for the first byte of a member as
+    /// the file's last one.
     pub fn begins_member(&mut self) -> Result<bool, MemberFault>
         ensures bytes { Keeps (prepend_known self.old.ahead (I.remaining self.old.input))
             (prepend_known self.new.ahead (I.remaining self.new.input)) }
@@ -46,8 +48,8 @@ impl<I: Input> CheckedInput<I> {
         start_of(self.ahead.as_slice())
     }
 
-    /// Takes the header of the member that begins with the next bytes, and returns whether one does; or else the file has
-    /// ended.
+    /// Takes the header of the member that begins with the next bytes, and returns whether one
+    /// does; or else the file has ended.
     pub fn start(&mut self) -> Result<bool, MemberFault>
         ensures starts { StartsFrom result self.old.passed self.new.passed
             (prepend_known self.old.ahead (I.remaining self.old.input))

@@ -32,7 +32,8 @@ fn compare_size(bytes: &[u8], size: u32) -> Result<(), DeflateFault>
     }
 }
 
-/// Compares the trailer that begins these bytes with the checksum of the member's text and its length modulo 2^32.
+/// Compares the trailer that begins these bytes with the checksum of the member's text and its
+/// length modulo 2^32.
 #[tactic(auto, unfolding(crate::specs::Members::trailer_in))]
 pub(crate) fn compare_trailer(bytes: &[u8], sum: u32, size: u32) -> Result<(), DeflateFault>
     ensures trailer { GivesRest 8 bytes.now result (trailer_in sum size bytes.now) }
