@@ -85,10 +85,12 @@ fn longer(size: u32, count: usize) -> u32
 }
 
 impl Body {
-    ghost use Rattle.std.specs.Prelude.{◌≡◌, ◌++◌, ◌≤◌, ◌<◌, ◌⊎◌, Bool, true, false, List, [], ℕ, length, take, drop, nat_lt, IfOk};
+    ghost use Rattle.std.specs.Prelude.{◌≡◌, ◌++◌, ◌≤◌, ◌<◌, ◌⊎◌, Bool, true, false, List, [], ℕ};
+    ghost use Rattle.std.specs.Prelude.{length, take, drop, nat_lt, IfOk};
     ghost use Rattle.inflate.specs.Inflating.{place_of};
     ghost use Rattle.inflate.specs.Heads.{AtBlock};
-    ghost use Rattle.gzip_members.specs.Bodies.{fault_of, is_over, left_in, text_so_far, GivesLeft, GoesOn};
+    ghost use Rattle.gzip_members.specs.Bodies.{fault_of, is_over, left_in, text_so_far, GivesLeft};
+    ghost use Rattle.gzip_members.specs.Bodies.{GoesOn};
     ghost use Rattle.gzip_members.specs.Windows.{pending};
 
     /// Creates a body of which nothing is left. The only error is refused memory.
@@ -132,7 +134,8 @@ impl Body {
         ensures moves { GoesOn self.old.stage self.new.stage self.new.window is_whole
             (length bytes.now - result) }
         ensures left { (more : List ℕ) → (is_whole ≡ true → more ≡ [])
-            → left_in self.old (bytes.now ++ more) ≡ left_in self.new (drop result (bytes.now ++ more)) }
+            → left_in self.old (bytes.now ++ more) ≡ left_in self.new (drop result
+            (bytes.now ++ more)) }
     {
         self.window.slide();
         let _is_place = self.inflater.has_ended();
@@ -164,7 +167,8 @@ impl Body {
         ensures bits { self.new.bits ≡ 0 }
         ensures over { is_over self.new.stage ≡ true }
         ensures left { (more : List ℕ) → (is_whole ≡ true → more ≡ [])
-            → left_in self.old (bytes.now ++ more) ≡ left_in self.new (drop result (bytes.now ++ more)) }
+            → left_in self.old (bytes.now ++ more) ≡ left_in self.new (drop result
+            (bytes.now ++ more)) }
     {
         self.bits = 0;
         match compare_trailer(bytes, self.checksum, self.size) {
@@ -217,7 +221,8 @@ impl Body {
         ensures moves { GoesOn self.old.stage self.new.stage self.new.window is_whole
             (length bytes.now - result) }
         ensures left { (more : List ℕ) → (is_whole ≡ true → more ≡ [])
-            → left_in self.old (bytes.now ++ more) ≡ left_in self.new (drop result (bytes.now ++ more)) }
+            → left_in self.old (bytes.now ++ more) ≡ left_in self.new (drop result
+            (bytes.now ++ more)) }
     {
         match self.stage {
             Stage::Data => self.unpack(crc, bytes, is_whole),
@@ -252,7 +257,8 @@ impl Body {
         ensures bits { self.new.bits ≡ self.old.bits }
         ensures text { self.new.window.text ≡ self.old.window.text }
         ensures given { self.new.window.given ≡ self.old.window.given + result }
-        ensures left { (bytes : List ℕ) → GivesLeft (left_in self.old bytes) (left_in self.new bytes)
+        ensures left { (bytes : List ℕ)
+            → GivesLeft (left_in self.old bytes) (left_in self.new bytes)
             (take result piece.new) }
     {
         self.window.give(piece)
@@ -263,7 +269,8 @@ impl Body {
         ensures stage { self.new.stage ≡ self.old.stage }
         ensures bits { self.new.bits ≡ self.old.bits }
         ensures given { self.new.window.given ≡ length self.new.window.text }
-        ensures left { (bytes : List ℕ) → GivesLeft (left_in self.old bytes) (left_in self.new bytes)
+        ensures left { (bytes : List ℕ)
+            → GivesLeft (left_in self.old bytes) (left_in self.new bytes)
             (drop self.old.window.given self.old.window.text) }
     {
         self.window.pass();

@@ -1,5 +1,6 @@
 //! An input that is read byte by byte, with the checksum of what was read.
-ghost use Rattle.std.specs.Prelude.{◌≡◌, ℕ, ◌+◌, ◌-◌, ◌^◌, ◌<◌, ◌≤◌, List, [], ◌⊎◌, true, false, length, drop, Ok, IfOk, IfErr, OnOk, OnErr};
+ghost use Rattle.std.specs.Prelude.{◌≡◌, ℕ, ◌+◌, ◌-◌, ◌^◌, ◌<◌, ◌≤◌, List, [], ◌⊎◌, true, false};
+ghost use Rattle.std.specs.Prelude.{length, drop, Ok, IfOk, IfErr, OnOk, OnErr};
 ghost use Rattle.devices.specs.Device.{CountsFailure};
 ghost use Rattle.std.specs.Bool.{OnTrue, OnFalse};
 ghost use Rattle.std.specs.Io.KnownBytes.{Keeps, IsAtEnd, prepend_known};

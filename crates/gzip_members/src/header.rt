@@ -10,7 +10,8 @@ use devices::Input;
 const DEFLATE: u8 = 8;
 
 impl<I: Input> CheckedInput<I> {
-    ghost use Rattle.gzip_members.specs.Header.{pair_in, past_in, name_in, extra_in, sum_in, flags_in, fields_in, header_in, where_set, is_set};
+    ghost use Rattle.gzip_members.specs.Header.{pair_in, past_in, name_in, extra_in, sum_in};
+    ghost use Rattle.gzip_members.specs.Header.{flags_in, fields_in, header_in, where_set, is_set};
     ghost use Rattle.gzip_members.specs.Reading.{Reads, CountsMember, taken};
 
     /// Takes two bytes as a number, the first the least significant.
@@ -106,7 +107,8 @@ impl<I: Input> CheckedInput<I> {
 
     /// Takes the extra field, if its flag is set.
     fn extra_where_set(&mut self, flags: u8) -> Result<(), MemberFault>
-        ensures extra { Reads (where_set 4 flags extra_in) result (taken self.old) (taken self.new) }
+        ensures extra { Reads (where_set 4 flags extra_in) result (taken self.old)
+            (taken self.new) }
         ensures failures { CountsMember result (I.failures self.old.input)
             (I.failures self.new.input) }
     {
@@ -120,7 +122,8 @@ impl<I: Input> CheckedInput<I> {
     /// Takes a name or a comment, if its flag is set.
     fn text_where_set(&mut self, flag: u8, flags: u8) -> Result<(), MemberFault>
         requires { 0 < flag }
-        ensures text { Reads (where_set flag flags name_in) result (taken self.old) (taken self.new) }
+        ensures text { Reads (where_set flag flags name_in) result (taken self.old)
+            (taken self.new) }
         ensures failures { CountsMember result (I.failures self.old.input)
             (I.failures self.new.input) }
     {

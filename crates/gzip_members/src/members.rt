@@ -1,6 +1,7 @@
 //! The members of a file, one after another.
 ghost use Rattle.std.specs.Io.KnownBytes.{prepend_known};
-ghost use Rattle.std.specs.Prelude.{◌≡◌, ◌+◌, ◌-◌, ◌^◌, ◌≤◌, ◌<◌, [], true, false, length, take, Ok, IfOk, OnOk, OnErr, Bool, Err, Some, Result, List, ℕ};
+ghost use Rattle.std.specs.Prelude.{◌≡◌, ◌+◌, ◌-◌, ◌^◌, ◌≤◌, ◌<◌, [], true, false, length, take};
+ghost use Rattle.std.specs.Prelude.{Ok, IfOk, OnOk, OnErr, Bool, Err, Some, Result, List, ℕ};
 ghost use Rattle.deflate_bits.specs.declared.fault.DeflateFault.{DeflateFault};
 ghost use Rattle.devices.specs.Device.{CountsFailure};
 
@@ -28,7 +29,8 @@ impl<I: Input> Members<I> {
     ghost use Rattle.gzip_members.specs.Reading.{CountsMember};
     ghost use Rattle.gzip_members.specs.Windows.{pending};
     ghost use Rattle.gzip_members.specs.Bodies.{is_over};
-    ghost use Rattle.gzip_members.specs.Left.{BeginsMember, EndsMember, GivesText, RefusesMember, PassesRest, PassesText, left_of, waits, work_left};
+    ghost use Rattle.gzip_members.specs.Left.{BeginsMember, EndsMember, GivesText, RefusesMember};
+    ghost use Rattle.gzip_members.specs.Left.{PassesRest, PassesText, left_of, waits, work_left};
 
     /// Creates a file of which nothing was read. The only error is refused memory.
     pub fn new(alloc: Global, input: I) -> Result<Members<I>, AllocError>
@@ -132,8 +134,10 @@ impl<I: Input> Members<I> {
     /// only error is the input's failure.
     pub fn read(&mut self, piece: &mut [u8]) -> Result<usize, DeviceFault>
         ensures bound { IfOk result (λ n. n ≤ length piece.new) }
-        ensures text { IfOk result (λ n. GivesText (left_of self.old) (left_of self.new) (take n piece.new)) }
-        ensures err { (r : Result (List ℕ × List ℕ) DeflateFault) → OnErr result (left_of self.old ≡ Some r
+        ensures text { IfOk result (λ n. GivesText (left_of self.old) (left_of self.new)
+            (take n piece.new)) }
+        ensures err { (r : Result (List ℕ × List ℕ) DeflateFault)
+            → OnErr result (left_of self.old ≡ Some r
             → left_of self.new ≡ Some r) }
         ensures end { result ≡ Ok 0 → 0 < length piece.new → (text behind : List ℕ)
             → left_of self.new ≡ Some (Ok (text, behind)) → text ≡ [] }
@@ -151,7 +155,8 @@ impl<I: Input> Members<I> {
         ensures end { result ≡ Ok false → is_over self.new.body.stage ≡ true }
         ensures none { result ≡ Ok false → (text behind : List ℕ)
             → left_of self.new ≡ Some (Ok (text, behind)) → text ≡ [] }
-        ensures err { (r : Result (List ℕ × List ℕ) DeflateFault) → OnErr result (left_of self.old ≡ Some r
+        ensures err { (r : Result (List ℕ × List ℕ) DeflateFault)
+            → OnErr result (left_of self.old ≡ Some r
             → left_of self.new ≡ Some r) }
         ensures failures { CountsFailure result (I.failures self.old.source.input)
             (I.failures self.new.source.input) }

@@ -14,7 +14,8 @@ impl<I: Input> CheckedInput<I> {
     fn fill_two(&mut self) -> Result<(), MemberFault>
         ensures bytes { Keeps (prepend_known self.old.ahead (I.remaining self.old.input))
             (prepend_known self.new.ahead (I.remaining self.new.input)) }
-        ensures two { OnOk result ((2 ≤ length self.new.ahead) ⊎ IsAtEnd (I.remaining self.new.input)) }
+        ensures two { OnOk result ((2 ≤ length self.new.ahead) ⊎ IsAtEnd
+            (I.remaining self.new.input)) }
         ensures checksum { self.new.checksum ≡ self.old.checksum }
         ensures passed { self.new.passed ≡ self.old.passed }
         ensures fault { IfErr result (λ fault. fault ≡ MemberFault.Read) }
@@ -38,7 +39,8 @@ impl<I: Input> CheckedInput<I> {
     pub fn begins_member(&mut self) -> Result<bool, MemberFault>
         ensures bytes { Keeps (prepend_known self.old.ahead (I.remaining self.old.input))
             (prepend_known self.new.ahead (I.remaining self.new.input)) }
-        ensures starts { AnswersStart result (prepend_known self.old.ahead (I.remaining self.old.input)) }
+        ensures starts { AnswersStart result (prepend_known self.old.ahead
+            (I.remaining self.old.input)) }
         ensures checksum { self.new.checksum ≡ self.old.checksum }
         ensures passed { self.new.passed ≡ self.old.passed }
         ensures failures { CountsMember result (I.failures self.old.input)
