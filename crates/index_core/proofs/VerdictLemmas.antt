@@ -15,26 +15,6 @@ use Rattle.index_core.specs.Form.{ComesRecord, Placed, Stored, placed_of, plain,
 use Rattle.index_core.proofs.PlainLemmas.{plain_comes}
 use Rattle.index_core.proofs.ReportLemmas.{Tells, Wording}
 
-pub judged_record : (judge : List ℕ → Verdict) (n : ℕ) (z w : List ℕ) (v : Verdict) → judge_record judge n z ≡ Ok (v, w)
-    → (after_record n z ≡ Ok (tt, w)) × (v ≡ judge (take n z))
-unfolding judge_record
-judged_record judge n z w v h = grind arith
-
-pub judged_met : (judge : List ℕ → Verdict) (n : ℕ) (c : Cause) (before after : Option (List ℕ))
-    → Reads (judge_record judge n) (Err c) before after → Reads (after_record n) (Err c) before after
-unfolding judge_record
-judged_met judge n c before after h = grind arith
-
--- the verdict on a record that begins the bytes
-pub judged_verdict : (limit start : ℕ) (h : HeadView) (v : Verdict) (before mid after : Option (List ℕ))
-    → Reads (next_at limit start) (Ok (Some h)) before mid
-    → Reads (judge_record (verdict_on h) h.parts.block_length) (Ok v) mid after
-    → IfSome before (λ bytes. v ≡ verdict_on h (block_at h bytes))
-judged_verdict limit start h v (Some z) (Some y) (Some w) r j =
-    let spelled = next-spelled limit start z y h r in
-    grind (arith, drop-append_seam, judged_record)
-judged_verdict limit start h v before mid after r j = grind arith
-
 abbrev pub verification : Wording Verified Judged
 verification = record {
   line = verification_line;

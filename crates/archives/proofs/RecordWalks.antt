@@ -1,8 +1,8 @@
 -- Walks over the records of an archive of any form.
-use Rattle.index_core.proofs.Words.{◌≡◌, ℕ, ◌<◌, ◌≤◌, ◌⊎◌, List, [], ◌∷◌, ◌++◌, None, Some, Option, Result}
-use Rattle.index_core.proofs.Words.{Ok, Err, Fault, append-nil, arith, inl, inr, length, refl}
+use Rattle.archives.proofs.Words.{◌≡◌, ℕ, ◌<◌, ◌≤◌, ◌⊎◌, List, [], ◌∷◌, ◌++◌, None, Some, Option, Result}
+use Rattle.archives.proofs.Words.{Ok, Err, Fault, append-nil, arith, inl, inr, length, refl}
 use Rattle.std.proofs.Common.{zero, suc}
-use Rattle.index_core.specs.Form.{Form, Stored, BreaksAfter, ConsistsOf, IsLawful, WalksOver, end_of}
+use Rattle.archives.specs.Form.{Form, Stored, BreaksAfter, ConsistsOf, IsLawful, WalksOver, end_of}
 
 module _ (form : Form) where
   -- the walk to gs at p, with t left, is that to hs at o, with r left, and more

@@ -1,14 +1,14 @@
 -- Plain archives: what comes next in them is the record that begins the bytes.
-use Rattle.index_core.proofs.Words.{◌≡◌, ℕ, ◌+◌, inl, inr, List, [], ◌∷◌, None, Some, Option}
-use Rattle.index_core.proofs.Words.{Result, Ok, Err, IfSome, Cause, Fault, HeadView, Reads, Walks, ap, arith}
-use Rattle.index_core.proofs.Words.{length-append, map, none_at_end, read-spelled, record_length, refl, sym, ◌∙◌}
+use Rattle.archives.proofs.Words.{◌≡◌, ℕ, ◌+◌, inl, inr, List, [], ◌∷◌, None, Some, Option}
+use Rattle.archives.proofs.Words.{Result, Ok, Err, IfSome, Cause, Fault, HeadView, Reads, Walks, ap, arith}
+use Rattle.archives.proofs.Words.{length-append, map, none_at_end, read-spelled, record_length, refl, sym, ◌∙◌}
 use Rattle.warc_core.specs.HeadView.{RecordBeginsAt}
 use Rattle.warc_core.specs.Reading.{IsPossibleCause}
 use Rattle.warc_core.specs.Next.{next_at}
 use Rattle.warc_core.specs.Walk.{record_at}
 use Rattle.capture_core.specs.Capture.{plain_place}
-use Rattle.index_core.specs.Form.{Stored, Comes, ComesRecord, IsLawful, IsPossibleFault, StandsFrom, WalksOver}
-use Rattle.index_core.specs.Form.{end_of, plain, plain_next, plain_placed, plain_record}
+use Rattle.archives.specs.Form.{Stored, Comes, ComesRecord, IsLawful, IsPossibleFault, StandsFrom, WalksOver}
+use Rattle.archives.specs.Form.{end_of, plain, plain_next, plain_placed, plain_record}
 
 -- the heads of records
 abbrev pub heads_of : List Stored → List HeadView
@@ -147,6 +147,7 @@ module _ (limit : ℕ) where
   plain_stands offset h b = record {
     follows = plain_follows offset h.start (sym b.start_is);
     stands = plain_stand h (plain_place h) refl;
+    filled = omega arith;
     fits = grind arith;
   }
 

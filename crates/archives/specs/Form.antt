@@ -7,6 +7,7 @@ use Rattle.warc_core.specs.HeadView.{HeadView, block_at}
 use Rattle.warc_core.specs.Walk.{record_at}
 use Rattle.capture_core.specs.declared.place.Place.{Place}
 use Rattle.capture_core.specs.Capture.{plain_place}
+use Rattle.archives.specs.declared.placed_record.PlacedRecord.{PlacedRecord}
 
 -- a record of an archive, with its block and its place
 pub record Stored : Type 0 where
@@ -15,9 +16,8 @@ pub record Stored : Type 0 where
   pub place : Place
 
 -- a record, as far as a call answers it
-pub record Placed : Type 0 where
-  pub head : HeadView
-  pub place : Place
+abbrev pub Placed : Type 0
+Placed = PlacedRecord
 
 abbrev pub placed_of : Stored → Placed
 placed_of r = record { head = r.head; place = r.place }
@@ -124,6 +124,7 @@ module _ (form : Form) where
   pub record StandsFrom (from : ℕ) (p : Placed) : Type 0 where
     pub follows : form.Follows from p.place.offset
     pub stands : form.MayStand p.head p.place
+    pub filled : 0 < p.place.length
     pub fits : end_of p.place ≤ 2 ^ 63 - 1
 
   -- records of which each is found where the one before it ends, from one offset to another

@@ -1,0 +1,5 @@
+pub mod Words
+pub mod RecordWalks
+pub mod PlainLemmas
+pub mod VerdictLemmas
+pub mod CaptureLemmas

@@ -1,0 +1,20 @@
+-- What contracts see of an archive.
+use Rattle.std.specs.Prelude.{◌≡◌, ℕ, Bool, true, List, Option}
+use Rattle.archives.specs.Packing.{Packing}
+
+pub record ArchiveState : Type 0 where
+  -- how its records are kept
+  pub packing : Packing
+  -- whether it can be read on: no fault was met
+  pub is_open : Bool
+  -- from where what comes next is found
+  pub offset : ℕ
+  -- the bytes from there on, if they are known
+  pub ahead : Option (List ℕ)
+  -- how many calls of its input have failed
+  pub failures : ℕ
+
+-- nothing was read of the archive
+pub record IsUnread (s : ArchiveState) : Type 0 where
+  pub open : s.is_open ≡ true
+  pub start : s.offset ≡ 0

@@ -1,0 +1,16 @@
+//! Archives in either form, read record by record.
+//!
+//! The definitions begin in `specs/Form.antt`: what comes next at an offset of an archive.
+#![tactic(auto)]
+
+mod archive;
+mod placed_record;
+mod plain_archive;
+mod walk;
+
+pub use crate::archive::Archive;
+pub use crate::placed_record::PlacedRecord;
+pub use crate::plain_archive::PlainArchive;
+pub use capture_core::{
+    BlockStart, CaptureFault, Cause, Fault, Head, HeldLine, Input, Place, Types, Verdict,
+};
