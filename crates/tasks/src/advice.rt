@@ -122,6 +122,10 @@ fn no_archive_advice(kind: FileKind) -> &'static str {
     }
 }
 
+/// What to do with an archive that was compressed as a whole, or in parts of any size.
+const PACK_AGAIN: &str = "Each record has to be a member of gzip of its own: \
+    warcio recompress IN.warc.gz OUT.warc.gz packs the file so.";
+
 /// Returns what a cause of damage means.
 fn cause_advice(cause: Cause) -> &'static str {
     match cause {
@@ -143,6 +147,10 @@ fn cause_advice(cause: Cause) -> &'static str {
         Cause::ShortBlock => "The archive ends within the record's block.",
         Cause::Closing => "The record doesn't end with two empty lines.",
         Cause::TooFar => "The record would end at 2^63 bytes or more.",
+        Cause::NoMember => "No member of gzip begins there: its first bytes aren't 1F 8B.",
+        Cause::BadMember => "The member of gzip there is damaged, or was not written by gzip.",
+        Cause::CutMember => "The archive ends within a member of gzip.",
+        Cause::SeveralRecords => PACK_AGAIN,
     }
 }
 

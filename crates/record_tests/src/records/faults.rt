@@ -19,6 +19,10 @@ const NAMES: &[(Cause, &str)] = &[
     (Cause::ShortBlock, "ShortBlock"),
     (Cause::Closing, "Closing"),
     (Cause::TooFar, "TooFar"),
+    (Cause::NoMember, "NoMember"),
+    (Cause::BadMember, "BadMember"),
+    (Cause::CutMember, "CutMember"),
+    (Cause::SeveralRecords, "SeveralRecords"),
 ];
 
 #[test]
