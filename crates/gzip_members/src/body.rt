@@ -97,6 +97,7 @@ impl Body {
     pub fn new(alloc: Global) -> Result<Body, AllocError>
         ensures stage { IfOk result (λ body. body.stage ≡ Stage.Ended) }
         ensures bits { IfOk result (λ body. body.bits ≡ 0) }
+        ensures text { IfOk result (λ body. pending body.window ≡ []) }
     {
         Ok(Body {
             inflater: Inflater::new(alloc)?,

@@ -36,6 +36,12 @@ impl<I: Input> Members<I> {
     pub fn new(alloc: Global, input: I) -> Result<Members<I>, AllocError>
     where
         I: Drop,
+        ensures ahead { IfOk result (λ m. m.source.ahead ≡ []) }
+        ensures input { IfOk result (λ m. m.source.input ≡ input) }
+        ensures passed { IfOk result (λ m. m.source.passed ≡ 0) }
+        ensures near { IfOk result (λ m. m.is_too_far ≡ false) }
+        ensures over { IfOk result (λ m. is_over m.body.stage ≡ true) }
+        ensures text { IfOk result (λ m. pending m.body.window ≡ []) }
     {
         let source = CheckedInput {
             input,
