@@ -1,5 +1,5 @@
 -- What a call reads from the front of a file's bytes.
-use Rattle.std.specs.Prelude.{◌≡◌, ℕ, ◌+◌, ◌-◌, ◌^◌, ◌<◌, ⊤, List, length, drop, Option, None, Some, Result, Ok, Err}
+use Rattle.std.specs.Prelude.{◌≡◌, ℕ, ◌+◌, ◌-◌, ◌^◌, ◌<◌, ◌≤◌, ⊤, List, length, drop, Option, None, Some, option_map, Result, Ok, Err}
 use Rattle.devices.specs.Device.{next_count}
 use Rattle.deflate_bits.specs.declared.fault.DeflateFault.{DeflateFault}
 use Rattle.deflate_bits.specs.declared.fault.DeflateFault.TheVariants as faults
@@ -18,6 +18,17 @@ pub record Taken : Type 0 where
 
 abbrev pub taken : {I : Type 0} {g : _} → CheckedInput I g → Taken
 taken {I} {g} c = record { ahead = prepend_known c.ahead (g.remaining c.input); checksum = c.checksum; passed = c.passed }
+
+-- the number of bytes taken and ahead, where those are known: the file's length
+abbrev pub total_of : Taken → Option ℕ
+total_of t = option_map (λ bytes. t.passed + length bytes) t.ahead
+
+-- a call took some bytes or none, and read some ahead or none
+pub record Moves (old new : Taken) : Type 0 where
+  -- no byte that was taken is given back
+  pub onward : old.passed ≤ new.passed
+  -- each known byte was taken, or is ahead
+  pub counted : (total : ℕ) → total_of old ≡ Some total → total_of new ≡ Some total
 
 -- a fault is the one that the bytes give, unless the input failed or the file is too long
 abbrev pub IsFault : {A : Type 0} → MemberFault → ℕ → Result A DeflateFault → Type 0

@@ -26,7 +26,7 @@ pub struct Members<I: Input> {
 }
 
 impl<I: Input> Members<I> {
-    ghost use Rattle.gzip_members.specs.Reading.{CountsMember};
+    ghost use Rattle.gzip_members.specs.Reading.{CountsMember, Moves, taken};
     ghost use Rattle.gzip_members.specs.Windows.{pending};
     ghost use Rattle.gzip_members.specs.Bodies.{is_over};
     ghost use Rattle.gzip_members.specs.Left.{BeginsMember, EndsMember, GivesText, RefusesMember};
@@ -67,6 +67,8 @@ impl<I: Input> Members<I> {
             → prepend_known self.old.source.ahead (I.remaining self.old.source.input) ≡ Some bytes
             → self.old.source.passed + length bytes ≤ 2 ^ 63 - 1
             → BeginsMember bytes result (left_of self.new) }
+        ensures further { result ≡ Ok true → self.old.source.passed < self.new.source.passed }
+        ensures moves { Moves (taken self.old.source) (taken self.new.source) }
         ensures failures { CountsMember result (I.failures self.old.source.input)
             (I.failures self.new.source.input) }
     {
@@ -93,6 +95,7 @@ impl<I: Input> Members<I> {
         requires given { pending self.old.body.window ≡ [] }
         ensures left { (r : Result (List ℕ × List ℕ) DeflateFault) → left_of self.old ≡ Some r
             → left_of self.new ≡ Some r }
+        ensures moves { Moves (taken self.old.source) (taken self.new.source) }
         ensures failures { CountsFailure result (I.failures self.old.source.input)
             (I.failures self.new.source.input) }
         ensures nearer { OnOk result
@@ -124,6 +127,7 @@ impl<I: Input> Members<I> {
     pub fn fill(&mut self) -> Result<(), DeviceFault>
         ensures left { (r : Result (List ℕ × List ℕ) DeflateFault) → left_of self.old ≡ Some r
             → left_of self.new ≡ Some r }
+        ensures moves { Moves (taken self.old.source) (taken self.new.source) }
         ensures failures { CountsFailure result (I.failures self.old.source.input)
             (I.failures self.new.source.input) }
         ensures stops { OnOk result
@@ -147,6 +151,7 @@ impl<I: Input> Members<I> {
             → left_of self.new ≡ Some r) }
         ensures end { result ≡ Ok 0 → 0 < length piece.new → (text behind : List ℕ)
             → left_of self.new ≡ Some (Ok (text, behind)) → text ≡ [] }
+        ensures moves { Moves (taken self.old.source) (taken self.new.source) }
         ensures failures { CountsFailure result (I.failures self.old.source.input)
             (I.failures self.new.source.input) }
     {
@@ -164,6 +169,7 @@ impl<I: Input> Members<I> {
         ensures err { (r : Result (List ℕ × List ℕ) DeflateFault)
             → OnErr result (left_of self.old ≡ Some r
             → left_of self.new ≡ Some r) }
+        ensures moves { Moves (taken self.old.source) (taken self.new.source) }
         ensures failures { CountsFailure result (I.failures self.old.source.input)
             (I.failures self.new.source.input) }
     {
@@ -183,6 +189,7 @@ impl<I: Input> Members<I> {
         ensures fault { (fault : DeflateFault) → OnOk result (left_of self.old ≡ Some (Err fault)
             → left_of self.new ≡ Some (Err fault)) }
         ensures end { (had : Bool) → result ≡ Ok (Some had) → is_over self.new.body.stage ≡ true }
+        ensures moves { Moves (taken self.old.source) (taken self.new.source) }
         ensures failures { CountsFailure result (I.failures self.old.source.input)
             (I.failures self.new.source.input) }
     {
@@ -214,6 +221,7 @@ impl<I: Input> Members<I> {
         ensures refused { (fault : DeflateFault) → left_of self.old ≡ Some (Err fault)
             → RefusesMember result fault }
         ensures over { (had : Bool) → result ≡ Ok had → is_over self.new.body.stage ≡ true }
+        ensures moves { Moves (taken self.old.source) (taken self.new.source) }
         ensures failures { CountsMember result (I.failures self.old.source.input)
             (I.failures self.new.source.input) }
     {
