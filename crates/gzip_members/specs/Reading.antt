@@ -5,7 +5,7 @@ use Rattle.deflate_bits.specs.declared.fault.DeflateFault.{DeflateFault}
 use Rattle.deflate_bits.specs.declared.fault.DeflateFault.TheVariants as faults
 use Rattle.crc_32.specs.Crc.{crc_32}
 use Rattle.gzip_members.specs.declared.fault.MemberFault.{MemberFault}
-use Rattle.gzip_members.specs.declared.fault.MemberFault.TheVariants.{Read, NoMember, Bad, Cut, TooFar}
+use Rattle.gzip_members.specs.declared.fault.MemberFault.TheVariants.{Read, NoMember, Bad, Cut, TooFar, TooLong}
 use Rattle.std.specs.Io.KnownBytes.{prepend_known}
 use Rattle.gzip_members.specs.declared.checked_input.CheckedInput.{CheckedInput}
 use Rattle.gzip_members.specs.Header.{Parted}
@@ -37,6 +37,7 @@ IsFault NoMember whole read = ⊥
 IsFault Bad whole read = read ≡ Err faults.Bad
 IsFault Cut whole read = read ≡ Err faults.Cut
 IsFault TooFar whole read = 2 ^ 63 - 1 < whole
+IsFault TooLong whole read = ⊥
 
 -- a call answered what f reads at the front of the known bytes and left those behind, and kept the checksum of what was
 -- read and the number of bytes
@@ -59,6 +60,7 @@ CountsMember (Err NoMember) old new = new ≡ old
 CountsMember (Err Bad) old new = new ≡ old
 CountsMember (Err Cut) old new = new ≡ old
 CountsMember (Err TooFar) old new = new ≡ old
+CountsMember (Err TooLong) old new = new ≡ old
 
 -- what was found in the first n bytes leaves those behind
 abbrev pub GivesRest : ℕ → List ℕ → Result (Unit {0}) DeflateFault → Result (List ℕ) DeflateFault → Type 0

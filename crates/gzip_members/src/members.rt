@@ -23,6 +23,7 @@ pub struct Members<I: Input> {
     /// Whether the member would end at 2^63 or above, in bytes from the file's start.
     pub is_too_far: bool,
     pub ghost partial: { 0 < body.bits → 0 < length source.ahead },
+    pub ghost far: { is_too_far ≡ true → 2 ^ 63 - 1 < source.passed + length source.ahead },
 }
 
 impl<I: Input> Members<I> {
@@ -213,10 +214,10 @@ impl<I: Input> Members<I> {
     /// bytes ahead are then those behind the member.
     ///
     /// Errors are `Read`; `Bad` and `Cut` for a member that is none or goes on behind the file's
-    /// end; and `TooFar`, also for text of 2^64 bytes.
+    /// end; `TooFar`; and `TooLong`.
     pub fn end(&mut self) -> Result<bool, MemberFault>
         ensures whole { (text behind : List ℕ) → left_of self.old ≡ Some (Ok (text, behind))
-            → length text < 2 ^ 64 - 1 → EndsMember result text behind
+            → EndsMember result text behind
             (prepend_known self.new.source.ahead (I.remaining self.new.source.input)) }
         ensures refused { (fault : DeflateFault) → left_of self.old ≡ Some (Err fault)
             → RefusesMember result fault }
@@ -234,7 +235,7 @@ impl<I: Input> Members<I> {
                     MemberFault::from(fault)
                 }),
             },
-            None => Err(MemberFault::TooFar),
+            None => Err(MemberFault::TooLong),
         }
     }
 }
