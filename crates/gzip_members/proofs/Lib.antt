@@ -12,3 +12,4 @@ pub mod BeginLemmas
 pub mod RestLemmas
 pub mod OverLemmas
 pub mod MovesLemmas
+pub mod TextLemmas

@@ -1,5 +1,5 @@
 -- Behind the end of a member its bytes are those ahead, or it was refused.
-use Rattle.std.proofs.Common.{◌≡◌, ℕ, ◌+◌, ◌<◌, ◌++◌, arith, length-append, Bool, true, false, nat_lt, List, [], length, drop, Option, None, Some, Result, Ok, Err, refl, sym, ap, ◌∙◌, subst, ◌^◌, ◌-◌}
+use Rattle.std.proofs.Common.{◌≡◌, ℕ, ◌+◌, ◌<◌, ◌++◌, arith, length-append, true, nat_lt, List, [], length, drop, Option, None, Some, Ok, Err, refl, sym, ap, ◌∙◌, subst, ◌^◌, ◌-◌}
 use Rattle.std.specs.Bool.{if◌then◌else◌}
 use Rattle.std.proofs.lemmas.Bool.{lt-ltb}
 use Rattle.std.specs.Io.KnownBytes.{prepend_known}
@@ -13,13 +13,7 @@ use Rattle.gzip_members.specs.declared.fault.MemberFault.{MemberFault}
 use Rattle.gzip_members.specs.declared.fault.MemberFault.TheVariants.{Bad, Cut}
 use Rattle.gzip_members.specs.Faults.{member_fault}
 use Rattle.gzip_members.specs.Left.{RefusesMember, left_ahead}
-
-abbrev Left : Type 0
-Left = Result (List ℕ × List ℕ) DeflateFault
-
-some_left : (b : Bool) (left r : Left) → (if b then None else Some left) ≡ Some r → left ≡ r
-some_left true left r e = absurd cc
-some_left false left r e = cc
+use Rattle.gzip_members.proofs.EndLemmas.{Left, some_left}
 
 abbrev behind_or : Left → List ℕ → List ℕ
 behind_or (Ok (text, behind)) other = behind
