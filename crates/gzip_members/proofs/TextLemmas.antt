@@ -1,9 +1,9 @@
 -- The text of a member is read as an input.
 use Rattle.std.proofs.Common.{◌≡◌, ℕ, List, [], Option, None, Some, Result, Ok, Err, IfOk, option_map, length, take, refl, ap, ◌∙◌, subst, sym, ◌<◌}
 use Rattle.std.specs.Prelude.{OnErr}
-use Rattle.std.specs.Io.KnownBytes.{Consumes, Keeps, IsAtEnd, ReadConsumes}
+use Rattle.std.specs.Io.KnownBytes.{Consumes, Keeps, IsAtEnd, ReadConsumes, ConsumesCount}
 use Rattle.deflate_bits.specs.declared.fault.DeflateFault.{DeflateFault}
-use Rattle.gzip_members.specs.Left.{behind_of, text_of, GivesText}
+use Rattle.gzip_members.specs.Left.{behind_of, text_of, GivesText, SkipsText}
 use Rattle.gzip_members.proofs.EndLemmas.{Left}
 
 -- the text that is given out is taken from what is left
@@ -54,3 +54,15 @@ pub behind-read : {E : Type 0} (old new : Option Left) (r : Result ℕ E) (piece
     → option_map behind_of old ≡ Some behind → option_map behind_of new ≡ Some behind
 behind-read old new (Ok n) piece gives keeps = behind-given old new (take n piece) gives
 behind-read old new (Err e) piece gives keeps = behind-kept old new keeps
+
+-- by what a skip answered
+pub text-skipped : {E : Type 0} (old new : Option Left) (r : Result ℕ E) → IfOk r (λ n. SkipsText n old new)
+    → ((left : Left) → OnErr r (old ≡ Some left → new ≡ Some left)) → ConsumesCount (text_of old) (text_of new) r
+text-skipped old new (Ok n) (given, count, gives) keeps = (given, text-given old new given gives, count)
+text-skipped old new (Err e) gives keeps = text-kept old new keeps
+
+pub behind-skipped : {E : Type 0} (old new : Option Left) (r : Result ℕ E) → IfOk r (λ n. SkipsText n old new)
+    → ((left : Left) → OnErr r (old ≡ Some left → new ≡ Some left)) → (behind : Result (List ℕ) DeflateFault)
+    → option_map behind_of old ≡ Some behind → option_map behind_of new ≡ Some behind
+behind-skipped old new (Ok n) (given, count, gives) keeps = behind-given old new given gives
+behind-skipped old new (Err e) gives keeps = behind-kept old new keeps

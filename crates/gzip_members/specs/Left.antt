@@ -50,6 +50,10 @@ pub record GivesText (old new : Option (Result (List ℕ × List ℕ) DeflateFau
       → (rest : List ℕ) × (new ≡ Some (Ok (rest, behind))) × (text ≡ given ++ rest)
   pub fault : (fault : DeflateFault) → old ≡ Some (Err fault) → new ≡ Some (Err fault)
 
+-- so many bytes of text were given out
+abbrev pub SkipsText : ℕ → Option (Result (List ℕ × List ℕ) DeflateFault) → Option (Result (List ℕ × List ℕ) DeflateFault) → Type 0
+SkipsText n old new = (given : List ℕ) × (length given ≡ n) × GivesText old new given
+
 -- whether a member begins these bytes, what is then left of it, and else why not
 abbrev pub BeginsMember : List ℕ → Result Bool MemberFault → Option (Result (List ℕ × List ℕ) DeflateFault) → Type 0
 BeginsMember bytes (Ok false) left = bytes ≡ []

@@ -73,4 +73,8 @@ impl<I: Input, M: Outcome> Input for MemberText<I, M> {
     fn read(&mut self, piece: &mut [u8]) -> Result<usize, DeviceFault> {
         self.members.read(piece)
     }
+
+    fn skip(&mut self, count: u64) -> Result<u64, DeviceFault> {
+        self.members.skip(count)
+    }
 }

@@ -31,7 +31,8 @@ impl<I: Input> Members<I> {
     ghost use Rattle.gzip_members.specs.Windows.{pending};
     ghost use Rattle.gzip_members.specs.Bodies.{is_over};
     ghost use Rattle.gzip_members.specs.Left.{BeginsMember, EndsMember, GivesText, RefusesMember};
-    ghost use Rattle.gzip_members.specs.Left.{PassesRest, PassesText, left_of, waits, work_left};
+    ghost use Rattle.gzip_members.specs.Left.{PassesRest, PassesText, SkipsText, left_of, waits};
+    ghost use Rattle.gzip_members.specs.Left.{work_left};
 
     /// Creates a file of which nothing was read. The only error is refused memory.
     pub fn new(alloc: Global, input: I) -> Result<Members<I>, AllocError>
@@ -158,6 +159,22 @@ impl<I: Input> Members<I> {
     {
         self.fill()?;
         Ok(self.body.give(piece))
+    }
+
+    /// Passes over up to `count` bytes of the next text of the member, and returns their number.
+    /// The only error is the input's failure.
+    pub fn skip(&mut self, count: u64) -> Result<u64, DeviceFault>
+        ensures bound { IfOk result (λ n. n ≤ count) }
+        ensures text { IfOk result (λ n. SkipsText n (left_of self.old) (left_of self.new)) }
+        ensures err { (r : Result (List ℕ × List ℕ) DeflateFault)
+            → OnErr result (left_of self.old ≡ Some r
+            → left_of self.new ≡ Some r) }
+        ensures moves { Moves (taken self.old.source) (taken self.new.source) }
+        ensures failures { CountsFailure result (I.failures self.old.source.input)
+            (I.failures self.new.source.input) }
+    {
+        self.fill()?;
+        Ok(self.body.skip(count) as u64)
     }
 
     /// Passes over the next text of the member, and returns whether there was some. The only error
