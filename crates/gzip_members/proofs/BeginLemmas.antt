@@ -11,7 +11,7 @@ use Rattle.inflate.specs.Heads.{AtBlock}
 use Rattle.inflate.specs.Blocks.{inflated}
 use Rattle.inflate.specs.Inflating.{place_of}
 use Rattle.gzip_members.specs.declared.fault.MemberFault.{MemberFault}
-use Rattle.gzip_members.specs.declared.fault.MemberFault.TheVariants.{Read, NoMember, Bad, Cut, TooFar}
+use Rattle.gzip_members.specs.declared.fault.MemberFault.TheVariants.{Read, NoMember, Bad, Cut, TooFar, TooLong}
 use Rattle.gzip_members.specs.declared.body.Body.{Body}
 use Rattle.gzip_members.specs.declared.body.Stage.TheVariants.{Data}
 use Rattle.gzip_members.specs.Header.{header_in}
@@ -42,6 +42,7 @@ starts-not NoMember sum was is at (Some z) (Some w) after e k r = absurd (r [] r
 starts-not Bad sum was is at (Some z) (Some w) after e k r = ap (λ l. header_in ([], l)) (sym k) ∙ r [] refl
 starts-not Cut sum was is at (Some z) (Some w) after e k r = inr (ap (λ l. header_in ([], l)) (sym k) ∙ r [] refl)
 starts-not TooFar sum was is at (Some z) (Some w) after e k r = omega (arith, r [] refl, ap length k)
+starts-not TooLong sum was is at (Some z) (Some w) after e k r = absurd (r [] refl)
 
 -- the text of a whole member
 abbrev none_yet : TextSoFar
@@ -89,6 +90,7 @@ no-member Bad was is bytes after left s near = ap (λ r. r >>= body_behind) s
 no-member Cut was is bytes after left (inl s) near = inl s
 no-member Cut was is bytes after left (inr s) near = inr (ap (λ r. r >>= body_behind) s)
 no-member TooFar was is bytes after left s near = absurd (omega arith)
+no-member TooLong was is bytes after left s near = absurd s
 
 -- why no member was begun
 pub not-begun : (fault : MemberFault) (was is : ℕ) (before after : Option (List ℕ)) (bytes : List ℕ) (left : Option (Result (List ℕ × List ℕ) DeflateFault))

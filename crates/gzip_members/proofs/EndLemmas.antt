@@ -12,10 +12,10 @@ use Rattle.gzip_members.specs.Windows.{WindowView}
 use Rattle.gzip_members.specs.Bodies.{is_over, left_by, left_in}
 use Rattle.gzip_members.specs.Left.{left_ahead, waits}
 
-abbrev Left : Type 0
+abbrev pub Left : Type 0
 Left = Result (List ℕ × List ℕ) DeflateFault
 
-some_left : (b : Bool) (left r : Left) → (if b then None else Some left) ≡ Some r → left ≡ r
+pub some_left : (b : Bool) (left r : Left) → (if b then None else Some left) ≡ Some r → left ≡ r
 some_left true left r e = absurd cc
 some_left false left r e = cc
 

@@ -5,7 +5,7 @@ use Rattle.deflate_bits.specs.declared.fault.DeflateFault.{DeflateFault}
 use Rattle.deflate_bits.specs.Reading.{◌>>=◌}
 use Rattle.crc_32.specs.Crc.{crc_32}
 use Rattle.gzip_members.specs.declared.fault.MemberFault.{MemberFault}
-use Rattle.gzip_members.specs.declared.fault.MemberFault.TheVariants.{Read, NoMember, Bad, Cut, TooFar}
+use Rattle.gzip_members.specs.declared.fault.MemberFault.TheVariants.{Read, NoMember, Bad, Cut, TooFar, TooLong}
 use Rattle.gzip_members.specs.Header.{Parted, byte_in, past_in, text_in, name_in}
 use Rattle.gzip_members.specs.Reading.{Reads, ReadsFrom, Taken}
 
@@ -67,6 +67,7 @@ ends-from whole later start mid new was is will (Err Bad) (Some z) (Some b) afte
 ends-from whole later start mid new was is will (Err Cut) (Some z) (Some b) after c r = λ read e. let d = c.0 read e in d.1 ∙ r d.0 d.2
 ends-from whole later start mid new was is will (Err TooFar) (Some z) (Some b) after c r = λ read e.
     let d = c.0 read e in rw (sym c.1) (r d.0 d.2)
+ends-from whole later start mid new was is will (Err TooLong) (Some z) (Some b) after c r = λ read e. let d = c.0 read e in r d.0 d.2
 
 -- where what is left is read, all is
 pub continues-ends : {A : Type 0} (whole later : Parted → Result (A × Parted) DeflateFault) (start mid new : Taken) (result : Result A MemberFault)
@@ -83,6 +84,7 @@ refused-from first more NoMember old new was is (Some z) after r = λ read e. r 
 refused-from first more Bad old new was is (Some z) after r = λ read e. ap (λ found. found >>= more) (r read e)
 refused-from first more Cut old new was is (Some z) after r = λ read e. ap (λ found. found >>= more) (r read e)
 refused-from first more TooFar old new was is (Some z) after r = λ read e. r read e
+refused-from first more TooLong old new was is (Some z) after r = λ read e. r read e
 
 -- a first step that is refused is that of all
 pub refused-first : {A B : Type 0} (first : Parted → Result (A × Parted) DeflateFault) (more : A × Parted → Result (B × Parted) DeflateFault)
@@ -186,6 +188,7 @@ refused-name NoMember old new was is (Some z) after r = λ read e. r read e
 refused-name Bad old new was is (Some z) after r = λ read e. name-cut read z _ (r read e)
 refused-name Cut old new was is (Some z) after r = λ read e. name-cut read z _ (r read e)
 refused-name TooFar old new was is (Some z) after r = λ read e. r read e
+refused-name TooLong old new was is (Some z) after r = λ read e. r read e
 
 pub name-refused : (fault : MemberFault) (start mid new : Taken) → Continues name_in name_in start mid
     → Reads byte_in (Err fault) mid new → Reads name_in (Err fault) start new

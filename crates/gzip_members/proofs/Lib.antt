@@ -11,3 +11,5 @@ pub mod EndLemmas
 pub mod BeginLemmas
 pub mod RestLemmas
 pub mod OverLemmas
+pub mod MovesLemmas
+pub mod TextLemmas

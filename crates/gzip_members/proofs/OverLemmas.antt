@@ -1,6 +1,8 @@
 -- Behind the end of a member its bytes are those ahead, or it was refused.
-use Rattle.std.proofs.Common.{◌≡◌, ℕ, ◌+◌, Bool, true, false, nat_lt, List, [], length, drop, Option, None, Some, Result, Ok, Err, refl, sym, ap, ◌∙◌, subst, ◌^◌, ◌-◌}
+use Rattle.std.proofs.Common.{◌≡◌, ℕ, ◌+◌, ◌<◌, ◌++◌, arith, length-append, true, nat_lt, List, [], length, drop, Option, None, Some, Ok, Err, refl, sym, ap, ◌∙◌, subst, ◌^◌, ◌-◌}
 use Rattle.std.specs.Bool.{if◌then◌else◌}
+use Rattle.std.proofs.lemmas.Bool.{lt-ltb}
+use Rattle.std.specs.Io.KnownBytes.{prepend_known}
 use Rattle.deflate_bits.specs.declared.fault.DeflateFault.{DeflateFault}
 use Rattle.gzip_members.specs.declared.body.Body.{Body}
 use Rattle.gzip_members.specs.declared.body.Stage.{Stage}
@@ -11,13 +13,7 @@ use Rattle.gzip_members.specs.declared.fault.MemberFault.{MemberFault}
 use Rattle.gzip_members.specs.declared.fault.MemberFault.TheVariants.{Bad, Cut}
 use Rattle.gzip_members.specs.Faults.{member_fault}
 use Rattle.gzip_members.specs.Left.{RefusesMember, left_ahead}
-
-abbrev Left : Type 0
-Left = Result (List ℕ × List ℕ) DeflateFault
-
-some_left : (b : Bool) (left r : Left) → (if b then None else Some left) ≡ Some r → left ≡ r
-some_left true left r e = absurd cc
-some_left false left r e = cc
+use Rattle.gzip_members.proofs.EndLemmas.{Left, some_left}
 
 abbrev behind_or : Left → List ℕ → List ℕ
 behind_or (Ok (text, behind)) other = behind
@@ -63,6 +59,16 @@ pub refused-for : (b : Body) (passed : ℕ) (known : Option (List ℕ)) (fault :
 refused-for b passed None fault over e = absurd cc
 refused-for b passed (Some bytes) fault over e =
     over-err b.stage b refl over bytes fault (some_left (nat_lt (2 ^ 63 - 1) (passed + length bytes)) (left_in b bytes) (Err fault) e)
+
+-- nothing is known to be left in a file of 2^63 bytes or more
+pub none-far : (b : Body) (passed : ℕ) (held : List ℕ) (known : Option (List ℕ)) (left : Left) → 2 ^ 63 - 1 < passed + length held
+    → left_ahead b passed (prepend_known held known) ≡ Some left → ⊥
+none-far b passed held None left far e = absurd cc
+none-far b passed held (Some bytes) left far e =
+    let longer : 2 ^ 63 - 1 < passed + length (held ++ bytes) = omega (arith, length-append held bytes) in
+    let n : ◌≡◌ {A = Option Left} None (Some left) =
+    sym (ap (λ v. if v then None else Some (left_in b (held ++ bytes))) (lt-ltb (2 ^ 63 - 1) (passed + length (held ++ bytes)) longer)) ∙ e in
+    absurd cc
 
 -- the fault that was found is that of the member
 pub same-fault : (fault found : DeflateFault) (told : MemberFault) (at : Option DeflateFault) → at ≡ Some fault → at ≡ Some found → told ≡ member_fault found

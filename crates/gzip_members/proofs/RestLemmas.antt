@@ -1,14 +1,12 @@
 -- The rest of a member is passed over.
-use Rattle.std.proofs.Common.{◌≡◌, ℕ, ◌+◌, ◌-◌, ◌^◌, ◌<◌, ◌≤◌, Bool, true, false, nat_lt, List, [], length, drop, Option, None, Some, Result, Ok, Err, sym, ap, ◌∙◌, arith, length-append, length-drop}
+use Rattle.std.proofs.Common.{◌≡◌, ℕ, ◌+◌, ◌-◌, ◌^◌, ◌<◌, ◌≤◌, Bool, true, false, nat_lt, List, [], length, drop, Option, None, Some, Ok, Err, sym, ap, ◌∙◌, arith, length-append, length-drop}
 use Rattle.std.specs.Bool.{if◌then◌else◌}
 use Rattle.std.proofs.lemmas.Bool.{le-ltb, lt-ltb, ltb-false, ltb-true}
 use Rattle.deflate_bits.specs.declared.fault.DeflateFault.{DeflateFault}
 use Rattle.gzip_members.specs.declared.body.Body.{Body}
 use Rattle.gzip_members.specs.Bodies.{left_in, GivesLeft}
 use Rattle.gzip_members.specs.Left.{left_ahead, GivesText, PassesRest, PassesText}
-
-abbrev Left : Type 0
-Left = Result (List ℕ × List ℕ) DeflateFault
+use Rattle.gzip_members.proofs.EndLemmas.{Left}
 
 abbrev pair_or : Option Left → List ℕ × List ℕ → List ℕ × List ℕ
 pair_or (Some (Ok pair)) other = pair

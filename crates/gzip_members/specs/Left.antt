@@ -7,7 +7,7 @@ use Rattle.gzip_members.specs.declared.body.Stage.{Stage}
 use Rattle.gzip_members.specs.declared.members.Members.{Members}
 use Rattle.deflate_bits.specs.declared.fault.DeflateFault.TheVariants as faults
 use Rattle.gzip_members.specs.declared.fault.MemberFault.{MemberFault}
-use Rattle.gzip_members.specs.declared.fault.MemberFault.TheVariants.{Read, NoMember, Bad, Cut, TooFar}
+use Rattle.gzip_members.specs.declared.fault.MemberFault.TheVariants.{Read, NoMember, Bad, Cut, TooFar, TooLong}
 use Rattle.gzip_members.specs.Faults.{member_fault}
 use Rattle.gzip_members.specs.Starts.{begins_member}
 use Rattle.gzip_members.specs.Members.{member_in}
@@ -50,6 +50,10 @@ pub record GivesText (old new : Option (Result (List ℕ × List ℕ) DeflateFau
       → (rest : List ℕ) × (new ≡ Some (Ok (rest, behind))) × (text ≡ given ++ rest)
   pub fault : (fault : DeflateFault) → old ≡ Some (Err fault) → new ≡ Some (Err fault)
 
+-- so many bytes of text were given out
+abbrev pub SkipsText : ℕ → Option (Result (List ℕ × List ℕ) DeflateFault) → Option (Result (List ℕ × List ℕ) DeflateFault) → Type 0
+SkipsText n old new = (given : List ℕ) × (length given ≡ n) × GivesText old new given
+
 -- whether a member begins these bytes, what is then left of it, and else why not
 abbrev pub BeginsMember : List ℕ → Result Bool MemberFault → Option (Result (List ℕ × List ℕ) DeflateFault) → Type 0
 BeginsMember bytes (Ok false) left = bytes ≡ []
@@ -59,6 +63,7 @@ BeginsMember bytes (Err NoMember) left = begins_member bytes ≡ Err NoMember
 BeginsMember bytes (Err Bad) left = member_in bytes ≡ Err faults.Bad
 BeginsMember bytes (Err Cut) left = (begins_member bytes ≡ Err Cut) ⊎ (member_in bytes ≡ Err faults.Cut)
 BeginsMember bytes (Err TooFar) left = ⊥
+BeginsMember bytes (Err TooLong) left = ⊥
 
 -- text was passed over, some at least; or none is left, and the same is
 abbrev pub PassesText : Bool → Option (Result (List ℕ × List ℕ) DeflateFault) → Option (Result (List ℕ × List ℕ) DeflateFault) → Type 0
@@ -70,7 +75,7 @@ abbrev pub PassesRest : Option Bool → List ℕ → List ℕ → Option (Result
 PassesRest (Some had) text behind new = (new ≡ Some (Ok ([], behind))) × (had ≡ nat_lt 0 (length text))
 PassesRest None text behind new = 2 ^ 64 - 1 ≤ length text
 
--- the end of a member of this text was reached, and these bytes are ahead; unless the input failed
+-- the end of a member of this text was reached, and these bytes are ahead; unless the input failed or the text is too long
 abbrev pub EndsMember : Result Bool MemberFault → List ℕ → List ℕ → Option (List ℕ) → Type 0
 EndsMember (Ok had) text behind ahead = (had ≡ nat_lt 0 (length text)) × (ahead ≡ Some behind)
 EndsMember (Err Read) text behind ahead = ⊤
@@ -78,10 +83,12 @@ EndsMember (Err NoMember) text behind ahead = ⊥
 EndsMember (Err Bad) text behind ahead = ⊥
 EndsMember (Err Cut) text behind ahead = ⊥
 EndsMember (Err TooFar) text behind ahead = ⊥
+EndsMember (Err TooLong) text behind ahead = 2 ^ 64 - 1 ≤ length text
 
--- the member was refused for this fault, unless the input failed or more text came than can be counted
+-- the member was refused for this fault, unless the input failed or its text is too long
 abbrev pub RefusesMember : Result Bool MemberFault → DeflateFault → Type 0
 RefusesMember (Ok had) fault = ⊥
 RefusesMember (Err Read) fault = ⊤
-RefusesMember (Err TooFar) fault = ⊤
+RefusesMember (Err TooFar) fault = ⊥
+RefusesMember (Err TooLong) fault = ⊤
 RefusesMember (Err other) fault = other ≡ member_fault fault

@@ -1,11 +1,11 @@
 -- What a call reads from the front of a file's bytes.
-use Rattle.std.specs.Prelude.{◌≡◌, ℕ, ◌+◌, ◌-◌, ◌^◌, ◌<◌, ⊤, List, length, drop, Option, None, Some, Result, Ok, Err}
+use Rattle.std.specs.Prelude.{◌≡◌, ℕ, ◌+◌, ◌-◌, ◌^◌, ◌<◌, ◌≤◌, ⊤, List, length, drop, Option, None, Some, option_map, Result, Ok, Err}
 use Rattle.devices.specs.Device.{next_count}
 use Rattle.deflate_bits.specs.declared.fault.DeflateFault.{DeflateFault}
 use Rattle.deflate_bits.specs.declared.fault.DeflateFault.TheVariants as faults
 use Rattle.crc_32.specs.Crc.{crc_32}
 use Rattle.gzip_members.specs.declared.fault.MemberFault.{MemberFault}
-use Rattle.gzip_members.specs.declared.fault.MemberFault.TheVariants.{Read, NoMember, Bad, Cut, TooFar}
+use Rattle.gzip_members.specs.declared.fault.MemberFault.TheVariants.{Read, NoMember, Bad, Cut, TooFar, TooLong}
 use Rattle.std.specs.Io.KnownBytes.{prepend_known}
 use Rattle.gzip_members.specs.declared.checked_input.CheckedInput.{CheckedInput}
 use Rattle.gzip_members.specs.Header.{Parted}
@@ -19,6 +19,17 @@ pub record Taken : Type 0 where
 abbrev pub taken : {I : Type 0} {g : _} → CheckedInput I g → Taken
 taken {I} {g} c = record { ahead = prepend_known c.ahead (g.remaining c.input); checksum = c.checksum; passed = c.passed }
 
+-- the number of bytes taken and ahead, where those are known: the file's length
+abbrev pub total_of : Taken → Option ℕ
+total_of t = option_map (λ bytes. t.passed + length bytes) t.ahead
+
+-- a call took some bytes or none, and read some ahead or none
+pub record Moves (old new : Taken) : Type 0 where
+  -- no byte that was taken is given back
+  pub onward : old.passed ≤ new.passed
+  -- each known byte was taken, or is ahead
+  pub counted : (total : ℕ) → total_of old ≡ Some total → total_of new ≡ Some total
+
 -- a fault is the one that the bytes give, unless the input failed or the file is too long
 abbrev pub IsFault : {A : Type 0} → MemberFault → ℕ → Result A DeflateFault → Type 0
 IsFault Read whole read = ⊤
@@ -26,6 +37,7 @@ IsFault NoMember whole read = ⊥
 IsFault Bad whole read = read ≡ Err faults.Bad
 IsFault Cut whole read = read ≡ Err faults.Cut
 IsFault TooFar whole read = 2 ^ 63 - 1 < whole
+IsFault TooLong whole read = ⊥
 
 -- a call answered what f reads at the front of the known bytes and left those behind, and kept the checksum of what was
 -- read and the number of bytes
@@ -48,6 +60,7 @@ CountsMember (Err NoMember) old new = new ≡ old
 CountsMember (Err Bad) old new = new ≡ old
 CountsMember (Err Cut) old new = new ≡ old
 CountsMember (Err TooFar) old new = new ≡ old
+CountsMember (Err TooLong) old new = new ≡ old
 
 -- what was found in the first n bytes leaves those behind
 abbrev pub GivesRest : ℕ → List ℕ → Result (Unit {0}) DeflateFault → Result (List ℕ) DeflateFault → Type 0

@@ -1,7 +1,7 @@
 -- What a member begins with (RFC 1952, 2.3.1): ID1 and ID2.
 use Rattle.std.specs.Prelude.{◌≡◌, ℕ, ◌+◌, ◌-◌, ◌^◌, ◌<◌, ◌==◌, ◌&&◌, length, ⊤, ◌⊎◌, Bool, true, false, List, [], ◌∷◌, Option, None, Some, Result, Ok, Err, if◌then◌else◌}
 use Rattle.gzip_members.specs.declared.fault.MemberFault.{MemberFault}
-use Rattle.gzip_members.specs.declared.fault.MemberFault.TheVariants.{Read, NoMember, Bad, Cut, TooFar}
+use Rattle.gzip_members.specs.declared.fault.MemberFault.TheVariants.{Read, NoMember, Bad, Cut, TooFar, TooLong}
 use Rattle.deflate_bits.specs.declared.fault.DeflateFault.TheVariants as faults
 use Rattle.gzip_members.specs.Header.{header_in}
 
@@ -28,3 +28,4 @@ StartsFrom (Err NoMember) was is (Some bytes) after = begins_member bytes ≡ Er
 StartsFrom (Err Bad) was is (Some bytes) after = header_in ([], bytes) ≡ Err faults.Bad
 StartsFrom (Err Cut) was is (Some bytes) after = (begins_member bytes ≡ Err Cut) ⊎ (header_in ([], bytes) ≡ Err faults.Cut)
 StartsFrom (Err TooFar) was is (Some bytes) after = 2 ^ 63 - 1 < was + length bytes
+StartsFrom (Err TooLong) was is (Some bytes) after = ⊥

@@ -86,7 +86,7 @@ fn longer(size: u32, count: usize) -> u32
 
 impl Body {
     ghost use Rattle.std.specs.Prelude.{◌≡◌, ◌++◌, ◌≤◌, ◌<◌, ◌⊎◌, Bool, true, false, List, [], ℕ};
-    ghost use Rattle.std.specs.Prelude.{length, take, drop, nat_lt, IfOk};
+    ghost use Rattle.std.specs.Prelude.{length, min, take, drop, nat_lt, IfOk};
     ghost use Rattle.inflate.specs.Inflating.{place_of};
     ghost use Rattle.inflate.specs.Heads.{AtBlock};
     ghost use Rattle.gzip_members.specs.Bodies.{fault_of, is_over, left_in, text_so_far, GivesLeft};
@@ -97,6 +97,7 @@ impl Body {
     pub fn new(alloc: Global) -> Result<Body, AllocError>
         ensures stage { IfOk result (λ body. body.stage ≡ Stage.Ended) }
         ensures bits { IfOk result (λ body. body.bits ≡ 0) }
+        ensures text { IfOk result (λ body. pending body.window ≡ []) }
     {
         Ok(Body {
             inflater: Inflater::new(alloc)?,
@@ -262,6 +263,18 @@ impl Body {
             (take result piece.new) }
     {
         self.window.give(piece)
+    }
+
+    /// Passes over up to `count` bytes of the next text, and returns their number.
+    pub fn skip(&mut self, count: u64) -> usize
+        ensures count { result ≡ min count (length (pending self.old.window)) }
+        ensures stage { self.new.stage ≡ self.old.stage }
+        ensures bits { self.new.bits ≡ self.old.bits }
+        ensures left { (bytes : List ℕ)
+            → GivesLeft (left_in self.old bytes) (left_in self.new bytes)
+            (take result (pending self.old.window)) }
+    {
+        self.window.skip(count)
     }
 
     /// Passes over all text that was unpacked.

@@ -27,7 +27,7 @@ pub struct CheckedInput<I: Input> {
 
 impl<I: Input> CheckedInput<I> {
     ghost use Rattle.gzip_members.specs.Header.{byte_in};
-    ghost use Rattle.gzip_members.specs.Reading.{Reads, CountsMember, taken};
+    ghost use Rattle.gzip_members.specs.Reading.{Reads, CountsMember, Moves, taken};
 
     /// Reads once from the input if nothing is held. If nothing is held after that, the input is at
     /// its end.
@@ -37,6 +37,7 @@ impl<I: Input> CheckedInput<I> {
         ensures end { OnOk result (self.new.ahead ≡ [] → IsAtEnd (I.remaining self.new.input)) }
         ensures checksum { self.new.checksum ≡ self.old.checksum }
         ensures passed { self.new.passed ≡ self.old.passed }
+        ensures moves { Moves (taken self.old) (taken self.new) }
         ensures fault { IfErr result (λ fault. fault ≡ MemberFault.Read) }
         ensures failures { CountsMember result (I.failures self.old.input)
             (I.failures self.new.input) }
@@ -57,6 +58,7 @@ impl<I: Input> CheckedInput<I> {
         ensures grown { length self.old.ahead ≤ length self.new.ahead }
         ensures err { OnErr result (self.new.ahead ≡ self.old.ahead) }
         ensures passed { self.new.passed ≡ self.old.passed }
+        ensures moves { Moves (taken self.old) (taken self.new) }
         ensures failures { CountsFailure result (I.failures self.old.input)
             (I.failures self.new.input) }
     {
@@ -71,6 +73,7 @@ impl<I: Input> CheckedInput<I> {
     pub fn byte(&mut self) -> Result<u8, MemberFault>
         ensures byte { Reads byte_in result (taken self.old) (taken self.new) }
         ensures passed { OnOk result (self.new.passed ≡ self.old.passed + 1) }
+        ensures moves { Moves (taken self.old) (taken self.new) }
         ensures failures { CountsMember result (I.failures self.old.input)
             (I.failures self.new.input) }
     {
@@ -99,6 +102,7 @@ impl<I: Input> CheckedInput<I> {
         ensures stays { OnFalse result (self.new.passed ≡ self.old.passed) }
         ensures too_far { OnFalse result (2 ^ 63 - 1 < self.old.passed + count) }
         ensures input { self.new.input ≡ self.old.input }
+        ensures moves { Moves (taken self.old) (taken self.new) }
     {
         if count as u64 > GREATEST_OFFSET - self.passed {
             return false;

@@ -16,6 +16,8 @@ pub enum MemberFault {
     Cut,
     /// It would end at 2^63 or above, in bytes from the file's start.
     TooFar,
+    /// Its text has more pieces than can be counted.
+    TooLong,
 }
 
 impl From<DeviceFault> for MemberFault {

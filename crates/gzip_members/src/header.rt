@@ -1,5 +1,5 @@
 //! The header of a member (RFC 1952, 2.3).
-ghost use Rattle.std.specs.Prelude.{◌≡◌, ℕ, ◌+◌, ◌-◌, ◌^◌, ◌<◌, ◌≤◌, List, [], length, IfOk};
+ghost use Rattle.std.specs.Prelude.{◌≡◌, ℕ, ◌+◌, ◌-◌, ◌^◌, ◌<◌, ◌≤◌, List, [], length, IfOk, OnOk};
 ghost use Rattle.std.specs.Io.KnownBytes.{prepend_known};
 
 use crate::checked_input::CheckedInput;
@@ -12,12 +12,13 @@ const DEFLATE: u8 = 8;
 impl<I: Input> CheckedInput<I> {
     ghost use Rattle.gzip_members.specs.Header.{pair_in, past_in, name_in, extra_in, sum_in};
     ghost use Rattle.gzip_members.specs.Header.{flags_in, fields_in, header_in, where_set, is_set};
-    ghost use Rattle.gzip_members.specs.Reading.{Reads, CountsMember, taken};
+    ghost use Rattle.gzip_members.specs.Reading.{Reads, CountsMember, Moves, taken};
 
     /// Takes two bytes as a number, the first the least significant.
     #[tactic(auto, unfolding(crate::specs::Header::pair_in))]
     pub(crate) fn pair(&mut self) -> Result<u16, MemberFault>
         ensures pair { Reads pair_in result (taken self.old) (taken self.new) }
+        ensures moves { Moves (taken self.old) (taken self.new) }
         ensures failures { CountsMember result (I.failures self.old.input)
             (I.failures self.new.input) }
     {
@@ -30,6 +31,8 @@ impl<I: Input> CheckedInput<I> {
     #[tactic(auto, using(crate::proofs::HeaderLemmas::past_rules))]
     fn past(&mut self, count: u16) -> Result<(), MemberFault>
         ensures past { Reads (past_in count) result (taken self.old) (taken self.new) }
+        ensures passed { OnOk result (self.new.passed ≡ self.old.passed + count) }
+        ensures moves { Moves (taken self.old) (taken self.new) }
         ensures failures { CountsMember result (I.failures self.old.input)
             (I.failures self.new.input) }
     {
@@ -46,6 +49,7 @@ impl<I: Input> CheckedInput<I> {
     /// Takes a text, up to and with the zero that ends it.
     fn text(&mut self) -> Result<(), MemberFault>
         ensures text { Reads name_in result (taken self.old) (taken self.new) }
+        ensures moves { Moves (taken self.old) (taken self.new) }
         ensures failures { CountsMember result (I.failures self.old.input)
             (I.failures self.new.input) }
     {
@@ -65,6 +69,7 @@ impl<I: Input> CheckedInput<I> {
     #[tactic(auto, unfolding(crate::specs::Header::extra_in))]
     fn extra(&mut self) -> Result<(), MemberFault>
         ensures extra { Reads extra_in result (taken self.old) (taken self.new) }
+        ensures moves { Moves (taken self.old) (taken self.new) }
         ensures failures { CountsMember result (I.failures self.old.input)
             (I.failures self.new.input) }
     {
@@ -76,6 +81,7 @@ impl<I: Input> CheckedInput<I> {
     #[tactic(auto, unfolding(crate::specs::Header::sum_in))]
     fn sum(&mut self) -> Result<(), MemberFault>
         ensures sum { Reads sum_in result (taken self.old) (taken self.new) }
+        ensures moves { Moves (taken self.old) (taken self.new) }
         ensures failures { CountsMember result (I.failures self.old.input)
             (I.failures self.new.input) }
     {
@@ -92,6 +98,8 @@ impl<I: Input> CheckedInput<I> {
     #[tactic(auto, unfolding(crate::specs::Header::flags_in))]
     fn flags(&mut self) -> Result<u8, MemberFault>
         ensures flags { Reads flags_in result (taken self.old) (taken self.new) }
+        ensures passed { OnOk result (self.new.passed ≡ self.old.passed + 4) }
+        ensures moves { Moves (taken self.old) (taken self.new) }
         ensures failures { CountsMember result (I.failures self.old.input)
             (I.failures self.new.input) }
     {
@@ -109,6 +117,7 @@ impl<I: Input> CheckedInput<I> {
     fn extra_where_set(&mut self, flags: u8) -> Result<(), MemberFault>
         ensures extra { Reads (where_set 4 flags extra_in) result (taken self.old)
             (taken self.new) }
+        ensures moves { Moves (taken self.old) (taken self.new) }
         ensures failures { CountsMember result (I.failures self.old.input)
             (I.failures self.new.input) }
     {
@@ -124,6 +133,7 @@ impl<I: Input> CheckedInput<I> {
         requires { 0 < flag }
         ensures text { Reads (where_set flag flags name_in) result (taken self.old)
             (taken self.new) }
+        ensures moves { Moves (taken self.old) (taken self.new) }
         ensures failures { CountsMember result (I.failures self.old.input)
             (I.failures self.new.input) }
     {
@@ -137,6 +147,7 @@ impl<I: Input> CheckedInput<I> {
     /// Takes the checksum of the header, if its flag is set.
     fn sum_where_set(&mut self, flags: u8) -> Result<(), MemberFault>
         ensures sum { Reads (where_set 2 flags sum_in) result (taken self.old) (taken self.new) }
+        ensures moves { Moves (taken self.old) (taken self.new) }
         ensures failures { CountsMember result (I.failures self.old.input)
             (I.failures self.new.input) }
     {
@@ -151,6 +162,7 @@ impl<I: Input> CheckedInput<I> {
     #[tactic(auto, unfolding(crate::specs::Header::fields_in))]
     fn fields(&mut self, flags: u8) -> Result<(), MemberFault>
         ensures fields { Reads (fields_in flags) result (taken self.old) (taken self.new) }
+        ensures moves { Moves (taken self.old) (taken self.new) }
         ensures failures { CountsMember result (I.failures self.old.input)
             (I.failures self.new.input) }
     {
@@ -164,6 +176,8 @@ impl<I: Input> CheckedInput<I> {
     #[tactic(auto, unfolding(crate::specs::Header::header_in))]
     pub fn header(&mut self) -> Result<(), MemberFault>
         ensures header { Reads header_in result (taken self.old) (taken self.new) }
+        ensures passed { OnOk result (self.old.passed + 10 ≤ self.new.passed) }
+        ensures moves { Moves (taken self.old) (taken self.new) }
         ensures failures { CountsMember result (I.failures self.old.input)
             (I.failures self.new.input) }
     {

@@ -23,19 +23,27 @@ pub struct Members<I: Input> {
     /// Whether the member would end at 2^63 or above, in bytes from the file's start.
     pub is_too_far: bool,
     pub ghost partial: { 0 < body.bits → 0 < length source.ahead },
+    pub ghost far: { is_too_far ≡ true → 2 ^ 63 - 1 < source.passed + length source.ahead },
 }
 
 impl<I: Input> Members<I> {
-    ghost use Rattle.gzip_members.specs.Reading.{CountsMember};
+    ghost use Rattle.gzip_members.specs.Reading.{CountsMember, Moves, taken};
     ghost use Rattle.gzip_members.specs.Windows.{pending};
     ghost use Rattle.gzip_members.specs.Bodies.{is_over};
     ghost use Rattle.gzip_members.specs.Left.{BeginsMember, EndsMember, GivesText, RefusesMember};
-    ghost use Rattle.gzip_members.specs.Left.{PassesRest, PassesText, left_of, waits, work_left};
+    ghost use Rattle.gzip_members.specs.Left.{PassesRest, PassesText, SkipsText, left_of, waits};
+    ghost use Rattle.gzip_members.specs.Left.{work_left};
 
     /// Creates a file of which nothing was read. The only error is refused memory.
     pub fn new(alloc: Global, input: I) -> Result<Members<I>, AllocError>
     where
         I: Drop,
+        ensures ahead { IfOk result (λ m. m.source.ahead ≡ []) }
+        ensures input { IfOk result (λ m. m.source.input ≡ input) }
+        ensures passed { IfOk result (λ m. m.source.passed ≡ 0) }
+        ensures near { IfOk result (λ m. m.is_too_far ≡ false) }
+        ensures over { IfOk result (λ m. is_over m.body.stage ≡ true) }
+        ensures text { IfOk result (λ m. pending m.body.window ≡ []) }
     {
         let source = CheckedInput {
             input,
@@ -61,6 +69,8 @@ impl<I: Input> Members<I> {
             → prepend_known self.old.source.ahead (I.remaining self.old.source.input) ≡ Some bytes
             → self.old.source.passed + length bytes ≤ 2 ^ 63 - 1
             → BeginsMember bytes result (left_of self.new) }
+        ensures further { result ≡ Ok true → self.old.source.passed < self.new.source.passed }
+        ensures moves { Moves (taken self.old.source) (taken self.new.source) }
         ensures failures { CountsMember result (I.failures self.old.source.input)
             (I.failures self.new.source.input) }
     {
@@ -87,6 +97,7 @@ impl<I: Input> Members<I> {
         requires given { pending self.old.body.window ≡ [] }
         ensures left { (r : Result (List ℕ × List ℕ) DeflateFault) → left_of self.old ≡ Some r
             → left_of self.new ≡ Some r }
+        ensures moves { Moves (taken self.old.source) (taken self.new.source) }
         ensures failures { CountsFailure result (I.failures self.old.source.input)
             (I.failures self.new.source.input) }
         ensures nearer { OnOk result
@@ -118,6 +129,7 @@ impl<I: Input> Members<I> {
     pub fn fill(&mut self) -> Result<(), DeviceFault>
         ensures left { (r : Result (List ℕ × List ℕ) DeflateFault) → left_of self.old ≡ Some r
             → left_of self.new ≡ Some r }
+        ensures moves { Moves (taken self.old.source) (taken self.new.source) }
         ensures failures { CountsFailure result (I.failures self.old.source.input)
             (I.failures self.new.source.input) }
         ensures stops { OnOk result
@@ -141,11 +153,28 @@ impl<I: Input> Members<I> {
             → left_of self.new ≡ Some r) }
         ensures end { result ≡ Ok 0 → 0 < length piece.new → (text behind : List ℕ)
             → left_of self.new ≡ Some (Ok (text, behind)) → text ≡ [] }
+        ensures moves { Moves (taken self.old.source) (taken self.new.source) }
         ensures failures { CountsFailure result (I.failures self.old.source.input)
             (I.failures self.new.source.input) }
     {
         self.fill()?;
         Ok(self.body.give(piece))
+    }
+
+    /// Passes over up to `count` bytes of the next text of the member, and returns their number.
+    /// The only error is the input's failure.
+    pub fn skip(&mut self, count: u64) -> Result<u64, DeviceFault>
+        ensures bound { IfOk result (λ n. n ≤ count) }
+        ensures text { IfOk result (λ n. SkipsText n (left_of self.old) (left_of self.new)) }
+        ensures err { (r : Result (List ℕ × List ℕ) DeflateFault)
+            → OnErr result (left_of self.old ≡ Some r
+            → left_of self.new ≡ Some r) }
+        ensures moves { Moves (taken self.old.source) (taken self.new.source) }
+        ensures failures { CountsFailure result (I.failures self.old.source.input)
+            (I.failures self.new.source.input) }
+    {
+        self.fill()?;
+        Ok(self.body.skip(count) as u64)
     }
 
     /// Passes over the next text of the member, and returns whether there was some. The only error
@@ -158,6 +187,7 @@ impl<I: Input> Members<I> {
         ensures err { (r : Result (List ℕ × List ℕ) DeflateFault)
             → OnErr result (left_of self.old ≡ Some r
             → left_of self.new ≡ Some r) }
+        ensures moves { Moves (taken self.old.source) (taken self.new.source) }
         ensures failures { CountsFailure result (I.failures self.old.source.input)
             (I.failures self.new.source.input) }
     {
@@ -177,6 +207,7 @@ impl<I: Input> Members<I> {
         ensures fault { (fault : DeflateFault) → OnOk result (left_of self.old ≡ Some (Err fault)
             → left_of self.new ≡ Some (Err fault)) }
         ensures end { (had : Bool) → result ≡ Ok (Some had) → is_over self.new.body.stage ≡ true }
+        ensures moves { Moves (taken self.old.source) (taken self.new.source) }
         ensures failures { CountsFailure result (I.failures self.old.source.input)
             (I.failures self.new.source.input) }
     {
@@ -200,14 +231,15 @@ impl<I: Input> Members<I> {
     /// bytes ahead are then those behind the member.
     ///
     /// Errors are `Read`; `Bad` and `Cut` for a member that is none or goes on behind the file's
-    /// end; and `TooFar`, also for text of 2^64 bytes.
+    /// end; `TooFar`; and `TooLong`.
     pub fn end(&mut self) -> Result<bool, MemberFault>
         ensures whole { (text behind : List ℕ) → left_of self.old ≡ Some (Ok (text, behind))
-            → length text < 2 ^ 64 - 1 → EndsMember result text behind
+            → EndsMember result text behind
             (prepend_known self.new.source.ahead (I.remaining self.new.source.input)) }
         ensures refused { (fault : DeflateFault) → left_of self.old ≡ Some (Err fault)
             → RefusesMember result fault }
         ensures over { (had : Bool) → result ≡ Ok had → is_over self.new.body.stage ≡ true }
+        ensures moves { Moves (taken self.old.source) (taken self.new.source) }
         ensures failures { CountsMember result (I.failures self.old.source.input)
             (I.failures self.new.source.input) }
     {
@@ -220,7 +252,7 @@ impl<I: Input> Members<I> {
                     MemberFault::from(fault)
                 }),
             },
-            None => Err(MemberFault::TooFar),
+            None => Err(MemberFault::TooLong),
         }
     }
 }

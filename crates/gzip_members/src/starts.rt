@@ -1,5 +1,5 @@
 //! Whether a member begins.
-ghost use Rattle.std.specs.Prelude.{◌≡◌, ℕ, ◌≤◌, ◌⊎◌, length, IfErr, OnOk};
+ghost use Rattle.std.specs.Prelude.{◌≡◌, ℕ, ◌+◌, ◌≤◌, ◌⊎◌, length, IfErr, OnOk, Ok, true};
 ghost use Rattle.std.specs.Io.KnownBytes.{Keeps, IsAtEnd, prepend_known};
 
 use crate::checked_input::CheckedInput;
@@ -7,7 +7,7 @@ use crate::fault::MemberFault;
 use devices::Input;
 
 impl<I: Input> CheckedInput<I> {
-    ghost use Rattle.gzip_members.specs.Reading.{CountsMember};
+    ghost use Rattle.gzip_members.specs.Reading.{CountsMember, Moves, taken};
     ghost use Rattle.gzip_members.specs.Starts.{begins_member, AnswersStart, StartsFrom};
 
     /// Reads until two bytes are held, or the input is at its end.
@@ -19,6 +19,7 @@ impl<I: Input> CheckedInput<I> {
         ensures checksum { self.new.checksum ≡ self.old.checksum }
         ensures passed { self.new.passed ≡ self.old.passed }
         ensures fault { IfErr result (λ fault. fault ≡ MemberFault.Read) }
+        ensures moves { Moves (taken self.old) (taken self.new) }
         ensures failures { CountsMember result (I.failures self.old.input)
             (I.failures self.new.input) }
     {
@@ -43,6 +44,7 @@ impl<I: Input> CheckedInput<I> {
             (I.remaining self.old.input)) }
         ensures checksum { self.new.checksum ≡ self.old.checksum }
         ensures passed { self.new.passed ≡ self.old.passed }
+        ensures moves { Moves (taken self.old) (taken self.new) }
         ensures failures { CountsMember result (I.failures self.old.input)
             (I.failures self.new.input) }
     {
@@ -56,6 +58,8 @@ impl<I: Input> CheckedInput<I> {
         ensures starts { StartsFrom result self.old.passed self.new.passed
             (prepend_known self.old.ahead (I.remaining self.old.input))
             (prepend_known self.new.ahead (I.remaining self.new.input)) }
+        ensures further { result ≡ Ok true → self.old.passed + 10 ≤ self.new.passed }
+        ensures moves { Moves (taken self.old) (taken self.new) }
         ensures failures { CountsMember result (I.failures self.old.input)
             (I.failures self.new.input) }
     {

@@ -1,12 +1,14 @@
-use Rattle.std.proofs.Common.{◌≡◌}
+use Rattle.std.proofs.Common.{◌≡◌, ◌+◌}
 use Rattle.gzip_members.specs.Header.{past_in}
-use Rattle.gzip_members.specs.Reading.{taken}
+use Rattle.gzip_members.specs.Reading.{Moves, taken}
 use Rattle.gzip_members.proofs.HeaderLemmas.{Continues}
 use Rattle.gzip_members.proofs.checked_input.CheckedInput.past.Given as goal
 
 abbrev pub invariant-bytes : goal.invariant-bytes
 invariant-bytes g l = record {
   continues : Continues (past_in l.fn.count) (past_in l.left) (taken l.fn.self) (taken l.self);
+  count : l.self.passed + l.left ≡ l.fn.self.passed + l.fn.count;
+  moves : Moves (taken l.fn.self) (taken l.self);
   failures : g.I.Input.failures l.self.input ≡ g.I.Input.failures l.fn.self.input;
 }
 

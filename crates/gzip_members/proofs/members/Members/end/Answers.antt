@@ -1,11 +1,11 @@
-use Rattle.std.proofs.Common.{◌∙◌, [], Some, subst, sym}
+use Rattle.std.proofs.Common.{◌∙◌, [], Some, Err, subst, sym}
 use Rattle.gzip_members.specs.Bodies.{fault_of}
 use Rattle.gzip_members.specs.Left.{PassesRest, left_of}
-use Rattle.gzip_members.proofs.OverLemmas.{ends-at, refused-for, same-fault}
+use Rattle.gzip_members.proofs.OverLemmas.{ends-at, none-far, refused-for, same-fault}
 use Rattle.gzip_members.proofs.members.Members.end.Goals as goal
 
 pub returns-in-None-fault-clause-whole : goal.returns-in-None-fault-clause-whole
-returns-in-None-fault-clause-whole g c = λ text behind e few.
+returns-in-None-fault-clause-whole g c = λ text behind e.
     let m = c.pass_rest.new.self in
     let p : PassesRest (Some c.in-Some.had) text behind (left_of m) =
     subst (λ r. PassesRest r text behind (left_of m)) c.in-Some.is (c.in_ok-had.ensures.whole text behind e) in
@@ -19,15 +19,20 @@ returns-in-None-fault-clause-refused g c = λ fault e.
     absurd cc
 
 pub returns-then-self-clause-whole : goal.returns-then-self-clause-whole
-returns-then-self-clause-whole g c = λ text behind e few.
+returns-then-self-clause-whole g c = λ text behind e.
     let m = c.pass_rest.new.self in
     let p : PassesRest (Some c.in-Some.had) text behind (left_of m) =
     subst (λ r. PassesRest r text behind (left_of m)) c.in-Some.is (c.in_ok-had.ensures.whole text behind e) in
     let q = ends-at m.body m.source.passed _ [] behind (c.in_ok-had.ensures.end c.in-Some.had cc) p.0 in
     absurd cc
 
+pub returns-then-self-clause-refused : goal.returns-then-self-clause-refused
+returns-then-self-clause-refused g c = λ fault e.
+    let m = c.pass_rest.new.self in
+    absurd (none-far m.body m.source.passed m.source.ahead _ (Err fault) (m.far c.if-self.true) (c.in_ok-had.ensures.fault fault e))
+
 pub returns-else-self-clause-whole : goal.returns-else-self-clause-whole
-returns-else-self-clause-whole g c = λ text behind e few.
+returns-else-self-clause-whole g c = λ text behind e.
     let m = c.pass_rest.new.self in
     let p : PassesRest (Some c.in-Some.had) text behind (left_of m) =
     subst (λ r. PassesRest r text behind (left_of m)) c.in-Some.is (c.in_ok-had.ensures.whole text behind e) in
