@@ -6,6 +6,7 @@ ghost use Rattle.tasks.specs.Fetching.{FetchesRecord, WritesRecord};
 ghost use Rattle.tasks.specs.Opening.{IsUnopened, OpensFirst};
 ghost use Rattle.tasks.specs.Writes.{CountsWrites};
 
+use crate::console::Console;
 use crate::faults::said_outcome;
 use crate::opening::Opener;
 use crate::outcome::Outcome;
@@ -17,7 +18,7 @@ use warc_core::{Input, Output};
 /// Writes the record that begins at the offset of the archive of this name; `-` is standard input. With a length, only
 /// a record of this length, and without reading what precedes it as records.
 pub fn fetch<R: Runtime + AllocGlobal, F: Opener, O: Output>(
-    rt: &R,
+    console: &Console<R>,
     files: &F,
     length: Option<u64>,
     offset: u64,
@@ -30,12 +31,12 @@ pub fn fetch<R: Runtime + AllocGlobal, F: Opener, O: Output>(
         (O.written out.old) (O.written out.new) (out.new ≡ out.old) result) }
     ensures writes { CountsWrites result (O.failures out.old) (O.failures out.new) }
 {
-    fetch_opened(rt, length, offset, name, files.open_archive(name), out)
+    fetch_opened(console, length, offset, name, files.open_archive(name), out)
 }
 
 /// Writes the record of an archive, unless the archive couldn't be opened.
 fn fetch_opened<R: Runtime + AllocGlobal, I: Input + Drop, O: Output>(
-    rt: &R,
+    console: &Console<R>,
     length: Option<u64>,
     offset: u64,
     name: &str,
@@ -52,8 +53,8 @@ fn fetch_opened<R: Runtime + AllocGlobal, I: Input + Drop, O: Output>(
 {
     match opened {
         Ok(mut archive) => {
-            let answer = get_record(rt.alloc(), length, offset, &mut archive, out);
-            said_outcome(rt, name, answer)
+            let answer = get_record(console.alloc(), length, offset, &mut archive, out);
+            said_outcome(console, name, answer)
         }
         Err(outcome) => outcome,
     }

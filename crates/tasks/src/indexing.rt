@@ -6,6 +6,7 @@ ghost use Rattle.tasks.specs.Outcome.{ends_command};
 ghost use Rattle.tasks.specs.Writes.{CountsWrites};
 
 use crate::archive_names::archive_name;
+use crate::console::Console;
 use crate::each::with_each;
 use crate::exit_status::ends_command;
 use crate::faults::said_outcome;
@@ -20,7 +21,7 @@ use warc_core::{Input, Output};
 /// can't be read to its end is indexed up to the fault. If memory failed before the index is written, nothing is
 /// written.
 pub fn index_all<R: Runtime + AllocGlobal, F: Opener, O: Output>(
-    rt: &R,
+    console: &Console<R>,
     files: &F,
     types: Types,
     input: Option<&str>,
@@ -33,7 +34,7 @@ pub fn index_all<R: Runtime + AllocGlobal, F: Opener, O: Output>(
         result }
     ensures writes { CountsWrites result (O.failures out.old) (O.failures out.new) }
 {
-    let mut indexer = Indexer::new(rt.alloc(), types);
+    let mut indexer = Indexer::new(console.alloc(), types);
     let added = with_each(
         names,
         &mut indexer,
@@ -44,7 +45,7 @@ pub fn index_all<R: Runtime + AllocGlobal, F: Opener, O: Output>(
             ensures unwritten { CountsWrites result 0 0 }
         {
             let opened = files.open_archive(name);
-            add_opened(rt, indexer, name, archive_name(input, name), opened)
+            add_opened(console, indexer, name, archive_name(input, name), opened)
         },
     );
     write_index(&indexer, added, out)
@@ -52,7 +53,7 @@ pub fn index_all<R: Runtime + AllocGlobal, F: Opener, O: Output>(
 
 /// Adds an archive under this name, unless it couldn't be opened.
 fn add_opened<R: Runtime, I: Input + Drop>(
-    rt: &R,
+    console: &Console<R>,
     indexer: &mut Indexer,
     name: &str,
     file_name: &str,
@@ -67,7 +68,7 @@ fn add_opened<R: Runtime, I: Input + Drop>(
     match opened {
         Ok(mut archive) => {
             let answer = indexer.add(file_name, &mut archive);
-            said_outcome(rt, name, answer)
+            said_outcome(console, name, answer)
         }
         Err(outcome) => outcome,
     }

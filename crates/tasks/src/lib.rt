@@ -6,6 +6,7 @@
 mod advice;
 mod archive_names;
 mod checks;
+mod console;
 mod conversing;
 mod each;
 mod exit_status;
@@ -22,6 +23,7 @@ mod reports;
 mod scanning;
 mod standard_input;
 
+pub use crate::console::{Console, Program};
 pub use crate::exit_status::{status, status_zero_is_done};
 pub use crate::opening::{Opener, System};
 pub use crate::outcome::Outcome;

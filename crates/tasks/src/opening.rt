@@ -4,6 +4,7 @@ ghost use Rattle.command_line.specs.Words.{texts};
 ghost use Rattle.tasks.specs.Opening.{HasTold, IsUnopened, IsUnopenedIndex, AreUnopenedIndexes};
 
 use crate::advice::{NO_PIPE, unread_advice};
+use crate::console::Console;
 use crate::outcome::Outcome;
 use either::Either;
 use index_core::IndexFault;
@@ -61,13 +62,13 @@ pub trait Opener {
 /// The files of the system. The contracts don't know their bytes, nor what becomes of an opening.
 #[derive(Drop)]
 pub struct System<'a, R> {
-    rt: &'a R,
+    console: &'a Console<'a, R>,
 }
 
 impl<'a, R> System<'a, R> {
     /// Creates what opens the files of the system.
-    pub fn new(rt: &'a R) -> System<'a, R> {
-        System { rt }
+    pub fn new(console: &'a Console<'a, R>) -> System<'a, R> {
+        System { console }
     }
 }
 
@@ -93,28 +94,29 @@ impl<R: Runtime + AllocGlobal> Opener for System<'_, R> {
 
     fn open_archive(&self, name: &str) -> Result<Self::Archive, Outcome> {
         if name == "-" {
-            return Ok(Either::Left(FromRead::new(self.rt.reader())));
+            return Ok(Either::Left(FromRead::new(self.console.rt.reader())));
         }
-        match FromFile::new(SystemFile(open_file(self.rt, name)?)) {
+        match FromFile::new(SystemFile(open_file(self.console, name)?)) {
             Ok(file) => Ok(Either::Right(file)),
-            Err(_fault) => Err(cannot_open(self.rt, name)),
+            Err(_fault) => Err(cannot_open(self.console, name)),
         }
     }
 
     fn open_index(&self, name: &str) -> Result<Self::Index, Outcome> {
-        match FileSource::new(SystemFile(open_file(self.rt, name)?)) {
+        match FileSource::new(SystemFile(open_file(self.console, name)?)) {
             Ok(source) => Ok(source),
             Err(_fault) => {
-                let _ = eprintln!(self.rt; "warcdx: {name}: Read");
-                let advice = unread_advice(self.rt, name);
-                let _ = eprintln!(self.rt; "  {advice}");
+                let program = self.console.program();
+                let _ = eprintln!(self.console.rt; "{program}: {name}: Read");
+                let advice = unread_advice(self.console.rt, name);
+                let _ = eprintln!(self.console.rt; "  {advice}");
                 Err(Outcome::Answer(AnswerFault::Read(0)))
             }
         }
     }
 
     fn input(&self) -> Self::Lines {
-        FromRead::new(self.rt.reader())
+        FromRead::new(self.console.rt.reader())
     }
 }
 
@@ -140,17 +142,17 @@ pub fn open_indexes<F: Opener>(
     Ok(indexes)
 }
 
-fn open_file<R: Runtime + AllocGlobal>(rt: &R, name: &str) -> Result<<R as Files>::File, Outcome>
+fn open_file<R: Runtime + AllocGlobal>(console: &Console<R>, name: &str) -> Result<<R as Files>::File, Outcome>
     ensures { IfErr result (IsUnopened ⊤) }
 {
-    match File::open(rt, name) {
+    match File::open(console.rt, name) {
         Ok(file) => Ok(file),
         Err(error) if error.kind() == ErrorKind::OutOfMemory => {
             Err(Outcome::Index(IndexFault::Memory))
         }
         Err(error) => {
-            let outcome = cannot_open(rt, name);
-            say_why(rt, name, &error);
+            let outcome = cannot_open(console, name);
+            say_why(console.rt, name, &error);
             Err(outcome)
         }
     }
@@ -165,9 +167,10 @@ fn say_why<R: Runtime>(rt: &R, name: &str, error: &io::Error) {
 }
 
 /// Reports on standard error that a file can't be opened.
-fn cannot_open<R: Runtime + AllocGlobal>(rt: &R, name: &str) -> Outcome
+fn cannot_open<R: Runtime + AllocGlobal>(console: &Console<R>, name: &str) -> Outcome
     ensures { result ≡ Outcome.CannotOpen }
 {
-    let _ = eprintln!(rt; "warcdx: {name}: cannot open");
+    let program = console.program();
+    let _ = eprintln!(console.rt; "{program}: {name}: cannot open");
     Outcome::CannotOpen
 }

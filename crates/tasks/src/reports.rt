@@ -8,6 +8,7 @@ ghost use Rattle.tasks.specs.Outcome.{answer_of};
 ghost use Rattle.tasks.specs.Reports.{ReportsOn, ReportsOnOne, WritesReport, WritesBelow, heading, heading_among};
 ghost use Rattle.tasks.specs.Writes.{CountsWrites};
 
+use crate::console::Console;
 use crate::each::with_each;
 use crate::opening::Opener;
 use crate::outcome::{Outcome, outcome_of, verification_outcome};
@@ -28,7 +29,7 @@ pub enum ArchiveReport {
 
 /// Writes the report on each archive. If there are several archives, each report stands under the name of its archive.
 pub fn report_on<R: Runtime + AllocGlobal, F: Opener, O: Output>(
-    rt: &R,
+    console: &Console<R>,
     files: &F,
     names: &[String],
     report: ArchiveReport,
@@ -49,7 +50,7 @@ pub fn report_on<R: Runtime + AllocGlobal, F: Opener, O: Output>(
             ensures writes { CountsWrites result (O.failures out.old) (O.failures out.new) }
         {
             report_on_opened(
-                rt.alloc(),
+                console.alloc(),
                 name,
                 among,
                 report,

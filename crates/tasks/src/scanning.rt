@@ -8,6 +8,7 @@ ghost use Rattle.tasks.specs.Scanning.{AreOpened, ScansArchives, ScansNamed, arc
 ghost use Rattle.tasks.specs.Writes.{CountsWrites};
 
 use crate::archive_names::archive_name;
+use crate::console::Console;
 use crate::faults::say_scan_fault;
 use crate::opening::Opener;
 use crate::outcome::Outcome;
@@ -22,7 +23,7 @@ use warc_core::{Input, Output};
 /// Writes the pages of the query text over the captures of these archives' records of these types. Each page has its
 /// size, and the last size is repeated. `input` is the name of standard input. Faults are reported on standard error.
 pub fn scan_all<R: Runtime + AllocGlobal, F: Opener, O: Output>(
-    rt: &R,
+    console: &Console<R>,
     files: &F,
     types: Types,
     input: Option<&str>,
@@ -36,15 +37,15 @@ pub fn scan_all<R: Runtime + AllocGlobal, F: Opener, O: Output>(
         (O.written out.old) (O.written out.new) (out.new ≡ out.old) result }
     ensures writes { CountsWrites result (O.failures out.old) (O.failures out.new) }
 {
-    match read_query(rt, query) {
-        Ok(_query) => open_and_scan(rt, files, types, input, sizes, query, names, out),
+    match read_query(console, query) {
+        Ok(_query) => open_and_scan(console, files, types, input, sizes, query, names, out),
         Err(outcome) => outcome,
     }
 }
 
 /// Opens the archives of these names, and writes the pages of the query over them.
 fn open_and_scan<R: Runtime + AllocGlobal, F: Opener, O: Output>(
-    rt: &R,
+    console: &Console<R>,
     files: &F,
     types: Types,
     input: Option<&str>,
@@ -62,8 +63,8 @@ fn open_and_scan<R: Runtime + AllocGlobal, F: Opener, O: Output>(
         (O.written out.old) (O.written out.new) result) }
     ensures writes { CountsWrites result (O.failures out.old) (O.failures out.new) }
 {
-    match open_archives(rt.alloc(), files, input, names) {
-        Ok(mut archives) => scan_opened(rt, types, sizes, query, names, &mut archives, out),
+    match open_archives(console.alloc(), files, input, names) {
+        Ok(mut archives) => scan_opened(console, types, sizes, query, names, &mut archives, out),
         Err(outcome) => outcome,
     }
 }
@@ -109,7 +110,7 @@ fn push_named<I: Drop>(
 
 /// Writes the pages over archives that were opened by these arguments.
 fn scan_opened<R: Runtime + AllocGlobal, I: Input, O: Output>(
-    rt: &R,
+    console: &Console<R>,
     types: Types,
     sizes: &[u64],
     query: &str,
@@ -122,9 +123,9 @@ fn scan_opened<R: Runtime + AllocGlobal, I: Input, O: Output>(
         (O.written out.new) result }
     ensures writes { CountsWrites result (O.failures out.old) (O.failures out.new) }
 {
-    let answer = scan(rt.alloc(), archives, types, sizes, query, out);
+    let answer = scan(console.alloc(), archives, types, sizes, query, out);
     if let Err(fault) = answer {
-        say_scan_fault(rt, names, fault);
+        say_scan_fault(console, names, fault);
     }
     scan_outcome(answer)
 }

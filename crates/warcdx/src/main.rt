@@ -5,7 +5,7 @@
 
 use std::io::IsTerminal;
 use std::process::ExitCode;
-use tasks::{StandardInput, run};
+use tasks::{Program, StandardInput, run};
 
 fn main(rt: HostRuntime) -> ExitCode {
     let input = if rt.stdin().is_terminal() {
@@ -13,5 +13,5 @@ fn main(rt: HostRuntime) -> ExitCode {
     } else {
         StandardInput::Other
     };
-    ExitCode::from(run(&rt, input))
+    ExitCode::from(run(&rt, Program::Warcdx, input))
 }
