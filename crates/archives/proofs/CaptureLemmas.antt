@@ -1,6 +1,6 @@
 -- The capture of a record that begins the bytes of a plain archive, or why it has none.
 use Rattle.archives.proofs.Words.{arith, ◌≡◌, ◌∙◌, ℕ, ◌<◌, Bool, List, ◌∷◌, Option}
-use Rattle.archives.proofs.Words.{None, Some, Ok, Err, IfSome, length, drop, ap, sym}
+use Rattle.archives.proofs.Words.{None, Some, Ok, Err, IfSome, HEAD_LIMIT, length, drop, ap, inl, refl, sym}
 use Rattle.archives.proofs.Words.{drop-append_seam, Kind, HeadView, Archive, Fault}
 use Rattle.archives.proofs.Words.{Reads, after_record, next-spelled, read-spelled}
 use Rattle.archives.proofs.Words.{record-unclosed, record-whole, EntryValue, CaptureFault, Limits, record-stopped}
@@ -16,6 +16,7 @@ use Rattle.capture_core.specs.RecordReading.{IsCaptureFaultAt, reading_of}
 use Rattle.capture_core.specs.declared.fault.CaptureFault.TheVariants.{LineTooLong, KeyTooLong}
 use Rattle.archives.specs.Captures.{IsCaptureFrom, IsNext, MayBeRefused}
 use Rattle.archives.specs.Form.{plain, plain_record}
+use Rattle.archives.specs.Plain.{no_memory}
 use Rattle.archives.proofs.PlainLemmas.{plain_possible, plain_reads}
 
 -- what stands behind a head
@@ -82,3 +83,11 @@ module _ (types : Kind → Bool) (limits : Limits) (limit : ℕ) (name : List �
   refused_there start h fault None mid after at r s k = tt
   refused_there start h fault (Some bytes) mid after at r s k =
       as_refused start bytes fault at (why_there start h fault (Some bytes) mid after r s k)
+
+-- there was no memory for a reader
+pub memory_refuses : (types : Kind → Bool) (limits : Limits) (name : List ℕ) (f : Fault) → f ≡ no_memory
+    → (before : Option (List ℕ))
+    → IfSome before (λ bytes. MayBeRefused types limits (plain HEAD_LIMIT) name f.offset bytes (Archive f))
+memory_refuses types limits name f e None = tt
+memory_refuses types limits name f e (Some bytes) =
+    plain_possible HEAD_LIMIT f.offset bytes f refl (inl (ap (λ f. f.cause) e))

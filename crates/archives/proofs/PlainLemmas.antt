@@ -1,6 +1,7 @@
 -- Plain archives: what comes next in them is the record that begins the bytes.
 use Rattle.archives.proofs.Words.{◌≡◌, ℕ, ◌+◌, inl, inr, List, [], ◌∷◌, None, Some, Option}
 use Rattle.archives.proofs.Words.{Result, Ok, Err, IfSome, Cause, Fault, HeadView, Reads, Walks, ap, arith}
+use Rattle.archives.proofs.Words.{HEAD_LIMIT, after_record, record-stopped, record-unclosed}
 use Rattle.archives.proofs.Words.{length-append, map, none_at_end, read-spelled, record_length, refl, sym, ◌∙◌}
 use Rattle.warc_core.specs.HeadView.{RecordBeginsAt}
 use Rattle.warc_core.specs.Reading.{IsPossibleCause}
@@ -8,6 +9,8 @@ use Rattle.warc_core.specs.Next.{next_at}
 use Rattle.warc_core.specs.Walk.{record_at}
 use Rattle.capture_core.specs.Capture.{plain_place}
 use Rattle.archives.specs.Form.{Stored, Comes, ComesRecord, IsLawful, IsPossibleFault, StandsFrom, WalksOver}
+use Rattle.archives.specs.Plain.{no_memory}
+use Rattle.archives.specs.Walking.{ComesAt, FailsAt}
 use Rattle.archives.specs.Form.{end_of, plain, plain_next, plain_placed, plain_record}
 
 -- the heads of records
@@ -142,6 +145,13 @@ module _ (limit : ℕ) where
   plain_comes_fault offset f None after at r = tt
   plain_comes_fault offset f (Some bytes) after at r = plain_possible offset bytes f at r
 
+  pub plain_fails_at : (offset : ℕ) (f : Fault) (before after : Option (List ℕ)) → f.offset ≡ offset
+      → Reads (record_at limit offset) (Err f.cause) before after → FailsAt (plain limit) offset f before after
+  plain_fails_at offset f before after at r = record {
+    comes = plain_comes_fault offset f before after at r;
+    follows = plain_follows offset f.offset (sym at);
+  }
+
   pub plain_stands : (offset : ℕ) (h : HeadView) → RecordBeginsAt offset h
       → StandsFrom (plain limit) offset (plain_placed h)
   plain_stands offset h b = record {
@@ -149,6 +159,29 @@ module _ (limit : ℕ) where
     stands = plain_stand h (plain_place h) refl;
     filled = omega arith;
     fits = grind arith;
+  }
+
+  -- no head was read
+  pub plain_stopped : (offset : ℕ) (f : Fault) (before after : Option (List ℕ)) → f.offset ≡ offset
+      → Reads (next_at limit offset) (Err f.cause) before after → FailsAt (plain limit) offset f before after
+  plain_stopped offset f before after at r =
+      plain_fails_at offset f before after at (record-stopped limit offset before after after f.cause r)
+
+  -- a head was read, and no record with it
+  pub plain_unclosed : (offset : ℕ) (f : Fault) (h : HeadView) (before mid after : Option (List ℕ)) → f.offset ≡ offset
+      → Reads (next_at limit offset) (Ok (Some h)) before mid
+      → Reads (after_record h.parts.block_length) (Err f.cause) mid after
+      → FailsAt (plain limit) offset f before after
+  plain_unclosed offset f h before mid after at r s =
+      plain_fails_at offset f before after at (record-unclosed limit offset before mid after h f.cause r s)
+
+  pub plain_found : (offset : ℕ) (h : HeadView) {P : Stored → Type 0} (before after : Option (List ℕ))
+      → RecordBeginsAt offset h → Reads (record_at limit offset) (Ok (Some h)) before after
+      → IfSome before (λ bytes. P (plain_record h bytes))
+      → ComesAt (plain limit) offset (plain_placed h) P before after
+  plain_found offset h {P} before after b r p = record {
+    comes = plain_comes offset h P before after r p;
+    stands = plain_stands offset h b;
   }
 
   -- ---- walks
@@ -163,3 +196,13 @@ module _ (limit : ℕ) where
       let head : r.head ≡ p.0 = ap (λ x. x.head) p.2 in
       let at : end_of r.place ≡ start + record_length r.head = grind arith in
       (w.0, rw head p.1, plain_walk (start + record_length r.head) w.0 records end rest (rw (← at) w.2))
+
+-- there was no memory for a reader
+pub memory_fails : (f : Fault) → f ≡ no_memory → (before after : Option (List ℕ))
+    → FailsAt (plain HEAD_LIMIT) f.offset f before after
+memory_fails f e before after = plain_fails_at HEAD_LIMIT f.offset f before after refl (memory_reads f e before after)
+  where
+    memory_reads : (f : Fault) → f ≡ no_memory → (before after : Option (List ℕ))
+        → Reads (record_at HEAD_LIMIT f.offset) (Err f.cause) before after
+    memory_reads f e None after = tt
+    memory_reads f e (Some bytes) after = inl (ap (λ f. f.cause) e)

@@ -18,6 +18,11 @@ pub judged_met : (judge : List ℕ → Verdict) (n : ℕ) (c : Cause) (before af
 unfolding judge_record
 judged_met judge n c before after h = grind arith
 
+pub judged_read : (judge : List ℕ → Verdict) (n : ℕ) (v : Verdict) (before after : Option (List ℕ))
+    → Reads (judge_record judge n) (Ok v) before after → Reads (after_record n) (Ok tt) before after
+unfolding judge_record
+judged_read judge n v before after h = grind arith
+
 -- the verdict on a record that begins the bytes
 pub judged_verdict : (limit start : ℕ) (h : HeadView) (v : Verdict) (before mid after : Option (List ℕ))
     → Reads (next_at limit start) (Ok (Some h)) before mid

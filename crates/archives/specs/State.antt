@@ -16,5 +16,5 @@ pub record ArchiveState : Type 0 where
 
 -- nothing was read of the archive
 pub record IsUnread (s : ArchiveState) : Type 0 where
-  pub open : s.is_open ≡ true
+  pub readable : s.is_open ≡ true
   pub start : s.offset ≡ 0

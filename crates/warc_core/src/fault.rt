@@ -41,6 +41,14 @@ pub enum Cause {
     Closing,
     /// The record would end at 2^63 or above.
     TooFar,
+    /// Of a compressed archive: no member begins there.
+    NoMember,
+    /// Of a compressed archive: the member isn't one of RFC 1952, or its data isn't that of RFC 1951.
+    BadMember,
+    /// Of a compressed archive: the input ends in the member.
+    CutMember,
+    /// Of a compressed archive: the member holds more than one record.
+    SeveralRecords,
 }
 
 impl fmt::Display for Cause {
@@ -72,6 +80,10 @@ impl Cause {
             Cause::ShortBlock => "ShortBlock",
             Cause::Closing => "Closing",
             Cause::TooFar => "TooFar",
+            Cause::NoMember => "NoMember",
+            Cause::BadMember => "BadMember",
+            Cause::CutMember => "CutMember",
+            Cause::SeveralRecords => "SeveralRecords",
         }
     }
 
@@ -90,6 +102,10 @@ impl Cause {
             Cause::ShortBlock => "the block is cut off",
             Cause::Closing => "the record isn't closed",
             Cause::TooFar => "the record ends too far",
+            Cause::NoMember => "no member of gzip",
+            Cause::BadMember => "a bad member of gzip",
+            Cause::CutMember => "the member of gzip is cut off",
+            Cause::SeveralRecords => "several records in one member of gzip",
         }
     }
 }

@@ -1,11 +1,11 @@
-use Rattle.index_core.proofs.Words.{◌≡◌, HEAD_LIMIT, arith, err_from_is_err_and, record-whole, subst}
+use Rattle.archives.proofs.Words.{HEAD_LIMIT, ◌≡◌, arith, err_from_is_err_and, record-whole, subst}
 use Rattle.warc_core.proofs.WalkLemmas.{record-end}
 use Rattle.capture_core.specs.Types.{includes}
 use Rattle.capture_core.specs.CaptureAnswer.{usual_limits}
 use Rattle.capture_core.specs.RecordReading.{IsCaptureFaultAt}
-use Rattle.index_core.proofs.AddingLemmas.{capture_there, refused_there, stopped_there}
-use Rattle.index_core.proofs.PlainLemmas.{plain_comes, plain_comes_end, plain_stands}
-use Rattle.index_core.proofs.captures.next_capture.Goals as goal
+use Rattle.archives.proofs.CaptureLemmas.{capture_there, refused_there, stopped_there}
+use Rattle.archives.proofs.PlainLemmas.{plain_comes, plain_comes_end, plain_stands}
+use Rattle.archives.proofs.walk.next_capture.Goals as goal
 
 pub returns-in_err-next-clause-takes : goal.returns-in_err-next-clause-takes
 returns-in_err-next-clause-takes g c =
@@ -37,10 +37,10 @@ returns-in_ok-captured-in-Some-clause-takes g c =
     let captured = c.in_ok-captured-in-Some.captured in
     let e = c.in_ok-captured-in-Some.ensures in
     let o = c.args.reader.now.offset in
-    record {
+    rw c.placed.ensures (record {
       comes = plain_comes HEAD_LIMIT o h _ _ _ (record-whole HEAD_LIMIT o _ _ _ h n.bytes e.reads.reads.bytes)
           (capture_there (includes c.args.types) usual_limits HEAD_LIMIT c.args.name.now o h captured _ _ _ n.bytes
           e.reads.reads.bytes e.capture);
       stands = plain_stands HEAD_LIMIT o h (grind arith);
       entry = e.entry;
-    }
+    })

@@ -1,25 +1,35 @@
-use Rattle.index_core.proofs.Words.{arith, HEAD_LIMIT, err_from_is_err_and, record-stopped}
-use Rattle.index_core.proofs.Words.{record-unclosed, record-whole}
+use Rattle.archives.proofs.Words.{HEAD_LIMIT, err_from_is_err_and, record-whole, arith, ◌∙◌}
 use Rattle.warc_core.proofs.WalkLemmas.{record-end}
-use Rattle.index_core.proofs.VerdictLemmas.{judged_verdict, judged_met, judged_record}
-use Rattle.index_core.proofs.walk.next_verdict.Goals as goal
+use Rattle.archives.proofs.PlainLemmas.{plain_comes_end, plain_found, plain_stopped, plain_unclosed}
+use Rattle.archives.proofs.VerdictLemmas.{judged_met, judged_verdict, judged_read}
+use Rattle.archives.proofs.walk.next_verdict.Goals as goal
 
-pub returns-in_ok-verdict-in-Some-clause-verdict : goal.returns-in_ok-verdict-in-Some-clause-verdict
-returns-in_ok-verdict-in-Some-clause-verdict g c h v e =
+pub returns-in_err-next-clause-next : goal.returns-in_err-next-clause-next
+returns-in_err-next-clause-next g c =
+    let n = c.in_err-next.ensures.between c.requires in
+    let p = err_from_is_err_and c.from_residual.result c.from_residual.ensures.1 in
+    rw (p.1, p.2) (plain_stopped HEAD_LIMIT _ c.in_err-next.field-0.0 _ _ n.state.at n.bytes)
+
+pub returns-in_err-verdict-in-Some-clause-next : goal.returns-in_err-verdict-in-Some-clause-next
+returns-in_err-verdict-in-Some-clause-next g c =
     let n = rw c.in-Some.is at (c.in_ok-next.ensures.between c.requires) in
+    let h = c.in-Some.head in
+    let e = c.in_err-verdict-in-Some.ensures in
+    let r = c.from_residual-in_err-verdict-in-Some in
+    let p = err_from_is_err_and r.result r.ensures.1 in
+    let at = e.state.at ∙ n.state.offset_is ∙ n.begins.start_is in
+    rw (p.1, p.2) (plain_unclosed HEAD_LIMIT _ c.in_err-verdict-in-Some.field-0.0 h _ _ _ at n.bytes
+    (judged_met _ h.parts.block_length _ _ _ e.bytes))
+
+pub returns-in-None-clause-next : goal.returns-in-None-clause-next
+returns-in-None-clause-next g c = grind (arith, record-end, plain_comes_end)
+
+pub returns-in_ok-verdict-in-Some-clause-next : goal.returns-in_ok-verdict-in-Some-clause-next
+returns-in_ok-verdict-in-Some-clause-next g c =
+    let n = rw c.in-Some.is at (c.in_ok-next.ensures.between c.requires) in
+    let h = c.in-Some.head in
+    let v = c.in_ok-verdict-in-Some.verdict in
     let j = c.in_ok-verdict-in-Some.ensures in
-    let t = judged_verdict HEAD_LIMIT c.args.reader.now.offset c.in-Some.head c.in_ok-verdict-in-Some.verdict _ _ _
-    n.bytes j.bytes in
-    grind arith
-
-pub returns-in_err-next-clause-bytes : goal.returns-in_err-next-clause-bytes
-returns-in_err-next-clause-bytes g c = grind (arith, err_from_is_err_and, record-stopped)
-
-pub returns-in_err-verdict-in-Some : goal.returns-in_err-verdict-in-Some
-returns-in_err-verdict-in-Some g c = grind (arith, err_from_is_err_and, record-unclosed, judged_met)
-
-pub returns-in-None-clause-bytes : goal.returns-in-None-clause-bytes
-returns-in-None-clause-bytes g c = grind (arith, record-end)
-
-pub returns-in_ok-verdict-in-Some-clause-bytes : goal.returns-in_ok-verdict-in-Some-clause-bytes
-returns-in_ok-verdict-in-Some-clause-bytes g c = grind (arith, record-whole, judged_record)
+    let r = record-whole HEAD_LIMIT _ _ _ _ h n.bytes (judged_read _ h.parts.block_length v _ _ j.bytes) in
+    rw c.placed.ensures (plain_found HEAD_LIMIT _ h _ _ n.begins r
+    (judged_verdict HEAD_LIMIT _ h v _ _ _ n.bytes j.bytes))
