@@ -1,4 +1,4 @@
-use Rattle.index_core.proofs.Words.{◌≡◌, ◌≤◌, ◌∙◌, ◌++◌, append-nil, length-append}
+use Rattle.index_core.proofs.Words.{◌∙◌, ◌++◌, append-nil, length-append}
 use Rattle.index_core.proofs.Words.{option_to_list, append_assoc, arith}
 use Rattle.cdxj_places.proofs.RisingLaws.{each_join}
 use Rattle.cdxj_core.specs.declared.limit.TheConstants.{LINE_LIMIT}
@@ -6,7 +6,7 @@ use Rattle.capture_core.specs.Types.{includes}
 use Rattle.capture_core.specs.CaptureAnswer.{usual_limits}
 use Rattle.archives.specs.Packing.{form_of}
 use Rattle.archives.proofs.PackingLemmas.{form_lawful}
-use Rattle.index_core.proofs.AddingLemmas.{AddedSoFar-end, AddedSoFar-more, AddedSoFar-refused, no_room}
+use Rattle.index_core.proofs.AddingLemmas.{AddedSoFar-end, AddedSoFar-more, AddedSoFar-refused}
 use Rattle.index_core.proofs.ComingLemmas.{ends_behind}
 use Rattle.index_core.proofs.SoundLemmas.{before_step, sound_step}
 use Rattle.index_core.proofs.captures.add_captures.Goals as goal

@@ -1,4 +1,4 @@
-use Rattle.index_core.proofs.Words.{◌+◌, ◌∙◌, arith, err_from_is_err_and, refl}
+use Rattle.index_core.proofs.Words.{◌+◌, arith, err_from_is_err_and, refl}
 use Rattle.archives.specs.Packing.{form_of}
 use Rattle.archives.specs.Walking.{Judged}
 use Rattle.archives.proofs.PackingLemmas.{form_lawful}
