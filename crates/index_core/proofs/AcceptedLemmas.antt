@@ -6,12 +6,13 @@ use Rattle.index_core.proofs.Words.{AreCaptured, IsTaken, IsAcceptedTo}
 use Rattle.cdxj_core.specs.Entries.{line_text}
 use Rattle.capture_core.proofs.Captures.{one_capture}
 use Rattle.capture_core.specs.declared.fault.CaptureFault.TheVariants.{LineTooLong, KeyTooLong}
-use Rattle.index_core.specs.Accepted.{IsAccepted, IsAcceptedWhole, IsCaptureFrom, MayBeRefused}
-use Rattle.index_core.specs.Form.{Form, Stored, IsLawful, WalksOver, end_of, plain}
+use Rattle.archives.specs.Captures.{IsCaptureFrom, MayBeRefused}
+use Rattle.index_core.specs.Accepted.{IsAccepted, IsAcceptedWhole}
+use Rattle.archives.specs.Form.{Form, Stored, IsLawful, WalksOver, end_of, plain}
 use Rattle.index_core.specs.Laws.{AcceptedIsWhole, IsNoFaultOfArchive, OneIndexed, OneIndexedTo}
 use Rattle.index_core.specs.Laws.{WholeIsNotRefused}
-use Rattle.index_core.proofs.PlainLemmas.{plain_at, plain_lawful}
-use Rattle.index_core.proofs.RecordWalks.{not_both, one_list, same_records, walk_extends, walks_more}
+use Rattle.archives.proofs.PlainLemmas.{plain_at, plain_lawful}
+use Rattle.archives.proofs.RecordWalks.{not_both, one_list, same_records, walk_extends, walks_more}
 
 -- what holds of each holds of each behind the first of them
 pub each_behind : (A : Stored → Type 0) (records more : List Stored) → AllByRecursion A (records ++ more)

@@ -6,14 +6,14 @@ use Rattle.index_core.proofs.Words.{AreCaptured, IsTaken, IsAcceptedTo, IsFailur
 use Rattle.capture_core.specs.declared.fault.CaptureFault.TheVariants.{LineTooLong, KeyTooLong}
 use Rattle.capture_core.proofs.Captures.{one_capture}
 use Rattle.index_core.specs.Adding.{Adds}
-use Rattle.index_core.specs.Form.{Form, Stored, WalksOver, plain}
+use Rattle.archives.specs.Form.{Form, Stored, WalksOver, plain}
 use Rattle.index_core.specs.Indexing.{Held}
 use Rattle.index_core.specs.Laws.{IsNoFaultOfArchive}
 use Rattle.index_core.specs.OneText.{HasFirst, AddsOneList, AddsFirst, WritesOneIndex}
 use Rattle.index_core.specs.OneText.{WritesIndexFront}
 use Rattle.index_core.proofs.AcceptedLemmas.{all_taken, as_whole, captured_once, each_behind}
 use Rattle.index_core.proofs.AcceptedLemmas.{no_long_line, not_refused, one_accepted}
-use Rattle.index_core.proofs.RecordWalks.{GoesOnFrom, two_walks, walk_extends}
+use Rattle.archives.proofs.RecordWalks.{GoesOnFrom, two_walks, walk_extends}
 use Rattle.index_core.proofs.OneTextLemmas.{grown, has_front, found}
 use Rattle.index_core.specs.declared.fault.IndexFault.TheVariants as faults
 

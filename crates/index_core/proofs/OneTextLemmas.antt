@@ -4,15 +4,15 @@ use Rattle.index_core.proofs.Words.{Result, Ok, Err, refl, ap, sym, arith, Appen
 use Rattle.index_core.proofs.Words.{Fault, Archive, IndexFault}
 use Rattle.index_core.proofs.Words.{IsFailure, IsOfArchive}
 use Rattle.warc_core.specs.Reading.{IsPossibleCause}
-use Rattle.index_core.specs.Form.{Form, Stored, BreaksAfter, ConsistsOf, IsLawful, IsPossibleFault, WalksOver, plain}
+use Rattle.archives.specs.Form.{Form, Stored, BreaksAfter, ConsistsOf, IsLawful, IsPossibleFault, WalksOver, plain}
 use Rattle.index_core.specs.OneText.{HasFront, HasCut, HasPart, ListsOneText, ListsPart}
 use Rattle.index_core.specs.OneText.{VerifiesOneText, VerifiesPart}
 use Rattle.index_core.specs.Report.{IsNoDamage, RecordLine, IsReport, Reports, report_lines}
 use Rattle.index_core.specs.Report.{fault_line}
 use Rattle.index_core.specs.Listing.{listing_line, record_count}
 use Rattle.index_core.specs.Verifying.{verification_line, verified_in}
-use Rattle.index_core.proofs.PlainLemmas.{plain_lawful}
-use Rattle.index_core.proofs.RecordWalks.{not_both, one_fault, one_list}
+use Rattle.archives.proofs.PlainLemmas.{plain_lawful}
+use Rattle.archives.proofs.RecordWalks.{not_both, one_fault, one_list}
 use Rattle.index_core.proofs.ReportLemmas.{report_behind}
 use Rattle.index_core.specs.declared.fault.IndexFault.TheVariants as faults
 

@@ -8,10 +8,11 @@ use Rattle.capture_core.specs.declared.fault.CaptureFault.{CaptureFault}
 use Rattle.capture_core.specs.declared.fault.CaptureFault.TheVariants.{Archive, LineTooLong, KeyTooLong}
 use Rattle.capture_core.specs.CaptureAnswer.{Limits}
 use Rattle.index_core.specs.declared.fault.IndexFault.{IndexFault}
-use Rattle.index_core.specs.Accepted.{IsAccepted, IsAcceptedTo, IsAcceptedWhole, IsCaptureFrom}
+use Rattle.archives.specs.Captures.{IsCaptureFrom}
+use Rattle.index_core.specs.Accepted.{IsAccepted, IsAcceptedTo, IsAcceptedWhole}
 use Rattle.warc_core.specs.declared.fault.Fault.{Fault}
 use Rattle.warc_core.specs.Walk.{AreRecords, IsDamaged}
-use Rattle.index_core.specs.Form.{BreaksAfter, ConsistsOf, Form, Stored, plain, plain_record}
+use Rattle.archives.specs.Form.{BreaksAfter, ConsistsOf, Form, Stored, plain, plain_record}
 use Rattle.index_core.specs.Fetching.{IsRecordOf, StandsIn}
 use Rattle.index_core.specs.Report.{IsNoDamage}
 

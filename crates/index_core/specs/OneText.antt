@@ -11,7 +11,7 @@ use Rattle.index_core.specs.declared.fault.IndexFault.TheVariants as faults
 use Rattle.index_core.specs.Adding.{Adds, with_archive}
 use Rattle.index_core.specs.Fetching.{Fetches, IsMetBefore}
 use Rattle.index_core.specs.FetchingAt.{FetchesAt}
-use Rattle.index_core.specs.Form.{plain}
+use Rattle.archives.specs.Form.{plain}
 use Rattle.index_core.specs.Indexing.{Held, index_text}
 use Rattle.index_core.specs.Laws.{IsNoFaultOfArchive}
 use Rattle.index_core.specs.Listing.{Lists}
