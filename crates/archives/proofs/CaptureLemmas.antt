@@ -1,5 +1,5 @@
 -- The capture of a record that begins the bytes of a plain archive, or why it has none.
-use Rattle.archives.proofs.Words.{arith, ◌≡◌, ◌∙◌, ℕ, ◌<◌, Bool, List, ◌∷◌, Option}
+use Rattle.archives.proofs.Words.{arith, ◌≡◌, ◌∙◌, ℕ, ◌<◌, Bool, List, Option}
 use Rattle.archives.proofs.Words.{None, Some, Ok, Err, IfSome, HEAD_LIMIT, length, drop, ap, inl, refl, sym}
 use Rattle.archives.proofs.Words.{drop-append_seam, Kind, HeadView, Archive, Fault}
 use Rattle.archives.proofs.Words.{Reads, after_record, next-spelled, read-spelled}

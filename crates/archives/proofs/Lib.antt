@@ -4,3 +4,6 @@ pub mod PlainLemmas
 pub mod PackingLemmas
 pub mod VerdictLemmas
 pub mod CaptureLemmas
+pub mod MemberLengths
+pub mod PackedLemmas
+pub mod PackingLemmas

@@ -1,5 +1,5 @@
 -- The verdict on a record that begins the bytes of a plain archive.
-use Rattle.archives.proofs.Words.{◌≡◌, ℕ, List, None, Option, Some, Ok, Err, IfSome}
+use Rattle.archives.proofs.Words.{◌≡◌, ℕ, List, Option, Some, Ok, Err, IfSome}
 use Rattle.archives.proofs.Words.{take, arith, drop-append_seam, Cause, HeadView}
 use Rattle.archives.proofs.Words.{Reads, after_record, next-spelled}
 use Rattle.warc_core.specs.HeadView.{block_at}

@@ -1,5 +1,5 @@
 -- The captures of records, read one after another.
-use Rattle.std.specs.Prelude.{◌≡◌, ℕ, ◌<◌, ⊤, Bool, List, length, Option, None, Some, Result, Ok, Err, IfSome, IsSome}
+use Rattle.std.specs.Prelude.{◌≡◌, ℕ, ◌<◌, Bool, List, length, Option, None, Some, Result, Ok, Err, IfSome, IsSome}
 use Rattle.warc_core.specs.Answers.{CountsRead}
 use Rattle.warc_core.specs.Kind.{Kind}
 use Rattle.cdxj_core.specs.Entries.{EntryValue, line_text}

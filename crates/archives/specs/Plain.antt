@@ -1,5 +1,5 @@
 -- What contracts see of a plain archive.
-use Rattle.std.specs.Prelude.{◌≡◌, ℕ, Bool, true, false, ⊤, List, Option, None, Some, Result, Ok, Err}
+use Rattle.std.specs.Prelude.{ℕ, Bool, true, false, ⊤, List, Option, None, Some, Result, Ok, Err}
 use Rattle.std.specs.Io.KnownBytes.{prepend_known}
 use Rattle.warc_core.specs.declared.fault.Cause.TheVariants.{Memory}
 use Rattle.warc_core.specs.declared.fault.Fault.{Fault}
@@ -7,7 +7,7 @@ use Rattle.warc_core.specs.declared.phase.Phase.{Phase}
 use Rattle.warc_core.specs.declared.phase.Phase.TheVariants.{Between, Open, Failed}
 use Rattle.warc_core.specs.ReaderView.{ReaderView, StandsAt}
 use Rattle.archives.specs.Form.{Placed, end_of}
-use Rattle.archives.specs.Packing.{Packing, Plain}
+use Rattle.archives.specs.Packing.{Plain}
 use Rattle.archives.specs.State.{ArchiveState}
 
 -- there was no memory for the reader
