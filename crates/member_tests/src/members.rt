@@ -1,8 +1,9 @@
 //! Members of a few bytes.
 use devices::{Fuse, Input, Slice};
 use fixtures::{Refused, cut, joined};
-use gzip_members::{MemberFault, Members};
+use gzip_members::{MemberFault, MemberText, Members};
 use std::alloc::Global;
+use std::marker::Brand;
 
 /// A member of the text `hello hello hello`, with fixed codes and a copy.
 const HELLO: &[u8] = &[
@@ -117,5 +118,23 @@ fn a_failed_read_is_told_once(rt: HostRuntime) -> Result<(), Refused> {
     for at in 1..8 {
         assert!(rt; tells_failure(rt.alloc(), at)?, "{at}");
     }
+    Ok(())
+}
+
+/// Returns `true` if these bytes are next, once this many were skipped.
+fn has_behind<I: Input>(input: &mut I, count: u64, text: &[u8; 5]) -> bool {
+    let mut piece = [0; 5];
+    input.skip(count) == Ok(count) && input.read(&mut piece) == Ok(5) && piece == *text
+}
+
+#[test]
+fn the_text_of_a_member_is_an_input(rt: HostRuntime) -> Result<(), Refused> {
+    let mut members = Members::new(rt.alloc(), Slice::new(HELLO))?;
+    assert!(rt; begins(&mut members, true));
+    let mut text: MemberText<Slice<'_>, Brand> = MemberText::new(members);
+    assert!(rt; has_behind(&mut text, 2, b"llo h"));
+    let mut rest = text.into_members();
+    assert!(rt; gives(&mut rest, b"ello hello"));
+    assert!(rt; ends(&mut rest, false) && begins(&mut rest, false));
     Ok(())
 }
