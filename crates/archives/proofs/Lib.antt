@@ -6,4 +6,3 @@ pub mod VerdictLemmas
 pub mod CaptureLemmas
 pub mod MemberLengths
 pub mod PackedLemmas
-pub mod PackingLemmas
