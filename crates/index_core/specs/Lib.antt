@@ -7,6 +7,7 @@ pub mod Adding
 pub mod FaultNames
 pub mod Fetching
 pub mod FetchingAt
+pub mod FetchingIn
 pub mod Copying
 pub mod Counting
 pub mod Laws

@@ -7,6 +7,7 @@
 mod captures;
 mod copying;
 mod fault;
+mod fetch;
 mod fetching;
 mod index_lines;
 mod indexer;
@@ -20,6 +21,7 @@ mod walk;
 mod writing;
 
 pub use crate::fault::IndexFault;
+pub use crate::fetch::Fetch;
 pub use crate::fetching::{get, get_at};
 pub use crate::indexer::Indexer;
 pub use crate::laws::{
