@@ -10,7 +10,8 @@ use Rattle.tasks.specs.Checks.{ChecksIndexes}
 use Rattle.tasks.specs.Fetching.{WritesRecord}
 use Rattle.tasks.specs.Indexing.{IndexesArchives}
 use Rattle.tasks.specs.Merging.{MergesIndexes}
-use Rattle.tasks.specs.Opening.{IsUnopened, AreUnopenedIndexes, OpensFirst}
+use Rattle.tasks.specs.Opening.{IsUnopened, AreUnopenedIndexes, OpensFirst, WithTold}
+use Rattle.archives.specs.State.{ToldArchive}
 use Rattle.tasks.specs.Queries.{AnswersLines, AnswersPages, AnswersQuery, ReadsFirst}
 use Rattle.tasks.specs.Reports.{ReportsOn}
 use Rattle.tasks.specs.Scanning.{ScansNamed}
@@ -51,10 +52,10 @@ module _ (files : Openings) (before after : Option (List ℕ)) (unchanged : Type
   Performs (ToScan types input sizes text names) = ScansNamed files.TellsArchive files.ArchiveFailed (includes types) input
       sizes text names before after unchanged outcome
 
--- the files of the system, of which nothing is told
-abbrev pub system_files : Openings
-system_files = record {
-  TellsArchive = λ _. IsUntold;
+-- the files of the system, of which nothing is told but how archives may be
+abbrev pub system_files : (ToldArchive → Type 0) → Openings
+system_files MayBe = record {
+  TellsArchive = λ _. MayBe;
   index_of = λ _. None;
   ArchiveFailed = λ _. ⊤;
   IndexFailed = λ _. ⊤;
@@ -62,7 +63,7 @@ system_files = record {
 }
 
 -- a task ended as done over the files of the system: what it then writes was written to an output
-pub record IsDone (task : Meaning) : Type 0 where
+pub record IsDone (MayBe : ToldArchive → Type 0) (task : Meaning) : Type 0 where
   pub before : Option (List ℕ)
   pub after : Option (List ℕ)
-  pub performs : Performs system_files before after ⊤ outcomes.Done task
+  pub performs : Performs (system_files MayBe) before after ⊤ outcomes.Done task

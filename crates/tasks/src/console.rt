@@ -1,25 +1,7 @@
 //! The streams of the process, under the name of the program that uses them.
+use command_line::Program;
 use std::alloc::Global;
 use std::rt::Runtime;
-
-/// A program that performs these tasks.
-#[derive(Clone, Copy, Debug, PartialEq, Eq)]
-pub enum Program {
-    /// `warcdx`, whose archives are plain.
-    Warcdx,
-    /// `warcdx-gz`, whose archives may be compressed.
-    WarcdxGz,
-}
-
-impl Program {
-    /// Returns the program's name, as messages begin with it.
-    pub fn name(self) -> &'static str {
-        match self {
-            Program::Warcdx => "warcdx",
-            Program::WarcdxGz => "warcdx-gz",
-        }
-    }
-}
 
 /// The process, and the program that it runs.
 pub struct Console<'a, R> {

@@ -2,6 +2,7 @@
 ghost use Rattle.std.specs.Prelude.{◌≡◌};
 ghost use Rattle.command_line.specs.Commands.{asked, view};
 ghost use Rattle.command_line.specs.Words.{texts};
+ghost use Rattle.tasks.specs.Opening.{IsPlainUntold};
 ghost use Rattle.tasks.specs.Outcome.{IsHelpOutcome};
 ghost use Rattle.tasks.specs.Performing.{IsDone, Performs};
 ghost use Rattle.tasks.specs.Words.{EndsAsDone, EndsWords};
@@ -9,22 +10,22 @@ ghost use Rattle.tasks.specs.Writes.{CountsWrites};
 
 use crate::advice::end_advice;
 use crate::checks::check_all;
-use crate::console::{Console, Program};
+use crate::console::Console;
 use crate::conversing::serve_all;
 use crate::exit_status::status;
 use crate::faults::say_advice;
 use crate::fetching::fetch;
 use crate::indexing::index_all;
 use crate::merging::merge_all;
-use crate::opening::{Opener, System};
+use crate::opening::{ArchiveOver, Opener, System, SystemInput};
 use crate::outcome::{Outcome, flushed_outcome, message};
 use crate::queries::{answer_query, write_pages};
 use crate::reports::{ArchiveReport, report_on};
 use crate::scanning::scan_all;
 use crate::standard_input::StandardInput;
-use command_line::{Task, WordsFault, read_words};
+use command_line::{Program, Task, WordsFault, read_words};
 use devices::Prompt;
-use index_core::IndexFault;
+use index_core::{IndexFault, PlainArchive};
 use query_core::AnswerFault;
 use std::env::{self, Env, FillError};
 use std::io::{self, BufWriter, ErrorKind, Write};
@@ -39,18 +40,31 @@ const OUTPUT_ROOM: usize = 65_536;
 // The bytes of an argument that are looked at: Linux has no longer file names.
 const ARGUMENT_ROOM: usize = 4_096;
 
-/// Runs the program, and returns its exit status. Of 0 the contract says only that some arguments can end as done. They
+/// Runs `warcdx`, and returns its exit status. Of 0 the contract says only that some arguments can end as done. They
 /// needn't be those of the process, and `--help` is such. So it binds no status: tests compare the statuses of tasks.
-#[tactic(auto, unfolding(crate::specs::Outcome::exit_status_of))]
-pub fn run<R: Runtime + AllocGlobal>(rt: &R, program: Program, input: StandardInput) -> u8
-    ensures { result ≡ 0 → EndsAsDone }
+pub fn run_warcdx<R: Runtime + AllocGlobal>(rt: &R, input: StandardInput) -> u8
+    ensures { result ≡ 0 → EndsAsDone IsPlainUntold }
 {
-    status(&run_arguments(&Console::new(rt, program), input))
+    run::<R, PlainArchive<SystemInput<R>>>(&Console::new(rt, Program::Warcdx), input)
+}
+
+/// Runs a program with archives of this type, and returns its exit status.
+#[tactic(auto, unfolding(crate::specs::Outcome::exit_status_of))]
+fn run<R: Runtime + AllocGlobal, A: ArchiveOver<SystemInput<R>>>(
+    console: &Console<R>,
+    input: StandardInput,
+) -> u8
+    ensures { result ≡ 0 → EndsAsDone A.may_be }
+{
+    status(&run_arguments::<R, A>(console, input))
 }
 
 /// Runs the program, and returns its outcome.
-fn run_arguments<R: Runtime + AllocGlobal>(console: &Console<R>, input: StandardInput) -> Outcome
-    ensures { result ≡ Outcome.Done → EndsAsDone }
+fn run_arguments<R: Runtime + AllocGlobal, A: ArchiveOver<SystemInput<R>>>(
+    console: &Console<R>,
+    input: StandardInput,
+) -> Outcome
+    ensures { result ≡ Outcome.Done → EndsAsDone A.may_be }
 {
     match words(console.rt) {
         Ok(words) => {
@@ -60,7 +74,7 @@ fn run_arguments<R: Runtime + AllocGlobal>(console: &Console<R>, input: Standard
                     "{program}: reading a WARC file from the terminal; see '{program} --help'"
                 );
             }
-            run_words(console, &words)
+            run_words::<R, A>(console, &words)
         }
         Err(error) if error.kind() == ErrorKind::OutOfMemory => say_outcome(console, MEMORY),
         Err(_error) => {
@@ -102,11 +116,14 @@ fn words<R: Runtime + AllocGlobal>(rt: &R) -> io::Result<Vec<String>> {
     Ok(env::args(rt)?.skip(1).collect(rt.alloc())?)
 }
 
-fn run_words<R: Runtime + AllocGlobal>(console: &Console<R>, words: &[String]) -> Outcome
-    ensures { EndsWords (asked (texts words.now)) result }
+fn run_words<R: Runtime + AllocGlobal, A: ArchiveOver<SystemInput<R>>>(
+    console: &Console<R>,
+    words: &[String],
+) -> Outcome
+    ensures { EndsWords A.may_be (asked (texts words.now)) result }
 {
-    match read_words(console.alloc(), words) {
-        Ok(task) => run_task(console, &task),
+    match read_words(console.alloc(), console.program, words) {
+        Ok(task) => run_task::<R, A>(console, &task),
         Err(WordsFault::Memory) => say_outcome(console, MEMORY),
         Err(WordsFault::Help(text)) => help(console, &text),
         Err(WordsFault::Usage(text)) => {
@@ -140,15 +157,18 @@ fn help<R: Runtime>(console: &Console<R>, text: &str) -> Outcome
 }
 
 /// Performs the task. Its output is standard output.
-fn run_task<R: Runtime + AllocGlobal>(console: &Console<R>, task: &Task) -> Outcome
-    ensures { result ≡ Outcome.Done → IsDone (view task.now) }
+fn run_task<R: Runtime + AllocGlobal, A: ArchiveOver<SystemInput<R>>>(
+    console: &Console<R>,
+    task: &Task,
+) -> Outcome
+    ensures { result ≡ Outcome.Done → IsDone A.may_be (view task.now) }
 {
     let Ok(mut writer) = BufWriter::with_capacity(console.alloc(), OUTPUT_ROOM, io::writer(console.rt)) else {
         return say_outcome(console, MEMORY);
     };
     let outcome = match task {
-        Task::Serve(_names) => perform_on_system(console, task, &mut Prompt::new(&mut writer)),
-        _ => perform_on_system(console, task, &mut FromWrite::new(&mut writer)),
+        Task::Serve(_names) => perform_on_system::<R, A, _>(console, task, &mut Prompt::new(&mut writer)),
+        _ => perform_on_system::<R, A, _>(console, task, &mut FromWrite::new(&mut writer)),
     };
     let flushed = writer.flush();
     let outcome = say_outcome(console, flushed_outcome(outcome, flushed.is_ok()));
@@ -171,14 +191,15 @@ fn say_reason<R: Runtime>(console: &Console<R>, outcome: Outcome, reason: &io::E
 }
 
 /// Performs the task over the files of the system, with this output.
-fn perform_on_system<R: Runtime + AllocGlobal, O: Output>(
+fn perform_on_system<R: Runtime + AllocGlobal, A: ArchiveOver<SystemInput<R>>, O: Output>(
     console: &Console<R>,
     task: &Task,
     out: &mut O,
 ) -> Outcome
-    ensures { result ≡ Outcome.Done → IsDone (view task.now) }
+    ensures { result ≡ Outcome.Done → IsDone A.may_be (view task.now) }
 {
-    perform(console, &System::new(console), task, out)
+    let files: System<R, A> = System::new(console);
+    perform(console, &files, task, out)
 }
 
 /// Performs the task with this output.
@@ -190,7 +211,7 @@ pub fn perform<R: Runtime + AllocGlobal, F: Opener, O: Output>(
     out: &mut O,
 ) -> Outcome
     ensures performs { Performs (record {
-      archive_of = F.archive_bytes files.now;
+      TellsArchive = F.tells_archive files.now;
       index_of = F.index_bytes files.now;
       ArchiveFailed = F.archive_failed files.now;
       IndexFailed = F.index_failed files.now;
