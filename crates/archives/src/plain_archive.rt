@@ -42,6 +42,13 @@ impl<I: Input> PlainArchive<I> {
             input,
         }
     }
+
+    /// Returns the input. Some of its bytes may be held by the archive.
+    pub fn input(&self) -> &I
+        ensures { result.now ≡ self.now.input }
+    {
+        &self.input
+    }
 }
 
 impl<I: Input> Archive for PlainArchive<I> {
