@@ -5,3 +5,4 @@ pub mod VerdictLemmas
 pub mod CaptureLemmas
 pub mod MemberLengths
 pub mod PackedLemmas
+pub mod PackingLemmas
