@@ -68,8 +68,9 @@ impl Indexer {
         }
     }
 
-    /// Adds the captures of the records of the indexer's types of an archive of which nothing was
-    /// read, under the archive's name, of 1 to 255 bytes. Returns the number of captures added.
+    /// Adds the captures of an archive's records of the indexer's types under the archive's name,
+    /// of 1 to 255 bytes. Nothing was read of the archive before. Returns the number of captures
+    /// added.
     ///
     /// Errors are `BadName`, `DuplicateName` for a name that an earlier call has kept, and `Memory`
     /// if the name can't be kept. After these, nothing was read and nothing has changed. Any other

@@ -12,9 +12,9 @@ use crate::writing::{put_fault, put_line};
 use archives::Archive;
 use warc_core::Output;
 
-/// Writes a line `OFFSET LENGTH KIND` for each whole record of an archive of which nothing was
-/// read, and a last line `fault OFFSET CAUSE` if it can't be read to its end. Returns the number of
-/// whole records.
+/// Writes a line `OFFSET LENGTH KIND` for each whole record of the archive, and a last line `fault
+/// OFFSET CAUSE` if the archive can't be read to its end. Nothing was read of the archive before.
+/// Returns the number of whole records.
 ///
 /// Errors are the archive's fault, `Memory` and `Read` included, after its line was written, and
 /// `Write` at the output's first failure.

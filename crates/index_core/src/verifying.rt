@@ -14,10 +14,10 @@ use archives::Archive;
 use capture_core::Verdict;
 use warc_core::Output;
 
-/// Writes a line `OFFSET VERDICT` for each whole record of an archive of which nothing was read,
-/// and a last line `fault OFFSET CAUSE` if it can't be read to its end. The verdict on a block is
-/// `same`, `differs`, `not-sha1` or `absent`, by the digest that its record gives. Returns the
-/// number of whole records, and the number of those that differ.
+/// Writes a line `OFFSET VERDICT` for each whole record of the archive, and a last line `fault
+/// OFFSET CAUSE` if the archive can't be read to its end. Nothing was read of the archive before.
+/// The verdict on a block is `same`, `differs`, `not-sha1` or `absent`, by the digest that its
+/// record gives. Returns the number of whole records, and the number of those that differ.
 ///
 /// Errors are the archive's fault, `Memory` and `Read` included, after its line was written, and
 /// `Write` at the output's first failure.
