@@ -18,13 +18,13 @@ pub trait Fetch: Archive {
     /// Errors are `NoRecord` if no record begins there; the archive's fault there, or of a plain
     /// archive before it; and `Write` at the output's first failure.
     fn get<O: Output>(&mut self, offset: u64, out: &mut O) -> Result<u64, IndexFault>
-        requires { IsUnread (state self.old) }
-        ensures fetches { FetchesIn (state self.old).packing None offset (state self.old).ahead
+        requires { IsUnread (Self.state self.old) }
+        ensures fetches { FetchesIn (Self.state self.old).packing None offset (Self.state self.old).ahead
             result (O.written out.old) (O.written out.new) }
         ensures refusals { IfErr result IsFetchFault }
-        ensures unwritten { IfErr result (λ fault. IsUnwrittenBy (state self.old).packing None
+        ensures unwritten { IfErr result (λ fault. IsUnwrittenBy (Self.state self.old).packing None
             offset fault → out.new ≡ out.old) }
-        ensures reads { CountsIndex result (state self.old).failures (state self.new).failures }
+        ensures reads { CountsIndex result (Self.state self.old).failures (Self.state self.new).failures }
         ensures writes { CountsIndexWrite result (O.failures out.old) (O.failures out.new) };
 
     /// The same of the record of `length` bytes, or whose member has as many. What precedes the
@@ -35,12 +35,12 @@ pub trait Fetch: Archive {
         length: u64,
         out: &mut O,
     ) -> Result<u64, IndexFault>
-        requires { IsUnread (state self.old) }
-        ensures fetches { FetchesIn (state self.old).packing (Some length) offset
-            (state self.old).ahead result (O.written out.old) (O.written out.new) }
+        requires { IsUnread (Self.state self.old) }
+        ensures fetches { FetchesIn (Self.state self.old).packing (Some length) offset
+            (Self.state self.old).ahead result (O.written out.old) (O.written out.new) }
         ensures refusals { IfErr result IsFetchFault }
-        ensures unwritten { IfErr result (λ fault. IsUnwrittenBy (state self.old).packing
+        ensures unwritten { IfErr result (λ fault. IsUnwrittenBy (Self.state self.old).packing
             (Some length) offset fault → out.new ≡ out.old) }
-        ensures reads { CountsIndex result (state self.old).failures (state self.new).failures }
+        ensures reads { CountsIndex result (Self.state self.old).failures (Self.state self.new).failures }
         ensures writes { CountsIndexWrite result (O.failures out.old) (O.failures out.new) };
 }

@@ -10,7 +10,7 @@ use door_examples::records::{count_records, first_head};
 use door_examples::scans::{in_memory, write_pages};
 use door_examples::shelf::{Shelf, perform_on_shelf};
 use fixtures::{LETTERS, OFFSET_5, OFFSET_10, RESPONSE, RESPONSE_LINE};
-use index_core::IndexFault;
+use index_core::{IndexFault, PlainArchive};
 use query_core::{Query, Report, SliceSource};
 use std::alloc::{AllocError, Global};
 use std::test::Fail;
@@ -107,7 +107,8 @@ fn a_capture_has_a_line(rt: HostRuntime) -> Result<(), Fail> {
 #[test]
 fn an_archive_has_an_index(rt: HostRuntime) -> Result<(), IndexFault> {
     let mut out = Gather::new(rt.alloc());
-    let lines = write_index(rt.alloc(), "b.warc", &mut Slice::new(RESPONSE), &mut out)?;
+    let mut archive = PlainArchive::new(rt.alloc(), Slice::new(RESPONSE));
+    let lines = write_index(rt.alloc(), "b.warc", &mut archive, &mut out)?;
     assert!(rt; lines == 1);
     assert!(rt; out.bytes() == RESPONSE_LINE);
     Ok(())
