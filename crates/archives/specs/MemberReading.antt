@@ -12,7 +12,7 @@ use Rattle.warc_core.specs.declared.fault.Cause.{Cause}
 use Rattle.warc_core.specs.declared.fault.Cause.TheVariants as causes
 use Rattle.warc_core.specs.declared.fault.Fault.{Fault}
 use Rattle.warc_core.specs.declared.next.TheConstants.{HEAD_LIMIT}
-use Rattle.warc_core.specs.Answers.{CountsRead, causes_of}
+use Rattle.warc_core.specs.Answers.{CountsRead}
 use Rattle.warc_core.specs.HeadView.{HeadView}
 use Rattle.warc_core.specs.Next.{next_at}
 use Rattle.warc_core.specs.Reading.{IsPossibleCause, Reads}
@@ -75,16 +75,24 @@ closed_by (Ok true) holds (Ok (text, behind)) =
     if holds || nat_lt 0 (length text) then Err causes.SeveralRecords else Ok behind
 
 -- that was answered, and these bytes are ahead
-abbrev pub ClosesTo : {A : Type 0} → Result (List ℕ) Cause → Result A Fault → Option (List ℕ) → Type 0
+abbrev pub ClosesTo : {A : Type 0} → Result (List ℕ) Cause → Result A Cause → Option (List ℕ) → Type 0
 ClosesTo closed (Ok x) None = ⊥
 ClosesTo closed (Ok x) (Some rest) = closed ≡ Ok rest
-ClosesTo closed (Err f) after = IsPossibleCause f.cause closed
+ClosesTo closed (Err c) after = IsPossibleCause c closed
+
+-- whether text was left, at the end of a member of which this was left
+abbrev pub EndsTo : Left → Result Bool Cause → Option (List ℕ) → Type 0
+EndsTo (Ok (text, behind)) (Ok had) ahead = (had ≡ nat_lt 0 (length text)) × (ahead ≡ Some behind)
+EndsTo (Ok (text, behind)) (Err c) ahead = (c ≡ causes.Memory) ⊎ (c ≡ causes.Read)
+EndsTo (Err fault) (Ok had) ahead = ⊥
+EndsTo (Err fault) (Err c) ahead =
+    (c ≡ causes.Memory) ⊎ ((c ≡ causes.Read) ⊎ (c ≡ member_cause (member_fault fault)))
 
 -- a failure of the input that ended the reading of the text was counted there
-abbrev pub CountsClosing : {A : Type 0} → Result Bool Cause → Result A Fault → ℕ → ℕ → Type 0
-CountsClosing (Ok b) r old new = CountsRead (causes_of r) old new
-CountsClosing (Err causes.Read) r old new = (causes_of r ≡ Err causes.Read) × (new ≡ old)
-CountsClosing (Err c) r old new = CountsRead (causes_of r) old new
+abbrev pub CountsClosing : {A : Type 0} → Result Bool Cause → Result A Cause → ℕ → ℕ → Type 0
+CountsClosing (Ok b) r old new = CountsRead r old new
+CountsClosing (Err causes.Read) r old new = (r ≡ Err causes.Read) × (new ≡ old)
+CountsClosing (Err c) r old new = CountsRead r old new
 
 -- ---- a record was begun in a member
 

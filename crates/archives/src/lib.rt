@@ -5,6 +5,7 @@
 
 mod archive;
 mod placed_record;
+mod member_bounds;
 mod member_reading;
 mod plain_archive;
 mod walk;
