@@ -7,3 +7,4 @@ pub mod MemberLengths
 pub mod PackedLemmas
 pub mod PackingLemmas
 pub mod MemberLemmas
+pub mod OpeningLemmas

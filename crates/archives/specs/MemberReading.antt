@@ -1,5 +1,5 @@
 -- What is known of a compressed archive while the members are read.
-use Rattle.std.specs.Prelude.{◌≡◌, ◌⊎◌, ◌||◌, ℕ, ◌+◌, ◌-◌, ◌^◌, ◌≤◌, ⊤, nat_lt, Bool, true, false, List, [], length}
+use Rattle.std.specs.Prelude.{◌≡◌, ◌⊎◌, ◌||◌, ℕ, ◌+◌, ◌-◌, ◌^◌, ◌<◌, ◌≤◌, ⊤, nat_lt, Bool, true, false, List, [], length}
 use Rattle.std.specs.Prelude.{Option, None, Some, option_map, Result, Ok, Err, if◌then◌else◌}
 use Rattle.deflate_bits.specs.declared.fault.DeflateFault.{DeflateFault}
 use Rattle.gzip_members.specs.declared.members.Members.{Members}
@@ -13,11 +13,14 @@ use Rattle.warc_core.specs.declared.fault.Cause.TheVariants as causes
 use Rattle.warc_core.specs.declared.fault.Fault.{Fault}
 use Rattle.warc_core.specs.declared.next.TheConstants.{HEAD_LIMIT}
 use Rattle.warc_core.specs.Answers.{CountsRead}
-use Rattle.warc_core.specs.HeadView.{HeadView}
+use Rattle.warc_core.specs.HeadView.{HeadView, RecordBeginsAt}
 use Rattle.warc_core.specs.Next.{next_at}
 use Rattle.warc_core.specs.Reading.{IsPossibleCause, Reads}
-use Rattle.warc_core.specs.ReaderView.{ReaderState, ReaderView}
-use Rattle.archives.specs.Form.{Form, IsPossibleFault}
+use Rattle.warc_core.specs.ReaderView.{IsUnread, ReaderState, ReaderView}
+use Rattle.archives.specs.declared.member_opening.Opening.{Opening}
+use Rattle.archives.specs.declared.member_opening.Opening.TheVariants.{Empty, End, Record}
+use Rattle.archives.specs.declared.member_opening.OpenRecord.{OpenRecord}
+use Rattle.archives.specs.Form.{Comes, IsPossibleFault}
 use Rattle.archives.specs.Packed.{member_cause, packed}
 
 -- what is left of a member: text and the bytes behind it, or its fault
@@ -105,3 +108,38 @@ pub record HoldsHead (start : ℕ) (bytes : List ℕ) (h : HeadView) (left : Opt
   pub behind : option_map behind_of left ≡ Some (behind_of (member_in bytes))
   pub counted : total_of new ≡ Some (start + length bytes)
   pub reads : Reads (next_at HEAD_LIMIT 0) (Ok (Some h)) (text_of (Some (member_in bytes))) ahead
+
+-- what stands at the front of the member that begins these bytes; one without text was read to its end
+abbrev pub OpensMember : ℕ → List ℕ → Result Opening Fault → Option Left → Taken → Option (List ℕ) → Type 0
+OpensMember start bytes (Ok (Record h)) left new ahead = HoldsHead start bytes h left new ahead
+OpensMember start bytes (Ok Empty) left new ahead = (behind : List ℕ) × (file_ahead new ≡ Some behind)
+    × ((packed HEAD_LIMIT).next start bytes ≡ (packed HEAD_LIMIT).next new.passed behind)
+OpensMember start bytes (Ok End) left new ahead = (bytes ≡ []) × (file_ahead new ≡ Some [])
+OpensMember start bytes (Err f) left new ahead = IsPossibleFault (packed HEAD_LIMIT) start bytes f
+
+-- the head is the reader's last, at the front of a text
+pub record OpensHead (new : ReaderView) (h : HeadView) : Type 0 where
+  pub unread : IsUnread new h
+  pub begins : RecordBeginsAt 0 h
+
+-- if there is a head, the reader has it
+abbrev pub IfHead : Result Opening Fault → (HeadView → Type 0) → Type 0
+IfHead (Ok (Record h)) P = P h
+IfHead (Ok Empty) P = ⊤
+IfHead (Ok End) P = ⊤
+IfHead (Err f) P = ⊤
+
+-- where the first record stands from an offset on; members without text were passed over
+abbrev pub OpensRecord : ℕ → List ℕ → Result (Option OpenRecord) Fault → Option Left → Taken → Option (List ℕ) → Type 0
+OpensRecord offset bytes (Ok None) left new ahead =
+    Comes (packed HEAD_LIMIT) offset (Ok None) (Some bytes) (file_ahead new)
+OpensRecord offset bytes (Ok (Some r)) left new ahead = (later : List ℕ)
+    × ((packed HEAD_LIMIT).next offset bytes ≡ (packed HEAD_LIMIT).next r.start later)
+    × HoldsHead r.start later r.head left new ahead
+OpensRecord offset bytes (Err f) left new ahead = IsPossibleFault (packed HEAD_LIMIT) offset bytes f
+
+-- of a file that may not be known: a record from an offset on, some of whose member was taken
+pub record StandsOpen (offset : ℕ) (r : OpenRecord) (passed : ℕ) (new : ReaderView) : Type 0 where
+  pub follows : offset ≤ r.start
+  pub further : r.start < passed
+  pub opens : OpensHead new r.head

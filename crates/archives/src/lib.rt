@@ -6,6 +6,7 @@
 mod archive;
 mod placed_record;
 mod member_bounds;
+mod member_opening;
 mod member_reading;
 mod plain_archive;
 mod walk;

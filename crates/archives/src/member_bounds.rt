@@ -64,7 +64,7 @@ fn end<I: Input>(members: &mut Members<I>) -> Result<bool, Cause>
 ///
 /// The member's own fault comes first, then this cause, and then `SeveralRecords` for text behind a
 /// record. After `Memory` or `Read`, nothing is read.
-fn close<I: Input>(
+pub fn close<I: Input>(
     members: &mut Members<I>,
     found: Result<bool, Cause>,
     holds: bool,
