@@ -8,3 +8,4 @@ pub mod PackedLemmas
 pub mod PackingLemmas
 pub mod MemberLemmas
 pub mod OpeningLemmas
+pub mod WalkingLemmas

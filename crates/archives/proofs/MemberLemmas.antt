@@ -1,11 +1,10 @@
 -- Where members of a compressed archive begin and end.
-use Rattle.archives.proofs.Words.{◌≡◌, ◌⊎◌, ℕ, ◌+◌, ◌-◌, ◌^◌, ◌<◌, ◌≤◌, Bool, List, [], ◌∷◌, ◌++◌, None, Some}
+use Rattle.archives.proofs.Words.{◌≡◌, ℕ, ◌+◌, ◌-◌, ◌^◌, ◌≤◌, Bool, List, [], ◌∷◌, None, Some}
 use Rattle.archives.proofs.Words.{Option, Result}
-use Rattle.archives.proofs.Words.{Ok, Err, IfSome, Cause, Fault, HEAD_LIMIT, HeadView, arith, ap, inl, inr}
-use Rattle.archives.proofs.Words.{length, refl, sym, ◌∙◌}
+use Rattle.archives.proofs.Words.{Ok, Err, IfSome, HEAD_LIMIT, arith, ap, inl, inr}
+use Rattle.archives.proofs.Words.{length, refl, ◌∙◌}
 use Rattle.std.proofs.Common.{true, false, nat_lt, option_map, subst}
 use Rattle.std.specs.Bool.{if◌then◌else◌}
-use Rattle.std.specs.Prelude.{◌||◌}
 use Rattle.std.proofs.lemmas.Bool.{le-ltb}
 use Rattle.deflate_bits.specs.declared.fault.DeflateFault.{DeflateFault}
 use Rattle.deflate_bits.specs.declared.fault.DeflateFault.TheVariants as deflate
@@ -14,15 +13,13 @@ use Rattle.gzip_members.specs.declared.fault.MemberFault.TheVariants as faults
 use Rattle.gzip_members.specs.Faults.{member_fault}
 use Rattle.gzip_members.specs.Left.{BeginsMember, EndsMember, RefusesMember}
 use Rattle.gzip_members.specs.Members.{member_in}
-use Rattle.gzip_members.specs.Reading.{CountsMember, Moves, Taken, total_of}
-use Rattle.gzip_members.specs.Starts.{begins_member}
+use Rattle.gzip_members.specs.Reading.{Moves, Taken, total_of}
 use Rattle.warc_core.specs.declared.fault.Cause.TheVariants as causes
-use Rattle.warc_core.specs.Answers.{CountsRead, causes_of}
 use Rattle.archives.specs.Form.{IsPossibleFault}
 use Rattle.archives.specs.Packed.{held_in, member_cause, member_holds, packed}
-use Rattle.archives.specs.MemberReading.{Left, closed_by, file_ahead, within_file, ClosesTo, CountsClosing}
+use Rattle.archives.specs.MemberReading.{Left, file_ahead, within_file}
 use Rattle.archives.specs.MemberReading.{EndsTo, StartsMember}
-use Rattle.archives.proofs.PackedLemmas.{packed_begins_none, packed_ends, packed_fails, packed_follows}
+use Rattle.archives.proofs.PackedLemmas.{packed_begins_none, packed_fails, packed_follows}
 
 -- what holds of each value holds of the known one
 pub some_known : {A : Type 0} (o : Option A) {P : A → Type 0} → ((x : A) → o ≡ Some x → P x) → IfSome o P
@@ -88,7 +85,7 @@ starts_fault start bytes faults.NoMember left s = (
 starts_fault start bytes faults.Bad left s = (
   packed_follows HEAD_LIMIT start start (omega arith),
   inr (inr (packed_fails HEAD_LIMIT start bytes causes.BadMember s.0
-  (holds_fault HEAD_LIMIT bytes deflate.Bad s.1))),
+      (holds_fault HEAD_LIMIT bytes deflate.Bad s.1))),
 )
 starts_fault start bytes faults.Cut left (inl s) = (
   packed_follows HEAD_LIMIT start start (omega arith),
@@ -97,7 +94,7 @@ starts_fault start bytes faults.Cut left (inl s) = (
 starts_fault start bytes faults.Cut left (inr s) = (
   packed_follows HEAD_LIMIT start start (omega arith),
   inr (inr (packed_fails HEAD_LIMIT start bytes causes.CutMember s.0
-  (holds_fault HEAD_LIMIT bytes deflate.Cut s.1))),
+      (holds_fault HEAD_LIMIT bytes deflate.Cut s.1))),
 )
 starts_fault start bytes faults.TooFar left s = absurd s
 starts_fault start bytes faults.TooLong left s = absurd s

@@ -3,7 +3,7 @@ use Rattle.archives.proofs.Words.{◌≡◌, ◌⊎◌, ℕ, ◌+◌, ◌-◌, �
 use Rattle.archives.proofs.Words.{Option, Result}
 use Rattle.archives.proofs.Words.{Ok, Err, IfSome, Cause, Fault, HEAD_LIMIT, HeadView, Reads, arith, ap, inl}
 use Rattle.archives.proofs.Words.{inr, length, refl, sym, ◌∙◌}
-use Rattle.archives.proofs.Words.{append-nil, prepend_known, record-stopped}
+use Rattle.archives.proofs.Words.{prepend_known, record-stopped}
 use Rattle.std.proofs.Common.{IfErr, IfOk, true, false, nat_lt, option_map, subst}
 use Rattle.std.specs.Bool.{if◌then◌else◌}
 use Rattle.std.proofs.lemmas.Bool.{lt-ltb}
@@ -24,7 +24,7 @@ use Rattle.archives.specs.declared.member_opening.Opening.{Opening}
 use Rattle.archives.specs.declared.member_opening.Opening.TheVariants.{Empty, End, Record}
 use Rattle.archives.specs.Form.{IsPossibleFault}
 use Rattle.archives.specs.Packed.{Held, held_by, held_in, held_with, member_cause, member_holds, packed}
-use Rattle.archives.specs.MemberReading.{Left, closed_by, file_ahead, within_file, ClosesTo, HoldsHead}
+use Rattle.archives.specs.MemberReading.{Left, closed_by, file_ahead, ClosesTo}
 use Rattle.archives.specs.MemberReading.{OpensMember, ReadsOn, StartsMember}
 use Rattle.archives.proofs.MemberLemmas.{total_known, within_is}
 use Rattle.archives.proofs.PackedLemmas.{holds_less, packed_fails, packed_follows, packed_passes}
@@ -163,9 +163,12 @@ passes_there : (start : ℕ) (bytes rest : List ℕ) (new : Taken) → start + l
     → (behind : List ℕ) × (file_ahead new ≡ Some behind)
     × ((packed HEAD_LIMIT).next start bytes ≡ (packed HEAD_LIMIT).next new.passed behind)
 passes_there start bytes rest new near b e total ahead =
-    let p = behind_there start bytes rest new near total ahead (holds_less HEAD_LIMIT bytes None rest e) in
-    (rest, p.1, packed_passes HEAD_LIMIT start bytes rest b e
-    ∙ ap (λ (o : ℕ). (packed HEAD_LIMIT).next o rest) (sym p.0))
+    let p = behind_there start bytes rest new near total ahead (holds_less HEAD_LIMIT bytes None rest e) in (
+      rest,
+      p.1,
+      packed_passes HEAD_LIMIT start bytes rest b e
+          ∙ ap (λ (o : ℕ). (packed HEAD_LIMIT).next o rest) (sym p.0),
+    )
 
 -- ---- a member that was begun
 
@@ -199,18 +202,6 @@ module _ (start : ℕ) (bytes : List ℕ) (left left' : Option Left) (old mid ne
   behind_known : option_map behind_of left' ≡ Some (behind_of (member_in bytes))
   behind_known = on.stays (behind_of (member_in bytes)) (ap (option_map behind_of) s.1)
 
-  pub head_there : (h : HeadView) (ahead : Option (List ℕ))
-      → Reads (next_at HEAD_LIMIT 0) (Ok (Some h)) (prepend_known [] (text_of left)) ahead
-      → HoldsHead start bytes h left' mid ahead
-  head_there h ahead e = record {
-    begins = s.0;
-    near = near;
-    behind = behind_known;
-    counted = on.counted (start + length bytes) s.2;
-    reads = subst (λ (l : Option Left). Reads (next_at HEAD_LIMIT 0) (Ok (Some h)) (text_of l) ahead) s.1
-        (from_front (next_at HEAD_LIMIT 0) (Ok (Some h)) (text_of left) ahead e);
-  }
-
   as_known : {A : Type 0} (f : List ℕ → Result (A × List ℕ) Cause) (r : Result A Cause) (after : Option (List ℕ))
       → Reads f r (prepend_known [] (text_of left)) after → Reads f r (text_of (Some (member_in bytes))) after
   as_known f r after e = subst (λ (l : Option Left). Reads f r (text_of l) after) s.1
@@ -237,7 +228,7 @@ module _ (start : ℕ) (bytes : List ℕ) (left left' : Option Left) (old mid ne
   empty_there held r other ahead e moves empty at k =
       let known = prepend_known held (text_of left') in
       let read = record-end HEAD_LIMIT 0 (text_of (Some (member_in bytes))) known known
-          (as_known (next_at HEAD_LIMIT 0) (Ok None) known e) in
+      (as_known (next_at HEAD_LIMIT 0) (Ok None) known e) in
       by_result read r empty at
       (member_closed held Opening (causes_of r) new.ahead bytes (Ok None) left' behind_known read k)
     where

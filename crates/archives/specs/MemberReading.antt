@@ -109,11 +109,15 @@ pub record HoldsHead (start : ℕ) (bytes : List ℕ) (h : HeadView) (left : Opt
   pub counted : total_of new ≡ Some (start + length bytes)
   pub reads : Reads (next_at HEAD_LIMIT 0) (Ok (Some h)) (text_of (Some (member_in bytes))) ahead
 
+-- what comes next where these bytes are ahead is what comes next at the offset, with the others
+abbrev pub IsLater : ℕ → List ℕ → Taken → Type 0
+IsLater offset bytes now = (later : List ℕ) × (file_ahead now ≡ Some later)
+    × ((packed HEAD_LIMIT).next offset bytes ≡ (packed HEAD_LIMIT).next now.passed later)
+
 -- what stands at the front of the member that begins these bytes; one without text was read to its end
 abbrev pub OpensMember : ℕ → List ℕ → Result Opening Fault → Option Left → Taken → Option (List ℕ) → Type 0
 OpensMember start bytes (Ok (Record h)) left new ahead = HoldsHead start bytes h left new ahead
-OpensMember start bytes (Ok Empty) left new ahead = (behind : List ℕ) × (file_ahead new ≡ Some behind)
-    × ((packed HEAD_LIMIT).next start bytes ≡ (packed HEAD_LIMIT).next new.passed behind)
+OpensMember start bytes (Ok Empty) left new ahead = IsLater start bytes new
 OpensMember start bytes (Ok End) left new ahead = (bytes ≡ []) × (file_ahead new ≡ Some [])
 OpensMember start bytes (Err f) left new ahead = IsPossibleFault (packed HEAD_LIMIT) start bytes f
 
@@ -128,6 +132,13 @@ IfHead (Ok (Record h)) P = P h
 IfHead (Ok Empty) P = ⊤
 IfHead (Ok End) P = ⊤
 IfHead (Err f) P = ⊤
+
+-- a member began
+abbrev pub Begins : Result Opening Fault → Type 0
+Begins (Ok (Record h)) = ⊤
+Begins (Ok Empty) = ⊤
+Begins (Ok End) = ⊥
+Begins (Err f) = ⊥
 
 -- where the first record stands from an offset on; members without text were passed over
 abbrev pub OpensRecord : ℕ → List ℕ → Result (Option OpenRecord) Fault → Option Left → Taken → Option (List ℕ) → Type 0

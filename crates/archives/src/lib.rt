@@ -4,10 +4,10 @@
 #![tactic(auto)]
 
 mod archive;
-mod placed_record;
 mod member_bounds;
 mod member_opening;
 mod member_reading;
+mod placed_record;
 mod plain_archive;
 mod walk;
 

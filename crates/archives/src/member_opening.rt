@@ -6,7 +6,7 @@ ghost use Rattle.warc_core.specs.Answers.{causes_of, CountsRead};
 ghost use Rattle.gzip_members.specs.Left.{left_of, text_of};
 ghost use Rattle.gzip_members.specs.Reading.{Moves, taken};
 ghost use Rattle.archives.specs.MemberReading.{closed_by, file_ahead, ClosesTo, CountsClosing};
-ghost use Rattle.archives.specs.MemberReading.{IfHead, OpensHead, OpensMember, OpensRecord};
+ghost use Rattle.archives.specs.MemberReading.{Begins, IfHead, OpensHead, OpensMember, OpensRecord};
 ghost use Rattle.archives.specs.MemberReading.{StandsOpen, StartsMember};
 
 use crate::member_bounds::{begin, close};
@@ -63,11 +63,7 @@ fn end_empty<I: Input>(
 
 /// Reads the head at the front of a member that was begun, or the member to its end if it has no
 /// text.
-fn open_begun<I: Input>(
-    members: Members<I>,
-    reader: &mut Reader,
-    start: u64,
-) -> Reading<I, Opening>
+fn open_begun<I: Input>(members: Members<I>, reader: &mut Reader, start: u64) -> Reading<I, Opening>
     ensures opens { (bytes : List ℕ)
         → StartsMember start bytes (Ok true) (left_of members) (taken members.source)
         → start + length bytes ≤ 2 ^ 63 - 1
@@ -89,5 +85,87 @@ fn open_begun<I: Input>(
         },
         Ok(None) => end_empty(members, reader, start, Ok(false)),
         Err(fault) => end_empty(members, reader, start, Err(fault.cause)),
+    }
+}
+
+/// Begins the next member, and reads the head at the front of it, or the member to its end if it
+/// has no text.
+fn open_member<I: Input>(members: Members<I>, reader: &mut Reader) -> Reading<I, Opening>
+    ensures opens { IfSome (file_ahead (taken members.source)) (λ bytes.
+        OpensMember members.source.passed bytes result.result (left_of result.members)
+        (taken result.members.source)
+        (prepend_known reader.new.held (text_of (left_of result.members)))) }
+    ensures head { IfHead result.result (OpensHead reader.new) }
+    ensures at { IfErr result.result (λ f. f.offset ≡ members.source.passed) }
+    ensures further { Begins result.result
+        → members.source.passed < result.members.source.passed }
+    ensures failures { CountsRead (causes_of result.result) (I.failures members.source.input)
+        (I.failures result.members.source.input) }
+{
+    let mut members = members;
+    let start = members.source.passed;
+    match begin(&mut members) {
+        Ok(begins) => {
+            if begins {
+                open_begun(members, reader, start)
+            } else {
+                Reading {
+                    members,
+                    result: Ok(Opening::End),
+                }
+            }
+        }
+        Err(fault) => Reading {
+            members,
+            result: Err(fault),
+        },
+    }
+}
+
+/// Reads the head of the first record of the members that follow. Those without text are passed
+/// over. Returns `None` at the file's end.
+pub fn open_record<I: Input>(
+    members: Members<I>,
+    reader: &mut Reader,
+) -> Reading<I, Option<OpenRecord>>
+    ensures opens { IfSome (file_ahead (taken members.source)) (λ bytes.
+        OpensRecord members.source.passed bytes result.result (left_of result.members)
+        (taken result.members.source)
+        (prepend_known reader.new.held (text_of (left_of result.members)))) }
+    ensures stands { IfOk result.result (λ o. IfSome o (λ r. StandsOpen members.source.passed r
+        result.members.source.passed reader.new)) }
+    ensures at { IfErr result.result (λ f. members.source.passed ≤ f.offset) }
+    ensures failures { CountsRead (causes_of result.result) (I.failures members.source.input)
+        (I.failures result.members.source.input) }
+{
+    let mut members = members;
+    'members: loop {
+        let start = members.source.passed;
+        let Reading {
+            members: read,
+            result,
+        } = open_member(members, reader);
+        members = read;
+        match result {
+            Ok(Opening::Record(head)) => {
+                return Reading {
+                    members,
+                    result: Ok(Some(OpenRecord { start, head })),
+                };
+            }
+            Ok(Opening::Empty) => {}
+            Ok(Opening::End) => {
+                return Reading {
+                    members,
+                    result: Ok(None),
+                };
+            }
+            Err(fault) => {
+                return Reading {
+                    members,
+                    result: Err(fault),
+                };
+            }
+        }
     }
 }
