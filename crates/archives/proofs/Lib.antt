@@ -6,3 +6,6 @@ pub mod CaptureLemmas
 pub mod MemberLengths
 pub mod PackedLemmas
 pub mod PackingLemmas
+pub mod MemberLemmas
+pub mod OpeningLemmas
+pub mod WalkingLemmas

@@ -4,6 +4,9 @@
 #![tactic(auto)]
 
 mod archive;
+mod member_bounds;
+mod member_opening;
+mod member_reading;
 mod placed_record;
 mod plain_archive;
 mod walk;
