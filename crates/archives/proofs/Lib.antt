@@ -9,3 +9,5 @@ pub mod PackingLemmas
 pub mod MemberLemmas
 pub mod OpeningLemmas
 pub mod WalkingLemmas
+pub mod RecordLemmas
+pub mod TakingLemmas

@@ -7,6 +7,7 @@ mod archive;
 mod member_bounds;
 mod member_opening;
 mod member_reading;
+mod member_records;
 mod placed_record;
 mod plain_archive;
 mod walk;
