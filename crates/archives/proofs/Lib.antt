@@ -11,3 +11,4 @@ pub mod OpeningLemmas
 pub mod WalkingLemmas
 pub mod RecordLemmas
 pub mod TakingLemmas
+pub mod MemberCaptureLemmas

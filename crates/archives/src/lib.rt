@@ -5,6 +5,7 @@
 
 mod archive;
 mod member_bounds;
+mod member_captures;
 mod member_opening;
 mod member_reading;
 mod member_records;
