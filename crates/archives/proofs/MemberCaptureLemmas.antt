@@ -16,10 +16,15 @@ use Rattle.capture_core.specs.Indexed.{url_of}
 use Rattle.capture_core.specs.RecordReading.{reading_after}
 use Rattle.archives.specs.Captures.{IsCaptureFrom, MayBeRefused}
 use Rattle.archives.specs.Form.{Comes, ComesRecord, Stored}
-use Rattle.archives.specs.MemberCaptures.{AnswersLine}
+use Rattle.archives.specs.MemberCaptures.{AnswersLine, TakesCapture}
+use Rattle.archives.specs.MemberReading.{HoldsHead, Left, OpensRecord}
+use Rattle.archives.specs.declared.member_opening.OpenRecord.{OpenRecord}
+use Rattle.gzip_members.specs.Reading.{Taken}
+use Rattle.std.proofs.Common.{◌≤◌}
 use Rattle.archives.specs.Packed.{packed}
 use Rattle.archives.proofs.CaptureLemmas.{behind_head}
 use Rattle.archives.proofs.PackedLemmas.{packed_follows}
+use Rattle.archives.proofs.WalkingLemmas.{fault_later}
 
 -- how the record was read by its fault: a refused growth leaves it read whole
 pub reading_err : (f : List ℕ → Result (Unit {0} × List ℕ) Cause) (c : Cause) (before after : Option (List ℕ))
@@ -81,11 +86,41 @@ module _ (types : Kind → Bool) (name : List ℕ) where
       (packed_follows HEAD_LIMIT start f.offset (omega arith), inl memory)
   line_refused start bytes h place parts (LineTooLong o) after at (r, placed, comes, captured) (offset, p, some, long) =
       let is : r.place ≡ place = ap (λ q. q.place) placed in
-      let n = refused_next start bytes place r after at is comes in
-      (r, (n.0, n.1, n.2 ∙ sym offset), entry_from place name p,
-      subst (λ (c : Option PartsValue). IsCaptured r (option_map (entry_from place name) c)) some captured, long)
+      let n = refused_next start bytes place r after at is comes in (
+        r,
+        (n.0, n.1, n.2 ∙ sym offset),
+        entry_from place name p,
+        subst (λ (c : Option PartsValue). IsCaptured r (option_map (entry_from place name) c)) some captured,
+        long,
+      )
   line_refused start bytes h place parts (KeyTooLong o) after at (r, placed, comes, captured) (offset, some) =
       let is : r.place ≡ place = ap (λ q. q.place) placed in
-      let n = refused_next start bytes place r after at is comes in
-      (r, (n.0, n.1, n.2 ∙ sym offset), under_url (url_of types r.head) usual_limits.http_head
-      usual_limits.http_fields r.place place r.head r.block name parts some captured)
+      let n = refused_next start bytes place r after at is comes in (
+        r,
+        (n.0, n.1, n.2 ∙ sym offset),
+        under_url (url_of types r.head) usual_limits.http_head
+            usual_limits.http_fields r.place place r.head r.block name parts some captured,
+      )
+
+  -- what was refused at an offset is refused at an earlier one, with members without text between them
+  refused_later : (offset start : ℕ) (bytes later : List ℕ) (fault : CaptureFault) → offset ≤ start
+      → (packed HEAD_LIMIT).next offset bytes ≡ (packed HEAD_LIMIT).next start later
+      → MayBeRefused types usual_limits (packed HEAD_LIMIT) name start later fault
+      → MayBeRefused types usual_limits (packed HEAD_LIMIT) name offset bytes fault
+  refused_later offset start bytes later (Archive f) onward same m =
+      fault_later offset start bytes later f onward same m
+  refused_later offset start bytes later (LineTooLong o) onward same (r, (rest, e, at), entry, is, long) =
+      (r, (rest, same ∙ e, at), entry, is, long)
+  refused_later offset start bytes later (KeyTooLong o) onward same (r, (rest, e, at), more) =
+      (r, (rest, same ∙ e, at), more)
+
+  -- why the record that comes next was refused
+  pub taken_refused : (offset : ℕ) (r : OpenRecord) (left : Option Left) (mid : Taken)
+      (ahead before after : Option (List ℕ)) (fault : CaptureFault) → offset ≤ r.start
+      → IfSome before (λ bytes. OpensRecord offset bytes (Ok (Some r)) left mid ahead)
+      → ((bytes : List ℕ) → HoldsHead r.start bytes r.head left mid ahead
+      → TakesCapture types name r.start bytes (Err fault) after)
+      → IfSome before (λ bytes. MayBeRefused types usual_limits (packed HEAD_LIMIT) name offset bytes fault)
+  taken_refused offset r left mid ahead None after fault onward o t = tt
+  taken_refused offset r left mid ahead (Some bytes) after fault onward (later, same, holds) t =
+      refused_later offset r.start bytes later fault onward same (t later holds)

@@ -20,9 +20,7 @@ use crate::member_opening::{OpenRecord, open_record};
 use crate::member_reading::{Reading, capture};
 use crate::member_records::{end_fault, end_record};
 use crate::placed_record::PlacedRecord;
-use capture_core::{
-    BlockStart, CaptureFault, CaptureParts, HeldLine, Input, Place, Reader, Types,
-};
+use capture_core::{BlockStart, CaptureFault, CaptureParts, HeldLine, Input, Place, Reader, Types};
 use gzip_members::Members;
 use std::alloc::Global;
 
@@ -110,5 +108,51 @@ fn take_capture<I: Input>(
                 result: Err(CaptureFault::Archive(fault)),
             }
         }
+    }
+}
+
+/// Reads the next record to its end, and returns it with its capture under the archive's name.
+pub fn next_capture<I: Input>(
+    alloc: Global,
+    front: &mut BlockStart,
+    members: Members<I>,
+    reader: &mut Reader,
+    name: &str,
+    types: Types,
+) -> Captured<I, Option<(PlacedRecord, Option<HeldLine>)>>
+    requires { 0 < length name.now }
+    ensures takes { TakesNext (includes types) usual_limits (packed HEAD_LIMIT) name.now
+        members.source.passed result.result (file_ahead (taken members.source))
+        (file_ahead (taken result.members.source)) }
+    ensures stands { IfOk result.result (λ o. IfSome o (λ c.
+        result.members.source.passed ≡ end_of c.0.place)) }
+    ensures failures { CountsCapture result.result (I.failures members.source.input)
+        (I.failures result.members.source.input) }
+{
+    let Reading { members, result } = open_record(members, reader);
+    match result {
+        Ok(Some(opened)) => {
+            let Captured { members, result } = take_capture(
+                alloc, front, members, reader, opened, name, types,
+            );
+            match result {
+                Ok(captured) => Captured {
+                    members,
+                    result: Ok(Some(captured)),
+                },
+                Err(fault) => Captured {
+                    members,
+                    result: Err(fault),
+                },
+            }
+        }
+        Ok(None) => Captured {
+            members,
+            result: Ok(None),
+        },
+        Err(fault) => Captured {
+            members,
+            result: Err(CaptureFault::Archive(fault)),
+        },
     }
 }
