@@ -5,3 +5,4 @@ pub mod State
 pub mod Walking
 pub mod Captures
 pub mod Plain
+pub mod Looked

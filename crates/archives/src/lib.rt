@@ -4,11 +4,13 @@
 #![tactic(auto)]
 
 mod archive;
+mod looked;
 mod placed_record;
 mod plain_archive;
 mod walk;
 
 pub use crate::archive::Archive;
+pub use crate::looked::Looked;
 pub use crate::placed_record::PlacedRecord;
 pub use crate::plain_archive::PlainArchive;
 pub use capture_core::{
