@@ -6,3 +6,4 @@ pub mod Walking
 pub mod Captures
 pub mod Plain
 pub mod Looked
+pub mod Either
