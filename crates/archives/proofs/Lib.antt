@@ -6,3 +6,4 @@ pub mod CaptureLemmas
 pub mod MemberLengths
 pub mod PackedLemmas
 pub mod PackingLemmas
+pub mod LookedLemmas

@@ -5,3 +5,5 @@ pub mod State
 pub mod Walking
 pub mod Captures
 pub mod Plain
+pub mod Looked
+pub mod Either
