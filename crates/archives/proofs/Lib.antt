@@ -7,3 +7,6 @@ pub mod MemberLengths
 pub mod PackedLemmas
 pub mod PackingLemmas
 pub mod LookedLemmas
+pub mod MemberLemmas
+pub mod OpeningLemmas
+pub mod WalkingLemmas

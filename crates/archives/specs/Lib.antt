@@ -1,6 +1,7 @@
 pub mod Form
 pub mod Packed
 pub mod Packing
+pub mod MemberReading
 pub mod State
 pub mod Walking
 pub mod Captures

@@ -6,6 +6,9 @@
 mod archive;
 mod either_archive;
 mod looked;
+mod member_bounds;
+mod member_opening;
+mod member_reading;
 mod placed_record;
 mod plain_archive;
 mod walk;

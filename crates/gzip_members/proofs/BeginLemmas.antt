@@ -17,32 +17,41 @@ use Rattle.gzip_members.specs.declared.body.Stage.TheVariants.{Data}
 use Rattle.gzip_members.specs.Header.{header_in}
 use Rattle.gzip_members.specs.Members.{bytes_behind, trailer_in, with_text, closed, body_in, body_behind, member_in}
 use Rattle.gzip_members.specs.Reading.{ReadsFrom}
-use Rattle.gzip_members.specs.Starts.{StartsFrom}
+use Rattle.gzip_members.specs.Starts.{AnswersStart, StartsFrom, begins_member}
 use Rattle.gzip_members.specs.Bodies.{TextSoFar, text_so_far, closing, left_in, left_in_data}
 use Rattle.gzip_members.specs.Left.{left_ahead, BeginsMember}
 use Rattle.gzip_members.proofs.StepLemmas.{left-data}
 
+-- a member begins there
+begins : (bytes : List ℕ) → AnswersStart (Ok true) (Some bytes) → begins_member bytes ≡ Ok true
+begins bytes (inl e) = absurd cc
+begins bytes (inr e) = sym e
+
 -- a header was read from its first byte on
 pub starts-ok : (sum was is at : ℕ) (before mid after : Option (List ℕ)) → at ≡ was → Keeps before mid
-    → ReadsFrom header_in (Ok tt) 0 sum at is mid after → StartsFrom (Ok true) was is before after
-starts-ok sum was is at None mid after e k r = tt
-starts-ok sum was is at (Some z) None after e k r = absurd k
-starts-ok sum was is at (Some z) (Some w) None e k r = absurd r
-starts-ok sum was is at (Some z) (Some w) (Some rest) e k r =
+    → AnswersStart (Ok true) before → ReadsFrom header_in (Ok tt) 0 sum at is mid after
+    → StartsFrom (Ok true) was is before after
+starts-ok sum was is at None mid after e k b r = tt
+starts-ok sum was is at (Some z) None after e k b r = absurd k
+starts-ok sum was is at (Some z) (Some w) None e k b r = absurd r
+starts-ok sum was is at (Some z) (Some w) (Some rest) e k b r =
     let h = r.0 [] refl in
-    let P : List ℕ → Type 0 = λ l. StartsFrom (Ok true) was is (Some l) (Some rest) in
-    subst P k ((h.0, h.1), r.1 ∙ ap (λ n. n + length w) e)
+    let same = ap (λ l. header_in ([], l)) (sym k) ∙ h.1 in
+    (begins z b, (h.0, same), r.1 ∙ ap (λ n. n + length w) e ∙ ap (λ (l : List ℕ). was + length l) k)
 
-pub starts-not : (fault : MemberFault) (sum was is at : ℕ) (before mid after : Option (List ℕ)) → at ≡ was → Keeps before mid
-    → ReadsFrom header_in (Err fault) 0 sum at is mid after → StartsFrom (Err fault) was is before after
-starts-not fault sum was is at None mid after e k r = tt
-starts-not fault sum was is at (Some z) None after e k r = absurd k
-starts-not Read sum was is at (Some z) (Some w) after e k r = tt
-starts-not NoMember sum was is at (Some z) (Some w) after e k r = absurd (r [] refl)
-starts-not Bad sum was is at (Some z) (Some w) after e k r = ap (λ l. header_in ([], l)) (sym k) ∙ r [] refl
-starts-not Cut sum was is at (Some z) (Some w) after e k r = inr (ap (λ l. header_in ([], l)) (sym k) ∙ r [] refl)
-starts-not TooFar sum was is at (Some z) (Some w) after e k r = omega (arith, r [] refl, ap length k)
-starts-not TooLong sum was is at (Some z) (Some w) after e k r = absurd (r [] refl)
+pub starts-not : (fault : MemberFault) (sum was is at : ℕ) (before mid after : Option (List ℕ)) → at ≡ was
+    → Keeps before mid → AnswersStart (Ok true) before → ReadsFrom header_in (Err fault) 0 sum at is mid after
+    → StartsFrom (Err fault) was is before after
+starts-not fault sum was is at None mid after e k b r = tt
+starts-not fault sum was is at (Some z) None after e k b r = absurd k
+starts-not Read sum was is at (Some z) (Some w) after e k b r = tt
+starts-not NoMember sum was is at (Some z) (Some w) after e k b r = absurd (r [] refl)
+starts-not Bad sum was is at (Some z) (Some w) after e k b r =
+    (begins z b, ap (λ l. header_in ([], l)) (sym k) ∙ r [] refl)
+starts-not Cut sum was is at (Some z) (Some w) after e k b r =
+    inr (begins z b, ap (λ l. header_in ([], l)) (sym k) ∙ r [] refl)
+starts-not TooFar sum was is at (Some z) (Some w) after e k b r = omega (arith, r [] refl, ap length k)
+starts-not TooLong sum was is at (Some z) (Some w) after e k b r = absurd (r [] refl)
 
 -- the text of a whole member
 abbrev none_yet : TextSoFar
@@ -62,18 +71,20 @@ unfolding member_in
 read-member bytes rest now e = ap (λ r. r >>= body_behind) e
 
 begun-from : (b : Body) (was is : ℕ) (bytes : List ℕ) (after : Option (List ℕ)) → left_in b ≡ body_in → StartsFrom (Ok true) was is (Some bytes) after
-    → was + length bytes ≤ 2 ^ 63 - 1 → left_ahead b is after ≡ Some (member_in bytes)
+    → was + length bytes ≤ 2 ^ 63 - 1
+    → (begins_member bytes ≡ Ok true) × (left_ahead b is after ≡ Some (member_in bytes))
 begun-from b was is bytes None all s near = absurd s
 begun-from b was is bytes (Some rest) all s near =
-    let h : is + length rest ≤ 2 ^ 63 - 1 = omega (arith, s.1) in
+    let h : is + length rest ≤ 2 ^ 63 - 1 = omega (arith, s.2) in
     let short : nat_lt (2 ^ 63 - 1) (is + length rest) ≡ false = le-ltb (2 ^ 63 - 1) (is + length rest) h in
-    ap (λ v. if v then None else Some (left_in b rest)) short
-    ∙ ap (λ f. Some (f rest)) all ∙ ap (λ r. Some r) (sym (read-member bytes rest s.0.0 s.0.1))
+    let left = ap (λ v. if v then None else Some (left_in b rest)) short
+    ∙ ap (λ f. Some (f rest)) all ∙ ap (λ r. Some r) (sym (read-member bytes rest s.1.0 s.1.1)) in
+    (s.0, left)
 
 -- what is left of a member that was begun is its text, and what is behind it
 pub begun : (b : Body) (was is : ℕ) (before after : Option (List ℕ)) (bytes : List ℕ) → b.stage ≡ Data → place_of b.inflater ≡ AtBlock → b.bits ≡ 0
     → text_so_far b ≡ none_yet → StartsFrom (Ok true) was is before after → before ≡ Some bytes → was + length bytes ≤ 2 ^ 63 - 1
-    → left_ahead b is after ≡ Some (member_in bytes)
+    → (begins_member bytes ≡ Ok true) × (left_ahead b is after ≡ Some (member_in bytes))
 begun b was is before after bytes stage place bits text s e near =
     let all : left_in b ≡ body_in = λ i bytes. (left-data b bytes stage
     ∙ ap (λ p. left_in_data p b.bits (text_so_far b) bytes) place ∙ ap (λ k. left_in_data AtBlock k (text_so_far b) bytes) bits
@@ -86,9 +97,9 @@ no-member : (fault : MemberFault) (was is : ℕ) (bytes : List ℕ) (after : Opt
 unfolding member_in
 no-member Read was is bytes after left s near = tt
 no-member NoMember was is bytes after left s near = s
-no-member Bad was is bytes after left s near = ap (λ r. r >>= body_behind) s
+no-member Bad was is bytes after left s near = (s.0, ap (λ r. r >>= body_behind) s.1)
 no-member Cut was is bytes after left (inl s) near = inl s
-no-member Cut was is bytes after left (inr s) near = inr (ap (λ r. r >>= body_behind) s)
+no-member Cut was is bytes after left (inr s) near = inr (s.0, ap (λ r. r >>= body_behind) s.1)
 no-member TooFar was is bytes after left s near = absurd (omega arith)
 no-member TooLong was is bytes after left s near = absurd s
 

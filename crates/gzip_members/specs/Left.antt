@@ -57,11 +57,12 @@ SkipsText n old new = (given : List ℕ) × (length given ≡ n) × GivesText ol
 -- whether a member begins these bytes, what is then left of it, and else why not
 abbrev pub BeginsMember : List ℕ → Result Bool MemberFault → Option (Result (List ℕ × List ℕ) DeflateFault) → Type 0
 BeginsMember bytes (Ok false) left = bytes ≡ []
-BeginsMember bytes (Ok true) left = left ≡ Some (member_in bytes)
+BeginsMember bytes (Ok true) left = (begins_member bytes ≡ Ok true) × (left ≡ Some (member_in bytes))
 BeginsMember bytes (Err Read) left = ⊤
 BeginsMember bytes (Err NoMember) left = begins_member bytes ≡ Err NoMember
-BeginsMember bytes (Err Bad) left = member_in bytes ≡ Err faults.Bad
-BeginsMember bytes (Err Cut) left = (begins_member bytes ≡ Err Cut) ⊎ (member_in bytes ≡ Err faults.Cut)
+BeginsMember bytes (Err Bad) left = (begins_member bytes ≡ Ok true) × (member_in bytes ≡ Err faults.Bad)
+BeginsMember bytes (Err Cut) left = (begins_member bytes ≡ Err Cut)
+    ⊎ ((begins_member bytes ≡ Ok true) × (member_in bytes ≡ Err faults.Cut))
 BeginsMember bytes (Err TooFar) left = ⊥
 BeginsMember bytes (Err TooLong) left = ⊥
 

@@ -21,11 +21,13 @@ abbrev pub StartsFrom : Result Bool MemberFault → ℕ → ℕ → Option (List
 StartsFrom r was is None after = ⊤
 StartsFrom (Ok false) was is (Some bytes) after = begins_member bytes ≡ Ok false
 StartsFrom (Ok true) was is (Some bytes) None = ⊥
-StartsFrom (Ok true) was is (Some bytes) (Some rest) =
-    ((now : List ℕ) × (header_in ([], bytes) ≡ Ok (tt, (now, rest)))) × (is + length rest ≡ was + length bytes)
+StartsFrom (Ok true) was is (Some bytes) (Some rest) = (begins_member bytes ≡ Ok true)
+    × ((now : List ℕ) × (header_in ([], bytes) ≡ Ok (tt, (now, rest)))) × (is + length rest ≡ was + length bytes)
 StartsFrom (Err Read) was is (Some bytes) after = ⊤
 StartsFrom (Err NoMember) was is (Some bytes) after = begins_member bytes ≡ Err NoMember
-StartsFrom (Err Bad) was is (Some bytes) after = header_in ([], bytes) ≡ Err faults.Bad
-StartsFrom (Err Cut) was is (Some bytes) after = (begins_member bytes ≡ Err Cut) ⊎ (header_in ([], bytes) ≡ Err faults.Cut)
+StartsFrom (Err Bad) was is (Some bytes) after =
+    (begins_member bytes ≡ Ok true) × (header_in ([], bytes) ≡ Err faults.Bad)
+StartsFrom (Err Cut) was is (Some bytes) after = (begins_member bytes ≡ Err Cut)
+    ⊎ ((begins_member bytes ≡ Ok true) × (header_in ([], bytes) ≡ Err faults.Cut))
 StartsFrom (Err TooFar) was is (Some bytes) after = 2 ^ 63 - 1 < was + length bytes
 StartsFrom (Err TooLong) was is (Some bytes) after = ⊥

@@ -1,5 +1,5 @@
 //! A reader of records, one after another, that takes the input at each call.
-ghost use Rattle.std.specs.Prelude.{◌≡◌, ℕ, ◌-◌, ◌^◌, ◌≤◌, ◌⊎◌, [], length, Ok, Err, IfOk, IfErr, OnOk};
+ghost use Rattle.std.specs.Prelude.{◌≡◌, ℕ, ◌-◌, ◌^◌, ◌≤◌, ◌⊎◌, [], length, nat_lt, Ok, Err, IfOk, IfErr, OnOk};
 
 use crate::block::{give_block, pass_over};
 use crate::closing::skip_record;
@@ -109,6 +109,23 @@ impl Reader {
             }),
             Err(cause) => Err(Fault { offset, cause }),
         }
+    }
+
+    /// Starts again, at the start of an archive of which nothing was read. The buffer and the memory of a head are kept.
+    pub fn restart(&mut self)
+        ensures { self.new ≡ record { offset = 0; phase = Phase.Between; held = [] } }
+    {
+        self.offset = 0;
+        self.phase = Phase::Between;
+        let count = self.buffer.as_slice().len();
+        self.buffer.consume(count);
+    }
+
+    /// Returns whether bytes were taken from the input that were not given out.
+    pub fn holds_bytes(&self) -> bool
+        ensures { result ≡ nat_lt 0 (length self.now.held) }
+    {
+        !self.buffer.as_slice().is_empty()
     }
 
     /// Marks the reader as failed, so that each further call returns this fault.
