@@ -7,3 +7,4 @@ pub mod MemberLengths
 pub mod PackedLemmas
 pub mod PackingLemmas
 pub mod LookedLemmas
+pub mod FailedLemmas

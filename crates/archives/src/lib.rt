@@ -5,6 +5,7 @@
 
 mod archive;
 mod either_archive;
+mod failed_archive;
 mod looked;
 mod placed_record;
 mod plain_archive;
@@ -12,6 +13,7 @@ mod walk;
 
 pub use crate::archive::Archive;
 pub use crate::either_archive::EitherArchive;
+pub use crate::failed_archive::FailedArchive;
 pub use crate::looked::Looked;
 pub use crate::placed_record::PlacedRecord;
 pub use crate::plain_archive::PlainArchive;
