@@ -10,3 +10,4 @@ pub mod LookedLemmas
 pub mod MemberLemmas
 pub mod OpeningLemmas
 pub mod WalkingLemmas
+pub mod FailedLemmas

@@ -8,3 +8,4 @@ pub mod Captures
 pub mod Plain
 pub mod Looked
 pub mod Either
+pub mod Failed

@@ -1,25 +1,28 @@
-//! One of two archives.
+//! Archives of either form.
 
 use crate::archive::Archive;
 use crate::placed_record::PlacedRecord;
 use capture_core::{BlockStart, CaptureFault, Fault, Head, HeldLine, Types, Verdict};
 
-/// One of two archives: one that keeps its records plainly, or one that keeps them as members.
+/// An archive that keeps its records one after another, or one whose records are members of gzip,
+/// or one whose input failed before that was known.
 #[derive(Drop)]
-pub enum EitherArchive<P, Q> {
+pub enum EitherArchive<P, Q, F> {
     Plain(P),
     Packed(Q),
+    Failed(F),
 }
 
-impl<P: Archive, Q: Archive> Archive for EitherArchive<P, Q> {
+impl<P: Archive, Q: Archive, F: Archive> Archive for EitherArchive<P, Q, F> {
     ghost use Rattle.archives.specs.Either.{either_state};
 
-    ghost state = { either_state P.state Q.state };
+    ghost state = { either_state P.state Q.state F.state };
 
     fn next_record(&mut self) -> Result<Option<PlacedRecord>, Fault> {
         match self {
             EitherArchive::Plain(archive) => archive.next_record(),
             EitherArchive::Packed(archive) => archive.next_record(),
+            EitherArchive::Failed(archive) => archive.next_record(),
         }
     }
 
@@ -27,6 +30,7 @@ impl<P: Archive, Q: Archive> Archive for EitherArchive<P, Q> {
         match self {
             EitherArchive::Plain(archive) => archive.next_verdict(),
             EitherArchive::Packed(archive) => archive.next_verdict(),
+            EitherArchive::Failed(archive) => archive.next_verdict(),
         }
     }
 
@@ -39,6 +43,7 @@ impl<P: Archive, Q: Archive> Archive for EitherArchive<P, Q> {
         match self {
             EitherArchive::Plain(archive) => archive.next_capture(front, name, types),
             EitherArchive::Packed(archive) => archive.next_capture(front, name, types),
+            EitherArchive::Failed(archive) => archive.next_capture(front, name, types),
         }
     }
 
@@ -46,6 +51,7 @@ impl<P: Archive, Q: Archive> Archive for EitherArchive<P, Q> {
         match self {
             EitherArchive::Plain(archive) => archive.recycle(head),
             EitherArchive::Packed(archive) => archive.recycle(head),
+            EitherArchive::Failed(archive) => archive.recycle(head),
         }
     }
 }

@@ -5,6 +5,7 @@
 
 mod archive;
 mod either_archive;
+mod failed_archive;
 mod looked;
 mod member_bounds;
 mod member_opening;
@@ -15,6 +16,7 @@ mod walk;
 
 pub use crate::archive::Archive;
 pub use crate::either_archive::EitherArchive;
+pub use crate::failed_archive::FailedArchive;
 pub use crate::looked::Looked;
 pub use crate::placed_record::PlacedRecord;
 pub use crate::plain_archive::PlainArchive;

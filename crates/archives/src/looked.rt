@@ -1,5 +1,5 @@
 //! An input whose first bytes were looked at.
-ghost use Rattle.std.specs.Prelude.{◌≡◌, ◌≤◌, [], ◌++◌, length, IfOk, MatchResult, OnErr, if◌then◌else◌};
+ghost use Rattle.std.specs.Prelude.{◌≡◌, ◌≤◌, [], ◌++◌, length, IfOk, IsErr, MatchResult, OnErr, true, if◌then◌else◌};
 ghost use Rattle.std.specs.Prelude.{option_to_list};
 ghost use Rattle.std.specs.Io.KnownBytes.{Consumes, ConsumesCount, IsAtEnd, Keeps, ReadConsumes};
 ghost use Rattle.std.specs.Io.KnownBytes.{prepend_known};
@@ -107,7 +107,7 @@ impl<I: Input> Looked<I> {
         self.has_failed
     }
 
-    /// Returns whether the bytes are those of a compressed archive, by the first two.
+    /// Returns whether the first bytes, which weren't given again, begin a compressed archive.
     pub fn is_compressed(&self) -> bool
         ensures { (if result then Packed else Plain) ≡ packing_of (first_bytes self.now.first) }
     {
@@ -120,8 +120,17 @@ impl<I: Input> Input for Looked<I> {
 
     ghost failures = { λ l. l.failures };
 
-    /// Gives the first bytes one at a time, and then what the input gives.
-    fn read(&mut self, piece: &mut [u8]) -> Result<usize, DeviceFault> {
+    /// Fails if the input failed at the look. Else gives the first bytes one at a time, and then
+    /// what the input gives.
+    fn read(&mut self, piece: &mut [u8]) -> Result<usize, DeviceFault>
+        ensures bound { IfOk result (λ n. n ≤ length piece.new) }
+        ensures bytes { ReadConsumes
+            (prepend_known (first_bytes self.old.first) (I.remaining self.old.input))
+            (prepend_known (first_bytes self.new.first) (I.remaining self.new.input)) result
+            piece.new }
+        ensures failures { CountsFailure result self.old.failures self.new.failures }
+        ensures failed { self.old.has_failed ≡ true → IsErr result }
+    {
         if self.has_failed {
             self.has_failed = false;
             self.failures = self.failures.saturating_add(1);
